@@ -37,8 +37,8 @@ with_neighbour_rows s rows = record s { neighbours = rows }
 abbrev pub has_same_hop : State → State → Option Path → Bool
 has_same_hop o c path = same_hop (nbr o path) (nbr c path)
 
--- the keys touch the machines of (*,G) where another neighbour leads to RP(G), and those of a source where another leads
--- to it
+-- the keys touch the machines of (*,G) where another neighbour leads to RP(G), and those of a source where another
+-- leads to it
 abbrev pub is_touched_where_hop_differs : List Key → State → State → Key → Bool
 is_touched_where_hop_differs keys o c k =
     (has_same_hop o c (rp_route o (group_in k)) || touching keys (star_key 0 (group_in k)))

@@ -100,8 +100,8 @@ turns_nodes was group source (suc n) s =
     + (if is_some (part_to_clear was group.bits (source_bits source) s)
     then turns_nodes was group source n (clear_once was group.bits (source_bits source) s).0 else 0)
 
--- the asserts of (*,G), where there is no source, or of (S,G), turn after turn until none must go: each takes one away of
--- what could go
+-- the asserts of (*,G), where there is no source, or of (S,G), turn after turn until none must go: each takes one away
+-- of what could go
 abbrev pub part_nodes : Option IfaceId → Addr → Option Addr → State → ℕ
 part_nodes was group source s = turns_nodes was group source (clearable_count s) s
 

@@ -210,9 +210,9 @@ fn clear_all_bits(
 }
 
 /// What must go of what was opened: group after group the asserts of (*,G) and of its sources, then source after source
-/// the SPTbit and the asserts that must go with it; all macros are evaluated afresh after each. The meter rises by the nodes
-/// that the look-ups visit, at least those of each sight, and those that lead to the facts of what goes. An error is want of
-/// memory.
+/// the SPTbit and the asserts that must go with it; all macros are evaluated afresh after each. The meter rises by the
+/// nodes that the look-ups visit, at least those of each sight, and those that lead to the facts of what goes. An error
+/// is want of memory.
 #[tactic(auto, unfolding(crate::specs::Opened::clear_by))]
 pub fn clear(
     world: &mut World,
@@ -375,8 +375,8 @@ fn are_clear_among(world: &World, star: &StarSight, sources: &[SourceAfter]) -> 
     true
 }
 
-/// Whether nothing must go of a touched group and of its touched sources, by what was gathered of them. Where it answers
-/// yes, `clear` would change nothing, and send nothing.
+/// Whether nothing must go of a touched group and of its touched sources, by what was gathered of them. Where it
+/// answers yes, `clear` would change nothing, and send nothing.
 pub fn are_clear(world: &World, after: &GroupAfter) -> bool
     requires { IsAfter world.now after.now }
     ensures { IsTrue result → clear_by (opening_in after.now ∷ []) world.now ≡ (world.now, []) }

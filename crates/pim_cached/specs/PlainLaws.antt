@@ -73,8 +73,8 @@ AnswersAtRest = (g src : ℕ) (s t : State) → IsAtRest s → IsAtRest t
     → has_row s.sources (source_key 0 g src) ≡ true → has_row t.sources (source_key 0 g src) ≡ true
     → SeesSource g src s t → could_register s g src ≡ could_register t g src → answers s g src ≡ answers t g src
 
--- so the cache has the same of a source that has a fact in both states, or in neither, where the one with a fact sees the
--- same
+-- so the cache has the same of a source that has a fact in both states, or in neither, where the one with a fact sees
+-- the same
 abbrev pub CacheOfSame : Type 0
 CacheOfSame = (g src : ℕ) (s t : State) → IsAtRest s → IsAtRest t
     → has_row s.sources (source_key 0 g src) ≡ has_row t.sources (source_key 0 g src)

@@ -66,8 +66,8 @@ fn copies_on(
     Ok(copies)
 }
 
-/// The packet's copies on the links of the list, by ascending interface: none where its TTL has run out. An error is want
-/// of memory.
+/// The packet's copies on the links of the list, by ascending interface: none where its TTL has run out. An error is
+/// want of memory.
 #[tactic(auto, unfolding(pim_model::specs::Writing::copies_of))]
 pub fn copies(
     world: &World,
@@ -109,9 +109,9 @@ fn registered(
     Ok(sent)
 }
 
-/// What leaves of a packet whose list of outgoing interfaces this is: nothing where its TTL has run out. The meter rises by
-/// the nodes that the look-ups visit, at least those that lead to the RP and to the route to the source where the packet goes
-/// through the tunnel. An error is want of memory.
+/// What leaves of a packet whose list of outgoing interfaces this is: nothing where its TTL has run out. The meter
+/// rises by the nodes that the look-ups visit, at least those that lead to the RP and to the route to the source where
+/// the packet goes through the tunnel. An error is want of memory.
 #[tactic(auto, unfolding(pim_model::specs::Writing::tunnel_of))]
 pub fn leave(
     world: &World,

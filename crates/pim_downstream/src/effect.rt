@@ -1,5 +1,5 @@
-//! What a message comes to, told before its change: the rows that it leaves, and the keys of which it moves more than an
-//! end.
+//! What a message comes to, told before its change: the rows that it leaves, and the keys of which it moves more than
+//! an end.
 ghost use Rattle.std.specs.Prelude.{◌≡◌, ◌++◌, [], ◌∷◌, IfOk, OnOk, filter, if◌then◌else◌, map, not};
 ghost use Rattle.pim_locality.specs.JoinPrunes.{moved_among, moves_end};
 ghost use Rattle.pim_downstream.specs.Naming.{change_after, changes_after};
@@ -125,8 +125,8 @@ fn judge_keys(
 }
 
 impl Effect {
-    /// What a message on an interface comes to that names these keys and has a holdtime, in seconds: each key asks the whole
-    /// message, and the state that it finds.
+    /// What a message on an interface comes to that names these keys and has a holdtime, in seconds: each key asks the
+    /// whole message, and the state that it finds.
     pub fn of(
         world: &World,
         turn: &Turn,

@@ -1,5 +1,5 @@
--- The keys whose machines some changes touched, and which sources they disturb: those that they name, and each source of a
--- group that they name whole.
+-- The keys whose machines some changes touched, and which sources they disturb: those that they name, and each source
+-- of a group that they name whole.
 use Rattle.std.specs.Prelude.{Bool, true, ℕ, ◌++◌}
 use Rattle.pim_types.specs.Keys.{source_key}
 use Rattle.pim_locality.specs.Locality.{touching}

@@ -45,8 +45,8 @@ abbrev pub NamesAreNamed : Type 0
 NamesAreNamed = (o : State) → IsQuiet o → (touched : Touched) (changed : State) → Contains touched o changed → (g src : ℕ)
     → is_listed (names_of o changed touched) g src ≡ is_listed (named_by o changed) g src
 
--- Where routes and RP ranges are as they were, and the change isn't one of neighbours, a source that it doesn't touch isn't
--- named, whether it has a fact or not.
+-- Where routes and RP ranges are as they were, and the change isn't one of neighbours, a source that it doesn't touch
+-- isn't named, whether it has a fact or not.
 abbrev pub UntouchedIsUnnamed : Type 0
 UntouchedIsUnnamed = (o changed : State) → IsQuiet o → (touched : Touched) → CoversOrMoves touched o changed → (g src : ℕ)
     → o.routes ≡ changed.routes → o.ranges ≡ changed.ranges → is_disturbed touched g src ≡ false

@@ -1,4 +1,5 @@
-//! Whether a Hello, or a neighbour's end, leaves whether the router is the DR of the interface (RFC 7761, section 4.3.2).
+//! Whether a Hello, or a neighbour's end, leaves whether the router is the DR of the interface (RFC 7761, section
+//! 4.3.2).
 ghost use Rattle.std.specs.Prelude.{◌≡◌, ◌||◌, None, Some, is_none, not};
 ghost use Rattle.pim_adjacent.specs.Adjacent.{end_keeps_dr, hello_keeps_dr};
 ghost use Rattle.pim_hello.specs.Election.{is_dr_with, is_other, is_unranked, row_of_hello, some_other};

@@ -1,4 +1,5 @@
-//! A set of interfaces and of the register tunnel, as one number: a bit for each interface, and the highest for the tunnel.
+//! A set of interfaces and of the register tunnel, as one number: a bit for each interface, and the highest for the
+//! tunnel.
 ghost use Rattle.std.specs.Prelude.{◌≡◌, ◌↔◌, ◌+◌, ◌<◌, ◌≤◌, ◌==◌, ◌&&◌, ◌||◌, ℕ, Bool, true, false, not, length, nat_lt, IsTrue, if◌then◌else◌};
 ghost use Rattle.std.specs.List.{list_all};
 

@@ -13,7 +13,8 @@ use Rattle.pim_served.specs.Ways.{IsGroup}
 use Rattle.pim_stream.specs.Passing.{Passes, Receiver, Tree, lacks_room, leaves_tree, takes_effect, takes_link}
 use Rattle.pim_in_time.specs.Joins.{Always, ComeInTime, Pair, Wants, most_late}
 
--- a Prune of the source off the group's tree takes effect on the interface; s is the state before the event, t the one after
+-- a Prune of the source off the group's tree takes effect on the interface; s is the state before the event, t the one
+-- after
 abbrev pub prunes_source : State → State → ℕ → ℕ → ℕ → Option Accepted → Bool
 prunes_source s t g src down (Some (Accepted.Advance moment)) = takes_effect s (rpt_key down g src) moment
 prunes_source s t g src down (Some (Accepted.JoinPruneToMe j m)) = (j.number == down) && prunes t g src down

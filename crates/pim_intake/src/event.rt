@@ -127,8 +127,8 @@ fn without_table<'a>(
 }
 
 /// Judges an event: what the router is to act on, or the first test that fails. Only routes and RP ranges are
-/// tested in memory: a table is made of them, which comes with the answer. The meter rises by the nodes that lead to the RP
-/// of the group of a Register-Stop to the router; for a packet that came on a link nothing is looked up.
+/// tested in memory: a table is made of them, which comes with the answer. The meter rises by the nodes that lead to
+/// the RP of the group of a Register-Stop to the router; for a packet that came on a link nothing is looked up.
 #[tactic(auto, using(pim_world::proofs::Visits::raised_by_none), unfolding(pim_model::specs::Judging::judged, crate::specs::Lent::event_kind))]
 pub fn judge<'a>(
     alloc: Global,

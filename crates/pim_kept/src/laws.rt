@@ -1,5 +1,5 @@
-//! A plane that tells of a source's last packet by `keep`. Laws of the definitions, each the contract of a function with
-//! nothing to do.
+//! A plane that tells of a source's last packet by `keep`. Laws of the definitions, each the contract of a function
+//! with nothing to do.
 
 ghost use Rattle.pim_kept.specs.AtOnce.{AdvanceAtOnce, KeptAtOnce};
 ghost use Rattle.pim_kept.specs.Documented.{DocumentedPlaneIsSound, PlainActsAreRight};

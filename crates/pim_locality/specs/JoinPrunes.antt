@@ -1,5 +1,5 @@
--- What a Join/Prune to the router touches, told before its change: the keys whose downstream rows it changes in more than
--- an end, and those whose lost asserts it ends.
+-- What a Join/Prune to the router touches, told before its change: the keys whose downstream rows it changes in more
+-- than an end, and those whose lost asserts it ends.
 use Rattle.std.specs.Prelude.{Bool, List, [], filter, not, ℕ, ◌&&◌, ◌≡◌}
 use Rattle.pim_types.specs.declared.config.IfaceId.{IfaceId}
 use Rattle.pim_types.specs.declared.fact.Key.{Key}

@@ -406,8 +406,8 @@ pub fn firing_follows_of_differing()
     ensures { FiringFollowsOfDiffering }
 {}
 
-/// A Join/Prune touches no more than the keys whose downstream rows it changes in more than an end, and those whose lost
-/// asserts it ends.
+/// A Join/Prune touches no more than the keys whose downstream rows it changes in more than an end, and those whose
+/// lost asserts it ends.
 #[tactic(auto, using(crate::proofs::JoinPrunes::join_prune_touches_moved))]
 pub fn join_prune_touches_moved()
     ensures { JoinPruneTouchesMoved }

@@ -235,8 +235,8 @@ impl SourceSight {
     }
 }
 
-/// The upstream neighbour of the key's Join timer: RPF'(*,G), or RPF'(S,G). The meter rises by the nodes that the look-ups
-/// visit, at least those of the sight of the group and, where the key has one, of the source.
+/// The upstream neighbour of the key's Join timer: RPF'(*,G), or RPF'(S,G). The meter rises by the nodes that the
+/// look-ups visit, at least those of the sight of the group and, where the key has one, of the source.
 #[tactic(auto, unfolding(pim_model::specs::Hellos::upstream_of))]
 pub fn upstream_of(world: &World, key: Key, meter: &mut Meter) -> Option<Hop>
     ensures upstream { result ≡ upstream_of world.now key }

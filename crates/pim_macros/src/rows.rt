@@ -56,8 +56,8 @@ pub struct SourceAnswers {
     pub watches: bool,
     /// The interfaces on which a packet that is off its tree makes the router the winner of an assert.
     pub contested: IfSet,
-    /// The place of the source's own row when this was evaluated, if it had one. It is no answer, but a hint for `keep_alive` of
-    /// `World`.
+    /// The place of the source's own row when this was evaluated, if it had one. It is no answer, but a hint for
+    /// `keep_alive` of `World`.
     pub place: Option<usize>,
 }
 

@@ -11,8 +11,8 @@ const MOST_BUFFERS: usize = 128;
 // The most lists that are kept.
 const MOST_LISTS: usize = 4;
 
-/// The memory of packets that are done with, and of lists of them, into which others are written. No clause speaks of what
-/// it holds: a packet is the same wherever its bytes lie.
+/// The memory of packets that are done with, and of lists of them, into which others are written. No clause speaks of
+/// what it holds: a packet is the same wherever its bytes lie.
 pub struct Room {
     pub alloc: Global,
     buffers: Vec<Vec<u8>>,

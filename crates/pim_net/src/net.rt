@@ -78,7 +78,7 @@ impl<W: Wire> Net<W> {
     /// sends the frame's bytes to the receiver's port, and what the wire returns there is the packet that the router
     /// receives; there is no other call of the wire. Without moves no memory is taken, so there is no fault. A fault is
     /// `Memory`, after which the net answers `Failed` from then on; or `Wire`, where the wire failed: then the moves
-    /// before it are done, and the net goes on working. In the first run of a net no copy flows unrequested: each copy
+    /// before it are done, and the net goes on working. In the first run of a net nothing flows unasked: each copy
     /// of a packet has its cause among what came to its router before.
     pub fn run(&mut self, moves: &[Move]) -> Result<NetLog, Fault>
         ensures outcomes { W.is_faithful ≡ true → IfSome self.old.network (λ n. IfOk result (λ log.

@@ -106,8 +106,8 @@ impl Network {
         }
     }
 
-    /// What a delivery to an interface carries. None where router, interface or frame is unknown, or the interface isn't on
-    /// the frame's link.
+    /// What a delivery to an interface carries. None where router, interface or frame is unknown, or the interface
+    /// isn't on the frame's link.
     pub(crate) fn to_interface(
         &self,
         router: usize,

@@ -27,8 +27,8 @@ impl Model for Frame {
     ghost view = { λ f. record { link = f.link; bytes = f.bytes } };
 }
 
-/// A router with the links of its interfaces. Of its ports the first are the interfaces', in their order, and the last is
-/// for unicasts.
+/// A router with the links of its interfaces. Of its ports the first are the interfaces', in their order, and the last
+/// is for unicasts.
 #[derive(Drop)]
 pub(crate) struct Station {
     router: Router,

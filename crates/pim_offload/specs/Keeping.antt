@@ -51,7 +51,8 @@ KeepEndsLater = (s : State) (g src m : ℕ)
 abbrev pub KeepStartsNone : Type 0
 KeepStartsNone = (s : State) (g src m h x : ℕ) → is_kept_alive (keep s g src m) h x ≡ is_kept_alive s h x
 
--- at the present it is what a plain packet does that shows its source alive, where the timer wasn't set at this very moment
+-- at the present it is what a plain packet does that shows its source alive, where the timer wasn't set at this very
+-- moment
 abbrev pub KeepIsAPacket : Type 0
 KeepIsAPacket = (s : State) (e : Event) (p : Packet) (how : Plain) (end : ℕ) → IsAtRest s → IsDecided s e p how
     → how.keeps ≡ true → keepalive_end s p.destination p.source ≡ Some end → end < s.present + keepalive_period

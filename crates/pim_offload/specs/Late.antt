@@ -1,5 +1,5 @@
--- A split data plane whose core isn't told the moments of the packets that passed: it hears of each source's last one just
--- before an event of its own.
+-- A split data plane whose core isn't told the moments of the packets that passed: it hears of each source's last one
+-- just before an event of its own.
 use Rattle.std.specs.Prelude.{Bool, List, Ok, [], if◌then◌else◌, length, not, true, ◌∷◌, ◌≡◌, ◌≤◌}
 use Rattle.pim_types.specs.declared.config.Config.{Config}
 use Rattle.pim_types.specs.declared.event.Event.{Event}

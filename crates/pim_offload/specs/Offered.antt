@@ -1,5 +1,5 @@
--- What a router tells a plane of any source: the row of one with a fact, and of another what it decides of packets until
--- the router's next event.
+-- What a router tells a plane of any source: the row of one with a fact, and of another what it decides of packets
+-- until the router's next event.
 use Rattle.std.specs.Prelude.{Bool, None, Option, Some, false, if◌then◌else◌, option_map, true, ℕ, ◌||◌, ◌≡◌}
 use Rattle.pim_ip.specs.Ipv4.{Packet}
 use Rattle.pim_types.specs.declared.config.IfaceId.{IfaceId}

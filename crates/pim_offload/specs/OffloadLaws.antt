@@ -79,8 +79,8 @@ abbrev pub PlaneIsPlain : Type 0
 PlaneIsPlain = (s : State) (e : Event) (i : IfaceId) (p : Packet) → IsAtRest s → BringsData s e i p
     → is_to_core (handling_of s i p) ≡ false → IsPlainEvent s e
 
--- One of the same source and group on the same interface whose TTL has run out leaves the same state, and sends nothing: so
--- it tells the core of the others.
+-- One of the same source and group on the same interface whose TTL has run out leaves the same state, and sends
+-- nothing: so it tells the core of the others.
 abbrev pub SpentPacketTells : Type 0
 SpentPacketTells = (s : State) (e f : Event) (i : IfaceId) (p q : Packet) → IsAtRest s → BringsData s e i p → BringsData s f i q
     → q.destination ≡ p.destination → q.source ≡ p.source → nat_lt 1 q.time_to_live ≡ false

@@ -1,5 +1,5 @@
--- What is offered of a source, with a fact or without one, stays where the fact and the answers do, and where there is room for
--- one fact more in both states or in neither.
+-- What is offered of a source, with a fact or without one, stays where the fact and the answers do, and where there is
+-- room for one fact more in both states or in neither.
 use Rattle.std.specs.Prelude.{Bool, None, Option, Some, false, length, true, ℕ, ◌≡◌, ◌≤◌}
 use Rattle.pim_ip.specs.Ipv4.{Packet}
 use Rattle.pim_types.specs.declared.event.Event.{Event}
@@ -23,8 +23,8 @@ use Rattle.pim_offload.specs.Keeping.{keep}
 use Rattle.pim_offload.specs.Offered.{Offered, offered}
 use Rattle.pim_offload.specs.ToldLaws.{DecideAlike}
 
--- nothing in both, or what decides the same of a packet, whichever of the interfaces that can be configured it came on, of a
--- source with a fact or of one without
+-- nothing in both, or what decides the same of a packet, whichever of the interfaces that can be configured it came on,
+-- of a source with a fact or of one without
 abbrev pub OffersAlike : Option Offered → Option Offered → Type 0
 OffersAlike None None = Unit {0}
 OffersAlike (Some a) (Some b) = (a.is_known ≡ b.is_known) × DecideAlike (Some a.row) (Some b.row)

@@ -1,5 +1,5 @@
-//! What a router tells a plane of any source, and what a plane tells its router. Laws of the definitions, each the contract of
-//! a function with nothing to do.
+//! What a router tells a plane of any source, and what a plane tells its router. Laws of the definitions, each the
+//! contract of a function with nothing to do.
 
 ghost use Rattle.pim_offload.specs.Keeping.{KeepChangesNoAnswer, KeepChangesNoRow, KeepEndsLater, KeepIsAPacket, KeepIsAtRest, KeepStartsNone};
 ghost use Rattle.pim_offload.specs.Offered.{KnownIsTold, OfferedIsHandled, UnknownRowDecides};

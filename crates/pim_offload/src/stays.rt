@@ -1,5 +1,5 @@
-//! Where what a plane was told of a source may stay, with a fact or without one. Laws of the definitions, each the contract of a
-//! function with nothing to do.
+//! Where what a plane was told of a source may stay, with a fact or without one. Laws of the definitions, each the
+//! contract of a function with nothing to do.
 
 ghost use Rattle.pim_offload.specs.Staying.{EventKeepsRoutes, FiringKeepsRoutes, FiringSourceStays, KeepOfferStays, OfferStays, PlainOfferStays, StaysInTurn, TimeSourceStays, UnnamedSourceStays};
 

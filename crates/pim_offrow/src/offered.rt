@@ -9,8 +9,8 @@ use pim_macros::SourceAnswers;
 /// What a data plane is told of a source.
 #[derive(Clone, Copy)]
 pub struct Offered {
-    /// Whether the source has a fact: its row then stays as it is until an event lists the source as changed. That of another
-    /// stays until an event may have disturbed it.
+    /// Whether the source has a fact: its row then stays as it is until an event lists the source as changed. That of
+    /// another stays until an event may have disturbed it.
     pub is_known: bool,
     pub row: OffloadRow,
 }
@@ -43,7 +43,8 @@ impl Offered {
     }
 }
 
-/// Where what was evaluated shows the answers of a state, what is made of it shows what is offered of a source with a fact.
+/// Where what was evaluated shows the answers of a state, what is made of it shows what is offered of a source with a
+/// fact.
 #[tactic(auto, using(crate::proofs::OfferedAsShown::shown_is_known))]
 pub fn shown_is_known()
     ensures { ShownIsKnown }

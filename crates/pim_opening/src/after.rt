@@ -31,8 +31,8 @@ pub struct GroupAfter {
 }
 
 impl GroupAfter {
-    /// What was opened, with what is read of it now. The meter rises by the nodes that the look-ups visit, at least those of the
-    /// sight of the group, and of each of these sources.
+    /// What was opened, with what is read of it now. The meter rises by the nodes that the look-ups visit, at least
+    /// those of the sight of the group, and of each of these sources.
     pub fn of(
         world: &World,
         alloc: Global,

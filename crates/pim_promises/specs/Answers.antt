@@ -61,8 +61,9 @@ abbrev pub AssertGivesOne : Type 0
 AssertGivesOne =
     (s : State) (w : ℕ) (i : IfaceId) (from : Addr) (a : AssertMessage) → answer_count (change s w (Accepted.Assert i from a)) ≤ 1
 
--- a Hello, a Join/Prune, a query, a Register-Stop, an interface that goes down, new routes, new RP ranges: none. Time is among them, since
--- it makes no change of its own: what it brings comes of the timers that end, each with a change that is counted nowhere here
+-- a Hello, a Join/Prune, a query, a Register-Stop, an interface that goes down, new routes, new RP ranges: none. Time
+-- is among them, since it makes no change of its own: what it brings comes of the timers that end, each with a change
+-- that is counted nowhere here
 abbrev pub is_unanswered : Accepted → Bool
 is_unanswered (Accepted.Up i) = false
 is_unanswered (Accepted.Assert i from a) = false
@@ -79,7 +80,8 @@ abbrev pub IsShortQuery : Message → Type 0
 IsShortQuery (Message.Query i q) = length q.sources ≤ most_sources
 IsShortQuery m = ⊥
 
--- the sources of a group that a record may have the router ask for: those still to be asked for, those with a fact, those named
+-- the sources of a group that a record may have the router ask for: those still to be asked for, those with a fact,
+-- those named
 unfoldable pub askable : ℕ → State → Record → ℕ
 askable i s r =
     length (sources_to_send s i r.group) + length (record_of s i r.group).members + length r.sources

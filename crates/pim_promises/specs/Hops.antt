@@ -38,7 +38,8 @@ IsChainOfHops [] = Unit {0}
 IsChainOfHops (x ∷ []) = Unit {0}
 IsChainOfHops (x ∷ y ∷ more) = Hop x y × IsChainOfHops (y ∷ more)
 
--- a packet makes fewer hops than its TTL, by whatever routers in whatever states, and whatever is lost, repeated or reordered
+-- a packet makes fewer hops than its TTL, by whatever routers in whatever states, and whatever is lost, repeated or
+-- reordered
 abbrev pub HopsEnd : Type 0
 HopsEnd = (x y : Emission) (more : List Emission) (first : Hop x y) → IsChainOfHops (y ∷ more)
     → length (y ∷ more) < first.packet.time_to_live

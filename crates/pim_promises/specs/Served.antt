@@ -64,8 +64,8 @@ ServedHere = (s : State) (e : Event) (i : IfaceId) (p : Packet) (j : ℕ)
     → IsServed s p.destination p.source j → (j == i.number) ≡ false
     → Contains (copies_at s e) (on_link j (copy_text p))
 
--- a host on the link asked for the group and didn't exclude the source, and this router serves the link: it is the DR or
--- the winner of the group's assert, and lost no assert there
+-- a host on the link asked for the group and didn't exclude the source, and this router serves the link: it is the DR
+-- or the winner of the group's assert, and lost no assert there
 pub record IsMember (s : State) (g src j : ℕ) : Type 0 where
   pub configured : j < iface_count s
   pub asked : is_exclude s g j ≡ true

@@ -1,4 +1,5 @@
--- The facts that don't count: each is of an interface, lies under a fact that counts, runs for what is wanted, or ends soon.
+-- The facts that don't count: each is of an interface, lies under a fact that counts, runs for what is wanted, or ends
+-- soon.
 use Rattle.std.specs.List.{list_all, list_any}
 use Rattle.std.specs.Prelude.{Bool, List, Ok, if◌then◌else◌, length, nat_le, nat_lt, true, ℕ, ◌&&◌, ◌*◌, ◌+◌, ◌≡◌, ◌≤◌}
 use Rattle.pim_types.specs.Keys.{group_in, iface_in, iface_key, is_star, same_key, source_in}
@@ -26,9 +27,9 @@ use Rattle.pim_model.specs.Tables.{has_row}
 abbrev pub is_of_interface : State → Key → Bool
 is_of_interface s k = same_key (iface_key (iface_in k)) k && nat_lt (iface_in k) (iface_count s)
 
--- interfaces are configured and queriers up; a query's repeat lies under the record of its group, what is left to send of a
--- source's query under the record of the source, the time of the next sending under a source of its group on its interface;
--- a register lies under its source
+-- interfaces are configured and queriers up; a query's repeat lies under the record of its group, what is left to send
+-- of a source's query under the record of the source, the time of the next sending under a source of its group on its
+-- interface; a register lies under its source
 pub record LiesUnder (s : State) : Type 0 where
   pub interfaces : list_all (λ (e : Key × InterfaceRow). is_of_interface s e.0) s.interfaces ≡ true
   pub queriers : list_all (λ (e : Key × QuerierRow). has_row s.interfaces e.0) s.queriers ≡ true

@@ -40,7 +40,8 @@ pub fn tunnel_ttl_falls()
     ensures { TunnelTtlFalls }
 {}
 
-/// From router to router, whatever state each is in, a packet makes fewer hops than its TTL, as copies on links and in Registers.
+/// From router to router, whatever state each is in, a packet makes fewer hops than its TTL, as copies on links and in
+/// Registers.
 pub fn hops_end()
     ensures { HopsEnd }
 {}
@@ -60,12 +61,14 @@ pub fn served_here()
     ensures { ServedHere }
 {}
 
-/// It leaves where a host asked for the group and didn't exclude the source, the router serves the link, and no assert was lost.
+/// It leaves where a host asked for the group and didn't exclude the source, the router serves the link, and no assert
+/// was lost.
 pub fn member_is_served()
     ensures { MemberIsServed }
 {}
 
-/// On the shortest path tree it leaves where a router joined its source, or a host asked for it, and no assert was lost.
+/// On the shortest path tree it leaves where a router joined its source, or a host asked for it, and no assert was
+/// lost.
 pub fn source_is_served()
     ensures { SourceIsServed }
 {}
@@ -105,8 +108,8 @@ pub fn counted_stay_bounded()
     ensures { CountedStayBounded }
 {}
 
-/// Other facts are of an interface, or lie under one that counts: what is still to be asked under the records of its group and
-/// sources, registers under sources.
+/// Other facts are of an interface, or lie under one that counts: what is still to be asked under the records of its
+/// group and sources, registers under sources.
 pub fn each_lies_under()
     ensures { EachLiesUnder }
 {}
@@ -161,14 +164,14 @@ pub fn others_give_none()
     ensures { OthersGiveNone }
 {}
 
-/// A record of a report asks at most a query of its group, and for its sources two and one more for each 366 of them; each
-/// query names at most 366.
+/// A record of a report asks at most a query of its group, and for its sources two and one more for each 366 of them;
+/// each query names at most 366.
 pub fn record_asks_few()
     ensures { RecordAsksFew }
 {}
 
-/// All that an event of some keys sends: what it gives itself, what is cancelled and told upstream of those keys, and a Hello
-/// before each message whose interface owes one.
+/// All that an event of some keys sends: what it gives itself, what is cancelled and told upstream of those keys, and a
+/// Hello before each message whose interface owes one.
 pub fn answers_are_bounded()
     ensures { AnswersAreBounded }
 {}

@@ -1,5 +1,5 @@
--- The records of a report: those that leave what they don't name, what is known of the sources that they name, and which
--- sources they move.
+-- The records of a report: those that leave what they don't name, what is known of the sources that they name, and
+-- which sources they move.
 use Rattle.std.specs.List.{filter_map, flat_map, list_all, list_any}
 use Rattle.std.specs.Option.{option_map_or}
 use Rattle.std.specs.Prelude.{Bool, List, Option, [], ◌∷◌, false, filter, if◌then◌else◌, is_some, length, map, not, option_map, true, ℕ, ◌&&◌, ◌++◌, ◌+◌, ◌||◌}
@@ -46,8 +46,8 @@ record_named s i g sources =
 abbrev pub stays : RecordType → Option SourceRecordRow → Bool
 stays type o = option_map_or (λ (r : SourceRecordRow). not (is_including type) || is_some r.end) o false
 
--- The group stays in its mode: in EXCLUDE it does, and in INCLUDE where the sources stay that aren't named, and there is one
--- of them where the group has a record, and none where it has none.
+-- The group stays in its mode: in EXCLUDE it does, and in INCLUDE where the sources stay that aren't named, and there
+-- is one of them where the group has a record, and none where it has none.
 unfoldable pub keeps_mode : State → ℕ → Record → Bool
 keeps_mode s i r =
     let listed : Bool = list_any (λ e. is_at_group i r.group e.0) s.source_records in
@@ -58,8 +58,8 @@ keeps_mode s i r =
 unfoldable pub all_keep_modes : State → ℕ → List Record → Bool
 all_keep_modes s i records = list_all (keeps_mode s i) (filter (λ r. not (is_skipped r)) records)
 
--- The keys of the sources that a record may move: of those that it names, those that come or change sides; where it deletes
--- what it doesn't name, all that are there.
+-- The keys of the sources that a record may move: of those that it names, those that come or change sides; where it
+-- deletes what it doesn't name, all that are there.
 abbrev pub moved_named : Table SourceRecordRow → ℕ → Record → List Key
 moved_named t i r =
     map (source_key i r.group) (filter (λ src. not (stays r.type (row_at t (source_key i r.group src)))) r.sources)

@@ -1,5 +1,5 @@
--- How many nodes of tries are visited, at least, where group records and source records come, go, or their timers begin or
--- end to run.
+-- How many nodes of tries are visited, at least, where group records and source records come, go, or their timers begin
+-- or end to run.
 use Rattle.std.specs.List.{list_any}
 use Rattle.std.specs.Prelude.{Bool, List, None, Option, Some, filter, fold, if◌then◌else◌, is_none, is_some, not, ℕ, ◌&&◌, ◌+◌}
 use Rattle.igmp_wire.specs.Values.{Record}
@@ -117,8 +117,8 @@ membership_end_nodes s _ k = 0
 
 -- ---- reports
 
--- a record of a report is applied to all of the group's sources, and one that leaves those that it doesn't name to those that
--- it does
+-- a record of a report is applied to all of the group's sources, and one that leaves those that it doesn't name to
+-- those that it does
 abbrev pub apply_to_all_nodes : ℕ → ℕ → ℕ → State → RecordType → List ℕ → ℕ
 apply_to_all_nodes full i g s type sources = set_record_nodes i g s (apply_record full (record_of s i g) type sources).0
 

@@ -45,8 +45,8 @@ UnreachedIsSame = (s : State) (w : ℕ) (a : Accepted) → is_calm s (change s w
     → differs_among g src (passes s (change s w a).state) ≡ false
     → IsUnreached g src s (clear s (change s w a).state).0
 
--- where no interface row and no neighbour row differs, a named source is reached, so no more are named than are reached;
--- of an event's own change
+-- where no interface row and no neighbour row differs, a named source is reached, so no more are named than are
+-- reached; of an event's own change
 abbrev pub NamedIsReached : Type 0
 NamedIsReached = (s : State) (w : ℕ) (a : Accepted) → is_calm s (change s w a).state ≡ true → (g src : ℕ)
     → is_source_named g src s (clear s (change s w a).state).0 ≡ true

@@ -1,5 +1,5 @@
--- What new routes or new RP ranges move: (*,G) where RP(G) or the route to it differs, and a source of a group where its
--- own route does. All that follows of them follows of what they move, of which there are facts.
+-- What new routes or new RP ranges move: (*,G) where RP(G) or the route to it differs, and a source of a group where
+-- its own route does. All that follows of them follows of what they move, of which there are facts.
 use Rattle.std.specs.List.{flat_map, list_all, list_any}
 use Rattle.std.specs.Prelude.{Bool, List, [], false, filter, if◌then◌else◌, is_some, map, not, true, ℕ, ◌&&◌, ◌==◌, ◌||◌, ◌≡◌, ◌∷◌}
 use Rattle.pim_types.specs.declared.config.Route.{Route}

@@ -26,8 +26,8 @@ use Rattle.pim_register.specs.Steps.{source_keys}
 
 -- ---- rows that come and go lead to the facts of their source
 
--- a register: where the source can't be registered there is to be none, which is looked up whether there was one or not;
--- where it can, one that is there stays
+-- a register: where the source can't be registered there is to be none, which is looked up whether there was one or
+-- not; where it can, one that is there stays
 abbrev pub register_mark_nodes : State → Addr → Addr → ℕ
 register_mark_nodes s group source =
     if could_register s group.bits source.bits && has_row s.registers (source_key 0 group.bits source.bits) then 0

@@ -152,9 +152,9 @@ fn join_all(world: &mut World, meter: &mut Meter, keys: &[Key]) -> Result<(), Al
     Ok(())
 }
 
-/// Puts the RP ranges of the next table in the place of those there are: where the RP of a group becomes another one, its
-/// registers begin anew. The meter rises by the nodes that the look-ups visit, at least those that lead to the RP of each
-/// register, by the old ranges and by the new. An error is want of memory.
+/// Puts the RP ranges of the next table in the place of those there are: where the RP of a group becomes another one,
+/// its registers begin anew. The meter rises by the nodes that the look-ups visit, at least those that lead to the RP
+/// of each register, by the old ranges and by the new. An error is want of memory.
 pub fn rps_replaced(
     world: &mut World,
     turn: &mut Turn,

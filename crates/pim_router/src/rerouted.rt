@@ -162,8 +162,8 @@ pub(crate) fn touched_by_routes(
     Ok(Touched::Keys(keys_of_groups(world, alloc, meter, next, &groups)?))
 }
 
-/// What the RP ranges of the next table touch: the groups with any fact that have another RP. The meter rises by the nodes of
-/// the RPs of each group.
+/// What the RP ranges of the next table touch: the groups with any fact that have another RP. The meter rises by the
+/// nodes of the RPs of each group.
 pub(crate) fn touched_by_rps(
     world: &World,
     alloc: Global,

@@ -392,8 +392,8 @@ impl Router {
     }
 
     /// Takes events one after the other, and returns the outcome of each. After a fault the router answers `Failed`
-    /// from then on. Without events no memory is taken, so there is no fault. In the run of a new router no copy flows
-    /// unrequested: each copy of a packet has its cause in an earlier event. After such a run the facts that count,
+    /// from then on. Without events no memory is taken, so there is no fault. In the run of a new router nothing flows
+    /// unasked: each copy of a packet has its cause in an earlier event. After such a run the facts that count,
     /// without the asserts, are within the limit; with the asserts they are at most the limit once for each interface
     /// and once more.
     pub fn run(&mut self, events: &[Event]) -> Result<Vec<Outcome>, Fault>

@@ -69,8 +69,8 @@ no_row = None
 
 -- ---- rows
 
--- A source that is joined on 1 has a row once it sends; its next packet is plain, and leaves there. Another source of the
--- group has none.
+-- A source that is joined on 1 has a row once it sends; its next packet is plain, and leaves there. Another source of
+-- the group has none.
 abbrev pub JoinedSourceIsCached : Type 0
 JoinedSourceIsCached =
     (seen_of (after (frame 1 join_source ∷ [])) source ≡ None)
@@ -179,8 +179,8 @@ OpeningIsNotPlain =
     × (decided_of silent_host host 2 64 ≡ not_plain)
     × (decided_of silent_host host 2 1 ≡ not_plain)
 
--- Off its tree, where the router forwards the source, a packet makes it the winner of an assert, and isn't plain. The next one
--- there is dropped, as it is where the router doesn't forward.
+-- Off its tree, where the router forwards the source, a packet makes it the winner of an assert, and isn't plain. The
+-- next one there is dropped, as it is where the router doesn't forward.
 abbrev pub StrayOfTheSourceIsNotPlain : Type 0
 StrayOfTheSourceIsNotPlain =
     (decided_of joined_and_sent source 1 64 ≡ not_plain)

@@ -72,8 +72,8 @@ OneOfEightIsReached =
 
 -- ---- time
 
--- Time reaches a source once for each of its facts that changes: the Join ends, and with it SPTbit, then the keepalive timer.
--- Hellos, queries and the Joins between reach nothing.
+-- Time reaches a source once for each of its facts that changes: the Join ends, and with it SPTbit, then the keepalive
+-- timer. Hellos, queries and the Joins between reach nothing.
 abbrev pub TimeReachesOnceAFiring : Type 0
 TimeReachesOnceAFiring =
     (event_reach joined_and_sent (advance 209999) ≡ [])

@@ -100,7 +100,8 @@ report = frame 0 (igmp_packet_text (address 10 0 3 9) (address 224 0 0 22) (repo
 abbrev pub ChainIsServed : Type 0
 ChainIsServed = IsServedFrom chain asked_group root sender 3 first_place second_place report (third_place ∷ [])
 
--- a packet of the source, of 16 bytes behind its header, and the Register round it that a router far away sends to the RP
+-- a packet of the source, of 16 bytes behind its header, and the Register round it that a router far away sends to the
+-- RP
 abbrev pub content : List ℕ
 content = 0x13 ∷ 0x8C ∷ 0x13 ∷ 0x8C ∷ 0 ∷ 16 ∷ 0 ∷ 0 ∷ 1 ∷ 2 ∷ 3 ∷ 4 ∷ 5 ∷ 6 ∷ 7 ∷ 8 ∷ []
 

@@ -28,7 +28,8 @@ way (Handling.Forward alive list) = Some (alive, members at_ten list)
 way Handling.Drop = Some (false, [])
 way Handling.ToCore = None
 
--- on 0 it comes from the source, and leaves on 1; on 1 it would make the router the winner of an assert; on 2 it is dropped
+-- on 0 it comes from the source, and leaves on 1; on 1 it would make the router the winner of an assert; on 2 it is
+-- dropped
 abbrev pub EachLinkIsHandled : Type 0
 EachLinkIsHandled =
     map (λ i. way (handled its_row i)) (0 ∷ 1 ∷ 2 ∷ [])
@@ -81,7 +82,8 @@ UnknownIsForwarded =
 abbrev pub beside_dr : State
 beside_dr = after (frame 2 hello_of_10_0_2_9 ∷ frame 2 host_packet ∷ [])
 
--- the incoming interface is that of the shared tree, and a packet of the host, on 2, leaves nowhere; yet the core is to hear of it
+-- the incoming interface is that of the shared tree, and a packet of the host, on 2, leaves nowhere; yet the core is to
+-- hear of it
 abbrev pub HostIsHeardOf : Type 0
 HostIsHeardOf =
     (option_map (λ (r : Row). r.incoming) (told beside_dr group host) ≡ Some (Some 0))

@@ -1,4 +1,5 @@
--- How many nodes of tries of groups and sources lead to a key, for the crates above; and what was looked up of the facts.
+-- How many nodes of tries of groups and sources lead to a key, for the crates above; and what was looked up of the
+-- facts.
 use Rattle.std.specs.Prelude.{Option, ℕ, ◌≡◌}
 use Rattle.pim_ip.specs.declared.addr.Addr.{Addr}
 pub use Rattle.pim_source_trie.specs.Entries.{nodes_visited}

@@ -555,8 +555,8 @@ impl Store {
         self.downstream.rows().push_rpt_keys(iface, groups, keys)
     }
 
-    /// The Join timers of the group, by rising key: that of (*,G), then those of its sources. All its sources are gone through.
-    /// The meter rises by the nodes that lead to the group.
+    /// The Join timers of the group, by rising key: that of (*,G), then those of its sources. All its sources are gone
+    /// through. The meter rises by the nodes that lead to the group.
     pub fn join_timers_of(&self, group: Addr, meter: &mut Meter) -> GroupJoinTimers<'_>
         ensures timers { result ≡ filter (λ e. is_of_group group.bits e.0) self.now.join_timers }
         ensures visited { Visits self.now group None meter.old meter.new }

@@ -20,7 +20,8 @@ use Rattle.pim_stream.specs.Passing.{NoneEndsPassing, Receiver, Tree}
 use Rattle.pim_stream.specs.Roots.{NoneEndsSending, Sends}
 use Rattle.pim_stream.specs.Streams.{PassesAt}
 
--- a host's report of the group at its DR, where the group is new: from then on the DR passes the stream to the host's link
+-- a host's report of the group at its DR, where the group is new: from then on the DR passes the stream to the host's
+-- link
 abbrev pub HostBeginsStream : Type 0
 HostBeginsStream = (g rp src link : ℕ) (p : Place) (e : Event) (records : List Record)
     → IsRequest g records

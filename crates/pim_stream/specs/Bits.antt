@@ -17,8 +17,8 @@ pub record HasJoined (s : State) (g src i : ℕ) : Type 0 where
   pub joined : has_row s.downstream (source_key i g src) ≡ true
   pub unlost : is_loser (assert_source s g src i) ≡ false
 
--- then what follows of a change, of an event or of the end of a timer, leaves SPTbit(S,G) set, whatever the change is; o is
--- the state before it
+-- then what follows of a change, of an event or of the end of a timer, leaves SPTbit(S,G) set, whatever the change is;
+-- o is the state before it
 abbrev pub JoinKeepsSptBit : Type 0
 JoinKeepsSptBit = (o : State) (change : State × List Message) (w g src i : ℕ) → HasJoined change.0 g src i
     → spt_bit change.0 g src ≡ true → spt_bit (settled o change w).0 g src ≡ true

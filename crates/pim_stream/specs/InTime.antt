@@ -12,8 +12,8 @@ use Rattle.pim_promises.specs.Copies.{happens}
 use Rattle.pim_served.specs.Joins.{HoldsStar}
 use Rattle.pim_stream.specs.Passing.{Passes, Receiver, Tree, lacks_room, leaves_tree, takes_effect, takes_link}
 
--- a message to the router joins the group on the link, for a holdtime that ends, and doesn't also prune it there; s is the
--- state that it finds
+-- a message to the router joins the group on the link, for a holdtime that ends, and doesn't also prune it there; s is
+-- the state that it finds
 abbrev pub joins_group : State → ℕ → ℕ → Option Accepted → Bool
 joins_group s g down (Some (Accepted.JoinPruneToMe j m)) =
     (j.number == down)
@@ -32,8 +32,8 @@ next_end s e g down end =
     let done : Option Accepted = done_as (happens s e) in
     if joins_group s g down done then joined_until s done end else end
 
--- what isn't in time: an Advance to the end, or past it; and what takes the Join back: a Prune of the group there, and one
--- of the source that takes effect
+-- what isn't in time: an Advance to the end, or past it; and what takes the Join back: a Prune of the group there, and
+-- one of the source that takes effect
 abbrev pub is_late : State → State → ℕ → ℕ → ℕ → ℕ → Option Accepted → Bool
 is_late s t g src down end (Some (Accepted.Advance moment)) =
     nat_le end moment || takes_effect s (rpt_key down g src) moment

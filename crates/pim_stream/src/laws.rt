@@ -1,5 +1,5 @@
-//! A stream that is asked for is served until one of a few things happens. Laws of the definitions, each the contract of
-//! a function with nothing to do.
+//! A stream that is asked for is served until one of a few things happens. Laws of the definitions, each the contract
+//! of a function with nothing to do.
 
 ghost use Rattle.pim_stream.specs.Begun.{BegunStreamIsServed, EachOfBegunStreamIsServed, HostBeginsStream, JoinBeginsSending};
 ghost use Rattle.pim_stream.specs.Bits.{ChangeKeepsSptBit, FiringKeepsSptBit, JoinKeepsSptBit};

@@ -1,5 +1,5 @@
--- How many nodes of tries are visited, at least, where the upstream machines tell what changed, where a Join timer ends,
--- and where a Join/Prune between other routers is heard. The timers move last: of those nothing is counted.
+-- How many nodes of tries are visited, at least, where the upstream machines tell what changed, where a Join timer
+-- ends, and where a Join/Prune between other routers is heard. The timers move last: of those nothing is counted.
 use Rattle.std.specs.Option.{option_map_or}
 use Rattle.std.specs.Prelude.{Bool, List, None, Option, Some, [], ◌∷◌, if◌then◌else◌, not, false, option_map, suc, sum_by, true, zero, ℕ, ◌+◌, ◌++◌, ◌||◌}
 use Rattle.pim_ip.specs.Addr.{addr}

@@ -266,9 +266,9 @@ fn tell_sources_by_sights(
     Ok(())
 }
 
-/// The same of one group alone, by what was gathered of it in the state as the change left it: nothing of that is gathered
-/// again. The meter rises by the nodes that the look-ups visit, at least those of the sources that the group's Join may
-/// prune, and those that lead to the facts of each source that had none.
+/// The same of one group alone, by what was gathered of it in the state as the change left it: nothing of that is
+/// gathered again. The meter rises by the nodes that the look-ups visit, at least those of the sources that the group's
+/// Join may prune, and those that lead to the facts of each source that had none.
 #[tactic(auto, unfolding(crate::specs::Timers::after_moves))]
 pub fn changed_group(
     world: &mut World,

@@ -22,8 +22,9 @@ use std::collections::BTreeMap;
 use std::collections::btree_map::Iter;
 
 impl World {
-    /// The sources of the group that have any fact, ascending. The meter rises by the nodes that are visited, at least those
-    /// that lead to the group and to each of its sources among the source records, and to the group among the PIM facts.
+    /// The sources of the group that have any fact, ascending. The meter rises by the nodes that are visited, at least
+    /// those that lead to the group and to each of its sources among the source records, and to the group among the PIM
+    /// facts.
     pub fn sources(
         &self,
         alloc: Global,
@@ -38,8 +39,8 @@ impl World {
         Ok(found)
     }
 
-    /// Whether there is a fact of the source of the group. The meter rises by the nodes that are visited, at least those
-    /// that lead to its source records and, where membership has no fact of it, to its PIM facts.
+    /// Whether there is a fact of the source of the group. The meter rises by the nodes that are visited, at least
+    /// those that lead to its source records and, where membership has no fact of it, to its PIM facts.
     #[tactic(auto, using(crate::proofs::GatheredSources::any_fact), unfolding(pim_membership::specs::MembershipTables::membership_keys, pim_store::specs::PimTables::stored_keys))]
     pub fn has_facts(&self, name: SourceGroup, meter: &mut Meter) -> bool
         ensures value { result ≡ list_any (names_source name.group.bits name.source.bits) (fact_keys self.now) }
