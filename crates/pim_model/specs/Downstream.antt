@@ -107,7 +107,8 @@ pruned_rpt_row end (suc n) pending None = Some (record { expiry = end; pending =
 pruned_rpt_row end _ pending (Some r) = Some (record r { expiry = later_end r.expiry end })
 
 -- the row of a key after a message that joins and prunes these keys. A Join(S,G,rpt) gives NI (4.5.3), and so does a
--- Join(*,G) of its group, unless the message prunes the source too, which the RFC says by PruneTmp and Prune-Pending-Tmp
+-- Join(*,G) of its group, unless the message prunes the source too, which the RFC says by PruneTmp and
+-- Prune-Pending-Tmp
 unfoldable pub row_after : State → ℕ → ℕ → List Key → List Key → Key → Option DownstreamRow
 row_after s i holdtime joined pruned k =
     let row : Option DownstreamRow = row_at s.downstream k in
