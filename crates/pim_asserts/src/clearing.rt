@@ -284,9 +284,9 @@ fn clear_bit_by_sight(
     Ok(())
 }
 
-/// The same where one source alone was opened, by its sight, which is gathered anew only where something goes: it is
-/// true of the state before, and then of the state after. The meter rises where something goes, by
-/// the nodes that the look-ups visit.
+/// Clears what must go where one source alone was opened, by its sight, which is gathered again only where something
+/// goes: it is true of the state before, and then of the state after. The meter rises where something goes, by the
+/// nodes that the look-ups visit.
 #[tactic(auto, unfolding(crate::specs::Opened::clear_by, crate::specs::Opened::clear_asserts, crate::specs::Opened::clear_star, crate::specs::Opened::clear_bits))]
 pub fn clear_alone(
     world: &mut World,

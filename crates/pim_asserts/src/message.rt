@@ -272,7 +272,7 @@ fn data_seen_of_group(
     win_by_data(world, turn, meter, key, stance, asserted)
 }
 
-// The same of a source of a group, as an event of the machine of (S,G).
+// A packet of data of a source of a group, as an event of the machine of (S,G).
 fn data_seen_of_source(
     world: &mut World,
     turn: &mut Turn,

@@ -23,7 +23,7 @@ use std::alloc::{AllocError, Global};
 /// What leaves of a packet.
 #[derive(Drop)]
 pub struct Leaving {
-    /// Its copies on links, by ascending interface: at most 120.
+    /// The packet's copies on links, in ascending order of interfaces: at most 120.
     pub copies: Vec<Emission>,
     /// The Register round it, if it goes through the tunnel.
     pub registered: Vec<Emission>,

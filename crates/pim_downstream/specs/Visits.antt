@@ -28,7 +28,7 @@ counted_nodes s n = if is_used n then accepted_nodes s n else 0
 abbrev pub joins_nodes : State → Group → ℕ
 joins_nodes s g = sum_by (λ e. counted_nodes s (g.group, e)) g.joins
 
--- those of all groups of a message
+-- The nodes of the keys that all groups of a message name.
 unfoldable pub message_named_nodes : State → JoinPrune → ℕ
 message_named_nodes s m = sum_by (joins_nodes s) m.groups
 

@@ -30,7 +30,7 @@ pub struct Effect {
     pub moved: Series<Key>,
 }
 
-// Both ends are there, or neither is.
+// Whether a timer runs in both rows, or in neither.
 fn same_end(first: Option<u64>, second: Option<u64>) -> bool
     ensures { result ≡ same_end first second }
 {
@@ -40,7 +40,7 @@ fn same_end(first: Option<u64>, second: Option<u64>) -> bool
     }
 }
 
-// Both rows are there and the same but for ends, or neither is there.
+// Whether both rows are there and the same but for when timers expire, or neither is there.
 fn same_row(before: Option<DownstreamRow>, after: Option<DownstreamRow>) -> bool
     ensures { result ≡ same_both same_downstream before after }
 {
@@ -63,7 +63,8 @@ fn is_loser(row: Option<AssertRow>) -> bool
     }
 }
 
-// At most an end of the key's row moves, where this is the row after the message, and the key loses no assert.
+// Whether a message, after which this is the row, changes at most when the timers of the key's row expire, and the key
+// loses no assert by it.
 #[tactic(auto, unfolding(pim_locality::specs::JoinPrunes::moves_end))]
 fn moves_end(
     world: &World,

@@ -67,7 +67,7 @@ fn is_among(keys: &[Key], set: &BTreeSet<Key>, key: Key) -> bool
 }
 
 impl<'a> Indexed<'a> {
-    /// These keys.
+    /// The given keys, indexed.
     pub(crate) fn of(alloc: Global, named: &'a Named) -> Result<Self, AllocError>
         ensures { IfOk result (λ indexed. indexed ≡ named.now) }
     {

@@ -96,7 +96,7 @@ fn put_group(
     put_sources(world, meter, neighbour, group, &sources, keys)
 }
 
-// Of these groups.
+// The keys of what leads to the neighbour, of the given groups.
 fn keys_of_groups(
     world: &World,
     alloc: Global,

@@ -66,7 +66,7 @@ fn judge_down<'a>(world: &World, iface: IfaceId) -> Result<Accepted<'a>, Stop>
 #[derive(Drop)]
 pub struct Admitted<'a> {
     pub accepted: Accepted<'a>,
-    /// Of the routes or the RP ranges that it brings, made to test them; empty where it brings none.
+    /// The table of the routes or the RP ranges that the event brings, made to test them; empty where it brings none.
     pub table: Mrib,
 }
 

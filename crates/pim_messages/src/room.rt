@@ -89,7 +89,7 @@ impl Room {
     /// Takes a buffer back, unless there are many.
     pub fn give(&mut self, buffer: Vec<u8>) {
         if self.buffers.len() < MOST_BUFFERS {
-            // Where the list of buffers can't grow the buffer goes.
+            // Where the list of buffers can't grow, the buffer is freed.
             let _ = self.buffers.push(buffer);
         }
     }

@@ -96,7 +96,7 @@ impl Neighbours {
     pub fn len(&self) -> usize
         ensures count { result ≡ length self.now }
 
-        // Of every table: the keys rise.
+        // This holds of every table: the keys rise.
         ensures ascending { IsStrictlySortedBy key_cmp (keys_in self.now) }
     {
         self.rows.len()

@@ -24,7 +24,7 @@ pub struct SourceAfter {
 pub struct GroupAfter {
     /// All of it is touched.
     pub is_whole: bool,
-    /// Of (*,G), at the opening.
+    /// What the machine of (*,G) compares, at the opening.
     pub was: StarView,
     pub star: StarSight,
     pub sources: Series<SourceAfter>,
@@ -54,7 +54,7 @@ impl GroupAfter {
     }
 }
 
-// These sources of a group.
+// The given sources of a group.
 fn sources_after(
     world: &World,
     alloc: Global,

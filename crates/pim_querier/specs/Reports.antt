@@ -27,7 +27,7 @@ asks_named RecordType.Allow = true
 asks_named RecordType.Block = true
 asks_named _ = false
 
--- those of these sources of the group that have a record on the interface, in their order
+-- Those of the given sources of the group that have a record on the interface, in their order.
 abbrev pub member_named : ℕ → ℕ → Table SourceRecordRow → ℕ → Option Member
 member_named i g t n =
     option_map (λ (r : SourceRecordRow). let m : Member = (n, r.end) in m) (row_at t (source_key i g n))
@@ -54,7 +54,7 @@ keeps_mode s i r =
     is_some (group_end s i r.group)
     || (keeps_others r.type && (if has_row s.group_records (star_key i r.group) then listed else not listed))
 
--- so do those of a report but those that are skipped
+-- All records of a report that aren't skipped keep the modes of their groups.
 unfoldable pub all_keep_modes : State → ℕ → List Record → Bool
 all_keep_modes s i records = list_all (keeps_mode s i) (filter (λ r. not (is_skipped r)) records)
 
@@ -71,7 +71,7 @@ moved_others t i r =
 abbrev pub moved_by : Table SourceRecordRow → ℕ → Record → List Key
 moved_by t i r = moved_named t i r ++ moved_others t i r
 
--- those of a report
+-- The sources that the records of a report move.
 unfoldable pub moved_sources : State → ℕ → List Record → List Key
 moved_sources s i records = flat_map (moved_by s.source_records i) (filter (λ r. not (is_skipped r)) records)
 

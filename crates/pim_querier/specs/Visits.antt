@@ -33,7 +33,7 @@ group_set_nodes i g s end =
     if sets_listed group_runs (Some (record { end = end })) (row_at s.group_records (star_key i g))
     then group_record_nodes s (addr g) else 0
 
--- the same of a record that stays without one
+-- The nodes of a group record that stays without a running timer.
 abbrev pub group_stopped_nodes : ℕ → ℕ → State → ℕ
 group_stopped_nodes i g s =
     if changes_listed group_runs (record { end = None }) (row_at s.group_records (star_key i g))
@@ -134,7 +134,7 @@ apply_nodes full i g s type sources =
 abbrev pub record_seen_nodes : ℕ → State → Record → ℕ
 record_seen_nodes i s r = apply_nodes (s.present + group_membership_interval s i) i r.group s r.type r.sources
 
--- those of a report, one after the other, but for those that are skipped
+-- The nodes of the records of a report, one after the other, without those that are skipped.
 unfoldable pub report_seen_nodes : State → ℕ → List Record → ℕ
 report_seen_nodes s i records =
     nodes_in_turn (λ s r. (record_seen i s r).0) (record_seen_nodes i) s (filter (λ r. not (is_skipped r)) records)

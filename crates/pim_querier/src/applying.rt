@@ -57,7 +57,7 @@ fn member_of(world: &World, place: IfaceGroup, source: Addr) -> Option<Member>
     })
 }
 
-// Those of the sources that the group's record has, by rising source.
+// The sources of the group's record among the given ones, by rising source.
 fn members_among(
     world: &World,
     alloc: Global,
@@ -158,7 +158,7 @@ fn apply_to_named(
         (apply_to_named_nodes seen.full seen.place.iface.number seen.place.group.bits world.old seen.record_type
         (bits_of sources.now)) ≤ meter.new) }
 {
-    // They tell that each source has one record, under its own key, and that the sources rise.
+    // For the proof: each source has one record, under its own key, and the sources rise.
     world.membership().recall_rising_source_records();
     world.membership().recall_keyed_source_records();
     let _ = world

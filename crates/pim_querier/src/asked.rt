@@ -48,7 +48,7 @@ fn query_group(
     turn.out.query(place.iface, &query, &[])
 }
 
-// Those of the sources whose timers run on past this moment, in ms.
+// Those of the sources whose timers expire after this timestamp, in ms.
 fn running_past(
     world: &World,
     alloc: Global,

@@ -51,7 +51,8 @@ fn is_stopped(sight: &SourceSight) -> bool
     sight.spt || sight.is_spt_wanted && sight.is_inherited_empty()
 }
 
-// Where the packet of a Register goes: down the shared tree, but for one that comes down the shortest path tree too.
+// The interfaces on which the packet of a Register leaves: those of the shared tree; none for a Null-Register, and none
+// where SPTbit(S,G) is set.
 fn list_at_rp(sight: &SourceSight, is_null: bool) -> IfSet
     ensures interfaces { InSource sight.now (λ s g src. Shows result
         (if spt_bit s g src || is_null then no_interface else inherited_olist_rpt s g src)) }
@@ -64,7 +65,7 @@ fn list_at_rp(sight: &SourceSight, is_null: bool) -> IfSet
     }
 }
 
-// At the RP: the packet goes down the shared tree, but for one that comes down the shortest path tree too.
+// A Register at the RP: its packet goes down the shared tree, unless SPTbit(S,G) is set.
 #[tactic(auto, unfolding(pim_model::specs::Forwarding::register_at_rp))]
 fn register_at_rp(
     world: &mut World,

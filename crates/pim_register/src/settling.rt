@@ -50,7 +50,7 @@ pub fn settle_register(
     Ok(())
 }
 
-// The same, of a source of a group.
+// Settles the register of a source of a group.
 fn settle_source(
     world: &mut World,
     meter: &mut Meter,
@@ -67,7 +67,7 @@ fn settle_source(
     settle_register(world, meter, &mut sight)
 }
 
-// These sources of a group, one after the other.
+// Settles the registers of the given sources of a group, one after the other.
 fn settle_sources(
     world: &mut World,
     meter: &mut Meter,

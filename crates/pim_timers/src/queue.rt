@@ -12,7 +12,7 @@ use std::cmp::Reverse;
 use std::collections::BinaryHeap;
 use std::marker::Model;
 
-/// So many entries may be left over however few timers end.
+/// How many outdated entries the queue may have at least, however few timers run.
 const SPARE: usize = 32;
 
 /// Moments (ms), each with a timer that ends then, or later, or not at all any more. The first is the least by its
