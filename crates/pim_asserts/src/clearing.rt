@@ -118,7 +118,7 @@ fn clear_all_asserts(
     Ok(())
 }
 
-// Takes SPTbit(S,G) away, which is set; a source fact stays while its keepalive timer runs.
+// Clears SPTbit(S,G), which is set; the source's row is kept while its keepalive timer runs.
 fn forget_spt_bit(
     world: &mut World,
     meter: &mut Meter,
@@ -209,10 +209,10 @@ fn clear_all_bits(
     Ok(())
 }
 
-/// What must go of what was opened: group after group the asserts of (*,G) and of its sources, then source after source
-/// the SPTbit and the asserts that must go with it; all macros are evaluated afresh after each. The meter rises by the
-/// nodes that the look-ups visit, at least those of each sight, and those that lead to the facts of what goes. An error
-/// is want of memory.
+/// Clears what must go of what was opened: group after group the asserts of (*,G) and of its sources, then source after
+/// source the SPTbit and the asserts that must go with it; all macros are evaluated anew after each. The meter rises by
+/// the nodes that the look-ups visit, at least those of each sight, and those that lead to the facts of what goes. The
+/// error is want of memory.
 #[tactic(auto, unfolding(crate::specs::Opened::clear_by))]
 pub fn clear(
     world: &mut World,
@@ -257,7 +257,7 @@ fn clear_source_by_sight(
     Ok(())
 }
 
-// The SPTbit of the sight's source, likewise.
+// Clears the SPTbit of the sight's source, which is set; the source's row is kept while its keepalive timer runs.
 #[tactic(auto, unfolding(crate::specs::Opened::clear_bit))]
 fn clear_bit_by_sight(
     world: &mut World,
@@ -344,7 +344,7 @@ fn is_clear_of_asserts(world: &World, after: &SourceAfter) -> bool
     false
 }
 
-// Whether the source's SPTbit isn't set, or stays.
+// Whether the source's SPTbit isn't set, or needn't go.
 fn keeps_bit(after: &SourceAfter) -> bool
     requires { after.now.sight.source ≡ after.now.opened.source }
     ensures { IsTrue result → (s : State) → IsSourceSight s after.now.sight

@@ -100,7 +100,7 @@ fn clear_next(
     Ok(true)
 }
 
-/// Clears what must go of these asserts: the first by interface, and all macros afresh after each.
+/// Clears what must go of these asserts, in the order of interfaces; all macros are evaluated anew after each.
 pub(crate) fn clear_part(
     world: &mut World,
     turn: &mut Turn,
