@@ -164,7 +164,7 @@ module _ (A : ℕ → ℕ → ℕ → ℕ → Type 0) where
         sources = f.sources;
       }) (record { joins = fine_drop_at JoinAsked s.downstream k f.joins; groups = f.groups; sources = f.sources })
 
--- ---- another sense, in which more is asked for
+-- ---- another sense, in which more has a cause
 
 module _ (A B : ℕ → ℕ → ℕ → ℕ → Type 0) where
   -- on an interface

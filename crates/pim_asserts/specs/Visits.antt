@@ -40,7 +40,7 @@ gone_assert_nodes s k = if has_row s.asserts k then mark_nodes s k.group k.sourc
 abbrev pub gone_bit_nodes : State → Addr → Addr → ℕ
 gone_bit_nodes s group source = if is_kept_alive s group.bits source.bits then 0 else mark_nodes s group (Some source)
 
--- ---- the end of an assert timer: a winner asks for its metric, and a loser's assert goes
+-- ---- the expiry of an assert timer: a winner asks for its metric, and a loser's assert goes
 
 abbrev pub due_nodes : State → Key → Option AssertRow → ℕ
 due_nodes s k None = 0

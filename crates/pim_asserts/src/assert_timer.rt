@@ -1,4 +1,4 @@
-//! What the end of an assert timer changes (RFC 7761, sections 4.6.1 and 4.6.2).
+//! What the expiry of an assert timer changes (RFC 7761, sections 4.6.1 and 4.6.2).
 ghost use Rattle.std.specs.Prelude.{◌≡◌, ◌≤◌, ◌<◌, ◌^◌, OnOk};
 ghost use Rattle.pim_types.specs.declared.timer.TimerKind.{TimerKind};
 ghost use Rattle.pim_model.specs.Asserts.{asserted_metric, wins_again};

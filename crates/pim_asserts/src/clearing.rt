@@ -130,7 +130,7 @@ fn forget_spt_bit(
         ≡ without_spt_bit world.old (source_key 0 name.group.bits name.source.bits)) }
     ensures at_least { OnOk result (raised meter.old (gone_bit_nodes world.old name.group name.source) ≤ meter.new) }
 {
-    // For the proof: a key stands once.
+    // For the proof: a key is listed once.
     world.recall_keyed();
     let left = row
         .keepalive
@@ -247,7 +247,7 @@ fn clear_source_by_sight(
     ensures source { OnOk result (sight.new.source ≡ sight.old.source) }
     ensures at_least { OnOk result (raised meter.old (alone_asserts_nodes sight.old.star.group world.old opened) ≤ meter.new) }
 {
-    // For the proof: asserts are under keys of their kind, each of which stands once.
+    // For the proof: asserts are under keys of their kind, each of which is listed once.
     world.recall_keyed();
     let Some(_) = first_of_source(world, sight, opened.view.iface) else {
         return Ok(());
@@ -318,7 +318,7 @@ fn is_clear_star(world: &World, after: &GroupAfter) -> bool
     requires { IsStarSight world.now after.now.star }
     ensures { IsTrue result → clear_star world.now (opening_in after.now) ≡ (world.now, []) }
 {
-    // For the proof: asserts are under keys of their kind, each of which stands once.
+    // For the proof: asserts are under keys of their kind, each of which is listed once.
     world.recall_keyed();
     if !after.is_whole {
         return true;
@@ -336,7 +336,7 @@ fn is_clear_of_asserts(world: &World, after: &SourceAfter) -> bool
     ensures { IsTrue result
         → clear_source after.now.sight.star.group.bits world.now after.now.opened ≡ (world.now, []) }
 {
-    // For the proof: asserts are under keys of their kind, each of which stands once.
+    // For the proof: asserts are under keys of their kind, each of which is listed once.
     world.recall_keyed();
     let Some(_) = first_of_source(world, &after.sight, after.opened.view.iface) else {
         return true;

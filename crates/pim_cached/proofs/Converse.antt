@@ -62,7 +62,7 @@ module _ (g src i : ℕ) (s : State) (rests : IsAtRest s) (there : has_row s.sou
   abbrev sources : Table SourceRow
   sources = put s.sources key ended
 
-  -- what is left behind, where nothing but the end of the timer differs
+  -- what is left behind, where nothing but the expiry of the timer differs
   abbrev IsPlainEnd : State → Type 0
   IsPlainEnd t =
       kept_of (clear_all s (settle_registers t)).0

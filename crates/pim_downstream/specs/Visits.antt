@@ -34,8 +34,8 @@ message_named_nodes s m = sum_by (joins_nodes s) m.groups
 
 -- ---- the rows that a message changes
 
--- what is marked of the key's group and source is looked up where a row comes or goes; where a row is put in the place
--- of another it may be, which isn't counted here
+-- what is marked of the key's group and source is looked up where a row comes or goes; where a row is put in place of
+-- another it may be, which isn't counted here
 abbrev pub row_set_nodes : State → Change → ℕ
 row_set_nodes s c =
     if is_none c.row || not (has_row s.downstream c.key) then mark_nodes s c.key.group c.key.source else 0

@@ -83,7 +83,7 @@ fn restart(
     let towards = timers_towards(world, turn.alloc, meter, neighbour)?;
     trigger(world, iface, turn.draw)?;
     world.replace_neighbour(iface, from, hello)?;
-    // For the proof: the keys of asserts rise, so that each stands once.
+    // For the proof: the keys of asserts rise, so that each is listed once.
     world.recall_keyed();
     let lost = asserts_lost_to(world, turn, neighbour)?;
     world.store_mut().end_losses(&lost, meter);

@@ -1,4 +1,5 @@
--- What holds of the ends of a group record holds of those that a message's record, or a timer's end, leaves of it.
+-- What holds of the ends of a group record holds of those that a message's record, or the expiry of a timer, leaves of
+-- it.
 use Rattle.std.proofs.Common.{map, ◌≡◌, ℕ, nat_lt, ◌==◌, Bool, true, false, cond, List, [], ◌∷◌, Option, Some, None, is_some, refl, subst, eqb-true}
 use Rattle.std.specs.List.{AllByRecursion, cons_option, filter_map, find}
 use Rattle.std.specs.Option.{option_map_or}

@@ -22,7 +22,7 @@ fn lower_source(
     ensures lowered { OnOk result (world.new ≡ one_lowered place.iface.number place.group.bits end world.old source) }
     ensures kept { OnOk result (meter.new ≡ meter.old) }
 {
-    // For the proof: each key stands once.
+    // For the proof: each key is listed once.
     world.membership().recall_rising_source_records();
     let Some(row) = world
         .membership()

@@ -1,4 +1,4 @@
--- What is told of each firing goes on from the states that the firings leave, and what bounds each bounds all.
+-- What is listed for each firing goes on from the states that the firings leave, and what bounds each bounds all.
 use Rattle.std.proofs.Common.{◌≡◌, ℕ, zero, suc, ◌+◌, ◌-◌, ◌≤◌, Bool, true, ◌&&◌, List, [], ◌∷◌, ◌++◌, length, Option, Some, None, refl, sym, ap, subst, ◌∙◌, arith, length-append}
 use Rattle.std.proofs.lemmas.List.Folds.{list_all-append}
 use Rattle.std.specs.Cmp.{first_so, second_so}

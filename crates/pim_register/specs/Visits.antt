@@ -55,7 +55,7 @@ group_settled s opened = fold settle_register s (source_keys (opened.group).bits
 unfoldable pub settled_nodes : State → List GroupOpening → ℕ
 settled_nodes s opening = nodes_in_turn group_settled settled_group_nodes s opening
 
--- ---- at the end of a register timer
+-- ---- at the expiry of a register timer
 
 -- a probe: the route to the source, and the RP
 abbrev pub probe_nodes : State → Key → ℕ
@@ -72,7 +72,7 @@ register_end_nodes s key =
     if option_map_or (λ (row : RegisterRow). is_register_prune row.state) (row_at s.registers key) false then probe_nodes s key
     else 0
 
--- ---- at the end of a keepalive timer: the row of a source without the SPTbit goes
+-- ---- at the expiry of a keepalive timer: the row of a source without the SPTbit goes
 
 abbrev pub ended_nodes : State → Key → ℕ
 ended_nodes s key =

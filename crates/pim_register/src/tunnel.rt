@@ -50,7 +50,7 @@ fn stop(world: &mut World, meter: &mut Meter, key: Key, end: u64) -> Result<(), 
         ≡ record world.old { registers = change_row (stopping end) key world.old.registers }) }
     ensures rises { OnOk result (meter.old ≤ meter.new) }
 {
-    // For the proof: their keys rise, so that the key stands once.
+    // For the proof: their keys rise, so that the key is listed once.
     world.recall_keyed();
     let Some(row) = world.store().register(key) else {
         return Ok(());

@@ -1,4 +1,4 @@
-//! What the end of an override timer changes (RFC 7761, section 4.5.7).
+//! What the expiry of an override timer changes (RFC 7761, section 4.5.7).
 ghost use Rattle.std.specs.Prelude.{◌≡◌, ◌≤◌, OnOk, Some};
 ghost use Rattle.pim_types.specs.declared.timer.TimerKind.{TimerKind};
 ghost use Rattle.pim_model.specs.Desires.{rpf_rpt};

@@ -38,7 +38,7 @@ pub fn blocked_source_is_asked_for()
     ensures { BlockedSourceIsAskedFor }
 {}
 
-/// A source that is new in EXCLUDE mode gets the end of the group timer, and is asked for.
+/// A source that is new in EXCLUDE mode gets the timestamp of the group timer, and is queried.
 pub fn new_source_gets_the_group_timer()
     ensures { NewSourceGetsTheGroupTimer }
 {}

@@ -96,7 +96,7 @@ told_seen_nodes s x =
     star_told_nodes s (x.star).group x.was (star_view s (x.star).group.bits)
     + sum_by (seen_told_nodes s (x.star).group) x.sources
 
--- ---- the end of a Join timer
+-- ---- the expiry of a Join timer
 
 -- the sight of the group, and what its Join prunes, or the sight of the source
 unfoldable pub join_again_nodes : State → Addr → Option Addr → ℕ

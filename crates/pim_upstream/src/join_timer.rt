@@ -1,4 +1,4 @@
-//! What the end of a Join timer changes (RFC 7761, sections 4.5.4 and 4.5.5).
+//! What the expiry of a Join timer changes (RFC 7761, sections 4.5.4 and 4.5.5).
 ghost use Rattle.std.specs.Prelude.{◌≡◌, ◌≤◌, OnOk};
 ghost use Rattle.pim_types.specs.declared.timer.TimerKind.{TimerKind};
 ghost use Rattle.pim_model.specs.Firing.{fired};
