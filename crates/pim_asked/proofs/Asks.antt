@@ -33,7 +33,7 @@ pub ends_more : (P Q : ℕ → Type 0) (end : Option ℕ) (never never' : Type 0
 ends_more P Q None never never' none more f = none f
 ends_more P Q (Some end) never never' none more f = λ now e. more now (f now e)
 
--- likewise, where none never ends
+-- at each time before a timestamp, or at all times where there is none
 abbrev pub Throughout : (ℕ → Type 0) → Option ℕ → Type 0
 Throughout P end = UpTo ((now : ℕ) → P now) P end
 

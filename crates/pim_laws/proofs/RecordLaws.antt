@@ -25,7 +25,7 @@ module _ (Never : Bool → Type 0) (Source : ℕ → ℕ → Type 0) (Group : �
     pub timer : EndsSo (Unit {0}) Group r.timer
     pub members : AllByRecursion (MemberSo (Never (is_some r.timer))) r.members
 
-  -- so all sources may end at `full`, or those that the record names
+  -- all sources, or those that the record names, may have timers that expire at `full`
   pub record NewSo (full : ℕ) (type : RecordType) (sources : List ℕ) : Type 0 where
     pub all : is_excluding type ≡ true → Group full
     pub named : is_including type ≡ true → (src : ℕ) → is_among src sources ≡ true → Source src full

@@ -1,4 +1,4 @@
--- The same of IGMP's records: the group timer and the source timers.
+-- What the expiry of group timers and source timers changes makes no end by the present.
 use Rattle.std.proofs.Common.{◌≡◌, ℕ, nat_lt, ◌==◌, Bool, true, false, not, cond, ◌&&◌, ◌||◌, List, [], ◌∷◌, map, fold, filter, Option, Some, None, is_some, refl, sym, ap, ◌∙◌, subst, eqb-true, eq-eqb}
 use Rattle.std.proofs.lemmas.Bool.{or_left, or_right}
 use Rattle.std.specs.Cmp.{first_so, second_so}
