@@ -55,7 +55,7 @@ use Rattle.pim_source_tree.proofs.Joins.{goes_to_source}
 use Rattle.pim_in_time.specs.Joins.{IsRp, Join, Source, Star, entry_of, is_lost_at, is_wanted, join_key, prunes_of, rpf_of, way_to}
 use Rattle.pim_in_time.proofs.Timers.{EndsBy, Towards, begins_by, goes_on_by, is_after, none_runs, not_after, timer_is, unwanted_by}
 
--- ---- what a timer's end leaves alone
+-- ---- what the expiry of a timer leaves alone
 
 record Parts : Type 0 where
   present : ℕ

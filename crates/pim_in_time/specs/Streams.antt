@@ -22,7 +22,8 @@ abbrev pub IsFor : Join → ℕ → Type 0
 IsFor (Star rp) src = Unit {0}
 IsFor (Source joined) src = joined ≡ src
 
--- a Prune of the source off the group's tree takes effect on the interface; s is the state before the event, t the one after
+-- a Prune of the source off the group's tree takes effect on the interface; s is the state before the event, t the one
+-- after
 abbrev pub prunes_source : State → State → ℕ → ℕ → ℕ → Option Accepted → Bool
 prunes_source s t g src down (Some (Accepted.Advance moment)) = takes_effect s (rpt_key down g src) moment
 prunes_source s t g src down (Some (Accepted.JoinPruneToMe j m)) = (j.number == down) && prunes t g src down
@@ -33,7 +34,7 @@ abbrev pub is_pruned_off : Join → State → State → ℕ → ℕ → ℕ → 
 is_pruned_off (Star rp) s t g src down o = prunes_source s t g src down o
 is_pruned_off (Source joined) s t g src down o = false
 
--- what ends a stream to a router beside the end of its Join
+-- What ends a stream to a router, other than the expiry of its Join.
 unfoldable pub ends_otherwise : Join → Tree → State → Event → ℕ → ℕ → ℕ → ℕ → Bool
 ends_otherwise x tree s e g src up down =
     let t : State = (step s e).state in
@@ -41,7 +42,7 @@ ends_otherwise x tree s e g src up down =
     takes_link t g src up down done || leaves_tree tree (asker x) t g src up done || is_pruned_off x s t g src down done
     || lacks_room tree t g src
 
--- of the events that come to the upper router none does
+-- No event that comes to the upper router ends the stream by `ends_otherwise`.
 abbrev pub NoneEndsOtherwise : Join → Tree → (g src up : ℕ) → Pair → Network → List Move → Type 0
 NoneEndsOtherwise x tree g src up c n [] = Unit {0}
 NoneEndsOtherwise x tree g src up c n (m ∷ ms) =
@@ -55,7 +56,8 @@ pub record IsPassing (x : Join) (tree : Tree) (g src up : ℕ) (c : Pair) (n : N
   pub there : station_at n c.upper ≡ Some station
   pub passes : Passes tree (asker x) station.state g src up c.down
 
--- then it goes on to do so, however many moves there are
+-- While Joins come in time and nothing else ends the stream, the upper router goes on passing it, however many moves
+-- there are.
 abbrev pub JoinsKeepStream : Type 0
 JoinsKeepStream = (x : Join) (tree : Tree) (g d src up : ℕ) (started : ℕ → ℕ) (c : Pair) (n : Network) (ms : List Move)
     → IsJoin x g → IsFor x src → d < most_late → ComeInTime x g d started c n ms → Always (Wants x g c.lower) n ms
