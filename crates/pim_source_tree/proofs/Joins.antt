@@ -1,8 +1,7 @@
 -- A router that takes a Join(S,G) and sends its own.
-use Rattle.std.proofs.Common.{◌≡◌, ◌∙◌, ℕ, ◌^◌, ◌<◌, ◌||◌, Bool, true, false, not, cond, List, [], ◌∷◌, length, Option, Some, None, Ok, refl, sym, ap, subst, arith}
+use Rattle.std.proofs.Common.{◌≡◌, ◌∙◌, ℕ, ◌^◌, ◌<◌, ◌||◌, Bool, true, false, not, cond, List, [], ◌∷◌, Option, Some, None, Ok, refl, sym, ap, subst, arith}
 use Rattle.std.proofs.lemmas.List.Elements.{All-nil}
 use Rattle.std.specs.List.{Contains}
-use Rattle.std.specs.Option.{option_or}
 use Rattle.pim_ip.specs.Ipv4.{is_source_specific}
 use Rattle.pim_types.specs.Keys.{neighbour_key, source_key}
 use Rattle.pim_types.specs.declared.config.IfaceId.{IfaceId}
@@ -23,11 +22,11 @@ use Rattle.pim_model.specs.Desires.{rpf_source, winner_hop}
 use Rattle.pim_model.specs.Downstream.{accepted_joins, accepted_prunes, is_accepted, is_named, joined_keys, keys_taken, pruned_keys, to_me}
 use Rattle.pim_model.specs.Full.{distinct, is_full, join_prune_is_full, keys_are_full, makeable_keys, needed, once_more, passes_limit}
 use Rattle.pim_model.specs.Judging.{judged}
-use Rattle.pim_model.specs.Messages.{Message, entry}
+use Rattle.pim_model.specs.Messages.{entry}
 use Rattle.pim_model.specs.Neighbours.{nbr, nbr_among}
 use Rattle.pim_model.specs.Sets.{assert_source, is_loser}
 use Rattle.pim_model.specs.State.{State, address_among, my_address}
-use Rattle.pim_model.specs.Step.{Answered, change, done, step}
+use Rattle.pim_model.specs.Step.{change, done, step}
 use Rattle.pim_model.specs.Tables.{Table, has_row}
 use Rattle.pim_model.specs.Unicast.{route, rpf_interface}
 use Rattle.pim_model.specs.Writing.{on_link}

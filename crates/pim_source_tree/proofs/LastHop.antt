@@ -8,7 +8,6 @@ use Rattle.std.specs.Option.{option_map_or}
 use Rattle.std.specs.Prelude.{option_and_then}
 use Rattle.pim_ip.specs.Ipv4.{Packet, copy_text}
 use Rattle.pim_types.specs.Keys.{group_in, rpt_key, same_key, source_in, source_key, star_key}
-use Rattle.pim_types.specs.declared.config.IfaceId.{IfaceId}
 use Rattle.pim_types.specs.declared.config.InterfaceConfig.{InterfaceConfig}
 use Rattle.pim_types.specs.declared.event.Event.{Event}
 use Rattle.pim_types.specs.declared.fact.AssertRow.{AssertRow}
@@ -23,7 +22,6 @@ use Rattle.pim_model.specs.Asserts.{assert_forgotten, with_spt_bit, without_spt,
 use Rattle.pim_model.specs.Clearing.{ClearAssert, ClearSptBit, Cleared, clear, clear_all, clearable_count, cleared, to_clear}
 use Rattle.pim_model.specs.Desires.{is_immediate_empty, is_inherited_empty, join_desired}
 use Rattle.pim_model.specs.Forwarding.{forwarded, list_chosen, source_here, source_joined, when}
-use Rattle.pim_model.specs.Messages.{Message}
 use Rattle.pim_model.specs.Neighbours.{is_dr}
 use Rattle.pim_model.specs.Receivers.{is_exclude, local_receiver_exclude}
 use Rattle.pim_model.specs.Registers.{settle_register, settle_registers, with_keepalive}
@@ -54,7 +52,7 @@ use Rattle.pim_stream.proofs.Serving.{met, met_alike}
 use Rattle.pim_stream.proofs.Settles.{NoWorse, settling_no_worse}
 use Rattle.pim_stream.proofs.Tests.{is_false}
 use Rattle.pim_stream.proofs.Ways.{SameGround, ground_again, same_interface}
-use Rattle.pim_source_tree.specs.LastHop.{CanChange, ChangesBy, IsServing, LastHopSetsSptBit}
+use Rattle.pim_source_tree.specs.LastHop.{CanChange, IsServing, LastHopSetsSptBit}
 use Rattle.pim_source_tree.proofs.Turning.{met_with, on_source_then, renewed_is}
 
 -- ---- who is served there

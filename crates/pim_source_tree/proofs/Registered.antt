@@ -1,17 +1,15 @@
 -- The Register that a DR sends is read by the RP as it was written, and its packet comes down.
-use Rattle.std.proofs.Common.{◌≡◌, ◌∙◌, ℕ, suc, ◌+◌, ◌<◌, ◌^◌, ◌≤◌, ◌==◌, true, false, List, [], ◌∷◌, ◌++◌, length, map, None, Ok, Some, refl, sym, ap, subst, arith, append-nil, length-append}
+use Rattle.std.proofs.Common.{◌≡◌, ◌∙◌, ℕ, suc, ◌+◌, ◌≤◌, true, List, [], ◌∷◌, ◌++◌, length, map, None, Ok, Some, refl, sym, ap, subst, arith, append-nil}
 use Rattle.std.proofs.lemmas.Bool.Decides.{nat_tests}
 use Rattle.std.proofs.lemmas.List.Elements.{Contains-append_right}
 use Rattle.std.proofs.lemmas.Option.{slice_get-get_or}
 use Rattle.std.specs.List.{Contains}
-use Rattle.std.specs.Prelude.{slice_get}
 use Rattle.pim_ip.specs.Checksum.{with_checksum}
-use Rattle.pim_ip.specs.Ipv4.{Packet, copy_text, frame_limit, header_text, ipv4_reading, is_link_local, is_multicast, is_source, is_unicast, packet_limit, pim_packet_text, protocol_pim}
+use Rattle.pim_ip.specs.Ipv4.{Packet, copy_text, frame_limit, header_text, ipv4_reading, is_multicast, is_source, is_unicast, packet_limit, pim_packet_text, protocol_pim}
 use Rattle.pim_ip.specs.View.{copied, written_packet}
 use Rattle.pim_ip.proofs.ViewLemmas.{written_reads}
 use Rattle.pim_types.specs.declared.event.Event.{Event}
 use Rattle.pim_types.specs.declared.event.EventKind.{EventKind}
-use Rattle.pim_types.specs.declared.outcome.Emission.{Emission}
 use Rattle.pim_wire.specs.Messages.{pim_reading}
 use Rattle.pim_wire.specs.Registers.{register_text}
 use Rattle.pim_wire.specs.Values.{Encapsulated}
@@ -25,18 +23,18 @@ use Rattle.pim_model.specs.Writing.{pim_to, unicast_time_to_live}
 use Rattle.pim_asked.specs.Networks.{events_in}
 use Rattle.pim_promises.specs.Served.{Came}
 use Rattle.pim_promises.proofs.Links.{contains_mapped}
-use Rattle.pim_served.specs.Flows.{IsFlowed, top_link}
+use Rattle.pim_served.specs.Flows.{IsFlowed}
 use Rattle.pim_served.specs.Roots.{IsRegister}
-use Rattle.pim_served.specs.Ways.{AreApart, IsNotAmong, Place, StandIn, state_of}
+use Rattle.pim_served.specs.Ways.{Place, StandIn, state_of}
 use Rattle.pim_served.proofs.Climbs.{still_stand}
 use Rattle.pim_served.proofs.Deliveries.{IsStepped, is_moved}
 use Rattle.pim_served.proofs.Forwards.{copy_fits, copy_reads_lower}
 use Rattle.pim_stream.specs.Passing.{Receiver, Tree}
-use Rattle.pim_stream.specs.Sources.{IsSent, Registers}
+use Rattle.pim_stream.specs.Sources.{Registers}
 use Rattle.pim_stream.specs.Streams.{NoneEndsStream}
 use Rattle.pim_stream.proofs.Registering.{dr_registers}
 use Rattle.pim_stream.proofs.Roots.{each_of_stream_is_served, each_register_is_brought}
-use Rattle.pim_source_tree.specs.Registered.{AreAddresses, IsCarriedPacket, IsRegistered, RegisterIsRead, RegisteredIsServed, register_bytes}
+use Rattle.pim_source_tree.specs.Registered.{AreAddresses, IsCarriedPacket, RegisterIsRead, RegisteredIsServed, register_bytes}
 
 -- ---- the bytes
 

@@ -1,5 +1,5 @@
 -- A packet on the shared tree makes the fact of its source, or adds nothing.
-use Rattle.std.proofs.Common.{◌≡◌, ◌∙◌, ℕ, ◌+◌, ◌≤◌, ◌&&◌, ◌||◌, not, Bool, true, false, cond, List, [], length, ◌⊎◌, inl, inr, Some, refl, sym, ap, subst, arith}
+use Rattle.std.proofs.Common.{◌≡◌, ◌∙◌, ℕ, ◌+◌, ◌≤◌, ◌&&◌, not, Bool, true, false, List, [], length, inl, inr, Some, refl, sym, ap, subst, arith}
 use Rattle.std.proofs.lemmas.Bool.{both_ways, or_left}
 use Rattle.std.proofs.lemmas.Bool.Decides.{nat_tests}
 use Rattle.std.specs.Cmp.Derive.{both_true}
@@ -49,7 +49,7 @@ use Rattle.pim_stream.proofs.Changes.{stray_sources}
 use Rattle.pim_stream.proofs.Room.{known_is_not_full}
 use Rattle.pim_stream.proofs.Serving.{met, on_a_tree}
 use Rattle.pim_source_tree.specs.Room.{OwnPacketKeepsRoom}
-use Rattle.pim_source_tree.proofs.Turning.{IsWith, kept_with, met_with, when_with}
+use Rattle.pim_source_tree.proofs.Turning.{IsWith, met_with, when_with}
 
 -- ---- what the packet changes
 

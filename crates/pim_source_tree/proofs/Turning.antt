@@ -6,7 +6,6 @@ use Rattle.std.specs.List.{Contains, list_any}
 use Rattle.std.specs.Option.{option_map_or}
 use Rattle.pim_ip.specs.Ipv4.{Packet, copy_text}
 use Rattle.pim_types.specs.Keys.{source_key, star_key}
-use Rattle.pim_types.specs.declared.config.IfaceId.{IfaceId}
 use Rattle.pim_types.specs.declared.config.InterfaceConfig.{InterfaceConfig}
 use Rattle.pim_types.specs.declared.event.Event.{Event}
 use Rattle.pim_types.specs.declared.fact.DownstreamRow.{DownstreamRow}
@@ -15,13 +14,13 @@ use Rattle.pim_types.specs.declared.fact.RegisterRow.{RegisterRow}
 use Rattle.pim_types.specs.declared.fact.SourceRow.{SourceRow}
 use Rattle.pim_model.specs.declared.accepted.Accepted.{Accepted}
 use Rattle.pim_model.specs.Asserts.{with_spt_bit}
-use Rattle.pim_model.specs.Desires.{is_immediate_empty, join_desired, rpf_source, rpf_star}
-use Rattle.pim_model.specs.Forwarding.{forwarded, is_spt_reached, list_chosen, source_here, source_joined, spt_updated, when}
+use Rattle.pim_model.specs.Desires.{join_desired, rpf_source, rpf_star}
+use Rattle.pim_model.specs.Forwarding.{forwarded, is_spt_reached, source_here, source_joined, spt_updated, when}
 use Rattle.pim_model.specs.Neighbours.{is_dr, nbr}
 use Rattle.pim_model.specs.Receivers.{is_exclude, local_receiver_exclude}
 use Rattle.pim_model.specs.Registers.{settle_register, with_keepalive}
-use Rattle.pim_model.specs.Sets.{Set, assert_source, immediate_olist, inherited_olist_rpt, is_beaten, is_empty, is_loser, joins, joins_star, lost_assert, lost_assert_rpt, lost_assert_star, pim_exclude, pim_include_star, prunes, serves_star, spt_bit}
-use Rattle.pim_model.specs.State.{State, iface_count, ifaces, is_own_among, my_address}
+use Rattle.pim_model.specs.Sets.{Set, assert_source, inherited_olist_rpt, is_empty, is_loser, joins_star, lost_assert_rpt, lost_assert_star, pim_exclude, pim_include_star, prunes, serves_star, spt_bit}
+use Rattle.pim_model.specs.State.{State, ifaces, is_own_among}
 use Rattle.pim_model.specs.Step.{change, done, step}
 use Rattle.pim_model.specs.Tables.{Table, has_row, row_at, same_hop, same_option}
 use Rattle.pim_model.specs.Unicast.{is_connected, is_rpf_interface, is_rpf_interface_rp, route, rp_of, rp_route, rpf_interface, rpf_interface_rp}
@@ -35,13 +34,13 @@ use Rattle.pim_promises.proofs.Served.{source_is_served}
 use Rattle.pim_ready.proofs.Steps.{step_is_settled}
 use Rattle.pim_served.proofs.Leaves.{taken_is_done}
 use Rattle.pim_served.proofs.Taken.{listed_source, wanted_source}
-use Rattle.pim_stream.specs.Passing.{GoesOut, Passes, Receiver, Tree}
+use Rattle.pim_stream.specs.Passing.{Passes, Receiver, Tree}
 use Rattle.pim_stream.proofs.Bits.{join_keeps_spt_bit}
 use Rattle.pim_stream.proofs.Changes.{chosen_spt, data_ground, same_rows, still_unlost}
 use Rattle.pim_stream.proofs.Serving.{IsAlike, met, met_alike}
 use Rattle.pim_stream.proofs.Settles.{NoWorse, settling_no_worse}
 use Rattle.pim_stream.proofs.Ways.{SameGround, ground_again, same_interface}
-use Rattle.pim_source_tree.specs.Turning.{CanTurn, PacketSetsSptBit, TurnsBy, may_turn}
+use Rattle.pim_source_tree.specs.Turning.{CanTurn, PacketSetsSptBit, may_turn}
 
 -- ---- what the packet renews before it asks for SPTbit
 

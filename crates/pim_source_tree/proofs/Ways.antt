@@ -1,6 +1,5 @@
 -- The first packet of a source comes down a way that was joined, and turns each router of it.
-use Rattle.std.proofs.Common.{◌≡◌, ◌∙◌, ℕ, suc, ◌+◌, ◌-◌, ◌<◌, ◌==◌, false, true, List, [], ◌∷◌, ◌++◌, length, Some, refl, sym, ap, subst, arith, length-append}
-use Rattle.std.specs.List.{Contains}
+use Rattle.std.proofs.Common.{◌≡◌, ◌∙◌, ℕ, ◌+◌, ◌-◌, ◌<◌, ◌==◌, false, true, List, [], ◌∷◌, ◌++◌, length, Some, refl, sym, ap, subst, arith, length-append}
 use Rattle.pim_ip.specs.Ipv4.{copy_text, is_link_local, is_multicast}
 use Rattle.pim_ip.specs.View.{copied}
 use Rattle.pim_types.specs.declared.event.Event.{Event}
@@ -8,14 +7,13 @@ use Rattle.pim_types.specs.declared.event.EventKind.{EventKind}
 use Rattle.pim_model.specs.declared.accepted.Accepted.{Accepted}
 use Rattle.pim_model.specs.Cause.{done_as}
 use Rattle.pim_model.specs.Full.{source_is_full}
-use Rattle.pim_model.specs.Network.{Deliver, Move, Network, frame_at, moved, network_ran, station_at}
+use Rattle.pim_model.specs.Network.{Deliver, Move, Network, moved, network_ran, station_at}
 use Rattle.pim_model.specs.State.{State, is_own}
 use Rattle.pim_model.specs.Step.{step}
 use Rattle.pim_model.specs.Writing.{on_link}
 use Rattle.pim_laws.proofs.ListLaws.{each_append}
 use Rattle.pim_promises.specs.Copies.{happens}
 use Rattle.pim_served.specs.Flows.{IsCarried, top_link}
-use Rattle.pim_served.specs.Served.{became}
 use Rattle.pim_served.specs.Ways.{AreApart, IsDelivery, IsNotAmong, Place, StandIn, state_of, up_iface}
 use Rattle.pim_served.proofs.Climbs.{swapped}
 use Rattle.pim_served.proofs.Deliveries.{IsNewOn, IsStepped, is_delivered}
@@ -145,9 +143,10 @@ module _ (g src : ℕ) (payload : List ℕ) (group : is_multicast g ≡ true) (f
             subst (λ (x : Network). IsCarried x g src link payload lives) (sym is)
             (passed_on m link lives some p way.0 at rest.arrived);
         turned =
-            subst (λ (x : Network). HaveTurned x g src link (p ∷ ps)) (sym is)
-            (has_turned m link lives some p way.0 at rest.arrived,
-            still_turned m (moved m last).1 p.router g src p.next_link did.beside ps apart.0 rest.turned);
+            subst (λ (x : Network). HaveTurned x g src link (p ∷ ps)) (sym is) (
+              has_turned m link lives some p way.0 at rest.arrived,
+              still_turned m (moved m last).1 p.router g src p.next_link did.beside ps apart.0 rest.turned,
+            );
         others = λ r off.
             ap (λ (x : Network). station_at x r) is ∙ (did.beside r off.0 ∙ rest.others r off.1);
       }

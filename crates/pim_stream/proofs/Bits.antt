@@ -1,5 +1,5 @@
 -- While a router joins the source nothing that follows of a change clears its SPTbit.
-use Rattle.std.proofs.Common.{◌≡◌, ◌∙◌, ℕ, ◌<◌, ◌&&◌, not, Bool, true, false, cond, List, [], ◌∷◌, filter, find, length, Option, option_map, Some, None, refl, sym, ap, subst}
+use Rattle.std.proofs.Common.{◌≡◌, ◌∙◌, ℕ, ◌<◌, not, Bool, true, false, cond, List, [], ◌∷◌, filter, find, length, Option, option_map, Some, None, refl, sym, ap, subst}
 use Rattle.std.proofs.lemmas.Bool.{both_ways}
 use Rattle.std.specs.Cmp.{second_so}
 use Rattle.std.specs.Option.{option_or}
@@ -12,12 +12,11 @@ use Rattle.pim_types.specs.declared.fact.SourceRow.{SourceRow}
 use Rattle.pim_types.proofs.Keys.{equal_keys}
 use Rattle.pim_model.specs.Asserts.{assert_forgotten, without_spt, without_spt_bit}
 use Rattle.pim_model.specs.Clearing.{ClearAssert, ClearSptBit, Cleared, assert_must_go, assert_to_clear, clear, clear_all, clearable_count, cleared, first_by, is_assert_first, spt_must_go, spt_to_clear, to_clear}
-use Rattle.pim_model.specs.Desires.{is_immediate_empty, join_desired}
+use Rattle.pim_model.specs.Desires.{join_desired}
 use Rattle.pim_model.specs.Registers.{settle_registers}
-use Rattle.pim_model.specs.Sets.{assert_source, immediate_olist, is_beaten, is_loser, joins, lost_assert, spt_bit}
-use Rattle.pim_model.specs.State.{State, iface_count}
+use Rattle.pim_model.specs.Sets.{assert_source, is_loser, spt_bit}
+use Rattle.pim_model.specs.State.{State}
 use Rattle.pim_model.specs.Tables.{Table, change_row, has_row, row_at}
-use Rattle.pim_model.specs.Unicast.{is_rpf_interface}
 use Rattle.pim_laws.proofs.RowLaws.{row_change_away}
 use Rattle.pim_laws.proofs.TurnLaws.{kept_to_the_end}
 use Rattle.pim_ready.proofs.Unsettled.{Untold, cleared_in_the_end}
