@@ -12,13 +12,11 @@ use Rattle.pim_types.specs.declared.upstream.StarView.{StarView}
 use Rattle.pim_types.proofs.Keys.{equal_keys}
 use Rattle.pim_model.specs.Asserts.{assert_forgotten, without_spt_bit}
 use Rattle.pim_model.specs.Clearing.{clear}
-use Rattle.pim_model.specs.Desires.{join_desired, join_desired_star, rpf_source, rpf_star}
 use Rattle.pim_model.specs.Firing.{settled}
 use Rattle.pim_model.specs.Messages.{Message}
 use Rattle.pim_model.specs.Registers.{settle_registers}
 use Rattle.pim_model.specs.State.{State}
 use Rattle.pim_model.specs.Tables.{has_row, row_at}
-use Rattle.pim_model.specs.Unicast.{rp_of}
 use Rattle.pim_model.specs.Upstream.{Cancel, Keep, LowerTo, SetTo, TimerChange, changed_end, fact_keys, group_upstream, groups_of, moved_join_timer, moved_override_timer, periodic_end, source_stays, source_told, source_upstream, source_view, sources_of, star_stays, star_told, star_view, upstream, with_join_timer, with_override_timer}
 use Rattle.pim_model.specs.Writing.{write_all}
 use Rattle.pim_laws.proofs.SettlingLaws.{kept_by_clearing}

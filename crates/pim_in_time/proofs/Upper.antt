@@ -1,10 +1,10 @@
 -- What an event leaves of the Join that the upper router holds, and the Join that it takes.
-use Rattle.std.proofs.Common.{◌≡◌, ◌∙◌, ℕ, ◌+◌, ◌<◌, ◌==◌, ◌||◌, nat_le, not, Bool, true, false, cond, List, [], ◌∷◌, filter, map, Option, Some, None, is_some, Ok, refl, sym, ap, subst, arith, append-nil, eq-eqb}
+use Rattle.std.proofs.Common.{◌≡◌, ◌∙◌, ℕ, ◌+◌, ◌<◌, ◌==◌, ◌||◌, nat_le, not, Bool, true, false, cond, List, [], ◌∷◌, filter, map, Option, Some, None, Ok, refl, sym, ap, subst, arith, append-nil, eq-eqb}
 use Rattle.std.proofs.lemmas.Bool.{both_ways, false_from_ne_true}
 use Rattle.std.proofs.lemmas.Bool.Decides.{nat_tests}
 use Rattle.std.proofs.lemmas.Grind.{common_steps}
 use Rattle.pim_ip.specs.Ipv4.{is_multicast, is_source_specific}
-use Rattle.pim_types.specs.Keys.{iface_key, is_on, rpt_key, same_key, star_key}
+use Rattle.pim_types.specs.Keys.{iface_key, is_on, rpt_key, same_key}
 use Rattle.pim_types.specs.declared.config.IfaceId.{IfaceId}
 use Rattle.pim_types.specs.declared.event.Event.{Event}
 use Rattle.pim_types.specs.declared.event.EventKind.{EventKind}
@@ -22,7 +22,6 @@ use Rattle.pim_model.specs.Judging.{judged}
 use Rattle.pim_model.specs.Messages.{Message, entry}
 use Rattle.pim_model.specs.State.{State, is_up, my_address}
 use Rattle.pim_model.specs.Step.{Answered, advanced, change, done, iface_down, step, taken}
-use Rattle.pim_model.specs.Unicast.{rp_of}
 use Rattle.pim_laws.proofs.RowLaws.{has_row_dropped}
 use Rattle.pim_ready.specs.Ready.{IsSettled}
 use Rattle.pim_ready.proofs.Unsettled.{Unsettled, settling_leaves}
@@ -30,7 +29,6 @@ use Rattle.pim_promises.specs.Copies.{happens}
 use Rattle.pim_promises.proofs.Made.{step_taken}
 use Rattle.pim_served.specs.Joins.{Hears, HoldsTree, IsWritable, JoinsTree, join_packet, join_value}
 use Rattle.pim_served.specs.Lasts.{takes_back}
-use Rattle.pim_served.specs.Ways.{IsGroup}
 use Rattle.pim_served.proofs.Keeps.{event_keeps_source, event_keeps_star}
 use Rattle.pim_served.proofs.Leaves.{taken_is_done}
 use Rattle.pim_served.proofs.Passes.{done_if, general_group, same_up}
