@@ -36,8 +36,8 @@ pub record CanTakeSource (from to link : ℕ) (p : Place) : Type 0 where
   pub on_link : slice_get (p.station).links p.down ≡ Some link
   pub room : passes_limit (state_of p) 1 ≡ false
 
--- and then it sends its own: it didn't want the source, the next hop to it is a live neighbour, and no assert of it is
--- lost there
+-- A router that takes the Join sends its own: it didn't want the source, the next hop to the source is a live
+-- neighbour, and no assert of (S,G) is lost on the interface to it.
 pub record CanGoOnToSource (g src : ℕ) (p : Place) : Type 0 where
   pub unwanted : join_desired (state_of p) g src ≡ false
   pub next : nbr (state_of p) (route (state_of p) src) ≡ Some p.next
@@ -66,7 +66,7 @@ pub record HasTakenSource (n : Network) (g src : ℕ) (p : Place) : Type 0 where
   pub takes : TakesSource (state_of p) state p.down g src
       (join_value (my_address (state_of p) p.down) g (entry EntryKind.Source src) [])
 
--- by the delivery of a frame, and the rest follows
+-- The router takes the Join(S,G) by the delivery of a frame, and what is asked of the rest holds after it.
 pub record TakesSourceAt (m : Network) (g src from to link : ℕ) (p : Place) (Rest : Network → Type 0) : Type 0 where
   pub number : ℕ
   pub is : frame_at m number ≡ Some (source_frame g src from to link)

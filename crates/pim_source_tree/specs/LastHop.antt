@@ -33,8 +33,7 @@ pub record CanChange (by : Receiver) (s : State) (g src up down : ℕ) : Type 0 
   pub alive : is_kept_alive s g src ≡ true
   pub on : (down == up) ≡ false
 
--- then the first packet that comes in there leaves on the link, and from it on the router passes the stream on the
--- source's tree
+-- A packet of the source leaves on the link, and after its event the router passes the stream on the source's tree.
 pub record ChangesBy (by : Receiver) (s : State) (e : Event) (p : Packet) (up down : ℕ) : Type 0 where
   pub leaves : Contains (copies_at s e) (on_link down (copy_text p))
   pub passes : Passes Tree.Source by (step s e).state p.destination p.source up down

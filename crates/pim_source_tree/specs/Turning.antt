@@ -45,8 +45,7 @@ pub record CanTurn (s : State) (g src up down : ℕ) : Type 0 where
   pub goes_out : GoesOut Receiver.SourceRouter s g src down
   pub on : (down == up) ≡ false
 
--- then the first packet that comes in there leaves on the link, and from it on the router passes the stream on the
--- source's tree
+-- A packet of the source leaves on the link, and after its event the router passes the stream on the source's tree.
 pub record TurnsBy (s : State) (e : Event) (p : Packet) (up down : ℕ) : Type 0 where
   pub leaves : Contains (copies_at s e) (on_link down (copy_text p))
   pub passes : Passes Tree.Source Receiver.SourceRouter (step s e).state p.destination p.source up down
@@ -68,7 +67,7 @@ abbrev pub AreTurning : (g src link : ℕ) → List Place → Type 0
 AreTurning g src link [] = Unit {0}
 AreTurning g src link (p ∷ ps) = TurnsAt g src link p × AreTurning g src p.next_link ps
 
--- it passes the stream on the source's tree
+-- A router of the way passes the stream on the source's tree.
 pub record HasTurned (n : Network) (g src link : ℕ) (p : Place) : Type 0 where
   pub state : State
   pub stands : station_at n p.router ≡ Some (became p state).station

@@ -17,7 +17,7 @@ pub fn packet_sets_spt_bit()
     ensures { PacketSetsSptBit }
 {}
 
-/// It does so at each router of a way that was joined.
+/// The first packet of a source sets SPTbit at each router of a way that was joined.
 pub fn source_tree_begins()
     ensures { SourceTreeBegins }
 {}
@@ -32,7 +32,7 @@ pub fn registered_is_served()
     ensures { RegisteredIsServed }
 {}
 
-/// The last hop does so too, where it serves a host or a router that joined the group.
+/// The first packet on the way to its source sets SPTbit at the last hop, which serves a host or a router of the group.
 pub fn last_hop_sets_spt_bit()
     ensures { LastHopSetsSptBit }
 {}
