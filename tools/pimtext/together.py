@@ -10,11 +10,13 @@ from collections.abc import Iterable, Iterator
 from pathlib import Path
 from typing import TYPE_CHECKING
 
-from pimtext.edits import Edit
+from pimtext.edits import Edit, Reason
 
 if TYPE_CHECKING:
     from pimtext.functions import Found, Function
 
+# The lines on each edit that is refused, each with the reason that it tells, if it tells one.
+Told = dict[Edit, list[tuple[str, Reason | None]]]
 # What the front end says of a line of the code: then no function is put to the prover.
 BY_FRONT_END = re.compile(r"(src/\S+?):(\d+):\d+: error\[[\w-]+\]")
 
@@ -100,37 +102,36 @@ def checked(batch: Batch, folder: Path) -> list[str]:
     return (ran.stdout + ran.stderr).splitlines()
 
 
-def by_front_end(batch: Batch, lines: list[str]) -> dict[Edit, str]:
-    """The edits that the front end refuses, with its line."""
-    found: dict[Edit, str] = {}
+def by_front_end(batch: Batch, lines: list[str]) -> Told:
+    """The front end's line on each edit that it refuses."""
+    found: Told = {}
     for line in lines:
         if told := BY_FRONT_END.match(line.removeprefix("note: ")):
             one: Found | None = batch.function_at(told[1], int(told[2]))
             if one and one.function in batch.of:
-                found.setdefault(batch.of[one.function], line)
+                found.setdefault(batch.of[one.function], [(line, None)])
     return found
 
 
-def by_prover(batch: Batch, lines: list[str]) -> dict[Edit, list[str]]:
-    """The prover's lines on each edit that it refuses."""
-    found: dict[Edit, list[str]] = {}
+def by_prover(batch: Batch, lines: list[str]) -> Told:
+    """The prover's lines on each edit that it refuses, with the reasons that they tell."""
+    found: Told = {}
     for line in lines:
         reason = batch.reason(line)
         if reason and reason.found.function in batch.of:
-            found.setdefault(batch.of[reason.found.function], []).append(line)
+            found.setdefault(batch.of[reason.found.function], []).append((line, reason))
     return found
 
 
-def told_together(batch: Batch, folder: Path) -> tuple[dict[Edit, list[str]], list[str]]:
-    """What is said of each edit of a batch, none of those that are still proved, and the lines of the last check."""
-    told: dict[Edit, list[str]] = {}
+def told_together(batch: Batch, folder: Path) -> Told:
+    """The lines on each edit of a batch that is refused. Where the front end refuses some, the others are checked again
+    without these."""
+    told: Told = {}
     while True:
         lines = checked(batch, folder)
         refused = by_front_end(batch, lines)
-        told.update({edit: [line] for edit, line in refused.items()})
-        if not refused:
-            return told | by_prover(batch, lines), lines
+        told.update(refused)
         left = [edit for edit in batch.edits if edit not in refused]
-        if not left:
-            return told, lines
+        if not refused or not left:
+            return told | by_prover(batch, [] if refused else lines)
         batch = Batch(left)
