@@ -36,7 +36,7 @@ older_query_reading b =
     then Some (record { max_response = slice_index b 1; group = addr (big_from 4 4 b) })
     else None
 
--- the same of version 3: S is clear, and QRV and QQIC are 0, for which the configured values stand
+-- A query of version 2 as one of version 3: S is clear, and QRV and QQIC are 0, for which the configured values stand.
 abbrev pub query_as_three : OlderQuery → Query
 query_as_three q = record {
   max_response_code = q.max_response;
@@ -53,7 +53,7 @@ pub record OlderQueried : Type 0 where
   pub destination : ℕ
   pub query : OlderQuery
 
--- as a packet of version 3
+-- The query of version 3 in its place, as a packet.
 unfoldable pub query_packet : OlderQueried → List ℕ
 query_packet t = igmp_packet_text t.source t.destination (query_text (query_as_three t.query))
 
