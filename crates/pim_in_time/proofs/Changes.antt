@@ -1,9 +1,9 @@
--- No event's own change has the group's Join timer end later, but another router's Join to the same neighbour.
+-- No event's own change has the Join timer of what is joined end later, but another router's Join to the same neighbour.
 use Rattle.std.proofs.Common.{◌≡◌, ◌∙◌, ℕ, ◌+◌, ◌==◌, nat_lt, ◌&&◌, ◌||◌, not, min, Bool, true, false, cond, List, [], ◌∷◌, filter, fold, map, Option, Some, None, refl, sym, ap, subst, arith, eq-eqb, eqb-true}
-use Rattle.std.proofs.lemmas.Bool.{both_ways}
+use Rattle.std.proofs.lemmas.Bool.{both_ways, false_from_ne_true}
 use Rattle.std.proofs.lemmas.Bool.Decides.{nat_tests}
 use Rattle.std.specs.List.{list_any}
-use Rattle.pim_types.specs.Keys.{rpt_key, same_key, source_key, star_key}
+use Rattle.pim_types.specs.Keys.{group_in, rpt_key, same_key, source_in, source_key, star_key}
 use Rattle.pim_types.specs.declared.config.IfaceId.{IfaceId}
 use Rattle.pim_types.specs.declared.fact.JoinTimerRow.{JoinTimerRow}
 use Rattle.pim_types.specs.declared.fact.Key.{Key}
@@ -15,7 +15,7 @@ use Rattle.pim_wire.specs.declared.join_prune.EntryKind.{EntryKind}
 use Rattle.pim_model.specs.declared.accepted.Accepted.{Accepted}
 use Rattle.pim_model.specs.Asserts.{assert_received}
 use Rattle.pim_model.specs.Desires.{rpf_source, rpf_star}
-use Rattle.pim_model.specs.Downstream.{Named, accepted_joins, accepted_prunes, is_named, joined_keys, keys_taken, named_key, to_me}
+use Rattle.pim_model.specs.Downstream.{Named, accepted_joins, accepted_prunes, is_named, joined_keys, key_by, keys_taken, named_key, to_me}
 use Rattle.pim_model.specs.Forwarding.{forwarded, register_received, source_here}
 use Rattle.pim_model.specs.Hellos.{hello_received, hello_triggered, is_generation_changed, neighbour_replaced, neighbour_restarted, upstream_of}
 use Rattle.pim_model.specs.Neighbours.{is_neighbour, t_override}
@@ -30,15 +30,50 @@ use Rattle.pim_laws.proofs.TurnLaws.{kept_by_fold}
 use Rattle.pim_promises.proofs.Lasting.{Lasting, Whole, assert_whole, lasting, whole, data_whole, query_lasting, register_whole, report_lasting}
 use Rattle.pim_stream.proofs.Rows.{set_good}
 use Rattle.pim_stream.proofs.Tests.{neither}
-use Rattle.pim_in_time.specs.Joins.{is_suppressed}
-use Rattle.pim_in_time.proofs.Timers.{EndsBy, Towards, is_after, no_source, other_star}
+use Rattle.pim_in_time.specs.Joins.{Join, Source, Star, is_suppressed, join_key, rpf_of}
+use Rattle.pim_in_time.proofs.Timers.{EndsBy, Towards, is_after, no_source, star_is}
 
-module _ (g b : ℕ) where
+-- ---- what an entry names
+
+-- a key of the router's names the same next hop
+star_hop : (x : Join) (s : State) (g m : ℕ) → same_key (join_key x 0 g) (star_key 0 m) ≡ true → rpf_star s m ≡ rpf_of x s g
+star_hop (Star rp) s g m same = ap (rpf_star s) (sym (ap group_in (equal_keys (star_key 0 g) (star_key 0 m) same)))
+star_hop (Source src) s g m same = absurd (star_is g m src same)
+
+source_hop : (x : Join) (s : State) (g m a : ℕ) → same_key (join_key x 0 g) (source_key 0 m a) ≡ true
+    → rpf_source s m a ≡ rpf_of x s g
+source_hop (Star rp) s g m a same = absurd (no_source g m a same)
+source_hop (Source src) s g m a same =
+    let is : source_key 0 g src ≡ source_key 0 m a = equal_keys (source_key 0 g src) (source_key 0 m a) same in
+    ap (λ (y : ℕ). rpf_source s y a) (sym (ap group_in is)) ∙ ap (rpf_source s g) (sym (ap source_in is))
+
+-- an entry that names it on interface 0 names it on each
+on_iface : (x : Join) (g i m a : ℕ) (kind : EntryKind) → same_key (join_key x 0 g) (key_by 0 m a kind) ≡ true
+    → join_key x i g ≡ key_by i m a kind
+on_iface x g i m a EntryKind.Star same =
+    ap (λ (k : Key). record k { iface = record { number = i } }) (equal_keys (join_key x 0 g) (star_key 0 m) same)
+on_iface x g i m a EntryKind.Source same =
+    ap (λ (k : Key). record k { iface = record { number = i } }) (equal_keys (join_key x 0 g) (source_key 0 m a) same)
+on_iface x g i m a EntryKind.SourceRpt same =
+    ap (λ (k : Key). record k { iface = record { number = i } }) (equal_keys (join_key x 0 g) (rpt_key 0 m a) same)
+
+apart_entry : (x : Join) (g i : ℕ) (n : Named) → same_key (join_key x i g) (named_key i n) ≡ false
+    → same_key (join_key x 0 g) (named_key 0 n) ≡ false
+apart_entry x g i n off =
+    false_from_ne_true (same_key (join_key x 0 g) (named_key 0 n)) (λ same.
+    both_ways (same_key (join_key x i g) (named_key i n)) off
+    (ap (same_key (join_key x i g)) (sym (on_iface x g i n.0 (n.1).address.bits (n.1).kind same))
+    ∙ same_key_same (join_key x i g)))
+
+module _ (x : Join) (g b : ℕ) where
+  abbrev q : Key
+  q = join_key x 0 g
+
   abbrev By : State → Type 0
-  By s = EndsBy g b s
+  By s = EndsBy x g b s
 
   by_table : (s t : State) → t.join_timers ≡ s.join_timers → By s → By t
-  by_table s t e f = ap (λ (x : Table JoinTimerRow). is_after b (row_at x (star_key 0 g))) e ∙ f
+  by_table s t e f = ap (λ (rows : Table JoinTimerRow). is_after b (row_at rows q)) e ∙ f
 
   eq_swapped : (x y : ℕ) → (x == y) ≡ (y == x)
   eq_swapped x y = go (x == y) refl (y == x) refl
@@ -61,17 +96,17 @@ module _ (g b : ℕ) where
   lowered_by : (s : State) (k : Key) (end : ℕ) → By s → By (lower_join_timer s k end)
   unfolding lower_join_timer
   lowered_by s k end f =
-      set_good (is_after b) refl k (star_key 0 g) _ s.join_timers
+      set_good (is_after b) refl k q _ s.join_timers
       (λ same. go (row_at s.join_timers k)
-      (subst (λ (q : Key). is_after b (row_at s.join_timers q) ≡ false) (equal_keys (star_key 0 g) k same) f)) f
+      (subst (λ (j : Key). is_after b (row_at s.join_timers j) ≡ false) (equal_keys q k same) f)) f
     where
       go : (o : Option JoinTimerRow) → is_after b o ≡ false → is_after b (lowered_row end o) ≡ false
       go None e = e
       go (Some r) e = lower_is r.end end e
 
-  raised_by : (s : State) (k : Key) (end : ℕ) → (same_key (star_key 0 g) k ≡ true → ⊥) → By s → By (raise_join_timer s k end)
+  raised_by : (s : State) (k : Key) (end : ℕ) → (same_key q k ≡ true → ⊥) → By s → By (raise_join_timer s k end)
   unfolding raise_join_timer
-  raised_by s k end off f = set_good (is_after b) refl k (star_key 0 g) _ s.join_timers (λ same. absurd (off same)) f
+  raised_by s k end off f = set_good (is_after b) refl k q _ s.join_timers (λ same. absurd (off same)) f
 
   cancelled_by : (s : State) (k : Key) → By s → By (cancel_override_timer s k)
   unfolding cancel_override_timer
@@ -82,19 +117,19 @@ module _ (g b : ℕ) where
   -- rows that are lowered in their places
   mapped_by : (change : Key × JoinTimerRow → Key × JoinTimerRow) → ((e : Key × JoinTimerRow) → (change e).0 ≡ e.0)
       → ((e : Key × JoinTimerRow) → nat_lt b (e.1).end ≡ false → nat_lt b ((change e).1).end ≡ false)
-      → (t : Table JoinTimerRow) → is_after b (row_at t (star_key 0 g)) ≡ false
-      → is_after b (row_at (map change t) (star_key 0 g)) ≡ false
+      → (t : Table JoinTimerRow) → is_after b (row_at t q) ≡ false
+      → is_after b (row_at (map change t) q) ≡ false
   unfolding row_at
   mapped_by change keys lowers [] f = f
-  mapped_by change keys lowers (x ∷ xs) f =
-      go (same_key (star_key 0 g) x.0) refl f (mapped_by change keys lowers xs)
+  mapped_by change keys lowers (y ∷ ys) f =
+      go (same_key q y.0) refl f (mapped_by change keys lowers ys)
     where
-      go : (c : Bool) → same_key (star_key 0 g) x.0 ≡ c
-          → is_after b (cond c (Some x.1) (row_at xs (star_key 0 g))) ≡ false
-          → (is_after b (row_at xs (star_key 0 g)) ≡ false → is_after b (row_at (map change xs) (star_key 0 g)) ≡ false)
-          → is_after b (row_at (change x ∷ map change xs) (star_key 0 g)) ≡ false
-      go true same e later = rw (keys x, same) (lowers x e)
-      go false off e later = rw (keys x, off) (later e)
+      go : (c : Bool) → same_key q y.0 ≡ c
+          → is_after b (cond c (Some y.1) (row_at ys q)) ≡ false
+          → (is_after b (row_at ys q) ≡ false → is_after b (row_at (map change ys) q) ≡ false)
+          → is_after b (row_at (change y ∷ map change ys) q) ≡ false
+      go true same e later = rw (keys y, same) (lowers y e)
+      go false off e later = rw (keys y, off) (later e)
 
   restarted_by : (o : State) (i address w : ℕ) (s : State) → By s → By (neighbour_restarted o i address w s)
   unfolding neighbour_restarted
@@ -138,39 +173,43 @@ module _ (g b : ℕ) where
   -- ---- a Join/Prune between other routers
 
   module _ (s : State) (w : ℕ) (hop : Hop) where
-    -- a Join of the group to the next hop
+    abbrev towards_hop : Bool
+    towards_hop = same_hop (rpf_of x s g) (Some hop)
+
+    -- a Join of it to the next hop
     abbrev raises : Named → Bool
-    raises n = (is_star_entry n && (n.0 == g)) && same_hop (rpf_star s g) (Some hop)
+    raises n = same_key q (named_key 0 n) && towards_hop
+
+    raised_if : (t : State) (k : Key) (end : ℕ) (c : Bool) → (same_key q k ≡ true → c ≡ false) → By t
+        → By (cond c (raise_join_timer t k end) t)
+    raised_if t k end c off f = go (same_key q k) refl
+      where
+        go : (d : Bool) → same_key q k ≡ d → By (cond c (raise_join_timer t k end) t)
+        go false apart = by_cond By c _ t (raised_by t k end (λ same. both_ways (same_key q k) apart same) f) f
+        go true same = subst (λ (e : Bool). By (cond e (raise_join_timer t k end) t)) (sym (off same)) f
+
+    -- where the key is its own the next hop is another
+    elsewhere : (k : Key) (o : Option Hop) → (same_key q k ≡ true → o ≡ rpf_of x s g) → (same_key q k && towards_hop) ≡ false
+        → same_key q k ≡ true → same_hop o (Some hop) ≡ false
+    elsewhere k o is off same =
+        ap (λ (h : Option Hop). same_hop h (Some hop)) (is same) ∙ (ap (λ (c : Bool). c && towards_hop) (sym same) ∙ off)
 
     join_by : (holdtime : ℕ) (t : State) (n : Named) → raises n ≡ false → By t → By (join_seen s holdtime w hop t n)
     unfolding join_seen
-    join_by holdtime t n off f = go (n.1).kind (n.1).address.bits (suppressed_end s hop.iface.number w holdtime) refl
+    join_by holdtime t n off f = go (n.1).kind (n.1).address.bits (suppressed_end s hop.iface.number w holdtime) off
       where
-        star : (end : ℕ) → (n.1).kind ≡ EntryKind.Star
-            → By (cond (same_hop (rpf_star s n.0) (Some hop)) (raise_join_timer t (star_key 0 n.0) end) t)
-        star end is = own (n.0 == g) refl
-          where
-            only_hop : (n.0 == g) ≡ true → raises n ≡ same_hop (rpf_star s g) (Some hop)
-            only_hop same = rw (same, is) refl
-
-            own : (c : Bool) → (n.0 == g) ≡ c
-                → By (cond (same_hop (rpf_star s n.0) (Some hop)) (raise_join_timer t (star_key 0 n.0) end) t)
-            own false other =
-                by_cond By _ _ t (raised_by t (star_key 0 n.0) end (other_star g n.0 other) f) f
-            own true same =
-                let it : n.0 ≡ g = eqb-true n.0 g same in
-                subst (λ (c : Bool). By (cond c (raise_join_timer t (star_key 0 n.0) end) t))
-                (sym (ap (λ (x : ℕ). same_hop (rpf_star s x) (Some hop)) it ∙ (sym (only_hop same) ∙ off))) f
-
-        go : (kind : EntryKind) (src end : ℕ) → (n.1).kind ≡ kind → By (elim kind [
+        go : (kind : EntryKind) (a end : ℕ) → (same_key q (key_by 0 n.0 a kind) && towards_hop) ≡ false → By (elim kind [
           | EntryKind.Star ↦ cond (same_hop (rpf_star s n.0) (Some hop)) (raise_join_timer t (star_key 0 n.0) end) t
-          | EntryKind.Source ↦ cond (same_hop (rpf_source s n.0 src) (Some hop)) (raise_join_timer t (source_key 0 n.0 src) end) t
-          | EntryKind.SourceRpt ↦ cond (is_unpruned_towards s hop n.0 src) (cancel_override_timer t (rpt_key 0 n.0 src)) t
+          | EntryKind.Source ↦ cond (same_hop (rpf_source s n.0 a) (Some hop)) (raise_join_timer t (source_key 0 n.0 a) end) t
+          | EntryKind.SourceRpt ↦ cond (is_unpruned_towards s hop n.0 a) (cancel_override_timer t (rpt_key 0 n.0 a)) t
         ])
-        go EntryKind.Star src end is = star end is
-        go EntryKind.Source src end is =
-            by_cond By _ _ t (raised_by t (source_key 0 n.0 src) end (no_source g n.0 src) f) f
-        go EntryKind.SourceRpt src end is = by_cond By _ _ t (cancelled_by t (rpt_key 0 n.0 src) f) f
+        go EntryKind.Star a end off =
+            raised_if t (star_key 0 n.0) end _
+            (elsewhere (star_key 0 n.0) (rpf_star s n.0) (λ same. star_hop x s g n.0 same) off) f
+        go EntryKind.Source a end off =
+            raised_if t (source_key 0 n.0 a) end _
+            (elsewhere (source_key 0 n.0 a) (rpf_source s n.0 a) (λ same. source_hop x s g n.0 a same) off) f
+        go EntryKind.SourceRpt a end off = by_cond By _ _ t (cancelled_by t (rpt_key 0 n.0 a) f) f
 
     joins_by : (holdtime : ℕ) (p : Named → Bool) (ns : List Named) (t : State) → list_any raises ns ≡ false → By t
         → By (fold (join_seen s holdtime w hop) t (filter p ns))
@@ -198,50 +237,30 @@ module _ (g b : ℕ) where
   right_false true y e = e
   right_false false y e = refl
 
-  -- an entry that doesn't name the group's key is no Join of it
-  other_entry : (i : ℕ) (n : Named) → same_key (star_key i g) (named_key i n) ≡ false
-      → (is_star_entry n && (n.0 == g)) ≡ false
-  other_entry i n off = by (n.1).kind refl (n.0 == g) refl
-    where
-      named : (n.1).kind ≡ EntryKind.Star → named_key i n ≡ star_key i n.0
-      named e = rw e refl
-
-      itself : (n.1).kind ≡ EntryKind.Star → n.0 ≡ g → same_key (star_key i g) (star_key i g) ≡ false
-      itself e it =
-          ap (λ (y : ℕ). same_key (star_key i g) (star_key i y)) (sym it)
-          ∙ (ap (same_key (star_key i g)) (sym (named e)) ∙ off)
-
-      by : (kind : EntryKind) → (n.1).kind ≡ kind → (d : Bool) → (n.0 == g) ≡ d → (is_star_entry n && d) ≡ false
-      by EntryKind.Source k d h = rw k refl
-      by EntryKind.SourceRpt k d h = rw k refl
-      by EntryKind.Star k false h = right_false (is_star_entry n) false refl
-      by EntryKind.Star k true h =
-          absurd (both_ways (same_key (star_key i g) (star_key i g)) (itself k (eqb-true n.0 g h)) (same_key_same (star_key i g)))
-
   module _ (s : State) (hop : Hop) (w i : ℕ) where
-    abbrev towards_hop : Bool
-    towards_hop = same_hop (rpf_star s g) (Some hop)
+    abbrev to_the_hop : Bool
+    to_the_hop = same_hop (rpf_of x s g) (Some hop)
 
-    none_elsewhere : towards_hop ≡ false → (ns : List Named) → list_any (raises s w hop) ns ≡ false
+    none_elsewhere : to_the_hop ≡ false → (ns : List Named) → list_any (raises s w hop) ns ≡ false
     none_elsewhere off [] = refl
     none_elsewhere off (n ∷ ns) =
         or_false (raises s w hop n) (list_any (raises s w hop) ns)
-        (right_false (is_star_entry n && (n.0 == g)) towards_hop off) (none_elsewhere off ns)
+        (right_false (same_key q (named_key 0 n)) to_the_hop off) (none_elsewhere off ns)
 
-    none_named : (ns : List Named) → list_any (same_key (star_key i g)) (map (named_key i) ns) ≡ false
+    none_named : (ns : List Named) → list_any (same_key (join_key x i g)) (map (named_key i) ns) ≡ false
         → list_any (raises s w hop) ns ≡ false
     none_named [] e = refl
     none_named (n ∷ ns) e =
-        let two = neither (same_key (star_key i g) (named_key i n)) _ e in
+        let two = neither (same_key (join_key x i g) (named_key i n)) _ e in
         or_false (raises s w hop n) (list_any (raises s w hop) ns)
-        (left_false (is_star_entry n && (n.0 == g)) towards_hop (other_entry i n two.first)) (none_named ns two.second)
+        (left_false (same_key q (named_key 0 n)) to_the_hop (apart_entry x g i n two.first)) (none_named ns two.second)
 
-    none_raises : (ns : List Named) → (towards_hop && is_named (map (named_key i) ns) (star_key i g)) ≡ false
+    none_raises : (ns : List Named) → (to_the_hop && is_named (map (named_key i) ns) (join_key x i g)) ≡ false
         → list_any (raises s w hop) ns ≡ false
     unfolding is_named
-    none_raises ns e = go towards_hop refl e
+    none_raises ns e = go to_the_hop refl e
       where
-        go : (c : Bool) → towards_hop ≡ c → (c && list_any (same_key (star_key i g)) (map (named_key i) ns)) ≡ false
+        go : (c : Bool) → to_the_hop ≡ c → (c && list_any (same_key (join_key x i g)) (map (named_key i) ns)) ≡ false
             → list_any (raises s w hop) ns ≡ false
         go true is f = none_named ns f
         go false is f = none_elsewhere is ns
@@ -276,7 +295,7 @@ module _ (g b : ℕ) where
         go EntryKind.SourceRpt src = tree_by n.0 src _ (source_by n.0 src t f)
 
   pub seen_by : (s : State) (w i : ℕ) (m : JoinPrune)
-      → (same_hop (rpf_star s g) (Some (hop_at i m.upstream)) && is_named (joined_keys s i m) (star_key i g)) ≡ false
+      → (same_hop (rpf_of x s g) (Some (hop_at i m.upstream)) && is_named (joined_keys s i m) (join_key x i g)) ≡ false
       → By s → By (seen s w i m)
   unfolding seen joined_keys
   seen_by s w i m off f =
@@ -288,28 +307,28 @@ module _ (g b : ℕ) where
 
   -- ---- every event
 
-  module _ (s : State) (w rp : ℕ) (hop : Hop) (towards : Towards g rp hop s) (f : By s) where
+  module _ (s : State) (w : ℕ) (hop : Hop) (towards : Towards x g hop s) (f : By s) where
     by_lasting : (t : State) → lasting t ≡ lasting s → By t
-    by_lasting t e = by_table s t (ap (λ (x : Lasting). x.join_timers) e) f
+    by_lasting t e = by_table s t (ap (λ (u : Lasting). u.join_timers) e) f
 
     by_whole : (t : State) → whole t ≡ whole s → By t
-    by_whole t e = by_lasting t (ap (λ (x : Whole). x.lasting) e)
+    by_whole t e = by_lasting t (ap (λ (u : Whole). u.lasting) e)
 
     from_here : (n src iif : ℕ) → (source_here s n src iif).join_timers ≡ s.join_timers
     unfolding source_here settle_register with_keepalive
     from_here n src iif = grind arith
 
-    seen_if : (i : IfaceId) (m : JoinPrune) → is_suppressed s g hop (Some (Accepted.JoinPruneSeen i m)) ≡ false
+    seen_if : (i : IfaceId) (m : JoinPrune) → is_suppressed x s g hop (Some (Accepted.JoinPruneSeen i m)) ≡ false
         → By (seen s w i.number m)
     seen_if i m off = seen_by s w i.number m (rw towards.upstream (turned off)) f
       where
-        turned : is_suppressed s g hop (Some (Accepted.JoinPruneSeen i m)) ≡ false
-            → (same_hop (Some hop) (Some (hop_at i.number m.upstream)) && is_named (joined_keys s i.number m) (star_key i.number g)) ≡ false
+        turned : is_suppressed x s g hop (Some (Accepted.JoinPruneSeen i m)) ≡ false
+            → (same_hop (Some hop) (Some (hop_at i.number m.upstream)) && is_named (joined_keys s i.number m) (join_key x i.number g)) ≡ false
         turned e =
-            ap (λ (c : Bool). c && is_named (joined_keys s i.number m) (star_key i.number g))
+            ap (λ (c : Bool). c && is_named (joined_keys s i.number m) (join_key x i.number g))
             (both_swapped hop.iface.number i.number hop.address.bits m.upstream) ∙ e
 
-    pub change_by : (a : Accepted) → is_suppressed s g hop (Some a) ≡ false → By (change s w a).state
+    pub change_by : (a : Accepted) → is_suppressed x s g hop (Some a) ≡ false → By (change s w a).state
     unfolding change iface_up querier_up querying iface_down rps_replaced to_me keys_taken register_stop_seen
     change_by (Accepted.Advance moment) e = f
     change_by (Accepted.Up i) e = f
@@ -324,7 +343,7 @@ module _ (g b : ℕ) where
     change_by (Accepted.Report i records) e = by_lasting (report_seen s i.number records).0 (report_lasting s i.number records)
     change_by (Accepted.Data i p) e =
         by_table s (forwarded s p.destination p.source i.number).state
-        (ap (λ (x : Whole). (x.lasting).join_timers) (data_whole s p.destination p.source i.number)
+        (ap (λ (u : Whole). (u.lasting).join_timers) (data_whole s p.destination p.source i.number)
         ∙ from_here p.destination p.source i.number) f
     change_by (Accepted.Register p (Encapsulated inner)) e =
         by_whole (register_received s p inner.destination inner.source false).state

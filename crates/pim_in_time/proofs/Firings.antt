@@ -1,9 +1,9 @@
 -- Time at the lower router: its Join timer ends no later, or a Join leaves, and then it ends within 60 s.
-use Rattle.std.proofs.Common.{◌≡◌, ◌∙◌, ℕ, ◌+◌, ◌≤◌, ◌&&◌, not, Bool, true, false, cond, List, [], ◌⊎◌, inl, inr, map, take, filter, Option, Some, None, refl, sym, ap, subst, arith}
+use Rattle.std.proofs.Common.{◌≡◌, ◌∙◌, ℕ, ◌+◌, ◌≤◌, ◌&&◌, not, Bool, true, false, cond, List, [], ◌⊎◌, inl, inr, take, filter, Option, Some, None, refl, sym, ap, subst, arith}
 use Rattle.std.specs.List.{Contains}
 use Rattle.std.specs.Option.{option_map_or}
 use Rattle.std.specs.Prelude.{option_and_then}
-use Rattle.pim_types.specs.Keys.{neighbour_key, same_key, star_key}
+use Rattle.pim_types.specs.Keys.{neighbour_key, same_key, source_key, star_key}
 use Rattle.pim_types.specs.declared.config.InterfaceConfig.{InterfaceConfig}
 use Rattle.pim_types.specs.declared.config.RpRange.{RpRange}
 use Rattle.pim_types.specs.declared.fact.AssertRow.{AssertRow}
@@ -15,12 +15,11 @@ use Rattle.pim_types.specs.declared.path.Hop.{Hop}
 use Rattle.pim_types.specs.declared.path.Path.{Path}
 use Rattle.pim_types.specs.declared.timer.TimerKind.{TimerKind}
 use Rattle.pim_types.proofs.Keys.{equal_keys}
-use Rattle.pim_wire.specs.declared.join_prune.EntryKind.{EntryKind}
-use Rattle.pim_model.specs.Desires.{join_desired_star, rpf_star, winner_hop}
+use Rattle.pim_model.specs.Desires.{rpf_star, winner_hop}
 use Rattle.pim_model.specs.Downstream.{downstream_expired}
 use Rattle.pim_model.specs.Firing.{fire_once, fire_row, fired, keepalive_due, settled}
 use Rattle.pim_model.specs.Hellos.{hello_due, neighbour_due}
-use Rattle.pim_model.specs.Messages.{Message, entry}
+use Rattle.pim_model.specs.Messages.{Message}
 use Rattle.pim_model.specs.Neighbours.{nbr, nbr_among}
 use Rattle.pim_model.specs.Querier.{general_query_due, group_record_due, group_repeat_due, other_querier_gone, querying_on, source_record_due, source_repeat_due, sources_sent}
 use Rattle.pim_model.specs.Reach.{own_firing}
@@ -31,7 +30,7 @@ use Rattle.pim_model.specs.State.{State, address_among, my_address}
 use Rattle.pim_model.specs.Tables.{Table, has_row, row_at}
 use Rattle.pim_model.specs.Timers.{Ending, ending}
 use Rattle.pim_model.specs.Unicast.{route, rp_among, rp_of, rp_route, rpf_interface_rp}
-use Rattle.pim_model.specs.Upstream.{fact_keys, is_pruned_with_star, join_timer_due, most_pruned, override_timer_due, pruned_with_star, sources_of}
+use Rattle.pim_model.specs.Upstream.{fact_keys, is_pruned_with_star, join_timer_due, most_pruned, override_timer_due, periodic_end, pruned_with_star, sources_of}
 use Rattle.pim_model.specs.Writing.{on_link}
 use Rattle.pim_laws.proofs.RowLaws.{has_row_without, row_change_away}
 use Rattle.pim_locality.specs.Locality.{IsQuiet}
@@ -41,17 +40,20 @@ use Rattle.pim_ready.proofs.LawfulFiring.{one_firing_is_lawful}
 use Rattle.pim_ready.proofs.Unsettled.{Unsettled, settling_leaves}
 use Rattle.pim_promises.proofs.Lasting.{Lasting, assert_lasting, pending_lasting}
 use Rattle.pim_reach.proofs.Configured.{Ground, firing_ground, ground}
-use Rattle.pim_served.specs.Joins.{SendsAgain, SendsStar, join_packet, join_to}
+use Rattle.pim_served.specs.Joins.{SendsAgain, SendsSourceAgain, SendsStar, join_packet, join_to}
 use Rattle.pim_served.specs.Timed.{AreTimed}
 use Rattle.pim_served.proofs.Leaves.{star_join_leaves_in_time}
-use Rattle.pim_served.proofs.Repeats.{star_join_is_repeated}
+use Rattle.pim_served.proofs.Repeats.{source_join_is_repeated, star_join_is_repeated}
+use Rattle.pim_served.proofs.Sources.{source_join_leaves_in_time}
 use Rattle.pim_served.proofs.Taken.{apart_keys}
 use Rattle.pim_served.proofs.Timed.{firing_keeps_timed}
 use Rattle.pim_served.proofs.Timers.{fired_keeps}
 use Rattle.pim_stream.proofs.Fires.{fired_unlost, fired_up}
 use Rattle.pim_stream.proofs.Settles.{NoWorse, settling_no_worse}
 use Rattle.pim_stream.proofs.Ways.{SameGround, ground_again, same_route}
-use Rattle.pim_in_time.proofs.Timers.{EndsBy, Towards, begins_by, goes_on_by, is_after, none_runs, not_after, unwanted_by}
+use Rattle.pim_source_tree.proofs.Joins.{goes_to_source}
+use Rattle.pim_in_time.specs.Joins.{IsRp, Join, Source, Star, entry_of, is_lost_at, is_wanted, join_key, prunes_of, rpf_of, way_to}
+use Rattle.pim_in_time.proofs.Timers.{EndsBy, Towards, begins_by, goes_on_by, is_after, none_runs, not_after, timer_is, unwanted_by}
 
 -- ---- what the expiry of a timer leaves alone
 
@@ -163,29 +165,39 @@ fired_fewer q s k =
     (λ e. ap (λ (t : Table NeighbourRow). has_row t q) (sym (join_neighbours s k)) ∙ e) (neighbour_fewer s k q)
     (λ kind a b e. ap (λ (p : Parts). has_row p.neighbours q) (sym (fired_parts s kind k a b)) ∙ e)
 
--- another timer's end leaves the group's Join timer
-joins_away : (g x : ℕ) (s : State) (k : Key) → same_key (star_key 0 g) k ≡ false → EndsBy g x s
-    → EndsBy g x (fired s TimerKind.Join k).0
+-- another timer's end leaves the Join timer of what is joined
+joins_away : (join : Join) (g x : ℕ) (s : State) (k : Key) → same_key (join_key join 0 g) k ≡ false → EndsBy join g x s
+    → EndsBy join g x (fired s TimerKind.Join k).0
 unfolding fired join_timer_due
-joins_away g x s k off f =
-    ap (is_after x) (row_change_away k (star_key 0 g) (apart_keys k (star_key 0 g) off) _ s.join_timers) ∙ f
+joins_away join g x s k off f =
+    ap (is_after x) (row_change_away k (join_key join 0 g) (apart_keys k (join_key join 0 g) off) _ s.join_timers) ∙ f
 
-fired_by : (g x : ℕ) (s : State) (k : Key) (kind : TimerKind) → (is_join kind && same_key (star_key 0 g) k) ≡ false
-    → EndsBy g x s → EndsBy g x (fired s kind k).0
-fired_by g x s k =
-    by_kind (λ kind. (is_join kind && same_key (star_key 0 g) k) ≡ false → EndsBy g x s → EndsBy g x (fired s kind k).0)
-    (λ off f. joins_away g x s k off f)
-    (λ off f. ap (λ (t : Table JoinTimerRow). is_after x (row_at t (star_key 0 g))) (neighbour_timers s k) ∙ f)
-    (λ kind a b off f. ap (λ (p : Parts). is_after x (row_at p.join_timers (star_key 0 g))) (fired_parts s kind k a b) ∙ f)
+fired_by : (join : Join) (g x : ℕ) (s : State) (k : Key) (kind : TimerKind)
+    → (is_join kind && same_key (join_key join 0 g) k) ≡ false → EndsBy join g x s → EndsBy join g x (fired s kind k).0
+fired_by join g x s k =
+    by_kind (λ kind. (is_join kind && same_key (join_key join 0 g) k) ≡ false → EndsBy join g x s
+    → EndsBy join g x (fired s kind k).0)
+    (λ off f. joins_away join g x s k off f)
+    (λ off f. ap (λ (t : Table JoinTimerRow). is_after x (row_at t (join_key join 0 g))) (neighbour_timers s k) ∙ f)
+    (λ kind a b off f. ap (λ (p : Parts). is_after x (row_at p.join_timers (join_key join 0 g))) (fired_parts s kind k a b) ∙ f)
 
--- ---- the way to the RP
+-- ---- the way to the RP, or to the source
 
-pub same_rp_route : (s t : State) → SameGround s t → (g : ℕ) → rp_route t g ≡ rp_route s g
+same_rp_route : (s t : State) → SameGround s t → (g : ℕ) → rp_route t g ≡ rp_route s g
 unfolding rp_route rp_of
 same_rp_route s t f g =
     let same : route t ≡ route s = λ j address. same_route s t f address j in
     ap (λ (w : ℕ → Option Path). option_and_then w (rp_among t.ranges g)) same
     ∙ ap (λ (rs : List RpRange). option_and_then (route s) (rp_among rs g)) f.ranges
+
+same_way : (join : Join) (s t : State) → SameGround s t → (g : ℕ) → way_to join t g ≡ way_to join s g
+same_way (Star rp) s t f g = same_rp_route s t f g
+same_way (Source src) s t f g = same_route s t f src
+
+rp_again : (join : Join) (s t : State) → SameGround s t → (g : ℕ) → IsRp join s g → IsRp join t g
+unfolding rp_of
+rp_again (Star rp) s t f g known = ap (λ (rs : List RpRange). rp_among rs g) f.ranges ∙ known
+rp_again (Source src) s t f g known = tt
 
 abbrev pub hop_key : Hop → Key
 hop_key hop = neighbour_key hop.iface.number hop.address.bits
@@ -229,7 +241,7 @@ no_next : (rows : Table NeighbourRow) (hop : Hop) → nbr_among rows None ≡ So
 unfolding nbr_among
 no_next rows hop e = cc e
 
-pub goes_there : (t : State) (g : ℕ) (hop : Hop) → nbr t (rp_route t g) ≡ Some hop
+goes_there : (t : State) (g : ℕ) (hop : Hop) → nbr t (rp_route t g) ≡ Some hop
     → is_loser (assert_star t g hop.iface.number) ≡ false → rpf_star t g ≡ Some hop
 unfolding rpf_star rpf_interface_rp nbr
 goes_there t g hop next unlost = go (rp_route t g) refl next
@@ -242,19 +254,82 @@ goes_there t g hop next unlost = go (rp_route t g) refl next
         ap (λ (h : Hop). is_loser (assert_star t g h.iface.number)) same ∙ unlost in
         rw (is, winner_none (assert_star t g p.iface.number) p.iface.number kept) e
 
+-- RPF' of what is joined
+pub goes_so : (join : Join) (t : State) (g : ℕ) (hop : Hop) → nbr t (way_to join t g) ≡ Some hop
+    → is_lost_at join t g hop.iface.number ≡ false → rpf_of join t g ≡ Some hop
+goes_so (Star rp) t g hop next unlost = goes_there t g hop next unlost
+goes_so (Source src) t g hop next unlost = goes_to_source t g src hop next unlost
+
+-- what follows of a change loses no assert
+unlost_again : (join : Join) (g i : ℕ) (o : State) (c : State × List Message) (w : ℕ) → is_lost_at join c.0 g i ≡ false
+    → is_lost_at join (settled o c w).0 g i ≡ false
+unlost_again (Star rp) g i o c w e = (settling_no_worse o c w g 0 i).group e
+unlost_again (Source src) g i o c w e = (settling_no_worse o c w g src i).source e
+
 -- a Join to the next hop is sent
-pub record SendsJoin (g rp from : ℕ) (hop : Hop) (sent : List Emission) : Type 0 where
+pub record SendsJoin (join : Join) (g from : ℕ) (hop : Hop) (sent : List Emission) : Type 0 where
   pub pruned : List ℕ
   pub is_sent : Contains sent
-      (on_link hop.iface.number (join_packet from hop.address.bits g (entry EntryKind.Star rp) (map (entry EntryKind.SourceRpt) pruned)))
+      (on_link hop.iface.number (join_packet from hop.address.bits g (entry_of join) (prunes_of pruned)))
+
+-- ---- it is sent where it comes to be wanted, and again
+
+record IsSentBy (t : State) (join : Join) (g : ℕ) (hop : Hop) (sent : List Emission) : Type 0 where
+  pruned : List ℕ
+  is_sent : Contains sent (join_to t hop g (entry_of join) (prunes_of pruned))
+
+leaves_so : (join : Join) (w : ℕ) (t : State) (d : Ending) (g : ℕ) (hop : Hop) → is_wanted join t g ≡ false
+    → is_wanted join (fire_once w t d).0 g ≡ true → Towards join g hop (fire_once w t d).0
+    → IsSentBy (fire_once w t d).0 join g hop (fire_once w t d).1
+leaves_so (Star rp) w t d g hop off on to =
+    let sends : SendsStar (fire_once w t d).0 g rp hop (fire_once w t d).1 =
+    star_join_leaves_in_time w t d g rp hop (record {
+      unwanted = off;
+      wanted = on;
+      rp_known = to.rp_known;
+      upstream = to.upstream;
+    }) in
+    record { pruned = sends.pruned; is_sent = sends.is_sent }
+leaves_so (Source src) w t d g hop off on to = record {
+  pruned = [];
+  is_sent = source_join_leaves_in_time w t d g src hop (record { unwanted = off; wanted = on; upstream = to.upstream });
+}
+
+record IsSentAgain (s t : State) (join : Join) (g : ℕ) (hop : Hop) (sent : List Emission) : Type 0 where
+  by : IsSentBy s join g hop sent
+  timer : row_at t.join_timers (join_key join 0 g) ≡ Some (record { end = periodic_end s })
+
+repeats_so : (join : Join) (w : ℕ) (s : State) (g now : ℕ) (hop : Hop) → IsQuiet s
+    → has_row s.join_timers (join_key join 0 g) ≡ true → Towards join g hop (record s { present = now })
+    → IsSentAgain (record s { present = now }) (fire_once w s (ending TimerKind.Join (join_key join 0 g) now)).0 join g hop
+    (fire_once w s (ending TimerKind.Join (join_key join 0 g) now)).1
+unfolding pruned_with_star
+repeats_so (Star rp) w s g now hop quiet runs to =
+    let opened : State = record s { present = now } in
+    let sends : SendsAgain opened (fire_once w s (ending TimerKind.Join (star_key 0 g) now)).0 g rp hop
+    (fire_once w s (ending TimerKind.Join (star_key 0 g) now)).1 =
+    star_join_is_repeated w s g rp now hop quiet runs to.rp_known to.upstream in
+    record {
+      by = record {
+        pruned = take most_pruned (filter (is_pruned_with_star opened g) (sources_of g (fact_keys opened)));
+        is_sent = sends.is_sent;
+      };
+      timer = sends.timer;
+    }
+repeats_so (Source src) w s g now hop quiet runs to =
+    let opened : State = record s { present = now } in
+    let sends : SendsSourceAgain opened (fire_once w s (ending TimerKind.Join (source_key 0 g src) now)).0 g src hop
+    (fire_once w s (ending TimerKind.Join (source_key 0 g src) now)).1 =
+    source_join_is_repeated w s g src now hop quiet runs to.upstream in
+    record { by = record { pruned = []; is_sent = sends.is_sent }; timer = sends.timer }
 
 -- ---- at each firing
 
-module _ (g rp m from : ℕ) (hop : Hop) (b : State) (own : my_address b hop.iface.number ≡ from)
-    (rp_known : rp_of b g ≡ Some rp) (next : nbr b (rp_route b g) ≡ Some hop) where
+module _ (join : Join) (g m from : ℕ) (hop : Hop) (b : State) (own : my_address b hop.iface.number ≡ from)
+    (rp_known : IsRp join b g) (next : nbr b (way_to join b g) ≡ Some hop) where
   pub record Base (t : State) : Type 0 where
     pub ground : SameGround b t
-    pub unlost : is_loser (assert_star t g hop.iface.number) ≡ false
+    pub unlost : is_lost_at join t g hop.iface.number ≡ false
     pub lawful : IsLawful t
     pub quiet : IsQuiet t
     pub timed : AreTimed t
@@ -262,25 +337,25 @@ module _ (g rp m from : ℕ) (hop : Hop) (b : State) (own : my_address b hop.ifa
   abbrev there : State → Bool
   there t = has_row t.neighbours (hop_key hop)
 
-  towards : (t : State) → SameGround b t → is_loser (assert_star t g hop.iface.number) ≡ false → there t ≡ true
-      → Towards g rp hop t
-  unfolding rp_of nbr
+  towards : (t : State) → SameGround b t → is_lost_at join t g hop.iface.number ≡ false → there t ≡ true
+      → Towards join g hop t
+  unfolding nbr
   towards t same unlost here = record {
-    rp_known = ap (λ (rs : List RpRange). rp_among rs g) same.ranges ∙ rp_known;
-    upstream = goes_there t g hop
-        (ap (nbr_among t.neighbours) (same_rp_route b t same g)
-        ∙ there_again b.neighbours hop t.neighbours (rp_route b g) next here) unlost;
+    rp_known = rp_again join b t same g rp_known;
+    upstream = goes_so join t g hop
+        (ap (nbr_among t.neighbours) (same_way join b t same g)
+        ∙ there_again b.neighbours hop t.neighbours (way_to join b g) next here) unlost;
   }
 
   abbrev Has : List Emission → Type 0
-  Has sent = SendsJoin g rp from hop sent
+  Has sent = SendsJoin join g from hop sent
 
   by_address : (cs : List InterfaceConfig) (sent : List Emission) (pruned : List ℕ) → cs ≡ b.configured
-      → Contains sent (on_link hop.iface.number (join_packet (address_among cs hop.iface.number) hop.address.bits g (entry EntryKind.Star rp) (map (entry EntryKind.SourceRpt) pruned)))
+      → Contains sent (on_link hop.iface.number (join_packet (address_among cs hop.iface.number) hop.address.bits g (entry_of join) (prunes_of pruned)))
       → Has sent
   by_address cs sent pruned same c = record {
     pruned = pruned;
-    is_sent = subst (λ (x : ℕ). Contains sent (on_link hop.iface.number (join_packet x hop.address.bits g (entry EntryKind.Star rp) (map (entry EntryKind.SourceRpt) pruned))))
+    is_sent = subst (λ (x : ℕ). Contains sent (on_link hop.iface.number (join_packet x hop.address.bits g (entry_of join) (prunes_of pruned))))
         (ap (λ (xs : List InterfaceConfig). address_among xs hop.iface.number) same ∙ own) c;
   }
 
@@ -314,9 +389,11 @@ module _ (g rp m from : ℕ) (hop : Hop) (b : State) (own : my_address b hop.ifa
         }
 
     pub base_then : Base u
+    unfolding fire_once
     base_then = record {
       ground = ground_again b c.0 u own_ground (worse).ground;
-      unlost = (worse).group (fired_unlost 0 0 0 b (star_key hop.iface.number g) opened d.timer.kind d.timer.key f.unlost);
+      unlost = unlost_again join g hop.iface.number t c w
+          (fired_unlost 0 0 0 b (join_key join hop.iface.number g) opened d.timer.kind d.timer.key f.unlost);
       lawful = one_firing_is_lawful w t d f.lawful;
       quiet = one_firing_quiets w t d f.lawful;
       timed = firing_keeps_timed w t d f.timed;
@@ -332,13 +409,13 @@ module _ (g rp m from : ℕ) (hop : Hop) (b : State) (own : my_address b hop.ifa
     now = fired_now opened d.timer.key d.timer.kind
 
     module _ (low : d.end ≤ m) (was : there t ≡ true) (is : there u ≡ true) where
-      old : Towards g rp hop t
+      old : Towards join g hop t
       old = towards t f.ground f.unlost was
 
-      new : Towards g rp hop u
+      new : Towards join g hop u
       new = towards u (base_then).ground (base_then).unlost is
 
-      at_end : Towards g rp hop opened
+      at_end : Towards join g hop opened
       at_end = towards opened (record {
         configured = (f.ground).configured;
         routes = (f.ground).routes;
@@ -347,69 +424,62 @@ module _ (g rp m from : ℕ) (hop : Hop) (b : State) (own : my_address b hop.ifa
       }) f.unlost was
 
       abbrev Either : Type 0
-      Either = ((x : ℕ) → EndsBy g x t → EndsBy g x u) ⊎ (Has (fire_once w t d).1 × EndsBy g (m + 60000) u)
+      Either = ((x : ℕ) → EndsBy join g x t → EndsBy join g x u) ⊎ (Has (fire_once w t d).1 × EndsBy join g (m + 60000) u)
 
       soon : d.end + 60000 ≤ m + 60000
       soon = omega (arith, low)
 
       -- the group comes to be wanted
-      begins : join_desired_star t g ≡ false → join_desired_star u g ≡ true → Either
+      begins : is_wanted join t g ≡ false → is_wanted join u g ≡ true → Either
       unfolding fire_once join_to
       begins off on =
-          let sends : SendsStar u g rp hop (fire_once w t d).1 =
-          star_join_leaves_in_time w t d g rp hop (record {
-            unwanted = off;
-            wanted = on;
-            rp_known = new.rp_known;
-            upstream = new.upstream;
-          }) in
-          let none : has_row (c.0).join_timers (star_key 0 g) ≡ false =
-          fired_keeps opened d.timer.kind d.timer.key (star_key 0 g) ∙ ((f.timed).stars g ∙ off) in
+          let sends : IsSentBy u join g hop (fire_once w t d).1 = leaves_so join w t d g hop off on new in
+          let none : has_row (c.0).join_timers (join_key join 0 g) ≡ false =
+          fired_keeps opened d.timer.kind d.timer.key (join_key join 0 g) ∙ (timer_is join t g f.timed ∙ off) in
           inr (
             by_address u.configured (fire_once w t d).1 sends.pruned ((base_then).ground).configured sends.is_sent,
-            begins_by t c w g rp hop old new (m + 60000) off on (subst (λ (n : ℕ). n + 60000 ≤ m + 60000) (sym now) soon)
-                (none_runs c.0 g (m + 60000) none),
+            begins_by t c w join g (m + 60000) off on (subst (λ (n : ℕ). n + 60000 ≤ m + 60000) (sym now) soon)
+                (none_runs join c.0 g (m + 60000) none),
           )
 
       -- its own Join timer ends
-      ends : join_desired_star t g ≡ true → d ≡ ending TimerKind.Join (star_key 0 g) d.end → Either
-      unfolding join_to pruned_with_star
+      ends : is_wanted join t g ≡ true → d ≡ ending TimerKind.Join (join_key join 0 g) d.end → Either
+      unfolding join_to
       ends on it =
-          let sends : SendsAgain opened (fire_once w t (ending TimerKind.Join (star_key 0 g) d.end)).0 g rp hop
-          (fire_once w t (ending TimerKind.Join (star_key 0 g) d.end)).1 =
-          star_join_is_repeated w t g rp d.end hop f.quiet ((f.timed).stars g ∙ on) at_end.rp_known at_end.upstream in
-          let there : Has (fire_once w t (ending TimerKind.Join (star_key 0 g) d.end)).1 =
-          by_address t.configured _ (take most_pruned (filter (is_pruned_with_star opened g) (sources_of g (fact_keys opened))))
-          (f.ground).configured sends.is_sent in
-          let by : EndsBy g (m + 60000) (fire_once w t (ending TimerKind.Join (star_key 0 g) d.end)).0 =
+          let sends : IsSentAgain opened (fire_once w t (ending TimerKind.Join (join_key join 0 g) d.end)).0 join g hop
+          (fire_once w t (ending TimerKind.Join (join_key join 0 g) d.end)).1 =
+          repeats_so join w t g d.end hop f.quiet (timer_is join t g f.timed ∙ on) at_end in
+          let there : Has (fire_once w t (ending TimerKind.Join (join_key join 0 g) d.end)).1 =
+          by_address t.configured _ (sends.by).pruned (f.ground).configured (sends.by).is_sent in
+          let by : EndsBy join g (m + 60000) (fire_once w t (ending TimerKind.Join (join_key join 0 g) d.end)).0 =
           ap (is_after (m + 60000)) sends.timer ∙ not_after (m + 60000) (d.end + 60000) soon in
-          inr (subst (λ (e : Ending). Has (fire_once w t e).1 × EndsBy g (m + 60000) (fire_once w t e).0) (sym it) (there, by))
+          inr (subst (λ (e : Ending). Has (fire_once w t e).1 × EndsBy join g (m + 60000) (fire_once w t e).0) (sym it) (there, by))
 
       -- another timer's does
-      others : join_desired_star t g ≡ true → join_desired_star u g ≡ true
-          → (is_join d.timer.kind && same_key (star_key 0 g) d.timer.key) ≡ false → Either
+      others : is_wanted join t g ≡ true → is_wanted join u g ≡ true
+          → (is_join d.timer.kind && same_key (join_key join 0 g) d.timer.key) ≡ false → Either
       unfolding fire_once
       others on still off =
           inl (λ x h.
-          goes_on_by t c w g rp hop old new x on still (fired_by g x opened d.timer.key d.timer.kind off h))
+          goes_on_by t c w join g hop old new x on still (fired_by join g x opened d.timer.key d.timer.kind off h))
 
       pub turn : Either
-      turn = go (join_desired_star t g) refl (join_desired_star u g) refl
+      turn = go (is_wanted join t g) refl (is_wanted join u g) refl
         where
-          it_is : (k : TimerKind) → d.timer.kind ≡ k → k ≡ TimerKind.Join → same_key (star_key 0 g) d.timer.key ≡ true
-              → d ≡ ending TimerKind.Join (star_key 0 g) d.end
+          it_is : (k : TimerKind) → d.timer.kind ≡ k → k ≡ TimerKind.Join → same_key (join_key join 0 g) d.timer.key ≡ true
+              → d ≡ ending TimerKind.Join (join_key join 0 g) d.end
           it_is k e h same =
-              let key : star_key 0 g ≡ d.timer.key = equal_keys (star_key 0 g) d.timer.key same in
+              let key : join_key join 0 g ≡ d.timer.key = equal_keys (join_key join 0 g) d.timer.key same in
               let kind : d.timer.kind ≡ TimerKind.Join = e ∙ h in
               λ j. record { end = d.end; timer = record { kind = kind j; key = (sym key) j } }
 
-          own_or_not : (p q : Bool) → is_join d.timer.kind ≡ p → same_key (star_key 0 g) d.timer.key ≡ q
-              → join_desired_star t g ≡ true → join_desired_star u g ≡ true → Either
+          own_or_not : (p q : Bool) → is_join d.timer.kind ≡ p → same_key (join_key join 0 g) d.timer.key ≡ q
+              → is_wanted join t g ≡ true → is_wanted join u g ≡ true → Either
           own_or_not true true a e on still = ends on (it_is d.timer.kind refl (join_is d.timer.kind a) e)
           own_or_not true false a e on still = others on still (rw (a, e) refl)
           own_or_not false q a e on still = others on still (rw a refl)
 
-          go : (p : Bool) → join_desired_star t g ≡ p → (q : Bool) → join_desired_star u g ≡ q → Either
-          go p on false off = inl (λ x h. unwanted_by u g x (base_then).timed off)
+          go : (p : Bool) → is_wanted join t g ≡ p → (q : Bool) → is_wanted join u g ≡ q → Either
+          go p on false off = inl (λ x h. unwanted_by join u g x (base_then).timed off)
           go false off true on = begins off on
-          go true on true still = own_or_not (is_join d.timer.kind) (same_key (star_key 0 g) d.timer.key) refl refl on still
+          go true on true still = own_or_not (is_join d.timer.kind) (same_key (join_key join 0 g) d.timer.key) refl refl on still

@@ -8,17 +8,14 @@ use Rattle.pim_types.specs.declared.outcome.Stop.{Stop}
 use Rattle.pim_types.specs.declared.path.Hop.{Hop}
 use Rattle.pim_model.specs.declared.accepted.Accepted.{Accepted}
 use Rattle.pim_model.specs.Cause.{done_as}
-use Rattle.pim_model.specs.Desires.{join_desired_star}
 use Rattle.pim_model.specs.Firing.{fire_all, fire_instant, fire_once}
 use Rattle.pim_model.specs.Full.{is_full}
 use Rattle.pim_model.specs.Judging.{Judged, judged}
 use Rattle.pim_model.specs.Neighbours.{nbr}
-use Rattle.pim_model.specs.Sets.{assert_star, is_loser}
 use Rattle.pim_model.specs.State.{State, my_address}
 use Rattle.pim_model.specs.Step.{Answered, advanced, change, concluded, done, step, taken, taken_unless_full}
 use Rattle.pim_model.specs.Tables.{has_row}
 use Rattle.pim_model.specs.Timers.{Ending, next_due, timers}
-use Rattle.pim_model.specs.Unicast.{rp_of, rp_route}
 use Rattle.pim_laws.proofs.FiringLaws.{next_is_due}
 use Rattle.pim_laws.proofs.UnchangedLaws.{full_or_taken}
 use Rattle.pim_locality.specs.Rest.{IsAtRest}
@@ -27,21 +24,21 @@ use Rattle.pim_promises.specs.Copies.{happens}
 use Rattle.pim_served.specs.Timed.{AreTimed}
 use Rattle.pim_served.proofs.Passes.{done_if}
 use Rattle.pim_stream.proofs.Ways.{ground_itself}
-use Rattle.pim_in_time.specs.Joins.{is_suppressed}
+use Rattle.pim_in_time.specs.Joins.{IsRp, Join, is_lost_at, is_suppressed, is_wanted, way_to}
 use Rattle.pim_in_time.proofs.Changes.{change_by}
-use Rattle.pim_in_time.proofs.Firings.{Base, SendsJoin, base_then, fewer, goes_there, hop_key, is_there, turn}
+use Rattle.pim_in_time.proofs.Firings.{Base, SendsJoin, base_then, fewer, goes_so, hop_key, is_there, turn}
 use Rattle.pim_in_time.proofs.Timers.{EndsBy, Towards, goes_on_by}
 use Rattle.pim_in_time.proofs.Turns.{to_the_end}
 
 -- ---- time
 
-module _ (g rp m from : ℕ) (hop : Hop) (b : State) (own : my_address b hop.iface.number ≡ from)
-    (rp_known : rp_of b g ≡ Some rp) (next : nbr b (rp_route b g) ≡ Some hop) where
+module _ (join : Join) (g m from : ℕ) (hop : Hop) (b : State) (own : my_address b hop.iface.number ≡ from)
+    (rp_known : IsRp join b g) (next : nbr b (way_to join b g) ≡ Some hop) where
   abbrev Based : State → Type 0
-  Based t = Base g rp m from hop b own rp_known next t
+  Based t = Base join g m from hop b own rp_known next t
 
   abbrev Sends : List Emission → Type 0
-  Sends es = SendsJoin g rp from hop es
+  Sends es = SendsJoin join g from hop es
 
   abbrev there : State → Bool
   there t = has_row t.neighbours (hop_key hop)
@@ -49,7 +46,7 @@ module _ (g rp m from : ℕ) (hop : Hop) (b : State) (own : my_address b hop.ifa
   -- the next hop is gone, or the timer ends by a timestamp
   pub record Ends (y : ℕ) (t : State) : Type 0 where
     pub base : Based t
-    pub ends : (there t ≡ false) ⊎ EndsBy g y t
+    pub ends : (there t ≡ false) ⊎ EndsBy join g y t
 
   abbrev last : ℕ
   last = m + 60000
@@ -62,20 +59,20 @@ module _ (g rp m from : ℕ) (hop : Hop) (b : State) (own : my_address b hop.ifa
     once_turns x f = go (there (fire_once w t d).0) refl f.ends
       where
         after : Based (fire_once w t d).0
-        after = base_then g rp m from hop b own rp_known next w t d f.base
+        after = base_then join g m from hop b own rp_known next w t d f.base
 
-        turned : (((y : ℕ) → EndsBy g y t → EndsBy g y (fire_once w t d).0) ⊎ (Sends (fire_once w t d).1 × EndsBy g last (fire_once w t d).0))
-            → EndsBy g x t → Turned x (fire_once w t d)
+        turned : (((y : ℕ) → EndsBy join g y t → EndsBy join g y (fire_once w t d).0) ⊎ (Sends (fire_once w t d).1 × EndsBy join g last (fire_once w t d).0))
+            → EndsBy join g x t → Turned x (fire_once w t d)
         turned (inl stays) by = inl (record { base = after; ends = inr (stays x by) })
         turned (inr (has, by)) old = inr (has, record { base = after; ends = inr by })
 
-        go : (q : Bool) → there (fire_once w t d).0 ≡ q → (there t ≡ false) ⊎ EndsBy g x t → Turned x (fire_once w t d)
+        go : (q : Bool) → there (fire_once w t d).0 ≡ q → (there t ≡ false) ⊎ EndsBy join g x t → Turned x (fire_once w t d)
         go false gone e = inl (record { base = after; ends = inl gone })
         go true here (inl gone) =
-            absurd (both_ways (there t) gone (fewer g rp m from hop b own rp_known next w t d f.base here))
+            absurd (both_ways (there t) gone (fewer join g m from hop b own rp_known next w t d f.base here))
         go true here (inr by) =
-            turned (turn g rp m from hop b own rp_known next w t d f.base low
-            (fewer g rp m from hop b own rp_known next w t d f.base here) here) by
+            turned (turn join g m from hop b own rp_known next w t d f.base low
+            (fewer join g m from hop b own rp_known next w t d f.base here) here) by
 
     once_stays : Ends last t → Ends last (fire_once w t d).0
     once_stays f = go (once_turns last f)
@@ -119,40 +116,40 @@ module _ (g rp m from : ℕ) (hop : Hop) (b : State) (own : my_address b hop.ifa
       abbrev u : State
       u = (advanced t w m).state
 
-      ends_so : (y : ℕ) → Ends y (fire_all w m t).0 → EndsBy g y u
+      ends_so : (y : ℕ) → Ends y (fire_all w m t).0 → EndsBy join g y u
       unfolding advanced
       ends_so y f = go f.ends
         where
-          go : (there (fire_all w m t).0 ≡ false) ⊎ EndsBy g y (fire_all w m t).0 → EndsBy g y (fire_all w m t).0
+          go : (there (fire_all w m t).0 ≡ false) ⊎ EndsBy join g y (fire_all w m t).0 → EndsBy join g y (fire_all w m t).0
           go (inl gone) = absurd (both_ways (there (fire_all w m t).0) gone here)
           go (inr by) = by
 
-      pub time_turns : (x : ℕ) → Ends x t → EndsBy g x u ⊎ (Sends (advanced t w m).emissions × EndsBy g (u.present + 60000) u)
+      pub time_turns : (x : ℕ) → Ends x t → EndsBy join g x u ⊎ (Sends (advanced t w m).emissions × EndsBy join g (u.present + 60000) u)
       unfolding advanced
       time_turns x f = go (all_turns t x f)
         where
-          go : Turned x (fire_all w m t) → EndsBy g x u ⊎ (Sends (fire_all w m t).1 × EndsBy g (m + 60000) u)
+          go : Turned x (fire_all w m t) → EndsBy join g x u ⊎ (Sends (fire_all w m t).1 × EndsBy join g (m + 60000) u)
           go (inl e) = inl (ends_so x e)
           go (inr (has, e)) = inr (has, ends_so last e)
 
 -- ---- any event
 
--- the next hop is a neighbour, the group wanted
-pub record Goes (g rp from : ℕ) (hop : Hop) (s : State) : Type 0 where
-  pub wanted : join_desired_star s g ≡ true
-  pub rp_known : rp_of s g ≡ Some rp
-  pub next : nbr s (rp_route s g) ≡ Some hop
-  pub unlost : is_loser (assert_star s g hop.iface.number) ≡ false
+-- the next hop is a neighbour, and it is wanted
+pub record Goes (join : Join) (g from : ℕ) (hop : Hop) (s : State) : Type 0 where
+  pub wanted : is_wanted join s g ≡ true
+  pub rp_known : IsRp join s g
+  pub next : nbr s (way_to join s g) ≡ Some hop
+  pub unlost : is_lost_at join s g hop.iface.number ≡ false
   pub own : my_address s hop.iface.number ≡ from
 
-pub to_the_hop : (g rp from : ℕ) (hop : Hop) (s : State) → Goes g rp from hop s → Towards g rp hop s
-to_the_hop g rp from hop s f = record { rp_known = f.rp_known; upstream = goes_there s g hop f.next f.unlost }
+pub to_the_hop : (join : Join) (g from : ℕ) (hop : Hop) (s : State) → Goes join g from hop s → Towards join g hop s
+to_the_hop join g from hop s f = record { rp_known = f.rp_known; upstream = goes_so join s g hop f.next f.unlost }
 
-module _ (g rp from : ℕ) (hop : Hop) (s : State) (e : Event) (rests : IsAtRest s) (timed : AreTimed s) (f : Goes g rp from hop s) where
+module _ (join : Join) (g from : ℕ) (hop : Hop) (s : State) (e : Event) (rests : IsAtRest s) (timed : AreTimed s) (f : Goes join g from hop s) where
   abbrev pub Lasts : ℕ → Answered → Type 0
-  Lasts x a = EndsBy g x a.state ⊎ (SendsJoin g rp from hop a.emissions × EndsBy g ((a.state).present + 60000) a.state)
+  Lasts x a = EndsBy join g x a.state ⊎ (SendsJoin join g from hop a.emissions × EndsBy join g ((a.state).present + 60000) a.state)
 
-  begins : (x m : ℕ) → EndsBy g x s → Ends g rp m from hop s f.own f.rp_known f.next x s
+  begins : (x m : ℕ) → EndsBy join g x s → Ends join g m from hop s f.own f.rp_known f.next x s
   begins x m by = record {
     base = record {
       ground = ground_itself s;
@@ -164,40 +161,40 @@ module _ (g rp from : ℕ) (hop : Hop) (s : State) (e : Event) (rests : IsAtRest
     ends = inr by;
   }
 
-  module _ (x : ℕ) (by : EndsBy g x s) where
-    by_time : (m : ℕ) → Goes g rp from hop (advanced s e.draw m).state → Lasts x (advanced s e.draw m)
+  module _ (x : ℕ) (by : EndsBy join g x s) where
+    by_time : (m : ℕ) → Goes join g from hop (advanced s e.draw m).state → Lasts x (advanced s e.draw m)
     unfolding nbr
     by_time m to =
-        time_turns g rp m from hop s f.own f.rp_known f.next e.draw s
-        (is_there ((advanced s e.draw m).state).neighbours hop (rp_route (advanced s e.draw m).state g) to.next) x (begins x m by)
+        time_turns join g m from hop s f.own f.rp_known f.next e.draw s
+        (is_there ((advanced s e.draw m).state).neighbours hop (way_to join (advanced s e.draw m).state g) to.next) x (begins x m by)
 
-    by_change : (a : Accepted) → is_suppressed s g hop (Some a) ≡ false
-        → Goes g rp from hop (done s e.draw (change s e.draw a)).state → Lasts x (done s e.draw (change s e.draw a))
+    by_change : (a : Accepted) → is_suppressed join s g hop (Some a) ≡ false
+        → Goes join g from hop (done s e.draw (change s e.draw a)).state → Lasts x (done s e.draw (change s e.draw a))
     unfolding done
     by_change a off to =
-        inl (goes_on_by s ((change s e.draw a).state, (change s e.draw a).messages) e.draw g rp hop (to_the_hop g rp from hop s f)
-        (to_the_hop g rp from hop _ to) x f.wanted to.wanted (change_by g x s e.draw rp hop (to_the_hop g rp from hop s f) by a off))
+        inl (goes_on_by s ((change s e.draw a).state, (change s e.draw a).messages) e.draw join g hop (to_the_hop join g from hop s f)
+        (to_the_hop join g from hop _ to) x f.wanted to.wanted (change_by join g x s e.draw hop (to_the_hop join g from hop s f) by a off))
 
-    by_taken : (a : Accepted) → is_suppressed s g hop (Some a) ≡ false → Goes g rp from hop (taken s e.draw a).state
+    by_taken : (a : Accepted) → is_suppressed join s g hop (Some a) ≡ false → Goes join g from hop (taken s e.draw a).state
         → Lasts x (taken s e.draw a)
     unfolding taken
     by_taken (Accepted.Advance m) off to = by_time m to
     by_taken a off to = by_change a off to
 
-    module _ (unsuppressed : is_suppressed s g hop (done_as (happens s e)) ≡ false) where
+    module _ (unsuppressed : is_suppressed join s g hop (done_as (happens s e)) ≡ false) where
       by_room : (a : Accepted) (full : Bool) → judged s e.kind ≡ Ok a → is_full s a ≡ full
-          → Goes g rp from hop (full_or_taken s e.draw a full).state → Lasts x (full_or_taken s e.draw a full)
+          → Goes join g from hop (full_or_taken s e.draw a full).state → Lasts x (full_or_taken s e.draw a full)
       by_room a true is room to = inl by
       by_room a false is room to =
-          by_taken a (ap (is_suppressed s g hop) (sym (done_if s e a is room)) ∙ unsuppressed) to
+          by_taken a (ap (is_suppressed join s g hop) (sym (done_if s e a is room)) ∙ unsuppressed) to
 
-      by_judgement : (j : Judged) → judged s e.kind ≡ j → Goes g rp from hop (concluded s (taken_unless_full s e.draw) j).state
+      by_judgement : (j : Judged) → judged s e.kind ≡ j → Goes join g from hop (concluded s (taken_unless_full s e.draw) j).state
           → Lasts x (concluded s (taken_unless_full s e.draw) j)
       unfolding taken_unless_full
       by_judgement (Err (Stop.Refuse refusal)) is to = inl by
       by_judgement (Err (Stop.Ignore reason)) is to = inl by
       by_judgement (Ok a) is to = by_room a (is_full s a) is refl to
 
-      pub each_event : Goes g rp from hop (step s e).state → Lasts x (step s e)
+      pub each_event : Goes join g from hop (step s e).state → Lasts x (step s e)
       unfolding step
       each_event to = by_judgement (judged s e.kind) refl to

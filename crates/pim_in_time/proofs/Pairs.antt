@@ -2,29 +2,23 @@
 use Rattle.std.proofs.Common.{◌≡◌, ◌∙◌, ℕ, ◌+◌, ◌*◌, ◌<◌, ◌≤◌, ◌==◌, nat_lt, Bool, true, false, List, [], ◌∷◌, ◌⊎◌, inl, inr, Option, Some, None, is_some, refl, sym, ap, subst, arith}
 use Rattle.std.proofs.lemmas.Bool.Decides.{nat_tests}
 use Rattle.std.proofs.lemmas.Grind.{common_steps}
-use Rattle.pim_types.specs.Keys.{star_key}
 use Rattle.pim_types.specs.declared.event.Event.{Event}
 use Rattle.pim_types.specs.declared.fact.JoinTimerRow.{JoinTimerRow}
-use Rattle.pim_wire.specs.declared.join_prune.EntryKind.{EntryKind}
-use Rattle.pim_model.specs.Desires.{join_desired_star}
-use Rattle.pim_model.specs.Messages.{entry}
 use Rattle.pim_model.specs.Network.{Move, Network, Sent, Station, event_of, frame_at, moved, moved_at, network_ran, station_at, stepped}
-use Rattle.pim_model.specs.Sets.{assert_star, is_loser}
-use Rattle.pim_model.specs.State.{State, is_up}
+use Rattle.pim_model.specs.State.{State, iface_count, is_up}
 use Rattle.pim_model.specs.Step.{step}
 use Rattle.pim_model.specs.Tables.{has_row, row_at}
 use Rattle.pim_locality.specs.Rest.{IsAtRest}
 use Rattle.pim_locality.proofs.Rest.{step_is_at_rest}
-use Rattle.pim_served.specs.Joins.{Hears, HoldsStar, IsWritable}
+use Rattle.pim_served.specs.Joins.{Hears, HoldsTree, IsWritable}
 use Rattle.pim_served.specs.Timed.{AreTimed}
-use Rattle.pim_served.specs.Ways.{IsGroup}
 use Rattle.pim_served.proofs.Deliveries.{IsNewOn, IsStepped, is_delivered, is_stepped}
-use Rattle.pim_served.proofs.Taken.{listed_star, wanted_star}
+use Rattle.pim_served.proofs.Taken.{listed_source, listed_star, wanted_source, wanted_star}
 use Rattle.pim_served.proofs.Timed.{step_keeps_timed}
 use Rattle.pim_stream.proofs.Climbing.{frames_stay}
-use Rattle.pim_in_time.specs.Joins.{Always, AreInTime, AreThere, ComeInTime, ComesBy, GoesUp, IsBy, IsCovered, IsHeld, IsInTime, IsReady, IsTaken, IsUnlost, JoinsComeInTime, Pair, Wants, WayStaysJoined, frame_of, prunes_of, time_at}
+use Rattle.pim_in_time.specs.Joins.{Always, AreInTime, AreThere, ComeInTime, ComesBy, GoesUp, IsBy, IsCovered, IsHeld, IsInTime, IsJoin, IsReady, IsTaken, IsUnlost, Join, JoinsComeInTime, Pair, Source, Star, Wants, WayStaysJoined, entry_of, frame_of, is_lost_at, is_wanted, join_key, prunes_of, time_at}
 use Rattle.pim_in_time.proofs.Lower.{Goes, Lasts, each_event}
-use Rattle.pim_in_time.proofs.Timers.{EndsBy, is_after}
+use Rattle.pim_in_time.proofs.Timers.{EndsBy, is_after, timer_is}
 use Rattle.pim_in_time.proofs.Upper.{join_event, now_held, same_now, still_held}
 
 -- ---- a move, at one router
@@ -101,28 +95,28 @@ same_station e f = some_same (sym e ∙ f)
 
 -- ---- tables
 
-by_end : (g : ℕ) (s : State) (row : JoinTimerRow) → row_at s.join_timers (star_key 0 g) ≡ Some row → EndsBy g row.end s
-by_end g s row is = ap (is_after row.end) is ∙ itself row.end
+by_end : (join : Join) (g : ℕ) (s : State) (row : JoinTimerRow) → row_at s.join_timers (join_key join 0 g) ≡ Some row → EndsBy join g row.end s
+by_end join g s row is = ap (is_after row.end) is ∙ itself row.end
   where
     itself : (n : ℕ) → nat_lt n n ≡ false
     itself n = grind (arith, nat_tests)
 
-ends_no_later : (g x : ℕ) (s : State) (row : JoinTimerRow) → EndsBy g x s → row_at s.join_timers (star_key 0 g) ≡ Some row
+ends_no_later : (join : Join) (g x : ℕ) (s : State) (row : JoinTimerRow) → EndsBy join g x s → row_at s.join_timers (join_key join 0 g) ≡ Some row
     → row.end ≤ x
-ends_no_later g x s row by is = not_above x row.end (sym (ap (is_after x) is) ∙ by)
+ends_no_later join g x s row by is = not_above x row.end (sym (ap (is_after x) is) ∙ by)
   where
     not_above : (a b : ℕ) → nat_lt a b ≡ false → b ≤ a
     not_above a b e = grind (arith, nat_tests, e)
 
-pub record HasTimer (g : ℕ) (s : State) : Type 0 where
+pub record HasTimer (join : Join) (g : ℕ) (s : State) : Type 0 where
   pub row : JoinTimerRow
-  pub is : row_at s.join_timers (star_key 0 g) ≡ Some row
+  pub is : row_at s.join_timers (join_key join 0 g) ≡ Some row
 
-timer_runs : (g : ℕ) (s : State) → AreTimed s → join_desired_star s g ≡ true → HasTimer g s
+timer_runs : (join : Join) (g : ℕ) (s : State) → AreTimed s → is_wanted join s g ≡ true → HasTimer join g s
 unfolding has_row
-timer_runs g s timed wanted = go (row_at s.join_timers (star_key 0 g)) refl (timed.stars g ∙ wanted)
+timer_runs join g s timed wanted = go (row_at s.join_timers (join_key join 0 g)) refl (timer_is join s g timed ∙ wanted)
   where
-    go : (o : Option JoinTimerRow) → row_at s.join_timers (star_key 0 g) ≡ o → is_some o ≡ true → HasTimer g s
+    go : (o : Option JoinTimerRow) → row_at s.join_timers (join_key join 0 g) ≡ o → is_some o ≡ true → HasTimer join g s
     go None is e = cc e
     go (Some row) is e = record { row = row; is = is }
 
@@ -134,19 +128,19 @@ pub record Out : Type 0 where
   pub sent : ℕ
   pub pruned : List ℕ
 
-module _ (g rp d : ℕ) (started : ℕ → ℕ) (c : Pair) (isg : IsGroup g rp) (few : d < 75000) (apart : (c.lower == c.upper) ≡ false) where
+module _ (join : Join) (g d : ℕ) (started : ℕ → ℕ) (c : Pair) (isg : IsJoin join g) (few : d < 75000) (apart : (c.lower == c.upper) ≡ false) where
   -- a Join that was sent comes before a timestamp
   pub record Pending (limit : ℕ) (n : Network) (ms : List Move) (j : Out) : Type 0 where
     pub soon : j.sent + d < limit
-    pub writable : IsWritable c.from (c.hop).address.bits g (entry EntryKind.Star rp) (prunes_of j.pruned)
-    pub there : frame_at n j.number ≡ Some (frame_of g rp c j.pruned)
-    pub comes : ComesBy g rp d started c j.pruned j.number j.sent n ms
+    pub writable : IsWritable c.from (c.hop).address.bits g (entry_of join) (prunes_of j.pruned)
+    pub there : frame_at n j.number ≡ Some (frame_of join g c j.pruned)
+    pub comes : ComesBy join g d started c j.pruned j.number j.sent n ms
 
   -- the first comes before a moment, each other before the one before it is over, and the last is not over before the
   -- next one comes that the Join timer sends
   abbrev pub Chain : ℕ → Network → List Move → List Out → Type 0
   Chain limit n ms [] = (st : Station) (row : JoinTimerRow) → station_at n c.lower ≡ Some st
-      → row_at (st.state).join_timers (star_key 0 g) ≡ Some row → row.end + started c.lower + 2 * d < limit
+      → row_at (st.state).join_timers (join_key join 0 g) ≡ Some row → row.end + started c.lower + 2 * d < limit
   Chain limit n ms (j ∷ js) = Pending limit n ms j × Chain (j.sent + 210000) n ms js
 
   longer : (a b : ℕ) → a ≤ b → (n : Network) (ms : List Move) (js : List Out) → Chain a n ms js → Chain b n ms js
@@ -179,9 +173,9 @@ module _ (g rp d : ℕ) (started : ℕ → ℕ) (c : Pair) (isg : IsGroup g rp) 
 
     record Taken : Type 0 where
       out : Out
-      taken : IsTaken g rp started c out.pruned out.number out.sent n m
-      writable : IsWritable c.from (c.hop).address.bits g (entry EntryKind.Star rp) (prunes_of out.pruned)
-      there : frame_at n out.number ≡ Some (frame_of g rp c out.pruned)
+      taken : IsTaken join g started c out.pruned out.number out.sent n m
+      writable : IsWritable c.from (c.hop).address.bits g (entry_of join) (prunes_of out.pruned)
+      there : frame_at n out.number ≡ Some (frame_of join g c out.pruned)
       outs : List Out
       chain : Chain (out.sent + 210000) after ms outs
 
@@ -193,8 +187,8 @@ module _ (g rp d : ℕ) (started : ℕ → ℕ) (c : Pair) (isg : IsGroup g rp) 
         before : (x a b : ℕ) → x ≤ a → a < b → x < b
         before x a b e f = omega (arith, e, f)
 
-        go : (IsTaken g rp started c j.pruned j.number j.sent n m
-            ⊎ (IsBy started c.upper (j.sent + d) after × ComesBy g rp d started c j.pruned j.number j.sent after ms))
+        go : (IsTaken join g started c j.pruned j.number j.sent n m
+            ⊎ (IsBy started c.upper (j.sent + d) after × ComesBy join g d started c j.pruned j.number j.sent after ms))
             → Passed (j.sent + 210000) ⊎ Taken → Passed limit ⊎ Taken
         go x (inr t) = inr t
         go (inl taken) (inl p) = inr (record {
@@ -221,7 +215,7 @@ module _ (g rp d : ℕ) (started : ℕ → ℕ) (c : Pair) (isg : IsGroup g rp) 
 
   -- ---- the lower one
 
-  goes_so : (st : Station) → GoesUp g rp c st → join_desired_star st.state g ≡ true → Goes g rp c.from c.hop st.state
+  goes_so : (st : Station) → GoesUp join g c st → is_wanted join st.state g ≡ true → Goes join g c.from c.hop st.state
   goes_so st f wanted = record {
     wanted = wanted;
     rp_known = f.rp_known;
@@ -230,19 +224,19 @@ module _ (g rp d : ℕ) (started : ℕ → ℕ) (c : Pair) (isg : IsGroup g rp) 
     own = f.own;
   }
 
-  module _ (n : Network) (m : Move) (ms : List Move) (ready : IsReady c.lower n) (here : AreThere g rp c n)
-      (there : AreThere g rp c (moved n m).1) (wants : Wants g c.lower n) (wanted : Wants g c.lower (moved n m).1)
-      (in_time : IsInTime g rp d started c n m ms) where
+  module _ (n : Network) (m : Move) (ms : List Move) (ready : IsReady c.lower n) (here : AreThere join g c n)
+      (there : AreThere join g c (moved n m).1) (wants : Wants join g c.lower n) (wanted : Wants join g c.lower (moved n m).1)
+      (in_time : IsInTime join g d started c n m ms) where
     abbrev st : Station
     st = here.below
 
     abbrev s : State
     s = (here.below).state
 
-    goes : Goes g rp c.from c.hop s
+    goes : Goes join g c.from c.hop s
     goes =
         goes_so st here.goes_up
-        (subst (λ (x : Station). join_desired_star x.state g ≡ true) (same_station wants.there here.below_is) wants.wanted)
+        (subst (λ (x : Station). is_wanted join x.state g ≡ true) (same_station wants.there here.below_is) wants.wanted)
 
     rests : IsAtRest s
     rests = subst (λ (x : Station). IsAtRest x.state) (same_station ready.there here.below_is) ready.at_rest
@@ -250,8 +244,8 @@ module _ (g rp d : ℕ) (started : ℕ → ℕ) (c : Pair) (isg : IsGroup g rp) 
     timed : AreTimed s
     timed = subst (λ (x : Station). AreTimed x.state) (same_station ready.there here.below_is) ready.timed
 
-    timer : HasTimer g s
-    timer = timer_runs g s timed (goes).wanted
+    timer : HasTimer join g s
+    timer = timer_runs join g s timed (goes).wanted
 
     abbrev row : JoinTimerRow
     row = (timer).row
@@ -274,14 +268,14 @@ module _ (g rp d : ℕ) (started : ℕ → ℕ) (c : Pair) (isg : IsGroup g rp) 
           sooner x r l a b = omega (arith, a, b)
 
       -- the timer is as it was, or ends earlier
-      passes_by : (t : Station) → station_at (moved n m).1 c.lower ≡ Some t → EndsBy g row.end t.state → Passed n m ms limit
+      passes_by : (t : Station) → station_at (moved n m).1 c.lower ≡ Some t → EndsBy join g row.end t.state → Passed n m ms limit
       passes_by t at by = record {
         outs = [];
         chain = λ x r is found.
             let same : x ≡ t = same_station is at in
             let less : r.end ≤ row.end =
-            ends_no_later g row.end t.state r by
-            (subst (λ (y : Station). row_at (y.state).join_timers (star_key 0 g) ≡ Some r) same found) in
+            ends_no_later join g row.end t.state r by
+            (subst (λ (y : Station). row_at (y.state).join_timers (join_key join 0 g) ≡ Some r) same found) in
             sooner r.end row.end (started c.lower) limit less (room);
         early = early;
       }
@@ -291,8 +285,8 @@ module _ (g rp d : ℕ) (started : ℕ → ℕ) (c : Pair) (isg : IsGroup g rp) 
 
       -- a Join is sent
       passes_out : (e : Event) (t : Station) → event_of n m ≡ Some (c.lower, e) → station_at (moved n m).1 c.lower ≡ Some t
-          → (pruned : List ℕ) → IsNewOn n (moved n m).1 c.link (frame_of g rp c pruned).bytes
-          → EndsBy g ((t.state).present + 60000) t.state → Passed n m ms limit
+          → (pruned : List ℕ) → IsNewOn n (moved n m).1 c.link (frame_of join g c pruned).bytes
+          → EndsBy join g ((t.state).present + 60000) t.state → Passed n m ms limit
       passes_out e t is at pruned new by =
           let sent : ℕ = time_at started c.lower t in
           let number : ℕ = (new.on).number in
@@ -310,8 +304,8 @@ module _ (g rp d : ℕ) (started : ℕ → ℕ) (c : Pair) (isg : IsGroup g rp) 
               λ x r there found.
                   let same : x ≡ t = same_station there at in
                   let less : r.end ≤ (t.state).present + 60000 =
-                  ends_no_later g ((t.state).present + 60000) t.state r by
-                  (subst (λ (y : Station). row_at (y.state).join_timers (star_key 0 g) ≡ Some r) same found) in
+                  ends_no_later join g ((t.state).present + 60000) t.state r by
+                  (subst (λ (y : Station). row_at (y.state).join_timers (join_key join 0 g) ≡ Some r) same found) in
                   within r.end (t.state).present (started c.lower) less few,
             );
             early = early;
@@ -330,18 +324,18 @@ module _ (g rp d : ℕ) (started : ℕ → ℕ) (c : Pair) (isg : IsGroup g rp) 
         same_below : there.below ≡ t
         same_below = same_station there.below_is (w.stepped).here
 
-        goes_then : Goes g rp c.from c.hop (step s w.event).state
+        goes_then : Goes join g c.from c.hop (step s w.event).state
         goes_then =
-            subst (λ (x : Station). Goes g rp c.from c.hop x.state) same_below
+            subst (λ (x : Station). Goes join g c.from c.hop x.state) same_below
             (goes_so there.below there.goes_up
-            (subst (λ (x : Station). join_desired_star x.state g ≡ true) (same_station wanted.there there.below_is) wanted.wanted))
+            (subst (λ (x : Station). is_wanted join x.state g ≡ true) (same_station wanted.there there.below_is) wanted.wanted))
 
-        lasts : Lasts g rp c.from c.hop s w.event rests timed goes row.end (step s w.event)
+        lasts : Lasts join g c.from c.hop s w.event rests timed goes row.end (step s w.event)
         lasts =
-            each_event g rp c.from c.hop s w.event rests timed goes row.end (by_end g s row (timer).is)
+            each_event join g c.from c.hop s w.event rests timed goes row.end (by_end join g s row (timer).is)
             (in_time.unsuppressed w.event st w.is here.below_is) goes_then
 
-        by_step : Lasts g rp c.from c.hop s w.event rests timed goes row.end (step s w.event) → Passed n m ms limit
+        by_step : Lasts join g c.from c.hop s w.event rests timed goes row.end (step s w.event) → Passed n m ms limit
         by_step (inl by) = passes_by t (w.stepped).here by
         by_step (inr (sends, by)) =
             passes_out w.event t w.is (w.stepped).here sends.pruned
@@ -351,7 +345,7 @@ module _ (g rp d : ℕ) (started : ℕ → ℕ) (c : Pair) (isg : IsGroup g rp) 
       last = go (one_router n m c.lower st here.below_is)
         where
           go : (station_at (moved n m).1 c.lower ≡ Some st) ⊎ Steps n m c.lower st → Passed n m ms limit
-          go (inl same) = passes_by st same (by_end g s row (timer).is)
+          go (inl same) = passes_by st same (by_end join g s row (timer).is)
           go (inr w) = by_step w (lasts w)
 
   -- ---- both
@@ -359,13 +353,13 @@ module _ (g rp d : ℕ) (started : ℕ → ℕ) (c : Pair) (isg : IsGroup g rp) 
   pub record Now (n : Network) (ms : List Move) : Type 0 where
     pub lower_ready : IsReady c.lower n
     pub upper_ready : IsReady c.upper n
-    pub held : IsHeld g c n
+    pub held : IsHeld join g c n
     pub outs : List Out
     pub chain : Chain (held.end + started c.upper) n ms outs
 
-  module _ (n : Network) (m : Move) (ms : List Move) (now : Now n (m ∷ ms)) (here : AreThere g rp c n)
-      (there : AreThere g rp c (moved n m).1) (wants : Wants g c.lower n) (wanted : Wants g c.lower (moved n m).1)
-      (in_time : IsInTime g rp d started c n m ms) where
+  module _ (n : Network) (m : Move) (ms : List Move) (now : Now n (m ∷ ms)) (here : AreThere join g c n)
+      (there : AreThere join g c (moved n m).1) (wants : Wants join g c.lower n) (wanted : Wants join g c.lower (moved n m).1)
+      (in_time : IsInTime join g d started c n m ms) where
     abbrev above : Station
     above = here.above
 
@@ -375,8 +369,8 @@ module _ (g rp d : ℕ) (started : ℕ → ℕ) (c : Pair) (isg : IsGroup g rp) 
     same_above : (now.held).station ≡ above
     same_above = same_station (now.held).there here.above_is
 
-    holds_now : HoldsStar u c.down g (Some (now.held).end)
-    holds_now = subst (λ (x : Station). HoldsStar x.state c.down g (Some (now.held).end)) same_above (now.held).holds
+    holds_now : HoldsTree u (join_key join c.down g) (Some (now.held).end)
+    holds_now = subst (λ (x : Station). HoldsTree x.state (join_key join c.down g) (Some (now.held).end)) same_above (now.held).holds
 
     rests_above : IsAtRest u
     rests_above =
@@ -388,7 +382,7 @@ module _ (g rp d : ℕ) (started : ℕ → ℕ) (c : Pair) (isg : IsGroup g rp) 
       sooner a b q e = omega (arith, e)
 
       is_now : (x : Station) → station_at (moved n m).1 c.upper ≡ Some x
-          → HoldsStar x.state c.down g (Some (now.held).end) → Now (moved n m).1 ms
+          → HoldsTree x.state (join_key join c.down g) (Some (now.held).end) → Now (moved n m).1 ms
       is_now x at holds = record {
         lower_ready = ready_then c.lower n m now.lower_ready;
         upper_ready = ready_then c.upper n m now.upper_ready;
@@ -411,7 +405,7 @@ module _ (g rp d : ℕ) (started : ℕ → ℕ) (c : Pair) (isg : IsGroup g rp) 
           let up : is_up (step u w.event).state c.down ≡ true =
           subst (λ (y : Station). is_up y.state c.down ≡ true) (same_station there.above_is at) ((there.listens).hears).up in
           is_now x at
-          (still_held u w.event g c.down (now.held).end (rests_above).settled holds_now up
+          (still_held join u w.event g c.down (now.held).end (rests_above).settled holds_now up
           (sooner ((step u w.event).state).present (now.held).end (started c.upper) (p.early x at))
           (in_time.unpruned w.event above w.is here.above_is))
 
@@ -421,7 +415,7 @@ module _ (g rp d : ℕ) (started : ℕ → ℕ) (c : Pair) (isg : IsGroup g rp) 
       draw = (t.taken).draw
 
       abbrev e : Event
-      e = join_event g rp isg u c.from (c.hop).address.bits c.down draw (t.out).pruned (here.listens).rp_known (here.listens).hears
+      e = join_event join g isg u c.from (c.hop).address.bits c.down draw (t.out).pruned (here.listens).rp_known (here.listens).hears
           (here.listens).own t.writable
 
       steps : IsStepped n c.upper above e (moved n m).1
@@ -432,14 +426,14 @@ module _ (g rp d : ℕ) (started : ℕ → ℕ) (c : Pair) (isg : IsGroup g rp) 
       abbrev x : Station
       x = record above { state = (step u e).state }
 
-      held_then : HoldsStar (step u e).state c.down g (Some (u.present + 210000))
+      held_then : HoldsTree (step u e).state (join_key join c.down g) (Some (u.present + 210000))
       held_then =
-          now_held g rp isg u c.from (c.hop).address.bits c.down draw (t.out).pruned (here.listens).rp_known (here.listens).hears
+          now_held join g isg u c.from (c.hop).address.bits c.down draw (t.out).pruned (here.listens).rp_known (here.listens).hears
           (here.listens).own t.writable ((t.taken).room above here.above_is)
 
       present_then : ((step u e).state).present ≡ u.present
       present_then =
-          same_now g rp isg u c.from (c.hop).address.bits c.down draw (t.out).pruned (here.listens).rp_known (here.listens).hears
+          same_now join g isg u c.from (c.hop).address.bits c.down draw (t.out).pruned (here.listens).rp_known (here.listens).hears
           (here.listens).own t.writable ((t.taken).room above here.above_is)
 
       was_sent : (t.out).sent ≤ u.present + started c.upper
@@ -502,22 +496,22 @@ module _ (g rp d : ℕ) (started : ℕ → ℕ) (c : Pair) (isg : IsGroup g rp) 
   first_of P n [] f = f
   first_of P n (m ∷ ms) f = f.0
 
-  pub all_moves : (ms : List Move) (n : Network) → Now n ms → Always (AreThere g rp c) n ms → Always (Wants g c.lower) n ms
-      → AreInTime g rp d started c n ms → Always (IsHeld g c) n ms
+  pub all_moves : (ms : List Move) (n : Network) → Now n ms → Always (AreThere join g c) n ms → Always (Wants join g c.lower) n ms
+      → AreInTime join g d started c n ms → Always (IsHeld join g c) n ms
   all_moves [] n now there wants in_time = now.held
   all_moves (m ∷ ms) n now there wants in_time = (
     now.held,
     all_moves ms (moved n m).1
-        (one_move n m ms now there.0 (first_of (AreThere g rp c) (moved n m).1 ms there.1) wants.0 (first_of (Wants g c.lower) (moved n m).1 ms wants.1) in_time.0)
+        (one_move n m ms now there.0 (first_of (AreThere join g c) (moved n m).1 ms there.1) wants.0 (first_of (Wants join g c.lower) (moved n m).1 ms wants.1) in_time.0)
         there.1 wants.1 in_time.1,
   )
 
-module _ (g rp d : ℕ) (started : ℕ → ℕ) (c : Pair) (n : Network) (ms : List Move) (isg : IsGroup g rp) (few : d < 75000)
-    (f : ComeInTime g rp d started c n ms) where
-  abbrev coming : IsCovered g d started c n
+module _ (join : Join) (g d : ℕ) (started : ℕ → ℕ) (c : Pair) (n : Network) (ms : List Move) (isg : IsJoin join g) (few : d < 75000)
+    (f : ComeInTime join g d started c n ms) where
+  abbrev coming : IsCovered join g d started c n
   coming = f.covered
 
-  pub begins : Now g rp d started c isg few f.apart n ms
+  pub begins : Now join g d started c isg few f.apart n ms
   begins = record {
     lower_ready = f.lower_ready;
     upper_ready = f.upper_ready;
@@ -531,44 +525,49 @@ module _ (g rp d : ℕ) (started : ℕ → ℕ) (c : Pair) (n : Network) (ms : L
     outs = [];
     chain = λ st row at is.
         let same : st ≡ (coming).below = same_station at (coming).below_is in
-        (coming).lasts row (subst (λ (x : Station). row_at (x.state).join_timers (star_key 0 g) ≡ Some row) same is);
+        (coming).lasts row (subst (λ (x : Station). row_at (x.state).join_timers (join_key join 0 g) ≡ Some row) same is);
   }
 
 pub joins_come_in_time : JoinsComeInTime
-joins_come_in_time g rp d started c n ms isg few f wants =
-    all_moves g rp d started c isg few f.apart ms n (begins g rp d started c n ms isg few f) f.there wants f.in_time
+joins_come_in_time join g d started c n ms isg few f wants =
+    all_moves join g d started c isg few f.apart ms n (begins join g d started c n ms isg few f) f.there wants f.in_time
 
 -- ---- along a way
 
-module _ (g rp : ℕ) (c : Pair) where
-  wants_on : (n : Network) → IsHeld g c n → IsUnlost g c n → AreThere g rp c n → Wants g c.upper n
+-- what is held on an interface where no assert is lost is wanted
+wants_so : (join : Join) (t : State) (g i : ℕ) → i < iface_count t → has_row t.downstream (join_key join i g) ≡ true
+    → is_lost_at join t g i ≡ false → is_wanted join t g ≡ true
+wants_so (Star rp) t g i within there unlost = wanted_star t g i within (listed_star t g i there unlost)
+wants_so (Source src) t g i within there unlost = wanted_source t g src i within (listed_source t g src i there unlost)
+
+module _ (join : Join) (g : ℕ) (c : Pair) where
+  wants_on : (n : Network) → IsHeld join g c n → IsUnlost join g c n → AreThere join g c n → Wants join g c.upper n
   unfolding has_row
   wants_on n held unlost there =
       let same : unlost.station ≡ held.station = same_station unlost.there held.there in
       let above : there.above ≡ held.station = same_station there.above_is held.there in
-      let free : is_loser (assert_star (held.station).state g c.down) ≡ false =
-      subst (λ (x : Station). is_loser (assert_star x.state g c.down) ≡ false) same unlost.unlost in
+      let free : is_lost_at join (held.station).state g c.down ≡ false =
+      subst (λ (x : Station). is_lost_at join x.state g c.down ≡ false) same unlost.unlost in
       let within : Hears (held.station).state c.down c.from =
       subst (λ (x : Station). Hears x.state c.down c.from) above (there.listens).hears in
       record {
         station = held.station;
         there = held.there;
-        wanted = wanted_star (held.station).state g c.down within.configured
-            (listed_star (held.station).state g c.down (ap is_some (held.holds).found) free);
+        wanted = wants_so join (held.station).state g c.down within.configured (ap is_some (held.holds).found) free;
       }
 
-  all_want : (ms : List Move) (n : Network) → Always (IsHeld g c) n ms → Always (IsUnlost g c) n ms
-      → Always (AreThere g rp c) n ms → Always (Wants g c.upper) n ms
+  all_want : (ms : List Move) (n : Network) → Always (IsHeld join g c) n ms → Always (IsUnlost join g c) n ms
+      → Always (AreThere join g c) n ms → Always (Wants join g c.upper) n ms
   all_want [] n held unlost there = wants_on n held unlost there
   all_want (m ∷ ms) n held unlost there =
       (wants_on n held.0 unlost.0 there.0, all_want ms (moved n m).1 held.1 unlost.1 there.1)
 
 pub way_stays_joined : WayStaysJoined
-way_stays_joined g rp d started n ms r [] isg few way wants = tt
-way_stays_joined g rp d started n ms r (c ∷ cs) isg few way wants =
-    let held : Always (IsHeld g c) n ms =
-    joins_come_in_time g rp d started c n ms isg few way.1 (subst (λ (q : ℕ). Always (Wants g q) n ms) (sym way.0) wants) in (
+way_stays_joined join g d started n ms r [] isg few way wants = tt
+way_stays_joined join g d started n ms r (c ∷ cs) isg few way wants =
+    let held : Always (IsHeld join g c) n ms =
+    joins_come_in_time join g d started c n ms isg few way.1 (subst (λ (q : ℕ). Always (Wants join g q) n ms) (sym way.0) wants) in (
       held,
-      way_stays_joined g rp d started n ms c.upper cs isg few way.3
-          (all_want g rp c ms n held way.2 (way.1).there),
+      way_stays_joined join g d started n ms c.upper cs isg few way.3
+          (all_want join g c ms n held way.2 (way.1).there),
     )

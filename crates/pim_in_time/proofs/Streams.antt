@@ -1,112 +1,152 @@
 -- While its Joins come in time a stream goes on.
-use Rattle.std.proofs.Common.{◌≡◌, ℕ, ◌<◌, ◌==◌, nat_le, ◌&&◌, ◌||◌, Bool, true, false, List, [], ◌∷◌, ◌⊎◌, inl, inr, Option, Some, None, refl, subst, arith}
+use Rattle.std.proofs.Common.{◌≡◌, ℕ, ◌<◌, ◌==◌, nat_le, ◌&&◌, ◌||◌, not, Bool, true, false, List, [], ◌∷◌, ◌⊎◌, inl, inr, Option, Some, None, is_some, refl, ap, subst, arith}
 use Rattle.std.proofs.lemmas.Bool.Decides.{nat_tests}
-use Rattle.pim_types.specs.Keys.{rpt_key, star_key}
+use Rattle.pim_types.specs.Keys.{rpt_key, source_key, star_key}
 use Rattle.pim_types.specs.declared.event.Event.{Event}
 use Rattle.pim_model.specs.declared.accepted.Accepted.{Accepted}
 use Rattle.pim_model.specs.Cause.{done_as}
-use Rattle.pim_model.specs.Downstream.{is_named, pruned_keys}
 use Rattle.pim_model.specs.Network.{Move, Network, Station, event_of, moved, station_at}
 use Rattle.pim_model.specs.Sets.{prunes}
 use Rattle.pim_model.specs.State.{State}
 use Rattle.pim_model.specs.Step.{step}
+use Rattle.pim_model.specs.Tables.{has_row}
 use Rattle.pim_promises.specs.Copies.{happens}
-use Rattle.pim_served.specs.Joins.{HoldsStar}
-use Rattle.pim_served.specs.Ways.{IsGroup}
-use Rattle.pim_stream.specs.InTime.{ends_in_time, is_late}
-use Rattle.pim_stream.specs.Passing.{Passes, Receiver, Tree, lacks_room, leaves_tree, takes_effect, takes_link}
-use Rattle.pim_stream.proofs.InTime.{event_keeps_passing_until}
+use Rattle.pim_served.specs.Joins.{HoldsTree}
+use Rattle.pim_stream.specs.Passing.{Passes, Receiver, Tree, ends_passing, has_expired, lacks_room, leaves_tree, takes_effect, takes_from, takes_link}
+use Rattle.pim_stream.proofs.InTime.{unexpired}
+use Rattle.pim_stream.proofs.Passing.{event_keeps_passing}
 use Rattle.pim_stream.proofs.Tests.{Four, none_of_four}
-use Rattle.pim_in_time.specs.Joins.{Always, AreInTime, AreThere, IsInTime, Pair, Wants, prunes_group}
-use Rattle.pim_in_time.specs.Streams.{IsPassing, JoinsKeepStream, NoneEndsOtherwise, ends_otherwise, prunes_source}
+use Rattle.pim_in_time.specs.Joins.{Always, AreInTime, AreThere, IsHeld, IsInTime, IsJoin, Join, Pair, Source, Star, Wants, join_key}
+use Rattle.pim_in_time.specs.Streams.{IsFor, IsPassing, JoinsKeepStream, NoneEndsOtherwise, asker, ends_otherwise, is_pruned_off, prunes_source}
 use Rattle.pim_in_time.proofs.Pairs.{Now, Steps, begins, early_anyway, first_of, one_move, one_router, same_station}
 use Rattle.pim_in_time.proofs.Upper.{moves_on}
 
+-- ---- who is served
+
+neither_false : (x y : Bool) → x ≡ false → y ≡ false → (x || y) ≡ false
+neither_false true y e f = cc e
+neither_false false y e f = f
+
+none_false : (x y z : Bool) → y ≡ true → (x && z) ≡ false → (x && (not y || z)) ≡ false
+none_false x true z e f = f
+none_false x false z e f = cc e
+
+held_false : (x y : Bool) → y ≡ true → (x && not y) ≡ false
+held_false true true e = refl
+held_false false y e = refl
+held_false true false e = cc e
+
+-- the Join goes on to be held, and its end isn't reached
+module _ (s t : State) (g src down : ℕ) where
+  star_stays : (o : Option Accepted) → has_row t.downstream (star_key down g) ≡ true
+      → ((m : ℕ) → o ≡ Some (Accepted.Advance m) → has_expired s (star_key down g) m ≡ false)
+      → prunes_source s t g src down o ≡ false → takes_from Receiver.Router s t g src down o ≡ false
+  star_stays None held lasts off = refl
+  star_stays (Some (Accepted.Advance m)) held lasts off =
+      neither_false (has_expired s (star_key down g) m) (takes_effect s (rpt_key down g src) m) (lasts m refl) off
+  star_stays (Some (Accepted.JoinPruneToMe j m)) held lasts off =
+      none_false (j.number == down) (has_row t.downstream (star_key down g)) (prunes t g src down) held off
+  star_stays (Some a) held lasts off = refl
+
+  source_stays : (o : Option Accepted) → has_row t.downstream (source_key down g src) ≡ true
+      → ((m : ℕ) → o ≡ Some (Accepted.Advance m) → has_expired s (source_key down g src) m ≡ false)
+      → takes_from Receiver.SourceRouter s t g src down o ≡ false
+  source_stays None held lasts = refl
+  source_stays (Some (Accepted.Advance m)) held lasts = lasts m refl
+  source_stays (Some (Accepted.JoinPruneToMe j m)) held lasts =
+      held_false (j.number == down) (has_row t.downstream (source_key down g src)) held
+  source_stays (Some a) held lasts = refl
+
+isnt_taken : (join : Join) (s t : State) (g src down : ℕ) → IsFor join src → (o : Option Accepted)
+    → has_row t.downstream (join_key join down g) ≡ true
+    → ((m : ℕ) → o ≡ Some (Accepted.Advance m) → has_expired s (join_key join down g) m ≡ false)
+    → is_pruned_off join s t g src down o ≡ false → takes_from (asker join) s t g src down o ≡ false
+isnt_taken (Star rp) s t g src down is o held lasts off = star_stays s t g src down o held lasts off
+isnt_taken (Source joined) s t g src down is o held lasts off =
+    source_stays s t g src down o (subst (λ (a : ℕ). has_row t.downstream (source_key down g a) ≡ true) is held)
+    (subst (λ (a : ℕ). (m : ℕ) → o ≡ Some (Accepted.Advance m) → has_expired s (source_key down g a) m ≡ false) is lasts)
+
 -- ---- one event
 
-module _ (tree : Tree) (s : State) (e : Event) (g src up down end : ℕ) (holds : HoldsStar s down g (Some end))
-    (early : ((step s e).state).present < end) (unpruned : prunes_group g down (done_as (happens s e)) ≡ false) where
+module _ (join : Join) (tree : Tree) (s : State) (e : Event) (g src up down end : ℕ) (is : IsFor join src)
+    (holds : HoldsTree s (join_key join down g) (Some end)) (early : ((step s e).state).present < end)
+    (held : has_row ((step s e).state).downstream (join_key join down g) ≡ true) where
   abbrev t : State
   t = (step s e).state
 
   before : (a b : ℕ) → b < a → nat_le a b ≡ false
   before a b lt = grind (arith, nat_tests, lt)
 
-  neither_false : (x y : Bool) → x ≡ false → y ≡ false → (x || y) ≡ false
-  neither_false true y e f = cc e
-  neither_false false y e f = f
+  lasts : (m : ℕ) → done_as (happens s e) ≡ Some (Accepted.Advance m) → has_expired s (join_key join down g) m ≡ false
+  lasts m now =
+      unexpired s (join_key join down g) end holds m (before end m (subst (λ (n : ℕ). n < end) (moves_on s e m now) early))
 
-  both_false : (x y z : Bool) → (x && y) ≡ false → (x && z) ≡ false → (x && (y || z)) ≡ false
-  both_false false y z e f = refl
-  both_false true y z e f = neither_false y z e f
-
-  isnt_late : (o : Option Accepted) → done_as (happens s e) ≡ o → prunes_group g down o ≡ false
-      → prunes_source s t g src down o ≡ false → is_late s t g src down end o ≡ false
-  isnt_late None is a b = refl
-  isnt_late (Some (Accepted.Advance m)) is a b =
-      neither_false (nat_le end m) (takes_effect s (rpt_key down g src) m)
-      (before end m (subst (λ (x : ℕ). x < end) (moves_on s e m is) early)) b
-  isnt_late (Some (Accepted.JoinPruneToMe j m)) is a b =
-      both_false (j.number == down) (is_named (pruned_keys j.number m) (star_key down g)) (prunes t g src down) a b
-  isnt_late (Some a) is f h = refl
-
-  passes_on : Passes tree Receiver.Router s g src up down → ends_otherwise tree s e g src up down ≡ false
-      → Passes tree Receiver.Router t g src up down
-  unfolding ends_otherwise ends_in_time
+  passes_on : Passes tree (asker join) s g src up down → ends_otherwise join tree s e g src up down ≡ false
+      → Passes tree (asker join) t g src up down
+  unfolding ends_otherwise ends_passing
   passes_on passes off =
       let done : Option Accepted = done_as (happens s e) in
-      let h : Four (takes_link t g src up down done) (leaves_tree tree Receiver.Router t g src up done) (prunes_source s t g src down done)
-      (lacks_room tree t g src) =
+      let h : Four (takes_link t g src up down done) (leaves_tree tree (asker join) t g src up done)
+      (is_pruned_off join s t g src down done) (lacks_room tree t g src) =
       none_of_four _ _ _ _ off in
-      (event_keeps_passing_until tree s e g src up down end (record { passes = passes; holds = holds })
-      (rw (h.first, h.second, isnt_late done refl unpruned h.third, h.fourth) refl)).passes
+      event_keeps_passing tree (asker join) s e g src up down passes
+      (rw (h.first, h.second, isnt_taken join s t g src down is done held lasts h.third, h.fourth) refl)
 
 -- ---- move after move
 
-module _ (tree : Tree) (g rp d src up : ℕ) (started : ℕ → ℕ) (c : Pair) (isg : IsGroup g rp) (few : d < 75000)
+module _ (join : Join) (tree : Tree) (g d src up : ℕ) (started : ℕ → ℕ) (c : Pair) (isg : IsJoin join g) (is_for : IsFor join src) (few : d < 75000)
     (apart : (c.lower == c.upper) ≡ false) where
   abbrev IsNow : Network → List Move → Type 0
-  IsNow n ms = Now g rp d started c isg few apart n ms
+  IsNow n ms = Now join g d started c isg few apart n ms
 
-  module _ (n : Network) (m : Move) (ms : List Move) (now : IsNow n (m ∷ ms)) (here : AreThere g rp c n)
-      (there : AreThere g rp c (moved n m).1) (wants : Wants g c.lower n) (wanted : Wants g c.lower (moved n m).1)
-      (in_time : IsInTime g rp d started c n m ms) (f : IsPassing tree g src up c n)
+  module _ (n : Network) (m : Move) (ms : List Move) (now : IsNow n (m ∷ ms)) (here : AreThere join g c n)
+      (there : AreThere join g c (moved n m).1) (wants : Wants join g c.lower n) (wanted : Wants join g c.lower (moved n m).1)
+      (in_time : IsInTime join g d started c n m ms) (f : IsPassing join tree g src up c n)
       (off : (e : Event) (st : Station) → event_of n m ≡ Some (c.upper, e) → station_at n c.upper ≡ Some st
-      → ends_otherwise tree st.state e g src up c.down ≡ false) where
-    holds_now : HoldsStar (f.station).state c.down g (Some (now.held).end)
+      → ends_otherwise join tree st.state e g src up c.down ≡ false) where
+    holds_now : HoldsTree (f.station).state (join_key join c.down g) (Some (now.held).end)
     holds_now =
-        subst (λ (x : Station). HoldsStar x.state c.down g (Some (now.held).end)) (same_station (now.held).there f.there)
+        subst (λ (x : Station). HoldsTree x.state (join_key join c.down g) (Some (now.held).end)) (same_station (now.held).there f.there)
         (now.held).holds
 
-    passing_then : IsPassing tree g src up c (moved n m).1
+    held_at : (st : Station) → station_at (moved n m).1 c.upper ≡ Some st
+        → has_row (st.state).downstream (join_key join c.down g) ≡ true
+    unfolding has_row
+    held_at st at =
+        let later : IsHeld join g c (moved n m).1 =
+        (one_move join g d started c isg few apart n m ms now here there wants wanted in_time).held in
+        subst (λ (x : Station). has_row (x.state).downstream (join_key join c.down g) ≡ true) (same_station later.there at)
+        (ap is_some (later.holds).found)
+
+    passing_then : IsPassing join tree g src up c (moved n m).1
     passing_then = go (one_router n m c.upper f.station f.there)
       where
-        go : (station_at (moved n m).1 c.upper ≡ Some f.station) ⊎ Steps n m c.upper f.station → IsPassing tree g src up c (moved n m).1
+        go : (station_at (moved n m).1 c.upper ≡ Some f.station) ⊎ Steps n m c.upper f.station → IsPassing join tree g src up c (moved n m).1
         go (inl same) = record { station = f.station; there = same; passes = f.passes }
         go (inr w) = record {
           station = record f.station { state = (step (f.station).state w.event).state };
           there = (w.stepped).here;
           passes =
-              passes_on tree (f.station).state w.event g src up c.down (now.held).end holds_now
-              (early_anyway g rp d started c isg few apart n m ms now here there wants wanted in_time _ (w.stepped).here)
-              (in_time.unpruned w.event f.station w.is f.there) f.passes (off w.event f.station w.is f.there);
+              passes_on join tree (f.station).state w.event g src up c.down (now.held).end is_for holds_now
+              (early_anyway join g d started c isg few apart n m ms now here there wants wanted in_time _ (w.stepped).here)
+              (held_at _ (w.stepped).here) f.passes (off w.event f.station w.is f.there);
         }
 
-  all_passing : (ms : List Move) (n : Network) → IsNow n ms → Always (AreThere g rp c) n ms → Always (Wants g c.lower) n ms
-      → AreInTime g rp d started c n ms → IsPassing tree g src up c n → NoneEndsOtherwise tree g src up c n ms
-      → Always (IsPassing tree g src up c) n ms
+  all_passing : (ms : List Move) (n : Network) → IsNow n ms → Always (AreThere join g c) n ms → Always (Wants join g c.lower) n ms
+      → AreInTime join g d started c n ms → IsPassing join tree g src up c n → NoneEndsOtherwise join tree g src up c n ms
+      → Always (IsPassing join tree g src up c) n ms
   all_passing [] n now there wants in_time f off = f
   all_passing (m ∷ ms) n now there wants in_time f off =
       let next : Network = (moved n m).1 in
-      let there_next : AreThere g rp c next = first_of g rp d started c isg few apart (AreThere g rp c) next ms there.1 in
-      let wants_next : Wants g c.lower next = first_of g rp d started c isg few apart (Wants g c.lower) next ms wants.1 in (
+      let there_next : AreThere join g c next = first_of join g d started c isg few apart (AreThere join g c) next ms there.1 in
+      let wants_next : Wants join g c.lower next = first_of join g d started c isg few apart (Wants join g c.lower) next ms wants.1 in (
         f,
         all_passing ms next
-            (one_move g rp d started c isg few apart n m ms now there.0 there_next wants.0 wants_next in_time.0) there.1 wants.1
+            (one_move join g d started c isg few apart n m ms now there.0 there_next wants.0 wants_next in_time.0) there.1 wants.1
             in_time.1 (passing_then n m ms now there.0 there_next wants.0 wants_next in_time.0 f off.0) off.1,
       )
 
 pub joins_keep_stream : JoinsKeepStream
-joins_keep_stream tree g rp d src up started c n ms isg few f wants passing off =
-    all_passing tree g rp d src up started c isg few f.apart ms n (begins g rp d started c n ms isg few f) f.there wants f.in_time
-    passing off
+joins_keep_stream join tree g d src up started c n ms isg is_for few f wants passing off =
+    all_passing join tree g d src up started c isg is_for few f.apart ms n (begins join g d started c n ms isg few f) f.there wants
+    f.in_time passing off

@@ -1,25 +1,23 @@
--- The Join timer of a group: who wants it, and goes on to the same next hop, has it end no later, or sends the Join.
-use Rattle.std.proofs.Common.{◌≡◌, ◌∙◌, ℕ, ◌+◌, ◌≤◌, ◌==◌, nat_lt, Bool, true, false, List, ◌++◌, Option, option_map, Some, None, is_some, refl, sym, ap, subst, arith, eq-eqb, eqb-true}
-use Rattle.std.proofs.lemmas.Bool.{both_ways}
+-- The Join timer of what is joined: who wants it, and goes on to the same next hop, has it end no later, or sends the Join.
+use Rattle.std.proofs.Common.{◌≡◌, ◌∙◌, ℕ, ◌+◌, ◌≤◌, nat_lt, Bool, true, false, List, ◌++◌, Option, option_map, Some, None, is_some, refl, sym, ap, subst, arith, eq-eqb}
 use Rattle.std.proofs.lemmas.Bool.Decides.{nat_tests}
 use Rattle.std.specs.Option.{option_map_or}
 use Rattle.pim_ip.specs.Addr.{addr}
-use Rattle.pim_types.specs.Keys.{group_in, rpt_key, same_key, source_key, star_key}
+use Rattle.pim_types.specs.Keys.{group_in, rpt_key, same_key, source_in, source_key, star_key}
 use Rattle.pim_types.specs.declared.fact.JoinTimerRow.{JoinTimerRow}
 use Rattle.pim_types.specs.declared.fact.Key.{Key}
 use Rattle.pim_types.specs.declared.path.Hop.{Hop}
+use Rattle.pim_types.specs.declared.upstream.SourceView.{SourceView}
 use Rattle.pim_types.specs.declared.upstream.StarView.{StarView}
 use Rattle.pim_types.proofs.Keys.{equal_keys}
 use Rattle.pim_model.specs.Asserts.{assert_forgotten, without_spt_bit}
 use Rattle.pim_model.specs.Clearing.{clear}
-use Rattle.pim_model.specs.Desires.{join_desired_star, rpf_star}
 use Rattle.pim_model.specs.Firing.{settled}
 use Rattle.pim_model.specs.Messages.{Message}
 use Rattle.pim_model.specs.Registers.{settle_registers}
 use Rattle.pim_model.specs.State.{State}
 use Rattle.pim_model.specs.Tables.{has_row, row_at}
-use Rattle.pim_model.specs.Unicast.{rp_of}
-use Rattle.pim_model.specs.Upstream.{Cancel, Keep, LowerTo, SetTo, TimerChange, changed_end, fact_keys, group_upstream, groups_of, moved_join_timer, moved_override_timer, periodic_end, source_upstream, sources_of, star_stays, star_told, star_view, upstream, with_join_timer, with_override_timer}
+use Rattle.pim_model.specs.Upstream.{Cancel, Keep, LowerTo, SetTo, TimerChange, changed_end, fact_keys, group_upstream, groups_of, moved_join_timer, moved_override_timer, periodic_end, source_stays, source_told, source_upstream, source_view, sources_of, star_stays, star_told, star_view, upstream, with_join_timer, with_override_timer}
 use Rattle.pim_model.specs.Writing.{write_all}
 use Rattle.pim_laws.proofs.SettlingLaws.{kept_by_clearing}
 use Rattle.pim_laws.proofs.TurnLaws.{kept_in_turn}
@@ -27,15 +25,17 @@ use Rattle.pim_locality.proofs.JoinPrunes.{none_there}
 use Rattle.pim_ready.proofs.Unsettled.{Unsettled, clearing_leaves}
 use Rattle.pim_served.specs.Timed.{AreTimed}
 use Rattle.pim_served.proofs.Leaves.{same_star_view}
+use Rattle.pim_served.proofs.Sources.{same_source_view}
 use Rattle.pim_stream.proofs.Rows.{set_good}
+use Rattle.pim_in_time.specs.Joins.{IsRp, Join, Source, Star, is_wanted, join_key, rpf_of}
 
 -- a timer ends after a bound
 abbrev pub is_after : ℕ → Option JoinTimerRow → Bool
 is_after b o = option_map_or (λ (r : JoinTimerRow). nat_lt b r.end) o false
 
--- the Join timer of the group, where it runs, ends by then
-abbrev pub EndsBy : ℕ → ℕ → State → Type 0
-EndsBy g b s = is_after b (row_at s.join_timers (star_key 0 g)) ≡ false
+-- the Join timer, where it runs, ends by then
+abbrev pub EndsBy : Join → ℕ → ℕ → State → Type 0
+EndsBy x g b s = is_after b (row_at s.join_timers (join_key x 0 g)) ≡ false
 
 -- a timer is never set to an end after it
 abbrev pub IsBefore : ℕ → TimerChange → Type 0
@@ -49,13 +49,12 @@ not_after b e le = grind (arith, nat_tests, le)
 
 -- ---- keys apart
 
-pub other_star : (g n : ℕ) → (n == g) ≡ false → same_key (star_key 0 g) (star_key 0 n) ≡ true → ⊥
-other_star g n off same =
-    both_ways (n == g) off
-    (ap (λ k. n == group_in k) (equal_keys (star_key 0 g) (star_key 0 n) same) ∙ eq-eqb n n refl)
-
 differ : false ≡ true → ⊥
 differ e = cc e
+
+pub star_is : (g n src : ℕ) → same_key (source_key 0 g src) (star_key 0 n) ≡ true → ⊥
+star_is g n src same =
+    differ (sym (ap (λ (k : Key). is_some k.source) (equal_keys (source_key 0 g src) (star_key 0 n) same)))
 
 pub no_source : (g n src : ℕ) → same_key (star_key 0 g) (source_key 0 n src) ≡ true → ⊥
 no_source g n src same =
@@ -63,7 +62,10 @@ no_source g n src same =
 
 -- ---- what is told
 
-module _ (g b : ℕ) where
+module _ (q : Key) (b : ℕ) where
+  abbrev By : State → Type 0
+  By s = is_after b (row_at s.join_timers q) ≡ false
+
   -- a row as it is moved
   moved : (change : TimerChange) (o : Option JoinTimerRow) → IsBefore b change → is_after b o ≡ false
       → is_after b (option_map (λ (e : ℕ). let r : JoinTimerRow = record { end = e } in r)
@@ -74,70 +76,79 @@ module _ (g b : ℕ) where
   moved (SetTo n) o f e = not_after b n f
   moved (LowerTo n) o f e = absurd f
 
-  timer_moved : (s : State) (k : Key) (change : TimerChange) → (same_key (star_key 0 g) k ≡ true → IsBefore b change)
-      → EndsBy g b s → EndsBy g b (moved_join_timer s k change)
+  timer_moved : (s : State) (k : Key) (change : TimerChange) → (same_key q k ≡ true → IsBefore b change)
+      → By s → By (moved_join_timer s k change)
   unfolding moved_join_timer
   timer_moved s k change fair f =
-      set_good (is_after b) refl k (star_key 0 g) _ s.join_timers
+      set_good (is_after b) refl k q _ s.join_timers
       (λ same. moved change (row_at s.join_timers k) (fair same)
-      (subst (λ (q : Key). is_after b (row_at s.join_timers q) ≡ false) (equal_keys (star_key 0 g) k same) f)) f
+      (subst (λ (j : Key). is_after b (row_at s.join_timers j) ≡ false) (equal_keys q k same) f)) f
 
-  timer_kept : (s : State) (k : Key) (change : TimerChange) → (same_key (star_key 0 g) k ≡ true → IsBefore b change)
-      → EndsBy g b s → EndsBy g b (with_join_timer s k change)
+  timer_kept : (s : State) (k : Key) (change : TimerChange) → (same_key q k ≡ true → IsBefore b change)
+      → By s → By (with_join_timer s k change)
   unfolding with_join_timer
   timer_kept s k Keep fair f = f
   timer_kept s k Cancel fair f = timer_moved s k Cancel fair f
   timer_kept s k (SetTo e) fair f = timer_moved s k (SetTo e) fair f
   timer_kept s k (LowerTo e) fair f = timer_moved s k (LowerTo e) fair f
 
-  override_kept : (s : State) (k : Key) (change : TimerChange) → EndsBy g b s → EndsBy g b (with_override_timer s k change)
+  override_kept : (s : State) (k : Key) (change : TimerChange) → By s → By (with_override_timer s k change)
   unfolding with_override_timer moved_override_timer
   override_kept s k Keep f = f
   override_kept s k Cancel f = f
   override_kept s k (SetTo e) f = f
   override_kept s k (LowerTo e) f = f
 
-  module _ (o a : State) (w : ℕ) where
-    source_kept : (n : ℕ) (s : State) (src : ℕ) → EndsBy g b s → EndsBy g b (source_upstream o a w n s src).0
+  module _ (o a : State) (w : ℕ)
+      (stars : (n : ℕ) → same_key q (star_key 0 n) ≡ true → IsBefore b (star_told a w n (star_view o n) (star_view a n)).timer)
+      (sources : (n src : ℕ) → same_key q (source_key 0 n src) ≡ true
+      → IsBefore b (source_told a w n src (source_view o n src) (source_view a n src)).timer) where
+    source_kept : (n : ℕ) (s : State) (src : ℕ) → By s → By (source_upstream o a w n s src).0
     unfolding source_upstream
     source_kept n s src f =
-        override_kept _ (rpt_key 0 n src) _
-        (timer_kept s (source_key 0 n src) _ (λ same. absurd (no_source g n src same)) f)
+        override_kept _ (rpt_key 0 n src) _ (timer_kept s (source_key 0 n src) _ (sources n src) f)
 
-    module _ (fair : IsBefore b (star_told a w g (star_view o g) (star_view a g)).timer) where
-      its_own : (n : ℕ) → same_key (star_key 0 g) (star_key 0 n) ≡ true
-          → IsBefore b (star_told a w n (star_view o n) (star_view a n)).timer
-      its_own n same = go (n == g) refl
-        where
-          go : (c : Bool) → (n == g) ≡ c → IsBefore b (star_told a w n (star_view o n) (star_view a n)).timer
-          go true is =
-              subst (λ (x : ℕ). IsBefore b (star_told a w x (star_view o x) (star_view a x)).timer)
-              (sym (eqb-true n g is)) fair
-          go false off = absurd (other_star g n off same)
+    group_kept : (keys : List Key) (s : State) (n : ℕ) → By s → By (group_upstream o a w keys s n).0
+    unfolding group_upstream
+    group_kept keys s n f =
+        kept_in_turn (source_upstream o a w n) By (source_kept n) (sources_of n keys) _
+        (timer_kept s (star_key 0 n) _ (stars n) f)
 
-      group_kept : (keys : List Key) (s : State) (n : ℕ) → EndsBy g b s → EndsBy g b (group_upstream o a w keys s n).0
-      unfolding group_upstream
-      group_kept keys s n f =
-          kept_in_turn (source_upstream o a w n) (EndsBy g b) (source_kept n) (sources_of n keys) _
-          (timer_kept s (star_key 0 n) _ (its_own n) f)
+    pub told_by : By a → By (upstream o a w).0
+    unfolding upstream
+    told_by f = kept_in_turn (group_upstream o a w _) By (group_kept _) (groups_of (fact_keys o ++ fact_keys a)) a f
 
-      pub told_by : EndsBy g b a → EndsBy g b (upstream o a w).0
-      unfolding upstream
-      told_by f = kept_in_turn (group_upstream o a w _) (EndsBy g b) (group_kept _) (groups_of (fact_keys o ++ fact_keys a)) a f
+-- what is told of it
+is_told : Join → ℕ → State → State → ℕ → TimerChange
+is_told (Star rp) g o a w = (star_told a w g (star_view o g) (star_view a g)).timer
+is_told (Source src) g o a w = (source_told a w g src (source_view o g src) (source_view a g src)).timer
+
+told_so : (x : Join) (g b : ℕ) (o a : State) (w : ℕ) → IsBefore b (is_told x g o a w) → EndsBy x g b a
+    → EndsBy x g b (upstream o a w).0
+unfolding is_told
+told_so (Star rp) g b o a w fair =
+    told_by (star_key 0 g) b o a w (λ n same.
+    subst (λ (y : ℕ). IsBefore b (star_told a w y (star_view o y) (star_view a y)).timer)
+    (ap group_in (equal_keys (star_key 0 g) (star_key 0 n) same)) fair) (λ n src same. absurd (no_source g n src same))
+told_so (Source src) g b o a w fair =
+    told_by (source_key 0 g src) b o a w (λ n same. absurd (star_is g n src same)) (λ n y same.
+    let is : source_key 0 g src ≡ source_key 0 n y = equal_keys (source_key 0 g src) (source_key 0 n y) same in
+    subst (λ (m : ℕ). IsBefore b (source_told a w m y (source_view o m y) (source_view a m y)).timer) (ap group_in is)
+    (subst (λ (z : ℕ). IsBefore b (source_told a w g z (source_view o g z) (source_view a g z)).timer) (ap source_in is) fair))
 
 -- ---- by the views
 
--- the group's RP, and the next hop to it
-pub record Towards (g rp : ℕ) (hop : Hop) (s : State) : Type 0 where
-  pub rp_known : rp_of s g ≡ Some rp
-  pub upstream : rpf_star s g ≡ Some hop
+-- the group's RP, and the next hop
+pub record Towards (x : Join) (g : ℕ) (hop : Hop) (s : State) : Type 0 where
+  pub rp_known : IsRp x s g
+  pub upstream : rpf_of x s g ≡ Some hop
 
 module _ (a : State) (w g rp : ℕ) (hop : Hop) (old new : StarView)
     (rp_was : old.rp ≡ Some (addr rp)) (rp_is : new.rp ≡ Some (addr rp))
     (was : old.upstream ≡ Some hop) (is : new.upstream ≡ Some hop) where
-  stays_told : old.is_desired ≡ true → new.is_desired ≡ true → (star_told a w g old new).timer ≡ Keep
+  star_keeps : old.is_desired ≡ true → new.is_desired ≡ true → (star_told a w g old new).timer ≡ Keep
   unfolding star_told star_stays
-  stays_told e f =
+  star_keeps e f =
       rw (
         e,
         f,
@@ -150,73 +161,87 @@ module _ (a : State) (w g rp : ℕ) (hop : Hop) (old new : StarView)
         eq-eqb rp rp refl,
       ) refl
 
-begins_told : (a : State) (w g : ℕ) (old new : StarView) → old.is_desired ≡ false → new.is_desired ≡ true
+star_begins : (a : State) (w g : ℕ) (old new : StarView) → old.is_desired ≡ false → new.is_desired ≡ true
     → (star_told a w g old new).timer ≡ SetTo (periodic_end a)
 unfolding star_told
-begins_told a w g old new e f = rw (e, f) refl
+star_begins a w g old new e f = rw (e, f) refl
+
+source_keeps : (a : State) (w g src : ℕ) (hop : Hop) (old new : SourceView) → old.upstream ≡ Some hop → new.upstream ≡ Some hop
+    → old.is_desired ≡ true → new.is_desired ≡ true → (source_told a w g src old new).timer ≡ Keep
+unfolding source_told source_stays
+source_keeps a w g src hop old new was is e f =
+    rw (e, f, was, is, eq-eqb hop.iface.number hop.iface.number refl, eq-eqb hop.address.bits hop.address.bits refl) refl
+
+source_begins : (a : State) (w g src : ℕ) (old new : SourceView) → old.is_desired ≡ false → new.is_desired ≡ true
+    → (source_told a w g src old new).timer ≡ SetTo (periodic_end a)
+unfolding source_told
+source_begins a w g src old new e f = rw (e, f) refl
 
 -- ---- what follows of a change
 
-module _ (o : State) (c : State × List Message) (w g rp : ℕ) (hop : Hop) where
+module _ (o : State) (c : State × List Message) (w : ℕ) where
   abbrev a : State
   a = (clear o c.0).0
 
   abbrev t : State
   t = (settled o c w).0
 
-  cleared_by : (b : ℕ) → EndsBy g b c.0 → EndsBy g b a
-  unfolding settle_registers assert_forgotten without_spt_bit
-  cleared_by b f = kept_by_clearing (EndsBy g b) (λ x k h. h) (λ x k h. h) o c.0 f
-
   same_present : a.present ≡ (c.0).present
   same_present = ap (λ (u : Unsettled). u.present) (clearing_leaves o c.0)
 
-  written_by : (b : ℕ) → EndsBy g b (upstream o a w).0 → EndsBy g b t
-  unfolding settled write_all
-  written_by b f = f
+  -- where it goes on to be wanted nothing is told
+  keeps_told : (x : Join) (g : ℕ) (hop : Hop) → Towards x g hop o → Towards x g hop t → is_wanted x o g ≡ true
+      → is_wanted x t g ≡ true → is_told x g o a w ≡ Keep
+  unfolding is_told star_view source_view
+  keeps_told (Star rp) g hop from to was is =
+      let view : star_view a g ≡ star_view t g = same_star_view o c w g in
+      star_keeps a w g rp hop (star_view o g) (star_view a g) (ap (option_map addr) from.rp_known)
+      (ap (λ (v : StarView). v.rp) view ∙ ap (option_map addr) to.rp_known) from.upstream
+      (ap (λ (v : StarView). v.upstream) view ∙ to.upstream) was (ap (λ (v : StarView). v.is_desired) view ∙ is)
+  keeps_told (Source src) g hop from to was is =
+      let view : source_view a g src ≡ source_view t g src = same_source_view g src o c w in
+      source_keeps a w g src hop (source_view o g src) (source_view a g src) from.upstream
+      (ap (λ (v : SourceView). v.upstream) view ∙ to.upstream) was (ap (λ (v : SourceView). v.is_desired) view ∙ is)
 
-  module _ (from : Towards g rp hop o) (to : Towards g rp hop t) where
-    view : star_view a g ≡ star_view t g
-    view = same_star_view o c w g
+  -- where it comes to be wanted the timer is set
+  sets_told : (x : Join) (g : ℕ) → is_wanted x o g ≡ false → is_wanted x t g ≡ true → is_told x g o a w ≡ SetTo (periodic_end a)
+  unfolding is_told star_view source_view
+  sets_told (Star rp) g was is =
+      star_begins a w g (star_view o g) (star_view a g) was (ap (λ (v : StarView). v.is_desired) (same_star_view o c w g) ∙ is)
+  sets_told (Source src) g was is =
+      source_begins a w g src (source_view o g src) (source_view a g src) was
+      (ap (λ (v : SourceView). v.is_desired) (same_source_view g src o c w) ∙ is)
 
-    rp_then : (s : State) → Towards g rp hop s → (star_view s g).rp ≡ Some (addr rp)
-    unfolding star_view
-    rp_then s f = ap (option_map addr) f.rp_known
+  module _ (x : Join) (g : ℕ) where
+    cleared_by : (b : ℕ) → EndsBy x g b c.0 → EndsBy x g b a
+    unfolding settle_registers assert_forgotten without_spt_bit
+    cleared_by b f = kept_by_clearing (EndsBy x g b) (λ u k h. h) (λ u k h. h) o c.0 f
 
-    up_then : (s : State) → Towards g rp hop s → (star_view s g).upstream ≡ Some hop
-    unfolding star_view
-    up_then s f = f.upstream
+    written_by : (b : ℕ) → EndsBy x g b (upstream o a w).0 → EndsBy x g b t
+    unfolding settled write_all
+    written_by b f = f
 
-    desired_then : (s : State) (d : Bool) → join_desired_star s g ≡ d → (star_view s g).is_desired ≡ d
-    unfolding star_view
-    desired_then s d e = e
-
-    desired_now : (d : Bool) → join_desired_star t g ≡ d → (star_view a g).is_desired ≡ d
-    desired_now d e = ap (λ (v : StarView). v.is_desired) view ∙ desired_then t d e
-
-    -- where it goes on to be wanted nothing is told
-    pub goes_on_by : (b : ℕ) → join_desired_star o g ≡ true → join_desired_star t g ≡ true → EndsBy g b c.0 → EndsBy g b t
-    goes_on_by b was is f =
-        let keeps : (star_told a w g (star_view o g) (star_view a g)).timer ≡ Keep =
-        stays_told a w g rp hop (star_view o g) (star_view a g) (rp_then o from)
-        (ap (λ (v : StarView). v.rp) view ∙ rp_then t to) (up_then o from)
-        (ap (λ (v : StarView). v.upstream) view ∙ up_then t to) (desired_then o true was) (desired_now true is) in
-        written_by b (told_by g b o a w (subst (IsBefore b) (sym keeps) tt) (cleared_by b f))
-
-    -- where it comes to be wanted the timer is set
-    pub begins_by : (b : ℕ) → join_desired_star o g ≡ false → join_desired_star t g ≡ true → (c.0).present + 60000 ≤ b
-        → EndsBy g b c.0 → EndsBy g b t
-    begins_by b was is soon f =
-        let sets : (star_told a w g (star_view o g) (star_view a g)).timer ≡ SetTo (periodic_end a) =
-        begins_told a w g (star_view o g) (star_view a g) (desired_then o false was) (desired_now true is) in
+    pub goes_on_by : (hop : Hop) → Towards x g hop o → Towards x g hop t → (b : ℕ) → is_wanted x o g ≡ true
+        → is_wanted x t g ≡ true → EndsBy x g b c.0 → EndsBy x g b t
+    goes_on_by hop from to b was is f =
         written_by b
-        (told_by g b o a w
-        (subst (IsBefore b) (sym sets) (subst (λ (p : ℕ). p + 60000 ≤ b) (sym same_present) soon)) (cleared_by b f))
+        (told_so x g b o a w (subst (IsBefore b) (sym (keeps_told x g hop from to was is)) tt) (cleared_by b f))
+
+    pub begins_by : (b : ℕ) → is_wanted x o g ≡ false → is_wanted x t g ≡ true → (c.0).present + 60000 ≤ b
+        → EndsBy x g b c.0 → EndsBy x g b t
+    begins_by b was is soon f =
+        written_by b
+        (told_so x g b o a w
+        (subst (IsBefore b) (sym (sets_told x g was is)) (subst (λ (p : ℕ). p + 60000 ≤ b) (sym same_present) soon)) (cleared_by b f))
 
 -- where it isn't wanted none runs
-pub none_runs : (s : State) (g b : ℕ) → has_row s.join_timers (star_key 0 g) ≡ false → EndsBy g b s
-unfolding has_row
-none_runs s g b off = ap (is_after b) (none_there (row_at s.join_timers (star_key 0 g)) off)
+pub timer_is : (x : Join) (s : State) (g : ℕ) → AreTimed s → has_row s.join_timers (join_key x 0 g) ≡ is_wanted x s g
+timer_is (Star rp) s g timed = timed.stars g
+timer_is (Source src) s g timed = timed.sources g src
 
-pub unwanted_by : (s : State) (g b : ℕ) → AreTimed s → join_desired_star s g ≡ false → EndsBy g b s
-unwanted_by s g b timed off = none_runs s g b (timed.stars g ∙ off)
+pub none_runs : (x : Join) (s : State) (g b : ℕ) → has_row s.join_timers (join_key x 0 g) ≡ false → EndsBy x g b s
+unfolding has_row
+none_runs x s g b off = ap (is_after b) (none_there (row_at s.join_timers (join_key x 0 g)) off)
+
+pub unwanted_by : (x : Join) (s : State) (g b : ℕ) → AreTimed s → is_wanted x s g ≡ false → EndsBy x g b s
+unwanted_by x s g b timed off = none_runs x s g b (timer_is x s g timed ∙ off)

@@ -1,9 +1,10 @@
 -- What an event leaves of the Join that the upper router holds, and the Join that it takes.
-use Rattle.std.proofs.Common.{◌≡◌, ◌∙◌, ℕ, ◌+◌, ◌<◌, ◌==◌, nat_le, Bool, true, false, cond, List, [], ◌∷◌, filter, map, Option, Some, None, is_some, Ok, refl, sym, ap, subst, arith, append-nil, eq-eqb}
+use Rattle.std.proofs.Common.{◌≡◌, ◌∙◌, ℕ, ◌+◌, ◌<◌, ◌==◌, ◌||◌, nat_le, not, Bool, true, false, cond, List, [], ◌∷◌, filter, map, Option, Some, None, Ok, refl, sym, ap, subst, arith, append-nil, eq-eqb}
 use Rattle.std.proofs.lemmas.Bool.{both_ways, false_from_ne_true}
 use Rattle.std.proofs.lemmas.Bool.Decides.{nat_tests}
 use Rattle.std.proofs.lemmas.Grind.{common_steps}
-use Rattle.pim_types.specs.Keys.{iface_key, is_on, rpt_key, same_key, star_key}
+use Rattle.pim_ip.specs.Ipv4.{is_multicast, is_source_specific}
+use Rattle.pim_types.specs.Keys.{iface_key, is_on, rpt_key, same_key}
 use Rattle.pim_types.specs.declared.config.IfaceId.{IfaceId}
 use Rattle.pim_types.specs.declared.event.Event.{Event}
 use Rattle.pim_types.specs.declared.event.EventKind.{EventKind}
@@ -21,21 +22,19 @@ use Rattle.pim_model.specs.Judging.{judged}
 use Rattle.pim_model.specs.Messages.{Message, entry}
 use Rattle.pim_model.specs.State.{State, is_up, my_address}
 use Rattle.pim_model.specs.Step.{Answered, advanced, change, done, iface_down, step, taken}
-use Rattle.pim_model.specs.Unicast.{rp_of}
 use Rattle.pim_laws.proofs.RowLaws.{has_row_dropped}
 use Rattle.pim_ready.specs.Ready.{IsSettled}
 use Rattle.pim_ready.proofs.Unsettled.{Unsettled, settling_leaves}
 use Rattle.pim_promises.specs.Copies.{happens}
 use Rattle.pim_promises.proofs.Made.{step_taken}
-use Rattle.pim_served.specs.Joins.{Hears, HoldsStar, IsWritable, JoinsStar, join_packet, join_value}
+use Rattle.pim_served.specs.Joins.{Hears, HoldsTree, IsWritable, JoinsTree, join_packet, join_value}
 use Rattle.pim_served.specs.Lasts.{takes_back}
-use Rattle.pim_served.specs.Ways.{IsGroup}
-use Rattle.pim_served.proofs.Keeps.{event_keeps_star}
+use Rattle.pim_served.proofs.Keeps.{event_keeps_source, event_keeps_star}
 use Rattle.pim_served.proofs.Leaves.{taken_is_done}
 use Rattle.pim_served.proofs.Passes.{done_if, general_group, same_up}
 use Rattle.pim_served.proofs.ReadBack.{join_is_read}
-use Rattle.pim_served.proofs.Taken.{star_join_is_taken}
-use Rattle.pim_in_time.specs.Joins.{prunes_group, prunes_of}
+use Rattle.pim_served.proofs.Taken.{source_join_is_taken, star_join_is_taken}
+use Rattle.pim_in_time.specs.Joins.{IsJoin, IsRp, Join, Source, Star, entry_of, join_key, prunes_it, prunes_of}
 
 module _ (s : State) (e : Event) where
   abbrev t : State
@@ -62,9 +61,9 @@ module _ (s : State) (e : Event) where
       (step_taken s e (Accepted.Down j) is ∙ taken_is_done s e.draw (Accepted.Down j) refl)
       ∙ (same_up s (without j) e.draw j.number ∙ is_gone j)
 
-  module _ (g down end : ℕ) (rests : IsSettled s) (holds : HoldsStar s down g (Some end)) (up : is_up t down ≡ true)
-      (early : (t).present < end) (unpruned : prunes_group g down (done_as (happens s e)) ≡ false) where
-    isnt_back : (o : Option Accepted) → done_as (happens s e) ≡ o → takes_back (star_key down g) end o ≡ false
+  module _ (x : Join) (g down end : ℕ) (up : is_up t down ≡ true) (early : (t).present < end)
+      (unpruned : prunes_it x g down (done_as (happens s e)) ≡ false) where
+    isnt_back : (o : Option Accepted) → done_as (happens s e) ≡ o → takes_back (join_key x down g) end o ≡ false
     isnt_back None is = refl
     isnt_back (Some (Accepted.Advance m)) is =
         before end m (subst (λ (n : ℕ). n < end) (moves_on m is) early)
@@ -78,68 +77,97 @@ module _ (s : State) (e : Event) where
             let same : j.number ≡ down = grind (arith, common_steps, at) in
             absurd (both_ways (is_up t down) (ap (is_up t) (sym same) ∙ goes_down j is) up)
         go false at = refl
-    isnt_back (Some (Accepted.JoinPruneToMe j m)) is = ap (prunes_group g down) (sym is) ∙ unpruned
+    isnt_back (Some (Accepted.JoinPruneToMe j m)) is = ap (prunes_it x g down) (sym is) ∙ unpruned
     isnt_back (Some a) is = refl
 
-    pub still_held : HoldsStar t down g (Some end)
-    still_held = event_keeps_star s e down g end rests holds (isnt_back (done_as (happens s e)) refl)
+-- an event keeps what is held
+keeps_it : (x : Join) (s : State) (e : Event) (down g end : ℕ) → IsSettled s → HoldsTree s (join_key x down g) (Some end)
+    → takes_back (join_key x down g) end (done_as (happens s e)) ≡ false → HoldsTree (step s e).state (join_key x down g) (Some end)
+keeps_it (Star rp) s e down g end = event_keeps_star s e down g end
+keeps_it (Source src) s e down g end = event_keeps_source s e down g src end
+
+pub still_held : (x : Join) (s : State) (e : Event) (g down end : ℕ) → IsSettled s → HoldsTree s (join_key x down g) (Some end)
+    → is_up (step s e).state down ≡ true → ((step s e).state).present < end
+    → prunes_it x g down (done_as (happens s e)) ≡ false → HoldsTree (step s e).state (join_key x down g) (Some end)
+still_held x s e g down end rests holds up early unpruned =
+    keeps_it x s e down g end rests holds (isnt_back s e x g down end up early unpruned (done_as (happens s e)) refl)
 
 -- ---- a Join with the sources that it prunes
 
 differ : false ≡ true → ⊥
 differ e = cc e
 
-no_star : (i g n : ℕ) → same_key (star_key i g) (rpt_key i g n) ≡ false
-no_star i g n =
-    false_from_ne_true (same_key (star_key i g) (rpt_key i g n))
-    (λ same. differ (ap (λ (k : Key). is_some k.source) (equal_keys (star_key i g) (rpt_key i g n) same)))
+-- no key of (S,G,rpt) is its own
+no_tree : (x : Join) (i g n : ℕ) → same_key (join_key x i g) (rpt_key i g n) ≡ false
+no_tree x i g n =
+    false_from_ne_true (same_key (join_key x i g) (rpt_key i g n))
+    (λ same. differ (ap (λ (k : Key). k.rpt) (equal_keys (join_key x i g) (rpt_key i g n) same)))
 
-module _ (g i : ℕ) where
+module _ (x : Join) (g i : ℕ) where
   abbrev named : List ℕ → List Named
-  named ns = map (λ (x : Entry). (g, x)) (prunes_of ns)
+  named ns = map (λ (y : Entry). (g, y)) (prunes_of ns)
 
-  none_star : (ns : List ℕ) → is_named (map (named_key i) (filter is_used (named ns))) (star_key i g) ≡ false
+  none_of_it : (ns : List ℕ) → is_named (map (named_key i) (filter is_used (named ns))) (join_key x i g) ≡ false
   unfolding is_named
-  none_star [] = refl
-  none_star (n ∷ ns) = go (is_used (g, entry EntryKind.SourceRpt n)) (none_star ns)
+  none_of_it [] = refl
+  none_of_it (n ∷ ns) = go (is_used (g, entry EntryKind.SourceRpt n)) (none_of_it ns)
     where
-      go : (b : Bool) → is_named (map (named_key i) (filter is_used (named ns))) (star_key i g) ≡ false
-          → is_named (map (named_key i) (cond b ((g, entry EntryKind.SourceRpt n) ∷ filter is_used (named ns)) (filter is_used (named ns)))) (star_key i g) ≡ false
-      go true later = rw (no_star i g n) later
+      go : (b : Bool) → is_named (map (named_key i) (filter is_used (named ns))) (join_key x i g) ≡ false
+          → is_named (map (named_key i) (cond b ((g, entry EntryKind.SourceRpt n) ∷ filter is_used (named ns)) (filter is_used (named ns)))) (join_key x i g) ≡ false
+      go true later = rw (no_tree x i g n) later
       go false later = later
 
-module _ (g rp : ℕ) (isg : IsGroup g rp) (s : State) (from to down draw : ℕ) (pruned : List ℕ) (known : rp_of s g ≡ Some rp)
+-- ---- it is joined
+
+or_true : (b : Bool) → (b || true) ≡ true
+or_true true = refl
+or_true false = refl
+
+pub multicast_of : (x : Join) (g : ℕ) → IsJoin x g → is_multicast g ≡ true
+multicast_of (Star rp) g isg = isg.multicast
+multicast_of (Source src) g isg = isg.multicast
+
+joined_so : (x : Join) (g : ℕ) → IsJoin x g → (s : State) (to down : ℕ) (prunes : List Entry) → IsRp x s g
+    → joined_keys s down (join_value to g (entry_of x) prunes) ≡ join_key x down g ∷ []
+unfolding joined_keys accepted_joins is_accepted
+joined_so (Star rp) g isg s to down prunes known =
+    rw (isg.goes_far, general_group s g rp known, known, eq-eqb rp rp refl) refl
+joined_so (Source src) g isg s to down prunes known = rw (isg.goes_far, or_true (not (is_source_specific g))) refl
+
+taken_so : (x : Join) (s : State) (e : Event) (i : IfaceId) (m : JoinPrune) (g : ℕ)
+    → done_as (happens s e) ≡ Some (Accepted.JoinPruneToMe i m) → JoinsTree s (join_key x i.number g) m
+    → HoldsTree (step s e).state (join_key x i.number g) (holdtime_end s m.holdtime)
+taken_so (Star rp) s e i m g is joins = (star_join_is_taken s e i m g is joins).holds
+taken_so (Source src) s e i m g is joins = (source_join_is_taken s e i m g src is joins).holds
+
+module _ (x : Join) (g : ℕ) (isg : IsJoin x g) (s : State) (from to down draw : ℕ) (pruned : List ℕ) (known : IsRp x s g)
     (hears : Hears s down from) (own : my_address s down ≡ to)
-    (writable : IsWritable from to g (entry EntryKind.Star rp) (prunes_of pruned)) where
+    (writable : IsWritable from to g (entry_of x) (prunes_of pruned)) where
   abbrev at : IfaceId
   at = record { number = down }
 
   abbrev value : JoinPrune
-  value = join_value to g (entry EntryKind.Star rp) (prunes_of pruned)
+  value = join_value to g (entry_of x) (prunes_of pruned)
 
   abbrev pub join_event : Event
-  join_event = record { draw = draw; kind = EventKind.Frame at (join_packet from to g (entry EntryKind.Star rp) (prunes_of pruned)) }
+  join_event = record { draw = draw; kind = EventKind.Frame at (join_packet from to g (entry_of x) (prunes_of pruned)) }
 
   judged_so : judged s join_event.kind ≡ Ok (Accepted.JoinPruneToMe at value)
   judged_so =
-      subst (λ (a : ℕ). judged s (EventKind.Frame at (join_packet from a g (entry EntryKind.Star rp) (prunes_of pruned)))
-      ≡ Ok (Accepted.JoinPruneToMe at (join_value a g (entry EntryKind.Star rp) (prunes_of pruned)))) own
-      (join_is_read s down from g (entry EntryKind.Star rp) (prunes_of pruned) hears
-      (subst (λ (a : ℕ). IsWritable from a g (entry EntryKind.Star rp) (prunes_of pruned)) (sym own) writable))
+      subst (λ (a : ℕ). judged s (EventKind.Frame at (join_packet from a g (entry_of x) (prunes_of pruned)))
+      ≡ Ok (Accepted.JoinPruneToMe at (join_value a g (entry_of x) (prunes_of pruned)))) own
+      (join_is_read s down from g (entry_of x) (prunes_of pruned) hears
+      (subst (λ (a : ℕ). IsWritable from a g (entry_of x) (prunes_of pruned)) (sym own) writable))
 
-  joined_is : joined_keys s down value ≡ star_key down g ∷ []
-  unfolding joined_keys accepted_joins is_accepted
-  joined_is = rw (isg.goes_far, general_group s g rp known, known, eq-eqb rp rp refl) refl
-
-  pruned_is : pruned_keys down value ≡ map (named_key down) (filter is_used (named g down pruned))
+  pruned_is : pruned_keys down value ≡ map (named_key down) (filter is_used (named x g down pruned))
   unfolding pruned_keys accepted_prunes
-  pruned_is = ap (λ (ns : List Named). map (named_key down) (filter is_used ns)) (append-nil (named g down pruned))
+  pruned_is = ap (λ (ns : List Named). map (named_key down) (filter is_used ns)) (append-nil (named x g down pruned))
 
-  joins_it : JoinsStar s down g value
+  joins_it : JoinsTree s (join_key x down g) value
   unfolding is_named
   joins_it = record {
-    joined = rw (joined_is, same_key_same (star_key down g)) refl;
-    unpruned = ap (λ ks. is_named ks (star_key down g)) pruned_is ∙ none_star g down pruned;
+    joined = rw (joined_so x g isg s to down (prunes_of pruned) known, same_key_same (join_key x down g)) refl;
+    unpruned = ap (λ ks. is_named ks (join_key x down g)) pruned_is ∙ none_of_it x g down pruned;
     lasts = refl;
   }
 
@@ -151,10 +179,10 @@ module _ (g rp : ℕ) (isg : IsGroup g rp) (s : State) (from to down draw : ℕ)
     unfolding holdtime_end_from
     ends_then = refl
 
-    pub now_held : HoldsStar (step s join_event).state down g (Some (s.present + 210000))
+    pub now_held : HoldsTree (step s join_event).state (join_key x down g) (Some (s.present + 210000))
     now_held =
-        subst (λ (o : Option ℕ). HoldsStar (step s join_event).state down g o) ends_then
-        (star_join_is_taken s join_event at value g is_done joins_it).holds
+        subst (λ (o : Option ℕ). HoldsTree (step s join_event).state (join_key x down g) o) ends_then
+        (taken_so x s join_event at value g is_done joins_it)
 
     own_present : (to_me s down value).present ≡ s.present
     unfolding to_me keys_taken
@@ -169,5 +197,5 @@ module _ (g rp : ℕ) (isg : IsGroup g rp) (s : State) (from to down draw : ℕ)
 
     pub same_now : ((step s join_event).state).present ≡ s.present
     same_now =
-        ap (λ (x : State). x.present) is_settled
+        ap (λ (v : State). v.present) is_settled
         ∙ (ap (λ (u : Unsettled). u.present) (settling_leaves s (to_me s down value, []) draw) ∙ own_present)

@@ -322,7 +322,7 @@ pub wanted_star : (t : State) (g i : ℕ) → i < iface_count t → immediate_ol
 unfolding join_desired_star
 wanted_star t g i within e = ap not (not_empty t (immediate_olist_star t g) i within e)
 
-listed_source : (t : State) (g src i : ℕ) → has_row t.downstream (source_key i g src) ≡ true
+pub listed_source : (t : State) (g src i : ℕ) → has_row t.downstream (source_key i g src) ≡ true
     → is_loser (assert_source t g src i) ≡ false → immediate_olist t g src i ≡ true
 unfolding immediate_olist joins lost_assert
 listed_source t g src i there unlost = rw (there, unlost) (last (not (is_rpf_interface t src i)) (is_beaten t g src i))
@@ -331,7 +331,7 @@ listed_source t g src i there unlost = rw (there, unlost) (last (not (is_rpf_int
     last true c = refl
     last false c = refl
 
-wanted_source : (t : State) (g src i : ℕ) → i < iface_count t → immediate_olist t g src i ≡ true
+pub wanted_source : (t : State) (g src i : ℕ) → i < iface_count t → immediate_olist t g src i ≡ true
     → join_desired t g src ≡ true
 unfolding join_desired is_immediate_empty
 wanted_source t g src i within e = rw (not_empty t (immediate_olist t g src) i within e) refl

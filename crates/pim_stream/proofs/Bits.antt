@@ -1,5 +1,5 @@
 -- While a router joins the source nothing that follows of a change clears its SPTbit.
-use Rattle.std.proofs.Common.{◌≡◌, ◌∙◌, ℕ, ◌<◌, ◌&&◌, not, Bool, true, false, cond, List, [], ◌∷◌, filter, find, length, Option, option_map, Some, None, refl, sym, ap, subst}
+use Rattle.std.proofs.Common.{◌≡◌, ◌∙◌, ℕ, ◌<◌, not, Bool, true, false, cond, List, [], ◌∷◌, filter, find, length, Option, option_map, Some, None, refl, sym, ap, subst}
 use Rattle.std.proofs.lemmas.Bool.{both_ways}
 use Rattle.std.specs.Cmp.{second_so}
 use Rattle.std.specs.Option.{option_or}
@@ -12,16 +12,15 @@ use Rattle.pim_types.specs.declared.fact.SourceRow.{SourceRow}
 use Rattle.pim_types.proofs.Keys.{equal_keys}
 use Rattle.pim_model.specs.Asserts.{assert_forgotten, without_spt, without_spt_bit}
 use Rattle.pim_model.specs.Clearing.{ClearAssert, ClearSptBit, Cleared, assert_must_go, assert_to_clear, clear, clear_all, clearable_count, cleared, first_by, is_assert_first, spt_must_go, spt_to_clear, to_clear}
-use Rattle.pim_model.specs.Desires.{is_immediate_empty, join_desired}
+use Rattle.pim_model.specs.Desires.{join_desired}
 use Rattle.pim_model.specs.Registers.{settle_registers}
-use Rattle.pim_model.specs.Sets.{assert_source, immediate_olist, is_beaten, is_loser, joins, lost_assert, spt_bit}
-use Rattle.pim_model.specs.State.{State, iface_count}
+use Rattle.pim_model.specs.Sets.{assert_source, is_loser, spt_bit}
+use Rattle.pim_model.specs.State.{State}
 use Rattle.pim_model.specs.Tables.{Table, change_row, has_row, row_at}
-use Rattle.pim_model.specs.Unicast.{is_rpf_interface}
 use Rattle.pim_laws.proofs.RowLaws.{row_change_away}
 use Rattle.pim_laws.proofs.TurnLaws.{kept_to_the_end}
 use Rattle.pim_ready.proofs.Unsettled.{Untold, cleared_in_the_end}
-use Rattle.pim_served.proofs.Taken.{apart_keys, not_empty}
+use Rattle.pim_served.proofs.Taken.{apart_keys, listed_source, wanted_source}
 use Rattle.pim_stream.specs.Bits.{JoinKeepsSptBit}
 use Rattle.pim_stream.proofs.Rows.{dropped_good}
 use Rattle.pim_stream.proofs.Settles.{bit_of}
@@ -56,7 +55,7 @@ no_assert : (k : Key) (p : Option (Key × AssertRow)) → option_map (λ (e : Ke
 no_assert k None f = cc
 no_assert k (Some d) f = cc
 
-unwanted : (o u : State) (k : Key) → to_clear o u ≡ Some (ClearSptBit k) → join_desired u (group_in k) (source_in k) ≡ false
+pub unwanted : (o u : State) (k : Key) → to_clear o u ≡ Some (ClearSptBit k) → join_desired u (group_in k) (source_in k) ≡ false
 unfolding to_clear assert_to_clear
 unwanted o u k e = go (first_by is_assert_first (filter (assert_must_go o u) u.asserts)) e
   where
@@ -65,20 +64,6 @@ unwanted o u k e = go (first_by is_assert_first (filter (assert_must_go o u) u.a
         → join_desired u (group_in k) (source_in k) ≡ false
     go None f = bit_is_unwanted u k f
     go (Some d) f = absurd (no_assert k (Some d) f)
-
--- a source that is joined where no assert of it is lost is wanted
-on_list : (u : State) (g src i : ℕ) → has_row u.downstream (source_key i g src) ≡ true
-    → is_loser (assert_source u g src i) ≡ false → immediate_olist u g src i ≡ true
-unfolding immediate_olist joins lost_assert
-on_list u g src i there unlost = rw (there, unlost) (last (not (is_rpf_interface u src i)) (is_beaten u g src i))
-  where
-    last : (b c : Bool) → not (b && false && c) ≡ true
-    last true c = refl
-    last false c = refl
-
-is_wanted : (u : State) (g src i : ℕ) → i < iface_count u → immediate_olist u g src i ≡ true → join_desired u g src ≡ true
-unfolding join_desired is_immediate_empty
-is_wanted u g src i within e = rw (not_empty u (immediate_olist u g src) i within e) refl
 
 module _ (g src i : ℕ) (cs : List InterfaceConfig) (rows : Table DownstreamRow) (within : i < length cs)
     (there : has_row rows (source_key i g src) ≡ true) where
@@ -90,8 +75,8 @@ module _ (g src i : ℕ) (cs : List InterfaceConfig) (rows : Table DownstreamRow
 
   wanted : (u : State) → Kept u → join_desired u g src ≡ true
   wanted u f =
-      is_wanted u g src i (subst (λ (xs : List InterfaceConfig). i < length xs) (sym f.configured) within)
-      (on_list u g src i (ap (λ (t : Table DownstreamRow). has_row t (source_key i g src)) f.downstream ∙ there) f.unlost)
+      wanted_source u g src i (subst (λ (xs : List InterfaceConfig). i < length xs) (sym f.configured) within)
+      (listed_source u g src i (ap (λ (t : Table DownstreamRow). has_row t (source_key i g src)) f.downstream ∙ there) f.unlost)
 
   one_cleared : (o u : State) (x : Cleared) → Kept u → to_clear o u ≡ Some x → Kept (cleared u x).0
   unfolding cleared assert_forgotten without_spt_bit

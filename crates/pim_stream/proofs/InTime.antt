@@ -7,6 +7,7 @@ use Rattle.pim_types.specs.Keys.{rpt_key, star_key}
 use Rattle.pim_types.specs.declared.config.IfaceId.{IfaceId}
 use Rattle.pim_types.specs.declared.event.Event.{Event}
 use Rattle.pim_types.specs.declared.fact.DownstreamRow.{DownstreamRow}
+use Rattle.pim_types.specs.declared.fact.Key.{Key}
 use Rattle.pim_wire.specs.Values.{JoinPrune}
 use Rattle.pim_model.specs.declared.accepted.Accepted.{Accepted}
 use Rattle.pim_model.specs.Cause.{done_as}
@@ -16,7 +17,7 @@ use Rattle.pim_model.specs.State.{State}
 use Rattle.pim_model.specs.Step.{ran, state_after, step}
 use Rattle.pim_model.specs.Tables.{has_row, later_end}
 use Rattle.pim_promises.specs.Copies.{happens}
-use Rattle.pim_served.specs.Joins.{HoldsStar, JoinsStar}
+use Rattle.pim_served.specs.Joins.{HoldsStar, HoldsTree, JoinsStar}
 use Rattle.pim_served.specs.Lasts.{takes_back}
 use Rattle.pim_served.proofs.Keeps.{event_keeps_star}
 use Rattle.pim_served.proofs.Taken.{star_join_is_taken}
@@ -25,18 +26,20 @@ use Rattle.pim_stream.specs.Passing.{Receiver, ends_by, ends_passing, has_expire
 use Rattle.pim_stream.proofs.Passing.{event_keeps_passing}
 use Rattle.pim_stream.proofs.Tests.{Four, is_false, neither, none_of_four}
 
-module _ (s : State) (g src up down end : ℕ) (h : HoldsStar s down g (Some end)) where
-  -- ---- the old end
-
+-- a tree that is held until an end hasn't expired before it
+module _ (s : State) (k : Key) (end : ℕ) (h : HoldsTree s k (Some end)) where
   later_than : (o : Option ℕ) (m : ℕ) → later_end o (Some end) ≡ o → nat_le end m ≡ false → ends_by m o ≡ false
   later_than None m e off = refl
   later_than (Some n) m e off = grind (arith, common_steps, e, off)
 
-  unexpired : (m : ℕ) → nat_le end m ≡ false → has_expired s (star_key down g) m ≡ false
+  pub unexpired : (m : ℕ) → nat_le end m ≡ false → has_expired s k m ≡ false
   unfolding has_expired
   unexpired m off =
       ap (λ (o : Option DownstreamRow). option_map_or (λ (r : DownstreamRow). ends_by m r.expiry || ends_by m r.pending) o false) h.found
       ∙ rw (later_than (h.row).expiry m h.lasts off, h.unpruned) refl
+
+module _ (s : State) (g src up down end : ℕ) (h : HoldsStar s down g (Some end)) where
+  -- ---- the old end
 
   isnt_back : (t : State) (o : Option Accepted) → takes_link t g src up down o ≡ false
       → is_late s t g src down end o ≡ false → takes_back (star_key down g) end o ≡ false
@@ -58,7 +61,7 @@ module _ (s : State) (g src up down end : ℕ) (h : HoldsStar s down g (Some end
       → is_late s t g src down end o ≡ false → takes_from Receiver.Router s t g src down o ≡ false
   isnt_ended t None there b = refl
   isnt_ended t (Some (Accepted.Advance m)) there b =
-      rw (unexpired m (neither _ _ b).first, (neither (nat_le end m) (takes_effect s (rpt_key down g src) m) b).second) refl
+      rw (unexpired s (star_key down g) end h m (neither _ _ b).first, (neither (nat_le end m) (takes_effect s (rpt_key down g src) m) b).second) refl
   isnt_ended t (Some (Accepted.JoinPruneToMe j m)) there b =
       rw there (go (j.number == down) (is_named (pruned_keys j.number m) (star_key down g)) (prunes t g src down) b)
     where

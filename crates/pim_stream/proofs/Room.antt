@@ -11,7 +11,7 @@ use Rattle.pim_model.specs.State.{State}
 use Rattle.pim_model.specs.Tables.{has_row, row_at}
 use Rattle.pim_stream.specs.Passing.{IsOn, SourceTreeHasRoom, Tree, lacks_room}
 
-known_is_not_full : (s : State) (g src : ℕ) → has_row s.sources (source_key 0 g src) ≡ true → source_is_full s g src ≡ false
+pub known_is_not_full : (s : State) (g src : ℕ) → has_row s.sources (source_key 0 g src) ≡ true → source_is_full s g src ≡ false
 unfolding source_is_full passes_limit needed distinct once_more is_named
 known_is_not_full s g src there = rw there refl
 

@@ -1,0 +1,5 @@
+pub mod Climbing
+pub mod Turning
+pub mod Registered
+pub mod LastHop
+pub mod Room
