@@ -78,7 +78,7 @@ impl Interfaces {
         let _ = &self.configured;
     }
 
-    /// Each row is under the key of an interface that is configured. It does nothing.
+    /// For the proof: each row is under the key of an interface that is configured. Does nothing when it runs.
     pub fn recall_kinds(&self)
         ensures { IsTrue (list_all (λ e. is_up_key (length self.now.configured) e.0) self.now.rows) }
     {

@@ -337,7 +337,7 @@ impl Index {
         self.timers
     }
 
-    // Does nothing when it runs: it tells the prover that the Join timers are under keys of (*,G) and (S,G), which rise.
+    // For the proof: the Join timers are under keys of (*,G) and (S,G), which rise. Does nothing when it runs.
     pub(crate) fn recall_keyed_timers(&self)
         ensures kind { IsTrue (list_all (λ e. is_plain_key e.0) (timers_in self.now)) }
         ensures rising { IsStrictlySortedBy key_cmp (keys_in (timers_in self.now)) }

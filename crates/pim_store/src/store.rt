@@ -590,7 +590,7 @@ impl Store {
         self.registers.recall_rising();
     }
 
-    /// Does nothing when it runs: it tells the prover that the facts of each table are under keys that rise.
+    /// For the proof: the keys of each table rise. Does nothing when it runs.
     pub fn recall_rising(&self)
         ensures { AllRise self.now }
     {
@@ -602,7 +602,7 @@ impl Store {
         self.registers.recall_rising();
     }
 
-    /// Does nothing when it runs: it tells the prover that each fact is under a key of its kind.
+    /// For the proof: each fact is under a key of its kind. Does nothing when it runs.
     pub fn recall_kinds(&self)
         ensures { IsTrue (are_of_kind self.now) }
     {
