@@ -342,7 +342,7 @@ impl Index {
         ensures kind { IsTrue (list_all (λ e. is_plain_key e.0) (timers_in self.now)) }
         ensures rising { IsStrictlySortedBy key_cmp (keys_in (timers_in self.now)) }
     {
-        // It tells that the keys of all entries rise.
+        // Its contract says that the keys of all entries rise.
         let _ = self.entries.is_empty();
     }
 
