@@ -46,7 +46,7 @@ new_shown config = record { router = begun (opening config); sent = []; rows = [
 abbrev pub lost : ShownSession → ShownSession
 lost s = record { router = nothing_shown; sent = s.sent; rows = s.rows }
 
--- What a session shows after an event that was accepted.
+-- What a session shows after an event that had no fault, whether it was done, ignored or refused.
 abbrev pub Taken : ShownSession → Standing → Event → ShownSession → Type 0
 Taken s r e left = (left.router.standing ≡ Some (standing (step r.state e)))
     × IsCheap r.state e left.router.probes left.router.touched

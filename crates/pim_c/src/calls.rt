@@ -137,7 +137,7 @@ pub extern "C" fn viq_core_ranges(
     router.step_copied(alloc, given::new_ranges(alloc, draw, ranges))
 }
 
-/// How many packets the last accepted event sent; 0 once the router has failed.
+/// How many packets the last event sent that wasn't answered with a fault; 0 once the router has failed.
 #[unsafe(no_mangle)]
 pub extern "C" fn viq_core_packets(alloc: Global, router: &mut Handle) -> usize
     ensures count { result ≡ length (packets_in router.old.place.inside) }
@@ -146,7 +146,7 @@ pub extern "C" fn viq_core_packets(alloc: Global, router: &mut Handle) -> usize
     router.packets(alloc)
 }
 
-/// Reads one of the packets that the last accepted event sent, counted from 0. As many of its bytes as the buffer holds
+/// Reads one of the packets that `viq_core_packets` counts, counted from 0. As many of its bytes as the buffer holds
 /// are written into it. False where there is no packet of this number.
 #[unsafe(no_mangle)]
 pub extern "C" fn viq_core_packet(

@@ -153,7 +153,7 @@ impl Handle {
         }
     }
 
-    /// How many packets the last accepted event sent.
+    /// How many packets the last event sent that wasn't answered with a fault.
     pub fn packets(&mut self, alloc: Global) -> usize
         ensures count { result ≡ length (packets_in self.old.place.inside) }
         ensures stays { self.new.place.inside ≡ self.old.place.inside }
@@ -166,7 +166,7 @@ impl Handle {
         count
     }
 
-    /// Reads one of the packets that the last accepted event sent, counted from 0.
+    /// Reads one of the packets that `packets` counts, counted from 0.
     pub fn packet(
         &mut self,
         alloc: Global,

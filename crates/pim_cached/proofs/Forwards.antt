@@ -149,7 +149,7 @@ module _ (g src i : ℕ) (s : State) (rests : IsAtRest s) (there : has_row s.sou
         go true b e f = refl
         go false b e f = cc
 
-    -- and where it runs the register is settled anyway
+    -- where the keepalive timer runs the register is settled anyway
     pub settled_anyway : spt_bit s g src ≡ false → opens g src s rests there ≡ false
     unfolding could_register may_register
     settled_anyway e =

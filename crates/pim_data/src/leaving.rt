@@ -49,7 +49,7 @@ fn leaves(packet: &Ipv4View<'_>) -> bool
     packet.time_to_live() > 1
 }
 
-// A copy of the packet on each of these interfaces. Room for so many is taken at once.
+// A copy of the packet on each of these interfaces. Memory for all of them is taken at once.
 fn copies_on(
     room: &mut Room,
     count: usize,

@@ -43,8 +43,8 @@ pub fn is_on_list(sight: &SourceSight, iface: IfaceId) -> bool
     }
 }
 
-// A packet that came on no tree's interface leaves nowhere. Where it came on an interface of the list it asks for an
-// assert: of (S,G) once the shortest path tree is reached, of (*,G) before.
+// A packet that came on no tree's interface leaves nowhere. If it came on an interface of the list it calls for an
+// assert: of (S,G) if SPTbit(S,G) is set, else of (*,G).
 fn take_stray(
     world: &mut World,
     turn: &mut Turn,

@@ -31,7 +31,7 @@ pub fn is_accepted(world: &World, group: Addr, join: Entry, meter: &mut Meter) -
 }
 
 /// Whether a join of the group counts: it is used and accepted. The meter rises by the nodes that are visited where
-/// RP(G) is asked for.
+/// RP(G) is looked up.
 #[tactic(auto, using(pim_world::proofs::Visits::raised_by_none))]
 pub fn is_counted(world: &World, group: Addr, join: Entry, meter: &mut Meter) -> bool
     ensures counted { result ≡ is_counted world.now (group.bits, join) }

@@ -20,8 +20,8 @@ timer_sight_nodes s e = sight_nodes s (e.0).group (e.0).source
 abbrev pub timers_towards_nodes : State → ℕ
 timers_towards_nodes s = sum_by (timer_sight_nodes s) s.join_timers
 
--- a Hello from an address on an interface: the Join timers are asked for where the neighbour started anew. The asserts
--- that end aren't counted here.
+-- The nodes of a Hello from an address on an interface: the Join timers are looked up where the neighbour restarted.
+-- The asserts that are removed aren't counted here.
 abbrev pub hello_nodes : State → ℕ → ℕ → HelloValue → ℕ
 hello_nodes s i from h = if is_generation_changed s i from h then timers_towards_nodes s else 0
 

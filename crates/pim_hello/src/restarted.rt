@@ -1,4 +1,4 @@
-//! What ends with a neighbour that started anew: the asserts lost to it, and the wait for the next Join to it.
+//! What a neighbour that restarted changes: the asserts lost to it are removed, and the Join timers towards it lowered.
 ghost use Rattle.std.specs.Prelude.{◌≡◌, ◌≤◌, IfOk, OnOk, Some, filter};
 ghost use Rattle.pim_model.specs.Hellos.{is_lost_to, upstream_of};
 ghost use Rattle.pim_model.specs.Tables.{change_row, keys_in, same_hop};
@@ -60,8 +60,8 @@ pub fn asserts_lost_to(world: &World, turn: &Turn, neighbour: Hop) -> Result<Vec
     Ok(keys)
 }
 
-/// Lowers the Join timers with these keys to an end, in ms. The meter rises by the nodes that lead to the group, or to
-/// the source, of each.
+/// Lowers the Join timers with these keys to a timestamp, in ms. The meter rises by the nodes that lead to the group,
+/// or to the source, of each.
 pub(crate) fn lower_timers(
     world: &mut World,
     meter: &mut Meter,

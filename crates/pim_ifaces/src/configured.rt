@@ -47,7 +47,7 @@ impl Subnet {
     }
 }
 
-/// The configured interfaces, with their subnets beside them.
+/// The configured interfaces, with their subnets.
 #[derive(Drop)]
 pub(crate) struct Configured {
     interfaces: ArrayVec<InterfaceConfig, MOST_INTERFACES>,

@@ -176,8 +176,8 @@ impl Interfaces {
         self.rows.remove(Key::iface(iface));
     }
 
-    /// Makes a Hello owed on the interface, if it is up, and lets its Hello timer end at this moment
-    /// at the latest, in ms. An error is want of memory, and changes nothing.
+    /// Marks that a Hello is owed on the interface, if it is up, and lets its Hello timer expire at this timestamp at
+    /// the latest, in ms. The error is want of memory, and changes nothing.
     pub fn owe_hello(&mut self, iface: IfaceId, end: u64) -> Result<(), AllocError>
         ensures ok { OnOk result (self.new
             ≡ record self.old { rows = hellos_triggered iface.number end self.old.rows }) }

@@ -87,7 +87,7 @@ Always P n (m ∷ ms) = P n × Always P (moved n m).1 ms
 abbrev pub time_at : (ℕ → ℕ) → ℕ → Station → ℕ
 time_at started r st = (st.state).present + started r
 
--- a router's time isn't past a moment
+-- A router's present time isn't past a timestamp.
 abbrev pub IsBy : (ℕ → ℕ) → (r moment : ℕ) → Network → Type 0
 IsBy started r moment n = (st : Station) → station_at n r ≡ Some st → time_at started r st ≤ moment
 

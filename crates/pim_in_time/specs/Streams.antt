@@ -20,7 +20,7 @@ prunes_source s t g src down (Some (Accepted.Advance moment)) = takes_effect s (
 prunes_source s t g src down (Some (Accepted.JoinPruneToMe j m)) = (j.number == down) && prunes t g src down
 prunes_source s t g src down o = false
 
--- what ends a stream to a router beside the end of its Join
+-- What ends a stream to a router, other than the expiry of its Join.
 unfoldable pub ends_otherwise : Tree → State → Event → ℕ → ℕ → ℕ → ℕ → Bool
 ends_otherwise tree s e g src up down =
     let t : State = (step s e).state in

@@ -17,7 +17,7 @@ use pim_types::{Fault, IfaceId, Ignored, Lent, Refusal, Route, RpRange, Stop};
 use pim_world::{World, table_of_ranges};
 use std::alloc::Global;
 
-// The last moment, in ms.
+// The latest timestamp of an event, in ms.
 const LAST_MOMENT: u64 = 1 << 62;
 
 // Time that is to pass.

@@ -78,7 +78,7 @@ abbrev pub AgreedSourceIsUntold : Type 0
 AgreedSourceIsUntold = (g src : ℕ) (o a : State) (w : ℕ) → AgreesOn (source_key 0 g src) o a
     → (s : State) → source_upstream o a w g s src ≡ (s, [])
 
--- ---- what is told upstream
+-- ---- what is sent upstream
 
 -- The keys of all facts at the opening and in the state.
 unfoldable pub facts_of_both : State → State → List Key

@@ -51,14 +51,14 @@ impl Mfc {
         }
     }
 
-    /// How many rows were put in and taken out since the last `reset`: it stays at `u64::MAX`.
+    /// How many rows were put in and taken out since the last `reset`. The count doesn't pass `u64::MAX`.
     pub fn changes(&self) -> u64
         ensures { result ≡ self.now.changes }
     {
         self.changes
     }
 
-    /// Begins the count of changes anew.
+    /// Starts the count of changes from 0.
     pub fn reset(&mut self)
         ensures { self.new ≡ record self.old { changes = 0 } }
     {

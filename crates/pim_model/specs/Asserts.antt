@@ -121,7 +121,7 @@ assert_in_no_info s k theirs =
     else (if is_acceptable s k theirs && is_of_tree k theirs && is_tracking_at s k then (loses_first s k theirs, [])
     else (s, []))
 
--- In I Am Assert Winner: preferred -> L by A2, inferior -> W by A3; here: preferred is asked first
+-- In I Am Assert Winner: preferred -> L by A2, inferior -> W by A3; here: preferred is tested first
 unfoldable pub assert_as_winner : State → Key → AssertRow → AssertMetric → State × List Message
 assert_as_winner s k r theirs =
     if is_better theirs r.winner then (loses s k theirs, [])

@@ -4,7 +4,7 @@ use Rattle.std.specs.{Option.option_map_or, Prelude.{Bool, None, Option, Some, f
 use Rattle.pim_types.specs.Keys.{source_key, star_key}
 use Rattle.pim_model.specs.{AssertMacros.{could_assert, could_assert_star}, Desires.{is_inherited_empty, join_desired}, Forwarding.{has_local_receivers, is_spt_reached, no_interface}, Registers.{has_other_rp, is_dr_of_path, is_spt_wanted}, Sets.{Set, immediate_olist, inherited_olist, inherited_olist_rpt, spt_bit, tunnel}, State.State, Tables.{has_row, same_option}, Unicast.{is_connected, route, rpf_interface, rpf_interface_rp}}
 
--- ---- what is asked
+-- ---- what is read of a source
 
 pub record Answers : Type 0 where
   -- immediate_olist(S,G), inherited_olist(S,G), inherited_olist(S,G,rpt)

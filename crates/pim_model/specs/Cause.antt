@@ -29,7 +29,7 @@ if_done answer _ = None
 unfoldable pub done_as : Happened → Option Accepted
 done_as h = if_done (step h.before h.event).answer (judged h.before h.event.kind)
 
--- ---- who asks
+-- ---- what is a cause
 
 -- a Join/Prune to the router with an accepted Join(*,G) or Join(S,G), whose holdtime never expires or hasn't expired
 -- yet

@@ -45,7 +45,7 @@ fired s TimerKind.GeneralQuery k =
     fire_row (λ t. t.queriers) (λ t q (r : QuerierRow). general_query_due t (iface_in q) (startup_left r.role)) s k
 fired s TimerKind.Hello k = fire_row (λ t. t.interfaces) hello_due s k
 
--- ---- a change, what must go after it, what is told upstream; then all becomes packets
+-- ---- a change, what must go after it, what is sent upstream; then all becomes packets
 
 -- a change, then what must go after it, then the messages upstream; all messages become packets. o is the state before
 -- the change

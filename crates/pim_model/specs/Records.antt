@@ -68,7 +68,7 @@ is_excluded _ = false
 abbrev pub asks : (ℕ → Bool) → List ℕ → List Asked
 asks test sources = AskSources (filter test sources) ∷ []
 
--- ---- INCLUDE (A) and a record with the sources B; a timer that is set ends at `full`
+-- ---- INCLUDE (A) and a record with the sources B; a timer that is set expires at `full`
 
 -- IS_IN (B), ALLOW (B), TO_IN (B): INCLUDE (A+B), (B)=GMI
 abbrev pub include_more : ℕ → GroupRecord → Set → ℕ → Fate

@@ -1,4 +1,4 @@
-//! What is told of any source.
+//! What a data plane is offered of any source.
 ghost use Rattle.pim_macros.specs.Rows.{answers_of};
 ghost use Rattle.pim_offrow.specs.Shown.{ShowsOffered, ShownIsKnown, ShownIsUnknown, known_offer, unknown_offer};
 
@@ -6,11 +6,11 @@ use crate::row::{OffloadRow, offload};
 use pim_ifset::IfSet;
 use pim_macros::SourceAnswers;
 
-/// What a data plane is told of a source.
+/// What a data plane is offered of a source.
 #[derive(Clone, Copy)]
 pub struct Offered {
-    /// Whether the source has a fact: its row then stays as it is until an event lists the source as changed. That of
-    /// another stays until an event may have disturbed it.
+    /// Whether the source has a fact. If so, what is offered is valid until an event lists the source as changed; if
+    /// not, until an event may have disturbed it.
     pub is_known: bool,
     pub row: OffloadRow,
 }

@@ -19,7 +19,7 @@ pub struct SourceAfter {
     pub sight: SourceSight,
 }
 
-/// A touched group, likewise, and its touched sources, ascending.
+/// A touched group, as it was and as it is after the change, and its touched sources, ascending.
 #[derive(Drop)]
 pub struct GroupAfter {
     /// All of it is touched.
@@ -31,8 +31,8 @@ pub struct GroupAfter {
 }
 
 impl GroupAfter {
-    /// What was opened, with what is read of it now. The meter rises by the nodes that the look-ups visit, at least
-    /// those of the sight of the group, and of each of these sources.
+    /// What was opened, with what is read of it in the present state. The meter rises by the nodes that the look-ups
+    /// visit, at least those of the sight of the group, and of each of these sources.
     pub fn of(
         world: &World,
         alloc: Global,

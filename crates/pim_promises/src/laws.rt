@@ -10,8 +10,8 @@ ghost use Rattle.pim_promises.specs.NetHops.{NetHopsEnd};
 ghost use Rattle.pim_promises.specs.Served.{ListIsServed, MemberIsServed, ServedHere, SourceIsServed};
 ghost use Rattle.pim_promises.specs.Uncounted.{AllStayBounded, EachIsShorter, EachJoinIsWanted, EachLiesUnder, EachOverrideEndsSoon, JoinTimersStayBounded, UncountedStayBounded};
 
-/// The copies of an event are the same bytes on some configured interfaces, in ascending order: at most one on each
-/// link.
+/// The copies of an event are the same bytes on some of the router's interfaces, in ascending order: at most one on
+/// each interface. Two routers on a link, or a Register and the tree, can still bring a packet twice.
 pub fn never_twice()
     ensures { NeverTwice }
 {}
@@ -169,8 +169,9 @@ pub fn others_give_none()
     ensures { OthersGiveNone }
 {}
 
-/// A record of a report sends at most a query of its group, and for its sources two queries and one more for each 366
-/// of them; each query names at most 366.
+/// The most packets that an event sends which touches some keys: those that it sends itself, those that cancel asserts
+/// or go upstream for these keys, and a Hello before each message whose interface owes one. It says nothing of an event
+/// that concerns all groups.
 pub fn record_asks_few()
     ensures { RecordAsksFew }
 {}

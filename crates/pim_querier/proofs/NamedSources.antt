@@ -104,7 +104,7 @@ module _ (i g : ℕ) where
         (one_row n src t (n == src) refl)
         ∙ twice (fate src) (row_at t (key_of src)) (n == src) (is_among src ns)
 
-    -- and the row under a key of no source
+    -- the row under a key of no source
     pub other_made : (k : Key) → ((src : ℕ) → key_of src ≡ k → ⊥) → (ns : List ℕ) (t : Rows)
         → row_at (fold (put_member i g) t (made fate ns)) k ≡ row_at t k
     other_made k other [] t = refl

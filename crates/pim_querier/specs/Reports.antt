@@ -14,13 +14,13 @@ use Rattle.pim_model.specs.Records.{GroupRecord, Member, is_at_group}
 use Rattle.pim_model.specs.State.{State}
 use Rattle.pim_model.specs.Tables.{Table, ascending, has_row, row_at}
 
--- a source that isn't named stays as it is
+-- Sources that the record doesn't name are unchanged.
 abbrev pub keeps_others : RecordType → Bool
 keeps_others RecordType.IsExclude = false
 keeps_others RecordType.ToExclude = false
 keeps_others _ = true
 
--- what the record asks for is of the sources that it names
+-- The queries that the record requests are only about sources that it names.
 abbrev pub asks_named : RecordType → Bool
 asks_named RecordType.IsInclude = true
 asks_named RecordType.Allow = true
@@ -42,12 +42,12 @@ record_named s i g sources =
 
 -- ---- the sources that a report moves
 
--- a named source with this row has one afterwards, on the same side
+-- A named source with this row has a row afterwards, on the same side.
 abbrev pub stays : RecordType → Option SourceRecordRow → Bool
 stays type o = option_map_or (λ (r : SourceRecordRow). not (is_including type) || is_some r.end) o false
 
--- The group stays in its mode: in EXCLUDE it does, and in INCLUDE where the sources stay that aren't named, and there
--- is one of them where the group has a record, and none where it has none.
+-- The group keeps its mode. In EXCLUDE it does. In INCLUDE it does where the sources that aren't named are unchanged,
+-- and there is one of them exactly where the group has a record.
 unfoldable pub keeps_mode : State → ℕ → Record → Bool
 keeps_mode s i r =
     let listed : Bool = list_any (λ e. is_at_group i r.group e.0) s.source_records in

@@ -120,7 +120,7 @@ fewer_still s t u f h = record {
   none_gone = λ e. f.none_gone (omega (arith, e, f.fewer, h.fewer)) ∙ h.none_gone (omega (arith, e, f.fewer, h.fewer));
 }
 
--- ---- a timer's end
+-- ---- the expiry of a timer
 
 module _ (s : State) where
   abbrev Leaves : State × List Message → Type 0

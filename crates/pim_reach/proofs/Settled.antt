@@ -1,4 +1,4 @@
--- What is told upstream, and what becomes packets, changes no answer: so an unnamed source keeps its answers to the end
+-- What is sent upstream, and what becomes packets, changes no answer: so an unnamed source keeps its answers to the end
 -- of the event. What is configured stays.
 use Rattle.std.proofs.Common.{◌≡◌, ℕ, false, List, [], length, ◌≤◌, refl, subst, ◌∙◌}
 use Rattle.pim_types.specs.declared.config.InterfaceConfig.{InterfaceConfig}

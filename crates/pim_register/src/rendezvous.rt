@@ -95,11 +95,11 @@ fn register_at_rp(
     Ok(list)
 }
 
-/// Takes a Register that came in this packet. At the RP of its group its packet goes down the shared tree, the source
-/// is watched, and the source's router is told to stop where the source comes without Registers, or nobody wants it;
-/// any other router tells it to stop. The answer is where the packet leaves, without the tunnel; a Null-Register's
-/// leaves nowhere. The meter rises by the nodes that the look-ups visit, at least those that lead to the RP and, at it,
-/// those of the sight of the source. An error is want of memory.
+/// Takes a Register that came in this packet. At the RP of its group its packet goes down the shared tree and the
+/// keepalive timer of its source is set; a Register-Stop is sent where the source comes without Registers, or nobody
+/// wants it. Any other router sends a Register-Stop. The result is the interfaces on which the packet leaves, without
+/// the tunnel; none for a Null-Register. The meter rises by the nodes that the look-ups visit, at least those that lead
+/// to the RP and, at it, those of the sight of the source. The error is want of memory.
 #[tactic(auto, unfolding(pim_model::specs::Forwarding::register_received))]
 pub fn register_seen(
     world: &mut World,

@@ -48,7 +48,7 @@ pub fn later_state_is_reached()
     ensures { LaterStateIsReached }
 {}
 
-/// Whether all ends lie ahead is whether the next one does.
+/// All timers expire after the present time if and only if the next one does.
 pub fn next_tells_ahead()
     ensures { NextTellsAhead }
 {}

@@ -132,8 +132,8 @@ followed_alone_nodes group opened s =
     + register_mark_nodes s group.group opened.source
     + alone_nodes group.group (registers_by (group ∷ []) s) opened + told_alone_nodes cleared group opened
 
--- ---- an event, and a timer's end: what it touches is opened; then comes its own change. What follows isn't counted
--- here.
+-- ---- an event, and the expiry of a timer: what it touches is opened; then comes its own change. What follows isn't
+-- counted here.
 
 unfoldable pub act_nodes : State → Touched → Act → ℕ
 act_nodes s touched act = opening_nodes s touched + change_nodes s act

@@ -138,7 +138,7 @@ impl Router {
     }
 
     /// The row of the forwarding cache of a source with a fact. It equals what the macros of RFC 7761 give when each is
-    /// evaluated  anew in the present state. `None` where the source has no fact, and where the router has failed.
+    /// evaluated anew in the present state. `None` where the source has no fact, and where the router has failed.
     /// Takes no memory.
     pub fn cached(&self, source: Addr, group: Addr) -> Option<CacheRow>
         ensures cached { IfSome self.now.standing (λ r. TellsRow result (cached r.state group.bits source.bits)) }

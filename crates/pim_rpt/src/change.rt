@@ -1,6 +1,6 @@
-//! What becomes of a timer, as an upstream machine tells it.
+//! What becomes of a timer, as an upstream machine decides.
 
-/// What becomes of a timer; ends in ms.
+/// What becomes of a timer; timestamps in ms.
 #[derive(Clone, Copy)]
 pub enum Change {
     Keep,

@@ -126,7 +126,7 @@ LongerRouteMovesOneRow =
     × (seen_of (state_after two_sent (routes_to with_longer_route ∷ [])) (source + 195) ≡ seen_row (1 ∷ []) 2 true)
     × (seen_of (state_after two_sent (routes_to with_longer_route ∷ [])) source ≡ seen_row (1 ∷ []) 0 true)
 
--- a receiver on 2 asked for the source, which sends
+-- The state after a receiver on 2 requested the source, which sends.
 abbrev pub asked_and_sent : State
 asked_and_sent = after (frame 2 allow_source ∷ frame 0 packet ∷ [])
 

@@ -1,4 +1,4 @@
--- What follows of a change in states that are put together by hand: registers, what must go, what is told upstream.
+-- What follows of a change in states that are put together by hand: registers, what must go, what is sent upstream.
 use Rattle.std.specs.Prelude.{List, None, Some, false, true, ℕ, [], ◌≡◌, ◌∷◌}
 use Rattle.pim_types.specs.declared.config.Config.{Config}
 use Rattle.pim_types.specs.declared.fact.AssertRole.{AssertRole}

@@ -36,8 +36,8 @@ LastHopIsNotRegistered =
 abbrev pub register_stopped : State
 register_stopped = after (frame 2 host_packet ∷ unicast_drawn 60000 register_stop_received ∷ [])
 
--- A Register-Stop stops the Registers for 85 s, as drawn. Then a Null-Register asks the RP, and 5 s later
--- the tunnel is open again.
+-- A Register-Stop stops the Registers for 85 s, as drawn. Then a Null-Register probes the RP, and 5 s later the tunnel
+-- is open again.
 abbrev pub RegisterStopLastsAsDrawn : Type 0
 RegisterStopLastsAsDrawn =
     (register_state register_stopped group host ≡ Some (RegisterState.Prune 85000))

@@ -81,14 +81,14 @@ PruneWaitsForAnOverride =
     ≡ [] ∷ (join_star_up ∷ []) ∷ [] ∷ [] ∷ [] ∷ []
     ∷ [] ∷ [] ∷ [] ∷ (prune_echo_on_1 ∷ prune_star_up ∷ []) ∷ []
 
--- A source that is pruned off the shared tree downstream is pruned with the Join(*,G), and joined again
--- once it no longer is.
+-- A source that is pruned off the shared tree downstream is pruned with the Join(*,G), and joined again once it isn't
+-- pruned.
 abbrev pub PrunedSourceLeavesTheSharedTree : Type 0
 PrunedSourceLeavesTheSharedTree =
     run opened (frame 1 join_star_prune_rpt ∷ frame 1 join_star ∷ [])
     ≡ done_with (hello_on_0 ∷ join_star_prune_rpt_up ∷ []) ∷ done_with (join_rpt_up ∷ []) ∷ []
 
--- 10.0.0.9 joins the group beside the router
+-- 10.0.0.9, a router on the same link as this one, joins the group.
 abbrev pub joined_beside : List Event
 joined_beside = frame 0 hello_of_10_0_0_9 ∷ frame 1 join_star ∷ frame 0 join_star_beside ∷ []
 

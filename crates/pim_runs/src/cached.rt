@@ -28,7 +28,7 @@ pub fn longer_route_moves_one_row()
     ensures { LongerRouteMovesOneRow }
 {}
 
-/// A better DR empties the row of a source that receivers of its link asked for.
+/// A better DR empties the row of a source that receivers on its link requested.
 pub fn better_dr_empties_the_row()
     ensures { BetterDrEmptiesTheRow }
 {}

@@ -7,7 +7,7 @@ use Rattle.pim_router.specs.Standing.{Shown as RouterShown}
 pub record ShownSession : Type 0 where
   -- nothing once an allocation failed
   pub router : RouterShown
-  -- what the last accepted event sent
+  -- what the last event sent that had no fault
   pub sent : List Emission
   -- the rows of the table that was read last
   pub rows : List Row

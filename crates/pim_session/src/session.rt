@@ -37,7 +37,7 @@ use std::alloc::Global;
 use std::marker::Model;
 use std::mem;
 
-/// A router, the packets of the last event that it accepted, and the rows of the table that was read last.
+/// A router, the packets of the last event that had no fault, and the rows of the table that was read last.
 pub struct Session {
     router: Box<Router>,
     // An allocation failed, so the session has failed.
@@ -244,7 +244,7 @@ impl Session {
         Ok(())
     }
 
-    /// The packets of the last event that was accepted, in their order.
+    /// The packets of the last event that had no fault, in their order.
     pub fn sent(&self) -> &[Emission]
         ensures { result.now ≡ self.now.sent }
     {

@@ -48,7 +48,8 @@ impl<'a, V> Entries<'a, V> {
     pub(crate) fn of(group: Addr, found: &'a Group<V>) -> Self
         ensures { result ≡ keyed group.bits found.now }
     {
-        // Each leaves at once: a value that lends on one way alone isn't carried past a join.
+        // Each branch returns at once: a value that borrows on one branch only can't be carried past the end of the
+        // match.
         match &found.kept {
             Kept::Empty => return Entries::none(group),
             Kept::Star(value) => return Entries::of_star(group, &**value),

@@ -1,4 +1,4 @@
--- What is told upstream is told by what was opened.
+-- The messages upstream are those by what was opened.
 use Rattle.std.specs.Prelude.{List, ℕ, ◌≡◌}
 use Rattle.pim_types.specs.declared.fact.Key.{Key}
 use Rattle.pim_model.specs.State.{State}

@@ -1,4 +1,4 @@
--- What is told upstream, by what was opened: the touched groups and sources as they were.
+-- The messages upstream, by what was opened: the touched groups and sources as they were before the change.
 use Rattle.std.specs.Prelude.{List, [], if◌then◌else◌, ℕ, ◌++◌, ◌||◌}
 use Rattle.pim_types.specs.Keys.{rpt_key, source_key, star_key}
 use Rattle.pim_types.specs.declared.upstream.SourceView.{SourceView}

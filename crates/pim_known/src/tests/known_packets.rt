@@ -1,4 +1,4 @@
-//! What is written, beside bytes that come from outside.
+//! What is written, compared with bytes that come from outside.
 use igmp_wire::{GroupRecord, QueryHeader, RecordType, write_query, write_report};
 use pim_ip::{Addr, read_ipv4, sum16, write_copy, write_igmp_packet, write_pim_packet};
 use pim_wire::{
