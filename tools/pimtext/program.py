@@ -59,7 +59,7 @@ def unproved_program(is_sanitized: bool) -> str | None:
     if shutil.which("rt") is None:
         sys.exit("pimlab: it isn't built, and there is no command `rt`, the Rattle kit's, that could build it")
     try:
-        how_long = "one to two minutes" if is_sanitized else "about a minute"
+        how_long = "in one to two minutes" if is_sanitized else "in about a minute if the machine is idle"
         text = f"pimlab: building once, {how_long}; the build isn't proved (./test builds and proves)"
         print(text, file=sys.stderr, flush=True)
         have_kept(path, is_sanitized)

@@ -2,3 +2,4 @@ pub mod Apart
 mod Links
 pub mod Rows
 mod Tested
+mod UpKeys

@@ -1,14 +1,14 @@
 -- The interfaces of a router as one value, and the tests of a configuration that are about them.
 use Rattle.std.specs.List.{list_all}
-use Rattle.std.specs.Prelude.{List, Result, [], length, ℕ, ◌+◌, ◌<◌, ◌≡◌, ◌≤◌, ◌∷◌}
+use Rattle.std.specs.Prelude.{Bool, List, Result, [], is_none, length, nat_lt, not, ℕ, ◌&&◌, ◌+◌, ◌<◌, ◌==◌, ◌≡◌, ◌≤◌, ◌∷◌}
 use Rattle.pim_ip.specs.declared.refusal.Refusal.{Refusal}
 use Rattle.pim_ip.specs.Ipv4.{is_unicast}
 use Rattle.pim_ip.specs.Tests.{expect, ◌>>◌}
 use Rattle.pim_types.specs.declared.config.InterfaceConfig.{InterfaceConfig}
-use Rattle.pim_types.specs.declared.fact.InterfaceRow.{InterfaceRow}
+use Rattle.pim_types.specs.declared.fact.{InterfaceRow.InterfaceRow, Key.Key}
 use Rattle.pim_model.specs.Limits.{are_apart, is_between, is_delay_config, most_ifaces}
 use Rattle.pim_model.specs.Tables.{Table}
-use Rattle.pim_types.specs.Keys.{iface_in, iface_key}
+use Rattle.pim_types.specs.Keys.{group_in, iface_in, iface_key}
 
 -- the tests on how many interfaces there are, on their addresses and on their subnets
 unfoldable pub interfaces_test : List InterfaceConfig → Result (Unit {0}) Refusal
@@ -32,3 +32,7 @@ InterfacesRise low count (e ∷ es) =
 pub record IsHeld (configured : List InterfaceConfig) (rows : Table InterfaceRow) : Type 0 where
   pub within : length configured ≤ most_ifaces
   pub rise : InterfacesRise 0 (length configured) rows
+
+-- the key of an interface that is below a number
+abbrev pub is_up_key : ℕ → Key → Bool
+is_up_key count k = not k.rpt && (is_none k.source && ((group_in k == 0) && nat_lt (iface_in k) count))

@@ -1,4 +1,6 @@
 //! The interfaces of a router.
+ghost use Rattle.std.specs.List.{list_all};
+ghost use Rattle.std.specs.List.Sorted.{IsStrictlySortedBy};
 ghost use Rattle.std.specs.Prelude.{◌≡◌, ◌<◌, ◌≤◌, [], length, slice_get, option_map, IfSome, IsTrue, Ok, OnOk, OnErr, Some};
 ghost use Rattle.pim_model.specs.Hellos.{hellos_triggered};
 ghost use Rattle.pim_model.specs.State.{is_own_among};
@@ -6,10 +8,10 @@ ghost use Rattle.pim_model.specs.Clearing.{first_by};
 ghost use Rattle.pim_model.specs.Timers.{endings, is_ending_first};
 ghost use Rattle.pim_tables.specs.Ends.{due_of};
 ghost use Rattle.pim_types.specs.declared.timer.TimerKind.{TimerKind as Kind};
-ghost use Rattle.pim_model.specs.Tables.{change_row, drop_where, has_row, put, row_at};
-ghost use Rattle.pim_types.specs.Keys.{iface_key, is_on};
+ghost use Rattle.pim_model.specs.Tables.{change_row, drop_where, has_row, keys_in, put, row_at};
+ghost use Rattle.pim_types.specs.Keys.{iface_key, is_on, key_cmp};
 ghost use Rattle.pim_model.specs.Unicast.{link_among};
-ghost use Rattle.pim_ifaces.specs.Interfaces.{interfaces_test};
+ghost use Rattle.pim_ifaces.specs.Interfaces.{interfaces_test, is_up_key};
 ghost use Rattle.pim_model.specs.Writing.{hellos_paid};
 
 use crate::configured::Configured;
@@ -18,6 +20,7 @@ use pim_tables::Timed;
 use pim_types::fact::InterfaceRow;
 use pim_types::{Addr, IfaceId, InterfaceConfig, Key, Timer};
 use std::alloc::{AllocError, Global};
+use std::collections::btree_map::Iter;
 use std::marker::Model;
 
 /// The configured interfaces, and the rows of those that are up.
@@ -75,11 +78,27 @@ impl Interfaces {
         let _ = &self.configured;
     }
 
+    /// For the proof: each row is under the key of an interface that is configured. Does nothing when it runs.
+    pub fn recall_kinds(&self)
+        ensures { IsTrue (list_all (λ e. is_up_key (length self.now.configured) e.0) self.now.rows) }
+    {
+        let _ = &self.rows;
+    }
+
     /// The configured interfaces, by their numbers.
     pub fn configured(&self) -> &[InterfaceConfig]
         ensures { result.now ≡ self.now.configured }
     {
         self.configured.as_slice()
+    }
+
+    /// The rows of those that are up, by rising number.
+    pub fn rows(&self) -> Iter<'_, Key, InterfaceRow>
+        ensures rows { result ≡ self.now.rows }
+        ensures rising { IsStrictlySortedBy key_cmp (keys_in self.now.rows) }
+    {
+        self.rows.recall_rising();
+        self.rows.rows().iter()
     }
 
     /// What is configured of the interface. There is none past the last.

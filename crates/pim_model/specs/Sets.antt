@@ -162,14 +162,14 @@ lost_assert s g src i =
 
 -- ---- local receivers
 
--- the router serves receivers of G on I (4.1.5): (I_am_DR(I) AND lost_assert(*,G,I) == FALSE) OR AssertWinner(*,G,I) ==
--- me
+-- the router serves receivers of G on I (4.1.5):
+-- (I_am_DR(I) AND lost_assert(*,G,I) == FALSE) OR AssertWinner(*,G,I) == me
 -- reads: I_am_DR(I), the assert of (*,G) on the interface, RPF_interface(RP(G))
 unfoldable pub serves_star : State → ℕ → Set
 serves_star s g i = (is_dr s i && not (lost_assert_star s g i)) || is_winner (assert_star s g i)
 
--- the router serves receivers of (S,G) on I (4.1.5): (I_am_DR(I) AND lost_assert(S,G,I) == FALSE) OR
--- AssertWinner(S,G,I) == me
+-- the router serves receivers of (S,G) on I (4.1.5):
+-- (I_am_DR(I) AND lost_assert(S,G,I) == FALSE) OR AssertWinner(S,G,I) == me
 -- reads: I_am_DR(I), and what lost_assert(S,G) reads
 unfoldable pub serves : State → ℕ → ℕ → Set
 serves s g src i = (is_dr s i && not (lost_assert s g src i)) || is_winner (assert_source s g src i)

@@ -140,6 +140,20 @@ impl Mrib {
         Ok(Ok(()))
     }
 
+    /// The routes, in the order in which they were given.
+    pub fn routes(&self) -> &[Route]
+        ensures { result.now ≡ self.now.routes }
+    {
+        self.routes.as_slice()
+    }
+
+    /// The RP ranges, in the order in which they were given.
+    pub fn ranges(&self) -> &[RpRange]
+        ensures { result.now ≡ self.now.ranges }
+    {
+        self.ranges.as_slice()
+    }
+
     /// Whether these are its routes, in their order.
     pub fn has_routes(&self, routes: &[Route]) -> bool
         ensures { IsTrue result ↔ (self.now.routes ≡ routes.now) }

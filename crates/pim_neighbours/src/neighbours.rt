@@ -5,7 +5,7 @@ ghost use Rattle.pim_model.specs.Clearing.{first_by};
 ghost use Rattle.pim_model.specs.Downstream.{holdtime_end_from};
 ghost use Rattle.pim_model.specs.Hellos.{is_generation_changed_among, neighbours_replaced};
 ghost use Rattle.pim_model.specs.Neighbours.{all_have_priority, is_better_dr, is_dr_among, is_suppression_among, nbr_among, override_interval_among, propagation_delay_among, t_override_among, t_suppressed_among};
-ghost use Rattle.pim_model.specs.Tables.{drop_at, drop_where, has_row, keys_in, row_at, rows_on, same_option};
+ghost use Rattle.pim_model.specs.Tables.{drop_at, drop_where, has_row, keys_in, put, row_at, rows_on, same_option};
 ghost use Rattle.pim_model.specs.Timers.{endings, is_ending_first};
 ghost use Rattle.pim_neighbours.specs.Refreshed.{is_refreshed};
 ghost use Rattle.pim_tables.specs.Ends.{due_of};
@@ -362,6 +362,14 @@ impl Neighbours {
             generation: hello.generation,
         };
         self.rows.put(key, row)
+    }
+
+    /// Puts this neighbour under the key, in place of one that is there. An error is want of memory, and changes nothing.
+    pub fn put(&mut self, key: Key, neighbour: NeighbourRow) -> Result<(), AllocError>
+        ensures ok { OnOk result (self.new ≡ put self.old key neighbour) }
+        ensures err { OnErr result (self.new ≡ self.old) }
+    {
+        self.rows.put(key, neighbour)
     }
 
     /// Takes the neighbour under the key away.

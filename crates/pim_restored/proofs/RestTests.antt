@@ -54,7 +54,7 @@ ordered_is s e =
 ordered_so : (s : State) → IsOrdered s → all_pass (order_tests s) ≡ true
 ordered_so s h = all (order_tests s) (do_rise (keys_in s.interfaces) h.interfaces, (do_rise (keys_in s.neighbours) h.neighbours, (do_rise (keys_in s.queriers) h.queriers, (do_rise (keys_in s.group_records) h.group_records, (do_rise (keys_in s.source_records) h.source_records, (do_rise (keys_in s.group_repeats) h.group_repeats, (do_rise (keys_in s.source_repeats) h.source_repeats, (do_rise (keys_in s.sendings) h.sendings, (do_rise (keys_in s.downstream) h.downstream, (do_rise (keys_in s.asserts) h.asserts, (do_rise (keys_in s.join_timers) h.join_timers, (do_rise (keys_in s.override_timers) h.override_timers, (do_rise (keys_in s.sources) h.sources, (do_rise (keys_in s.registers) h.registers, tt))))))))))))))
 
-firable_is : (s : State) → all_pass (firing_tests s) ≡ true → IsFirable s
+pub firable_is : (s : State) → all_pass (firing_tests s) ≡ true → IsFirable s
 firable_is s e =
     let p = each (firing_tests s) e in
     record {
@@ -68,10 +68,10 @@ firable_is s e =
       source_repeats = p.1.1.1.1.1.1.1.0;
     }
 
-firable_so : (s : State) → IsFirable s → all_pass (firing_tests s) ≡ true
+pub firable_so : (s : State) → IsFirable s → all_pass (firing_tests s) ≡ true
 firable_so s h = all (firing_tests s) (h.robustness, (h.query_interval, (h.last_member_query_interval, (h.queriers, (h.group_records, (h.source_records, (h.group_repeats, (h.source_repeats, tt))))))))
 
-tidy_is : (s : State) → all_pass (tidy_tests s) ≡ true → IsTidy s
+pub tidy_is : (s : State) → all_pass (tidy_tests s) ≡ true → IsTidy s
 tidy_is s e =
     let p = each (tidy_tests s) e in
     record {
@@ -87,7 +87,7 @@ tidy_is s e =
       sources = p.1.1.1.1.1.1.1.1.1.0;
     }
 
-tidy_so : (s : State) → IsTidy s → all_pass (tidy_tests s) ≡ true
+pub tidy_so : (s : State) → IsTidy s → all_pass (tidy_tests s) ≡ true
 tidy_so s h = all (tidy_tests s) (h.neighbours, (h.queriers, (h.group_records, (h.source_records, (h.group_repeats, (h.source_repeats, (h.sendings, (h.downstream, (h.asserts, (h.sources, tt))))))))))
 
 quiet_is : (s : State) → all_pass (quiet_tests s) ≡ true → IsQuiet s

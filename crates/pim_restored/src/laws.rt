@@ -1,5 +1,5 @@
 //! The laws.
-ghost use Rattle.pim_restored.specs.Restart.{LaterRunIsAsked, LaterStateIsReached, RestartChangesNothing, RestartIsAsked, SavedIsAccepted, SavedIsAtRest};
+ghost use Rattle.pim_restored.specs.Restart.{AcceptedStays, LaterRunIsAsked, LaterStateIsReached, RestartChangesNothing, RestartIsAsked, SavedIsAccepted, SavedIsAtRest};
 ghost use Rattle.pim_restored.specs.Reload.{FreshSettingsKeepRest, ReloadIsAtRest, SameConfigurationChangesNothing};
 ghost use Rattle.pim_restored.specs.Resting.{NextTellsAhead, RestIsDecided};
 
@@ -56,4 +56,9 @@ pub fn next_tells_ahead()
 /// A state of a run is under a configuration that is accepted.
 pub fn saved_is_accepted()
     ensures { SavedIsAccepted }
+{}
+
+/// Each event leaves the configuration accepted.
+pub fn accepted_stays()
+    ensures { AcceptedStays }
 {}

@@ -4,7 +4,7 @@
 mod laws;
 
 pub use laws::{
-    fresh_settings_keep_rest, later_run_is_asked, later_state_is_reached, next_tells_ahead,
-    reload_is_at_rest, rest_is_decided, restart_changes_nothing, restart_is_asked,
-    same_configuration_changes_nothing, saved_is_accepted, saved_is_at_rest,
+    accepted_stays, fresh_settings_keep_rest, later_run_is_asked, later_state_is_reached,
+    next_tells_ahead, reload_is_at_rest, rest_is_decided, restart_changes_nothing,
+    restart_is_asked, same_configuration_changes_nothing, saved_is_accepted, saved_is_at_rest,
 };

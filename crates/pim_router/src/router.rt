@@ -32,6 +32,8 @@ ghost use Rattle.pim_model.specs.Sure.{needs_no_memory};
 ghost use Rattle.pim_locality.specs.Rest.{IsAtRest};
 ghost use Rattle.pim_promises.specs.Bounded.{IsBounded};
 
+mod hosts;
+
 use crate::event::take_in;
 use crate::plane::{bare_packet, keep, offer};
 use pim_fanout::Cache;

@@ -5,6 +5,7 @@ use Rattle.pim_types.specs.declared.fact.Key.{Key}
 use Rattle.pim_types.specs.Keys.{is_on, same_key}
 use Rattle.pim_types.proofs.Keys.{same_key_same}
 use Rattle.pim_model.specs.Tables.{Table, has_row, row_at}
+use Rattle.pim_store.specs.PimTables.{PimTables, are_of_kind, is_assert_key, is_plain_key, is_rpt_key, is_source_key}
 use Rattle.pim_store.specs.Said.{is_of_iface, is_plain_of_iface, is_source_of_router}
 
 left_true : (a b : Bool) → (a && b) ≡ true → a ≡ true
@@ -56,3 +57,11 @@ module _ {R : Type 0} (test : Key → Bool) where
       both (test e.0) (list_all (λ e. test e.0) t)
       (fit e.0 (here (same_key e.0 e.0) e.1 (row_at t e.0) (same_key_same e.0)))
       (all_fit t (λ k there. fit k (past (same_key k e.0) e.1 (row_at t k) there)))
+
+-- all tables, each by itself
+pub each_of_kind : (f : PimTables) → list_all (λ e. is_of_iface e.0) f.downstream ≡ true
+    → list_all (λ e. is_assert_key e.0) f.asserts ≡ true → list_all (λ e. is_plain_key e.0) f.join_timers ≡ true
+    → list_all (λ e. is_rpt_key e.0) f.override_timers ≡ true → list_all (λ e. is_source_key e.0) f.sources ≡ true
+    → list_all (λ e. is_source_key e.0) f.registers ≡ true → are_of_kind f ≡ true
+each_of_kind f downstream asserts join_timers override_timers sources registers =
+    both _ _ downstream (both _ _ asserts (both _ _ join_timers (both _ _ override_timers (both _ _ sources registers))))

@@ -2,7 +2,7 @@
 use Rattle.std.proofs.Common.{◌≡◌, ◌+◌, ℕ, Bool, true, false, cond, length, suc, [], ◌∷◌, Option, Some, None, Result, Ok, Err, is_some, not, option_map, refl, sym, ap, subst, ◌∙◌, arith}
 use Rattle.std.specs.Prelude.{OnErr, OnOk}
 use Rattle.std.proofs.lemmas.Bool.{true≢false}
-use Rattle.std.specs.List.{cons_option, filter}
+use Rattle.std.specs.List.{cons_option, filter, list_all}
 use Rattle.std.specs.List.Sorted.{IsStrictlySortedBy}
 use Rattle.std.specs.Option.{option_and_then}
 use Rattle.std.specs.Ordering.{is_eq, match_ordering}
@@ -21,8 +21,10 @@ use Rattle.pim_tables.proofs.Lookups.{none_goes}
 use Rattle.pim_tables.proofs.RisingRows.{Above, Up, none_above, sorted_of_up, up_of_sorted}
 use Rattle.pim_tables.proofs.RowsIn.{differ_in, found_in, same_in, set_in, up_in}
 use Rattle.pim_timers.specs.Armed.{Entries}
+use Rattle.pim_store.proofs.Fitting.{all_fit}
 use Rattle.pim_store.proofs.Lowered.{changed_there}
 use Rattle.pim_store.specs.JoinTimers.{AreKept}
+use Rattle.pim_store.specs.PimTables.{is_plain_key}
 use Rattle.pim_source_trie.specs.Entries.{entry_key}
 use Rattle.pim_store.specs.Said.{AreEntries, KeepsMarks, Writes, WritesTimer, mark_key, said, seen, seen_in, source_bits, timer_in, timers_in, tunnel_in}
 use Rattle.pim_store.specs.declared.marks.Mark.{Mark}
@@ -235,6 +237,18 @@ entry_at t all k other = go (row_at t k) refl
 pub no_timer_astray : (t : Table Marks) → IsStrictlySortedBy key_cmp (keys_in t) → AreEntries t → (k : Key)
     → same_key k (entry_key k.group k.source) ≡ false → row_at (timers_in t) k ≡ None
 no_timer_astray t rise all k other = found_timer t rise k ∙ entry_at t all k other
+
+-- a Join timer is of (*,G) or (S,G)
+pub timers_plain : (t : Table Marks) → IsStrictlySortedBy key_cmp (keys_in t) → AreEntries t
+    → list_all (λ e. is_plain_key e.0) (timers_in t) ≡ true
+unfolding has_row
+timers_plain t rise all = all_fit is_plain_key (timers_in t) (λ k there. go k (same_key k (entry_key k.group k.source)) refl there)
+  where
+    go : (k : Key) (b : Bool) → same_key k (entry_key k.group k.source) ≡ b → is_some (row_at (timers_in t) k) ≡ true
+        → is_plain_key k ≡ true
+    go k true same there =
+        subst (λ (q : Key). is_plain_key q ≡ true) (sym (equal_keys k (entry_key k.group k.source) same)) refl
+    go k false other there = absurd (true≢false (sym there ∙ ap is_some (no_timer_astray t rise all k other)))
 
 pub no_timer_under : (t : Table Marks) → IsStrictlySortedBy key_cmp (keys_in t) → AreEntries t → (k : Key)
     → row_at (timers_in t) (entry_key k.group k.source) ≡ None → row_at (timers_in t) k ≡ None

@@ -28,7 +28,7 @@ use Rattle.pim_laws.proofs.Numbers.{RisesFrom, any_ascending, members_tell, rise
 use Rattle.pim_source_trie.specs.Entries.{entry_key, nodes_visited}
 use Rattle.pim_source_trie.proofs.Visited.{same_visited}
 use Rattle.pim_store.specs.PimTables.{PimTables, stored_keys}
-use Rattle.pim_store.specs.Said.{AreEntries, IsTold, is_about, is_plain_of_iface, is_source_of_router, mark_key, place, row_says, said, seen_in, source_bits, timers_in}
+use Rattle.pim_store.specs.Said.{AreEntries, IsTold, is_about, is_plain_of_iface, is_rpt_of_router, is_source_of_router, mark_key, place, row_says, said, seen_in, source_bits, timers_in}
 use Rattle.pim_store.specs.Sources.{sources_in}
 use Rattle.pim_store.specs.Stored.{IsIndexed}
 use Rattle.pim_store.specs.Telling.{assert_says, downstream_says, is_told_by}
@@ -237,7 +237,7 @@ module _ (marks : Table Marks) (f : PimTables) (entries : AreEntries marks) (is 
     join_timers = ap (λ t. list_any p (keys_in t)) is.join_timers ∙ no_timer;
     override_timers = none_among p f.override_timers (λ k passes.
         no_row k is.override_timers
-        (λ r fit. record { mark = HasOverrideTimer; tell = refl; about = fit; yes_said = refl }) (at k passes));
+        (λ r fit. record { mark = HasOverrideTimer; tell = refl; about = of_rpt k fit; yes_said = refl }) (at k passes));
     sources = none_among p f.sources (λ k passes.
         no_row k is.sources (λ r fit. record { mark = HasSource; tell = refl; about = plain k fit; yes_said = refl })
         (at k passes));
@@ -248,6 +248,9 @@ module _ (marks : Table Marks) (f : PimTables) (entries : AreEntries marks) (is 
     where
       no_timer : list_any p (keys_in (timers_in marks)) ≡ false
       no_timer = none_in (λ (m : Marks). m.join_timer) p marks none
+
+      of_rpt : (k : Key) → is_rpt_of_router k ≡ true → ((iface_in k == 0) && k.rpt) ≡ true
+      of_rpt k fit = first_so ((iface_in k == 0) && k.rpt) (is_some k.source) fit
 
       plain : (k : Key) → is_source_of_router k ≡ true → ((iface_in k == 0) && not k.rpt) ≡ true
       plain k fit = first_so ((iface_in k == 0) && not k.rpt) (is_some k.source) fit

@@ -68,6 +68,34 @@ pub record AreKeyed (f : PimTables) : Type 0 where
   pub sources_rise : IsStrictlySortedBy key_cmp (keys_in f.sources)
   pub registers_rise : IsStrictlySortedBy key_cmp (keys_in f.registers)
 
+-- a Join timer is of (*,G) or (S,G), an override timer of (S,G,rpt), both of the whole router
+abbrev pub is_plain_key : Key → Bool
+is_plain_key k = (iface_in k == 0) && not k.rpt
+
+abbrev pub is_rpt_key : Key → Bool
+is_rpt_key k = (iface_in k == 0) && k.rpt && is_some k.source
+
+-- each is under a key of its kind
+abbrev pub are_of_kind : PimTables → Bool
+are_of_kind f =
+    list_all (λ e. nat_lt (iface_in e.0) 120) f.downstream
+    && (list_all (λ e. is_assert_key e.0) f.asserts
+    && (list_all (λ e. is_plain_key e.0) f.join_timers
+    && (list_all (λ e. is_rpt_key e.0) f.override_timers
+    && (list_all (λ e. is_source_key e.0) f.sources && list_all (λ e. is_source_key e.0) f.registers))))
+
+abbrev pub Rises : {R : Type 0} → Table R → Type 0
+Rises t = IsStrictlySortedBy key_cmp (keys_in t)
+
+-- the keys of each table rise
+pub record AllRise (f : PimTables) : Type 0 where
+  pub downstream : Rises f.downstream
+  pub asserts : Rises f.asserts
+  pub join_timers : Rises f.join_timers
+  pub override_timers : Rises f.override_timers
+  pub sources : Rises f.sources
+  pub registers : Rises f.registers
+
 -- The downstream state is Prune, and not Prune-Pending.
 abbrev pub is_prune : Option DownstreamRow → Bool
 is_prune row = option_map_or (λ (r : DownstreamRow). is_none r.pending) row false

@@ -148,7 +148,7 @@ abbrev pub is_source_of_router : Key → Bool
 is_source_of_router k = (iface_in k == 0) && not k.rpt && is_some k.source
 
 abbrev pub is_rpt_of_router : Key → Bool
-is_rpt_of_router k = (iface_in k == 0) && k.rpt
+is_rpt_of_router k = (iface_in k == 0) && k.rpt && is_some k.source
 
 module _ {R : Type 0} (tells : Mark → Bool) (says : Mark → R → Bool) where
   -- The row sets the mark; no row sets none.

@@ -1,5 +1,6 @@
 //! The marks of all groups and sources.
-ghost use Rattle.std.specs.Prelude.{◌≡◌, ◌≤◌, ◌&&◌, [], ℕ, IsTrue, None, Some, OnOk, OnErr, cond, false, filter, map, option_map};
+ghost use Rattle.std.specs.Prelude.{◌≡◌, ◌≤◌, ◌&&◌, [], ℕ, IsTrue, None, Some, OnOk, OnErr, cond, false, filter, length, map, option_map};
+ghost use Rattle.std.specs.List.{list_all};
 ghost use Rattle.std.specs.List.Sorted.{IsStrictlySortedBy};
 ghost use Rattle.pim_model.specs.Tables.{ascending, change_row, has_row, keys_in, row_at, set_row};
 ghost use Rattle.pim_model.specs.Clearing.{first_by};
@@ -9,6 +10,7 @@ ghost use Rattle.pim_types.specs.Keys.{group_in, is_of_group, key_cmp};
 ghost use Rattle.pim_source_trie.specs.Entries.{entry_key, nodes_visited, raised};
 ghost use Rattle.pim_store.specs.Entry.{with_plain};
 ghost use Rattle.pim_store.specs.JoinTimers.{AreTimersBeside, AreTimersInStep, GivesBeside, IsThere, IsTimerArmed};
+ghost use Rattle.pim_store.specs.PimTables.{is_plain_key};
 ghost use Rattle.pim_store.specs.Said.{AreEntries, AreLookedUp, SetsMarks, KeepsMarks, Writes, WritesTimer, is_about, row_says, said, seen, source_bits, timer_in, timers_in, tunnel_in};
 ghost use Rattle.pim_store.specs.declared.marks.Mark.{Mark as MarkValue};
 ghost use Rattle.pim_store.specs.declared.marks.Marks.{Marks as MarksValue};
@@ -326,6 +328,22 @@ impl Index {
         ensures { result ≡ timers_in self.now }
     {
         JoinTimerRows::among(self.entries.iter())
+    }
+
+    // How many Join timers there are.
+    pub(crate) fn timer_count(&self) -> usize
+        ensures { result ≡ length (timers_in self.now) }
+    {
+        self.timers
+    }
+
+    // For the proof: the Join timers are under keys of (*,G) and (S,G), which rise. Does nothing when it runs.
+    pub(crate) fn recall_keyed_timers(&self)
+        ensures kind { IsTrue (list_all (λ e. is_plain_key e.0) (timers_in self.now)) }
+        ensures rising { IsStrictlySortedBy key_cmp (keys_in (timers_in self.now)) }
+    {
+        // Its contract says that the keys of all entries rise.
+        let _ = self.entries.is_empty();
     }
 
     // Sets or removes the Join timer of the key's group, or of its source, whose entry is given. The error is want of

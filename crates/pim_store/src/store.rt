@@ -1,5 +1,5 @@
 //! The PIM facts.
-ghost use Rattle.std.specs.Prelude.{◌≡◌, ◌<◌, ◌≤◌, ◌+◌, ◌^◌, ◌==◌, ◌++◌, ◌&&◌, ℕ, None, Some, IsSome, IsTrue, IfOk, OnOk, false, filter, is_some, nat_lt, not, option_map, true};
+ghost use Rattle.std.specs.Prelude.{◌≡◌, ◌<◌, ◌≤◌, ◌+◌, ◌^◌, ◌==◌, ◌++◌, ◌&&◌, ℕ, None, Some, IsSome, IsTrue, IfOk, OnOk, false, filter, is_some, length, nat_lt, not, option_map, true};
 ghost use Rattle.std.specs.List.{list_all, list_any};
 ghost use Rattle.pim_ifset.specs.Members.{has};
 ghost use Rattle.pim_model.specs.Clearing.{first_by};
@@ -12,7 +12,7 @@ ghost use Rattle.pim_source_trie.specs.Entries.{nodes_visited, raised};
 ghost use Rattle.pim_tables.specs.Ends.{due_of};
 ghost use Rattle.pim_types.specs.Keys.{group_in, iface_in, is_of_group, is_on, names_source, rpt_key, same_key, source_key};
 ghost use Rattle.pim_store.specs.Bare.{IsWithoutTunnel};
-ghost use Rattle.pim_store.specs.PimTables.{AreKeyed, counted_facts, fact_key, is_prune, kept_alive, lowered_join_timer, no_facts, stored_endings, stored_keys};
+ghost use Rattle.pim_store.specs.PimTables.{AllRise, AreKeyed, are_of_kind, counted_facts, fact_key, is_prune, kept_alive, lowered_join_timer, no_facts, stored_endings, stored_keys};
 ghost use Rattle.pim_store.specs.Visits.{Visits};
 
 use crate::changes::{KeepAlive, Lowering};
@@ -588,6 +588,39 @@ impl Store {
         self.asserts.recall_rising();
         self.sources.recall_rising();
         self.registers.recall_rising();
+    }
+
+    /// For the proof: the keys of each table rise. Does nothing when it runs.
+    pub fn recall_rising(&self)
+        ensures { AllRise self.now }
+    {
+        self.downstream.recall_rising();
+        self.asserts.recall_rising();
+        self.index.recall_keyed_timers();
+        self.override_timers.recall_rising();
+        self.sources.recall_rising();
+        self.registers.recall_rising();
+    }
+
+    /// For the proof: each fact is under a key of its kind. Does nothing when it runs.
+    pub fn recall_kinds(&self)
+        ensures { IsTrue (are_of_kind self.now) }
+    {
+        self.index.recall_keyed_timers();
+    }
+
+    /// How many Join timers there are.
+    pub fn join_timer_count(&self) -> usize
+        ensures { result ≡ length self.now.join_timers }
+    {
+        self.index.timer_count()
+    }
+
+    /// How many sources there are.
+    pub fn source_count(&self) -> usize
+        ensures { result ≡ length self.now.sources }
+    {
+        self.sources.len()
     }
 
     /// How many facts count: the downstream states, the asserts and the sources.

@@ -1,0 +1,25 @@
+//! What the front asks of the querier of version 3 behind it.
+ghost use Rattle.std.specs.Prelude.{◌≡◌, ℕ};
+ghost use Rattle.pim_model.specs.Tables.{Table, has_row};
+ghost use Rattle.pim_types.specs.Keys.{star_key};
+ghost use Rattle.pim_types.specs.declared.fact.GroupRecordRow.{GroupRecordRow};
+
+use pim_ip::Addr;
+use pim_types::IfaceId;
+
+/// The querier of version 3 behind the front. It keeps a record for each group on an interface that has members.
+pub trait Querier {
+    /// Its present moment, in ms.
+    ghost present: { Self → ℕ };
+
+    /// Its group records.
+    ghost group_records: { Self → Table GroupRecordRow };
+
+    /// Its present moment, in ms.
+    fn present(&self) -> u64
+        ensures { result ≡ present self.now };
+
+    /// Whether it has a record of a group on an interface.
+    fn has_group_record(&self, iface: IfaceId, group: Addr) -> bool
+        ensures { result ≡ has_row (group_records self.now) (star_key iface.number group.bits) };
+}

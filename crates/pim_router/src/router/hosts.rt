@@ -1,0 +1,47 @@
+//! What a front for hosts of older versions of IGMP asks of the router.
+ghost use Rattle.std.specs.Option.{option_map_or};
+ghost use Rattle.std.specs.Prelude.{◌≡◌, ◌+◌, false};
+ghost use Rattle.pim_model.specs.Querier.{group_membership_interval};
+ghost use Rattle.pim_model.specs.Tables.{has_row};
+ghost use Rattle.pim_types.specs.Keys.{star_key};
+
+use super::Router;
+use pim_querier::intervals::group_membership_interval;
+use pim_types::{Addr, IfaceId};
+
+impl Router {
+    /// The present moment, in ms; 0 where the router has failed. No memory is taken.
+    pub fn present(&self) -> u64
+        ensures { result ≡ option_map_or (λ r. r.state.present) self.now.standing 0 }
+    {
+        if self.failed {
+            return 0;
+        }
+        self.world.present()
+    }
+
+    /// When the membership ends that a report on the interface makes at the present moment, in ms: [Group Membership
+    /// Interval] (RFC 3376, section 8.4) from then, by the values in force on the interface. 0 where the router has
+    /// failed. No memory is taken.
+    pub fn membership_end(&self, iface: IfaceId) -> u64
+        ensures { result ≡ option_map_or
+            (λ r. r.state.present + group_membership_interval r.state iface.number) self.now.standing 0 }
+    {
+        if self.failed {
+            return 0;
+        }
+        self.world.present() + group_membership_interval(&self.world, iface)
+    }
+
+    /// Whether there is a group record of the group on the interface, in either mode; none where the router has failed. No
+    /// memory is taken.
+    pub fn has_group_record(&self, iface: IfaceId, group: Addr) -> bool
+        ensures { result ≡ option_map_or
+            (λ r. has_row r.state.group_records (star_key iface.number group.bits)) self.now.standing false }
+    {
+        if self.failed {
+            return false;
+        }
+        self.world.has_group_record(iface, group)
+    }
+}
