@@ -1,7 +1,9 @@
 -- What is read before the moves, and then move by move, is what the whole document says.
-use Rattle.std.proofs.Common.{◌≡◌, ◌⊎◌, ℕ, zero, suc, ◌+◌, ◌-◌, ◌<◌, ◌≤◌, Bool, true, false, not, cond, ◌&&◌, ◌||◌, ◌==◌, List, [], ◌∷◌, ◌++◌, length, get_or, drop, slice_index, codes, Option, Some, None, is_some, option_map, option_and_then, refl, sym, ap, ◌∙◌, subst, inl, inr, arith, Ordering, Less, Equal, Greater, nat_cmp, is_eq, append_assoc}
-use Rattle.std.proofs.lemmas.Bool.{cases_Bool, and_parts, and_from, or_cases, true≢false, false≢true}
+use Rattle.std.proofs.Common.{◌≡◌, ◌⊎◌, ℕ, zero, suc, ◌+◌, ◌-◌, ◌<◌, ◌≤◌, Bool, true, false, not, cond, ◌&&◌, ◌||◌, ◌==◌, List, [], ◌∷◌, ◌++◌, length, get_or, take, drop, slice_index, slice_index_or, nat_eq, codes, Option, Some, None, is_some, option_map, option_and_then, refl, sym, ap, ◌∙◌, subst, inl, inr, arith, Ordering, Less, Equal, Greater, nat_cmp, is_eq, append_assoc}
+use Rattle.std.proofs.lemmas.Bool.{cases_Bool, and_parts, and_from, or_cases, true≢false, false≢true, eqb-true, OnTrue_from}
+use Rattle.std.specs.Bool.{OnTrue}
 use Rattle.std.proofs.lemmas.Option.{none-some, same_Some}
+use Rattle.std.proofs.lemmas.List.{take-append-drop}
 use Rattle.std.proofs.lemmas.Slice.Eq.{bytes_eq-Decides}
 use Rattle.std.specs.List.{AllZip, list_any}
 use Rattle.std.specs.Ordering.{match_ordering}
@@ -14,7 +16,7 @@ use Rattle.pim_scenario.specs.declared.scenario.RouterText.{RouterText}
 use Rattle.pim_scenario.specs.declared.scenario.ScenarioMove.{ScenarioMove}
 use Rattle.pim_scenario.specs.declared.scenario.Scenario.{Scenario}
 use Rattle.pim_scenario.specs.Fields.{has_only, is_known, list_of, list_or_empty, read_or, values_of}
-use Rattle.pim_scenario.specs.Pieces.{ends, move_key, is_flat, BeginsLine, IsMoveText, IsCut, IsReached, HoldsMoves, HasMoves, EndsWithMoves, SaysMoves, IsMoveAlone}
+use Rattle.pim_scenario.specs.Pieces.{ends, move_key, is_flat, BeginsLine, IsMoveText, BeginsHeader, IsCut, IsReached, HoldsMoves, HasMoves, EndsWithMoves, SaysMoves, IsMoveAlone}
 use Rattle.pim_scenario.specs.Scenario.{AreRouters, IsMove, IsReadFrom, IsScenario, IsTable}
 use Rattle.pim_scenario.proofs.PieceBytes.{on}
 use Rattle.pim_scenario.proofs.PieceDocuments.{read_head, read_block, read_last, closed_get, absent_node, moves_there, others_there}
@@ -31,13 +33,20 @@ ends_at (c ∷ d ∷ t) some last =
     let back : suc (length t) - 1 ≡ length t = omega arith in
     ends_at (d ∷ t) (omega arith) (rw back (rw less at last))
 
-pub begins_at : (t : List ℕ) → 0 < length t → get_or t 0 0 ≡ 10 → BeginsLine t
-begins_at [] some at_front = absurd (omega arith)
-begins_at (c ∷ t) some at_front = (t, ap (λ (x : ℕ). x ∷ t) at_front)
+pub ends_test : (t bytes : List ℕ) → bytes ≡ t → 0 < length bytes → OnTrue (nat_eq (slice_index_or bytes (length bytes - 1) 0) 10) (ends t ≡ true)
+ends_test t bytes is some = OnTrue_from _ _ (λ e. subst (λ (x : List ℕ). ends x ≡ true) is (ends_at bytes some (eqb-true _ 10 e)))
 
-pub bracket_at : (t : List ℕ) → 0 < length t → get_or t 0 0 ≡ 91 → (rest : List ℕ) × (t ≡ 91 ∷ rest)
-bracket_at [] some at_front = absurd (omega arith)
-bracket_at (c ∷ t) some at_front = (t, ap (λ (x : ℕ). x ∷ t) at_front)
+-- a test of what is made of a value
+pub mapped_test : {A B : Type 0} (f : A → B) (r : Option A) (o : Option B) (b : Bool) → option_map f r ≡ o → b ≡ is_some r → b ≡ is_some o
+mapped_test f None o b e t = t ∙ ap is_some e
+mapped_test f (Some x) o b e t = t ∙ ap is_some e
+
+pub header_text : (text header rest : List ℕ) → header ≡ take 8 text → rest ≡ drop 8 text → header ≡ codes "[[move]]" → BeginsLine rest → IsMoveText text rest
+header_text text header rest front back is begins =
+    (sym (take-append-drop 8 text) ∙ ap (λ (t : List ℕ). t ++ drop 8 text) (sym front ∙ is) ∙ ap (λ (t : List ℕ). codes "[[move]]" ++ t) (sym back), begins)
+
+pub cut_text : (text front back : List ℕ) (n : ℕ) → front ≡ take n text → back ≡ drop n text → ends front ≡ true → BeginsHeader back → IsCut text front back
+cut_text text front back n is_front is_back over begins = (rw (is_front, is_back) (sym (take-append-drop n text)), over, begins)
 
 -- a part that begins a text begins as the text does
 front_line : (block next b : List ℕ) → ends block ≡ true → block ++ next ≡ 10 ∷ b → BeginsLine block
@@ -144,8 +153,10 @@ whole_scenario text front back ms ds s cut parsed only at_router routers says =
     subst (λ (t : List ℕ). IsReached text w t) (sym is_back) (subst (λ (t : List ℕ). IsReached t w (91 ∷ tail)) (sym whole) reached) in
     let (vals, x, is_array, read, all) = says text ns none (no_items, w, inl (refl, refl), there, tt) in
     let keys : has_only both (close ns) ≡ true = only_more (close ns) (ap (has_only (codes "router" ∷ [])) closed ∙ only) in
+    let at_moves : get_member move_key (close (insert move_key x ns)) ≡ Some (array vals) =
+    closed_get move_key (insert move_key x ns) ∙ ap (option_map close_node) (get_node-insert move_key x ns) ∙ ap (λ (d : Data). Some d) is_array in
     (close (insert move_key x ns), read, record {
       keys = only_inserted x ns keys;
       routers = (ds, routers_beside x ns ms closed none ∙ sym at_router, routers);
-      moves = (values_of vals, ap (read_or list_of []) (closed_get move_key (insert move_key x ns) ∙ rw (get_node-insert move_key x ns, is_array)), all);
+      moves = (values_of vals, ap (read_or list_of []) at_moves, all);
     })

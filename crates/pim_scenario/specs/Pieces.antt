@@ -21,13 +21,17 @@ ends (c ∷ d ∷ t) = ends (d ∷ t)
 abbrev pub BeginsLine : List ℕ → Type 0
 BeginsLine text = (rest : List ℕ) × (text ≡ 10 ∷ rest)
 
+-- the first byte is a bracket
+abbrev pub BeginsHeader : List ℕ → Type 0
+BeginsHeader text = (rest : List ℕ) × (text ≡ 91 ∷ rest)
+
 -- `[[move]]` alone on its line, and the text from the end of that line on
 abbrev pub IsMoveText : List ℕ → List ℕ → Type 0
 IsMoveText text rest = (text ≡ codes "[[move]]" ++ rest) × BeginsLine rest
 
 -- the text in two parts, of which the first ends with a line and the second begins with a bracket
 abbrev pub IsCut : List ℕ → List ℕ → List ℕ → Type 0
-IsCut text front back = (text ≡ front ++ back) × (ends front ≡ true) × ((rest : List ℕ) × (back ≡ 91 ∷ rest))
+IsCut text front back = (text ≡ front ++ back) × (ends front ≡ true) × BeginsHeader back
 
 -- ---- tables of values alone
 

@@ -6,10 +6,10 @@ ghost use Rattle.std.specs.List.{list_any};
 ghost use Rattle.toml.specs.Parse.{parse_document};
 ghost use Rattle.toml.specs.View.{view, table_view};
 ghost use Rattle.pim_scenario.specs.Pieces.{ends, is_flat, is_plain, is_table};
-ghost use Rattle.pim_scenario.specs.Pieces.{BeginsLine, IsCut, IsMoveAlone, IsMoveText, SaysMoves};
+ghost use Rattle.pim_scenario.specs.Pieces.{BeginsHeader, BeginsLine, IsCut, IsMoveAlone, IsMoveText, SaysMoves};
 ghost use Rattle.pim_scenario.specs.Scenario.{IsReadFrom};
 
-use super::{RouterText, Scenario, ScenarioMove, Unread, Wrong, field, moves, router};
+use super::{RouterText, Scenario, ScenarioMove, Unread, field, moves, router};
 use pim_types::Series;
 use std::alloc::Global;
 use toml::{Table, Value};
@@ -19,7 +19,9 @@ use toml::{Table, Value};
 pub(super) fn scenario_in(alloc: Global, text: &str) -> Result<Scenario, Unread>
     ensures { IfOk result (IsReadFrom text.now) }
 {
-    let (front, back) = before_move(text).ok_or(Wrong)?;
+    let Some((front, back)) = before_move(text) else {
+        return Err(Unread::Wrong);
+    };
     let table = document(alloc, front)?;
     field::only(&table, &["router"])?;
     let routers = router::routers_in(alloc, field::list_or_empty(&table, "router")?)?;
@@ -37,8 +39,10 @@ fn moves_in(
 {
     let mut moves = Series::new(alloc);
     let mut rest = text;
-    for _ in 0..text.len() {
-        let body = after_header(rest).ok_or(Wrong)?;
+    'moves: for _ in 0..text.len() {
+        let Some(body) = after_header(rest) else {
+            break;
+        };
         let Some((block, next)) = before_move(body) else {
             moves.push(move_in(alloc, body, routers)?)?;
             return Ok(moves);
@@ -76,7 +80,7 @@ fn before_move(text: &str) -> Option<(&str, &str)>
 {
     let line = text.find("\n[[move]]\n")?;
     let (front, back) = text.split_at_checked(line.saturating_add(1))?;
-    if ends_line(front) && back.starts_with('[') {
+    if ends_line(front) && begins_header(back) {
         Some((front, back))
     } else {
         None
@@ -101,17 +105,25 @@ fn begins_line(text: &str) -> bool
     matches!(text.as_bytes(), [b'\n', ..])
 }
 
+fn begins_header(text: &str) -> bool
+    ensures { OnTrue result (BeginsHeader text.now) }
+{
+    matches!(text.as_bytes(), [b'[', ..])
+}
+
 fn ends_line(text: &str) -> bool
     ensures { OnTrue result (ends text.now ≡ true) }
 {
-    matches!(text.as_bytes(), [.., b'\n'])
+    let bytes = text.as_bytes();
+    let length = bytes.len();
+    length > 0 && bytes[length - 1] == b'\n'
 }
 
 /// Whether a table has no table in it, and no list with one.
 fn is_flat(table: &Table) -> bool
     ensures { result ≡ is_flat (table_view table.now) }
 {
-    for (_, value) in table {
+    'values: for (_, value) in table {
         if !is_plain(value) {
             return false;
         }
@@ -122,7 +134,7 @@ fn is_flat(table: &Table) -> bool
 fn is_plain(value: &Value) -> bool
     ensures { result ≡ is_plain (view value.now) }
 {
-    if value.as_table().is_some() {
+    if is_table(value) {
         return false;
     }
     match field::list_of(value) {
@@ -135,9 +147,15 @@ fn has_table(values: &[Value]) -> bool
     ensures { result ≡ list_any is_table (map view values.now) }
 {
     for value in values {
-        if value.as_table().is_some() {
+        if is_table(value) {
             return true;
         }
     }
     false
+}
+
+fn is_table(value: &Value) -> bool
+    ensures { result ≡ is_table (view value.now) }
+{
+    value.as_table().is_some()
 }
