@@ -196,7 +196,7 @@ class Judge:
             self.routers.append(self.router(table, at))
         if len(routers) > MOST_ROUTERS:
             line = routers[MOST_ROUTERS].line
-            self.fault(line, "", f"there are {len(routers)} routers, and at most {MOST_ROUTERS} may be")
+            self.fault(line, "", f"there are {len(routers)} routers, and at most {MOST_ROUTERS} are allowed")
         for at, table in enumerate(self.tables(root.get("move"), "move")):
             self.moves.append(table)
             self.move(table, f"move {at + 1}")
@@ -398,7 +398,7 @@ def rp_fault(route: Route) -> str | None:
 def list_faults(routes: list[Route], most: int, one: Callable[[Route], str | None]) -> Iterator[tuple[int, str]]:
     """What is wrong with a list of routes or RP ranges, as (line, text)."""
     if len(routes) > most:
-        yield routes[most].line, f"there are {len(routes)}, and at most {most} may be"
+        yield routes[most].line, f"there are {len(routes)}, and at most {most} are allowed"
     lines = {}
     for route in routes:
         key = (route.address, route.length)
@@ -418,7 +418,7 @@ def iface_faults(router: dict[str, Any]) -> Iterator[tuple[int, int, str, str]]:
     if not 1 <= len(ifaces) <= MOST_IFACES:
         yield 30, router["table"].get(
             "iface"
-        ).line, where, f"it has {len(ifaces)} interfaces: 1 to {MOST_IFACES} may be"
+        ).line, where, f"it has {len(ifaces)} interfaces, and 1 to {MOST_IFACES} are allowed"
     for at, iface in enumerate(ifaces):
         place = f"{where}, interface {at}"
         shown = f"{dotted(iface.address)}/{iface.length}"
@@ -426,15 +426,15 @@ def iface_faults(router: dict[str, Any]) -> Iterator[tuple[int, int, str, str]]:
             why = f"{dotted(iface.address)} is no host's address: 0.0.0.0, or 224.0.0.0 and above"
             yield 31, iface.line, place, why
         if not 1 <= iface.length <= 31:
-            way = f"; for an address alone write {dotted(iface.address)}/31" if iface.length == 32 else ""
-            yield 32, iface.line, place, f"the prefix length of {shown} is {iface.length}: 1 to 31 may be{way}"
+            way = f"; write {dotted(iface.address)}/31 for an address alone" if iface.length == 32 else ""
+            yield 32, iface.line, place, f"the prefix length of {shown} isn't supported: 1 to 31 are{way}"
         for before, other in enumerate(ifaces[:at]):
             if 1 <= iface.length <= 31 and 1 <= other.length <= 31 and overlaps(iface, other):
                 theirs = f"interface {before}, {dotted(other.address)}/{other.length}, in line {other.line}"
                 yield 33, iface.line, place, f"its subnet {shown} overlaps that of {theirs}"
         for key, (value, line), most in zip(("propagation", "override"), iface.delays, (32767, 65535)):
             if value > most:
-                yield 36, line, place, f"`{key}` is {value} ms, and at most {most} may be"
+                yield 36, line, place, f"`{key}` is {value} ms, and at most {most} is allowed"
 
 
 def value_faults(router: dict[str, Any]) -> Iterator[tuple[int, int, str, str]]:
@@ -444,7 +444,7 @@ def value_faults(router: dict[str, Any]) -> Iterator[tuple[int, int, str, str]]:
     rows += [(35, "qri", 1, 31744, " tenths of a second"), (35, "lmqi", 1, 255, " tenths of a second")]
     for number, key, low, high, unit in rows:
         if not low <= router[key] <= high:
-            yield number, table.key_lines[key], where, f"`{key}` is {router[key]}: {low} to {high}{unit} may be"
+            yield number, table.key_lines[key], where, f"`{key}` is {router[key]}, and {low} to {high}{unit} is allowed"
     if router["qri"] >= 10 * router["qi"]:
         line = table.key_lines.get("qri") or table.key_lines.get("qi")
         what = f"`qri` is {router['qri']} tenths of a second, which isn't below `qi`, {router['qi']} seconds"

@@ -141,10 +141,25 @@ class Tried(unittest.TestCase):
     def test_a_clause_that_is_written_in(self):
         with repository({**FILES, "crates/low/edits/weak.edit": EDIT.partition("\n")[2]}) as room:
             crate = try_edits.Crate(room / "crates" / "low")
-            try_edits.named(try_edits.Edit(room / "crates/low/edits/weak.edit", crate), TOLD)
-            self.assertEqual(EDIT, (room / "crates/low/edits/weak.edit").read_text())
-            try_edits.named(try_edits.Edit(room / "crates/low/edits/weak.edit", crate), TOLD)
-            self.assertEqual(EDIT, (room / "crates/low/edits/weak.edit").read_text())
+            for _ in range(2):
+                edit = try_edits.Edit(room / "crates/low/edits/weak.edit", crate)
+                try_edits.named(edit, edit.reason(GOAL))
+                self.assertEqual(EDIT, edit.path.read_text())
+
+    def test_edits_of_several_functions_in_one_check(self):
+        half = CODE.replace("number", "half").replace("    n\n", "    n / 1\n")
+        file = "file: src/lib.rt\n"
+        files = {**FILES, "crates/low/src/lib.rt": CODE.replace("    n\n", "    n + 0\n") + half,
+                 "crates/low/edits/weak.edit": f"refused: number same\n{file}old: n + 0\nnew: n / 2\n",
+                 "crates/low/edits/half.edit": f"{file}old: n / 1\nnew: n / 3\n",
+                 "crates/low/edits/other.edit": f"refused: half same\n{file}old: n / 1\nnew: n / 4\n"}
+        # It refuses the second and third number, in the function three lines above.
+        check = ('[ "$1" = check ] || exit 0\necho "$(grep -c "n / [234]" src/lib.rt) at once" >> {log}\n'
+                 'for line in $(grep -n "n / [23]" src/lib.rt | cut -d: -f1); do\n'
+                 f"  echo 'note: src/lib.rt:'$((line - 3))'{GOAL.removeprefix('note: src/lib.rt:2')}'\ndone\n")
+        status, lines, asked, _ = tried(check, "--together", "low", files=files)
+        self.assertEqual((1, COUNTS.format(1, 1, 0, 1, 0)), (status, lines[-1]), lines)
+        self.assertEqual(["2 at once", "1 at once"], asked)
 
     def test_edits_that_are_not_judged_yet(self):
         status, lines, asked, _ = tried(REFUSES, "--unnamed", "low",

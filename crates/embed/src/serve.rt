@@ -31,7 +31,7 @@ pub fn serve(rt: &HostRuntime, router: &mut Router) -> io::Result<()> {
     Ok(())
 }
 
-// Both interfaces come up: several events at once.
+// The two interfaces come up: several events at once.
 fn begin(rt: &HostRuntime, router: &mut Router) -> io::Result<()> {
     let events = [ABOVE, BELOW].map(|iface| Event {
         draw: 7,

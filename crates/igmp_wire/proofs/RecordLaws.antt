@@ -27,7 +27,7 @@ passed true true false a b c x y later e = absurd cc
 passed true false third a b c x y later e = absurd cc
 passed false second third a b c x y later e = absurd cc
 
--- the same where the last of them answers for what follows
+-- three tests that were passed, of which the last answers for what follows
 held : (first second third : Bool) (a b c : Refusal) (later : Result (Unit {0}) Refusal)
     → (expect first a >> expect second b >> expect third c >> later) ≡ Ok tt → (first ≡ true) × (third ≡ true) × (later ≡ Ok tt)
 held true true true a b c later e = (refl, refl, e)

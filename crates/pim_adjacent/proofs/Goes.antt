@@ -1,5 +1,5 @@
--- What goes after a change of neighbours, and which registers are settled, is of the touched keys. With the neighbours that
--- there were each state on the way agrees with the opening on all other keys.
+-- What goes after a change of neighbours, and which registers are settled, is of the touched keys. With the neighbours
+-- that there were each state on the way agrees with the opening on all other keys.
 use Rattle.std.proofs.Common.{◌≡◌, ◌&&◌, ◌||◌, ℕ, Bool, true, false, not, cond, List, ◌++◌, filter, fold, Some, option_map, refl, sym, ap, ◌∙◌}
 use Rattle.std.specs.Cmp.{first_so, second_so}
 use Rattle.std.specs.Cmp.Derive.{both_true}
@@ -97,7 +97,7 @@ module _ (keys : List Key) (o c : State) (quiet : IsQuiet o) (adjoins : AdjoinsA
         || is_better (metric_at_so t o.neighbours dr_now e.0 j) (e.1).winner
         || (is_rpf_at o e.0 && not (rpf_at_so t o.neighbours dr_now e.0 j)))
 
-    -- it doesn't go at the opening, and its winner is as it was
+    -- an assert that doesn't go at the opening, and whose winner is a neighbour as before
     abbrev stays : Key × AssertRow → Bool
     stays e = not (assert_must_go o o e) && keeps_winner keys o c e
 

@@ -149,7 +149,7 @@ module _ (s : State) (i a w : ℕ) (h : HelloValue) where
   abbrev new_row : Option NeighbourRow
   new_row = if hello_holdtime_of h == 0 then None else Some lasting
 
-  -- after whether a Hello is owed and whether the neighbour started anew
+  -- after whether a Hello is owed and whether the neighbour restarted
   abbrev after : Bool → Bool → State
   after triggers restarts =
       let replaced : State = neighbour_replaced (if triggers then hello_triggered s i w else s) i a h in

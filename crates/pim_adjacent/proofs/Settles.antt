@@ -1,5 +1,5 @@
--- All that follows of a change of neighbours follows of the keys that take what it moves: the views of what isn't touched are as
--- they were. So is what is asked of sources that aren't touched.
+-- All that follows of a change of neighbours follows of the keys that take what it moves: the views of what isn't
+-- touched are as they were. So is what is asked of sources that aren't touched.
 use Rattle.std.proofs.Common.{◌≡◌, ◌&&◌, ◌||◌, ℕ, Bool, true, false, not, List, [], ◌++◌, Option, option_map, refl, sym, ap, ◌∙◌, eq-eqb}
 use Rattle.std.specs.Cmp.{first_so, second_so}
 use Rattle.std.specs.List.{AllByRecursion, list_all, list_any}
@@ -55,7 +55,7 @@ module _ (keys : List Key) (o c : State) (quiet : IsQuiet o) (adjoins : AdjoinsA
     dr : (i : ℕ) → is_dr t i ≡ is_dr back i
     dr i = dr_now keys o c quiet adjoins t way i
 
-    -- the same next hop with both tables of neighbours
+    -- a path has the same next hop with both tables of neighbours
     hop_now : (path : Option Path) → has_same_hop o c path ≡ true → nbr t path ≡ nbr back path
     unfolding nbr
     hop_now path same =
@@ -134,7 +134,7 @@ module _ (keys : List Key) (o c : State) (quiet : IsQuiet o) (adjoins : AdjoinsA
   abbrev pub way_end : OnTheWay keys o c quiet adjoins end
   way_end = end_is_on_the_way keys o c quiet adjoins
 
-  -- the same next hops
+  -- the routes of the group, and of its source, have the same next hops
   abbrev pub calm_star : ℕ → Bool
   calm_star g = has_same_hop o c (rp_route o g)
 

@@ -33,7 +33,7 @@ pub ends_more : (P Q : ℕ → Type 0) (end : Option ℕ) (never never' : Type 0
 ends_more P Q None never never' none more f = none f
 ends_more P Q (Some end) never never' none more f = λ now e. more now (f now e)
 
--- likewise, where none never ends
+-- at each time before a timestamp, or at all times where there is none
 abbrev pub Throughout : (ℕ → Type 0) → Option ℕ → Type 0
 Throughout P end = UpTo ((now : ℕ) → P now) P end
 
@@ -164,7 +164,7 @@ module _ (A : ℕ → ℕ → ℕ → ℕ → Type 0) where
         sources = f.sources;
       }) (record { joins = fine_drop_at JoinAsked s.downstream k f.joins; groups = f.groups; sources = f.sources })
 
--- ---- another sense, in which more is asked for
+-- ---- another sense, in which more has a cause
 
 module _ (A B : ℕ → ℕ → ℕ → ℕ → Type 0) where
   -- on an interface

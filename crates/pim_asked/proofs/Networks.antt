@@ -1,4 +1,4 @@
--- What comes to a router in a network is a run of that router, so each of its copies is asked for.
+-- What comes to a router in a network is a run of that router, so each of its copies has a cause.
 use Rattle.std.proofs.Common.{◌≡◌, ◌≢◌, ◌∙◌, ℕ, suc, zero, ◌==◌, Bool, true, false, List, [], ◌∷◌, map, Option, Some, None, Result, Ok, Err, refl, sym, ap, subst, arith}
 use Rattle.std.proofs.lemmas.Grind.{common_steps}
 use Rattle.std.proofs.lemmas.Option.{slice_get-map}

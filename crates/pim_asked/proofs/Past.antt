@@ -31,7 +31,7 @@ is_named_on i k (n ∷ ns) e =
     (λ same. ap (λ (q : Key). iface_in q) (equal_keys k (named_key i n) same)
     ∙ named_on i (n.1).address.bits n.0 (n.1).kind) (is_named_on i k ns) e
 
--- an end that is never, or at a moment
+-- an end that is never, or at a timestamp
 ends_so : (P : ℕ → Type 0) (b : Bool) (end : ℕ) → ((now : ℕ) → (b || nat_lt now end) ≡ true → P now)
     → Throughout P (cond b None (Some end))
 ends_so P true end f = λ now. f now refl

@@ -1,4 +1,4 @@
--- A report, and a query: what they leave of IGMP's rows is asked for.
+-- A report, and a query: what they leave of IGMP's rows has a cause.
 use Rattle.std.proofs.Common.{◌≡◌, ◌∙◌, ℕ, ◌+◌, ◌==◌, not, cond, ◌||◌, List, [], ◌∷◌, filter, refl, sym, ap, subst, arith}
 use Rattle.std.specs.List.{AllByRecursion}
 use Rattle.pim_types.specs.declared.config.Settings.{Settings}

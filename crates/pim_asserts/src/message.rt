@@ -1,4 +1,4 @@
-//! An Assert, and data that asks for one (RFC 7761, sections 4.6.1 and 4.6.2).
+//! An Assert, and data that calls for one (RFC 7761, sections 4.6.1 and 4.6.2).
 ghost use Rattle.std.specs.Prelude.{◌≡◌, ◌≤◌, ◌<◌, ◌^◌, ◌+◌, IfOk, OnOk, false, not, ◌&&◌};
 ghost use Rattle.pim_types.specs.Keys.{source_key, star_key};
 ghost use Rattle.pim_model.specs.Asserts.{assert_at, assert_received, asserted_metric, data_seen, loses, theirs_of};
@@ -151,8 +151,8 @@ fn run_machine(
     carry_out(world, turn, meter, key, theirs, action)
 }
 
-// Runs the machine of (S,G) by an Assert of a source: whether it goes on to (*,G). With R set it does where (S,G) was
-// and stays in NoInfo, or where there is no source.
+// Runs the machine of (S,G) by an Assert of a source. The result is whether the Assert goes on to (*,G): with R set it
+// does where (S,G) was in NoInfo and still is, or where there is no source.
 fn run_source_machine(
     world: &mut World,
     turn: &mut Turn,
@@ -191,10 +191,10 @@ pub(crate) fn metric_of(from: Addr, assert: &Assert) -> AssertMetric
     }
 }
 
-/// Takes an Assert that came from an address: one of a source goes to (S,G), and with R set on to (*,G) where (S,G) was
-/// and stays in NoInfo; one without a source goes to (*,G) alone. The meter rises by the nodes that the look-ups visit, at
-/// least those of the sight of each machine that it goes to, and those that lead to the facts of what gets an assert or loses
-/// one. An error is want of memory.
+/// Takes an Assert that came from an address. One of a source goes to (S,G), and with R set on to (*,G) where (S,G) was
+/// in NoInfo and still is; one without a source goes to (*,G) alone. The meter rises by the nodes that the look-ups
+/// visit, at least those of the sight of each machine that it goes to, and those that lead to the facts of what gets an
+/// assert or loses one. The error is want of memory.
 pub fn received(
     world: &mut World,
     turn: &mut Turn,
@@ -225,8 +225,8 @@ fn asserts_by_data(world: &World, key: Key, stance: Stance) -> bool
     stance.could_assert && !has_assert(world, key)
 }
 
-// Runs the machine of a key, in which the router stands so, by data: where it asserts by data it wins, and announces
-// this metric.
+// Runs the machine of a key, with this stance of the router, by data: if the router asserts by data it wins, and
+// announces this metric.
 fn win_by_data(
     world: &mut World,
     turn: &mut Turn,
@@ -272,7 +272,7 @@ fn data_seen_of_group(
     win_by_data(world, turn, meter, key, stance, asserted)
 }
 
-// The same of a source of a group, as an event of the machine of (S,G).
+// A packet of data of a source of a group, as an event of the machine of (S,G).
 fn data_seen_of_source(
     world: &mut World,
     turn: &mut Turn,
@@ -295,9 +295,9 @@ fn data_seen_of_source(
     win_by_data(world, turn, meter, key, stance, asserted)
 }
 
-/// Takes data on an interface on which the router forwards it, as an event of the machine of (S,G) with SPTbit(S,G), else
-/// of (*,G): where it could assert and none has won or lost yet, it wins, and the meter rises by the nodes that lead to the facts
-/// of the source, or the group. An error is want of memory.
+/// Takes data on an interface on which the router forwards it, as an event of the machine of (S,G) with SPTbit(S,G),
+/// else of (*,G): where it could assert and none has won or lost yet, it wins, and the meter rises by the nodes that
+/// lead to the facts of the source, or the group. An error is want of memory.
 pub fn data_seen(
     world: &mut World,
     turn: &mut Turn,

@@ -1,4 +1,4 @@
-//! How the router stands in an assert machine (RFC 7761, sections 4.6.1 to 4.6.3).
+//! The stance of the router in an assert machine (RFC 7761, sections 4.6.1 to 4.6.3).
 ghost use Rattle.std.specs.Prelude.{◌≡◌, ◌≤◌, ◌<◌, false};
 ghost use Rattle.pim_types.specs.Keys.{source_key, star_key};
 ghost use Rattle.pim_world.specs.Visits.{raised};
@@ -11,7 +11,7 @@ use pim_types::fact::AssertMetric;
 use pim_types::{IfaceId, Key};
 use pim_world::{Meter, World};
 
-/// What the transitions ask of the router's state.
+/// What the transitions read of the router's state.
 #[derive(Clone, Copy)]
 pub(crate) struct Stance {
     /// The machine is that of (*,G).
@@ -25,7 +25,7 @@ pub(crate) struct Stance {
     pub(crate) switches: bool,
 }
 
-/// That of (*,G).
+/// The stance of the machine of (*,G) on an interface.
 pub(crate) fn star_stance(world: &World, star: &StarSight, iface: IfaceId) -> Stance
     requires sight { IsStarSight world.now star.now }
     requires below { iface.number < 120 }
@@ -40,7 +40,7 @@ pub(crate) fn star_stance(world: &World, star: &StarSight, iface: IfaceId) -> St
     }
 }
 
-/// That of (S,G).
+/// The stance of the machine of (S,G) on an interface.
 pub(crate) fn source_stance(world: &World, sight: &SourceSight, iface: IfaceId) -> Stance
     requires sight { IsSourceSight world.now sight.now }
     requires below { iface.number < 120 }
@@ -55,7 +55,7 @@ pub(crate) fn source_stance(world: &World, sight: &SourceSight, iface: IfaceId) 
     }
 }
 
-/// How the router stands in the machine of a key.
+/// The stance of the router in the machine of a key.
 pub(crate) fn stance_of(world: &World, meter: &mut Meter, key: Key) -> Stance
     requires plain { key.rpt ≡ false }
     requires below { key.iface.number < 120 }

@@ -16,7 +16,7 @@ pub no_bit : (p : ℕ → Bool) → mask_of p 0 ≡ 0
 unfolding mask_of
 no_bit p = refl
 
--- so many bits fit into a word
+-- n bits and one more fit into a word
 pub bits_fit : (p : ℕ → Bool) (n : ℕ) → n < 64 → mask_of p n + (if p n then 2 ^ n else 0) < 2 ^ 64
 bits_fit p n below =
     let two : zero < 2 = omega arith in

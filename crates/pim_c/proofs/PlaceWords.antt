@@ -59,7 +59,7 @@ module _ {M : Type 1} {𝓤 : Ura M} {𝓛 : Logic 𝓤} {K : Type 0} {Γ : List
       (subst (λ (ws : List Val). vs ≡ vstruct (of_list (ptr_val d.at ∷ (ws ++ []))) ∷ []) is
       (subst (λ (ps : List Val). vs ≡ vstruct (of_list (ps ++ (vss.1.0 ++ []))) ∷ []) at whole)) fits))))
 
-  -- and back into it
+  -- [what stands behind the pointer; the handle] back into the struct
   pub place_in : K → (d : Row.Denot) (h : Val)
       → Step K 𝓛 (‵ (Row.own_val d (pair (ptr_val d.at) h ∷ [])) ∷ Γ) G (‵ (the_heap d) ∷ ‵ (Z.own_val d.alloc (h ∷ [])) ∷ Γ) G
   place_in t d h = step (λ s. let v : Val = pair (ptr_val d.at) h in

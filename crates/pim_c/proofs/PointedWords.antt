@@ -53,7 +53,7 @@ module _ (R Z : RattleType) (L : Laws Z) (g : Ghosts Z.Denot) where
         (subst (λ (ws : List Val). vs ≡ vstruct (of_list (ptr_val d.at ∷ (ws ++ []))) ∷ []) is
         (subst (λ (ps : List Val). vs ≡ vstruct (of_list (ps ++ (vss.1.0 ++ []))) ∷ []) at whole))) fits)))))
 
-    -- and back into it
+    -- [the value with its block; the handle] back into the struct
     pub pointed_in : K → (b o : ℕ) (h : Val) (a : Z.Denot) (x : R.Denot)
         → Step K 𝓛 (‵ (Row.own_val (record { at = block_ptr b o; alloc = a; value = x }) (pair (vptr b o) h ∷ [])) ∷ Γ) G
         (‵ (box_owns (g.dealloc_token a) R (block_ptr b o) x) ∷ ‵ (Z.own_val a (h ∷ [])) ∷ Γ) G

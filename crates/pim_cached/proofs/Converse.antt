@@ -62,7 +62,7 @@ module _ (g src i : ℕ) (s : State) (rests : IsAtRest s) (there : has_row s.sou
   abbrev sources : Table SourceRow
   sources = put s.sources key ended
 
-  -- what is left behind, where nothing but the end of the timer differs
+  -- what is left behind, where nothing but the expiry of the timer differs
   abbrev IsPlainEnd : State → Type 0
   IsPlainEnd t =
       kept_of (clear_all s (settle_registers t)).0
@@ -261,7 +261,7 @@ module _ (g src i : ℕ) (s : State) (rests : IsAtRest s) (there : has_row s.sou
           registers_stay s won (λ h x. could_before h x ∙ Wins.could_as_before before its_assert h x)
           (registers_now g src s rests there its_keeps its_closed its_keeps) sources_settled rests.quiet.registers_settled
 
-      -- it wasn't there
+      -- the assert wasn't there before
       none_there : has_row s.asserts its_assert ≡ false
       unfolding is_contested
       none_there = go (spt_bit s g src) contested

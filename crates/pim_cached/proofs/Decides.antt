@@ -1,4 +1,4 @@
--- The same answers decide the same of a packet.
+-- Equal answers decide a packet alike.
 use Rattle.std.proofs.Common.{◌≡◌, ◌==◌, ℕ, Bool, true, false, not, ◌&&◌, ◌||◌, cond, nat_lt, Option, Some, None, refl, ap, subst, ◌∙◌}
 use Rattle.pim_model.specs.Cache.{Answers, Plain, away_from, is_on_shared_tree, is_on_tree, keeps_alive, opens_tunnel, plain, sets_spt}
 use Rattle.pim_model.specs.Forwarding.{no_interface}

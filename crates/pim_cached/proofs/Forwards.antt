@@ -1,5 +1,5 @@
--- How a packet is forwarded that neither opens the register tunnel nor sets SPTbit: on its tree, on the shared tree, or on
--- neither.
+-- How a packet is forwarded that neither opens the register tunnel nor sets SPTbit: on its tree, on the shared tree, or
+-- on neither.
 use Rattle.std.proofs.Common.{◌≡◌, ℕ, Bool, true, false, not, ◌&&◌, ◌||◌, cond, List, [], Option, Some, None, is_some, refl, sym, ap, ◌∙◌}
 use Rattle.std.specs.Option.{option_map_or}
 use Rattle.pim_types.specs.declared.fact.SourceRow.{SourceRow}
@@ -149,7 +149,7 @@ module _ (g src i : ℕ) (s : State) (rests : IsAtRest s) (there : has_row s.sou
         go true b e f = refl
         go false b e f = cc
 
-    -- and where it runs the register is settled anyway
+    -- where the keepalive timer runs the register is settled anyway
     pub settled_anyway : spt_bit s g src ≡ false → opens g src s rests there ≡ false
     unfolding could_register may_register
     settled_anyway e =

@@ -1,4 +1,4 @@
--- Of the keepalive timer of a source with a fact nothing follows: no register changes, nothing must go, nothing is told
+-- Of the keepalive timer of a source with a fact nothing follows: no register changes, nothing must go, nothing is sent
 -- upstream.
 use Rattle.std.proofs.Common.{◌≡◌, ℕ, Bool, true, false, not, ◌&&◌, ◌||◌, ◌++◌, cond, List, [], ◌∷◌, fold, Option, Some, None, option_map, refl, sym, ap, subst, ◌∙◌}
 use Rattle.std.proofs.lemmas.List.Folds.{list_all-append}
@@ -262,7 +262,7 @@ module _ (g src : ℕ) (s : State) (rests : IsAtRest s) (there : has_row s.sourc
     no_clearing =
         ap (λ t. clear_all s t) no_register_changes ∙ same_when_none (to_clear s) cleared (clearable_count now) now nothing_goes
 
-    -- ---- what is told upstream
+    -- ---- what is sent upstream
 
     star_as_before : (h : ℕ) → star_view s h ≡ star_view now h
     unfolding star_view

@@ -66,7 +66,7 @@ module _ (s : State) (p : Packet) (rests : IsAtRest s) (fact : SourceRow)
   unfolding spt_bit
   spt_is = ap (λ (o : Option SourceRow). option_map_or (λ (r : SourceRow). r.spt) o false) known
 
-  -- the end of its timer afterwards
+  -- the expiry of its timer afterwards
   end_if : Bool → Option ℕ
   end_if true = Some (s.present + keepalive_period)
   end_if false = fact.keepalive

@@ -1,5 +1,5 @@
--- Tables whose keys stand once: each entry is the row that is found at its key. A row put twice is put once, and one put where it is
--- changes nothing.
+-- Tables whose keys are listed once: each entry is the row that is found at its key. A row put twice is put once, and
+-- one put where it is changes nothing.
 use Rattle.std.proofs.Common.{◌≡◌, Bool, true, false, cond, [], ◌∷◌, Some, is_some, refl, ap, sym, ◌∙◌}
 use Rattle.std.specs.BTreeMap.{insert_entry, is_at}
 use Rattle.std.specs.declared.cmp.Ordering.{Ordering}
@@ -84,7 +84,7 @@ module _ {R : Type 0} where
       → AllByRecursion (λ e. row_at t e.0 ≡ Some e.1) t
   found_where_sorted t rises = entries_found t (once_where_sorted t rises)
 
-  -- so there is a row at the key of each
+  -- in a table in order there is a row at the key of each entry
   pub rows_are_there : (t : Table R) → IsStrictlySortedBy key_cmp (keys_in t) → AllByRecursion (λ e. has_row t e.0 ≡ true) t
   unfolding has_row
   rows_are_there t rises =

@@ -15,11 +15,12 @@ use pim_types::IfaceId;
 use pim_world::{Meter, Turn, World};
 use std::alloc::AllocError;
 
-/// Takes a data packet of a source and a group that came on an interface below 120; the sight is what their macros read
-/// now, and is kept up to date by what the packet changes. A source on a link of the router's own is kept alive and
-/// registered, one that is joined is kept alive, the SPTbit is set where the shortest path tree is reached, and a packet
-/// that came on no tree's interface asks for an assert. The answer is where the packet leaves: never where it came. The meter
-/// rises by the nodes that the look-ups visit, at least those that lead to facts that come or go. An error is want of memory.
+/// Takes a data packet of a source and a group that came on an interface below 120. The sight is what their macros
+/// read, and is kept up to date by what the packet changes. A directly connected source is kept alive and registered,
+/// one that is joined is kept alive, the SPTbit is set where the shortest path tree is reached, and a packet that came
+/// on no tree's interface calls for an assert. The result is the interfaces on which the packet leaves, without the one
+/// on which it came. The meter rises by the nodes that the look-ups visit, at least those that lead to facts that are
+/// added or removed. The error is want of memory.
 #[tactic(auto, unfolding(pim_model::specs::Forwarding::forwarded))]
 pub fn arrived(
     world: &mut World,

@@ -29,8 +29,8 @@ fn watch(world: &mut World, meter: &mut Meter, sight: &SourceSight) -> Result<()
     world.keep_alive(sight.name(), None, meter)
 }
 
-/// Whether the interface is on the list of the tree that the source comes by: the shortest path tree once it is reached,
-/// the shared tree before.
+/// Whether the interface is on the list of the tree that the source comes by: the shortest path tree once it is
+/// reached, the shared tree before.
 pub fn is_on_list(sight: &SourceSight, iface: IfaceId) -> bool
     requires { iface.number < 120 }
     ensures { InSource sight.now (λ s g src. result
@@ -43,8 +43,8 @@ pub fn is_on_list(sight: &SourceSight, iface: IfaceId) -> bool
     }
 }
 
-// A packet that came on no tree's interface leaves nowhere. Where it came on an interface of the list it asks for an
-// assert: of (S,G) once the shortest path tree is reached, of (*,G) before.
+// A packet that came on no tree's interface leaves nowhere. If it came on an interface of the list it calls for an
+// assert: of (S,G) if SPTbit(S,G) is set, else of (*,G).
 fn take_stray(
     world: &mut World,
     turn: &mut Turn,

@@ -1,4 +1,4 @@
-//! What the ends of a downstream state's timers change (RFC 7761, sections 4.5.1 to 4.5.3).
+//! What the expiry of a downstream state's timers changes (RFC 7761, sections 4.5.1 to 4.5.3).
 ghost use Rattle.std.specs.Prelude.{◌≡◌, ◌≤◌, ◌∷◌, [], OnOk, true};
 ghost use Rattle.pim_types.specs.Keys.{group_in, iface_in};
 ghost use Rattle.pim_types.specs.declared.timer.TimerKind.{TimerKind};
@@ -64,7 +64,7 @@ fn echo(world: &World, turn: &mut Turn, meter: &mut Meter, key: Key) -> Result<(
     }
 }
 
-// Prune-Pending ends: (S,G,rpt) is pruned from now on, (*,G) and (S,G) go with an echo.
+// The Prune-Pending timer expires: (S,G,rpt) is pruned from then on; (*,G) and (S,G) are removed with a PruneEcho.
 #[tactic(auto, unfolding(pim_model::specs::Firing::fired, pim_model::specs::Firing::fire_row, pim_model::specs::Downstream::prune_pending_due))]
 fn prune_pending_due(
     world: &mut World,
@@ -100,10 +100,11 @@ fn expired(world: &mut World, meter: &mut Meter, key: Key)
     world.store_mut().drop_downstream(key, meter);
 }
 
-/// What the end of a Prune-Pending timer, or of an expiry timer, changes: where Prune-Pending ends, (S,G,rpt) is pruned
-/// from now on, and (*,G) and (S,G) go with a PruneEcho; what expires goes in silence. The meter rises by the nodes that
-/// its look-ups visit, at least those that lead to RP(G) for a PruneEcho of (*,G), and to the facts of the group or source
-/// whose state goes. An error is want of memory.
+/// What the expiry of a Prune-Pending timer, or of an expiry timer, changes. When the Prune-Pending timer expires,
+/// (S,G,rpt) is pruned from then on, and (*,G) and (S,G) are removed with a PruneEcho. When an expiry timer does, its
+/// state is removed without a message. The meter rises by the nodes that its look-ups visit, at least those that lead
+/// to RP(G) for a PruneEcho of (*,G), and to the facts of the group or source whose state is removed. The error is want
+/// of memory.
 #[tactic(auto, unfolding(pim_model::specs::Firing::fired))]
 pub fn fired(
     world: &mut World,

@@ -1,5 +1,5 @@
-//! What a message comes to, told before its change: the rows that it leaves, and the keys of which it moves more than an
-//! end.
+//! The effect of a message, found before its change: the rows after it, and the keys of which it changes more than when
+//! a timer expires.
 ghost use Rattle.std.specs.Prelude.{◌≡◌, ◌++◌, [], ◌∷◌, IfOk, OnOk, filter, if◌then◌else◌, map, not};
 ghost use Rattle.pim_locality.specs.JoinPrunes.{moved_among, moves_end};
 ghost use Rattle.pim_downstream.specs.Naming.{change_after, changes_after};
@@ -22,15 +22,15 @@ pub struct Change {
     pub row: Option<DownstreamRow>,
 }
 
-/// What a message to the router comes to: the row that it leaves of each key whose row it can change, and the keys of
-/// which it moves more than an end.
+/// The effect of a message to the router: the row after it of each key whose row it can change, and the keys of which
+/// it changes more than when a timer expires.
 #[derive(Drop)]
 pub struct Effect {
     pub changes: Vec<Change>,
     pub moved: Series<Key>,
 }
 
-// Both ends are there, or neither is.
+// Whether a timer runs in both rows, or in neither.
 fn same_end(first: Option<u64>, second: Option<u64>) -> bool
     ensures { result ≡ same_end first second }
 {
@@ -40,7 +40,7 @@ fn same_end(first: Option<u64>, second: Option<u64>) -> bool
     }
 }
 
-// Both rows are there and the same but for ends, or neither is there.
+// Whether both rows are there and the same but for when timers expire, or neither is there.
 fn same_row(before: Option<DownstreamRow>, after: Option<DownstreamRow>) -> bool
     ensures { result ≡ same_both same_downstream before after }
 {
@@ -63,7 +63,8 @@ fn is_loser(row: Option<AssertRow>) -> bool
     }
 }
 
-// At most an end of the key's row moves, where this is the row after the message, and the key loses no assert.
+// Whether a message, after which this is the row, changes at most when the timers of the key's row expire, and the key
+// loses no assert by it.
 #[tactic(auto, unfolding(pim_locality::specs::JoinPrunes::moves_end))]
 fn moves_end(
     world: &World,
@@ -80,7 +81,8 @@ fn moves_end(
         && !(is_loser(world.store().assert_at(change.key)) && named.joins(change.key))
 }
 
-// The row of the key after the message; the key is put behind others where the message moves more of it than an end.
+// The row of the key after the message. The key is added to the list if the message changes more of it than when a
+// timer expires.
 fn judge_key(
     world: &World,
     iface: IfaceId,
@@ -102,7 +104,8 @@ fn judge_key(
     Ok(change)
 }
 
-// The rows of these keys after the message, behind others; of those of which it moves more than an end the keys.
+// Adds the rows of these keys after the message to a list, and to another the keys of which it changes more than when a
+// timer expires.
 fn judge_keys(
     world: &World,
     iface: IfaceId,
@@ -125,8 +128,8 @@ fn judge_keys(
 }
 
 impl Effect {
-    /// What a message on an interface comes to that names these keys and has a holdtime, in seconds: each key asks the whole
-    /// message, and the state that it finds.
+    /// The effect of a message on an interface that names these keys and has a holdtime, in seconds: what becomes of
+    /// each key depends on the whole message, and on the state that it finds.
     pub fn of(
         world: &World,
         turn: &Turn,

@@ -14,8 +14,8 @@ use std::marker::Model;
 // A key is found among so few as fast by going through them, and no set of them takes memory.
 const FEW: usize = 8;
 
-/// The keys that a message names, each of which is found among all as fast as among few. Where they are more than a few they
-/// stand in sets.
+/// The keys that a message names, in which each is found as fast among many as among few: more than a few are also in
+/// sets.
 #[derive(Drop)]
 pub(crate) struct Indexed<'a> {
     named: &'a Named,
@@ -55,7 +55,7 @@ fn set_of_many(alloc: Global, keys: &[Key]) -> Result<BTreeSet<Key>, AllocError>
     set_of(alloc, keys)
 }
 
-// Whether the key is among these, which stand in the set where they are more than a few.
+// Whether the key is among these, which are also in the set if they are more than a few.
 fn is_among(keys: &[Key], set: &BTreeSet<Key>, key: Key) -> bool
     requires { IsSetOf keys.now set.now.keys }
     ensures { result ≡ is_named keys.now key }
@@ -67,7 +67,7 @@ fn is_among(keys: &[Key], set: &BTreeSet<Key>, key: Key) -> bool
 }
 
 impl<'a> Indexed<'a> {
-    /// These keys.
+    /// The given keys, indexed.
     pub(crate) fn of(alloc: Global, named: &'a Named) -> Result<Self, AllocError>
         ensures { IfOk result (λ indexed. indexed ≡ named.now) }
     {

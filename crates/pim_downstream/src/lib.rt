@@ -1,6 +1,6 @@
 //! The downstream states (RFC 7761, sections 4.5.1 to 4.5.3). A Join/Prune to the router as one message: the keys that
-//! it names, whether the rows that it would make pass the limit on facts, and what it leaves of the states. And what
-//! the ends of their timers change.
+//! it names, whether the rows that it would make pass the limit on facts, and the states after it. Also what the expiry
+//! of their timers changes.
 #![tactic(auto)]
 
 pub mod downstream_timers;

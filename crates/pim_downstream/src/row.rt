@@ -9,7 +9,7 @@ use pim_types::fact::DownstreamRow;
 use pim_types::{IfaceId, Key};
 use pim_world::World;
 
-/// The later of two ends, in ms. `None` never ends.
+/// The later of two timestamps, in ms. `None` never expires.
 pub fn later_end(first: Option<u64>, second: Option<u64>) -> Option<u64>
     ensures { result ≡ later_end first second }
 {
@@ -19,8 +19,9 @@ pub fn later_end(first: Option<u64>, second: Option<u64>) -> Option<u64>
     }
 }
 
-/// (*,G) or (S,G) after a Join with this end, in ms, and holdtime, in seconds: a row that is there takes the later end,
-/// and Prune-Pending is over; without one the Join makes it, unless it ends at once.
+/// (*,G) or (S,G) after a Join that expires at this timestamp, in ms, and has this holdtime, in seconds. A row that is
+/// there takes the later timestamp, and is no more in Prune-Pending. Where there is none the Join makes it, unless its
+/// holdtime is 0.
 pub fn joined_row(
     end: Option<u64>,
     holdtime: u16,
@@ -39,8 +40,8 @@ pub fn joined_row(
     })
 }
 
-/// (*,G) or (S,G) after a Prune: a row in Join waits for an override until this end, in ms, or goes where there is
-/// none.
+/// (*,G) or (S,G) after a Prune. A row in Join waits for an override until this timestamp, in ms; without one it is
+/// removed.
 pub fn pruned_row(pending: Option<u64>, row: Option<DownstreamRow>) -> Option<DownstreamRow>
     ensures { result ≡ pruned_row pending row }
 {
@@ -54,8 +55,8 @@ pub fn pruned_row(pending: Option<u64>, row: Option<DownstreamRow>) -> Option<Do
     }
 }
 
-/// (S,G,rpt) after a Prune: a row that is there takes the later end; without one the Prune makes it, unless it ends at
-/// once.
+/// (S,G,rpt) after a Prune. A row that is there takes the later timestamp. Where there is none the Prune makes it,
+/// unless its holdtime is 0.
 pub fn pruned_rpt_row(
     end: Option<u64>,
     holdtime: u16,

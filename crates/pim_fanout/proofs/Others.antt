@@ -1,4 +1,5 @@
--- A source with a fact that isn't named keeps what the macros answer, to the end of an event and of a timer's end.
+-- A source with a fact that isn't named keeps what the macros answer, to the end of an event and of the expiry of a
+-- timer.
 use Rattle.std.proofs.Common.{◌≡◌, ◌≤◌, ◌||◌, ℕ, true, false, length}
 use Rattle.pim_types.specs.declared.fact.SourceRow.{SourceRow}
 use Rattle.pim_types.specs.Keys.{source_key}

@@ -60,14 +60,14 @@ module _ (o a : State) (g src : ℕ) where
   new_step true s b = refl
   new_step false s b = refl
 
-  -- it had no fact
+  -- a source that had no fact is changed where it has one
   pub new_is_changed : has_row o.sources (source_key 0 g src) ≡ false
       → is_changed o a (source_key 0 g src) ≡ has_row a.sources (source_key 0 g src)
   unfolding is_changed is_source_named
   new_is_changed none =
       rw none (new_step (has_row a.sources (source_key 0 g src)) (is_same_sight g src o a) (is_same_beside g src o a))
 
-  -- it has none now
+  -- a source that had a fact and has none is changed
   pub gone_is_changed : has_row o.sources (source_key 0 g src) ≡ true → has_row a.sources (source_key 0 g src) ≡ false
       → is_changed o a (source_key 0 g src) ≡ true
   unfolding is_changed is_source_named

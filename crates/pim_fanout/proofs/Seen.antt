@@ -30,7 +30,7 @@ module _ (s : State) (last : Option Addr) where
   pub none_seen : (name : SourceGroup) → has_row s.sources (name_key name) ≡ false → last ≡ next_last s last name
   none_seen name none = rw none refl
 
-  -- and one with a fact, whose group's sight is the last one then
+  -- a source with a fact, after which its group's sight is the last one
   pub one_seen : (star : StarSight) (name : SourceGroup) → has_row s.sources (name_key name) ≡ true → star.group ≡ name.group
       → last_group (Some star) ≡ next_last s last name
   one_seen star name fact group = rw fact (ap Some group)

@@ -33,7 +33,7 @@ keys_of_cases ms named rises =
     ∙ sym (list_any-append (λ m. m == k) (sources_in ms) named)
     ∙ sym (is_among-ascending k (sources_in ms ++ named)))
 
--- what is told of a source of a record and a message
+-- what is said of a source of a record and a message
 abbrev pub told_of : List records.Member → List ℕ → ℕ → CaseValue
 told_of es named k = (k, fate_among es k, is_among k named)
 

@@ -61,7 +61,7 @@ pub entries_of-map : (f : Member → Member) (g : records.Member → records.Mem
 entries_of-map f g same [] = refl
 entries_of-map f g same (m ∷ ms) = λ i. same m i ∷ entries_of-map f g same ms i
 
--- the same where the change was written through the slice of a vector
+-- the entries of what a change of each makes, where the change was written through the slice of a vector
 pub entries_of-write : (f : Member → Member) (g : records.Member → records.Member) → ((m : Member) → member_entry (f m) ≡ g (member_entry m))
     → (v : SmallVec Member) (lent written : List Member) → lent ≡ v.items → written ≡ map f lent
     → member_entries (with_items v written).items ≡ map g (member_entries v.items)

@@ -1,5 +1,4 @@
--- The sources of a record and of a message in one list: each of them once, in order, and what is told
--- of it.
+-- The sources of a record and of a message in one list: each of them once, in order, and what is said of it.
 use Rattle.std.proofs.Common.{◌≡◌, ℕ, suc, ◌<◌, ◌≤◌, Bool, true, false, cond, List, [], ◌∷◌, map, refl, ap, subst, sym, ◌∙◌, ◌==◌, ◌||◌, nat_lt, arith}
 use Rattle.std.specs.List.{find}
 use Rattle.std.specs.Option.{option_map_or}
@@ -101,7 +100,7 @@ Rises-cases (m ∷ ms) (n ∷ ns) first second =
     rises_step m ms n ns (nat_lt n m.source.bits) (n == m.source.bits) refl refl first second
     (Rises-cases (m ∷ ms) ns first second.1) (Rises-cases ms ns first.1 second.1) (Rises-cases ms (n ∷ ns) first.1 second)
 
--- ---- what is told of each
+-- ---- what is said of each
 
 -- what the members of a record say of a source
 abbrev pub fate_among : List records.Member → ℕ → records.Fate

@@ -1,4 +1,4 @@
--- What a group record asks of the querier: a query of sources, then one of the group.
+-- The queries that a group record requests: one of sources, then one of the group.
 use Rattle.std.specs.Prelude.{Bool, List, None, Option, Some, [], false, true, if◌then◌else◌, ℕ, ◌++◌, ◌∷◌}
 use Rattle.pim_model.specs.Records.{AskGroup, AskSources, Asked}
 
@@ -15,7 +15,7 @@ sources_asked [] = None
 sources_asked (AskGroup ∷ later) = sources_asked later
 sources_asked (AskSources sources ∷ later) = Some sources
 
--- a query of the group is asked for
+-- A query of the group is requested.
 abbrev pub is_group_asked : List Asked → Bool
 is_group_asked [] = false
 is_group_asked (AskGroup ∷ later) = true

@@ -1,4 +1,4 @@
--- Timers of a group record lowered to a moment, where they run (RFC 3376, section 6.6.3).
+-- Timers of a group record lowered to a timestamp, where they run (RFC 3376, section 6.6.3).
 use Rattle.std.specs.Prelude.{List, if◌then◌else◌, map, ℕ}
 use Rattle.pim_model.specs.Querier.{lowered}
 use Rattle.pim_model.specs.Records.{GroupRecord, Member}

@@ -22,7 +22,7 @@ fate_of Gone = records.Gone
 fate_of Excluded = records.Excluded
 fate_of (Until end) = records.Until end
 
--- what an end says of a member
+-- What becomes of a member, by when its timer expires, if it has one.
 abbrev pub fate_at : Option ℕ → Fate
 fate_at None = Excluded
 fate_at (Some end) = Until end
@@ -38,6 +38,6 @@ is_named_source src addresses = list_any (λ (a : Addr). a.bits == src) addresse
 abbrev pub without_end : ℕ → Member → Member
 without_end src m = if m.source.bits == src then record m { end = None } else m
 
--- the member, with its end lowered to a moment where its source is named
+-- The member, with its timer lowered to a timestamp if its source is named.
 abbrev pub with_end_lowered : List Addr → ℕ → Member → Member
 with_end_lowered sources end m = if is_named_source m.source.bits sources then record m { end = lowered end m.end } else m

@@ -1,5 +1,5 @@
--- The tables of RFC 3376, section 6.4, for one source: what becomes of it, by what it was and whether
--- the message names it. `full` is the end of a timer that is set, `timer` the group timer's end.
+-- The tables of RFC 3376, section 6.4, for one source: what becomes of it, by what it was and whether the message names
+-- it. `full` is when a timer that is set expires, `timer` when the group timer does.
 use Rattle.std.specs.Prelude.{Bool, None, Option, Some, false, if◌then◌else◌, is_some, not, true, ℕ, ◌&&◌}
 use Rattle.igmp_wire.specs.declared.report.RecordType.{RecordType}
 use Rattle.pim_model.specs.Records.{Fate, Gone, Excluded, Until, is_excluded, is_running}

@@ -1,9 +1,9 @@
-//! What is to be asked after a record of a report.
+//! Which queries are to be sent after a record of a report.
 use pim_ip::Addr;
 use std::marker::Model;
 
-/// The queries that a group record asks for: one of sources of the group, which may be none, and
-/// after it one of the group.
+/// The queries that a group record requests: one of sources of the group, of which there may be none, and after it one
+/// of the group.
 #[derive(Default)]
 pub struct Asking {
     sources: Option<Vec<Addr>>,
@@ -45,14 +45,14 @@ impl Asking {
         Asking::default()
     }
 
-    /// These queries.
+    /// Queries of these sources, and of the group or not.
     pub(crate) fn with(sources: Option<Vec<Addr>>, group: bool) -> Asking
         ensures { result ≡ asked_in_order (option_map (λ v. bits_of v.items) sources) group }
     {
         Asking { sources, group }
     }
 
-    /// Whether no query is asked for.
+    /// Whether no query is requested.
     pub fn is_empty(&self) -> bool
         ensures { result ≡ is_empty_list self.now }
     {
@@ -72,7 +72,7 @@ impl Asking {
         }
     }
 
-    /// Whether a query of the group is asked for.
+    /// Whether a query of the group is requested.
     pub fn asks_group(&self) -> bool
         ensures { result ≡ is_group_asked self.now }
     {

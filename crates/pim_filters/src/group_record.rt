@@ -1,4 +1,4 @@
-//! A group record: what a record of a report and the ends of timers make of it.
+//! A group record: what a record of a report and the expiry of timers make of it.
 ghost use Rattle.std.specs.Option.{option_map_or};
 ghost use Rattle.std.specs.Prelude.{◌≡◌, ◌==◌, false, filter, find, map, nat_lt, not};
 ghost use Rattle.pim_filters.specs.Members.{bits_of, with_end_lowered, without_end};
@@ -58,7 +58,8 @@ impl GroupRecord {
         }
     }
 
-    /// The record whose group timer ends then, in milliseconds, where it runs, of these sources, which ascend.
+    /// The record whose group timer expires at the timestamp, in ms, if it runs, and which has these sources, in
+    /// ascending order.
     pub fn with(
         alloc: Global,
         timer: Option<u64>,
@@ -78,7 +79,7 @@ impl GroupRecord {
         self.timer.is_none() && self.members.is_empty()
     }
 
-    /// The end of the group timer, in milliseconds, in EXCLUDE.
+    /// When the group timer expires, in ms, in EXCLUDE.
     pub fn timer(&self) -> Option<u64>
         ensures { result ≡ self.now.timer }
     {
@@ -110,10 +111,9 @@ impl GroupRecord {
         }
     }
 
-    /// The record after a record of a message (RFC 3376, sections 6.4.1 and 6.4.2), and the queries
-    /// that it asks for. The sources may come in any order and more than once; `full` is the end of
-    /// a timer that is set to the group membership interval, in milliseconds. Where memory is
-    /// refused, nothing changes.
+    /// The record after a record of a message (RFC 3376, sections 6.4.1 and 6.4.2), and the queries that this requests.
+    /// The sources may come in any order and more than once. `full` is when a timer expires that is set to the group
+    /// membership interval, in ms. The error is want of memory, and then nothing changes.
     pub fn apply(
         &mut self,
         record_type: RecordType,
@@ -141,7 +141,7 @@ impl GroupRecord {
         Ok(())
     }
 
-    /// The group timer has ended: INCLUDE of the sources whose timers run past the moment.
+    /// The group timer has expired: INCLUDE of the sources whose timers run past the timestamp.
     pub fn group_expired(&mut self, now: u64)
         ensures { self.new ≡ group_expired now self.old }
     {
@@ -149,8 +149,7 @@ impl GroupRecord {
         keep_running(&mut self.members, now);
     }
 
-    /// The timer of a source has ended: in INCLUDE the source goes, in EXCLUDE its packets are
-    /// refused from now on.
+    /// The timer of a source has expired: in INCLUDE the source is deleted, in EXCLUDE it is excluded from then on.
     pub fn source_expired(&mut self, source: Addr)
         ensures { self.new ≡ source_expired source.bits self.old }
     {
@@ -161,14 +160,14 @@ impl GroupRecord {
         }
     }
 
-    /// Lowers the group timer to the moment, where it runs and ends later.
+    /// Lowers the group timer to the timestamp, where it runs and expires later.
     pub fn lower_group(&mut self, end: u64)
         ensures { self.new ≡ group_lowered end self.old }
     {
         self.timer = lowered_end(self.timer, end);
     }
 
-    /// Lowers the timers of the named sources to the moment, where they run and end later.
+    /// Lowers the timers of the named sources to the timestamp, where they run and expire later.
     pub fn lower_sources(&mut self, sources: &[Addr], end: u64)
         ensures { self.new ≡ sources_lowered (bits_of sources.now) end self.old }
     {
@@ -186,7 +185,7 @@ fn member_of(members: &[Member], source: Addr) -> Option<Member>
         .find(|member| member.source.bits == source.bits)
 }
 
-/// Takes the end of a source away, where it is a member.
+/// Excludes a source, if it is a member.
 fn exclude(members: &mut [Member], source: Addr)
     ensures { members.new ≡ map (without_end source.bits) members.old }
 {
@@ -195,7 +194,7 @@ fn exclude(members: &mut [Member], source: Addr)
     }
 }
 
-/// Lowers the ends of the named sources to the moment.
+/// Lowers the timers of the named sources to the timestamp.
 fn lower(members: &mut [Member], sources: &[Addr], end: u64)
     ensures { members.new ≡ map (with_end_lowered sources.now end) members.old }
 {
@@ -204,7 +203,7 @@ fn lower(members: &mut [Member], sources: &[Addr], end: u64)
     }
 }
 
-/// Keeps those whose timers run past the moment.
+/// Keeps the members whose timers run past the timestamp.
 fn keep_running(members: &mut Members, moment: u64)
     ensures { members.new.items ≡ filter (λ m. option_map_or (nat_lt moment) m.end false) members.old.items }
 {

@@ -12,8 +12,7 @@ use smallvec::SmallVec;
 /// Members in one place: a host seldom names more than four sources, which need no allocation.
 pub(crate) type Members = SmallVec<Member, 4>;
 
-/// A source of a group record: until its end, in milliseconds, its packets are asked for; with no
-/// end they are refused.
+/// A source of a group record. Until its timer expires, in ms, its packets are wanted; without a timer it is excluded.
 #[derive(Clone, Copy)]
 pub struct Member {
     pub source: Addr,
@@ -38,7 +37,7 @@ pub enum Fate {
     Gone,
     /// The source has no timer: its packets are refused.
     Excluded,
-    /// The source's timer runs until this moment, in milliseconds.
+    /// The source's timer runs until this timestamp, in ms.
     Until(u64),
 }
 
@@ -72,7 +71,7 @@ impl Member {
         }
     }
 
-    /// The member, with no end where it is of this source.
+    /// The member, without a timer if it is of this source.
     pub(crate) fn without_end(self, source: Addr) -> Member
         ensures { result ≡ without_end source.bits self }
     {
@@ -82,7 +81,7 @@ impl Member {
         self
     }
 
-    /// The member, with its end lowered to the moment where its source is named.
+    /// The member, with its timer lowered to the timestamp if its source is named.
     pub(crate) fn with_end_lowered(self, sources: &[Addr], moment: u64) -> Member
         ensures { result ≡ with_end_lowered sources.now moment self }
     {
@@ -93,7 +92,7 @@ impl Member {
         self
     }
 
-    /// Whether the timer runs past the moment.
+    /// Whether the timer runs past the timestamp.
     pub(crate) fn runs_past(self, moment: u64) -> bool
         ensures { result ≡ option_map_or (nat_lt moment) self.end false }
     {
@@ -101,7 +100,7 @@ impl Member {
     }
 }
 
-/// The end, lowered to a moment where it runs.
+/// When a timer expires that is lowered to a timestamp if it runs.
 pub(crate) fn lowered_end(end: Option<u64>, moment: u64) -> Option<u64>
     ensures { result ≡ lowered moment end }
 {

@@ -19,14 +19,14 @@ use std::alloc::{AllocError, Global};
 #[derive(Clone, Copy)]
 pub(crate) struct Rule {
     pub(crate) record_type: RecordType,
-    /// The end of the group timer, in EXCLUDE.
+    /// When the group timer expires, in EXCLUDE.
     pub(crate) timer: Option<u64>,
-    /// The end of a timer that is set to the group membership interval.
+    /// When a timer expires that is set to the group membership interval.
     pub(crate) full: u64,
 }
 
 impl Rule {
-    /// The end of the group timer afterwards.
+    /// When the group timer expires afterwards.
     pub(crate) fn timer_after(self) -> Option<u64>
         ensures { result ≡ timer_after self.full self.timer self.record_type }
     {
@@ -143,7 +143,7 @@ impl Rule {
         matches!(self.record_type, RecordType::ToInclude) && self.timer.is_some()
     }
 
-    /// What the querier is asked, of the members before and the named addresses, both ascending.
+    /// The queries that the querier is to send, by the members before and the named addresses, both ascending.
     pub(crate) fn asking(
         self,
         alloc: Global,

@@ -1,4 +1,4 @@
--- A neighbour that started anew.
+-- A neighbour that restarted.
 use Rattle.std.proofs.Common.{◌≡◌, ℕ, true, not, ◌&&◌, List, ◌+◌, Some, refl, ap, sym, ◌∙◌, filter}
 use Rattle.std.specs.Cmp.{first_so, second_so}
 use Rattle.std.specs.List.Sorted.{IsStrictlySortedBy}

@@ -1,4 +1,4 @@
--- The timers that are ended here: those of neighbours, and Hello timers.
+-- Which timers expire by the functions of this crate: those of neighbours, and Hello timers.
 use Rattle.std.specs.Prelude.{Bool, false, true}
 use Rattle.pim_types.specs.declared.timer.TimerKind.{TimerKind}
 

@@ -1,4 +1,5 @@
-//! Whether a Hello, or a neighbour's end, leaves whether the router is the DR of the interface (RFC 7761, section 4.3.2).
+//! Whether a Hello, or the expiry of a neighbour, leaves unchanged whether the router is the DR of the interface (RFC
+//! 7761, section 4.3.2).
 ghost use Rattle.std.specs.Prelude.{◌≡◌, ◌||◌, None, Some, is_none, not};
 ghost use Rattle.pim_adjacent.specs.Adjacent.{end_keeps_dr, hello_keeps_dr};
 ghost use Rattle.pim_hello.specs.Election.{is_dr_with, is_other, is_unranked, row_of_hello, some_other};
@@ -80,7 +81,7 @@ fn some_other_better(world: &World, by_priority: bool, own: &InterfaceConfig, ke
 fn is_dr_without(world: &World, key: Key) -> bool
     ensures { result ≡ is_dr_with world.now key None }
 {
-    // It tells that the keys of neighbours rise.
+    // For the proof: the keys of neighbours rise.
     let _ = world.neighbours().len();
     let own = own(world, key.iface);
     let by_priority = !some_other_unranked(world, key);
@@ -112,7 +113,7 @@ fn some_are_better(
 fn is_dr_beside(world: &World, key: Key, row: NeighbourRow) -> bool
     ensures { result ≡ is_dr_with world.now key (Some row) }
 {
-    // It tells that the keys of neighbours rise.
+    // For the proof: the keys of neighbours rise.
     let _ = world.neighbours().len();
     let own = own(world, key.iface);
     let by_priority = all_are_ranked(world, key, row);
@@ -146,7 +147,7 @@ fn row_of_hello(world: &World, hello: &Hello) -> Option<NeighbourRow>
     })
 }
 
-/// Whether the router is the DR of the interface after a Hello from the address there where it is now.
+/// Whether a Hello from the address leaves unchanged whether the router is the DR of the interface.
 #[tactic(auto, unfolding(pim_adjacent::specs::Adjacent::hello_keeps_dr, pim_model::specs::Hellos::neighbour_replaced, pim_model::specs::Hellos::neighbours_replaced, pim_model::specs::Neighbours::is_dr))]
 pub fn hello_keeps_dr(world: &World, iface: IfaceId, from: Addr, hello: &Hello) -> bool
     ensures { result ≡ hello_keeps_dr world.now iface.number from.bits hello.now }
@@ -156,7 +157,7 @@ pub fn hello_keeps_dr(world: &World, iface: IfaceId, from: Addr, hello: &Hello) 
     if world.is_dr(iface) { after } else { !after }
 }
 
-/// Whether it is after the end of the neighbour with this key where it is now.
+/// Whether the expiry of the neighbour with this key leaves unchanged whether the router is the DR of its interface.
 #[tactic(auto, unfolding(pim_adjacent::specs::Adjacent::end_keeps_dr, pim_model::specs::Hellos::neighbour_due, pim_model::specs::Neighbours::is_dr, pim_model::specs::Tables::set_row))]
 pub fn end_keeps_dr(world: &World, key: Key) -> bool
     ensures { result ≡ end_keeps_dr world.now key }

@@ -15,12 +15,11 @@ use std::alloc::AllocError;
 // Triggered_Hello_Delay (RFC 7761, section 4.11), in ms.
 const TRIGGERED_HELLO_DELAY: u32 = 5000;
 
-/// Takes a Hello that came on an interface from an address, with a draw (RFC 7761, section 4.3.1): one
-/// from a new neighbour, or from one that started anew, makes a Hello owed; then the neighbour stands
-/// as the Hello says. Where it started anew, the asserts lost to it end, and the Join timers towards it are
-/// lowered. With holdtime 0 the neighbour goes. The meter rises by the nodes that its look-ups visit, at least those of the
-/// sight of each Join timer's group and source where the neighbour started anew. Where memory is refused, the Hello may be
-/// taken in part.
+/// Takes a Hello that came on an interface from an address, with a draw (RFC 7761, section 4.3.1). One from a new
+/// neighbour, or from one that restarted, makes a Hello owed. Then the neighbour's row is as the Hello says. Where the
+/// neighbour restarted, the asserts lost to it are removed, and the Join timers towards it are lowered. With holdtime 0
+/// the neighbour is removed. The meter rises by the nodes that its look-ups visit, at least those of the sight of each
+/// Join timer's group and source where the neighbour restarted. If an allocation fails, the Hello may be taken in part.
 #[tactic(auto, using(pim_world::proofs::Visits::raised_by_none), unfolding(pim_model::specs::Hellos::hello_received, pim_model::specs::Hellos::is_generation_changed))]
 pub fn received(
     world: &mut World,
@@ -52,7 +51,7 @@ fn trigger(world: &mut World, iface: IfaceId, draw: u32) -> Result<(), AllocErro
     world.owe_hello(iface, end)
 }
 
-/// When a Hello leaves at the latest that something triggers now, in ms: after a delay up to
+/// When a Hello that is triggered at the present time leaves at the latest, in ms: after a delay up to
 /// Triggered_Hello_Delay, which the number draws.
 pub fn triggered_end(world: &World, draw: u32) -> u64
     ensures { result ≡ world.now.present + delay_in 1 triggered_hello_delay draw }
@@ -60,7 +59,7 @@ pub fn triggered_end(world: &World, draw: u32) -> u64
     world.present() + delay_in(1, TRIGGERED_HELLO_DELAY, draw)
 }
 
-// Takes a Hello of a neighbour that started anew.
+// Takes a Hello of a neighbour that restarted.
 #[tactic(auto, unfolding(pim_model::specs::Hellos::neighbour_restarted))]
 fn restart(
     world: &mut World,
@@ -79,11 +78,12 @@ fn restart(
         iface,
         address: from,
     };
-    // which timers they are is judged by what was known of the neighbour, their end by what is known now
+    // Which timers these are is judged by what was known of the neighbour, and what they are lowered to by what is
+    // known after the Hello.
     let towards = timers_towards(world, turn.alloc, meter, neighbour)?;
     trigger(world, iface, turn.draw)?;
     world.replace_neighbour(iface, from, hello)?;
-    // It tells that the keys of asserts rise, so that each stands once.
+    // For the proof: the keys of asserts rise, so that each is listed once.
     world.recall_keyed();
     let lost = asserts_lost_to(world, turn, neighbour)?;
     world.store_mut().end_losses(&lost, meter);

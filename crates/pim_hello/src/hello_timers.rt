@@ -9,8 +9,8 @@ use pim_types::{Key, TimerKind};
 use pim_world::{Turn, World};
 use std::alloc::AllocError;
 
-/// Takes the end of the timer of a neighbour, which goes, or of a Hello timer (RFC 7761, section 4.3.1): a Hello
-/// leaves, and the timer starts anew. Where memory is refused, the end may be taken in part.
+/// Takes the expiry of the timer of a neighbour, which is removed, or of a Hello timer (RFC 7761, section 4.3.1): a
+/// Hello leaves, and the timer restarts. If an allocation fails, the expiry may be taken in part.
 #[tactic(auto, unfolding(pim_model::specs::Firing::fired))]
 pub fn fired(
     world: &mut World,
@@ -31,7 +31,7 @@ pub fn fired(
     }
 }
 
-// Sends the Hello of the timer under the key, if there is one, and starts it anew.
+// Sends the Hello of the timer under the key, if there is one, and restarts the timer.
 #[tactic(auto, unfolding(pim_model::specs::Firing::fire_row, pim_model::specs::Hellos::hello_due, pim_model::specs::Tables::has_row))]
 fn restart_hello(world: &mut World, turn: &mut Turn, key: Key) -> Result<(), AllocError>
     ensures state { OnOk result (world.new ≡ (fire_row (λ s. s.interfaces) hello_due world.old key).0) }

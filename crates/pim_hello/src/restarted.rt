@@ -1,4 +1,4 @@
-//! What ends with a neighbour that started anew: the asserts lost to it, and the wait for the next Join to it.
+//! What a neighbour that restarted changes: the asserts lost to it are removed, and the Join timers towards it lowered.
 ghost use Rattle.std.specs.Prelude.{◌≡◌, ◌≤◌, IfOk, OnOk, Some, filter};
 ghost use Rattle.pim_model.specs.Hellos.{is_lost_to, upstream_of};
 ghost use Rattle.pim_model.specs.Tables.{change_row, keys_in, same_hop};
@@ -15,8 +15,8 @@ use pim_types::{Hop, Key};
 use pim_world::{Meter, Turn, World};
 use std::alloc::{AllocError, Global};
 
-/// The keys of the Join timers whose upstream neighbour it is. The meter rises by the nodes that the look-ups visit, at least
-/// those of the sight of each timer's group and source.
+/// The keys of the Join timers whose upstream neighbour it is. The meter rises by the nodes that the look-ups visit, at
+/// least those of the sight of each timer's group and source.
 pub(crate) fn timers_towards(
     world: &World,
     alloc: Global,
@@ -60,8 +60,8 @@ pub fn asserts_lost_to(world: &World, turn: &Turn, neighbour: Hop) -> Result<Vec
     Ok(keys)
 }
 
-/// Lowers the Join timers with these keys to an end, in ms. The meter rises by the nodes that lead to the group, or to the
-/// source, of each.
+/// Lowers the Join timers with these keys to a timestamp, in ms. The meter rises by the nodes that lead to the group,
+/// or to the source, of each.
 pub(crate) fn lower_timers(
     world: &mut World,
     meter: &mut Meter,

@@ -1,5 +1,5 @@
-//! What looks to a neighbour: each group to whose RP it leads, of the other groups the sources to which it leads, and the
-//! asserts that the router lost to it.
+//! What looks to a neighbour: each group to whose RP it leads, of the other groups the sources to which it leads, and
+//! the asserts that the router lost to it.
 ghost use Rattle.std.specs.List.{flat_map};
 ghost use Rattle.std.specs.Prelude.{◌≡◌, ◌≤◌, ◌++◌, IfOk, OnOk, filter, map, sum_by};
 ghost use Rattle.pim_adjacent.specs.Adjacent.{keys_of_hello, keys_towards, leads_to, led_keys, led_of_group, may_lead};
@@ -96,7 +96,7 @@ fn put_group(
     put_sources(world, meter, neighbour, group, &sources, keys)
 }
 
-// Of these groups.
+// The keys of what leads to the neighbour, of the given groups.
 fn keys_of_groups(
     world: &World,
     alloc: Global,
@@ -125,7 +125,8 @@ fn may_lead(world: &World, address: Addr) -> bool
     world.is_next_hop(address) || world.is_some_rp(address) || world.is_source(address)
 }
 
-// The groups to whose RP it leads, and the sources to which it leads. Where no path may lead to it, no group is asked.
+// The groups to whose RP the path leads over the neighbour, and the sources to which it does. If no path may lead
+// there, no group is read.
 #[tactic(auto, unfolding(pim_adjacent::specs::Adjacent::led_keys))]
 fn keys_by_paths(
     world: &World,
@@ -146,8 +147,8 @@ fn keys_by_paths(
     keys_of_groups(world, alloc, meter, neighbour, &groups)
 }
 
-/// The keys of what looks to the neighbour, of which there are facts. The meter rises by the nodes that the look-ups
-/// visit; where a path may lead to it, at least those of the RP of each group and of the routes that are asked for.
+/// The keys with facts of what depends on the neighbour. The meter rises by the nodes that the look-ups visit; where a
+/// path may lead to it, at least those of the RP of each group and of the routes that are looked up.
 #[tactic(auto, unfolding(pim_adjacent::specs::Adjacent::keys_towards))]
 pub fn keys_towards(
     world: &World,
@@ -166,9 +167,9 @@ pub fn keys_towards(
     Ok(keys)
 }
 
-/// The keys of what a Hello moves that leaves whether the router is the DR: of a neighbour that stays, the asserts that the
-/// router lost to it, which end where it started anew; of one that comes or goes, all that looks to it. The meter rises by the
-/// nodes that the look-ups visit.
+/// The keys of what a Hello moves that doesn't change whether the router is the DR. For a neighbour that stays they are
+/// the asserts that the router lost to it, which are removed where it restarted; for one that comes or goes they are
+/// all that depends on it. The meter rises by the nodes that the look-ups visit.
 #[tactic(auto, unfolding(pim_adjacent::specs::Adjacent::keys_of_hello))]
 pub fn keys_of_hello(
     world: &World,

@@ -115,7 +115,7 @@ module _ (f : InterfaceRow → InterfaceRow) (i : ℕ) where
       past_step e es (is_on i e.0) (grind (arith, common_steps, h.1))
       (mapped-past (iface_in e.0 + 1) count es (omega (arith, h.1)) h.3)
 
-  -- the same of the row put in its place
+  -- a row at another key isn't changed where a row is put in its place
   changed_past : (row : InterfaceRow) (e : Key × InterfaceRow) (b : Bool) → same_key (iface_key i) e.0 ≡ b → b ≡ false
       → changed_entry (λ old. Some row) (iface_key i) e ≡ Some e
   unfolding changed_entry

@@ -48,7 +48,7 @@ impl Model for Interfaces {
 }
 
 impl Interfaces {
-    /// These interfaces, all down. It takes no memory.
+    /// The given interfaces, all down. Takes no memory.
     pub fn new(alloc: Global, configured: &[InterfaceConfig]) -> Self
         requires { interfaces_test configured.now ≡ Ok tt }
         ensures { result ≡ record { configured = configured.now; rows = [] } }
@@ -67,7 +67,8 @@ impl Interfaces {
         self.configured.as_slice().len() as u32
     }
 
-    /// At most 120 interfaces are configured, so an interface that is has a number below 120. It does nothing.
+    /// For the proof: at most 120 interfaces are configured, so a configured interface has a number below 120. Does
+    /// nothing when it runs.
     pub fn recall_few(&self)
         ensures { length self.now.configured ≤ MOST_INTERFACES }
     {
@@ -140,8 +141,8 @@ impl Interfaces {
         None
     }
 
-    /// On which interface the Hello timer ends first, and when, in ms: the least end by its moment and its key.
-    /// `None` where no interface is up.
+    /// On which interface the Hello timer expires first, and when, in ms: the least by timestamp, then by key. `None`
+    /// where no interface is up.
     #[tactic(auto, unfolding(pim_tables::specs::Ends::row_endings))]
     pub fn next(&self) -> Option<(u64, Timer)>
         ensures { result ≡ option_map due_of (first_by is_ending_first
@@ -175,8 +176,8 @@ impl Interfaces {
         self.rows.remove(Key::iface(iface));
     }
 
-    /// Makes a Hello owed on the interface, if it is up, and lets its Hello timer end at this moment
-    /// at the latest, in ms. An error is want of memory, and changes nothing.
+    /// Marks that a Hello is owed on the interface, if it is up, and lets its Hello timer expire at this timestamp at
+    /// the latest, in ms. The error is want of memory, and changes nothing.
     pub fn owe_hello(&mut self, iface: IfaceId, end: u64) -> Result<(), AllocError>
         ensures ok { OnOk result (self.new
             ≡ record self.old { rows = hellos_triggered iface.number end self.old.rows }) }

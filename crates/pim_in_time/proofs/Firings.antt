@@ -53,7 +53,7 @@ use Rattle.pim_stream.proofs.Settles.{NoWorse, settling_no_worse}
 use Rattle.pim_stream.proofs.Ways.{SameGround, ground_again, same_route}
 use Rattle.pim_in_time.proofs.Timers.{EndsBy, Towards, begins_by, goes_on_by, is_after, none_runs, not_after, unwanted_by}
 
--- ---- what a timer's end leaves alone
+-- ---- what the expiry of a timer leaves alone
 
 record Parts : Type 0 where
   present : ℕ

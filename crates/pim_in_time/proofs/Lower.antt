@@ -46,7 +46,7 @@ module _ (g rp m from : ℕ) (hop : Hop) (b : State) (own : my_address b hop.ifa
   abbrev there : State → Bool
   there t = has_row t.neighbours (hop_key hop)
 
-  -- the next hop is gone, or the timer ends by a moment
+  -- the next hop is gone, or the timer ends by a timestamp
   pub record Ends (y : ℕ) (t : State) : Type 0 where
     pub base : Based t
     pub ends : (there t ≡ false) ⊎ EndsBy g y t

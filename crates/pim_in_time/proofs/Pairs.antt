@@ -80,7 +80,7 @@ frame_stays : (n : Network) (m : Move) (k : ℕ) (f : Sent) → frame_at n k ≡
 unfolding network_ran
 frame_stays n m k f there = frames_stay n (m ∷ []) k f there
 
--- it stays ready
+-- a router that is ready is ready after a move
 ready_then : (r : ℕ) (n : Network) (m : Move) → IsReady r n → IsReady r (moved n m).1
 ready_then r n m f = go (one_router n m r f.station f.there)
   where
@@ -135,15 +135,15 @@ pub record Out : Type 0 where
   pub pruned : List ℕ
 
 module _ (g rp d : ℕ) (started : ℕ → ℕ) (c : Pair) (isg : IsGroup g rp) (few : d < 75000) (apart : (c.lower == c.upper) ≡ false) where
-  -- it comes before a moment
+  -- a Join that was sent comes before a timestamp
   pub record Pending (limit : ℕ) (n : Network) (ms : List Move) (j : Out) : Type 0 where
     pub soon : j.sent + d < limit
     pub writable : IsWritable c.from (c.hop).address.bits g (entry EntryKind.Star rp) (prunes_of j.pruned)
     pub there : frame_at n j.number ≡ Some (frame_of g rp c j.pruned)
     pub comes : ComesBy g rp d started c j.pruned j.number j.sent n ms
 
-  -- the first comes before a moment, each other before the one before it is over, and the last is not over before the next
-  -- one comes that the Join timer sends
+  -- the first comes before a moment, each other before the one before it is over, and the last is not over before the
+  -- next one comes that the Join timer sends
   abbrev pub Chain : ℕ → Network → List Move → List Out → Type 0
   Chain limit n ms [] = (st : Station) (row : JoinTimerRow) → station_at n c.lower ≡ Some st
       → row_at (st.state).join_timers (star_key 0 g) ≡ Some row → row.end + started c.lower + 2 * d < limit

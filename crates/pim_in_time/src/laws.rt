@@ -1,5 +1,5 @@
-//! What is sent in time keeps what it asks for. Laws of the definitions, each the contract of a function with nothing
-//! to do.
+//! A Join that is sent in time keeps its tree joined. Laws of the definitions, each the contract of a function with
+//! nothing to do.
 
 ghost use Rattle.pim_in_time.specs.Joins.{JoinsComeInTime, WayStaysJoined};
 ghost use Rattle.pim_in_time.specs.Streams.{JoinsKeepStream};
@@ -14,7 +14,7 @@ pub fn way_stays_joined()
     ensures { WayStaysJoined }
 {}
 
-/// A router goes on to pass a stream to the one below, whose Joins come in time, until something else ends it.
+/// A router goes on passing a stream to the one below, whose Joins come in time, until something else ends it.
 pub fn joins_keep_stream()
     ensures { JoinsKeepStream }
 {}

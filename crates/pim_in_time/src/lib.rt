@@ -1,4 +1,4 @@
-//! What is sent in time keeps what it asks for.
+//! A Join that is sent in time keeps its tree joined.
 #![tactic(auto)]
 
 pub mod laws;

@@ -1,4 +1,4 @@
--- What an event that is lent stands for.
+-- The event that a borrowed event stands for.
 use Rattle.pim_types.specs.declared.event.EventKind.{EventKind}
 use Rattle.pim_intake.specs.declared.lent.LentKind.{LentKind}
 

@@ -17,7 +17,7 @@ use pim_types::{Fault, IfaceId, Ignored, Lent, Refusal, Route, RpRange, Stop};
 use pim_world::{World, table_of_ranges};
 use std::alloc::Global;
 
-// The last moment, in ms.
+// The latest timestamp of an event, in ms.
 const LAST_MOMENT: u64 = 1 << 62;
 
 // Time that is to pass.
@@ -66,7 +66,7 @@ fn judge_down<'a>(world: &World, iface: IfaceId) -> Result<Accepted<'a>, Stop>
 #[derive(Drop)]
 pub struct Admitted<'a> {
     pub accepted: Accepted<'a>,
-    /// Of the routes or the RP ranges that it brings, made to test them; empty where it brings none.
+    /// The table of the routes or the RP ranges that the event brings, made to test them; empty where it brings none.
     pub table: Mrib,
 }
 
@@ -127,8 +127,8 @@ fn without_table<'a>(
 }
 
 /// Judges an event: what the router is to act on, or the first test that fails. Only routes and RP ranges are
-/// tested in memory: a table is made of them, which comes with the answer. The meter rises by the nodes that lead to the RP
-/// of the group of a Register-Stop to the router; for a packet that came on a link nothing is looked up.
+/// tested in memory: a table is made of them, which comes with the answer. The meter rises by the nodes that lead to
+/// the RP of the group of a Register-Stop to the router; for a packet that came on a link nothing is looked up.
 #[tactic(auto, using(pim_world::proofs::Visits::raised_by_none), unfolding(pim_model::specs::Judging::judged, crate::specs::Lent::event_kind))]
 pub fn judge<'a>(
     alloc: Global,

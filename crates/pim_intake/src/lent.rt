@@ -1,4 +1,4 @@
-//! Events whose packets, routes and ranges are lent.
+//! Events whose packets, routes and ranges are borrowed.
 ghost use Rattle.std.specs.Prelude.{◌≡◌};
 ghost use Rattle.pim_types.specs.declared.event.EventKind.{EventKind as EventValue};
 

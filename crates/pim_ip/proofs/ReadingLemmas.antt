@@ -70,7 +70,7 @@ module _ (b : List ℕ) where
   unfolding ipv4_reading
   packet_read m e f s = grind (arith, nat_tests)
 
-  -- the same, by its header and its payload
+  -- where all tests passed the packet is read, by its header and its payload
   pub packet_found : IsMeasured b → sum16 (take (header_length_of b) b) ≡ 0 → fragment_of b ≡ 0
       → is_source (protocol_of b) (source_address_of b) ≡ true → (header payload : List ℕ) → header ≡ take (header_length_of b) b
       → payload ≡ slice_range b (header_length_of b) (total_length_of b) → Ok (packet_from header payload) ≡ ipv4_reading b

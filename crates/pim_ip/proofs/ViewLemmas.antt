@@ -25,11 +25,11 @@ module _ (header payload more : List ℕ) where
   take-whole : (n : ℕ) → n ≡ length header → take n whole ≡ header
   take-whole n e = rw append_assoc (take_at header (payload ++ more) n (sym e))
 
-  -- then the payload
+  -- after the header comes the payload
   slice_range-whole : (n m : ℕ) → n ≡ length header → m ≡ length header + length payload → slice_range whole n m ≡ payload
   slice_range-whole n m en em = rw (append_assoc, drop_at header (payload ++ more) n (sym en)) (take_at payload more (m - n) (omega arith))
 
-  -- so a packet is read
+  -- the bytes of a header and a payload are read as the packet
   reading-whole : IsPacket header payload → length whole ≤ packet_limit → ipv4_reading whole ≡ Ok (packet_from header payload)
   reading-whole h fits =
       let first = byte-whole 0 (omega arith) in

@@ -17,6 +17,6 @@ ones (suc n) = n % 65535 + 1
 unfoldable pub sum16 : List ℕ → ℕ
 sum16 bytes = 65535 - ones (sum_of_words bytes)
 
--- bytes with their checksum, whose two bytes stand between these and count as 0
+-- Bytes with their checksum, whose two bytes are between these and count as 0.
 unfoldable pub with_checksum : List ℕ → List ℕ → List ℕ
 with_checksum before after = before ++ big_bytes 2 (sum16 (before ++ 0 ∷ 0 ∷ after)) ++ after

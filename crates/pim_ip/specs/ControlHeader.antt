@@ -13,7 +13,7 @@ text_of header =
     header_text (options_of header) header.time_to_live header.protocol header.source.bits
     header.destination.bits header.payload_length
 
--- before a payload of the length that it tells the text is read as it was written, where the source may send
+-- A header before a payload of the length that it gives is read as it was written, if its source may send.
 abbrev pub ReadsBack : ControlHeader → Type 0
 ReadsBack header =
     (payload : List ℕ) → length payload ≡ header.payload_length

@@ -129,7 +129,7 @@ unfoldable pub igmp_packet_text : ℕ → ℕ → List ℕ → List ℕ
 igmp_packet_text source destination message =
     header_text router_alert 1 protocol_igmp source destination (length message) ++ message
 
--- a data packet as it leaves: its header with the TTL one lower and the checksum made anew
+-- A data packet as it leaves: its header with the TTL one lower and the checksum updated.
 unfoldable pub copy_text : Packet → List ℕ
 copy_text p =
     with_checksum (take 8 p.header ++ (p.time_to_live - 1) ∷ p.protocol ∷ []) (drop 12 p.header) ++ p.payload

@@ -15,7 +15,7 @@ packet_from header payload = record {
   payload = payload;
 }
 
--- the header and the payload have the lengths that the header tells, and no field is refused
+-- The header and the payload have the lengths that the header gives, and no field is refused.
 pub record IsPacket (header payload : List ℕ) : Type 0 where
   pub long_enough : 20 ≤ length header
   pub version : version_of header ≡ 4
@@ -30,12 +30,12 @@ pub record IsPacket (header payload : List ℕ) : Type 0 where
 pub record ReadsAs (text : List ℕ) (packet : Packet) : Type 0 where
   pub reading : (more : List ℕ) → length (text ++ more) ≤ packet_limit → ipv4_reading (text ++ more) ≡ Ok packet
 
--- a header with its time to live one lower, and the checksum made anew
+-- A header with its time to live one lower, and the checksum updated.
 unfoldable pub lowered_header : List ℕ → List ℕ
 lowered_header header =
     with_checksum (take 8 header ++ (slice_index header 8 - 1) ∷ slice_index header 9 ∷ []) (drop 12 header)
 
--- the header of a copy: the time to live one lower, and the checksum made anew
+-- The header of a copy: the time to live one lower, and the checksum updated.
 unfoldable pub copied_header : Packet → List ℕ
 copied_header p =
     with_checksum (take 8 p.header ++ (p.time_to_live - 1) ∷ p.protocol ∷ []) (drop 12 p.header)
@@ -44,7 +44,7 @@ copied_header p =
 abbrev pub copied : Packet → Packet
 copied p = record p { time_to_live = p.time_to_live - 1; header = copied_header p }
 
--- the packet of a written header and a payload of the length that it tells
+-- The packet of a written header and a payload of the length that it gives.
 abbrev pub written_packet : List ℕ → ℕ → ℕ → ℕ → ℕ → List ℕ → Packet
 written_packet options time_to_live protocol source destination payload = record {
   protocol = protocol;

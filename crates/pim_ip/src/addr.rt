@@ -20,7 +20,7 @@ impl Addr {
     /// All systems of a link (RFC 3376, section 4.1.12): 224.0.0.1.
     pub const ALL_SYSTEMS: Addr = Addr { bits: 0xe000_0001 };
 
-    /// The four bytes, as they stand in a packet.
+    /// The four bytes, in the order of a packet.
     pub fn octets(self) -> [u8; 4]
         ensures { result ≡ big_bytes 4 self.bits }
     {

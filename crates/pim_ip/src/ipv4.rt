@@ -32,8 +32,8 @@ const HEADER_LENGTH: usize = 20;
 /// Where the checksum stands in a header.
 pub(crate) const CHECKSUM_PLACE: usize = 10;
 
-/// An IPv4 packet (RFC 791) that was read. It lends the header, with its options, and the payload
-/// from the bytes that were read, and takes no memory.
+/// An IPv4 packet (RFC 791) that was read. It borrows the header, with its options, and the payload from the bytes that
+/// were read, and takes no memory.
 #[derive(Drop)]
 pub struct Ipv4View<'a> {
     header: &'a [u8],
@@ -52,7 +52,7 @@ impl<'a> Model for Ipv4View<'a> {
 }
 
 impl<'a> Ipv4View<'a> {
-    /// The header, with its options. With the payload behind it, it is read as the same packet.
+    /// The header, with its options. Followed by the payload, it is read as the same packet.
     pub fn header(&self) -> &'a [u8]
         ensures value { result.now ≡ self.now.header }
         ensures again { ReadsAs (self.now.header ++ self.now.payload) self.now }
@@ -169,7 +169,7 @@ pub fn read_ipv4(bytes: &[u8]) -> Result<Ipv4View<'_>, Refusal>
     Ok(Ipv4View { header, payload })
 }
 
-/// A header's checksum after one of its words was lowered by so many times 256 (RFC 1624). It is never 0xFFFF, since
+/// A header's checksum after one of its words was lowered by `times` times 256 (RFC 1624). It is never 0xFFFF, since
 /// the sum of a header's words isn't 0.
 fn raised_checksum(checksum: u16, times: u8) -> u16
     ensures { result ≡ (checksum + 256 * times) % 65535 }
@@ -182,7 +182,7 @@ fn raised_checksum(checksum: u16, times: u8) -> u16
     }
 }
 
-/// Lowers the time to live of a header by one (0 stays 0), and makes its checksum anew by that difference.
+/// Lowers the time to live of a header by one (0 stays 0), and updates its checksum.
 fn lower_time_to_live(header: &mut [u8])
     requires long_enough { 20 ≤ length header.old }
     requires version { version_of header.old ≡ 4 }
@@ -196,8 +196,8 @@ fn lower_time_to_live(header: &mut [u8])
     BigEndian::write_u16(&mut header[CHECKSUM_PLACE..CHECKSUM_PLACE + 2], checksum);
 }
 
-/// Writes the packet at the end as it leaves: with a time to live one lower (0 stays 0), and the
-/// checksum made anew. An `Err` changes nothing.
+/// Writes the packet at the end as it leaves: with a time to live one lower (0 stays 0), and the checksum updated. An
+/// `Err` is want of memory, and changes nothing.
 pub fn write_copy(packet: &Ipv4View<'_>, out: &mut Vec<u8>) -> Result<(), AllocError>
     ensures ok { OnOk result (out.new.items ≡ out.old.items ++ copy_text packet.now) }
     ensures err { OnErr result (out.new.items ≡ out.old.items) }

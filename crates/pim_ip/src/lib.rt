@@ -1,5 +1,5 @@
-//! IPv4 for the router: addresses, prefixes, packets read and written, the answers that every crate
-//! above gives when it refuses or fails, and the delays of a LAN, which a message tells and a fact keeps.
+//! IPv4 for the router: addresses, prefixes, packets read and written, the refusals and faults of all crates above, and
+//! the delays of a LAN, which are part of messages and of facts.
 #![tactic(auto)]
 
 pub mod addr;

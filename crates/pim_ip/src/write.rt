@@ -85,7 +85,7 @@ impl ControlHeader {
     }
 }
 
-/// Writes one text behind the other at the end, or neither.
+/// Writes two byte strings at the end, or neither.
 pub(crate) fn write_both(first: &[u8], second: &[u8], out: &mut Vec<u8>) -> Result<(), AllocError>
     ensures ok { OnOk result (out.new.items ≡ out.old.items ++ (first.now ++ second.now)) }
     ensures err { OnErr result (out.new.items ≡ out.old.items) }
@@ -119,7 +119,7 @@ pub fn write_header(header: &ControlHeader, out: &mut Vec<u8>) -> Result<(), All
     out.extend_from_slice(&header.bytes()[..header.length()])
 }
 
-/// Writes a PIM message behind a header without options at the end. An `Err` changes nothing.
+/// Writes a PIM message with a header without options at the end. An `Err` changes nothing.
 #[tactic(auto, unfolding(crate::specs::Ipv4::pim_packet_text))]
 pub fn write_pim_packet(
     time_to_live: u8,
@@ -147,8 +147,8 @@ pub fn write_pim_packet(
     write_packet(&header, message, out)
 }
 
-/// Writes an IGMP message at the end, behind a header with Router Alert and a time to live of 1.
-/// An `Err` changes nothing.
+/// Writes an IGMP message at the end, with a header that has Router Alert and a time to live of 1. An `Err` changes
+/// nothing.
 #[tactic(auto, unfolding(crate::specs::Ipv4::igmp_packet_text))]
 pub fn write_igmp_packet(
     source: Addr,

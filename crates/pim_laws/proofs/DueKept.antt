@@ -27,7 +27,7 @@ use Rattle.pim_laws.proofs.Parts.{Downstreams, Row, end_of, is_sound, part_of, t
 pub later_than : (m p d : ℕ) → p ≡ m → 1 ≤ d → nat_lt m (p + d) ≡ true
 later_than m p d e h = lt-ltb m (p + d) (omega arith)
 
--- a timer of this kind and key no longer ends by the moment m
+-- a timer of this kind and key no longer ends by the timestamp m
 abbrev pub Gone : ℕ → TimerKind → Key → State → Type 0
 Gone m kind k s = (x : ℕ) → nat_le x m ≡ true → shows kind (Ends k x) s ≡ true → ⊥
 

@@ -1,5 +1,5 @@
--- The ends of a state by kind of timer, key and moment, and what a change may do to them: what ends by a
--- moment after the change ended so before it.
+-- The ends of a state by kind of timer, key and moment, and what a change may do to them: what ends by a timestamp
+-- after the change ended so before it.
 use Rattle.std.proofs.Common.{◌≡◌, ◌⊎◌, ⊎_elim, ℕ, nat_lt, nat_le, Bool, true, false, not, cond, ◌&&◌, ◌||◌, [], ◌∷◌, map, Option, Some, None, option_map, refl, sym, ◌∙◌, subst, arith}
 use Rattle.std.specs.Cmp.{first_so, second_so}
 use Rattle.std.specs.List.{AllByRecursion, list_any}
@@ -20,12 +20,12 @@ pub data Mark : Type 0 where
   Ends : Key → ℕ → Mark
   Faulty : Mark
 
--- ends count up to a moment
+-- ends count up to a timestamp
 abbrev pub counts : ℕ → Mark → Bool
 counts m (Ends k x) = nat_le x m
 counts m Faulty = true
 
--- never, or later than the moment
+-- never, or later than the timestamp
 abbrev pub is_later : ℕ → Option ℕ → Bool
 is_later m None = true
 is_later m (Some x) = nat_lt m x
@@ -44,7 +44,7 @@ module _ {R : Type 0} (end_of : R → Option ℕ) (sound : Key × R → Bool) wh
   abbrev pub TableKeeps : ℕ → Table R → Table R → Type 0
   TableKeeps m t u = (mark : Mark) → counts m mark ≡ true → shows_in mark u ≡ true → shows_in mark t ≡ true
 
--- a later end is not one by the moment
+-- a later end is not one by the timestamp
 later_end_differs : (m x : ℕ) (o : Option ℕ) → is_later m o ≡ true → nat_le x m ≡ true → same_option o (Some x) ≡ true
     → ⊥
 later_end_differs m x None later by e = cc
@@ -183,7 +183,7 @@ module _ {R : Type 0} (end_of : R → Option ℕ) (sound : Key × R → Bool) (m
 abbrev pub shows : TimerKind → Mark → State → Bool
 shows kind mark s = shows_in (end_of kind) (is_sound (part_of kind)) mark (timed_rows kind s)
 
--- t is s after a change that makes no end by the moment m
+-- t is s after a change that makes no end by the timestamp m
 pub record Keeps (m : ℕ) (s t : State) : Type 0 where
   pub settings : t.settings ≡ s.settings
   pub present : t.present ≡ s.present
@@ -203,11 +203,11 @@ kept_then m s t u f g = record {
 -- ---- one table changed
 
 module _ (m : ℕ) (p : Part) where
-  -- what ends by the moment in the second table ended so in the first
+  -- what ends by the timestamp in the second table ended so in the first
   abbrev pub PartKeeps : Table (Row p) → Table (Row p) → Type 0
   PartKeeps t u = AllByRecursion (λ end. TableKeeps end (is_sound p) m t u) (ends_of p)
 
-  -- the row ends later than the moment
+  -- the row ends later than the timestamp
   abbrev pub IsLate : Row p → Type 0
   IsLate r = AllByRecursion (λ end. is_later m (end r) ≡ true) (ends_of p)
 

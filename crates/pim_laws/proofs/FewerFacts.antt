@@ -322,7 +322,7 @@ module _ (s : State) (k : Key) where
       own false true x e = e
       own false false x e = cc
 
--- after a timer's end no key passes a test that none passed before
+-- after the expiry of a timer no key passes a test that none passed before
 pub ended_fewer : (s : State) → list_all is_under_source s.source_records ≡ true → (kind : TimerKind) (k : Key)
     → IsFewer s (fired s kind k).0
 unfolding fact_keys fired fire_row prune_pending_due downstream_expired assert_due keepalive_due override_timer_due

@@ -1,4 +1,5 @@
--- The same of IGMP's timers: the queriers, the repeats of queries, the records.
+-- What the expiry of IGMP's timers changes makes no end by the present: the queriers, the repeats of queries, the
+-- records.
 use Rattle.std.proofs.Common.{◌≡◌, ℕ, ◌<◌, ◌≤◌, ◌+◌, ◌*◌, ◌-◌, nat_lt, Bool, true, false, cond, ◌&&◌, filter_map, Some, refl, sym, subst, arith, ltb-true}
 use Rattle.std.specs.Cmp.Derive.{both_true}
 use Rattle.std.specs.List.{list_any}

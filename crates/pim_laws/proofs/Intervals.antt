@@ -16,7 +16,7 @@ pub record IsFirm (c : Settings) : Type 0 where
   pub last_member_query_interval : nat_lt 0 c.last_member_query_interval ≡ true
   pub robustness : nat_lt 0 c.robustness ≡ true
 
--- nor those of an interface's querier
+-- no interval and no robustness of the settings or of an interface's querier is 0
 pub record IsInForce (s : State) (i : ℕ) : Type 0 where
   pub firm : IsFirm s.settings
   pub row : (r : QuerierRow) → row_at s.queriers (iface_key i) ≡ Some r

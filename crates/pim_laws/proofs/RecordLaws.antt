@@ -1,4 +1,5 @@
--- What holds of the ends of a group record holds of those that a message's record, or a timer's end, leaves of it.
+-- What holds of the ends of a group record holds of those that a message's record, or the expiry of a timer, leaves of
+-- it.
 use Rattle.std.proofs.Common.{map, ◌≡◌, ℕ, nat_lt, ◌==◌, Bool, true, false, cond, List, [], ◌∷◌, Option, Some, None, is_some, refl, subst, eqb-true}
 use Rattle.std.specs.List.{AllByRecursion, cons_option, filter_map, find}
 use Rattle.std.specs.Option.{option_map_or}
@@ -24,7 +25,7 @@ module _ (Never : Bool → Type 0) (Source : ℕ → ℕ → Type 0) (Group : �
     pub timer : EndsSo (Unit {0}) Group r.timer
     pub members : AllByRecursion (MemberSo (Never (is_some r.timer))) r.members
 
-  -- so all sources may end at `full`, or those that the record names
+  -- all sources, or those that the record names, may have timers that expire at `full`
   pub record NewSo (full : ℕ) (type : RecordType) (sources : List ℕ) : Type 0 where
     pub all : is_excluding type ≡ true → Group full
     pub named : is_including type ≡ true → (src : ℕ) → is_among src sources ≡ true → Source src full

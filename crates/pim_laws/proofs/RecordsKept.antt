@@ -1,4 +1,4 @@
--- The same of IGMP's records: the group timer and the source timers.
+-- What the expiry of group timers and source timers changes makes no end by the present.
 use Rattle.std.proofs.Common.{◌≡◌, ℕ, nat_lt, ◌==◌, Bool, true, false, not, cond, ◌&&◌, ◌||◌, List, [], ◌∷◌, map, fold, filter, Option, Some, None, is_some, refl, sym, ap, ◌∙◌, subst, eqb-true, eq-eqb}
 use Rattle.std.proofs.lemmas.Bool.{or_left, or_right}
 use Rattle.std.specs.Cmp.{first_so, second_so}
@@ -46,7 +46,7 @@ module _ (q : Key × SourceRecordRow → Bool) (i g : ℕ) where
       (any_of_put (source_key i g p.0) (record { end = p.1 }) q t f))
       (any_of_members ps (put t (source_key i g p.0) (record { end = p.1 })) e)
 
--- the members show nothing by the moment that didn't show before
+-- the members show nothing by the timestamp that didn't show before
 abbrev MembersKeep : ℕ → State → ℕ → ℕ → List Member → Type 0
 MembersKeep m s i g ms =
     (mark : Mark) → counts m mark ≡ true → list_any (λ p. shows_source mark (entry_of i g p)) ms ≡ true

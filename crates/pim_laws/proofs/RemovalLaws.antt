@@ -1,4 +1,4 @@
--- In a table whose keys rise, a key stands once: what is removed at it is all that is dropped.
+-- In a table whose keys rise, a key is listed once: what is removed at it is all that is dropped.
 use Rattle.std.proofs.Common.{◌≡◌, sym, Bool, true, false, [], ◌∷◌, refl, ap, cond, not, map}
 use Rattle.std.specs.declared.cmp.Ordering.TheVariants.{Less}
 use Rattle.std.specs.List.{AllByRecursion}

@@ -1,5 +1,5 @@
--- What follows from a change makes no end by the present: the registers, what is cleared, what is told
--- upstream, the packets.
+-- What follows from a change makes no end by the present: the registers, what is cleared, what is sent upstream, the
+-- packets.
 use Rattle.std.proofs.Common.{◌≡◌, ℕ, nat_lt, Bool, true, false, cond, List, ◌++◌, Some, is_some, refl, sym, ◌∙◌, subst}
 use Rattle.std.proofs.lemmas.Option.{cond_some}
 use Rattle.pim_types.specs.declared.timer.TimerKind.{TimerKind}

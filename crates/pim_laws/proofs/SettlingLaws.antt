@@ -63,7 +63,7 @@ module _ (P : Table InterfaceRow → Type 0) (pays : (i : ℕ) (t : Table Interf
   unfolding all_written
   kept_by_writing t messages f = kept_in_turn written Rows writes messages t f
 
--- ---- what is told upstream
+-- ---- what is sent upstream
 
 pub lower_of_two : (a b : ℕ) → (min a b ≡ a) ⊎ (min a b ≡ b)
 lower_of_two a b = ⊎_elim (λ (h : a < b). inl (omega arith)) (λ (h : b ≤ a). inr (omega arith)) (cases_lt a b)

@@ -97,7 +97,7 @@ module _ {R : Type 0} (kind : TimerKind) (end_of : R → Option ℕ) (sound : Ke
       shown_entry e (end_of e.1) refl (λ q here. inside q (or_left (q e) (list_any q es) here)) (endings kind end_of es)
       (each_shown es (λ q later. inside q (or_right (q e) (list_any q es) later)))
 
--- the end of a timer shows
+-- the expiry of a timer shows
 abbrev pub Shown : State → Ending → Type 0
 Shown s d = shows d.timer.kind (Ends d.timer.key d.end) s ≡ true
 
@@ -201,13 +201,13 @@ module _ (a b : Ending) where
 abbrev is_due : ℕ → Ending → Bool
 is_due m d = nat_le d.end m
 
--- the next timer that is due by a moment
+-- the next timer that is due by a timestamp
 pub record IsNext (m : ℕ) (s : State) (e : Ending) : Type 0 where
   pub due : e.end ≤ m
   pub shown : Shown s e
   pub least : (kind : TimerKind) (k : Key) (x : ℕ) → shows kind (Ends k x) s ≡ true → e.end ≤ x
 
--- an end by the moment is among what is due
+-- an end by the timestamp is among what is due
 among_due : (m : ℕ) (s : State) (kind : TimerKind) (k : Key) (x : ℕ) → shows kind (Ends k x) s ≡ true
     → nat_le x m ≡ true
     → list_any (λ (d : Ending). d.end == x) (filter (is_due m) (timers s)) ≡ true

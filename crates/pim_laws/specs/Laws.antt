@@ -58,7 +58,7 @@ abbrev pub is_querier_entry : Key × QuerierRow → Bool
 is_querier_entry e =
     same_key (iface_key (iface_in e.0)) e.0 && (nat_lt 0 (e.1).robustness && nat_lt 0 (e.1).query_interval)
 
--- what firing asks of a state: no robustness and no interval is 0, and IGMP's facts are under keys of their kind
+-- What firing requires of a state: no robustness and no interval is 0, and IGMP's facts are under keys of their kind.
 pub record IsFirable (s : State) : Type 0 where
   pub robustness : nat_lt 0 s.settings.robustness ≡ true
   pub query_interval : nat_lt 0 s.settings.query_interval ≡ true
@@ -69,20 +69,20 @@ pub record IsFirable (s : State) : Type 0 where
   pub group_repeats : list_all is_under_star s.group_repeats ≡ true
   pub source_repeats : list_all is_under_star s.source_repeats ≡ true
 
--- every timer ends later than a moment, or at that moment at the earliest
+-- Every timer expires later than a timestamp, or at it at the earliest.
 abbrev pub ends_after : ℕ → State → Bool
 ends_after m s = list_all (λ (e : Ending). nat_lt m e.end) (timers s)
 
 abbrev pub ends_from : ℕ → State → Bool
 ends_from m s = list_all (λ (e : Ending). nat_le m e.end) (timers s)
 
--- at the moment m, with nothing that should have fired before
+-- The state is at timestamp m, and no timer should have expired before.
 pub record IsReady (m : ℕ) (s : State) : Type 0 where
   pub firable : IsFirable s
   pub present : s.present ≡ m
   pub ends : ends_from m s ≡ true
 
--- at the moment m, with all that is due by then fired
+-- The state is at timestamp m, and all timers that are due by then have expired.
 pub record IsAhead (m : ℕ) (s : State) : Type 0 where
   pub firable : IsFirable s
   pub present : s.present ≡ m
@@ -107,22 +107,22 @@ abbrev pub due_by : ℕ → Option Ending → Option Ending
 due_by m None = None
 due_by m (Some e) = if nat_le e.end m then Some e else None
 
--- it is the least of all, where that is due
+-- The next timer that is due is the first of all, if that is due.
 abbrev pub NextIsNextEnding : Type 0
 NextIsNextEnding = (m : ℕ) (s : State) → next_due m s ≡ due_by m (next_ending s)
 
--- it is the first of its instant
+-- The next timer is the first of its instant.
 abbrev pub NextIsFirst : Type 0
 NextIsFirst = (m : ℕ) (s : State) (e : Ending) → next_due m s ≡ Some e → next_due e.end s ≡ Some e
 
 -- ---- an instant
 
--- one firing within it leaves nothing that ends earlier
+-- The expiry of one timer within an instant leaves none that expires earlier.
 abbrev pub OneFiringKeeps : Type 0
 OneFiringKeeps = (w : ℕ) (s : State) (e d : Ending) → IsFirable s → ends_from e.end s ≡ true → next_due e.end s ≡ Some d
     → IsReady e.end (fire_once w s d).0
 
--- it goes on by one firing, the emissions in that order, until nothing is due
+-- An instant goes on by the expiry of one timer, the emissions in that order, until nothing is due.
 abbrev pub InstantGoesOn : Type 0
 InstantGoesOn = (w : ℕ) (s : State) (e d : Ending) → IsFirable s → ends_from e.end s ≡ true → next_due e.end s ≡ Some d
     → fire_instant w s e ≡ and_then (next_due e.end) (fire_once w) (λ t. fire_instant w t e) (fire_once w s d)
@@ -130,19 +130,19 @@ InstantGoesOn = (w : ℕ) (s : State) (e d : Ending) → IsFirable s → ends_fr
 abbrev pub InstantStops : Type 0
 InstantStops = (w : ℕ) (s : State) (e : Ending) → next_due e.end s ≡ None → fire_instant w s e ≡ (s, [])
 
--- after that of the next timer all ends are later
+-- After the instant of the next timer all timers expire later.
 abbrev pub InstantIsComplete : Type 0
 InstantIsComplete = (w m : ℕ) (s : State) (e : Ending) → IsFirable s → next_due m s ≡ Some e
     → IsAhead e.end (fire_instant w s e).0
 
 -- ---- all that is due
 
--- it goes on by one instant, the emissions in that order, until nothing is due
+-- An Advance goes on by one instant, the emissions in that order, until nothing is due.
 abbrev pub FiringGoesOn : Type 0
 FiringGoesOn = (w m : ℕ) (s : State) (e : Ending) → IsReady s.present s → next_due m s ≡ Some e
     → fire_all w m s ≡ and_then (next_due m) (fire_instant w) (λ t. fire_all w m t) (fire_instant w s e)
 
--- likewise by one firing
+-- An Advance goes on by the expiry of one timer, the emissions in that order, until nothing is due.
 abbrev pub FiringGoesOnByOne : Type 0
 FiringGoesOnByOne = (w m : ℕ) (s : State) (e : Ending) → IsReady s.present s → next_due m s ≡ Some e
     → fire_all w m s ≡ and_then (next_due m) (fire_once w) (λ t. fire_all w m t) (fire_once w s e)
@@ -150,7 +150,7 @@ FiringGoesOnByOne = (w m : ℕ) (s : State) (e : Ending) → IsReady s.present s
 abbrev pub FiringStops : Type 0
 FiringStops = (w m : ℕ) (s : State) → next_due m s ≡ None → fire_all w m s ≡ (s, [])
 
--- nothing is due any more, and time can go on
+-- After firing nothing is due, and time can go on.
 abbrev pub FiringIsComplete : Type 0
 FiringIsComplete = (w m : ℕ) (s : State) → IsReady s.present s → next_due m (fire_all w m s).0 ≡ None
 
@@ -162,13 +162,14 @@ AdvancedIsAhead = (w m : ℕ) (s : State) → IsReady s.present s → IsAhead m 
 
 -- ---- the opening
 
--- with an accepted configuration it is one from which time can go on
+-- With an accepted configuration the opening is a state from which time can go on.
 abbrev pub OpeningIsAhead : Type 0
 OpeningIsAhead = (c : Config) → config_test c ≡ Ok tt → IsAhead 0 (opening c)
 
 -- ---- groups and their order
 
--- ascending numbers are told by their members, and stay as they are when they are put in order once more
+-- Two ascending lists of numbers are equal where they have the same members, and ordering them a second time changes
+-- nothing.
 abbrev pub MembersTell : Type 0
 MembersTell =
     (xs ys : List ℕ) → ((n : ℕ) → is_among n (ascending xs) ≡ is_among n (ascending ys)) → ascending xs ≡ ascending ys

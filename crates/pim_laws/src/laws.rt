@@ -8,7 +8,7 @@ pub fn clearing_is_complete()
     ensures { ClearingIsComplete }
 {}
 
-/// Clearing takes the first fact that must go, evaluates afresh, and goes on.
+/// Clearing takes the first fact that must go, evaluates all macros anew, and goes on.
 #[tactic(auto, using(crate::proofs::ClearingLaws::clear_unrolls))]
 pub fn clearing_goes_on()
     ensures { ClearingGoesOn }
@@ -26,31 +26,31 @@ pub fn ignored_event_changes_nothing()
     ensures { IgnoredEventChangesNothing }
 {}
 
-/// Where every timer ends later, none ends earlier.
+/// Where every timer expires later than a timestamp, none expires earlier.
 #[tactic(auto, using(crate::proofs::FiringLaws::ahead_is_ready))]
 pub fn ahead_is_ready()
     ensures { AheadIsReady }
 {}
 
-/// A state that is ready at a moment is so at its present.
+/// A state that is ready at a timestamp is ready at its present time.
 #[tactic(auto, using(crate::proofs::FiringLaws::ready_at_present))]
 pub fn ready_at_present()
     ensures { ReadyAtPresent }
 {}
 
-/// The next timer that is due by a moment is due by then.
+/// The next timer that is due by a timestamp expires by then.
 #[tactic(auto, using(crate::proofs::FiringLaws::next_is_due))]
 pub fn next_is_due()
     ensures { NextIsDue }
 {}
 
-/// Nothing ends earlier than the next timer.
+/// No timer expires earlier than the next one.
 #[tactic(auto, using(crate::proofs::FiringLaws::next_is_least))]
 pub fn next_is_least()
     ensures { NextIsLeast }
 {}
 
-/// The next timer that is due is the one that ends first, where that is due.
+/// The next timer that is due is the one that expires first, if that is due.
 #[tactic(auto, using(crate::proofs::TimerLaws::next_due_is_next))]
 pub fn next_is_next_ending()
     ensures { NextIsNextEnding }
@@ -62,7 +62,7 @@ pub fn next_is_first()
     ensures { NextIsFirst }
 {}
 
-/// One firing within an instant leaves nothing that ends earlier.
+/// The expiry of one timer within an instant leaves none that expires earlier.
 pub fn one_firing_keeps()
     ensures { OneFiringKeeps }
 {}
@@ -79,7 +79,7 @@ pub fn instant_stops()
     ensures { InstantStops }
 {}
 
-/// After an instant every timer ends later.
+/// After an instant every timer expires later.
 pub fn instant_is_complete()
     ensures { InstantIsComplete }
 {}
@@ -108,13 +108,13 @@ pub fn firing_is_complete()
     ensures { FiringIsComplete }
 {}
 
-/// After firing every timer ends later than the moment.
+/// After firing every timer expires later than the timestamp.
 #[tactic(auto, using(crate::proofs::FiringLaws::firing_is_ahead))]
 pub fn firing_is_ahead()
     ensures { FiringIsAhead }
 {}
 
-/// After time went on every timer ends later than the present.
+/// After an Advance every timer expires later than the present time.
 pub fn advanced_is_ahead()
     ensures { AdvancedIsAhead }
 {}
@@ -124,13 +124,13 @@ pub fn opening_is_ahead()
     ensures { OpeningIsAhead }
 {}
 
-/// Ascending numbers are told by their members.
+/// Two ascending lists of numbers are equal where they have the same members.
 #[tactic(auto, using(crate::proofs::Numbers::members_tell))]
 pub fn members_tell()
     ensures { MembersTell }
 {}
 
-/// Numbers that are put in order once more stay as they are.
+/// Ordering numbers a second time changes nothing.
 #[tactic(auto, using(crate::proofs::Numbers::ascending_again))]
 pub fn ascending_again()
     ensures { AscendingAgain }

@@ -28,7 +28,7 @@ use Rattle.pim_locality.proofs.StarMacros.{cut_assert, cut_group}
 
 module _ {R : Type 0} (same : R → R → Bool) (cut : R → R) (is : IsOfCut same cut) (q : Key) (old row : R)
     (alike : same old row ≡ true) where
-  -- a row put in the place of one that is the same but for ends
+  -- a row put in place of one that is the same but for ends
   put_alike : (t : Table R) → row_at t q ≡ Some old → (k : Key) → same_at same k t (put t q row) ≡ true
   put_alike t there k = go (same_key k q) refl
     where

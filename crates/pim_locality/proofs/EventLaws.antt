@@ -1,4 +1,4 @@
--- What follows of an event, and of a timer's end, follows of the keys that it touches.
+-- What follows of an event, and of the expiry of a timer, follows of the keys that it touches.
 use Rattle.std.proofs.Common.{◌≡◌, ℕ, true, List, [], ◌∷◌, ◌++◌, Some, refl, subst}
 use Rattle.pim_types.specs.Keys.{source_key}
 use Rattle.pim_types.specs.declared.fact.Key.{Key}

@@ -1,4 +1,4 @@
--- An Assert and the end of a timer touch their keys.
+-- An Assert and the expiry of a timer touch their keys.
 use Rattle.std.proofs.Common.{◌≡◌, ◌++◌, ◌==◌, ◌||◌, ◌&&◌, ℕ, Bool, true, false, cond, List, [], ◌∷◌, Option, Some, None, refl}
 use Rattle.pim_laws.proofs.ListLaws.{by_cond}
 use Rattle.std.proofs.lemmas.Bool.{or_left, or_right}

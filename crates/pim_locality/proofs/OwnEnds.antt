@@ -1,4 +1,4 @@
--- The rows that differ after the own change of an event, or of a timer's end, are all that it touches.
+-- The rows that differ after the own change of an event, or of the expiry of a timer, are all that it touches.
 use Rattle.std.proofs.Common.{◌≡◌, ◌==◌, ◌+◌, ◌&&◌, ◌||◌, ℕ, suc, Bool, true, false, List, [], ◌∷◌, Ok, Some, refl, sym, ap, ◌∙◌, subst, arith}
 use Rattle.std.proofs.lemmas.Bool.Decides.{nat_tests}
 use Rattle.std.specs.List.{list_any}

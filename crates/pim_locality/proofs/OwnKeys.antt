@@ -103,7 +103,7 @@ pub present_touches_none : (s : State) (m : ℕ) → AgreesBut (touching []) s (
 unfolding scope
 present_touches_none s m h e = refl
 
--- ---- in tables whose keys rise each key stands once
+-- ---- in tables whose keys rise each key is listed once
 
 -- what is above a key is above each one below it
 pub all_later : (k q : Key) (ks : List Key) → key_cmp k q ≡ Less → AllByRecursion (λ y. key_cmp q y ≡ Less) ks
@@ -133,7 +133,7 @@ module _ {R : Type 0} where
 pub sources_once : (t : Table SourceRow) → IsStrictlySortedBy key_cmp (keys_in t) → AreOnce t
 sources_once t rises = once_where_sorted t rises
 
--- ---- what is told upstream by the keys of each group's own facts
+-- ---- what is sent upstream by the keys of each group's own facts
 
 module _ (touches : Key → Bool) (o a : State) (w : ℕ) where
   own_turn : (s : State) (g : ℕ)

@@ -69,7 +69,7 @@ module _ (s t : State) (agree : AgreesBut (touching []) s t) where
         s.registers t.registers (λ k e. ap (λ (x : State). x.registers) (agree k e)) quiet.registers_settled;
   }
 
--- ---- what is told upstream, and the packets, change no group
+-- ---- what is sent upstream, and the packets, change no group
 
 frame_join : (s : State) (k : Key) (change : TimerChange) → AgreesBut (touching []) s (moved_join_timer s k change)
 unfolding moved_join_timer scope

@@ -27,7 +27,7 @@ use Rattle.pim_locality.proofs.OwnKeys.{opening_is_quiet, present_touches_none, 
 use Rattle.pim_locality.proofs.QuietStates.{quiet_goes_on}
 use Rattle.pim_locality.proofs.SettledRegisters.{settling_quiets}
 
--- the sources of a fine state stand once
+-- the sources of a fine state are listed once
 once_of_fine : (m : ℕ) (late up : ℕ → Bool) (s : State) → IsFine m late up s → AreOnce s.sources
 once_of_fine m late up s f = sources_once s.sources (sorted_of_up s.sources (f.tables Sources).up)
 

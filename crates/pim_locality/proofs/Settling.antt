@@ -32,7 +32,7 @@ module _ (touches : Key → Bool) (closed : IsClosed touches) (o : State) where
         ∙ clear_of_touched touches o closed quiet (touched_registers touches s)
         (registers_agree touches closed o s agree)
 
-    -- with what is told upstream after clearing
+    -- with what is sent upstream after clearing
     settled_by : (change : State × List Message) (w : ℕ) → AgreesBut touches o change.0
         → (told : State → State × List Message)
         → ((s : State) → AgreesBut touches o s → upstream o s w ≡ told s)

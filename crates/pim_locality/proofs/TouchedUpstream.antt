@@ -1,4 +1,4 @@
--- What is told upstream, where the states agree on all keys but the touched ones, is told of those alone.
+-- What is sent upstream, where the states agree on all keys but the touched ones, is told of those alone.
 use Rattle.std.proofs.Common.{◌≡◌, ◌==◌, ◌||◌, ◌&&◌, ℕ, Bool, true, false, List, [], ◌∷◌, ◌++◌, map, is_some, refl, sym, ap, ◌∙◌, arith, eq-eqb, eqb-true}
 use Rattle.std.proofs.lemmas.Bool.{or_parts}
 use Rattle.std.proofs.lemmas.List.Folds.{list_any-append}

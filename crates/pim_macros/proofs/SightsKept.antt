@@ -18,7 +18,7 @@ use Rattle.pim_macros.specs.declared.sight.SourceSight.{SourceSight}
 use Rattle.pim_macros.specs.declared.sight.StarSight.{StarSight}
 use Rattle.pim_macros.specs.Sights.{ShowsSource, ShowsStar}
 
--- the same state with these sources and registers
+-- the state with these sources and registers
 abbrev with_rows : State → Table SourceRow → Table RegisterRow → State
 with_rows s t u = record s { sources = t; registers = u }
 

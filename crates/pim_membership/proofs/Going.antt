@@ -20,7 +20,7 @@ use Rattle.pim_membership.specs.declared.unrecorded.Unrecorded.{Unrecorded}
 abbrev pub Covers : Unrecorded → Unrecorded → (Key → Bool) → Type 0
 Covers u v test = (k : Key) → (may_lack u k || test k) ≡ true → may_lack v k ≡ true
 
--- it may lack a record by u, or has one
+-- a key that may lack a record by u, or has one
 abbrev HasOne : Unrecorded → Table SourceRecordRow → Key → Type 0
 HasOne u records k = (may_lack u k || has_row records k) ≡ true
 
@@ -130,7 +130,7 @@ came u v records t t' all p q same row is_lacking is covers set =
     (came_by (may_lack u p) (has_row records p) is_lacking (same_key p p) (may_lack v p)
     (is ∙ ap (λ b. b && not (has_row records p)) some) (same_key_same p) (covers p))) set
 
--- those of a group that were unrecorded went
+-- the sendings of a group that were unrecorded are gone
 went_by : (a h c d : Bool) → (a || h) ≡ true → not (c && not h) ≡ true → ((a && not c) ≡ true → d ≡ true) → (d || h) ≡ true
 went_by a true c d has left covers = or_right d true refl
 went_by true false false d has left covers = or_left d false (covers refl)

@@ -31,7 +31,7 @@ module _ (ms : List Message) (first : InterfaceTable) (before : List Emission) w
         left_is = ap (λ (x : InterfaceTable). (all_written x rest).0) et ∙ h.left_is;
       }
 
-  -- the same where the messages that are left are those of the crate
+  -- the next message is written, where the messages that are left are those of the crate
   pub sends_next : (messages : List Held) (i : ℕ) (m : Held) (t t' : InterfaceTable) (sent sent' : List Emission)
       → i < length messages → m ≡ get_or messages i m
       → t' ≡ (written t (message_of m)).0 → sent' ≡ sent ++ (written t (message_of m)).1

@@ -1,4 +1,4 @@
--- The messages of this crate as those of the written machine.
+-- The messages of this crate as those of the specification.
 use Rattle.std.specs.Option.{option_map_or}
 use Rattle.std.specs.Prelude.{List, None, Option, Some, length, map, ◌+◌, ◌^◌, ◌<◌, ◌≤◌}
 use Rattle.pim_ip.specs.declared.addr.Addr.{Addr}

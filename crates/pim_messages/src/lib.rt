@@ -1,5 +1,4 @@
-//! What the router sends: messages as its machines tell them, in their order, and the packets that
-//! they become.
+//! What the router sends: messages as its machines make them, in their order, and the packets that they become.
 #![tactic(auto)]
 
 pub mod data;

@@ -125,8 +125,8 @@ impl Outbox {
         }))
     }
 
-    /// Puts a query on the interface at the end: with a robustness variable below 8 and at most 366
-    /// sources, in their order. One for group 0.0.0.0 asks for all groups. An `Err` changes nothing.
+    /// Puts a query on the interface at the end: with a robustness variable below 8 and at most 366 sources, in their
+    /// order. One for group 0.0.0.0 queries all groups. An `Err` changes nothing.
     pub fn query(
         &mut self,
         iface: IfaceId,
@@ -177,10 +177,9 @@ impl Outbox {
         self.push(Message::NullRegister(RegisterMessage { from, to, name }))
     }
 
-    /// Puts the packets of all messages, in their order, at the end of the emissions. A Hello that is
-    /// owed goes directly before the next Join/Prune or Assert on its interface, and any Hello pays
-    /// what its interface owes. With an `Err` some of the packets are there, and some Hellos may be paid. What is
-    /// configured stays.
+    /// Puts the packets of all messages, in their order, at the end of the emissions. A Hello that is owed goes
+    /// directly before the next Join/Prune or Assert on its interface, and any Hello counts as the owed one. After an
+    /// `Err` some of the packets are there, and some Hellos may count as sent. What is configured is unchanged.
     pub fn write(
         &self,
         room: &mut Room,

@@ -11,8 +11,8 @@ const MOST_BUFFERS: usize = 128;
 // The most lists that are kept.
 const MOST_LISTS: usize = 4;
 
-/// The memory of packets that are done with, and of lists of them, into which others are written. No clause speaks of what
-/// it holds: a packet is the same wherever its bytes lie.
+/// The memory of packets that aren't needed any more, and of lists of them, into which other packets are written. No
+/// clause speaks of what it holds: a packet is the same wherever its bytes are.
 pub struct Room {
     pub alloc: Global,
     buffers: Vec<Vec<u8>>,
@@ -57,7 +57,7 @@ impl Room {
         buffer
     }
 
-    /// An empty buffer with room for so many bytes. An error is want of memory.
+    /// An empty buffer with room for `length` bytes. The error is want of memory.
     pub fn buffer_for(&mut self, length: usize) -> Result<Vec<u8>, AllocError>
         ensures { IfOk result (λ buffer. buffer.items ≡ []) }
     {
@@ -77,7 +77,7 @@ impl Room {
         list
     }
 
-    /// An empty list with room for so many packets. An error is want of memory.
+    /// An empty list with room for `length` packets. The error is want of memory.
     pub fn list_for(&mut self, length: usize) -> Result<Vec<Emission>, AllocError>
         ensures { IfOk result (λ list. list.items ≡ []) }
     {
@@ -89,7 +89,7 @@ impl Room {
     /// Takes a buffer back, unless there are many.
     pub fn give(&mut self, buffer: Vec<u8>) {
         if self.buffers.len() < MOST_BUFFERS {
-            // Where the list of buffers can't grow the buffer goes.
+            // Where the list of buffers can't grow, the buffer is freed.
             let _ = self.buffers.push(buffer);
         }
     }

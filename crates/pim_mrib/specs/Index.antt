@@ -1,4 +1,4 @@
--- A list of values that stand under prefixes, and a trie of the same values.
+-- A list of values under prefixes, and a trie of the same values.
 use Rattle.std.specs.Prelude.{◌≡◌, ℕ, Bool, List, map, option_map}
 use Rattle.std.specs.List.{list_any}
 use Rattle.pim_ip.specs.declared.addr.Prefix.{Prefix}

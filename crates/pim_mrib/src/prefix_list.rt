@@ -1,4 +1,4 @@
-//! Values that stand under prefixes, found by longest match.
+//! Values under prefixes, found by longest match.
 ghost use Rattle.std.specs.Prelude.{◌≡◌, ◌≤◌, ◌↔◌, [], true, IsTrue, IfOk, OnErr, if◌then◌else◌, map};
 ghost use Rattle.std.specs.List.{list_all};
 ghost use Rattle.pim_ip.specs.declared.addr.Prefix.{Prefix};
@@ -13,7 +13,7 @@ use pim_types::{Addr, Prefix};
 use std::alloc::{AllocError, Global};
 use std::marker::Model;
 
-// A value that stands under a prefix.
+// A value under a prefix.
 pub(crate) trait Prefixed: Copy {
     ghost prefix_of: { Self → Prefix };
 

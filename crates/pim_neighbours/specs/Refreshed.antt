@@ -7,7 +7,7 @@ use Rattle.pim_wire.specs.declared.hello.Hello.{Hello as HelloValue}
 use Rattle.pim_model.specs.Hellos.{hello_holdtime_of, is_generation_changed_among}
 use Rattle.pim_model.specs.Tables.{Table, row_at, same_option}
 
--- the neighbour has the priority that is known of it, didn't start anew, and stays
+-- The neighbour has the priority that is known of it, didn't restart, and isn't removed.
 unfoldable pub is_refreshed : Table NeighbourRow → ℕ → ℕ → HelloValue → Bool
 is_refreshed rows i address h =
     option_map_or (λ (r : NeighbourRow). same_option r.priority h.priority) (row_at rows (neighbour_key i address)) false

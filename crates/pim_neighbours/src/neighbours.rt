@@ -53,7 +53,7 @@ impl Model for Neighbours {
     ghost view = { λ n. n.rows };
 }
 
-/// The end of a holdtime in seconds that starts at the present moment, in ms; `None` never ends.
+/// When a holdtime in seconds expires that starts at the present time, in ms; `None` never expires.
 #[tactic(auto, unfolding(pim_model::specs::Downstream::holdtime_end_from))]
 pub fn holdtime_end(present: u64, holdtime: u16) -> Option<u64>
     requires { present ≤ 2 ^ 62 }
@@ -66,8 +66,8 @@ pub fn holdtime_end(present: u64, holdtime: u16) -> Option<u64>
     }
 }
 
-/// Whether the neighbour comes before the router in the election of the DR (RFC 7761, section 4.3.2): by the priorities,
-/// where those count, and else by the addresses.
+/// Whether the neighbour comes before the router in the election of the DR (RFC 7761, section 4.3.2): by the
+/// priorities, where those count, and else by the addresses.
 #[tactic(auto, unfolding(pim_model::specs::Neighbours::is_better_dr))]
 pub fn is_better_dr(by_priority: bool, own: &InterfaceConfig, key: &Key, row: &NeighbourRow) -> bool
     ensures { result
@@ -96,7 +96,7 @@ impl Neighbours {
     pub fn len(&self) -> usize
         ensures count { result ≡ length self.now }
 
-        // Of every table: the keys rise.
+        // This holds of every table: the keys rise.
         ensures ascending { IsStrictlySortedBy key_cmp (keys_in self.now) }
     {
         self.rows.len()
@@ -109,8 +109,8 @@ impl Neighbours {
         self.rows.rows().is_empty()
     }
 
-    /// Which neighbour ends first, and when, in ms: the least end by its moment and its key. `None` where none
-    /// ever ends.
+    /// Which neighbour expires first, and when, in ms: the least by timestamp, then by key. `None` where none ever
+    /// expires.
     #[tactic(auto, unfolding(pim_tables::specs::Ends::row_endings))]
     pub fn next(&self) -> Option<(u64, Timer)>
         ensures { result ≡ option_map due_of (first_by is_ending_first
@@ -304,8 +304,8 @@ impl Neighbours {
         delay_in(LEAST_SUPPRESSED, MOST_SUPPRESSED, draw)
     }
 
-    /// Whether the Hello shows that the neighbour started anew (RFC 7761, section 4.3.1): its
-    /// generation ID and the one before are both known, and differ.
+    /// Whether the Hello shows that the neighbour restarted (RFC 7761, section 4.3.1): its generation ID and the one
+    /// before are both known, and differ.
     #[tactic(auto, unfolding(pim_model::specs::Hellos::is_generation_changed_among))]
     pub fn is_generation_changed(&self, iface: IfaceId, address: Addr, hello: &Hello) -> bool
         ensures { result
@@ -320,8 +320,8 @@ impl Neighbours {
         }
     }
 
-    /// Whether the Hello says no more of its neighbour than that it lasts: the neighbour is known with
-    /// this priority, and didn't start anew.
+    /// Whether the Hello changes no more than when its neighbour expires: the neighbour is known with this priority,
+    /// and didn't restart.
     #[tactic(auto, unfolding(crate::specs::Refreshed::is_refreshed))]
     pub fn is_refreshed(&self, iface: IfaceId, address: Addr, hello: &Hello) -> bool
         ensures { result ≡ is_refreshed self.now iface.number address.bits hello.now }
@@ -334,8 +334,8 @@ impl Neighbours {
             && !self.is_generation_changed(iface, address, hello)
     }
 
-    /// Makes the neighbour what its Hello says, which came at the present moment, in ms. Without a
-    /// holdtime it lasts 105 s; one with holdtime 0 goes at once. An `Err` changes nothing.
+    /// Sets the neighbour's row as its Hello says, which came at the present time, in ms. Without a Holdtime option it
+    /// expires after 105 s; with holdtime 0 it is removed at once. An `Err` is want of memory, and changes nothing.
     #[tactic(auto, unfolding(pim_model::specs::Hellos::neighbours_replaced, pim_model::specs::Tables::set_row))]
     pub fn hello(
         &mut self,

@@ -1,4 +1,4 @@
--- In the first run of a network each copy is asked for.
+-- In the first run of a network each copy has a cause.
 use Rattle.std.proofs.Common.{◌≡◌, Bool, true, false, List, ℕ, Option, None, map, Ok, Err, Result, sym, subst}
 use Rattle.std.specs.Prelude.{IfOk, if◌then◌else◌}
 use Rattle.pim_ip.specs.declared.fault.Fault.{Fault}

@@ -20,7 +20,7 @@ configs_of nodes = map (λ (n : Node). n.config) nodes
 abbrev pub opened : Node → Option Station
 opened n = Some (station_of (node_of n))
 
--- so far all were accepted: what is left of the nodes, and the next port
+-- all nodes so far were accepted: what is left of the nodes, and the next port
 pub record Opens (all : List Node) (made : List (Option Station)) (ports : List ℕ) (rest : List Node) (port : ℕ) : Type 0 where
   pub links : list_all is_node (map node_of rest) ≡ true
   pub few : length made + length rest ≤ most_routers

@@ -66,7 +66,7 @@ one_there (z ∷ zs) ys (suc i) x e is =
     let later = one_there zs p.tail i x p.rest is in
     (later.0 ∙ ap (λ l. slice_get l (suc i)) (sym p.whole), later.1)
 
--- and one that isn't
+-- a value that isn't there, in a list of which all are
 pub none_there : {A : Type 0} (xs : List (Option A)) (ys : List A) (i : ℕ) → all_of xs ≡ Some ys
     → slice_get xs i ≡ None → slice_get ys i ≡ None
 unfolding all_of

@@ -69,7 +69,7 @@ module _ (s : State) (g src m : ℕ) (runs : is_kept_alive s g src ≡ true) whe
   abbrev later : State
   later = kept_until s g src (m + keepalive_period)
 
-  -- it is set as a packet at the moment would set it
+  -- it is set as a packet at the timestamp would set it
   is_later : later ≡ record then { present = s.present }
   unfolding kept_until with_keepalive spt_bit
   is_later = refl

@@ -22,7 +22,7 @@ module _ (g : ℕ) where
   unfolding sources_among gathered
   none_named left ns is = ap (λ (ks : List Key). gathered (sources_among g ks) ns) is
 
-  -- those of the facts, and then those of the keys
+  -- the sources of the facts, and then those of the keys
   pub both_named : (facts keys : List Key) (before after : List ℕ) → before ≡ sources_of g facts
       → after ≡ gathered (sources_among g keys) before → after ≡ sources_of g (facts ++ keys)
   unfolding sources_of ascending gathered sources_among

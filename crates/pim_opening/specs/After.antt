@@ -21,7 +21,7 @@ opening_in x = record {
   sources = map opened_in x.sources;
 }
 
--- the sight is that of the opened source, beside that of its group
+-- The sight is that of the opened source, and of its group.
 pub record IsSourceAfter (s : State) (here : StarSight) (x : SourceAfter) : Type 0 where
   pub sight : IsSourceSight s x.sight
   pub star : (x.sight).star ≡ here

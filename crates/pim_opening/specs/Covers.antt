@@ -18,7 +18,7 @@ pub record IsWithin (o a : State) : Type 0 where
   pub groups : (g : ℕ) → has_group a g ≡ true → has_group o g ≡ true
   pub sources : (g src : ℕ) → has_facts a g src ≡ true → has_facts o g src ≡ true
 
--- a source that has a fact now had one, or is named
+-- A source that has a fact after the change had one before, or is named.
 abbrev pub NewAreNamed : List Key → State → State → Type 0
 NewAreNamed keys o a = (g src : ℕ) → has_facts a g src ≡ true
     → (has_facts o g src || list_any (names_source g src) keys) ≡ true

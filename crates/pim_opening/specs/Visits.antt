@@ -11,11 +11,12 @@ use Rattle.pim_opening.specs.Openings.{is_whole, touched_sources}
 use Rattle.pim_opening.specs.declared.opening.GroupOpening.{GroupOpening}
 use Rattle.pim_opening.specs.declared.opening.SourceOpening.{SourceOpening}
 
--- the sources of a group that are touched: those that have a fact are asked for where all of the group is touched
+-- The nodes of the sources of a group that are touched: those that have a fact are looked up where all of the group is
+-- touched.
 abbrev pub touched_nodes : State → Touched → ℕ → ℕ
 touched_nodes s touched g = if is_whole touched g then sources_nodes s (addr g) else 0
 
--- a source of a group: its sight beside that of the group, and whether there is a fact of it
+-- The nodes of a source of a group: its sight without that of the group, and whether it has a fact.
 abbrev pub source_opening_nodes : State → ℕ → ℕ → ℕ
 source_opening_nodes s g src = source_nodes s (addr g) (addr src) + fact_nodes s (addr g) (addr src)
 

@@ -19,20 +19,20 @@ pub struct SourceAfter {
     pub sight: SourceSight,
 }
 
-/// A touched group, likewise, and its touched sources, ascending.
+/// A touched group, as it was and as it is after the change, and its touched sources, ascending.
 #[derive(Drop)]
 pub struct GroupAfter {
     /// All of it is touched.
     pub is_whole: bool,
-    /// Of (*,G), at the opening.
+    /// What the machine of (*,G) compares, at the opening.
     pub was: StarView,
     pub star: StarSight,
     pub sources: Series<SourceAfter>,
 }
 
 impl GroupAfter {
-    /// What was opened, with what is read of it now. The meter rises by the nodes that the look-ups visit, at least those of the
-    /// sight of the group, and of each of these sources.
+    /// What was opened, with what is read of it in the present state. The meter rises by the nodes that the look-ups
+    /// visit, at least those of the sight of the group, and of each of these sources.
     pub fn of(
         world: &World,
         alloc: Global,
@@ -54,7 +54,7 @@ impl GroupAfter {
     }
 }
 
-// These sources of a group.
+// The given sources of a group.
 fn sources_after(
     world: &World,
     alloc: Global,

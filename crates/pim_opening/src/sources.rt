@@ -49,8 +49,8 @@ fn gather_named(
     Ok(())
 }
 
-// The sources that the keys touch because they touch all of the group: those that have any fact, or none. The meter rises
-// where these are asked for.
+// The sources that the keys touch because they touch all of the group: those that have any fact, or none. The meter
+// rises where these are looked up.
 fn sources_of_whole(
     alloc: Global,
     world: &World,
@@ -68,8 +68,8 @@ fn sources_of_whole(
     Ok(BTreeMap::new(alloc))
 }
 
-/// The sources of the group that are touched, ascending: those of the touched keys, and where all of the group is
-/// touched those that have any fact: the meter rises where these are asked for.
+/// The sources of the group that are touched, ascending: those of the touched keys, and, where all of the group is
+/// touched, those that have any fact. The meter rises where these are looked up.
 pub fn touched_sources(
     alloc: Global,
     world: &World,

@@ -10,7 +10,7 @@ use pim_types::fact::{
 use pim_types::table::DownstreamState;
 use pim_types::{Key, Row};
 
-/// A fact whose row in its printed table tells its key and itself, and nothing else of the state.
+/// A fact whose row in its printed table depends only on its key and itself.
 pub trait Printed {
     /// The row of a fact under its key.
     ghost line: { Key × Self → Row };

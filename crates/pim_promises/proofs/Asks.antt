@@ -145,7 +145,7 @@ parted p (x ∷ xs) = go (p x) (parted p xs)
     go true e = omega (arith, e)
     go false e = omega (arith, e)
 
--- so many sources, in queries of the two kinds
+-- the messages are few for n sources, in queries of the two kinds
 record Asks (n : ℕ) (ms : List Message) : Type 0 where
   short : Short ms
   few : 366 * length ms ≤ n + 730

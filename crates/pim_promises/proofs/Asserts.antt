@@ -189,7 +189,7 @@ adding s i from a e =
           (second_so (not (has_row s.asserts k)) (not (is_star k) && not (is_infinite (theirs_of a from))) added));
     }
 
--- it needs room for its assert
+-- an Assert needs room for its assert
 pub assert_adds : (s : State) (i from : ℕ) (a : AssertMessage)
     → AddsAtMost (cond (is_infinite (theirs_of a 0)) 0 (needed s.asserts (asserted_keys i a))) s (assert_received s i from a).0
 unfolding is_infinite

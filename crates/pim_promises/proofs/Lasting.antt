@@ -59,7 +59,7 @@ pub record Lasting : Type 0 where
 abbrev pub lasting : State → Lasting
 lasting s = record { still = still s; join_timers = s.join_timers; override_timers = s.override_timers }
 
--- and with IGMP's
+-- the lasting parts with those of IGMP
 pub record Whole : Type 0 where
   pub asking : Asking
   pub lasting : Lasting

@@ -134,7 +134,7 @@ module _ (last : ℕ) where
   unfolding drop_at drop_where
   dropped_ends k t f = each_filter (λ e. IsBy (e.1).end) (λ e. not (same_key k e.0)) t f
 
-  -- ---- what is told upstream
+  -- ---- what is sent upstream
 
   override_by : (a : State) (w : ℕ) (iface : Option IfaceId) → a.present ≤ last → Brief a → IsBy (override_on a w iface)
   override_by a w None now brief = by_then a.present 1 now (omega arith)

@@ -23,7 +23,7 @@ use Rattle.pim_ready.proofs.Judgements.{IsHere, IsJudged, kind_is_judged}
 
 -- P holds between two events, and between two firings; Mid of the opening and of a change, before what follows from it
 module _ (P : State → Type 0) (Mid : State → State → Type 0) where
-  -- time that passes no further than a moment
+  -- time that passes no further than a timestamp
   module _ (last : ℕ) (moves : (s : State) (m : ℕ) → m ≤ last → P s → P (record s { present = m }))
       (fires : (s : State) (m : ℕ) (kind : TimerKind) (k : Key) → m ≤ last → P s → Mid s (fired (record s { present = m }) kind k).0)
       (follows : (o : State) (change : State × List Message) (w : ℕ) → P o → Mid o change.0 → P (settled o change w).0) where

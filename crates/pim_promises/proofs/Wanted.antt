@@ -1,4 +1,4 @@
--- A Join timer runs only where its key is wanted: what is told upstream leaves it so.
+-- A Join timer runs only where its key is wanted: what is sent upstream leaves it so.
 use Rattle.std.proofs.Common.{◌≡◌, ◌∙◌, ℕ, ◌==◌, not, ◌&&◌, ◌||◌, Bool, true, false, cond, List, [], ◌∷◌, ◌++◌, ◌⊎◌, inl, inr, ⊎_elim, map, filter, Option, Some, None, is_some, is_none, refl, sym, ap, subst, eqb-true, eq-eqb}
 use Rattle.std.proofs.lemmas.Bool.{or_left, or_right}
 use Rattle.std.specs.Cmp.Derive.{both_true}

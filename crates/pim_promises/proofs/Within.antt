@@ -54,7 +54,7 @@ pub none_passes : (s : State) → passes_limit s 0 ≡ false
 unfolding passes_limit
 none_passes s = refl
 
--- so many more of each table
+-- the given numbers of rows more in each table
 pub record More (a b c d e : ℕ) (s t : State) : Type 0 where
   pub settings : t.settings ≡ s.settings
   pub neighbours : length t.neighbours ≤ length s.neighbours + a

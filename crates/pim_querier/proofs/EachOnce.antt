@@ -1,4 +1,4 @@
--- The rows of a table that pass a test, changed key by key: each key stands once, so each row is changed once.
+-- The rows of a table that pass a test, changed key by key: each key is listed once, so each row is changed once.
 use Rattle.std.proofs.Common.{◌≡◌, Bool, true, false, cond, [], ◌∷◌, map, Option, Some, None, option_map, refl, ap, ◌∙◌}
 use Rattle.std.specs.List.{AllByRecursion, cons_option, filter, filter_map}
 use Rattle.std.specs.List.Sorted.{IsStrictlySortedBy}

@@ -49,7 +49,7 @@ module _ {R : Type 0} (t : Table R) where
   or_so false true f = sym (f refl)
   or_so false false f = refl
 
-  -- the same key is named alike, and has a row alike
+  -- two keys that are the same are named alike, and have a row alike
   named_alike : (found : List Key) (k q : Key) → same_key q k ≡ true → is_named found k ≡ is_named found q
   named_alike found k q same = ap (is_named found) (sym (equal_keys q k same))
 

@@ -411,7 +411,7 @@ module _ (s : State) (i g full : ℕ) (type : RecordType) (named : List ℕ) (fe
       ap (λ (o : Option ℕ). apply_record full (let r : GroupRecord = record { timer = o; members = few.members } in r) type named)
       timed
 
-  -- what it asks for is what the whole record asks for
+  -- what it requests is what the whole record asks for
   pub few_asked : (asked : List Asked) → asks_named type ≡ true → asked ≡ (apply_record full few type named).1
       → asked ≡ (apply_record full (record_of s i g) type named).1
   few_asked asked asks are =

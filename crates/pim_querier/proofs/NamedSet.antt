@@ -67,7 +67,7 @@ unfolding IsStrictlySortedBy
 bits_rise [] sorted = tt
 bits_rise (a ∷ set) sorted = (below_bits a set sorted.0, bits_rise set sorted.1)
 
--- so the set is the sources in order, each once
+-- the set has the sources in order, each once
 pub set_ascends : (set sources : List Addr) → IsStrictlySortedBy addr_cmp set
     → ((n : ℕ) → is_named_source n set ≡ is_named_source n sources) → bits_of set ≡ ascending (bits_of sources)
 set_ascends set sources rise same =

@@ -1,5 +1,5 @@
--- A record of a report that deletes no source changes the sources that it names, and no other: what is known of the others
--- need not be gathered, and isn't written anew.
+-- A record of a report that deletes no source changes the sources that it names, and no other: what is known of the
+-- others need not be gathered, and isn't written anew.
 use Rattle.std.proofs.Common.{◌≡◌, ℕ, ◌==◌, ◌&&◌, ◌||◌, Bool, true, false, not, cond, List, [], ◌∷◌, fold, Option, Some, None, is_some, eqb-true, eq-eqb, refl, ap, sym, subst, ◌∙◌}
 use Rattle.std.specs.List.{cons_option, filter, filter_map}
 use Rattle.std.specs.Option.{option_map_or, option_or}
@@ -104,7 +104,7 @@ module _ (i g : ℕ) where
         (one_row n src t (n == src) refl)
         ∙ twice (fate src) (row_at t (key_of src)) (n == src) (is_among src ns)
 
-    -- and the row under a key of no source
+    -- the row under a key of no source
     pub other_made : (k : Key) → ((src : ℕ) → key_of src ≡ k → ⊥) → (ns : List ℕ) (t : Rows)
         → row_at (fold (put_member i g) t (made fate ns)) k ≡ row_at t k
     other_made k other [] t = refl

@@ -136,7 +136,7 @@ module _ (i g : ℕ) where
       (third ∙ members_in_table i g ms s2 ∙ ap (λ (es : List (ℕ × Option ℕ)). put es s2) are
       ∙ ap (put r.members) (second ∙ ap dropped (first ∙ ap (λ (b : Bool). without_empty b i g s) none)))
 
-  -- those of some sources beside the rows that are there, and the group's with a timer
+  -- the records of some sources are added to those that are there, and the group's gets a timer
   pub put_beside : (s s1 s2 s3 s4 : State) (r : GroupRecord) (end : Option ℕ) (ms : List Member) (is_left_none : Bool)
       → member_entries ms ≡ r.members → end ≡ r.timer
       → s1 ≡ (let t : State = record s { group_records = put s.group_records (star_key i g) (record { end = end }) } in t)

@@ -1,5 +1,5 @@
--- How many nodes of tries are visited, at least, where group records and source records come, go, or their timers begin or
--- end to run.
+-- How many trie nodes are visited, at least, where group records and source records are added or removed, or their
+-- timers start or stop.
 use Rattle.std.specs.List.{list_any}
 use Rattle.std.specs.Prelude.{Bool, List, None, Option, Some, filter, fold, if◌then◌else◌, is_none, is_some, not, ℕ, ◌&&◌, ◌+◌}
 use Rattle.igmp_wire.specs.Values.{Record}
@@ -27,13 +27,14 @@ group_runs row = is_some row.end
 abbrev pub source_runs : SourceRecordRow → Bool
 source_runs row = is_some row.end
 
--- what is listed of the group is looked up where its record is new, or where its timer begins or ends to run
+-- The nodes of a group record that is set: the index is looked up where the record is new, or where its timer starts or
+-- stops.
 abbrev pub group_set_nodes : ℕ → ℕ → State → Option ℕ → ℕ
 group_set_nodes i g s end =
     if sets_listed group_runs (Some (record { end = end })) (row_at s.group_records (star_key i g))
     then group_record_nodes s (addr g) else 0
 
--- the same of a record that stays without one
+-- The nodes of a group record that stays without a running timer.
 abbrev pub group_stopped_nodes : ℕ → ℕ → State → ℕ
 group_stopped_nodes i g s =
     if changes_listed group_runs (record { end = None }) (row_at s.group_records (star_key i g))
@@ -74,7 +75,8 @@ set_record_nodes i g s r =
     let timed : State = record s { group_records = put s.group_records (star_key i g) (record { end = r.timer }) } in
     group_set_nodes i g s r.timer + set_members_nodes i g timed r
 
--- the group is given this timer, and these sources beside those that it has; it goes where it is none
+-- The nodes of giving the group's record a timer, and sources added to those that it has; the record is removed where
+-- it is then empty.
 unfoldable pub write_beside_nodes : ℕ → ℕ → State → GroupRecord → ℕ
 write_beside_nodes i g s r =
     let timed : State = record s { group_records = put s.group_records (star_key i g) (record { end = r.timer }) } in
@@ -84,7 +86,7 @@ write_beside_nodes i g s r =
 
 -- ---- the ends of timers
 
--- the group's timer ended
+-- The nodes of the expiry of a group timer.
 unfoldable pub group_record_due_nodes : ℕ → ℕ → State → ℕ
 group_record_due_nodes i g s =
     let timed : State = record s {
@@ -92,7 +94,7 @@ group_record_due_nodes i g s =
     } in
     group_stopped_nodes i g s + set_members_nodes i g timed (group_expired s.present (record_of s i g))
 
--- a source is excluded from now on, where it has a record
+-- The nodes of excluding a source, if it has a record.
 abbrev pub exclude_source_nodes : ℕ → ℕ → ℕ → State → ℕ
 exclude_source_nodes i g src s =
     if changes_listed source_runs (record { end = None }) (row_at s.source_records (source_key i g src))
@@ -104,12 +106,12 @@ drop_source_nodes i g src s =
     let left : Table SourceRecordRow = drop_at s.source_records (source_key i g src) in
     source_record_nodes s (addr g) (addr src) + empty_nodes (not (list_any (λ e. is_at_group i g e.0) left)) g s
 
--- a source's timer ended
+-- The nodes of the expiry of a source timer.
 unfoldable pub source_record_due_nodes : ℕ → ℕ → ℕ → State → ℕ
 source_record_due_nodes i g src s =
     if is_some (group_end s i g) then exclude_source_nodes i g src s else drop_source_nodes i g src s
 
--- a timer of a querier ends: of all others nothing is looked up
+-- The nodes of the expiry of a querier's timer; for all others nothing is looked up.
 abbrev pub membership_end_nodes : State → TimerKind → Key → ℕ
 membership_end_nodes s TimerKind.GroupRecord k = group_record_due_nodes (iface_in k) (group_in k) s
 membership_end_nodes s TimerKind.SourceRecord k = source_record_due_nodes (iface_in k) (group_in k) (source_in k) s
@@ -117,8 +119,8 @@ membership_end_nodes s _ k = 0
 
 -- ---- reports
 
--- a record of a report is applied to all of the group's sources, and one that leaves those that it doesn't name to those that
--- it does
+-- a record of a report is applied to all of the group's sources, and one that leaves those that it doesn't name to
+-- those that it does
 abbrev pub apply_to_all_nodes : ℕ → ℕ → ℕ → State → RecordType → List ℕ → ℕ
 apply_to_all_nodes full i g s type sources = set_record_nodes i g s (apply_record full (record_of s i g) type sources).0
 
@@ -130,11 +132,11 @@ unfoldable pub apply_nodes : ℕ → ℕ → ℕ → State → RecordType → Li
 apply_nodes full i g s type sources =
     if keeps_others type then apply_to_named_nodes full i g s type sources else apply_to_all_nodes full i g s type sources
 
--- queries that it asks for look nothing up
+-- The nodes of a group record of a report; the queries that it requests look nothing up.
 abbrev pub record_seen_nodes : ℕ → State → Record → ℕ
 record_seen_nodes i s r = apply_nodes (s.present + group_membership_interval s i) i r.group s r.type r.sources
 
--- those of a report, one after the other, but for those that are skipped
+-- The nodes of the records of a report, one after the other, without those that are skipped.
 unfoldable pub report_seen_nodes : State → ℕ → List Record → ℕ
 report_seen_nodes s i records =
     nodes_in_turn (λ s r. (record_seen i s r).0) (record_seen_nodes i) s (filter (λ r. not (is_skipped r)) records)

@@ -57,7 +57,7 @@ fn member_of(world: &World, place: IfaceGroup, source: Addr) -> Option<Member>
     })
 }
 
-// Those of the sources that the group's record has, by rising source.
+// The sources of the group's record among the given ones, by rising source.
 fn members_among(
     world: &World,
     alloc: Global,
@@ -68,7 +68,7 @@ fn members_among(
         ≡ members_named place.iface.number place.group.bits world.now.source_records (bits_of sources.now.keys)) }
     ensures ascending { IfOk result (λ members. IsAscending (member_entries members.items)) }
 {
-    // It tells that the sources rise.
+    // For the proof: the sources rise.
     let _ = sources.len();
     let mut members = Vec::new(alloc);
     for source in sources.iter() {
@@ -94,10 +94,10 @@ fn named_record(
     ensures named { IfOk result (λ known. known
         ≡ record_named world.now place.iface.number place.group.bits (bits_of sources.now)) }
 {
-    // It tells that each is under the key of a source.
+    // For the proof: each is under the key of a source.
     world.membership().recall_keyed_source_records();
     let named = set_of(alloc, sources)?;
-    // It tells that the sources rise.
+    // For the proof: the sources rise.
     let _ = named.len();
     let members = members_among(world, alloc, place, &named)?;
     GroupRecord::with(alloc, world.group_end(place.iface, place.group), &members)
@@ -113,7 +113,8 @@ fn is_none_left(world: &World, place: IfaceGroup, timer: Option<u64>) -> bool
     timer.is_none() && !has_sources(world, place)
 }
 
-// Gives the group's record the timer of this one, and its sources beside those that it has. It goes where it is none.
+// Gives the group's record the timer of this one, and adds its sources to those that it has. The record is removed
+// where it is then empty.
 fn write_beside(
     world: &mut World,
     meter: &mut Meter,
@@ -137,8 +138,8 @@ fn write_beside(
     drop_repeats(world, alloc, place)
 }
 
-// Applies a record of a report that leaves the sources that it doesn't name: their records aren't looked at. The
-// queries that it asks for are told where it asks for named sources alone.
+// Applies a record of a report that leaves the sources that it doesn't name unchanged: their records aren't read. The
+// queries that it requests are returned if they are only about named sources.
 fn apply_to_named(
     world: &mut World,
     meter: &mut Meter,
@@ -158,7 +159,7 @@ fn apply_to_named(
         (apply_to_named_nodes seen.full seen.place.iface.number seen.place.group.bits world.old seen.record_type
         (bits_of sources.now)) ≤ meter.new) }
 {
-    // They tell that each source has one record, under its own key, and that the sources rise.
+    // For the proof: each source has one record, under its own key, and the sources rise.
     world.membership().recall_rising_source_records();
     world.membership().recall_keyed_source_records();
     let _ = world
@@ -171,7 +172,7 @@ fn apply_to_named(
     Ok(asked)
 }
 
-// What a record of a report asks for, of all that is known of its group.
+// The queries that a record of a report requests, by all that is known of its group.
 fn asked_of_all(
     world: &World,
     alloc: Global,
@@ -214,14 +215,14 @@ fn apply_to_all(
     Ok(asked)
 }
 
-// Whether a source that the record doesn't name stays as it is.
+// Whether sources that the record doesn't name are unchanged.
 pub(crate) fn keeps_others(record_type: RecordType) -> bool
     ensures { result ≡ keeps_others record_type }
 {
     !matches!(record_type, RecordType::IsExclude | RecordType::ToExclude)
 }
 
-// Whether what the record asks for is of the sources that it names.
+// Whether the queries that the record requests are only about sources that it names.
 fn asks_named(record_type: RecordType) -> bool
     ensures { result ≡ asks_named record_type }
 {
@@ -231,10 +232,10 @@ fn asks_named(record_type: RecordType) -> bool
     )
 }
 
-/// Applies a record of a report, of an interface below 120, whose timers end then, in ms, where they are set. It tells
-/// the queries that the record asks for. Where it deletes no source, the records of those that it doesn't name aren't
-/// written. The meter rises by the nodes that its look-ups visit, at least those that lead to the group and the sources
-/// whose records come or go, or whose timers begin or end to run.
+/// Applies a record of a report, on an interface below 120, with when its timers expire, in ms, if they are set. The
+/// result is the queries that the record requests. If it deletes no source, the records of sources that it doesn't name
+/// aren't written. The meter rises by the nodes that its look-ups visit, at least those that lead to the group and the
+/// sources whose records are added or removed, or whose timers start or stop.
 pub fn apply(
     world: &mut World,
     meter: &mut Meter,

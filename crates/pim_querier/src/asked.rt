@@ -1,4 +1,4 @@
-//! The queries that a record of a report asks for (RFC 3376, section 6.6.3).
+//! The queries that a record of a report requests (RFC 3376, section 6.6.3).
 ghost use Rattle.std.specs.Prelude.{◌≡◌, IfOk, OnOk, filter, option_map};
 ghost use Rattle.pim_filters.specs.Asking.{source_queries};
 ghost use Rattle.pim_world.specs.Turns.{saying};
@@ -48,7 +48,7 @@ fn query_group(
     turn.out.query(place.iface, &query, &[])
 }
 
-// Those of the sources whose timers run on past this moment, in ms.
+// Those of the sources whose timers expire after this timestamp, in ms.
 fn running_past(
     world: &World,
     alloc: Global,
@@ -69,7 +69,7 @@ fn running_past(
     Ok(running)
 }
 
-// Each of the sources is to be sent in so many queries.
+// Sets each of the sources to be named in a number of queries.
 #[tactic(auto, unfolding(crate::specs::Changes::sending_put, crate::specs::Changes::sendings_put, pim_model::specs::Tables::set_row))]
 fn put_sendings(
     world: &mut World,
@@ -116,7 +116,7 @@ fn query_sources(
     send_sources(world, turn, place)
 }
 
-// Queries these sources of the group, if a query of sources is asked for.
+// Queries these sources of the group, if a query of sources is requested.
 #[tactic(auto, unfolding(pim_model::specs::Querier::query_asked, pim_model::specs::Querier::each_in_turn))]
 fn query_asked_sources(
     world: &mut World,
@@ -138,7 +138,8 @@ fn query_asked_sources(
     }
 }
 
-/// Queries what a record of a report asks for: of the group's sources first, and then the group. The meter stays.
+/// Sends the queries that a record of a report requests: first of the group's sources, then of the group. The meter is
+/// unchanged.
 pub fn query_asked(
     world: &mut World,
     turn: &mut Turn,

@@ -1,4 +1,4 @@
-//! The ends of a querier's timers.
+//! The expiry of a querier's timers.
 ghost use Rattle.std.specs.Prelude.{◌≡◌, ◌≤◌, OnOk, true};
 ghost use Rattle.pim_world.specs.Turns.{saying};
 ghost use Rattle.pim_model.specs.Firing.{fired, startup_left};
@@ -27,7 +27,7 @@ fn startup_left(role: QuerierRole) -> u8
     }
 }
 
-// The timer under the key ends by which a query of a group is repeated.
+// The timer under the key expires, so a query of a group is repeated.
 #[tactic(auto, unfolding(pim_model::specs::Firing::fire_row))]
 fn group_repeat_fired(world: &mut World, turn: &mut Turn, key: Key) -> Result<(), AllocError>
     ensures state { OnOk result (world.new ≡ (fired world.old TimerKind.GroupRepeat key).0) }
@@ -43,7 +43,7 @@ fn group_repeat_fired(world: &mut World, turn: &mut Turn, key: Key) -> Result<()
     }
 }
 
-// The timer under the key ends by which general queries leave.
+// The timer under the key expires, so a general query leaves.
 #[tactic(auto, unfolding(pim_model::specs::Firing::fire_row))]
 fn general_query_fired(world: &mut World, turn: &mut Turn, key: Key) -> Result<(), AllocError>
     ensures state { OnOk result (world.new ≡ (fired world.old TimerKind.GeneralQuery key).0) }
@@ -55,9 +55,9 @@ fn general_query_fired(world: &mut World, turn: &mut Turn, key: Key) -> Result<(
     }
 }
 
-/// A timer of a querier ends: of a group or a source of its records, of the other querier, or one by which a query
-/// leaves. The meter rises by the nodes that its look-ups visit, at least those that lead to a group and to sources
-/// whose records go or stop. Where memory is refused, some of what it changes may be changed.
+/// A timer of a querier expires: of a group or a source of its records, of the other querier, or one after which a
+/// query leaves. The meter rises by the nodes that its look-ups visit, at least those that lead to a group and to
+/// sources whose records are removed or stop. If an allocation fails, some of what it changes may be changed.
 #[tactic(auto, using(pim_world::proofs::Visits::raised_by_none), unfolding(pim_model::specs::Firing::fired))]
 pub fn fired(
     world: &mut World,

@@ -58,8 +58,8 @@ pub fn last_member_query_interval(world: &World) -> u64
     100 * u64::from(world.settings().last_member_query_interval)
 }
 
-/// The moment to which a query lowers timers, in ms: [Last Member Query Time] from now (RFC 3376, sections 6.6.3
-/// and 8.8).
+/// The timestamp to which a query lowers timers, in ms: [Last Member Query Time] from the present time (RFC 3376,
+/// sections 6.6.3 and 8.8).
 #[tactic(auto, unfolding(pim_model::specs::Querier::last_member_query_time))]
 pub fn query_end(world: &World, iface: IfaceId) -> u64
     ensures { result ≡ query_end world.now iface.number }
@@ -67,7 +67,7 @@ pub fn query_end(world: &World, iface: IfaceId) -> u64
     world.present() + last_member_query_interval(world) * u64::from(robustness(world, iface))
 }
 
-/// Whether a timer runs, and ends later than this moment, in ms.
+/// Whether a timer runs, and expires later than this timestamp, in ms.
 pub fn exceeds(moment: u64, end: Option<u64>) -> bool
     ensures { result ≡ exceeds moment end }
 {

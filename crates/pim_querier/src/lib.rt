@@ -1,7 +1,7 @@
-//! The querier of an interface (RFC 3376, sections 6 and 8): how it starts, and what the ends of its timers change.
+//! The querier of an interface (RFC 3376, sections 6 and 8): how it starts, and what the expiry of its timers changes.
 //!
-//! Named is, here and in `pim_filters`, what a record of a report names: its group, the sources that it lists, and the
-//! keys of both. What a record makes the router query is asked, and what a query lists is sent.
+//! In names here and in `pim_filters`, `named` is what a record of a report names: its group, the sources that it
+//! lists, and the keys of both. `asked` are the queries that a record requests, and `sent` is what a query lists.
 #![tactic(auto)]
 
 mod applying;

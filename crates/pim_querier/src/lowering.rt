@@ -11,7 +11,7 @@ use pim_world::querying::lowered;
 use pim_world::{Meter, World};
 use std::alloc::AllocError;
 
-// Lowers the source's timer on the interface to an end, in ms, where it runs and ends later.
+// Lowers the source timer on the interface to a timestamp, in ms, where it runs and expires later.
 fn lower_source(
     world: &mut World,
     meter: &mut Meter,
@@ -22,7 +22,7 @@ fn lower_source(
     ensures lowered { OnOk result (world.new ≡ one_lowered place.iface.number place.group.bits end world.old source) }
     ensures kept { OnOk result (meter.new ≡ meter.old) }
 {
-    // It tells that each key stands once.
+    // For the proof: each key is listed once.
     world.membership().recall_rising_source_records();
     let Some(row) = world
         .membership()
@@ -59,8 +59,8 @@ fn lower_each(
     Ok(())
 }
 
-/// Lowers the timers of these sources of the group on the interface to an end, in ms, where they run and end later. The
-/// records of other sources aren't looked at. The meter stays.
+/// Lowers the timers of these sources of the group on the interface to a timestamp, in ms, where they run and expire
+/// later. The records of other sources aren't read. The meter is unchanged.
 pub fn lower_sources(
     world: &mut World,
     meter: &mut Meter,
@@ -72,7 +72,7 @@ pub fn lower_sources(
         ≡ lower_sources world.old place.iface.number place.group.bits (bits_of sources.now) end) }
     ensures kept { OnOk result (meter.new ≡ meter.old) }
 {
-    // It tells that each is under the key of a source.
+    // For the proof: each is under the key of a source.
     world.membership().recall_keyed_source_records();
     lower_each(world, meter, place, sources, end)
 }

@@ -1,5 +1,5 @@
-//! Which sources a report moves (RFC 3376, section 6.4): those that come, go or change sides, where no group changes
-//! its mode. Of the others at most the ends of timers move.
+//! Which sources a report moves (RFC 3376, section 6.4): those that are added, removed or change sides, where no group
+//! changes its mode. Of others at most the timers are set.
 ghost use Rattle.std.specs.Prelude.{◌≡◌, ◌++◌, [], ◌∷◌, IfOk, OnOk, filter, map};
 ghost use Rattle.pim_model.specs.Records.{is_at_group};
 ghost use Rattle.pim_querier.specs.Reports.{all_keep_modes, keeps_mode, moved_named, moved_others, moved_sources, stays};
@@ -25,7 +25,7 @@ fn is_including(record_type: RecordType) -> bool
     )
 }
 
-// Whether a source with this row that the record names has one afterwards, on the same side.
+// Whether a source with this row that the record names has a row afterwards, on the same side.
 fn stays(record_type: RecordType, row: Option<SourceRecordRow>) -> bool
     ensures { result ≡ stays record_type row }
 {
@@ -35,7 +35,7 @@ fn stays(record_type: RecordType, row: Option<SourceRecordRow>) -> bool
     }
 }
 
-// Whether the record's group stays in its mode, be it INCLUDE without a record.
+// Whether the record's group keeps its mode, which may be INCLUDE without a record.
 #[tactic(auto, unfolding(crate::specs::Reports::keeps_mode))]
 fn keeps_mode(world: &World, iface: IfaceId, group_record: &RecordView<'_>) -> bool
     ensures { result ≡ keeps_mode world.now iface.number group_record.now }
@@ -51,7 +51,7 @@ fn keeps_mode(world: &World, iface: IfaceId, group_record: &RecordView<'_>) -> b
         && world.has_group_record(place.iface, place.group) == has_sources(world, place)
 }
 
-/// Whether the groups of all records of the report stay in their modes, but for the records that are skipped.
+/// Whether the groups of all records of the report that aren't skipped keep their modes.
 #[tactic(auto, unfolding(crate::specs::Reports::all_keep_modes))]
 pub fn all_keep_modes(world: &World, iface: IfaceId, report: &ReportView<'_>) -> bool
     ensures { result ≡ all_keep_modes world.now iface.number report.now }

@@ -64,9 +64,9 @@ fn elect(world: &mut World, iface: IfaceId, query: &QueryView<'_>) -> Result<(),
     querier_elected(world, iface, query.robustness(), interval)
 }
 
-/// Takes a query that came on an interface from an address: of a router with a lower address than the router's own it
-/// makes that one the querier, whose values are adopted, and with S clear it lowers the timers of what it asks for. The
-/// meter stays.
+/// Takes a query that came on an interface from an address. A router with a lower address than the router's own becomes
+/// the querier, and its values are adopted. With S clear the query lowers the timers of what it queries. The meter is
+/// unchanged.
 #[tactic(auto, unfolding(pim_model::specs::Querier::query_seen))]
 pub fn query_seen(
     world: &mut World,

@@ -13,7 +13,7 @@ use pim_types::{Addr, IfaceId};
 use pim_world::{Turn, World};
 use std::alloc::AllocError;
 
-// A query before its sources; hosts answer within so many tenths of a second.
+// A query without its sources; hosts answer within `response` tenths of a second.
 fn header(world: &World, iface: IfaceId, response: u32, group: Addr, suppress: bool) -> QueryHeader
     ensures header { result ≡ header_of world.now iface.number response group.bits suppress }
     ensures robust { result.robustness < 8 }
@@ -47,7 +47,7 @@ pub fn specific_query(world: &World, place: IfaceGroup, suppress: bool) -> Query
     header(world, place.iface, response, place.group, suppress)
 }
 
-// Puts the queries of these sources at the end, each of as many as a frame holds.
+// Adds the queries of these sources at the end, each with as many sources as a frame holds.
 fn put_queries(
     out: &mut Outbox,
     iface: IfaceId,

@@ -1,4 +1,4 @@
-//! The record of a group, and what the ends of its timers change (RFC 3376, sections 6.2, 6.3 and 6.5).
+//! The record of a group, and what the expiry of its timers changes (RFC 3376, sections 6.2, 6.3 and 6.5).
 ghost use Rattle.std.specs.List.{list_any};
 ghost use Rattle.std.specs.Prelude.{◌≡◌, ◌≤◌, ◌<◌, IfOk, OnOk, length};
 ghost use Rattle.pim_filters.specs.Members.{IsAscending, member_entries};
@@ -97,8 +97,8 @@ fn drop_group_repeat(world: &mut World, place: IfaceGroup)
     }
 }
 
-// Ends what is repeated of sources and of the group, where they have no record any more. Where one source alone may
-// have lost its record, no other is looked at.
+// Stops the repeated queries of sources and of the group, if they have no record any more. If only one source may have
+// lost its record, no other is read.
 pub(crate) fn drop_repeats(
     world: &mut World,
     alloc: Global,
@@ -147,8 +147,8 @@ pub fn record_of(world: &World, alloc: Global, place: IfaceGroup) -> Result<Grou
 }
 
 /// Gives the group this record on the interface. The meter rises by the nodes that its look-ups visit, at least those
-/// that lead to the group where it comes or goes or its timer begins or ends to run, to each source that goes, and to
-/// each that comes.
+/// that lead to the group where its record is added or removed or its timer starts or stops, to each source that is
+/// removed, and to each that is added.
 #[tactic(auto, unfolding(pim_model::specs::Records::with_record, pim_model::specs::Tables::set_row))]
 pub fn set_record(
     world: &mut World,
@@ -171,9 +171,9 @@ pub fn set_record(
 
 // ---- the ends of its timers
 
-/// The group's timer ended: INCLUDE of the sources whose timers run past now (RFC 3376, section 6.5). The meter rises
-/// by the nodes that its look-ups visit, at least those that lead to the group, to each of its sources, and to each
-/// that is left.
+/// The group timer expired: INCLUDE of the sources whose timers run on (RFC 3376, section 6.5). The meter rises by the
+/// nodes that its look-ups visit, at least those that lead to the group, to each of its sources, and to each that is
+/// left.
 #[tactic(auto, unfolding(pim_model::specs::Querier::group_record_due))]
 pub fn group_record_due(
     world: &mut World,
@@ -220,7 +220,7 @@ fn drop_source(world: &mut World, meter: &mut Meter, place: IfaceGroup, source: 
     drop_empty(world, meter, place, is_none);
 }
 
-// The source's packets are refused from now on, where it has a record.
+// Excludes the source from then on, if it has a record.
 #[tactic(auto, unfolding(crate::specs::Changes::with_excluded))]
 fn exclude_source(
     world: &mut World,
@@ -239,7 +239,7 @@ fn exclude_source(
         .change_source_record(key, SourceRecordRow { end: None }, meter)
 }
 
-// Changes the records as the end of the source's timer does; what is repeated of it is still to end.
+// Changes the records as the expiry of the source timer does; repeated queries of the source are still to be stopped.
 fn end_source(
     world: &mut World,
     meter: &mut Meter,
@@ -251,7 +251,7 @@ fn end_source(
     ensures at_least { OnOk result (raised meter.old
         (source_record_due_nodes place.iface.number place.group.bits source.bits world.old) ≤ meter.new) }
 {
-    // They tell that each source has one record, under its own key.
+    // For the proof: each source has one record, under its own key.
     world.membership().recall_rising_source_records();
     world.membership().recall_keyed_source_records();
     if world.group_end(place.iface, place.group).is_some() {
@@ -261,10 +261,10 @@ fn end_source(
     Ok(())
 }
 
-/// The source's timer ended: in INCLUDE the source goes, in EXCLUDE its packets are refused from now on (RFC 3376,
-/// section 6.3). Of other sources neither records nor queries are looked at. The meter rises by the nodes that its
-/// look-ups visit, at least those that lead to the source where it goes or its timer ends to run, and to a group that
-/// goes with it.
+/// The source timer expired: in INCLUDE the source is deleted, in EXCLUDE it is excluded from then on (RFC 3376,
+/// section 6.3). Records and queries of other sources aren't read. The meter rises by the nodes that its look-ups
+/// visit, at least those that lead to the source where it is deleted or its timer stops, and to a group that is deleted
+/// with it.
 pub fn source_record_due(
     world: &mut World,
     meter: &mut Meter,

@@ -12,7 +12,7 @@ use pim_types::fact::{GroupRepeatRow, SourceRepeatRow};
 use pim_world::{Turn, World};
 use std::alloc::AllocError;
 
-// What is repeated after a query of a group of which so many were still to leave.
+// What is left to repeat after a query of a group of which `left` were still to leave.
 fn one_repeat_less(world: &World, left: u32) -> Option<GroupRepeatRow>
     ensures { result ≡ one_repeat_less world.now left }
 {
@@ -26,8 +26,8 @@ fn one_repeat_less(world: &World, left: u32) -> Option<GroupRepeatRow>
     })
 }
 
-/// The query of the group is due again, of which so many are still to leave. Its S is set where the group's timer runs
-/// beyond what a query would lower it to (RFC 3376, section 6.6.3.1).
+/// The query of the group is due again, with `left` still to leave. S is set where the group timer runs past what a
+/// query would lower it to (RFC 3376, section 6.6.3.1).
 #[tactic(auto, unfolding(pim_model::specs::Querier::group_repeat_due))]
 pub fn group_repeat_due(
     world: &mut World,
@@ -64,7 +64,7 @@ pub fn send(world: &mut World, turn: &mut Turn, place: IfaceGroup) -> Result<(),
     let others = sources_by_end(world, turn.alloc, place, &sendings, end, false)?;
     say_sources(world, turn, place, true, &running)?;
     say_sources(world, turn, place, false, &others)?;
-    // It tells that each key stands once.
+    // For the proof: each key is listed once.
     world.membership().recall_rising_sendings();
     lessen(world, &sendings);
     Ok(())

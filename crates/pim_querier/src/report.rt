@@ -30,8 +30,8 @@ fn sources_of(alloc: Global, group_record: &RecordView<'_>) -> Result<Vec<Addr>,
     Ok(sources)
 }
 
-// Changes the group's record on the interface as the report's asks, whose timers are set to [Group Membership
-// Interval] (RFC 3376, sections 6.4.1 and 6.4.2); the queries that are asked for.
+// Changes the group's record on the interface by a record of a report, whose timers are set to [Group Membership
+// Interval] (RFC 3376, sections 6.4.1 and 6.4.2). The result is the queries that are requested.
 fn apply_record(
     world: &mut World,
     meter: &mut Meter,
@@ -59,7 +59,7 @@ fn apply_record(
     apply(world, meter, alloc, seen, &sources)
 }
 
-// Takes a group record in; what it asks for is queried, where the router is the querier.
+// Takes a group record; the queries that it requests are sent, if the router is the querier.
 fn record_seen(
     world: &mut World,
     turn: &mut Turn,
@@ -98,10 +98,10 @@ pub fn is_skipped(group_record: &RecordView<'_>) -> bool
         )
 }
 
-/// Takes a report that came on an interface below 120: its group records in their order, but for those that are
-/// skipped. Each changes what is known of its group, and where the router is the querier it sends the queries that the
-/// record asks for, and lowers the timers of what it queries. The meter rises by the nodes that its look-ups visit, at
-/// least those that lead to the groups and the sources whose records come or go, or whose timers begin or end to run.
+/// Takes a report that came on an interface below 120: its group records in their order, without those that are
+/// skipped. Each changes what is known of its group. If the router is the querier, it sends the queries that the record
+/// requests, and lowers the timers of what it queries. The meter rises by the nodes that its look-ups visit, at least
+/// those that lead to the groups and the sources whose records are added or removed, or whose timers start or stop.
 #[tactic(auto, unfolding(pim_model::specs::Querier::report_seen))]
 pub fn report_seen(
     world: &mut World,

@@ -28,7 +28,7 @@ pub fn sendings_at(
     Ok(sendings)
 }
 
-/// The sources of these sendings whose timers run on past this moment, in ms, or those whose timers don't.
+/// The sources of these sendings whose timers run past this timestamp, in ms, or those whose timers don't.
 pub fn sources_by_end(
     world: &World,
     alloc: Global,

@@ -24,7 +24,8 @@ pub fn up(world: &mut World, turn: &mut Turn, iface: IfaceId) -> Result<(), Allo
     turn.out.query(iface, &general_query(world, iface), &[])
 }
 
-// How long the router waits after a general query, in ms, where so many of the startup queries were to leave with it.
+// How long the router waits after a general query, in ms, if `startup_left` of the startup queries were to leave with
+// it.
 fn interval_after(world: &World, iface: IfaceId, startup_left: u8) -> u64
     ensures value { result ≡ (if nat_lt 1 startup_left then startup_query_interval world.now iface.number
         else query_interval world.now iface.number) }
@@ -37,8 +38,8 @@ fn interval_after(world: &World, iface: IfaceId, startup_left: u8) -> u64
     }
 }
 
-/// A general query is due, of which so many more of the startup queries are to leave with it (RFC 3376, sections 6.6.2,
-/// 8.2 and 8.6).
+/// A general query is due, with which `startup_left` of the startup queries are still to leave (RFC 3376, sections
+/// 6.6.2, 8.2 and 8.6).
 #[tactic(auto, unfolding(pim_model::specs::Querier::general_query_due))]
 pub fn general_query_due(
     world: &mut World,

@@ -1,4 +1,4 @@
--- What is told of each firing goes on from the states that the firings leave, and what bounds each bounds all.
+-- What is listed for each firing goes on from the states that the firings leave, and what bounds each bounds all.
 use Rattle.std.proofs.Common.{◌≡◌, ℕ, zero, suc, ◌+◌, ◌-◌, ◌≤◌, Bool, true, ◌&&◌, List, [], ◌∷◌, ◌++◌, length, Option, Some, None, refl, sym, ap, subst, ◌∙◌, arith, length-append}
 use Rattle.std.proofs.lemmas.List.Folds.{list_all-append}
 use Rattle.std.specs.Cmp.{first_so, second_so}
@@ -34,7 +34,7 @@ module _ {H S D X Y : Type 0} (state : H → S) (next : S → Option D) (f : H �
   same_end zero s = refl
   same_end (suc n) s = end_turn n (same_end n) s (next (state s))
 
--- and what is told is told
+-- what is listed is the same where the states are
 module _ {H S D X : Type 0} (state : H → S) (next : S → Option D) (f : H → D → H × List X) (h : S → D → S × List X)
     (same : (s : H) (d : D) → state (f s d).0 ≡ (h (state s) d).0) (told : (s : H) (d : D) → (f s d).1 ≡ (h (state s) d).1)
   where

@@ -138,7 +138,7 @@ pub record SameSourceRows (g src : ℕ) (s t : State) : Type 0 where
   pub sources : rows_where (names_source g src) s.sources ≡ rows_where (names_source g src) t.sources
   pub registers : rows_where (names_source g src) s.registers ≡ rows_where (names_source g src) t.registers
 
--- the same, but for ends
+-- the rows that count for a source are the same, but for when timers expire
 record AlikeRows (g src : ℕ) (s t : State) : Type 0 where
   source_records : alike_where same_source_record (names_source g src) s.source_records t.source_records ≡ true
   star_downstream : alike_where same_downstream (names_star g) s.downstream t.downstream ≡ true
@@ -148,7 +148,7 @@ record AlikeRows (g src : ℕ) (s t : State) : Type 0 where
   sources : alike_where same_source (names_source g src) s.sources t.sources ≡ true
   registers : alike_where same_register (names_source g src) s.registers t.registers ≡ true
 
--- then nothing differs, with the same routes
+-- where the rows are alike and the routes the same, nothing differs
 alike_with_rows : (g src : ℕ) (s t : State) → AlikeRows g src s t
     → alike_where same_group_record (names_star g) s.group_records t.group_records ≡ true
     → route s src ≡ route t src → rp_of s g ≡ rp_of t g → rp_route s g ≡ rp_route t g → is_same_for g src s t ≡ true

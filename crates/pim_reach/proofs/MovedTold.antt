@@ -1,4 +1,4 @@
--- What is told upstream after new routes or new RP ranges is told of the touched keys.
+-- What is sent upstream after new routes or new RP ranges is told of the touched keys.
 use Rattle.std.proofs.Common.{◌≡◌, ℕ, true, false, List, [], ◌++◌, option_map, refl, ap, ◌∙◌}
 use Rattle.std.specs.Cmp.{first_so}
 use Rattle.pim_ip.specs.Addr.{addr}

@@ -1,4 +1,4 @@
--- What is told upstream is told of the touched keys, where nothing is told of what isn't touched and has facts.
+-- What is sent upstream is told of the touched keys, where nothing is told of what isn't touched and has facts.
 use Rattle.std.proofs.Common.{◌≡◌, ◌==◌, ◌&&◌, ◌||◌, ℕ, Bool, true, false, not, cond, List, [], ◌∷◌, ◌++◌, filter, map, is_some, refl, sym, ap, subst, ◌∙◌, eqb-true}
 use Rattle.std.proofs.lemmas.Bool.{or_parts}
 use Rattle.std.proofs.lemmas.List.Folds.{list_any-append}
@@ -60,8 +60,8 @@ swap false false e = cc
 
 -- ---- the turns
 
--- the tests of a group and of a source say that nothing is told where neither is touched; of what has facts each is touched,
--- or passes
+-- the tests of a group and of a source say that nothing is told where neither is touched; of what has facts each is
+-- touched, or passes
 module _ (keys : List Key) (o a : State) (w : ℕ) (calm_star : ℕ → Bool) (calm : ℕ → ℕ → Bool)
     (star_idle : (g : ℕ) → touching keys (star_key 0 g) ≡ false → calm_star g ≡ true
     → star_told a w g (star_view o g) (star_view a g) ≡ nothing_told)
@@ -76,7 +76,7 @@ module _ (keys : List Key) (o a : State) (w : ℕ) (calm_star : ℕ → Bool) (c
   abbrev turn : List Key → State → ℕ → State × List Message
   turn ks s g = group_upstream o a w ks s g
 
-  -- what is told of a key, where it has facts
+  -- the messages of a key, where it has facts
   pub record IsTaken (k : Key) : Type 0 where
     pub star : (touching keys (star_key 0 (group_in k)) || calm_star (group_in k)) ≡ true
     pub source : is_some k.source ≡ true

@@ -48,7 +48,7 @@ pub event_alone : (s : State) → IsQuiet s → (w : ℕ) (a : Accepted) (keys :
     → touched_by_event s a ≡ Some keys → named_by s (change s w a).state ≡ named_where (touching keys) s (change s w a).state
 event_alone s quiet w a keys e = touched_alone keys s (change s w a).state quiet (change_touches s w a keys e)
 
--- the own change of a timer's end, its moment with it
+-- the own change of the expiry of a timer, its moment with it
 pub firing_agrees : (s : State) (e : Ending) → isnt_neighbour e.timer.kind ≡ true
     → AgreesBut (touching (touched_by e.timer.kind e.timer.key)) s (own_firing s e)
 unfolding own_firing

@@ -1,4 +1,4 @@
--- A timer's end leaves a fine state, and so does all that fires by a moment.
+-- the expiry of a timer leaves a fine state, and so does all that fires by a timestamp.
 use Rattle.std.proofs.Common.{◌≡◌, ℕ, ◌+◌, Bool, true, List, [], length, Option, Some, None, refl, arith}
 use Rattle.std.specs.Option.{option_map_or}
 use Rattle.pim_types.specs.declared.fact.DownstreamRow.{DownstreamRow}

@@ -4,7 +4,7 @@ use Rattle.pim_laws.proofs.SettlingLaws.{lower_of_two}
 use Rattle.pim_ready.proofs.FineStates.{Lateness}
 
 module _ (m : ℕ) (late : ℕ → Bool) (lateness : Lateness m late) where
-  -- so far from the present
+  -- a timestamp after the present time is late
   pub late_by : (p d : ℕ) → p ≡ m → 1 ≤ d → late (p + d) ≡ true
   late_by p d e h = lateness.later (p + d) (omega arith)
 

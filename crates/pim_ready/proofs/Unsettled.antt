@@ -56,7 +56,7 @@ unsettled s = record {
   downstream = s.downstream;
 }
 
--- and what is cleared or settled, which nothing that is told or sent changes
+-- an unsettled state with what is cleared or settled, which no message changes
 pub record Untold : Type 0 where
   pub unsettled : Unsettled
   pub asserts : Table AssertRow

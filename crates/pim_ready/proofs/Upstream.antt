@@ -1,4 +1,4 @@
--- What is told upstream leaves a fine state: a timer is set, or lowered, to an end later than the present.
+-- What is sent upstream leaves a fine state: a timer is set, or lowered, to an end later than the present.
 use Rattle.std.proofs.Common.{◌≡◌, ℕ, Bool, true, List, ⊎_elim}
 use Rattle.pim_types.specs.declared.fact.Key.{Key}
 use Rattle.pim_model.specs.Clearing.{clear}

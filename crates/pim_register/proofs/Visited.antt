@@ -164,7 +164,7 @@ module _ (s : State) where
       unfolding register_nodes
       register_refused off same = two_in_turn old next new _ _ rp_asked (none_asked next new _ _ (told false off) same)
 
-  -- ---- the end of a register timer
+  -- ---- the expiry of a register timer
 
   module _ (k : Key) (old new : ℕ) where
     by_row : (o : Option RegisterRow) → row_at s.registers k ≡ o

@@ -1,4 +1,4 @@
--- How many nodes of tries are visited, at least, where registers are settled, at the ends of their timers, and where
+-- How many trie nodes are visited, at least, where registers are settled, where their timers expire, and where
 -- Registers and new RP ranges come.
 use Rattle.std.specs.Option.{option_map_or}
 use Rattle.std.specs.Prelude.{Bool, List, Some, false, fold, if◌then◌else◌, not, sum_by, true, ℕ, ◌&&◌, ◌+◌, ◌||◌}
@@ -26,8 +26,8 @@ use Rattle.pim_register.specs.Steps.{source_keys}
 
 -- ---- rows that come and go lead to the facts of their source
 
--- a register: where the source can't be registered there is to be none, which is looked up whether there was one or not;
--- where it can, one that is there stays
+-- The nodes of settling a register: a source that can't be registered is to have none, which is looked up whether there
+-- was one or not; a source that can be keeps the one that it has.
 abbrev pub register_mark_nodes : State → Addr → Addr → ℕ
 register_mark_nodes s group source =
     if could_register s group.bits source.bits && has_row s.registers (source_key 0 group.bits source.bits) then 0
@@ -35,7 +35,7 @@ register_mark_nodes s group source =
 
 -- ---- settled after a change
 
--- a source of a group is settled: its sight beside that of the group, and its register
+-- The nodes of settling a source of a group: its sight without that of the group, and its register.
 abbrev pub settled_source_nodes : Addr → State → SourceOpening → ℕ
 settled_source_nodes group s opened = source_nodes s group opened.source + register_mark_nodes s group opened.source
 
@@ -55,7 +55,7 @@ group_settled s opened = fold settle_register s (source_keys (opened.group).bits
 unfoldable pub settled_nodes : State → List GroupOpening → ℕ
 settled_nodes s opening = nodes_in_turn group_settled settled_group_nodes s opening
 
--- ---- at the end of a register timer
+-- ---- at the expiry of a register timer
 
 -- a probe: the route to the source, and the RP
 abbrev pub probe_nodes : State → Key → ℕ
@@ -72,7 +72,7 @@ register_end_nodes s key =
     if option_map_or (λ (row : RegisterRow). is_register_prune row.state) (row_at s.registers key) false then probe_nodes s key
     else 0
 
--- ---- at the end of a keepalive timer: the row of a source without the SPTbit goes
+-- ---- at the expiry of a keepalive timer: the row of a source without the SPTbit goes
 
 abbrev pub ended_nodes : State → Key → ℕ
 ended_nodes s key =
@@ -86,7 +86,7 @@ abbrev pub kept_at_rp_nodes : State → Addr → Addr → ℕ
 kept_at_rp_nodes s group source =
     if spt_bit s group.bits source.bits || is_spt_wanted s then new_source_nodes s group source else 0
 
--- at the RP: the sight of the group, that of the source, and its row
+-- The nodes of a Register at the RP: the sight of the group, that of the source, and its row.
 abbrev pub at_rp_nodes : State → Register → ℕ
 at_rp_nodes s r =
     star_nodes s (addr (registered_group r))
@@ -100,7 +100,7 @@ register_nodes s p r =
 
 -- ---- where new RP ranges come
 
--- of a register: the RP of its group by the ranges there are, and by these
+-- The nodes of a register where RP ranges change: the RP of its group by the present ranges, and by the new ones.
 abbrev pub register_rps_nodes : State → List RpRange → Key × RegisterRow → ℕ
 register_rps_nodes s ranges e = rp_nodes s.ranges (group_in e.0) + rp_nodes ranges (group_in e.0)
 

@@ -32,7 +32,7 @@ fn keys_of(world: &World, turn: &Turn, group: Addr) -> Result<Vec<Key>, AllocErr
     Ok(keys)
 }
 
-// A register that waits until the end, in ms, where it doesn't wait already.
+// A register in Prune until the timestamp, in ms, unless it is in Prune already.
 fn stopped(row: RegisterRow, end: u64) -> RegisterRow
     ensures { result ≡ record { state = state_after_stop end row.state } }
 {
@@ -44,13 +44,13 @@ fn stopped(row: RegisterRow, end: u64) -> RegisterRow
     }
 }
 
-// Lets a register, if there is one, wait until the end, in ms, where it doesn't wait already.
+// Sets a register, if there is one, to Prune until the timestamp, in ms, unless it is in Prune already.
 fn stop(world: &mut World, meter: &mut Meter, key: Key, end: u64) -> Result<(), AllocError>
     ensures state { OnOk result (world.new
         ≡ record world.old { registers = change_row (stopping end) key world.old.registers }) }
     ensures rises { OnOk result (meter.old ≤ meter.new) }
 {
-    // It tells that their keys rise, so that the key stands once.
+    // For the proof: their keys rise, so that the key is listed once.
     world.recall_keyed();
     let Some(row) = world.store().register(key) else {
         return Ok(());
@@ -72,7 +72,7 @@ fn stop_all(world: &mut World, meter: &mut Meter, keys: &[Key], end: u64) -> Res
     Ok(())
 }
 
-// 0.0.0.0 stands for all sources of a group.
+// Whether the source is 0.0.0.0, which stands for all sources of a group.
 fn is_any(source: Addr) -> bool
     ensures { result ≡ (source.bits == 0) }
 {
@@ -92,7 +92,7 @@ pub fn stop_seen(
     ensures silent { turn.new ≡ turn.old }
     ensures rises { OnOk result (meter.old ≤ meter.new) }
 {
-    // It tells that each register is under the key of its source.
+    // For the proof: each register is under the key of its source.
     world.recall_keyed();
     let end = world.present() + delay_in(LEAST_SUPPRESSION, MOST_SUPPRESSION, turn.draw);
     if is_any(name.source) {
@@ -102,7 +102,7 @@ pub fn stop_seen(
     stop(world, meter, name.key(), end)
 }
 
-// Whether they aren't the same RP, nor both none.
+// Whether the RPs differ, where both or either may be none.
 fn is_other_rp(first: Option<Addr>, second: Option<Addr>) -> bool
     ensures { result ≡ not (same_option (option_map (λ a. a.bits) first) (option_map (λ a. a.bits) second)) }
 {
@@ -137,7 +137,7 @@ fn keys_with_new_rp(
     Ok(keys)
 }
 
-// Lets these registers begin anew.
+// Sets these registers to Join.
 fn join_all(world: &mut World, meter: &mut Meter, keys: &[Key]) -> Result<(), AllocError>
     ensures state { OnOk result (world.new
         ≡ record world.old { registers = all_changed joining world.old.registers keys.now }) }
@@ -152,9 +152,9 @@ fn join_all(world: &mut World, meter: &mut Meter, keys: &[Key]) -> Result<(), Al
     Ok(())
 }
 
-/// Puts the RP ranges of the next table in the place of those there are: where the RP of a group becomes another one, its
-/// registers begin anew. The meter rises by the nodes that the look-ups visit, at least those that lead to the RP of each
-/// register, by the old ranges and by the new. An error is want of memory.
+/// Replaces the RP ranges by those of the next table. Where the RP of a group changes, its registers start again in
+/// Join. The meter rises by the nodes that the look-ups visit, at least those that lead to the RP of each register, by
+/// the old ranges and by the new. The error is want of memory.
 pub fn rps_replaced(
     world: &mut World,
     turn: &mut Turn,

@@ -38,7 +38,7 @@ pub fn restart_is_asked()
     ensures { RestartIsAsked }
 {}
 
-/// So has each copy in the run of a state that earlier events led to.
+/// In the run of a state that earlier events led to, each copy has its cause in an earlier event.
 pub fn later_run_is_asked()
     ensures { LaterRunIsAsked }
 {}
@@ -48,7 +48,7 @@ pub fn later_state_is_reached()
     ensures { LaterStateIsReached }
 {}
 
-/// Whether all ends lie ahead is whether the next one does.
+/// All timers expire after the present time if and only if the next one does.
 pub fn next_tells_ahead()
     ensures { NextTellsAhead }
 {}

@@ -1,5 +1,5 @@
--- A packet that comes by the tree of its source touches its source alone: it makes no assert, since SPTbit is set, or it
--- came on the interface to the RP too, or nobody wants it on the shared tree there.
+-- A packet that comes by the tree of its source touches its source alone: it makes no assert, since SPTbit is set, or
+-- it came on the interface to the RP too, or nobody wants it on the shared tree there.
 use Rattle.std.proofs.Common.{◌≡◌, ◌<◌, ◌&&◌, ◌||◌, ◌∙◌, ◌∷◌, ℕ, Bool, List, [], None, Option, Some, ap, cond, eqb-true, false, get_or, not, refl, subst, sym, true, zero-add}
 use Rattle.std.proofs.lemmas.Bool.{or_left, or_right}
 use Rattle.std.proofs.lemmas.List.Folds.{list_any_at}
@@ -44,7 +44,7 @@ none_at test n i below none = go (test i) refl
         list_any_at test (range_with_len 0 n) i 0 (rw (length-range_with_len 0 n) below) (at e) in
         cc
 
--- the same third
+-- an option that is the same as one that is `Some i` is `Some i` too
 same_through : (a b : Option ℕ) (i : ℕ) → same_option a (Some i) ≡ true → same_option a b ≡ true
     → same_option b (Some i) ≡ true
 same_through None b i e f = cc
@@ -198,7 +198,8 @@ module _ (g src iif : ℕ) where
         go true false x t is e = cc
         go false k x t is e = cc
 
-    -- so it isn't in inherited_olist(S,G,rpt), since no assert is lost towards the source
+    -- the interface isn't in inherited_olist(S,G,rpt) if it isn't in inherited_olist(S,G), since no assert is lost
+    -- towards the source
     not_shared : inherited_olist s g src iif ≡ false → inherited_olist_rpt s g src iif ≡ false
     unfolding inherited_olist lost_assert
     not_shared e = go (inherited_olist_rpt s g src iif) _ _ (is_rpf_interface s src iif) _ _ f.on e

@@ -30,7 +30,7 @@ none_ahead m s ahead = go (next_due m s) refl
         let due : d.end ≤ m = next.due in
         absurd (omega arith)
 
--- ---- an instant, and all that is due by a moment, end with nothing due
+-- ---- an instant, and all that is due by a timestamp, end with nothing due
 
 module _ (w : ℕ) (s : State) (e d : Ending) (firable : IsFirable s) (from : ends_from e.end s ≡ true)
     (there : next_due e.end s ≡ Some d) where
@@ -64,7 +64,7 @@ module _ (w m : ℕ) (s : State) (e : Ending) (ready : IsReady s.present s) (the
   all_later_ends =
       ap (next_due m) (sym (ap (λ (p : State × List Emission). p.0) (firing_goes_on w m s e ready there))) ∙ all_ends
 
--- ---- what is told of firings goes on as they do
+-- ---- what is listed for firings goes on as they do
 
 module _ {X : Type 0} (told : State → State → List X) (w : ℕ) where
   instant_fires : (s : State) (e : Ending) → (told_instant told w s e).0 ≡ (fire_instant w s e).0

@@ -41,7 +41,7 @@ pub on_ok : {A E : Type 0} {P : Type 0} (r : Result A E) → P → OnOk r P
 on_ok (Ok x) p = p
 on_ok (Err e) p = tt
 
--- ---- the end of a keepalive timer, in silence
+-- ---- the expiry of a keepalive timer, in silence
 
 keepalive_silent : (s : State) (k : Key) → (fired s TimerKind.Keepalive k).1 ≡ []
 unfolding fired fire_row
@@ -147,7 +147,7 @@ at_the_end first whole sent s e = (
   sym (append-nil sent) ∙ sym (ap (λ (p : State × List Emission). p.1) e),
 )
 
--- ---- the end of a timer in its turn
+-- ---- the expiry of a timer in its turn
 
 module _ (s : State) (due : ℕ × Timer) where
   abbrev at_end : State

@@ -1,4 +1,5 @@
--- Which sources are listed as changed: after an event, after a timer's end, and over firings and events in turn.
+-- Which sources are listed as changed: after an event, after the expiry of a timer, and over firings and events in
+-- turn.
 use Rattle.std.proofs.Common.{◌≡◌, ◌≤◌, ◌<◌, ◌+◌, ℕ, Bool, true, false, ◌||◌, List, [], ◌∷◌, ◌++◌, Option, Some, Result, Ok, Err, OnOk, length, take, take_all, get_or, append_assoc, append-nil, add-one, refl, ap, subst, sym, ◌∙◌}
 use Rattle.std.specs.Prelude.{if◌then◌else◌}
 use Rattle.std.proofs.Math.Seq.{take-suc}
@@ -73,7 +74,7 @@ pub listed_alone : (before names listed : List Key) → before ≡ [] → ListsM
 listed_alone before names listed none lists g src =
     lists g src ∙ ap (λ (ks : List Key). is_listed (ks ++ names) g src) none
 
--- ---- an event, and a timer's end
+-- ---- an event, and the expiry of a timer
 
 pub listed_after : (s : State) (w : ℕ) (a : Accepted) → ((m : ℕ) → ¬ (a ≡ Accepted.Advance m)) → (touched : Touched)
     (names : List SourceGroup) → AreNames s (change s w a).state touched (keys_of names) → IsQuiet s → (before listed : List Key)

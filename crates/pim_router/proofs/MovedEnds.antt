@@ -1,5 +1,5 @@
--- A record of a report whose group keeps its mode: what it writes is as it was, but for the sources that it moves and the
--- moments at which timers end.
+-- A record of a report whose group keeps its mode: what it writes is as it was, but for the sources that it moves and
+-- the moments at which timers end.
 use Rattle.std.proofs.Common.{◌≡◌, ℕ, ◌==◌, ◌&&◌, ◌||◌, Bool, true, false, not, cond, List, [], ◌∷◌, fold, map, Option, Some, None, is_none, is_some, option_map, refl, ap, sym, subst, ◌∙◌, eq-eqb}
 use Rattle.std.proofs.lemmas.Bool.{or_left, or_right}
 use Rattle.std.specs.Cmp.{first_so, second_so}
@@ -60,7 +60,7 @@ module _ {R : Type 0} (cut : R → R) where
       other same =
           let yes : same_key k q ≡ true = subst (λ (x : Key). same_key k x ≡ true) same (same_key_same k) in cc
 
-  -- a row that is put in the place of one that it is alike
+  -- a row that is put in place of one that it is alike
   pub put_alike : (k : Key) (r old : R) (t : Table R) → Up t → cut r ≡ cut old → row_at t k ≡ Some old
       → map (cut_entry cut) (put t k r) ≡ map (cut_entry cut) t
   put_alike k r old t up alike there =

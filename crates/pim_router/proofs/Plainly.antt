@@ -120,7 +120,7 @@ module _ (s : State) (e : Event) (rest : IsAtRest s) where
   pub stop_isnt_plain : (stop : Stop) → judged s e.kind ≡ Err stop → IsPlainEvent s e → ⊥
   stop_isnt_plain stop heard is = cc (heard, is.heard)
 
-  -- it leaves all rows
+  -- a decided packet leaves all rows unchanged
   pub plain_shows_rows : (p : Packet) → (how : Plain) → IsDecided s e p how → (t : State) → t ≡ (step s e).state
       → (rows : Table SourceAnswers) → ShowsRows rows (cached s) → ShowsRows rows (cached t)
   plain_shows_rows p how is t after rows shows g src =

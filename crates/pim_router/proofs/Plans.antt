@@ -61,7 +61,7 @@ module _ (s : State) (a : Accepted) (planning : Planning) (act : Act) (event : a
 pub planned_of : (s : State) (a b : Accepted) (planning : Planning) → a ≡ b → IsPlanned s b planning → IsPlanned s a planning
 planned_of s a b planning is planned = subst (λ (x : Accepted). IsPlanned s x planning) (sym is) planned
 
--- those of what looks to a neighbour are touched, or all
+-- the keys of what depends on a neighbour are touched, or all
 pub adjoins_fit : (s : State) (act : Act) (keys : List Key) (touched : Touched) → HasRead s act → touched ≡ few_or_all keys
     → few_or_all keys ≡ touched_of s (act_event s act) → is_full s (act_event s act) ≡ false
     → ((w : ℕ) → Contains (few_or_all keys) s (change s w (act_event s act)).state)

@@ -1,5 +1,5 @@
--- What is heard again touches nothing: a packet of data, or a Register, that moves the end of a keepalive timer, and an Assert
--- of the known winner.
+-- What is heard again touches nothing: a packet of data, or a Register, that moves the expiry of a keepalive timer, and
+-- an Assert of the known winner.
 use Rattle.std.proofs.Common.{◌≡◌, ◌==◌, ◌&&◌, ◌||◌, ◌++◌, ◌∙◌, ◌∷◌, Bool, List, [], None, Option, Some, ap, cond, false, is_some, not, refl, subst, sym, true, ℕ}
 use Rattle.std.proofs.lemmas.Bool.{or_left, or_right}
 use Rattle.std.proofs.lemmas.List.Folds.{list_any-append}
@@ -85,7 +85,7 @@ module _ (s : State) (rest : IsAtRest s) (g src : ℕ) where
       go None e = e
       go (Some r) e = refl
 
-  -- and is set again
+  -- a keepalive timer that runs is set again
   keepalive_concerned : is_kept_alive s g src ≡ true → Concerns [] s (with_keepalive s g src)
   unfolding names_source
   keepalive_concerned kept = record {
@@ -339,7 +339,7 @@ module _ (s : State) (rest : IsAtRest s) (k : Key) (theirs : AssertMetric) where
           (cond b (assert_as_winner s k r theirs) (assert_as_loser s k r theirs, [])).0) (sym (lost_no_winner r lost))
           (loser_agrees r there lost same finite)
 
-  -- it has a row
+  -- a lost assert has a row
   lost_has_row : is_lost_to_metric (row_at s.asserts k) theirs ≡ true → has_row s.asserts k ≡ true
   unfolding is_lost_to_metric has_row
   lost_has_row known = go (row_at s.asserts k) known

@@ -112,7 +112,7 @@ module _ (s : State) (w : ℕ) (a : Accepted) (timeless : (m : ℕ) → ¬ (a �
       ap (λ (ks : List Key). length ks) (sym (named_timeless s w a timeless)) in
       omega (arith, most, few, same)
 
--- ---- after a timer's end
+-- ---- after the expiry of a timer
 
 module _ (s : State) (w : ℕ) (e : Ending) (touched : Touched) (names : List SourceGroup)
     (are : AreNames s (own_firing s e) touched (keys_of names)) where

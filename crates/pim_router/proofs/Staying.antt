@@ -1,5 +1,5 @@
--- Which sources stay as they were, whether they have a fact or not: after an event, after a timer's end, and over firings and
--- events in turn.
+-- Which sources stay as they were, whether they have a fact or not: after an event, after the expiry of a timer, and
+-- over firings and events in turn.
 use Rattle.std.proofs.Common.{◌≡◌, ◌≤◌, ◌<◌, ◌+◌, ℕ, Bool, true, false, not, ◌&&◌, ◌||◌, ◌⊎◌, inl, inr, cond, List, [], ◌∷◌, ◌++◌, Result, Ok, Err, OnOk, length, take, take_all, get_or, add-one, refl, ap, subst, sym, ◌∙◌}
 use Rattle.std.proofs.Math.Seq.{take-suc}
 use Rattle.std.proofs.lemmas.Bool.{or_parts}
@@ -73,7 +73,7 @@ not_disturbed a touched g src out = go (is_rerouting a) out
     go true e = cc
     go false e = (refl, e)
 
--- ---- an event, a timer's end, and the present alone
+-- ---- an event, the expiry of a timer, and the present alone
 
 few_of : (s : State) (lent : InterfaceTable) → lent ≡ interfaces_of s → length lent.configured ≤ 120
     → length s.configured ≤ 120

@@ -205,7 +205,7 @@ unfolding taken_unless_full
 concluded_silently s w (Ok a) = full_silently s w a (is_full s a)
 concluded_silently s w (Err stop) = stopped_silently s stop
 
--- so there is room for what it sends
+-- an answer that needs no memory finds room for what it sends, which is nothing
 pub finds_room : {A E : Type 0} (shown : Shown) (failed : Bool) (r : Standing) (probes touched : ℕ) (changed : List Key) (disturbed : Touched)
     (event : Event)
     (outcome : Outcome) (sent : List Emission) (taken_up room : ℕ) (q : Result A E)

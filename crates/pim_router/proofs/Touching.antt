@@ -414,7 +414,7 @@ facts_covered s w (Accepted.Data i packet) none = absurd none
 facts_covered s w (Accepted.Register packet r) none = absurd none
 facts_covered s w (Accepted.RegisterStop from r) none = absurd none
 
--- ---- the end of a timer
+-- ---- the expiry of a timer
 
 module _ (s : State) (lawful : IsLawful s) (e : Ending) where
   abbrev opened : State

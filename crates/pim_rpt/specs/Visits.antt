@@ -1,4 +1,4 @@
--- How many nodes of tries are visited, at least, where an override timer ends.
+-- How many trie nodes are visited, at least, where an override timer expires.
 use Rattle.std.specs.Prelude.{Some, if◌then◌else◌, ℕ, ◌+◌}
 use Rattle.pim_types.specs.Keys.{source_in}
 use Rattle.pim_types.specs.declared.fact.Key.{Key}

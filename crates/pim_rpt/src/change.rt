@@ -1,11 +1,11 @@
-//! What becomes of a timer, as an upstream machine tells it.
+//! What becomes of a timer, as an upstream machine decides.
 
-/// What becomes of a timer; ends in ms.
+/// What becomes of a timer; timestamps in ms.
 #[derive(Clone, Copy)]
 pub enum Change {
     Keep,
     Cancel,
     SetTo(u64),
-    /// It ends at this moment at the latest; where there is none, it starts.
+    /// The override timer is to expire at this timestamp at the latest; if it doesn't run, it starts.
     LowerTo(u64),
 }

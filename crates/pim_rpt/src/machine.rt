@@ -1,4 +1,4 @@
-//! What is told of (S,G,rpt) (RFC 7761, section 4.5.7).
+//! The messages of (S,G,rpt) (RFC 7761, section 4.5.7).
 ghost use Rattle.std.specs.Prelude.{◌≡◌, IfOk, OnOk};
 ghost use Rattle.pim_model.specs.Upstream.{becomes_star, rpt_told};
 ghost use Rattle.pim_macros.specs.Sights.{IsStarSight};
@@ -34,8 +34,8 @@ fn becomes_star(old: SourceView, new: SourceView) -> bool
         && !is_same_hop(old.tree_upstream, old.star_upstream)
 }
 
-/// Sends what follows of the views of a source before and after a change, and tells what becomes of the override timer
-/// of (S,G,rpt).
+/// Sends what follows of the views of a source before and after a change, and returns what becomes of the override
+/// timer of (S,G,rpt).
 #[tactic(auto, unfolding(pim_model::specs::Upstream::rpt_told, pim_model::specs::Upstream::rpt_told_from, crate::specs::Changes::change_of))]
 pub fn changed(
     world: &World,

@@ -57,7 +57,7 @@ pub fn is_due_to_assert(
     old_iface == new_iface && is_same_hop(old_hop, new_hop)
 }
 
-/// t_override on the interface from now, in ms.
+/// t_override on the interface from the present time, in ms.
 #[tactic(auto, unfolding(pim_model::specs::Upstream::override_on))]
 pub fn override_end(world: &World, draw: u32, iface: Option<IfaceId>) -> u64
     ensures { result ≡ override_on world.now draw iface }

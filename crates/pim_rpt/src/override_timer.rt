@@ -1,4 +1,4 @@
-//! What the end of an override timer changes (RFC 7761, section 4.5.7).
+//! What the expiry of an override timer changes (RFC 7761, section 4.5.7).
 ghost use Rattle.std.specs.Prelude.{◌≡◌, ◌≤◌, OnOk, Some};
 ghost use Rattle.pim_types.specs.declared.timer.TimerKind.{TimerKind};
 ghost use Rattle.pim_model.specs.Desires.{rpf_rpt};
@@ -23,9 +23,9 @@ fn rpf_rpt(world: &World, meter: &mut Meter, name: SourceGroup) -> Option<Hop>
     sight.rpf_neighbour_rpt()
 }
 
-/// What the end of an override timer changes: it goes, and a Join(S,G,rpt) overrides the Prune of another router. An
-/// error is want of memory. The meter rises by the nodes that the look-ups visit, at least those of the sight of the
-/// source, and those that lead to its PIM facts where the timer is among them.
+/// What the expiry of an override timer changes: it is removed, and a Join(S,G,rpt) overrides the Prune of another
+/// router. The error is want of memory. The meter rises by the nodes that the look-ups visit, at least those of the
+/// sight of the source, and those that lead to its PIM facts where the timer is among them.
 #[tactic(auto, unfolding(pim_model::specs::Firing::fired, pim_model::specs::Upstream::override_timer_due))]
 pub fn fired(
     world: &mut World,

@@ -1,4 +1,4 @@
--- Worked causes: who asks for a copy, and until when.
+-- Worked causes: what is the cause of a copy, and until when.
 use Rattle.std.specs.Prelude.{Bool, List, [], false, true, ℕ, ◌++◌, ◌≡◌, ◌∷◌}
 use Rattle.pim_types.specs.declared.event.Event.{Event}
 use Rattle.pim_model.specs.Cause.{Past, copies_in, has_cause, past_after}
@@ -13,7 +13,7 @@ use Rattle.pim_runs.specs.Words.{advance, done_with_copies, down, frame, up}
 abbrev pub past_of : List Event → Past
 past_of events = past_after [] (opening base) (opening_events ++ events)
 
--- after further events a source is asked for on an interface, beyond a moment
+-- After further events a source has a cause on an interface, at a timestamp.
 abbrev pub is_caused : List Event → ℕ → ℕ → ℕ → Bool
 is_caused events now i src = has_cause (past_of events) now i group src
 
@@ -21,8 +21,8 @@ is_caused events now i src = has_cause (past_of events) now i group src
 abbrev pub joined_for_1_s : List Event
 joined_for_1_s = frame 1 join_source_for_1_s ∷ advance 999 ∷ []
 
--- The Join asks for a copy in its last millisecond; were it a millisecond older, it wouldn't. It asks for no other
--- source, and on no other interface.
+-- The Join is the cause of a copy in its last millisecond; were it a millisecond older, it wouldn't be. It is a cause
+-- for no other source, and on no other interface.
 abbrev pub JoinIsTheCause : Type 0
 JoinIsTheCause =
     (run (after joined_for_1_s) (frame 0 packet ∷ []) ≡ done_with_copies 1 (copy_on_1 ∷ []) ∷ [])
@@ -35,7 +35,7 @@ JoinIsTheCause =
 abbrev pub allowed : List Event
 allowed = frame 2 allow_source ∷ advance 259999 ∷ []
 
--- A report asks for 260 s: an ALLOW for its source, a TO_EX for any.
+-- A report is a cause for 260 s: an ALLOW for its source, a TO_EX for any.
 abbrev pub ReportIsTheCause : Type 0
 ReportIsTheCause =
     (run (after allowed) (frame 0 packet ∷ []) ≡ done_with_copies 1 (copy_on_2 ∷ []) ∷ [])
@@ -45,8 +45,8 @@ ReportIsTheCause =
     × (is_caused (frame 2 to_exclude ∷ []) 259999 2 host ≡ true)
     × (is_caused (frame 2 to_exclude ∷ []) 260000 2 host ≡ false)
 
--- A Join(*,G) asks for any source where it names the RP, a Join with holdtime 65535 for ever; a Prune asks for nothing,
--- nor does a Join to another router.
+-- A Join(*,G) is a cause for any source where it names the RP, a Join with holdtime 65535 for ever; a Prune is none,
+-- and neither is a Join to another router.
 abbrev pub OtherJoinsAsk : Type 0
 OtherJoinsAsk =
     (is_caused (frame 1 join_star ∷ []) 0 1 host ≡ true)
@@ -55,7 +55,7 @@ OtherJoinsAsk =
     × (is_caused (frame 1 prune_star ∷ []) 0 1 host ≡ false)
     × (is_caused (frame 0 hello_of_10_0_0_9 ∷ frame 0 join_star_beside ∷ []) 0 0 host ≡ false)
 
--- What was asked on an interface is forgotten when it goes down, also where it goes up again.
+-- Causes on an interface are gone when it goes down, also where it goes up again.
 abbrev pub DownEndsTheCause : Type 0
 DownEndsTheCause =
     (is_caused (frame 1 join_source ∷ down 1 ∷ up 7 1 ∷ []) 0 1 source ≡ false)

@@ -36,7 +36,7 @@ FullRouterServesWhatItKnows =
     × (rows (state_after (limited_to 4) (joined_and_sent ++ frame 1 join_star ∷ [])) Table.Downstream
     ≡ Row.Downstream (source_key 1 group source) DownstreamState.Join (Some 210000) None ∷ [])
 
--- besides, receivers of 225.1.1.2 on 2
+-- The source is joined on 1 and sends, and 225.1.1.2 has receivers on 2.
 abbrev pub member_too : List Event
 member_too = joined_and_sent ++ frame 2 to_exclude_group_2 ∷ []
 
@@ -56,7 +56,7 @@ RoomComesBack =
     (frame 0 packet_6 ∷ [])
     ≡ done_with [] ∷ [])
 
--- besides, a packet of the source on 1, to which it is forwarded
+-- The source is joined and sends, and a packet of it comes on 1, to which it is forwarded.
 abbrev pub looped : List Event
 looped = joined_and_sent ++ frame 1 packet ∷ []
 
@@ -71,8 +71,8 @@ AssertOfDataPassesTheLimit =
     × (rows (state_after (limited_to 4) (looped ++ frame 1 assert_source_equal ∷ [])) Table.Asserts
     ≡ Row.Assert (source_key 1 group source) AssertRole.Loser (addr (address 10 0 1 2)) 180000 ∷ [])
 
--- From NoInfo an Assert with R set makes the router the winner where it forwards the source (RFC 7761, section 4.6.1). An
--- infinite one has R set and is made without room, so it makes an assert beyond the limit. Another Join is refused.
+-- From NoInfo an Assert with R set makes the router the winner where it forwards the source (RFC 7761, section 4.6.1).
+-- An infinite one has R set and is made without room, so it makes an assert beyond the limit. Another Join is refused.
 abbrev pub InfiniteAssertPassesTheLimit : Type 0
 InfiniteAssertPassesTheLimit =
     (run (state_after (limited_to 4) joined_and_sent)

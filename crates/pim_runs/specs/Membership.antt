@@ -44,7 +44,7 @@ LowerQuerierIsFollowed =
     ≡ Some (non_querier_until 185000 3 60))
     × (group_membership_interval (after (frame 0 query_of_robustness_3 ∷ [])) 0 ≡ 190000)
 
--- With the default values it is non-querier for 255 s. Then it queries, and again every 125 s.
+-- With the default values the router is non-querier for 255 s. Then it queries, and again every 125 s.
 abbrev pub SilentQuerierIsReplaced : Type 0
 SilentQuerierIsReplaced =
     (row_at (after (frame 0 query_of_robustness_2 ∷ [])).queriers (iface_key 0)
@@ -59,8 +59,8 @@ ShortReportIsRefusedWhole =
     (run opened (frame 2 short_report ∷ []) ≡ refused Refusal.Short ∷ [])
     × (rows (after (frame 2 short_report ∷ [])) Table.Groups ≡ [])
 
--- Receivers join the group and then leave it. The router asks twice, a second apart, and gives the group up
--- after 2 s.
+-- Receivers join the group and then leave it. The router queries twice, a second apart, and deletes the group after 2
+-- s.
 abbrev pub LeftGroupIsAskedFor : Type 0
 LeftGroupIsAskedFor =
     (run opened
@@ -73,8 +73,7 @@ LeftGroupIsAskedFor =
     ≡ excluding_until 7000 ∷ [])
     × (rows (after (frame 2 to_exclude ∷ advance 5000 ∷ frame 2 to_include ∷ advance 7000 ∷ [])) Table.Groups ≡ [])
 
--- A receiver that answers in between keeps the group for another 260 s, and the second query tells so by
--- its S flag.
+-- A receiver that answers in between keeps the group for another 260 s, and the second query shows this by its S flag.
 abbrev pub AnswerKeepsTheGroup : Type 0
 AnswerKeepsTheGroup =
     (run (after (frame 2 to_exclude ∷ advance 5000 ∷ frame 2 to_include ∷ []))
@@ -84,7 +83,7 @@ AnswerKeepsTheGroup =
     Table.Groups
     ≡ excluding_until 265500 ∷ [])
 
--- The only source of a group is blocked. The router asks for it twice, and the record goes after 2 s.
+-- The only source of a group is blocked. The router queries it twice, and the record is deleted after 2 s.
 abbrev pub BlockedSourceIsAskedFor : Type 0
 BlockedSourceIsAskedFor =
     (run opened
@@ -114,9 +113,8 @@ records_after s events =
     let last : State = state_after s events in
     rows last Table.Groups ++ rows last Table.Sources
 
--- At 60000 the group is EXCLUDE({10.0.2.3}, {10.0.2.4}), and TO_EX({10.0.2.4, 10.0.2.5}) comes: 10.0.2.3
--- goes, and 10.0.2.5 gets the group timer's end. Where that is later than 2 s ahead, it is lowered to 2 s
--- and asked for twice.
+-- At 60000 the group is EXCLUDE({10.0.2.3}, {10.0.2.4}), and TO_EX({10.0.2.4, 10.0.2.5}) comes: 10.0.2.3 goes, and
+-- 10.0.2.5 gets the group timer's end. Where that is later than 2 s ahead, it is lowered to 2 s and queried twice.
 abbrev pub NewSourceGetsTheGroupTimer : Type 0
 NewSourceGetsTheGroupTimer =
     (map (queries_on 2) (run (excluding_at_60000 100000) (frame 2 to_exclude_two ∷ advance 60999 ∷ advance 61000 ∷ advance 61999 ∷ []))
@@ -124,7 +122,7 @@ NewSourceGetsTheGroupTimer =
     × (records_after (excluding_at_60000 100000) (frame 2 to_exclude_two ∷ [])
     ≡ excluding_until 320000 ∷ excluded (address 10 0 2 4) ∷ source_until 62000 host ∷ [])
 
--- Where it is at most 2 s ahead, it stays, and no query leaves.
+-- Where the group timer expires at most 2 s ahead, a new source's timer isn't lowered, and no query leaves.
 abbrev pub NewSourceThatEndsSoonIsNotAskedFor : Type 0
 NewSourceThatEndsSoonIsNotAskedFor =
     (map (queries_on 2) (run (excluding_at_60000 61500) (frame 2 to_exclude_two ∷ advance 61499 ∷ []))
@@ -136,8 +134,8 @@ abbrev pub group_and_source_ending_together : List Event
 group_and_source_ending_together =
     frame 2 to_exclude ∷ advance 1000 ∷ frame 2 allow_source ∷ frame 2 is_exclude_source ∷ []
 
--- A source's timer and its group's end at one moment: the group fires first and finds no source running, so
--- the record goes. The shared tree is pruned, and nothing is said of the source.
+-- A source timer and its group timer expire at the same timestamp: the group's is first and finds no source timer
+-- running, so the record is deleted. The shared tree is pruned, and no message of the source is sent.
 abbrev pub GroupEndsBeforeItsSource : Type 0
 GroupEndsBeforeItsSource =
     (records_after opened group_and_source_ending_together

@@ -10,8 +10,8 @@ use Rattle.pim_runs.specs.Base.{base, interface, opened, opened_with}
 use Rattle.pim_runs.specs.Packets.{hello_for_105_s, hello_on_0, hello_on_1, hello_on_2}
 use Rattle.pim_runs.specs.Words.{address, advance, done_with, frame}
 
--- After the opening the next timer ends at 1. A Hello leaves on 0 and on 1 then, since a new neighbour
--- triggers it, and on 2 at 8.
+-- After the opening the next timer expires at 1. Then a Hello leaves on 0 and on 1, since a new neighbour triggers it,
+-- and on 2 at 8.
 abbrev pub HellosFollowTheOpening : Type 0
 HellosFollowTheOpening =
     (option_map (λ (e : Ending). e.end) (next_ending opened) ≡ Some 1)

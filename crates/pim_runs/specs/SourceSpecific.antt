@@ -1,4 +1,4 @@
--- Worked runs of source-specific multicast: of 232.1.1.1, and of the groups beside 232.0.0.0/8.
+-- Worked runs of source-specific multicast: of 232.1.1.1, and of the groups next to 232.0.0.0/8.
 use Rattle.std.specs.List.{range_with_len}
 use Rattle.std.specs.Prelude.{Bool, Err, None, Ok, Some, false, map, true, ℕ, [], ◌≡◌, ◌∷◌}
 use Rattle.pim_ip.specs.declared.refusal.Refusal.{Refusal}
@@ -48,7 +48,7 @@ GroupsBesideHaveAnRp =
     (run opened (frame 2 to_exclude_below ∷ []) ≡ done_with (hello_on_0 ∷ join_star_below_up ∷ []) ∷ [])
     × (run opened (frame 2 to_exclude_above ∷ []) ≡ done_with (hello_on_0 ∷ join_star_above_up ∷ []) ∷ [])
 
--- the base with so many interfaces
+-- The base with n interfaces.
 abbrev pub with_interfaces : ℕ → Config
 with_interfaces count = record base { interfaces = map (λ k. interface (address 10 1 k 1)) (range_with_len 0 count) }
 

@@ -17,8 +17,8 @@ alone_at bits = record base { interfaces = interface bits ∷ []; routes = []; r
 abbrev pub two_routers : Network
 two_routers = network ((alone_at (address 10 0 0 1), 0 ∷ []) ∷ (alone_at (address 10 0 0 2), 0 ∷ []) ∷ [])
 
--- Both come up, and each query is delivered to the other. At 1 each sends a Hello, which is delivered to
--- the other.
+-- The two routers come up, and each query is delivered to the other router. At 1 each sends a Hello, which is delivered
+-- to the other.
 abbrev pub meeting : List Move
 meeting =
     At 0 (up 0 0) ∷ At 1 (up 0 0) ∷ Deliver 1 0 1 0 ∷ Deliver 0 0 2 0

@@ -13,12 +13,12 @@ pub fn report_is_the_cause()
     ensures { ReportIsTheCause }
 {}
 
-/// An accepted Join(*,G) asks for every source, a Prune for none.
+/// An accepted Join(*,G) is a cause for every source, a Prune for none.
 pub fn other_joins_ask()
     ensures { OtherJoinsAsk }
 {}
 
-/// Nothing is asked for any more on an interface that went down.
+/// Nothing has a cause any more on an interface that went down.
 pub fn down_ends_the_cause()
     ensures { DownEndsTheCause }
 {}

@@ -1,5 +1,5 @@
-//! Worked runs of the written machine, which the kernel checks by computing with the definitions. Each is the contract
-//! of a function with nothing to do.
+//! Worked runs of the specification, which the kernel checks by computing with the definitions. Each is the contract of
+//! a function with nothing to do.
 #![tactic(auto)]
 
 pub mod asserts;

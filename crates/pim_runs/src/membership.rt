@@ -23,7 +23,7 @@ pub fn short_report_is_refused_whole()
     ensures { ShortReportIsRefusedWhole }
 {}
 
-/// A group that is left is asked for, and goes when nobody answers.
+/// A group that is left is queried, and deleted when nobody answers.
 pub fn left_group_is_asked_for()
     ensures { LeftGroupIsAskedFor }
 {}
@@ -33,17 +33,17 @@ pub fn answer_keeps_the_group()
     ensures { AnswerKeepsTheGroup }
 {}
 
-/// A source that is blocked is asked for, and goes when nobody answers.
+/// A source that is blocked is queried, and deleted when nobody answers.
 pub fn blocked_source_is_asked_for()
     ensures { BlockedSourceIsAskedFor }
 {}
 
-/// A source that is new in EXCLUDE mode gets the end of the group timer, and is asked for.
+/// A source that is new in EXCLUDE mode gets the timestamp of the group timer, and is queried.
 pub fn new_source_gets_the_group_timer()
     ensures { NewSourceGetsTheGroupTimer }
 {}
 
-/// A source that ends soon enough is not asked for.
+/// A source whose timer expires soon enough isn't queried.
 pub fn new_source_that_ends_soon_is_not_asked_for()
     ensures { NewSourceThatEndsSoonIsNotAskedFor }
 {}

@@ -35,7 +35,7 @@ use Rattle.pim_laws.proofs.RowLaws.{has_row_map, has_row_put, has_row_replaced, 
 use Rattle.pim_laws.proofs.TurnLaws.{kept_in_turn}
 use Rattle.pim_ready.proofs.SeenLaws.{kept_by_seen}
 
--- the same timers run
+-- the same Join timers run in both states
 abbrev pub SameTimers : State → State → Type 0
 SameTimers s t = (k : Key) → has_row t.join_timers k ≡ has_row s.join_timers k
 

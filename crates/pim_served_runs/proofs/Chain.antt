@@ -134,7 +134,7 @@ third_registers = record {
   room = refl;
 }
 
--- it needs a TTL of one more than the routers that pass it on
+-- the packet in the Register needs a TTL of one more than the routers that forward it
 is_register : IsRegister asked_group sender root register content (1 + length (first_place ∷ second_place ∷ []))
 unfolding machine_on_literals
 is_register = record {

@@ -14,7 +14,7 @@ use std::alloc::{AllocError, Global};
 use std::marker::Model;
 use std::mem;
 
-// How the values are held. A single one needs nothing beside it; most groups have one.
+// How the values are held. Most groups have a single value, which needs no trie.
 #[derive(Drop)]
 pub(crate) enum Kept<V> {
     Empty,
@@ -132,7 +132,7 @@ fn single<V>(source: Option<Addr>, value: Box<V>) -> Kept<V>
     }
 }
 
-// The value of (*,G), which alone there is, where it is asked for.
+// The value of (*,G), which is the only one, if it is looked for.
 #[tactic(auto, unfolding(crate::specs::Rows::row_cmp))]
 fn star_in<'a, V>(value: &'a Box<V>, source: Option<Addr>) -> Option<&'a V>
     ensures { option_copied result ≡ row_in (source_address_bits source) ((None, box_value value.now) ∷ []) }
@@ -143,7 +143,8 @@ fn star_in<'a, V>(value: &'a Box<V>, source: Option<Addr>) -> Option<&'a V>
     }
 }
 
-// The value of a source, which alone there is, where it is asked for. The meter rises as it does in a trie of it.
+// The value of a source, which is the only one, if it is looked for. The meter rises as it does in a trie of that
+// source.
 #[tactic(auto, unfolding(crate::specs::Rows::row_cmp), using(crate::proofs::Visited::raised_by_none))]
 fn source_in<'a, V>(
     own: Addr,
@@ -191,7 +192,7 @@ fn with_row<V: Drop>(
     }
 }
 
-// The same beside the value of (*,G), or over it.
+// Adds a value to a group that has only the value of (*,G), or replaces that value.
 #[tactic(auto, unfolding(crate::specs::Rows::row_cmp))]
 fn with_star<V: Drop>(
     alloc: Global,
@@ -230,7 +231,7 @@ fn is_source(source: Option<Addr>, own: Addr) -> bool
     }
 }
 
-// The same beside the value of a source, or over it.
+// Adds a value to a group that has only the value of one source, or replaces that value.
 #[tactic(auto, unfolding(crate::specs::Rows::row_cmp))]
 fn with_source<V: Drop>(
     alloc: Global,
@@ -306,7 +307,7 @@ fn altered<V: Drop, A: Alter<V>>(
     }
 }
 
-// The same of the value of (*,G), which alone there is.
+// Alters the value in a group that has only the value of (*,G).
 #[tactic(auto, unfolding(crate::specs::Rows::row_cmp))]
 fn altered_star<V: Drop, A: Alter<V>>(
     value: Box<V>,
@@ -326,7 +327,7 @@ fn altered_star<V: Drop, A: Alter<V>>(
     }
 }
 
-// The same of the value of a source, which alone there is. The meter rises as it does in a trie of it.
+// Alters the value in a group that has only one source. The meter rises as it does in a trie of that source.
 #[tactic(auto, unfolding(crate::specs::Rows::row_cmp), using(crate::proofs::Visited::raised_by_none))]
 fn altered_source<V: Drop, A: Alter<V>>(
     own: Addr,

@@ -22,7 +22,7 @@ module _ (marks : Table Marks) (f : PimTables) (is : IsIndexed marks f) (k q : K
       subst (λ (k : Key). Visits f k.group k.source old new) named
       (raised_alike _ _ _ _ l.visited (marks_visited marks f l.entries is k.group k.source))
 
-  -- under a key that is named in another way where the row is asked for
+  -- under a key that is named in another way where the row is looked up
   pub looked_up_new : {R T E : Type 0} (r : Result T E) (t : Table R) (m : Key) → k ≡ m
       → OnOk r (row_at t k ≡ None → AreLookedUp marks k old new)
       → OnOk r (row_at t m ≡ None → Visits f q.group q.source old new)

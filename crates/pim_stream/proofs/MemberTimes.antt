@@ -86,7 +86,7 @@ module _ (g src i m : ℕ) where
   is_after None = false
   is_after (Some x) = nat_lt m x
 
-  -- S is excluded, or its timer ends by the moment
+  -- S is excluded, or its timer ends by the timestamp
   abbrev pub ended : Option SourceRecordRow → Bool
   ended None = false
   ended (Some r) = not (is_after r.end)

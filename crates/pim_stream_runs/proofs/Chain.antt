@@ -135,7 +135,7 @@ third_goes_on = refl
 
 -- ---- all together
 
--- it needs a TTL of one more than the routers that pass it on
+-- the packet in the Register needs a TTL of one more than the routers that forward it
 is_register : IsRegister asked_group sender root register content (1 + length way)
 unfolding machine_on_literals
 is_register = record {

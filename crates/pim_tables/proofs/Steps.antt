@@ -219,7 +219,7 @@ module _ {R : Type 0} (kinds : Kinds) (ends : R → Option ℕ × Option ℕ) wh
   gone_beside queue rows after k step row =
       still_beside queue rows after k None step row (no_row_armed (holds queue) k)
 
-  -- those of an interface went
+  -- the rows of an interface went
   pub fewer_armed : (rows after : Table R) (i : ℕ) (h : Due → Bool) → after ≡ drop_where (is_on i) rows
       → AreArmed (ends_in kinds ends rows) h → AreArmed (ends_in kinds ends after) h
   fewer_armed rows after i h same armed t m is =

@@ -36,7 +36,7 @@ module _ (f : Timer → Option ℕ) (h : Due → Bool) where
   pub none_real : ((d : Due) → h d ≡ false) → IsReal f h
   none_real empty due first = absurd (true≢false (sym first.0 ∙ empty due))
 
-  -- the first is the end of its timer
+  -- the first is the expiry of its timer
   pub real_one : (d : Due) → IsFirst h (Some d) → f d.1 ≡ Some d.0 → IsReal f h
   real_one d first end due one = subst (λ (q : Due). f q.1 ≡ Some q.0) (first_is_one h d due first one) end
 

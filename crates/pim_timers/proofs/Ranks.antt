@@ -47,7 +47,7 @@ pub timer_order : (a b : Timer) → (timer_ord.ghosts).cmp a b ≡ timer_cmp a b
 unfolding timer_cmp key_cmp addr_cmp
 timer_order a b = ap (λ o. ordering_then o (key_cmp a.key b.key)) (kind_order a.kind b.kind)
 
--- and that of moments with their timers is `due_cmp`
+-- the order of timestamps with their timers is `due_cmp`
 pub due_order : (a b : ℕ × Timer) → ordering_then (nat_cmp a.0 b.0) ((timer_ord.ghosts).cmp a.1 b.1) ≡ due_cmp a b
 unfolding due_cmp
 due_order a b = ap (ordering_then (nat_cmp a.0 b.0)) (timer_order a.1 b.1)

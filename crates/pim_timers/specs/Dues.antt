@@ -1,4 +1,4 @@
--- Dues: moments, each with a timer that ends then. A collection of them is seen as a test.
+-- Dues: timestamps, each with a timer that expires then. A collection of them is seen as a test.
 use Rattle.std.specs.Prelude.{◌≡◌, ℕ, Bool, true, false, List, Option, Some, None}
 use Rattle.std.specs.List.{list_any}
 use Rattle.std.specs.Ordering.{is_eq, is_lt}
@@ -22,7 +22,7 @@ abbrev pub IsFirst : (Due → Bool) → Option Due → Type 0
 IsFirst holds None = (d : Due) → holds d ≡ false
 IsFirst holds (Some due) = (holds due ≡ true) × ((d : Due) → holds d ≡ true → is_lt (due_cmp d due) ≡ false)
 
--- the dues that are held are the ends of the timers, by what tells when each ends
+-- The dues that are held are the timestamps of the timers that run.
 abbrev pub AreTogether : (Timer → Option ℕ) → (Due → Bool) → Type 0
 AreTogether end_of holds =
     (moment : ℕ) (timer : Timer) → holds (moment, timer) ≡ ends_at (end_of timer) moment

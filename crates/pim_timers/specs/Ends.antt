@@ -1,4 +1,4 @@
--- Which timers are one, and when a timer ends.
+-- Which timers are the same, and when a timer expires.
 use Rattle.std.specs.Prelude.{ℕ, Bool, false, ◌==◌, Option, Some, None}
 use Rattle.std.specs.Ordering.{eq_by_cmp}
 use Rattle.pim_types.specs.declared.timer.Timer.{Timer}
@@ -8,7 +8,7 @@ use Rattle.pim_types.specs.Timers.{timer_cmp}
 unfoldable pub same_timer : Timer → Timer → Bool
 same_timer t u = eq_by_cmp timer_cmp t u
 
--- there is an end, and it is the moment
+-- The timer runs, and expires at the timestamp.
 unfoldable pub ends_at : Option ℕ → ℕ → Bool
 ends_at None moment = false
 ends_at (Some end) moment = moment == end

@@ -5,6 +5,6 @@ use Rattle.std.specs.Ordering.{ordering_then, nat_cmp}
 use Rattle.pim_types.specs.declared.timer.Timer.{Timer}
 use Rattle.pim_types.specs.Timers.{timer_cmp}
 
--- what comes first: the earlier moment, and at one moment the lesser timer
+-- The order of dues: by timestamp, then by timer.
 unfoldable pub due_cmp : ℕ × Timer → ℕ × Timer → Ordering
 due_cmp a b = ordering_then (nat_cmp a.0 b.0) (timer_cmp a.1 b.1)

@@ -5,7 +5,7 @@ use Rattle.std.specs.FinMap as map
 use Rattle.pim_types.specs.contracts.timer.Timer as timer
 use Rattle.pim_types.specs.Timers.{timer_cmp}
 
--- when each timer that is set ends, in milliseconds
+-- When each timer that is set expires, in ms.
 abbrev pub Contents : Type 0
 Contents = map.FinMap timer_cmp ℕ
 

@@ -7,7 +7,7 @@ use std::alloc::{AllocError, Global};
 use std::collections::BTreeSet;
 use std::marker::Model;
 
-/// Moments (ms), each with a timer that ends then, in one ordered set.
+/// Timestamps (ms), each with a timer that expires then, in one ordered set.
 #[derive(Drop)]
 pub struct Dues {
     set: BTreeSet<(u64, Timer)>,
@@ -23,7 +23,7 @@ impl Model for Dues {
 }
 
 impl Dues {
-    /// None; it takes no memory.
+    /// A list without entries. Takes no memory.
     pub fn new(alloc: Global) -> Self
         ensures { result ≡ [] }
     {
@@ -48,7 +48,7 @@ impl Dues {
         self.set.remove(&due);
     }
 
-    /// The first of them: the least by its moment, and of one moment by the kind and the key of its timer.
+    /// The first entry: the least by timestamp, then by the kind and the key of its timer.
     pub fn first(&self) -> Option<(u64, Timer)>
         ensures { IsFirst (is_among self.now) result }
     {

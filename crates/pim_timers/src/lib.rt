@@ -1,6 +1,6 @@
-//! Timers: when each of them ends, and which of them is next. Timers of one moment end in the order
-//! of their kinds, and those of one kind in the order of their keys. A queue holds moments with their
-//! timers alone, for those who know when their timers end (`Schedule`); `Timers` knows it by itself.
+//! Timers: when each of them expires, and which of them is next. Timers with the same timestamp expire in the order of
+//! their kinds, and those of one kind in the order of their keys. A queue holds only timestamps with their timers, for
+//! callers that know when their timers expire (`Schedule`); `Timers` knows this by itself.
 #![tactic(auto)]
 
 mod dues;

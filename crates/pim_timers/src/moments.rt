@@ -1,4 +1,4 @@
-//! A map of timers to their moments.
+//! A map from timers to their timestamps.
 ghost use Rattle.std.specs.Prelude.{◌≡◌, None, IfOk, OnOk, OnErr, cond, is_some, true};
 ghost use Rattle.std.specs.FinMap as map;
 ghost use Rattle.pim_timers.specs.Ends.{same_timer};
@@ -11,7 +11,7 @@ use std::alloc::{AllocError, Global};
 use std::collections::BTreeMap;
 use std::marker::Model;
 
-/// When each timer ends, in milliseconds.
+/// When each timer expires, in ms.
 #[derive(Drop)]
 pub struct Moments {
     moments: BTreeMap<Timer, u64>,
@@ -45,15 +45,15 @@ impl Moments {
         self.moments.len()
     }
 
-    /// When the timer ends.
+    /// When the timer expires.
     pub fn get(&self, timer: Timer) -> Option<u64>
         ensures { result ≡ map.get self.now timer }
     {
         self.moments.get(&timer).copied()
     }
 
-    /// Keeps the moment of the timer, and gives the one that it had. Only a further timer wants
-    /// memory; where it is refused, all is as it was.
+    /// Sets the timestamp of the timer, and returns the one that it had. Memory is needed only for a new timer. The
+    /// error is want of memory, and then nothing has changed.
     pub fn insert(&mut self, timer: Timer, moment: u64) -> Result<Option<u64>, AllocError>
         ensures before { IfOk result (λ before. before ≡ map.get self.old timer) }
         ensures ok { OnOk result (self.new ≡ map.insert self.old timer moment) }
@@ -63,7 +63,7 @@ impl Moments {
         Ok(self.moments.insert(timer, moment)?)
     }
 
-    /// Puts the moment back that a timer had before the one that it has.
+    /// Restores the timestamp that a timer had before.
     pub fn put_back(&mut self, timer: Timer, before: Option<u64>)
         requires { is_some (map.get self.old timer) ≡ true }
         ensures { (q : TimerValue) → map.get self.new q ≡ cond (same_timer q timer) before (map.get self.old q) }
@@ -78,7 +78,7 @@ impl Moments {
         }
     }
 
-    /// Forgets the timer, and gives the moment that it had.
+    /// Removes the timer, and returns the timestamp that it had.
     pub fn remove(&mut self, timer: Timer) -> Option<u64>
         ensures before { result ≡ map.get self.old timer }
         ensures contents { self.new ≡ map.remove self.old timer }
@@ -101,7 +101,7 @@ impl Schedule for Moments {
     }
 
     fn arm_all(&self, queue: &mut Queue) {
-        // It tells that each timer stands once.
+        // For the proof: each timer is listed once.
         let _ = self.moments.len();
         for (timer, moment) in self.moments.iter() {
             queue.push_in_room((*moment, *timer));

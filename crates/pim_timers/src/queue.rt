@@ -1,4 +1,4 @@
-//! A queue of ends, which an end that moves later leaves as it is.
+//! A queue of timestamps of timers, in which an entry isn't moved when its timer is set to expire later.
 ghost use Rattle.std.specs.Prelude.{◌≡◌, ◌+◌, ◌<◌, ◌≤◌, ◌&&◌, ◌||◌, ℕ, Bool, false, true, [], length, Option, Some, None, OnErr, OnOk};
 ghost use Rattle.std.specs.List.{count_by};
 ghost use Rattle.pim_timers.specs.Armed.{AreArmed, Grows, IsArmed, IsReal, IsSettled, holds};
@@ -12,12 +12,13 @@ use std::cmp::Reverse;
 use std::collections::BinaryHeap;
 use std::marker::Model;
 
-/// So many entries may be left over however few timers end.
+/// How many outdated entries the queue may have at least, however few timers run.
 const SPARE: usize = 32;
 
-/// Moments (ms), each with a timer that ends then, or later, or not at all any more. The first is the least by its moment,
-/// and of one moment by the kind and the key of its timer. An end that moves later stays where it is; it is put right once it
-/// comes first. So the first is an end, wherever the queue is settled, while others may be none.
+/// Timestamps (ms), each with a timer that expires then, or later, or doesn't run any more. The first entry is the
+/// least by timestamp, then by the kind and the key of its timer. An entry whose timer is set to expire later is left
+/// where it is, and is put right once it comes first. In a settled queue the first entry is up to date, while others
+/// may be outdated.
 #[derive(Drop)]
 pub struct Queue {
     heap: BinaryHeap<Reverse<(u64, Timer)>>,
@@ -36,7 +37,7 @@ impl Model for Queue {
     ghost invariant = { λ a. IsHeap entry_cmp (heap_items a.heap) };
 }
 
-// Whether there is an end (ms), and it is no later than another.
+// Whether there is a timestamp (ms), and it is no later than another.
 fn is_within(end: Option<u64>, other: u64) -> bool
     ensures { result ≡ true → (e : ℕ) × (end ≡ Some e) × (e ≤ other) }
 {
@@ -66,8 +67,8 @@ impl Queue {
         }
     }
 
-    // Makes room for an entry more, where there is none. There is a quarter more each time, not as much again: entries are
-    // most of what an end takes. An error is want of memory.
+    // Makes room for one more entry, where there is none. The memory grows by a quarter and isn't doubled, since
+    // entries are most of what a timer needs. The error is want of memory.
     fn make_room(&mut self) -> Result<(), AllocError>
         ensures { self.new.dues ≡ self.old.dues }
     {
@@ -88,7 +89,7 @@ impl Queue {
         Ok(())
     }
 
-    /// Puts an end (ms) in where there is room.
+    /// Adds an entry (ms) where there is room.
     pub fn push_in_room(&mut self, due: (u64, Timer))
         requires { 0 < self.old.room }
         ensures held { (d : Due) → holds self.new d ≡ (same_due d due || holds self.old d) }
@@ -100,8 +101,8 @@ impl Queue {
         let _ = self.heap.push(Reverse(due));
     }
 
-    /// Moves the end of a timer (ms) from the one that is known to another. Where the timer ends no earlier than it did
-    /// nothing is written. An error is want of memory, and changes nothing.
+    /// Sets when a timer expires (ms), where it was known to expire before. If it expires no earlier than before,
+    /// nothing is written. The error is want of memory, and changes nothing.
     pub fn arm(
         &mut self,
         timer: Timer,
@@ -132,7 +133,8 @@ impl Queue {
         let _ = self.heap.pop();
     }
 
-    // Takes the first out. Where its timer ends later that end is put in, unless the same entry stands there again.
+    // Takes the first entry out. If its timer expires later, an entry for that is added, unless the first entry is then
+    // the same.
     fn move_first(&mut self, first: (u64, Timer), to: Option<u64>)
         requires { IsFirst (holds self.old) (Some first) }
         ensures others { (d : Due) → same_due d first ≡ false → holds self.old d ≡ true → holds self.new d ≡ true }
@@ -150,7 +152,7 @@ impl Queue {
         }
     }
 
-    // Puts the first right: those that aren't ends go, or move to where their timers end.
+    // Makes the first entry up to date: outdated ones are removed, or moved to when their timers expire.
     fn put_right<S: Schedule>(&mut self, schedule: &S)
         requires { AreArmed (S.end_of schedule.now) (holds self.old) }
         ensures armed { AreArmed (S.end_of schedule.now) (holds self.new) }
@@ -166,7 +168,7 @@ impl Queue {
         }
     }
 
-    // Takes all out. The room stays.
+    // Takes all entries out, and keeps the memory.
     fn clear(&mut self)
         ensures empty { self.new.dues ≡ [] }
         ensures room { length self.old.dues + self.old.room ≤ self.new.room }
@@ -174,7 +176,7 @@ impl Queue {
         self.heap.clear();
     }
 
-    // Puts the ends in anew, and nothing else.
+    // Fills the queue with the entries of the timers that run, and no others.
     fn rebuild<S: Schedule>(&mut self, schedule: &S)
         requires { S.most schedule.now ≤ length self.old.dues }
         ensures armed { AreArmed (S.end_of schedule.now) (holds self.new) }
@@ -184,8 +186,8 @@ impl Queue {
         schedule.arm_all(self);
     }
 
-    /// Makes the first an end, after ends were moved and those that moved were armed; that it is one already may be known. Where
-    /// there are far more entries than ends, they are put in anew, which takes no memory.
+    /// Makes the first entry up to date, after timers were set and armed; `is_right` says that it is known to be. If
+    /// there are far more entries than timers, the queue is filled anew, which takes no memory.
     pub fn settle<S: Schedule>(&mut self, schedule: &S, is_right: bool)
         requires armed { AreArmed (S.end_of schedule.now) (holds self.old) }
         requires right { is_right ≡ true → IsReal (S.end_of schedule.now) (holds self.old) }

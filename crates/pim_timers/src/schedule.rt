@@ -1,4 +1,4 @@
-//! What tells when timers end.
+//! What a queue reads: when timers expire.
 ghost use Rattle.std.specs.Prelude.{◌≡◌, ℕ, ◌+◌, ◌-◌, ◌≤◌, Option, length};
 ghost use Rattle.pim_types.specs.declared.timer.Timer.{Timer as TimerValue};
 ghost use Rattle.pim_timers.specs.Armed.{AreArmed, holds};
@@ -6,23 +6,23 @@ ghost use Rattle.pim_timers.specs.Armed.{AreArmed, holds};
 use crate::queue::Queue;
 use pim_types::Timer;
 
-/// Those who know when each timer ends (ms), beside a queue of the ends.
+/// What knows when each timer expires (ms), for a queue of these timestamps.
 pub trait Schedule {
-    /// When each timer ends, if it does.
+    /// When each timer expires, if it runs.
     ghost end_of: { Self → TimerValue → Option ℕ };
 
-    /// At most so many timers end.
+    /// The most timers that run.
     ghost most: { Self → ℕ };
 
-    /// When the timer ends, in ms, if it does.
+    /// When the timer expires, in ms, if it runs.
     fn end_of(&self, timer: Timer) -> Option<u64>
         ensures { result ≡ end_of self.now timer };
 
-    /// How many of so many entries are more than the timers that may end.
+    /// By how much the number of entries is greater than that of the timers that may run.
     fn excess(&self, entries: usize) -> usize
         ensures { result ≡ entries - most self.now };
 
-    /// Puts all ends into a queue that has room for them.
+    /// Puts all timers that run into a queue that has room for them.
     fn arm_all(&self, queue: &mut Queue)
         requires { most self.now ≤ queue.old.room }
         ensures armed { AreArmed (end_of self.now) (holds queue.new) }

@@ -9,7 +9,7 @@ use pim_types::Timer;
 use std::alloc::{AllocError, Global};
 use std::marker::Model;
 
-/// Timers by their moments, and what they end at in one ordered set.
+/// Timers with their timestamps, and these timestamps in one ordered set.
 #[derive(Drop)]
 pub struct SortedTimers {
     dues: Dues,

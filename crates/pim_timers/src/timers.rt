@@ -7,10 +7,10 @@ ghost use Rattle.pim_timers.specs.Schedule.{Contents};
 use pim_types::Timer;
 use std::alloc::AllocError;
 
-/// When timers end. A timer is set once at most: to set it again is to move it. Moments are in
-/// milliseconds, and any moment may be set.
+/// When timers expire. A timer has one timestamp: to set it again is to move it. Timestamps are in ms, and any may be
+/// set.
 pub trait Timers {
-    /// The timers that are set, each with the moment of its end.
+    /// The timers that are set, each with its timestamp.
     ghost contents: { Self → Contents };
 
     /// How many timers are set.
@@ -21,12 +21,12 @@ pub trait Timers {
     fn is_empty(&self) -> bool
         ensures { result ≡ (map.len (contents self.now) == 0) };
 
-    /// When the timer ends, if it is set.
+    /// When the timer expires, if it is set.
     fn get(&self, timer: Timer) -> Option<u64>
         ensures { result ≡ map.get (contents self.now) timer };
 
-    /// Sets the timer to end at the moment, or moves it there. An error is want of memory, and then
-    /// the timers are as they were.
+    /// Sets the timer to expire at the timestamp, or moves it there. The error is want of memory, and then the timers
+    /// are unchanged.
     fn set(&mut self, timer: Timer, moment: u64) -> Result<(), AllocError>
         ensures ok { OnOk result (contents self.new ≡ map.insert (contents self.old) timer moment) }
         ensures err { OnErr result (contents self.new ≡ contents self.old) };
@@ -35,17 +35,17 @@ pub trait Timers {
     fn cancel(&mut self, timer: Timer)
         ensures { contents self.new ≡ map.remove (contents self.old) timer };
 
-    /// The timer that ends first, with its moment: the least by its moment, its kind and its key.
+    /// The timer that expires first, with its timestamp: the least by timestamp, then by kind, then by key.
     fn next(&self) -> Option<(u64, Timer)>
         ensures { IsNext (map.get (contents self.now)) result };
 
-    /// Takes the timer that ends first out, where it ends by the moment.
+    /// Removes and returns the timer that expires first, if it is due by the timestamp.
     fn pop_due(&mut self, moment: u64) -> Option<(u64, Timer)>
         ensures least { IfSome result (λ due. IsLeast (map.get (contents self.old)) due) }
         ensures due { IfSome result (λ due. due.0 ≤ moment) }
         ensures taken { IfSome result (λ due. contents self.new ≡ map.remove (contents self.old) due.1) }
 
-        // With nothing to take, each timer that is set ends later.
+        // If nothing is taken, each timer that is set expires later.
         ensures later { IfNone result (EndAfter (map.get (contents self.old)) moment) }
         ensures kept { IfNone result (contents self.new ≡ contents self.old) };
 }

@@ -12,7 +12,8 @@ use pim_types::Timer;
 use std::alloc::{AllocError, Global};
 use std::marker::Model;
 
-/// Timers by their moments, and a queue of what they end at, in which one that moves later isn't touched until it comes first.
+/// Timers with their timestamps, and a queue of these, in which an entry whose timer is set to expire later isn't
+/// touched until it comes first.
 #[derive(Drop)]
 pub struct Wheel {
     queue: Queue,
@@ -55,7 +56,7 @@ fn is_of(first: Option<(u64, Timer)>, timer: Timer) -> bool
     }
 }
 
-// Settles the queue after the end of one timer changed.
+// Settles the queue after one timer changed.
 fn settle(queue: &mut Queue, moments: &Moments, timer: Timer)
     requires armed { AreArmed (map.get moments.now) (holds queue.old) }
     requires others { (due : Due) → IsFirst (holds queue.old) (Some due) → same_timer due.1 timer ≡ false

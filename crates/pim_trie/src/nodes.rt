@@ -163,8 +163,8 @@ fn has_room<V>(nodes: &Slab<Node<V>>) -> bool
     capacity - nodes.len() >= 2 && capacity <= MOST_NODES
 }
 
-// Makes room for the two nodes that a new value may want. There is a quarter more each time, not as much again: nodes are most
-// of what a trie takes.
+// Makes room for the two nodes that a new value may want. There is a quarter more each time, not as much again: nodes
+// are most of what a trie takes.
 pub(crate) fn make_room<V>(
     nodes: &mut Slab<Node<V>>,
     root: Option<usize>,
@@ -209,8 +209,8 @@ fn shared(p: Prefix, q: Prefix, depth: u32) -> u32
     shared
 }
 
-// Puts the value at the prefix above a node, which is in it or shares its first bits: then a node
-// for these links both. Says which node is above now.
+// Puts the value at the prefix above a node, which is within the prefix or shares its first bits: in the second case a
+// new node links both. The result is the upper node.
 fn put_above<V>(
     nodes: &mut Slab<Node<V>>,
     key: usize,
@@ -242,8 +242,7 @@ fn put_above<V>(
     nodes.insert_reserved(fork)
 }
 
-// Puts the value at the prefix, and says which node stands behind the link then, and the value
-// that was there before.
+// Puts the value at the prefix. The result is the node behind the link afterwards, and the value that was there before.
 pub(crate) fn insert<V>(
     nodes: &mut Slab<Node<V>>,
     link: Option<usize>,
@@ -280,8 +279,7 @@ pub(crate) fn insert<V>(
     (key, replaced)
 }
 
-// Takes the value at the prefix away, and says which node stands behind the link then, and the
-// value.
+// Removes the value at the prefix. The result is the node behind the link afterwards, and the removed value.
 pub(crate) fn remove<V: Drop>(
     nodes: &mut Slab<Node<V>>,
     link: Option<usize>,

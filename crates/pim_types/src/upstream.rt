@@ -37,9 +37,10 @@ pub struct SourceView {
     pub next_hop: Option<Hop>,
     /// RPF'(S,G).
     pub upstream: Option<Hop>,
-    /// RPF'(*,G) and RPF'(S,G,rpt).
+    /// RPF'(*,G).
     pub star_upstream: Option<Hop>,
+    /// RPF'(S,G,rpt).
     pub tree_upstream: Option<Hop>,
-    /// Of (S,G,rpt).
+    /// The upstream state of (S,G,rpt).
     pub tree: TreeState,
 }

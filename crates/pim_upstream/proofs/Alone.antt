@@ -1,4 +1,4 @@
--- What is told upstream where one source alone was opened.
+-- What is sent upstream where one source alone was opened.
 use Rattle.std.proofs.Common.{◌≡◌, ℕ, List, [], ◌∷◌, ◌++◌, ap, append-nil, map, refl}
 use Rattle.pim_types.specs.Keys.{star_key}
 use Rattle.pim_types.specs.declared.upstream.StarView.{StarView}

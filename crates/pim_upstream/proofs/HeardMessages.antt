@@ -29,7 +29,7 @@ use Rattle.pim_upstream.specs.Timers.{after_move, after_moves}
 use Rattle.pim_upstream.specs.declared.timer.TimerMove.{TimerMove}
 use Rattle.pim_upstream.proofs.EntryChanges.{all_entries, passing_entries}
 
--- an override timer that ends at this moment at the latest
+-- an override timer that ends at this timestamp at the latest
 abbrev overriding : ℕ → OverrideTimerRow
 overriding end = record { end = end }
 

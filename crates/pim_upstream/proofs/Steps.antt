@@ -34,7 +34,7 @@ module _ {S A M : Type 0} (step : S → A → S × List M) where
       ap (λ (later : S × List M). let both : S × List M = (later.0, (step s (value x)).1 ++ later.1) in both)
       (of_values value xs (step s (value x)).0)
 
--- the same step
+-- two steps that do the same are the same, one after the other
 pub same_steps : {S A M : Type 0} (step other : S → A → S × List M) → ((s : S) (x : A) → step s x ≡ other s x)
     → (xs : List A) (s : S) → each_in_turn step s xs ≡ each_in_turn other s xs
 unfolding each_in_turn

@@ -1,4 +1,5 @@
--- What is looked up in loops where a step may be left out: of sources while there is room, and of keys that are named again.
+-- What is looked up in loops where a step may be left out: of sources while there is room, and of keys that are named
+-- again.
 use Rattle.std.proofs.Common.{◌≡◌, ◌≤◌, ◌<◌, ◌+◌, ◌++◌, ◌∙◌, ◌∷◌, Bool, List, [], None, Option, Some, ap, append_assoc, drop, false, get_or, length, not, refl, subst, suc, sym, take, true, zero, ℕ}
 use Rattle.std.specs.List.{flat_map, sum_by}
 use Rattle.std.specs.Bool.{beq}
@@ -106,7 +107,7 @@ module _ (s : State) (hop : Hop) (end : ℕ) (group : Addr) where
       ∙ append_assoc before (heard_of_timer s hop end group k) (heard_of_timers s hop end group rest)
       ∙ ap (λ es. before ++ heard_of_timers s hop end group es) (sym is)
 
--- a key is of a group, or of a source, as is asked for
+-- a key is of a group, or of a source, as is looked up
 pub is_asked : (source : Option Addr) (none star b : Bool) → is_some source ≡ not none → beq none star ≡ b
     → same_bool star (is_none source) ≡ b
 is_asked None true true b e f = f

@@ -29,7 +29,8 @@ abbrev pub timers_of : State → ℕ → Table JoinTimerRow
 timers_of o g = filter (λ e. is_of_group g e.0) o.join_timers
 
 module _ (o : State) (hop : Hop) (end : ℕ) where
-  -- a Join to the router's upstream neighbour: its own is suppressed up to the end, an override isn't wanted any more
+  -- What a Join to the router's upstream neighbour moves: the router's own is suppressed until a timestamp, and its
+  -- override isn't wanted.
   unfoldable pub heard_of_join : Addr → Option Addr → Bool → List TimerMove
   heard_of_join group None rpt = heard_if (is_star_towards o hop group.bits) (TimerMove.RaiseJoin group None end)
   heard_of_join group (Some source) true =
@@ -40,12 +41,12 @@ module _ (o : State) (hop : Hop) (end : ℕ) where
   abbrev pub heard_in_join : Key → List TimerMove
   heard_in_join k = heard_of_join k.group k.source k.rpt
 
-  -- of the keys of Joins, those of (*,G), or the others
+  -- What overheard Joins move, by their keys: those of (*,G), or the others.
   unfoldable pub heard_in_joins : Bool → List Key → List TimerMove
   heard_in_joins star keys =
       flat_map (λ (k : Key). if same_bool star (is_star k) then heard_in_join k else []) keys
 
-  -- the Join of a source is to leave by the end
+  -- The Join of a source is to leave by a timestamp.
   unfoldable pub heard_of_source : Addr → Addr → List TimerMove
   heard_of_source group source =
       heard_if (is_source_towards o hop group.bits source.bits) (TimerMove.LowerJoin group (Some source) end)
@@ -53,11 +54,11 @@ module _ (o : State) (hop : Hop) (end : ℕ) where
   unfoldable pub heard_of_timer : Addr → Key → List TimerMove
   heard_of_timer group k = option_map_or (heard_of_source group) k.source []
 
-  -- those of the sources of the group that have a Join timer
+  -- What an overheard Prune moves of the sources of the group that have a Join timer.
   unfoldable pub heard_of_timers : Addr → Table JoinTimerRow → List TimerMove
   heard_of_timers group timers = flat_map (λ (e : Key × JoinTimerRow). heard_of_timer group e.0) timers
 
-  -- a Prune to the router's upstream neighbour: a Join that overrides it is to leave by the end
+  -- What a Prune to the router's upstream neighbour moves: a Join that overrides it is to leave by a timestamp.
   unfoldable pub heard_of_prune : Addr → Option Addr → List TimerMove
   heard_of_prune group None =
       heard_if (is_star_towards o hop group.bits) (TimerMove.LowerJoin group None end)

@@ -1,4 +1,4 @@
--- What is told upstream, by what was opened: the touched groups and sources as they were.
+-- The messages upstream, by what was opened: the touched groups and sources as they were before the change.
 use Rattle.std.specs.Prelude.{List, [], if◌then◌else◌, ℕ, ◌++◌, ◌||◌}
 use Rattle.pim_types.specs.Keys.{rpt_key, source_key, star_key}
 use Rattle.pim_types.specs.declared.upstream.SourceView.{SourceView}
@@ -25,7 +25,7 @@ source_moved a w g s src old =
       joins.messages ++ prunes.messages,
     )
 
--- of a source without facts, before and after, nothing is told
+-- The messages upstream of a source; there are none where it has no facts before and after.
 unfoldable pub source_step : State → ℕ → ℕ → State → SourceOpening → State × List Message
 source_step a w g s before =
     if before.has_facts || has_facts a g before.source.bits

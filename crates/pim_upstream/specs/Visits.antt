@@ -1,5 +1,5 @@
--- How many nodes of tries are visited, at least, where the upstream machines tell what changed, where a Join timer ends,
--- and where a Join/Prune between other routers is heard. The timers move last: of those nothing is counted.
+-- How many trie nodes are visited, at least, where the upstream machines send what changed, where a Join timer expires,
+-- and where a Join/Prune between other routers is seen. The timers move last, and their nodes aren't counted.
 use Rattle.std.specs.Option.{option_map_or}
 use Rattle.std.specs.Prelude.{Bool, List, None, Option, Some, [], ◌∷◌, if◌then◌else◌, not, false, option_map, suc, sum_by, true, zero, ℕ, ◌+◌, ◌++◌, ◌||◌}
 use Rattle.pim_ip.specs.Addr.{addr}
@@ -26,7 +26,7 @@ use Rattle.pim_upstream.specs.Hearing.{timers_of}
 
 -- ---- what is told
 
--- the sights of these sources, one after the other, until so many of them are pruned
+-- The nodes of the sights of these sources, one after the other, until n of them are pruned.
 unfoldable pub looked_at_nodes : State → Addr → List ℕ → ℕ → ℕ
 looked_at_nodes s group [] room = 0
 looked_at_nodes s group (n ∷ ns) zero = 0
@@ -34,7 +34,8 @@ looked_at_nodes s group (n ∷ ns) (suc room) =
     source_nodes s group (addr n)
     + looked_at_nodes s group ns (if is_pruned_with_star s group.bits n then room else suc room)
 
--- what a Join(*,G) prunes: the sources with facts are asked for, and the sight of each is gathered while there is room
+-- The nodes of what a Join(*,G) prunes: the sources with facts are looked up, and the sight of each is gathered while
+-- there is room.
 unfoldable pub pruned_nodes : State → Addr → ℕ
 pruned_nodes s group =
     sources_nodes s group + looked_at_nodes s group (sources_of group.bits (fact_keys s)) most_pruned
@@ -44,7 +45,8 @@ abbrev pub join_star_nodes : State → Addr → Option Addr → Option Hop → �
 join_star_nodes s group (Some rp) (Some hop) = pruned_nodes s group
 join_star_nodes s group _ _ = 0
 
--- of a group that was desired, and is: it joins at another neighbour, if no assert made it so, or with another RP
+-- The nodes of a group that was desired and is: it joins at another neighbour, if no assert made it so, or with another
+-- RP.
 unfoldable pub star_stays_nodes : State → Addr → StarView → StarView → ℕ
 star_stays_nodes s group old new =
     if not (same_hop old.upstream new.upstream)
@@ -52,24 +54,24 @@ star_stays_nodes s group old new =
     else join_star_nodes s group new.rp new.upstream)
     else (if same_address old.rp new.rp then 0 else join_star_nodes s group new.rp new.upstream)
 
--- of a group, by its views before and after
+-- The nodes of a group, by its views before and after a change.
 unfoldable pub star_told_nodes : State → Addr → StarView → StarView → ℕ
 star_told_nodes s group old new =
     if new.is_desired
     then (if old.is_desired then star_stays_nodes s group old new else join_star_nodes s group new.rp new.upstream)
     else 0
 
--- whether there is a fact of a source, which is asked where there was none before
+-- The nodes of whether a source has a fact, which is looked up where it had none before.
 abbrev pub is_told_nodes : State → Addr → SourceOpening → ℕ
 is_told_nodes s group before = if before.has_facts then 0 else fact_nodes s group before.source
 
--- then the sight of the source, where there is one, before or after
+-- The nodes of a source: whether it has a fact, and, where it has one before or after the change, its sight.
 abbrev pub source_told_nodes : State → Addr → SourceOpening → ℕ
 source_told_nodes s group before =
     is_told_nodes s group before
     + (if before.has_facts || has_facts s group.bits before.source.bits then source_nodes s group before.source else 0)
 
--- the sight of a group, what is told of it, and its sources
+-- The nodes of a group and its messages, and of its sources.
 unfoldable pub group_told_nodes : State → GroupOpening → ℕ
 group_told_nodes s before =
     star_nodes s before.group
@@ -94,7 +96,7 @@ told_seen_nodes s x =
     star_told_nodes s (x.star).group x.was (star_view s (x.star).group.bits)
     + sum_by (seen_told_nodes s (x.star).group) x.sources
 
--- ---- the end of a Join timer
+-- ---- the expiry of a Join timer
 
 -- the sight of the group, and what its Join prunes, or the sight of the source
 unfoldable pub join_again_nodes : State → Addr → Option Addr → ℕ
@@ -105,7 +107,7 @@ join_again_nodes s group (Some source) = star_nodes s group + source_nodes s gro
 
 -- ---- what is heard
 
--- a key of a Join, where it is of a group and those are asked for, or of a source and the others are
+-- The nodes of a key of a Join: where it is of a group and these are handled, or of a source and the others are.
 abbrev pub joined_key_nodes : State → Bool → Key → ℕ
 joined_key_nodes s star k = if same_bool star (is_star k) then sight_nodes s k.group k.source else 0
 
@@ -125,7 +127,7 @@ unfoldable pub pruned_key_nodes : State → Addr → Option Addr → ℕ
 pruned_key_nodes s group None = star_nodes s group + timers_nodes s group
 pruned_key_nodes s group (Some source) = sight_nodes s group (Some source)
 
--- the keys of Prunes behind these: one that stands among those before it isn't asked again
+-- The nodes of the keys of Prunes after other keys: a key that is among those before it isn't looked up again.
 unfoldable pub pruned_keys_nodes : State → List Key → List Key → ℕ
 pruned_keys_nodes s before [] = 0
 pruned_keys_nodes s before (k ∷ ks) =

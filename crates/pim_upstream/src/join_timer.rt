@@ -1,4 +1,4 @@
-//! What the end of a Join timer changes (RFC 7761, sections 4.5.4 and 4.5.5).
+//! What the expiry of a Join timer changes (RFC 7761, sections 4.5.4 and 4.5.5).
 ghost use Rattle.std.specs.Prelude.{◌≡◌, ◌≤◌, OnOk};
 ghost use Rattle.pim_types.specs.declared.timer.TimerKind.{TimerKind};
 ghost use Rattle.pim_model.specs.Firing.{fired};
@@ -33,7 +33,7 @@ fn join_again(world: &World, turn: &mut Turn, meter: &mut Meter, key: Key) -> Re
     }
 }
 
-/// What the end of a Join timer changes: the Join leaves again, and the timer starts anew. An error is want of memory.
+/// What the expiry of a Join timer changes: the Join leaves again, and the timer restarts. The error is want of memory.
 /// The meter rises by the nodes that the look-ups visit, at least those of the sight of the group, and of the sources
 /// that its Join may prune, or of the source.
 #[tactic(auto, unfolding(pim_model::specs::Firing::fired, pim_model::specs::Upstream::join_timer_due))]

@@ -1,5 +1,5 @@
-//! The upstream machines (RFC 7761, sections 4.5.4 to 4.5.7): what is told upstream after a change, the Join timers and
-//! the override timers; what the end of a Join timer changes; and what a Join/Prune between other routers changes.
+//! The upstream machines (RFC 7761, sections 4.5.4 to 4.5.7): the messages upstream after a change, the Join timers and
+//! the override timers; what the expiry of a Join timer changes; and what a Join/Prune between other routers changes.
 #![tactic(auto)]
 
 mod compound;

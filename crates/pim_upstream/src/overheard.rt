@@ -52,7 +52,7 @@ fn is_unpruned_towards(world: &World, sight: &SourceSight, hop: Hop) -> bool
     }
 }
 
-// What a key of a Join changes: the router's own Join is suppressed up to this end, in ms, or its override isn't
+// What a key of a Join changes: the router's own Join is suppressed until this timestamp, in ms, or its override isn't
 // wanted.
 #[tactic(auto, unfolding(crate::specs::Hearing::heard_of_join))]
 fn hear_join(
@@ -114,7 +114,7 @@ fn hear_joins(
     Ok(())
 }
 
-// The Join of a source to the neighbour is to leave by this end, in ms.
+// The Join of a source to the neighbour is to leave by this timestamp, in ms.
 #[tactic(auto, unfolding(crate::specs::Hearing::heard_of_source))]
 fn hear_source(
     world: &World,
@@ -139,7 +139,7 @@ fn hear_source(
     )
 }
 
-// That of the source of a Join timer's key.
+// What the source of a Join timer's key does by an overheard Prune.
 #[tactic(auto, unfolding(crate::specs::Hearing::heard_of_timer))]
 fn hear_timer(
     world: &World,
@@ -162,7 +162,7 @@ fn hear_timer(
     }
 }
 
-// Those of the sources of the group that have a Join timer.
+// What the sources of the group with a Join timer do by an overheard Prune.
 #[tactic(auto, unfolding(crate::specs::Hearing::heard_of_timers))]
 fn hear_timers(
     world: &World,
@@ -183,7 +183,7 @@ fn hear_timers(
     Ok(())
 }
 
-// What a key of a Prune changes: a Join that overrides it is to leave by this end, in ms.
+// What a key of a Prune changes: a Join that overrides it is to leave by this timestamp, in ms.
 #[tactic(auto, unfolding(crate::specs::Hearing::heard_of_prune, crate::specs::Hearing::heard_of_source))]
 fn hear_prune(
     world: &World,
@@ -223,7 +223,7 @@ fn hear_prune(
     }
 }
 
-// What the keys of Prunes change. One that stands again changes no more, so it isn't asked again.
+// What the keys of Prunes change. A repeated key changes nothing more, so it isn't looked up again.
 fn hear_prunes(
     world: &World,
     turn: &mut Turn,
@@ -263,12 +263,12 @@ fn overriding_end(world: &World, iface: IfaceId, draw: u32) -> u64
     world.present() + world.override_delay(iface, draw)
 }
 
-/// Takes a Join/Prune to another router that came on an interface and names these keys. Where that router is the
-/// upstream neighbour, a Join suppresses the router's own and cancels an override, and a Prune is overridden: the Joins
-/// of (*,G) first, then the other Joins, then the Prunes; all of it is judged by the state that the message finds. An
-/// error is want of memory. The meter rises by the nodes that the look-ups visit, at least those of the sight of each
-/// group and source that the message names, of a Prune that stands again but once, and those of the sources with a Join
-/// timer of each group that is pruned.
+/// Takes a Join/Prune to another router that came on an interface and names these keys. If that router is the upstream
+/// neighbour, a Join suppresses the router's own and cancels an override, and a Prune is overridden: first the Joins of
+/// (*,G), then the other Joins, then the Prunes; all is judged by the state that the message finds. The error is want
+/// of memory. The meter rises by the nodes that the look-ups visit, at least those of the sight of each group and
+/// source that the message names (of a repeated Prune only once), and those of the sources with a Join timer of each
+/// group that is pruned.
 pub fn seen(
     world: &mut World,
     turn: &mut Turn,

@@ -1,4 +1,4 @@
-//! What is told of (S,G) (RFC 7761, section 4.5.5).
+//! The messages upstream of (S,G) (RFC 7761, section 4.5.5).
 ghost use Rattle.std.specs.Prelude.{◌≡◌, IfOk, OnOk};
 ghost use Rattle.pim_model.specs.Upstream.{join_source_to, prune_source_to, source_stays, source_told};
 ghost use Rattle.pim_world.specs.Turns.{saying};
@@ -78,7 +78,7 @@ fn stay(
     Ok(Change::SetTo(world.periodic_end()))
 }
 
-/// Sends what follows of the views of a source before and after a change, and tells what becomes of the Join timer of
+/// Sends what follows of the views of a source before and after a change, and returns what becomes of the Join timer of
 /// (S,G).
 #[tactic(auto, unfolding(pim_model::specs::Upstream::source_told, pim_rpt::specs::Changes::change_of))]
 pub(crate) fn tell(

@@ -1,4 +1,4 @@
-//! What is told of (*,G) (RFC 7761, section 4.5.4).
+//! The messages upstream of (*,G) (RFC 7761, section 4.5.4).
 ghost use Rattle.std.specs.Prelude.{◌≡◌, ◌≤◌, [], IfOk, OnOk, if◌then◌else◌, is_none};
 ghost use Rattle.pim_model.specs.Upstream.{join_star_to, prune_star_to, star_stays, star_told};
 ghost use Rattle.pim_macros.specs.Sights.{IsStarSight};
@@ -106,7 +106,7 @@ fn stay(
     Ok(Change::SetTo(world.periodic_end()))
 }
 
-// (*,G) was desired, and isn't any more. Without an RP there is nothing to prune.
+// (*,G) was desired, and isn't after the change. Without an RP there is nothing to prune.
 fn cease(
     world: &World,
     turn: &mut Turn,
@@ -123,7 +123,7 @@ fn cease(
     Ok(())
 }
 
-/// Sends what follows of the views of a group before and after a change, and tells what becomes of its Join timer.
+/// Sends what follows of the views of a group before and after a change, and returns what becomes of its Join timer.
 #[tactic(auto, unfolding(pim_model::specs::Upstream::star_told, pim_rpt::specs::Changes::change_of))]
 pub(crate) fn tell(
     world: &World,

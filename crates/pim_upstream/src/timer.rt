@@ -15,19 +15,19 @@ use pim_types::{Addr, Key, SourceGroup};
 use pim_world::{Meter, World};
 use std::alloc::AllocError;
 
-/// What becomes of the Join timer of (*,G), without a source, or of (S,G), or of the override timer of (S,G,rpt); ends
-/// in ms.
+/// What becomes of the Join timer of (*,G), without a source, or of (S,G), or of the override timer of (S,G,rpt).
+/// Timestamps are in ms.
 #[derive(Clone, Copy)]
 pub(crate) enum TimerMove {
     Join(Addr, Option<Addr>, Change),
     Override(SourceGroup, Change),
-    /// Where the Join timer runs, it ends at this moment at the earliest.
+    /// Where the Join timer runs, it is to expire at this timestamp at the earliest.
     RaiseJoin(Addr, Option<Addr>, u64),
-    /// Where the Join timer runs, it ends at this moment at the latest.
+    /// Where the Join timer runs, it is to expire at this timestamp at the latest.
     LowerJoin(Addr, Option<Addr>, u64),
 }
 
-// The end, in ms, of a timer that ends at this moment at the latest.
+// When a timer expires, in ms, that is to expire at this timestamp at the latest.
 fn lowered_end(old: Option<u64>, end: u64) -> u64
     ensures { Some result ≡ changed_end (LowerTo end) old }
 {
@@ -37,7 +37,7 @@ fn lowered_end(old: Option<u64>, end: u64) -> u64
     }
 }
 
-// A Join timer that ends at this moment, in ms, at the earliest.
+// A Join timer that is to expire at this timestamp, in ms, at the earliest.
 fn raised(row: Option<JoinTimerRow>, end: u64) -> Option<JoinTimerRow>
     ensures { result ≡ raised_row end row }
 {
@@ -47,7 +47,7 @@ fn raised(row: Option<JoinTimerRow>, end: u64) -> Option<JoinTimerRow>
     })
 }
 
-// A Join timer that ends at this moment, in ms, at the latest.
+// A Join timer that is to expire at this timestamp, in ms, at the latest.
 fn lowered(row: Option<JoinTimerRow>, end: u64) -> Option<JoinTimerRow>
     ensures { result ≡ lowered_row end row }
 {

@@ -1,4 +1,4 @@
-//! What is told upstream after an event's own change.
+//! The messages upstream after an event's own change.
 ghost use Rattle.std.specs.Prelude.{◌≡◌, ◌≤◌, ◌∷◌, [], ◌||◌, OnOk, map, sum_by};
 ghost use Rattle.pim_types.specs.Keys.{star_key};
 ghost use Rattle.pim_model.specs.Upstream.{star_view, with_join_timer};
@@ -21,7 +21,7 @@ use pim_types::{Addr, SourceGroup, SourceView, StarView};
 use pim_world::{Meter, Turn, World};
 use std::alloc::AllocError;
 
-// Sends what is told of a source by its sight, and notes what becomes of its timers.
+// Sends the messages of a source by its sight, and notes what becomes of its timers.
 #[tactic(auto, unfolding(crate::specs::Told::source_moved))]
 fn tell_views(
     world: &World,
@@ -49,7 +49,7 @@ fn tell_views(
     note_override(moves, name, prunes)
 }
 
-// Whether something may be told of the source of a group: it has a fact, before or after the change.
+// Whether a source of the group may have messages: it has a fact, before or after the change.
 fn is_told(world: &World, meter: &mut Meter, group: Addr, before: SourceOpening) -> bool
     ensures told { result ≡ (before.has_facts || has_facts world.now group.bits before.source.bits) }
     ensures at_least { raised meter.old (is_told_nodes world.now group before) ≤ meter.new }
@@ -58,7 +58,7 @@ fn is_told(world: &World, meter: &mut Meter, group: Addr, before: SourceOpening)
     before.has_facts || world.has_facts(SourceGroup { source, group }, meter)
 }
 
-// Sends what is told of a source that has facts, before or after the change; its sight shows it after the change.
+// Sends the messages of a source that has facts, before or after the change; its sight is that after the change.
 #[tactic(auto, unfolding(crate::specs::Told::source_step))]
 fn tell_source_by_sight(
     world: &World,
@@ -82,7 +82,7 @@ fn tell_source_by_sight(
     Ok(())
 }
 
-// The same, where the sight is yet to be gathered.
+// The turn of a source whose sight is yet to be gathered.
 #[tactic(auto, unfolding(crate::specs::Told::source_step))]
 fn tell_source(
     world: &World,
@@ -106,7 +106,7 @@ fn tell_source(
     Ok(())
 }
 
-// Sends what is told of these sources of a group, one after the other.
+// Sends the messages of these sources of a group, one after the other.
 fn tell_sources(
     world: &World,
     turn: &mut Turn,
@@ -131,7 +131,7 @@ fn tell_sources(
     Ok(())
 }
 
-// Sends what is told of (*,G) by its sight, and notes what becomes of its Join timer.
+// Sends the messages of (*,G) by its sight, and notes what becomes of its Join timer.
 fn tell_star(
     world: &World,
     turn: &mut Turn,
@@ -154,7 +154,7 @@ fn tell_star(
     note_join(moves, star.group, None, change)
 }
 
-// Sends what is told of a group and of its sources, and notes what becomes of their timers.
+// Sends the messages of a group and of its sources, and notes what becomes of their timers.
 #[tactic(auto, unfolding(crate::specs::Told::group_step))]
 fn tell_group(
     world: &World,
@@ -174,7 +174,7 @@ fn tell_group(
     tell_sources(world, turn, meter, &star, before.sources.as_slice(), moves)
 }
 
-// Sends what is told of these groups, one after the other, and notes what becomes of their timers.
+// Sends the messages of these groups, one after the other, and notes what becomes of their timers.
 fn tell_groups(
     world: &World,
     turn: &mut Turn,
@@ -194,10 +194,10 @@ fn tell_groups(
     Ok(())
 }
 
-/// What is told upstream after a change, and what becomes of the timers: for each touched group ascending, and for each
-/// of its touched sources ascending. All of it follows of the state as the change left it; the timers move last.
-/// The meter rises by the nodes that the look-ups visit, at least those of the sight of each group, of each of its
-/// sources with a fact, and of those that its Join may prune.
+/// Sends the messages upstream after a change, and moves the timers: for each touched group ascending, and for each of
+/// its touched sources ascending. All follows of the state after the change; the timers move last. The meter rises by
+/// the nodes that the look-ups visit, at least those of the sight of each group, of each of its sources with a fact,
+/// and of those that its Join may prune.
 #[tactic(auto, unfolding(crate::specs::Told::upstream_by, crate::specs::Timers::after_moves))]
 pub fn changed(
     world: &mut World,
@@ -214,9 +214,9 @@ pub fn changed(
     move_timers(world, meter, moves.as_slice())
 }
 
-/// The same where one source alone was opened, by its sight of the state as the change left it: neither that nor the
-/// group's is gathered again. The meter rises by the nodes that the look-ups visit, at least those of the sources that
-/// the group's Join may prune, and those that lead to the facts of the source where it had none.
+/// The messages upstream where one source alone was opened, by its sight in the state after the change: neither this
+/// sight nor that of the group is gathered again. The meter rises by the nodes that the look-ups visit, at least those
+/// of the sources that the group's Join may prune, and those that lead to the facts of the source where it had none.
 #[tactic(auto, unfolding(crate::specs::Timers::after_moves))]
 pub fn changed_alone(
     world: &mut World,
@@ -241,7 +241,7 @@ pub fn changed_alone(
     move_timers(world, meter, moves.as_slice())
 }
 
-// Sends what is told of these sources of a group by their sights, one after the other.
+// Sends the messages of these sources of a group by their sights, one after the other.
 fn tell_sources_by_sights(
     world: &World,
     turn: &mut Turn,
@@ -266,9 +266,9 @@ fn tell_sources_by_sights(
     Ok(())
 }
 
-/// The same of one group alone, by what was gathered of it in the state as the change left it: nothing of that is gathered
-/// again. The meter rises by the nodes that the look-ups visit, at least those of the sources that the group's Join may
-/// prune, and those that lead to the facts of each source that had none.
+/// The messages upstream where one group alone was opened, by what was gathered of it in the state after the change:
+/// nothing of that is gathered again. The meter rises by the nodes that the look-ups visit, at least those of the
+/// sources that the group's Join may prune, and those that lead to the facts of each source that had none.
 #[tactic(auto, unfolding(crate::specs::Timers::after_moves))]
 pub fn changed_group(
     world: &mut World,

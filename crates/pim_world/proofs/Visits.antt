@@ -23,7 +23,7 @@ pub rises_by : (old new nodes : ℕ) → raised old nodes ≤ new → old ≤ ne
 unfolding raised
 rises_by old new nodes e = omega (arith, e)
 
--- the same of one that was raised exactly
+-- a meter that was raised exactly never falls
 pub rises_exactly : (old new nodes : ℕ) → new ≡ raised old nodes → old ≤ new
 unfolding raised
 rises_exactly old new nodes e = omega (arith, e)
@@ -91,7 +91,8 @@ pub raised_further : (old between first rest : ℕ) → raised old first ≤ bet
 unfolding raised
 raised_further old between first rest e = omega (arith, e)
 
--- a loop's invariant over numbers: what was visited and what is left to visit is at least the whole; one more, and none left
+-- a loop's invariant over numbers: what was visited and what is left to visit is at least the whole; one more, and none
+-- left
 pub one_further : (before whole old new first left rest : ℕ) → raised before whole ≤ raised old left → left ≡ first + rest
     → raised old first ≤ new → raised before whole ≤ raised new rest
 one_further before whole old new first left rest least sum one =
@@ -119,7 +120,7 @@ module _ {X : Type 0} (f : X → ℕ) where
   all_gathered before old whole left least none =
       none_further before (sum_by f whole) old (sum_by f left) least (ap (sum_by f) none)
 
--- the same of a loop by index
+-- a loop by index raises the meter by the nodes of what it has come to
 module _ {X : Type 0} (f : X → ℕ) (xs : List X) (i : ℕ) (old before new : ℕ) where
   pub next_made : (d : X) → i < length xs → raised old (sum_by f (take i xs)) ≤ before → raised before (f (get_or xs i d)) ≤ new
       → raised old (sum_by f (take (i + 1) xs)) ≤ new

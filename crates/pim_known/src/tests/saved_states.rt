@@ -1,4 +1,4 @@
-//! Saved states, beside bytes that docs/SAVED.md gives.
+//! Saved states, compared with bytes that docs/SAVED.md gives.
 use pim_ip::{Addr, LanDelay, Prefix};
 use pim_saved::SavedRefusal;
 use pim_saver::{

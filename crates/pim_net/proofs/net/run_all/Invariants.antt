@@ -1,4 +1,4 @@
--- So many of the moves were done, and no call of the wire failed.
+-- The first moves, as many as the loop has come to, were done, and no call of the wire failed.
 use Rattle.std.proofs.Common.{◌≡◌, take}
 use Rattle.std.specs.Prelude.{IfSome}
 use Rattle.pim_net.specs.Carried.{HasMoved}

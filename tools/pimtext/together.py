@@ -1,0 +1,137 @@
+"""Many edits in one check: those of a crate that change functions of their own, put to the prover at once.
+
+A function is proved by the contracts of those that it calls, so what the prover says of one tells of the edit that
+changed it alone."""
+from __future__ import annotations
+
+import re
+import subprocess
+from collections.abc import Iterable, Iterator
+from pathlib import Path
+from typing import TYPE_CHECKING
+
+from pimtext.edits import Edit, Reason
+
+if TYPE_CHECKING:
+    from pimtext.functions import Found, Function
+
+# The lines on each edit that is refused, each with the reason that it tells, if it tells one.
+Told = dict[Edit, list[tuple[str, Reason | None]]]
+# What the front end says of a line of the code: then no function is put to the prover.
+BY_FRONT_END = re.compile(r"(src/\S+?):(\d+):\d+: error\[[\w-]+\]")
+
+
+class Batch(Edit):
+    """Edits that change functions of their own, as one edit of all."""
+
+    def __init__(self, edits: list[Edit]) -> None:
+        self.crate, self.edits = edits[0].crate, edits
+        self.lines = [line for edit in edits for line in edit.lines]
+        self.wanted = [words for edit in edits for words in edit.wanted]
+        self.of = {changed(edit): edit for edit in edits}
+
+
+def last_line(lines: list[str], first: int) -> int:
+    """The number of the line on which the function ends that begins on this one."""
+    head = lines[first - 1]
+    closing = " " * (len(head) - len(head.lstrip())) + "}"
+    return next(number for number, line in enumerate(lines[first:], first + 1) if line == closing)
+
+
+def lines_changed(edit: Edit) -> Iterator[tuple[str, int]]:
+    """The files and the numbers of the lines that an edit changes."""
+    at = ""
+    for line in edit.lines:
+        if line.startswith("file: "):
+            at = line.removeprefix("file: ").strip()
+        elif line.startswith("old: "):
+            before = edit.crate.files[at].partition(line.removeprefix("old: "))[0]
+            yield at, before.count("\n") + 1
+
+
+def changed(edit: Edit) -> Function | None:
+    """The one function that an edit changes the body of; None where it changes more than that."""
+    if not edit.files() <= set(edit.crate.files) or edit.error():
+        return None
+    found: set[Function | None] = set()
+    for file, number in lines_changed(edit):
+        lines = edit.crate.files[file].splitlines()
+        above = [one for one in edit.crate.found[file] if one.line <= number]
+        found.add(above[-1].function if above and number <= last_line(lines, above[-1].line) else None)
+    return found.pop() if len(found) == 1 else None
+
+
+def applies(edit: Edit, texts: dict[str, str]) -> bool:
+    """Whether what an edit replaces stands in these texts exactly once, where it is then replaced."""
+    at, old, left = "", "", dict(texts)
+    for line in edit.lines:
+        if line.startswith("file: "):
+            at = line.removeprefix("file: ").strip()
+        elif line.startswith("old: "):
+            old = line.removeprefix("old: ")
+            if left.get(at, "").count(old) != 1:
+                return False
+        elif line.startswith("new:"):
+            left[at] = left[at].replace(old, line.removeprefix("new:").removeprefix(" "))
+    texts.update(left)
+    return True
+
+
+def batches(edits: Iterable[Edit], most: int = 40) -> Iterator[Batch]:
+    """The edits that change one function each, in as few checks as their functions allow."""
+    left = [edit for edit in edits if changed(edit)]
+    while left:
+        taken, functions, texts = [], set(), dict(left[0].crate.files)
+        for edit in left:
+            if len(taken) < most and changed(edit) not in functions and applies(edit, texts):
+                taken.append(edit)
+                functions.add(changed(edit))
+        if not taken:
+            return
+        yield Batch(taken)
+        left = [edit for edit in left if edit not in taken]
+
+
+def checked(batch: Batch, folder: Path) -> list[str]:
+    """What a check says of the crate in this folder with all edits of a batch in it."""
+    for file in batch.files():
+        (folder / file).write_text(batch.edited(file), encoding="utf-8")
+    ran = subprocess.run(["rt", "check", "--jobs", "1"], cwd=folder, capture_output=True, text=True)
+    for file in batch.files():
+        (folder / file).write_text(batch.crate.files[file], encoding="utf-8")
+    return (ran.stdout + ran.stderr).splitlines()
+
+
+def by_front_end(batch: Batch, lines: list[str]) -> Told:
+    """The front end's line on each edit that it refuses."""
+    found: Told = {}
+    for line in lines:
+        if told := BY_FRONT_END.match(line.removeprefix("note: ")):
+            one: Found | None = batch.function_at(told[1], int(told[2]))
+            if one and one.function in batch.of:
+                found.setdefault(batch.of[one.function], [(line, None)])
+    return found
+
+
+def by_prover(batch: Batch, lines: list[str]) -> Told:
+    """The prover's lines on each edit that it refuses, with the reasons that they tell."""
+    found: Told = {}
+    for line in lines:
+        reason = batch.reason(line)
+        if reason and reason.found.function in batch.of:
+            found.setdefault(batch.of[reason.found.function], []).append((line, reason))
+    return found
+
+
+def told_together(batch: Batch, folder: Path) -> Told:
+    """The lines on each edit of a batch that is refused. Where the front end refuses some, the others are checked again
+    without these."""
+    told: Told = {}
+    while True:
+        lines = checked(batch, folder)
+        refused = by_front_end(batch, lines)
+        told.update(refused)
+        left = [edit for edit in batch.edits if edit not in refused]
+        if not refused or not left:
+            return told | by_prover(batch, [] if refused else lines)
+        batch = Batch(left)
