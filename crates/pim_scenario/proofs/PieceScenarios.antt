@@ -57,9 +57,9 @@ front_line (c ∷ t) next b h e = (t, ap (λ (x : List ℕ). slice_index x 0 ∷
 
 pub known_router : (l : List ℕ) → is_known (codes "router" ∷ []) l ≡ true → codes "router" ≡ l
 known_router l h = elim (or_cases (bytes_eq (codes "router") l) false h) [
-    | inl here ↦ (bytes_eq-Decides (codes "router") l).0 here
-    | inr never ↦ absurd (false≢true never)
-  ]
+  | inl here ↦ (bytes_eq-Decides (codes "router") l).0 here
+  | inr never ↦ absurd (false≢true never)
+]
 
 no_move : (ms : Members) → has_only (codes "router" ∷ []) ms ≡ true → get_member move_key ms ≡ None
 no_move no_members h = refl
@@ -154,9 +154,12 @@ whole_scenario text front back ms ds s cut parsed only at_router routers says =
     let (vals, x, is_array, read, all) = says text ns none (no_items, w, inl (refl, refl), there, tt) in
     let keys : has_only both (close ns) ≡ true = only_more (close ns) (ap (has_only (codes "router" ∷ [])) closed ∙ only) in
     let at_moves : get_member move_key (close (insert move_key x ns)) ≡ Some (array vals) =
-    closed_get move_key (insert move_key x ns) ∙ ap (option_map close_node) (get_node-insert move_key x ns) ∙ ap (λ (d : Data). Some d) is_array in
-    (close (insert move_key x ns), read, record {
-      keys = only_inserted x ns keys;
-      routers = (ds, routers_beside x ns ms closed none ∙ sym at_router, routers);
-      moves = (values_of vals, ap (read_or list_of []) at_moves, all);
-    })
+    closed_get move_key (insert move_key x ns) ∙ ap (option_map close_node) (get_node-insert move_key x ns) ∙ ap (λ (d : Data). Some d) is_array in (
+      close (insert move_key x ns),
+      read,
+      record {
+        keys = only_inserted x ns keys;
+        routers = (ds, routers_beside x ns ms closed none ∙ sym at_router, routers);
+        moves = (values_of vals, ap (read_or list_of []) at_moves, all);
+      },
+    )
