@@ -5,6 +5,14 @@ pub mod InterfaceLemmas
 pub mod LinkLemmas
 pub mod MoveLemmas
 pub mod NameLemmas
+pub mod PieceBytes
+pub mod PieceDocuments
+pub mod PieceEnds
+pub mod PieceLines
+pub mod PieceScenarios
+pub mod PieceTables
+pub mod PieceTexts
+pub mod PieceValues
 pub mod ReadLemmas
 pub mod RouteLemmas
 pub mod WordLemmas

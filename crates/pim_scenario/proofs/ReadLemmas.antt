@@ -14,7 +14,7 @@ use Rattle.pim_scenario.specs.declared.scenario.Unread.{Unread}
 use Rattle.pim_scenario.specs.declared.scenario.Unread.TheVariants.{Wrong, NoMemory}
 use Rattle.pim_scenario.specs.Texts.{ReadsExactly}
 
-zip_push : {A B : Type 0} (R : A → B → Type 0) (xs : List A) (ys : List B) (x : A) (y : B)
+pub zip_push : {A B : Type 0} (R : A → B → Type 0) (xs : List A) (ys : List B) (x : A) (y : B)
     → AllZip R xs ys → R x y → AllZip R (xs ++ x ∷ []) (ys ++ y ∷ [])
 zip_push R [] [] x y all one = (one, tt)
 zip_push R [] (b ∷ bs) x y all one = absurd all

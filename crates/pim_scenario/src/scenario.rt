@@ -11,6 +11,7 @@ mod field;
 mod hex;
 mod links;
 mod moves;
+mod pieces;
 mod router;
 mod routes;
 mod words;
@@ -124,6 +125,21 @@ impl<T: Drop> From<AllocFailed<T>> for Unread {
 /// or moves a router that it doesn't have. The values of a configuration aren't tested here. The only fault is want of
 /// memory.
 pub fn read_scenario(alloc: Global, text: &str) -> Result<Result<Scenario, Refusal>, Fault>
+    ensures read { IfOk result (Parses IsReadFrom text.now) }
+    ensures other_text { parse_document text.now ≡ None
+        → IfOk result (λ r. r ≡ Err Refusal.BadScenario) }
+    ensures refused { IfOk result (λ r. IfErr r (λ e. e ≡ Refusal.BadScenario)) }
+    ensures memory { IfErr result (λ e. e ≡ Fault.Memory) }
+{
+    match pieces::scenario_in(alloc, text) {
+        Ok(scenario) => Ok(Ok(scenario)),
+        Err(Unread::NoMemory) => Err(Fault::Memory),
+        Err(Unread::Wrong) => read_whole(alloc, text),
+    }
+}
+
+/// Reads a scenario by way of its whole document.
+fn read_whole(alloc: Global, text: &str) -> Result<Result<Scenario, Refusal>, Fault>
     ensures read { IfOk result (Parses IsReadFrom text.now) }
     ensures other_text { parse_document text.now ≡ None
         → IfOk result (λ r. r ≡ Err Refusal.BadScenario) }

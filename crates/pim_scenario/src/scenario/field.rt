@@ -64,7 +64,7 @@ fn moment_of(value: &Value) -> Result<u64, Wrong>
 
 /// The values of the list that a value is.
 #[tactic(auto, using(crate::proofs::FieldLemmas::listed))]
-fn list_of(value: &Value) -> Result<&[Value], Wrong>
+pub(super) fn list_of(value: &Value) -> Result<&[Value], Wrong>
     ensures { option_map (λ vs. map view vs.now) (result_ok result) ≡ list_of (view value.now) }
 {
     let values = value.as_array().ok_or(Wrong)?;

@@ -28,7 +28,11 @@ pub(super) fn moves_in(
     Ok(moves)
 }
 
-fn move_in(alloc: Global, table: &Table, routers: &[RouterText]) -> Result<ScenarioMove, Unread>
+pub(super) fn move_in(
+    alloc: Global,
+    table: &Table,
+    routers: &[RouterText],
+) -> Result<ScenarioMove, Unread>
     ensures { ReadsExactly (IsMove routers.now (table_view table.now)) result }
 {
     match field::text(table, "do")? {

@@ -6,7 +6,7 @@ use Rattle.toml.specs.View.{table_view}
 use Rattle.pim_scenario.specs.declared.scenario.Scenario.{Scenario}
 use Rattle.pim_scenario.specs.Scenario.{IsScenario}
 use Rattle.pim_scenario.proofs.ReadLemmas.{the_same, was_wrong}
-use Rattle.pim_scenario.proofs.scenario.read_scenario.Goals as goal
+use Rattle.pim_scenario.proofs.scenario.read_whole.Goals as goal
 
 pub returns-in-Err-Wrong-clause-read : goal.returns-in-Err-Wrong-clause-read
 returns-in-Err-Wrong-clause-read c s is =
