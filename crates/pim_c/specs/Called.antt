@@ -19,6 +19,7 @@ use Rattle.pim_offload.specs.Keeping.{keep}
 use Rattle.pim_offload.specs.Offered.{Offered, offered}
 use Rattle.pim_reach.specs.Named.{event_named}
 use Rattle.pim_router.specs.Costs.{IsCheap}
+use Rattle.pim_router.specs.Disturbing.{event_disturbed}
 use Rattle.pim_router.specs.Listing.{ListsSame}
 use Rattle.pim_router.specs.Staying.{OffersStay}
 use Rattle.pim_router.specs.Standing.{Standing, begun, nothing_shown, standing, with_state}
@@ -50,6 +51,7 @@ abbrev pub Taken : ShownSession → Standing → Event → ShownSession → Type
 Taken s r e left = (left.router.standing ≡ Some (standing (step r.state e)))
     × IsCheap r.state e left.router.probes left.router.touched
     × ListsSame left.router.changed (event_named r.state e)
+    × (left.router.disturbed ≡ event_disturbed r.state e)
     × OffersStay left.router.disturbed r.state (step r.state e).state
     × (left.sent ≡ (step r.state e).emissions) × (left.rows ≡ s.rows)
 
@@ -153,7 +155,7 @@ abbrev pub touched_in : Option ShownSession → ℕ
 touched_in None = 0
 touched_in (Some s) = s.router.touched
 
--- the sources whose rows the last event changed
+-- the sources whose rows the last event changed, each once
 abbrev pub changed_in : Option ShownSession → List Key
 changed_in None = []
 changed_in (Some s) = s.router.changed

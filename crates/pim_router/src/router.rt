@@ -1,4 +1,5 @@
 //! The router.
+ghost use Rattle.std.specs.List.Sorted.{IsStrictlySortedBy};
 ghost use Rattle.std.specs.Option.{option_map_or};
 ghost use Rattle.std.specs.Prelude.{◌≡◌, ◌+◌, ◌<◌, ◌++◌, ◌↔◌, [], Err, IfErr, IfOk, IfSome, IsOk, IsOkUnless, IsTrue, None, Ok, OnErr, OnOk, Some, min, option_and_then};
 ghost use Rattle.std.specs.Vec.{vec_capacity, vec_len};
@@ -6,6 +7,7 @@ ghost use Rattle.pim_fanout.specs.Refreshing.{touches};
 ghost use Rattle.pim_mfc.specs.Laws.{ShowsRows, TellsRow};
 ghost use Rattle.pim_model.specs.Cache.{cached};
 ghost use Rattle.pim_router.specs.Costs.{IsCheap, IsLastCheap};
+ghost use Rattle.pim_router.specs.Disturbing.{IsLastDisturbed, event_disturbed};
 ghost use Rattle.pim_model.specs.Judging.{last_moment};
 ghost use Rattle.pim_model.specs.Sets.{is_kept_alive};
 ghost use Rattle.pim_offload.specs.Keeping.{keep};
@@ -27,6 +29,7 @@ ghost use Rattle.pim_macros.specs.Rows.{number_of};
 ghost use Rattle.pim_model.specs.Timers.{next_moment};
 ghost use Rattle.pim_model.specs.Unicast.{rpf_interface_rp};
 ghost use Rattle.pim_router.specs.Standing.{beginning, begun, nothing_shown, last_copies, standing, standing_after, with_state};
+ghost use Rattle.pim_types.specs.Keys.{key_cmp};
 ghost use Rattle.pim_types.specs.declared.config.Config.{Config as ConfigValue};
 ghost use Rattle.pim_model.specs.Sure.{needs_no_memory};
 ghost use Rattle.pim_locality.specs.Rest.{IsAtRest};
@@ -66,12 +69,14 @@ pub struct Router {
 }
 
 impl Model for Router {
+    ghost use Rattle.std.specs.List.Sorted.{IsStrictlySortedBy};
     ghost use Rattle.std.specs.Prelude.{Some, false, if◌then◌else◌, ◌≡◌};
     ghost use Rattle.pim_fanout.specs.Refreshing.{touches};
     ghost use Rattle.pim_locality.specs.Rest.{IsAtRest};
     ghost use Rattle.pim_mfc.specs.Laws.{ShowsRows};
     ghost use Rattle.pim_model.specs.Cache.{cached};
     ghost use Rattle.pim_router.specs.Standing.{Shown, nothing_shown};
+    ghost use Rattle.pim_types.specs.Keys.{key_cmp};
 
     ghost Value = { Shown };
 
@@ -83,7 +88,8 @@ impl Model for Router {
       disturbed = r.cache.disturbed;
     } };
 
-    ghost invariant = { λ r. r.failed ≡ false → IsAtRest r.world × ShowsRows r.cache.mfc.rows (cached r.world) };
+    ghost invariant = { λ r. r.failed ≡ false → IsAtRest r.world × ShowsRows r.cache.mfc.rows (cached r.world)
+      × IsStrictlySortedBy key_cmp r.cache.changed };
 }
 
 impl Router {
@@ -186,12 +192,13 @@ impl Router {
         self.cache.touched()
     }
 
-    /// The sources whose rows of the forwarding cache the last event changed: all others have the rows that they had. Of an
-    /// `Advance` they are those of all its timers' ends, so a source may stand here more than once; a plain packet of data, and an event that
-    /// is ignored or refused, changes none. Where nothing was touched there is none, nor before the first event, nor where the
-    /// router has failed. No memory is taken.
+    /// The sources whose rows of the forwarding cache the last event changed: all others have the rows that they had. Each stands
+    /// once, ascending by group and then by source; of an `Advance` they are those of all its timers' ends. A plain packet of
+    /// data, and an event that is ignored or refused, changes none. Where nothing was touched there is none, nor before the
+    /// first event, nor where the router has failed. No memory is taken.
     pub fn changed(&self) -> &[SourceGroup]
         ensures names { keys_of result.now ≡ self.now.changed }
+        ensures once { IsStrictlySortedBy key_cmp self.now.changed }
         ensures none { self.now.touched ≡ 0 → result.now ≡ [] }
     {
         if self.failed {
@@ -214,10 +221,10 @@ impl Router {
     }
 
     /// Whether what `offload` tells of (S,G) may be another than before the last event, whether the source has a fact or not: where it
-    /// answers no, it is the same. It answers yes of the sources that the event's change touched, and of all sources of a group that
-    /// it touched whole; of all after new routes or RP ranges, after an interface went up or down, after a Hello that says more
-    /// than that its neighbour lasts or started anew, and where there is no more room for a fact, or room again; and where the
-    /// router has failed. No memory is taken.
+    /// answers no, it is the same. It answers yes exactly of the sources that the event's change, or the end of one of its timers,
+    /// touched, and of all sources of a group that it touched whole; of all after new routes or RP ranges, after an interface went
+    /// up or down, after a Hello or a neighbour's end that changes whether the router is the DR or touches more than 256 keys,
+    /// and where there is no more room for a fact, or room again; and where the router has failed. No memory is taken.
     #[tactic(auto, unfolding(pim_fanout::specs::Disturbed::is_disturbed))]
     pub fn may_differ(&self, source: Addr, group: Addr) -> bool
         ensures { result ≡ is_disturbed self.now.disturbed group.bits source.bits }
@@ -259,6 +266,8 @@ impl Router {
             (IsCheap r.state event.now self.new.probes self.new.touched)) }
         ensures changed { IfSome self.old.standing (λ r. OnOk result
             (ListsSame self.new.changed (event_named r.state event.now))) }
+        ensures disturbed { IfSome self.old.standing (λ r. OnOk result
+            (self.new.disturbed ≡ event_disturbed r.state event.now)) }
         ensures stays { IfSome self.old.standing (λ r. OnOk result
             (OffersStay self.new.disturbed r.state (step r.state event.now).state)) }
         ensures failing { OnErr result (self.new ≡ nothing_shown) }
@@ -285,6 +294,8 @@ impl Router {
             (IsCheap r.state event.now self.new.probes self.new.touched)) }
         ensures changed { IfSome self.old.standing (λ r. OnOk result
             (ListsSame self.new.changed (event_named r.state event.now))) }
+        ensures disturbed { IfSome self.old.standing (λ r. OnOk result
+            (self.new.disturbed ≡ event_disturbed r.state event.now)) }
         ensures stays { IfSome self.old.standing (λ r. OnOk result
             (OffersStay self.new.disturbed r.state (step r.state event.now).state)) }
         ensures failing { OnErr result (self.new ≡ nothing_shown) }
@@ -332,6 +343,8 @@ impl Router {
             (seen_event draw iface group.bits source.bits) self.new.probes self.new.touched)) }
         ensures changed { IfSome self.old.standing (λ r. OnOk result (ListsSame self.new.changed
             (event_named r.state (seen_event draw iface group.bits source.bits)))) }
+        ensures disturbed { IfSome self.old.standing (λ r. OnOk result (self.new.disturbed
+            ≡ event_disturbed r.state (seen_event draw iface group.bits source.bits))) }
         ensures stays { IfSome self.old.standing (λ r. OnOk result (OffersStay self.new.disturbed r.state
             (step r.state (seen_event draw iface group.bits source.bits)).state)) }
         ensures failing { OnErr result (self.new ≡ nothing_shown) }
@@ -400,6 +413,8 @@ impl Router {
             (IsLastCheap r.state events.now self.new.probes self.new.touched)) }
         ensures changed { IfSome self.old.standing (λ r. OnOk result
             (IsLastListed r.state events.now self.new.changed)) }
+        ensures disturbed { IfSome self.old.standing (λ r. OnOk result
+            (IsLastDisturbed r.state events.now self.new.disturbed)) }
         ensures stays { IfSome self.old.standing (λ r. OnOk result
             (LastOffersStay r.state events.now self.new.disturbed)) }
         ensures failing { OnErr result (self.new ≡ nothing_shown) }
@@ -467,6 +482,8 @@ fn take_next(
     ensures shown { OnOk result (ShowsRows cache.new.mfc.rows (cached world.new)) }
     ensures cheap { OnOk result (IsCheap world.old event.now probes.new.meter (touches cache.new)) }
     ensures listed { OnOk result (ListsSame cache.new.changed (event_named world.old event.now)) }
+    ensures once { OnOk result (IsStrictlySortedBy key_cmp cache.new.changed) }
+    ensures disturbed { OnOk result (cache.new.disturbed ≡ event_disturbed world.old event.now) }
     ensures stays { OnOk result (OffersStay cache.new.disturbed world.old world.new) }
     ensures fault { IsOkUnless result Fault.Memory }
     ensures sure { IsTrue (needs_no_memory (step world.old event.now).answer) → IsOk result }
@@ -486,12 +503,15 @@ fn run_world(
 ) -> Result<Vec<Outcome>, Fault>
     requires rest { IsAtRest world.old }
     requires shown { ShowsRows cache.old.mfc.rows (cached world.old) }
+    requires once { IsStrictlySortedBy key_cmp cache.old.changed }
     ensures outcomes { IfOk result (λ outcomes. outcomes.items ≡ run world.old events.now) }
     ensures state { OnOk result (world.new ≡ state_after world.old events.now) }
     ensures rest { OnOk result (IsAtRest world.new) }
     ensures shown { OnOk result (ShowsRows cache.new.mfc.rows (cached world.new)) }
     ensures cheap { OnOk result (IsLastCheap world.old events.now probes.new.meter (touches cache.new)) }
     ensures listed { OnOk result (IsLastListed world.old events.now cache.new.changed) }
+    ensures once { OnOk result (IsStrictlySortedBy key_cmp cache.new.changed) }
+    ensures disturbed { OnOk result (IsLastDisturbed world.old events.now cache.new.disturbed) }
     ensures stays { OnOk result (LastOffersStay world.old events.now cache.new.disturbed) }
     ensures fault { IsOkUnless result Fault.Memory }
     ensures sure { events.now ≡ [] → IsOk result }
