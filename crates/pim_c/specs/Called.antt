@@ -155,7 +155,7 @@ abbrev pub touched_in : Option ShownSession → ℕ
 touched_in None = 0
 touched_in (Some s) = s.router.touched
 
--- the sources whose rows the last event changed, each once
+-- the sources whose rows the last event changed
 abbrev pub changed_in : Option ShownSession → List Key
 changed_in None = []
 changed_in (Some s) = s.router.changed

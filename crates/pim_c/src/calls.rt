@@ -1,12 +1,10 @@
 //! The functions that C calls. Each repeats what the call promises that it makes.
 ghost use Rattle.std.specs.Option.{option_map_or};
 ghost use Rattle.std.specs.List.{slice_get};
-ghost use Rattle.std.specs.List.Sorted.{IsStrictlySortedBy};
 ghost use Rattle.std.specs.Prelude.{◌≡◌, None, length, map, nat_lt, option_and_then, unwrap_or};
 ghost use Rattle.pim_model.specs.Judging.{last_moment};
 ghost use Rattle.pim_model.specs.Timers.{next_moment};
 ghost use Rattle.pim_offload.specs.Seen.{seen_event};
-ghost use Rattle.pim_types.specs.Keys.{key_cmp};
 ghost use Rattle.pim_types.specs.declared.event.EventKind.{EventKind};
 ghost use Rattle.pim_c.specs.Called.{CachedTold, Copied, KeepAnswered, Made, NameTold, OffloadTold, PacketTold, ReadBy, RowTold, Seen, Stepped, changed_in, copies_in, is_copy, may_differ_in, packets_in, probes_in, rows_in, standing_in, touched_in};
 ghost use Rattle.pim_ifset.specs.Members.{iface_of};
@@ -252,11 +250,10 @@ pub extern "C" fn viq_core_offload(
     router.offload(alloc, source, group, row)
 }
 
-/// How many sources the last event changed the rows of. Each stands once among them.
+/// How many sources the last event changed the rows of.
 #[unsafe(no_mangle)]
 pub extern "C" fn viq_core_changed(alloc: Global, router: &mut Handle) -> usize
     ensures count { result ≡ length (changed_in router.old.place.inside) }
-    ensures once { IsStrictlySortedBy key_cmp (changed_in router.old.place.inside) }
     ensures stays { router.new.place.inside ≡ router.old.place.inside }
 {
     router.changed(alloc)

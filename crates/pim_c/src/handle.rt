@@ -1,6 +1,5 @@
 //! A handle of a router.
 ghost use Rattle.std.specs.List.{slice_get};
-ghost use Rattle.std.specs.List.Sorted.{IsStrictlySortedBy};
 ghost use Rattle.std.specs.Option.{option_map_or};
 ghost use Rattle.std.specs.Prelude.{◌≡◌, ◌<◌, [], Err, IfErr, IfOk, MatchOption, None, Ok, OnErr, Option, Some, false, filter, is_some, length, option_and_then, unwrap_or};
 ghost use Rattle.pim_fanout.specs.Named.{keys_of};
@@ -14,7 +13,6 @@ ghost use Rattle.pim_model.specs.Timers.{next_moment};
 ghost use Rattle.pim_offload.specs.Offered.{Offered as OfferedValue};
 ghost use Rattle.pim_offload.specs.Seen.{seen_event};
 ghost use Rattle.pim_offrow.specs.Shown.{TellsOffload};
-ghost use Rattle.pim_types.specs.Keys.{key_cmp};
 ghost use Rattle.pim_c.specs.Told.{never};
 ghost use Rattle.pim_c.specs.Called.{AnswersTold, CachedTold, SourceKept, SourceKeptFrom, Made, NameTold, OfferTold, OffloadTold, PacketTold, Read, ReadFrom, Refused, RowTold, Seen, SeenFrom, Stepped, SteppedFrom, changed_in, copies_in, is_copy, lost, may_differ_in, new_shown, packets_in, probes_in, refused_number, rows_in, standing_in, to_send, touched_in};
 
@@ -246,11 +244,9 @@ impl Handle {
         is_there
     }
 
-    /// How many sources the last event changed the rows of. Each stands once among them.
-    #[tactic(auto, unfolding(std::specs::List::Sorted::IsStrictlySortedBy))]
+    /// How many sources the last event changed the rows of.
     pub fn changed(&mut self, alloc: Global) -> usize
         ensures count { result ≡ length (changed_in self.old.place.inside) }
-        ensures once { IsStrictlySortedBy key_cmp (changed_in self.old.place.inside) }
         ensures stays { self.new.place.inside ≡ self.old.place.inside }
     {
         let Some(session) = self.take(alloc) else {

@@ -317,7 +317,6 @@ impl Session {
     }
 
     /// The sources whose rows the last event changed, each once, as `Router::changed` lists them; none after a fault.
-    #[tactic(auto, unfolding(std::specs::List::Sorted::IsStrictlySortedBy))]
     pub fn changed(&self) -> &[SourceGroup]
         ensures names { keys_of result.now ≡ self.now.router.changed }
         ensures once { IsStrictlySortedBy key_cmp self.now.router.changed }
