@@ -1,7 +1,7 @@
 /* The multicast router in programs of other languages: PIM Sparse Mode (RFC 7761) and IGMPv3 (RFC 3376).
  *
- * A program tells the router what happens, by one call an event, and after each event sends the packets that it names.
- * The router starts no thread, opens no socket and reads no clock. With the program's own `clock_ms`, `receive`,
+ * A program gives the router its events, by one call an event, and after each event sends the packets that the router
+ * lists. The router starts no thread, opens no socket and reads no clock. With the program's own `clock_ms`, `receive`,
  * `wait_until` and `send`, and a `send_all` that is one line, `for (n = 0; viq_packet(router, n, &packet, room, sizeof
  * room); n++) send(&packet, room);`:
  *
@@ -14,25 +14,27 @@
  *         wait_until(viq_next_moment(router));                                         or a packet comes
  *     }
  *
- * moment     a time in ms from any beginning, at most 2^62: viq_advance tells the router the present one. draw       a
- * random number of 32 bits, another one with each event: random delays come of it. fact       what the router keeps of
- * a group or a source that is asked for, or that sends: a membership, a Join, an Assert, a
- *            source that is kept alive. viq_settings limits how many there are.
- * copy       a packet of data that the router forwards, as it leaves on an interface.
- * interface  a number, from 0, as the interfaces were given to viq_new.
+ * Words:
  *
- * Numbers are in the machine's order, an address too: 10.0.0.1 is 0x0a000001. Packets are whole IPv4 packets, as on the
- * wire. examples/library of the repository has whole programs, LIBRARY.md says what the program has to do,
- * and viqeshor/plane.h describes a kernel or a chip that forwards by itself.
+ * - moment: a timestamp, in ms from any beginning, at most 2^62. viq_advance gives the router the present.
+ * - draw: a random number of 32 bits, another one with each event. Random delays are computed from it.
+ * - fact: an entry of the router's state, of a group or a source that is asked for or that sends, or of a neighbour: a
+ *   membership, a Join, an Assert, a source that is kept alive. viq_settings limits how many there are.
+ * - copy: a packet of data that the router forwards, as it leaves on an interface.
+ * - interface: a number, from 0, in the order in which the interfaces were given to viq_new.
+ *
+ * Numbers are in the machine's byte order, addresses too: 10.0.0.1 is 0x0a000001. Packets are whole IPv4 packets, as on
+ * the wire. examples/library of the repository has whole programs, LIBRARY.md says what the program has to do, and
+ * viqeshor/plane.h describes a kernel or a chip that forwards by itself.
  *
  * Pointers: each is aligned to its type, points to as many values as the parameter after it counts, and overlaps no
- * other of its call. One that has a count of 0 after it may be NULL. A router that is NULL is answered as one that
- * isn't there. No other may be NULL. What they point to is the program's, is read or written in the call alone, and
- * none is kept.
+ * other of its call. One that has a count of 0 after it may be NULL. A router may be NULL: the call answers as if there
+ * were none. No other pointer may be NULL. What pointers point to belongs to the program. It is read or written during
+ * the call alone, and the router keeps no pointer.
  *
- * A router belongs to one call at a time, from whichever thread. Different routers know nothing of one another. No call
- * aborts, blocks or calls back, and none may be made from a signal handler. Memory is taken by malloc and realloc, and
- * given back by free: a block has to be aligned to each power of two up to 16 that divides its size. */
+ * At any time at most one call uses a router, from whichever thread. Different routers share nothing. No call aborts,
+ * blocks or calls back, and none may be made from a signal handler. Memory is taken by malloc and realloc, and given
+ * back by free: a block has to be aligned to each power of two up to 16 that divides its size. */
 #ifndef VIQESHOR_VIQESHOR_H
 #define VIQESHOR_VIQESHOR_H
 
@@ -53,15 +55,16 @@ extern "C" {
 #define VIQ_READ_ANSWER
 #endif
 
-/* The version of this header. While the first number is 0, each second one is another library: a program is compiled
- * anew. */
+/* The version of this header. While the first number is 0, each second one is another library, for which a program has
+ * to be compiled again. */
 #define VIQ_VERSION "0.1.0"
 #define VIQ_VERSION_MAJOR 0
 #define VIQ_VERSION_MINOR 1
 #define VIQ_VERSION_PATCH 0
 
-/* What a compiled program and a library have to agree on: the values, the calls and the numbers of this header and of
- * plane.h. It is another number wherever one of them changes. viq_new is given it, and refuses another one. */
+/* The number of what a compiled program and a library have to agree on: the values, the calls and the numbers of this
+ * header and of plane.h. Wherever one of them changes, this number changes. A program passes it to viq_new, which
+ * refuses any other. */
 #define VIQ_ABI 1
 
 /* The library's number: VIQ_ABI as it was built with. */
@@ -70,10 +73,10 @@ uint32_t viq_abi(void);
 /* The version of the library, a blank, and `proved` or `not proved`: how it was built. */
 const char *viq_version(void);
 
-/* A router. Who made it ends it by viq_end. */
+/* A router. Whoever made it by viq_new frees it by viq_end. */
 struct viq_router;
 
-/* A draw. It is a value of its own kind, so that no other number of an event stands in its place. */
+/* A draw. It has a type of its own, so that a compiler finds another number of an event in its place. */
 struct viq_draw {
     uint32_t bits;
 };
@@ -120,14 +123,14 @@ enum {
     VIQ_CONFIGURED_RANGES = 38,
 
     VIQ_MEMORY = 40,    /* memory was refused, and nothing has changed: the call may be made again */
-    VIQ_FAILED = 41,    /* the router was lost before: end it, and make another */
-    VIQ_LOST = 43,      /* memory was refused in the midst of a change: the router is lost, and VIQ_FAILED from now on */
+    VIQ_FAILED = 41,    /* the router was lost before: free it, and make another */
+    VIQ_LOST = 43,      /* memory was refused amid a change: the router is lost, and later events answer VIQ_FAILED */
     VIQ_NO_ROUTER = 50, /* the router is NULL */
     VIQ_NO_TABLE = 51,  /* no table has this letter */
     VIQ_NO_TIMER = 52,  /* no keepalive timer of the source runs, and none was started */
     VIQ_OTHER_ABI = 53, /* the program was compiled for another library than this one */
 
-    VIQ_IGNORED = 100, /* no answer: the reasons to ignore an event are above it */
+    VIQ_IGNORED = 100, /* no answer: the reasons to ignore an event are the numbers above it */
     VIQ_OWN = 101,
     VIQ_NOT_FOR_ME = 102,
     VIQ_OTHER_TYPE = 103,
@@ -138,15 +141,15 @@ enum {
     VIQ_ALREADY = 108
 };
 
-/* Whether an event was refused, or ignored, or the router is lost: now, or before. */
+/* Whether an event was refused; whether it was ignored; whether the router is lost, by this event or an earlier one. */
 static inline bool viq_is_refused(uint32_t answer) { return answer > VIQ_DONE && answer < VIQ_MEMORY; }
 static inline bool viq_is_ignored(uint32_t answer) { return answer > VIQ_IGNORED; }
 static inline bool viq_is_lost(uint32_t answer) { return answer == VIQ_LOST || answer == VIQ_FAILED; }
 
-/* What an answer says, in a few words; never NULL. */
+/* The meaning of an answer in a few words; never NULL. */
 const char *viq_answer_text(uint32_t answer);
 
-/* No timer runs, and a time that isn't there. */
+/* No time: no timer runs, or a row has no such time. */
 #define VIQ_NEVER UINT64_MAX
 
 /* No interface. */
@@ -193,26 +196,27 @@ struct viq_settings {
 };
 #define VIQ_USUAL_SETTINGS {65536, 2, 125, 100, 10, false}
 
-/* Makes a router, at moment 0 and with all interfaces down: 1 to VIQ_MOST_INTERFACES interfaces, at most
- * VIQ_MOST_ROUTES routes and VIQ_MOST_RANGES ranges. The second argument is VIQ_ABI. It answers VIQ_DONE, a refusal of
- * 30 to 38, VIQ_MEMORY or VIQ_OTHER_ABI. What `router` points to is written, and not read: the new router, or NULL
- * where there is none. */
+/* Makes a router, at time 0 and with all interfaces down: 1 to VIQ_MOST_INTERFACES interfaces, at most VIQ_MOST_ROUTES
+ * routes and VIQ_MOST_RANGES ranges. The second argument is VIQ_ABI. It answers VIQ_DONE, a refusal of 30 to 38,
+ * VIQ_MEMORY or VIQ_OTHER_ABI. It writes what `router` points to, and doesn't read it: the new router, or NULL where
+ * there is none. */
 VIQ_READ_ANSWER VIQ_NOT_NULL(1) VIQ_NOT_NULL(3)
 uint32_t viq_new(struct viq_router **router, uint32_t abi, const struct viq_settings *settings,
                  const struct viq_interface *interfaces, size_t interface_count, const struct viq_route *routes,
                  size_t route_count, const struct viq_range *ranges, size_t range_count);
 
-/* Ends the router, and gives its memory back. Of NULL nothing happens. */
+/* Frees the router and its memory. With NULL it does nothing. */
 void viq_end(struct viq_router *router);
 
 /* ---- events: each answers VIQ_DONE, a reason to ignore, a refusal of 1 to 26, VIQ_LOST, VIQ_FAILED or VIQ_NO_ROUTER
  *
- * Where memory is refused for an event the router is lost: VIQ_LOST, and VIQ_FAILED from then on. The event didn't
- * happen, and nothing of it is to be sent. Routes and ranges are copied before the router takes them: where memory is
- * refused for that alone, they answer VIQ_MEMORY, nothing has changed, and what is told below is as it was. An event
- * that is ignored, or refused for its bytes, its moment or its interface, takes no memory, and is never answered so. */
+ * Where memory is refused for an event the router is lost: it answers VIQ_LOST, and VIQ_FAILED to every later event.
+ * The event didn't happen, and nothing of it is to be sent. Routes and ranges are copied before the router takes them:
+ * where memory is refused for the copy, the call answers VIQ_MEMORY, nothing has changed, and the calls below return
+ * what they returned before. An event that is ignored, or refused for its bytes, its timestamp or its interface, takes
+ * no memory, and is answered neither VIQ_LOST nor VIQ_MEMORY. */
 
-/* Time passes up to the moment, which isn't before the present: each timer that ends by then fires. */
+/* Time passes up to `moment`, which may not be before the present: each timer that expires by then fires. */
 VIQ_READ_ANSWER
 uint32_t viq_advance(struct viq_router *router, uint64_t moment, struct viq_draw draw);
 
@@ -237,8 +241,8 @@ uint32_t viq_routes(struct viq_router *router, const struct viq_route *routes, s
 VIQ_READ_ANSWER
 uint32_t viq_ranges(struct viq_router *router, const struct viq_range *ranges, size_t count, struct viq_draw draw);
 
-/* ---- what is to be sent: by the last event that wasn't answered VIQ_MEMORY. Of a lost router, and of NULL, there is
- * nothing. */
+/* ---- what is to be sent, of the last event that wasn't answered VIQ_MEMORY. A lost router, and NULL, have nothing to
+ * send. */
 
 /* The most bytes that a packet has. */
 #define VIQ_MOST_BYTES 1528
@@ -261,8 +265,9 @@ struct viq_packet {
 VIQ_READ_ANSWER
 size_t viq_packets(const struct viq_router *router);
 
-/* One of them, counted from 0 in the order in which they are to leave. Its bytes go into the room, as many as it takes;
- * the rest of the room stays. It answers false, and writes nothing, where there is none of that number. */
+/* One of them, counted from 0 in the order in which they are to leave. Its bytes are written into `room`, as many as
+ * room_length allows; the rest of `room` is unchanged. It answers false, and writes nothing, where there is none of
+ * that number. */
 VIQ_NOT_NULL(3)
 bool viq_packet(const struct viq_router *router, size_t index, struct viq_packet *packet, uint8_t *room,
                 size_t room_length);
@@ -271,18 +276,19 @@ bool viq_packet(const struct viq_router *router, size_t index, struct viq_packet
 VIQ_READ_ANSWER
 uint32_t viq_copies(const struct viq_router *router);
 
-/* The moment at which the next timer ends, or VIQ_NEVER: viq_advance is to be called then. VIQ_NEVER of a lost router,
- * and of NULL. */
+/* The timestamp at which the next timer expires, or VIQ_NEVER: viq_advance is to be called then. It is VIQ_NEVER for a
+ * lost router, and for NULL. */
 VIQ_READ_ANSWER
 uint64_t viq_next_moment(const struct viq_router *router);
 
 /* ---- what the router knows */
 
-/* The state of a row of D, and that of its register in a row of F. */
+/* The state of a row of D, and that of the register in a row of F. */
 enum { VIQ_JOINED = 1, VIQ_PRUNE_PENDING = 2, VIQ_PRUNED = 3 };
 enum { VIQ_REGISTER_NONE = 0, VIQ_REGISTER_JOINED = 1, VIQ_REGISTER_JOIN_PENDING = 2, VIQ_REGISTER_PRUNED = 3 };
 
-/* A row of a table; SCENARIOS.md describes the tables. What its kind of row doesn't have is 0, or VIQ_NEVER for a time. */
+/* A row of a table; SCENARIOS.md describes the tables. A field that its kind of row doesn't have is 0, or VIQ_NEVER for
+ * a time. */
 struct viq_row {
     uint32_t table; /* its letter */
     uint32_t iface;
@@ -292,8 +298,8 @@ struct viq_row {
     bool is_rpt;     /* (S,G,rpt) */
     bool is_set;     /* G: EXCLUDE; A: lost; R: pruned; F: SPTbit */
     uint32_t state;  /* D: VIQ_JOINED, VIQ_PRUNE_PENDING or VIQ_PRUNED; F: its register, a VIQ_REGISTER_.. */
-    uint64_t end;    /* ms; U: the next Join; F: the keepalive timer */
-    uint64_t pending; /* ms; D: the end of Prune-Pending */
+    uint64_t end;    /* ms, when it expires; U: the next Join; F: the keepalive timer */
+    uint64_t pending; /* ms; D: when the Prune-Pending Timer expires */
 };
 
 /* Reads the table of a letter: N, G, S, D, A, U, R or F. It answers VIQ_DONE; VIQ_MEMORY, where nothing has changed;
@@ -301,9 +307,9 @@ struct viq_row {
 VIQ_READ_ANSWER
 uint32_t viq_read(struct viq_router *router, uint8_t letter);
 
-/* How many rows the last table had that was read, and one of them, counted from 0, ascending by their keys. It answers
- * false, and writes nothing, where there is none of that number. They stay as they were read, whatever happens to the
- * router. */
+/* How many rows the table had that was read last; and one of them, counted from 0, ascending by their keys. viq_row
+ * answers false, and writes nothing, where there is none of that number. The rows remain as they were read, whatever
+ * happens to the router, until a table is read again. */
 VIQ_READ_ANSWER
 size_t viq_rows(const struct viq_router *router);
 VIQ_NOT_NULL(3)
@@ -318,7 +324,7 @@ static inline bool viq_has(const struct viq_interfaces *set, uint32_t iface) {
     return iface < 128 && ((iface < 64 ? set->low >> iface : set->high >> (iface - 64)) & 1) != 0;
 }
 
-/* How data of a source to a group goes, as the forwarding cache has it. */
+/* How data of a source to a group is forwarded: a row of the forwarding cache. */
 struct viq_forwarding {
     uint32_t rpf;                      /* RPF_interface(S), or VIQ_NO_INTERFACE */
     uint32_t shared_rpf;               /* RPF_interface(RP(G)), or VIQ_NO_INTERFACE: also at the RP itself */
@@ -329,15 +335,15 @@ struct viq_forwarding {
     struct viq_interfaces shared_tree; /* inherited_olist(S,G,rpt) */
 };
 
-/* Tells it. It answers false, and writes nothing, where there is no fact of the source, of a lost router, and of NULL.
- * */
+/* Reads the row of a source and a group. It answers false, and writes nothing, where there is no fact of the source,
+ * for a lost router, and for NULL. */
 VIQ_READ_ANSWER VIQ_NOT_NULL(4)
 bool viq_cached(const struct viq_router *router, uint32_t source, uint32_t group, struct viq_forwarding *forwarding);
 
 /* ---- costs */
 
-/* What the last event cost: the trie nodes that it visited, and the rows of the forwarding cache that it evaluated, put
- * in and took out. 0 of a lost router, and of NULL. */
+/* What the last event cost: the count of trie nodes that it visited; and the rows of the forwarding cache that it
+ * evaluated, put in and took out, together. Both are 0 for a lost router, and for NULL. */
 VIQ_READ_ANSWER
 uint64_t viq_probes(const struct viq_router *router);
 VIQ_READ_ANSWER

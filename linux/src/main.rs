@@ -37,19 +37,22 @@ struct Asked {
 
 #[derive(Subcommand)]
 enum What {
-    /// Be the router, until SIGTERM; SIGHUP reads the file anew
+    /// Run the router until SIGTERM; SIGHUP reads the settings again
     Run {
+        /// The settings
         #[arg(default_value = USUAL_FILE)]
         file: PathBuf,
-        /// Only check the file: each problem is told with its line
+        /// Only check the settings: print each problem with its line
         #[arg(long)]
         check: bool,
     },
-    /// Ask a running router
+    /// Print what a running router knows
     Show {
         topic: Topic,
+        /// Print JSON
         #[arg(long)]
         json: bool,
+        /// The router's control socket
         #[arg(long, default_value = USUAL_SOCKET)]
         socket: PathBuf,
     },

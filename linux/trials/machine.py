@@ -7,7 +7,7 @@ import subprocess
 import sys
 import threading
 import time
-from typing import TYPE_CHECKING, Any
+from typing import TYPE_CHECKING
 
 from trials.network import HOST, SENDER, SOURCE, Failed, ended, first_after, goes_on, inside, ip, received, run, until
 
@@ -17,10 +17,6 @@ if TYPE_CHECKING:
 
 # The neighbours that FRR is.
 THREE = {"10.2.0.1", "10.3.0.1", "10.7.0.2"}
-
-
-def standing(net: Network, name: str) -> dict[str, Any]:
-    return next((row for row in net.show("interfaces") if row["interface"] == name), {"is_up": False, "address": None})
 
 
 def no_address_at_start(net: Network) -> None:
@@ -40,7 +36,7 @@ def no_address_at_start(net: Network) -> None:
         ip("router", "route", "replace", *route.split())
     ip("hosts", "route", "replace", "default", "via", "10.5.0.1")
     for port, address in ports:
-        until(f"{port} is up", 15, lambda: standing(net, port)["is_up"] and standing(net, port)["address"] == address)
+        until(f"{port} is up", 15, lambda: net.interface(port)["is_up"] and net.interface(port)["address"] == address)
     until("the router knows three neighbours", 40, lambda: net.neighbours() >= THREE)
 
 
@@ -59,7 +55,7 @@ def late_address(net: Network) -> str:
     sender = net.send("source", group, SOURCE, 2500, 100)
     until("the kernel forwards", 15, lambda: net.entry(SOURCE, group)["outgoing"] == ["to-hosts"])
     ip("router", "address", "add", "10.7.0.3/24", "dev", "to-lan")
-    until("to-lan is up", 10, lambda: standing(net, "to-lan")["is_up"])
+    until("to-lan is up", 10, lambda: net.interface("to-lan")["is_up"])
     until("the router has learned", 30, lambda: net.entry(SOURCE, group)["forwarding"] == "kernel")
     until("first is a neighbour there", 40, lambda: "10.7.0.2" in net.neighbours())
     sender.wait()
@@ -73,17 +69,17 @@ def interface_that_comes(net: Network) -> None:
     """one that the file doesn't name yet comes with SIGHUP, and one that it names comes when the machine has it"""
     more = '[[interface]]\nname = "to-nobody"\n'
     net.reload(net.settings + more)
-    if standing(net, "to-nobody")["is_up"]:
+    if net.interface("to-nobody")["is_up"]:
         raise Failed("it is up before it is there")
     ip("router", "link", "add", "to-nobody", "type", "veth", "peer", "name", "nobody")
     for port in ("to-nobody", "nobody"):
         ip("router", "link", "set", port, "up")
     ip("router", "address", "add", "10.8.0.1/24", "dev", "to-nobody")
-    until("it is up", 15, lambda: standing(net, "to-nobody")["is_up"])
+    until("it is up", 15, lambda: net.interface("to-nobody")["is_up"])
     ip("router", "link", "delete", "to-nobody")
-    until("it is down", 10, lambda: not standing(net, "to-nobody")["is_up"])
+    until("it is down", 10, lambda: not net.interface("to-nobody")["is_up"])
     net.reload(net.settings)
-    if standing(net, "to-nobody")["address"]:
+    if net.interface("to-nobody")["address"]:
         raise Failed("it is shown though the file hasn't it")
     until("the router knows three neighbours", 40, lambda: net.neighbours() >= THREE)
 
@@ -164,7 +160,7 @@ def vxlan_and_next_hop_objects(net: Network) -> None:
     ip("router", "link", "set", "vx7", "up")
     ranges = [f'[[rp]]\ngroups = "239.{number}.0.0/16"\naddress = "10.{number}.0.1"\n' for number in (70, 71, 72)]
     net.reload(net.settings + '[[interface]]\nname = "vx7"\n' + "".join(ranges))
-    until("it is up", 15, lambda: standing(net, "vx7")["is_up"])
+    until("it is up", 15, lambda: net.interface("vx7")["is_up"])
     if "can't be read" in net.log():
         raise Failed([line for line in net.log().splitlines() if "can't be read" in line][0])
     run(*inside("router", "sysctl", "-qw", "net.ipv4.nexthop_compat_mode=0"))
@@ -197,7 +193,7 @@ def show_while_the_router_works(net: Network) -> str:
     words = [sys.executable, SENDER, "to-router", "10.5.0.50", "reports", 65_536, 0.002]
     subprocess.run(inside("hosts", *words), check=True, stdout=subprocess.DEVNULL)
     # All of them: a join that comes behind reports of the flood waits for these, whatever `show` does.
-    until("the groups are known", 60, lambda: len(net.show("igmp") or []) >= 65_536)
+    until("the groups are known", 60, lambda: len(net.show("igmp")) >= 65_536)
     path = str(net.room / "router" / "control")
     silent = []
     for _ in range(32):
@@ -209,7 +205,7 @@ def show_while_the_router_works(net: Network) -> str:
 
     def ask() -> None:
         while not asking.is_set():
-            rows.append(len(net.show("igmp") or []))
+            rows.append(len(net.show("igmp")))
 
     asker = threading.Thread(target=ask)
     asker.start()

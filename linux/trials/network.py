@@ -188,7 +188,7 @@ class Network:
         with open(self.room / "router.log", "a") as log:
             words = ["env", *environment, self.room / "viqeshord", "run", self.room / "router.toml"]
             self.router = self.start("router", *AS_SERVICE, *words, stderr=log)
-        until("the router answers", 10, lambda: self.show("interfaces") is not None)
+        until("the router answers", 10, lambda: self.show("interfaces"))
 
     def stop_router(self) -> None:
         self.router.send_signal(signal.SIGTERM)
@@ -211,18 +211,31 @@ class Network:
         assert line in self.settings
         self.reload(self.settings.replace(line, line + lines))
 
-    def show(self, topic: str) -> Any:
+    def show(self, topic: str) -> list[dict[str, Any]]:
+        """What `viqeshord show` prints, as rows; none where the router doesn't answer."""
         words = [self.built / "viqeshord", "show", topic, "--json", "--socket", self.room / "router" / "control"]
         said = subprocess.run(list(map(str, words)), capture_output=True, text=True)
-        return json.loads(said.stdout)[topic] if said.returncode == 0 else None
+        return json.loads(said.stdout)[topic] if said.returncode == 0 else []
+
+    def interface(self, name: str) -> dict[str, Any]:
+        """The row of an interface; one that is down where the router doesn't answer."""
+        rows = [row for row in self.show("interfaces") if row["interface"] == name]
+        return rows[0] if rows else {"is_up": False, "address": None, "why_down": None}
+
+    def sent(self, name: str) -> int:
+        """How many packets the router sent on an interface."""
+        row = self.interface(name)
+        if "sent" not in row:
+            raise Failed(f"the router doesn't say what it sent on {name}")
+        return row["sent"]
 
     def entry(self, source: str, group: str) -> dict[str, Any]:
         """The router's entry, or an empty one."""
-        found = [row for row in self.show("mroute") or [] if (row["source"], row["group"]) == (source, group)]
+        found = [row for row in self.show("mroute") if (row["source"], row["group"]) == (source, group)]
         return found[0] if found else {"incoming": None, "outgoing": [], "flags": "", "forwarding": "", "packets": 0}
 
     def neighbours(self) -> set[str]:
-        return {row["address"] for row in self.show("neighbors") or []}
+        return {row["address"] for row in self.show("neighbors")}
 
     def counter(self, name: str) -> int:
         return next((row["count"] for row in self.show("counters") if row["counter"] == name), 0)

@@ -233,7 +233,7 @@ def link_deleted(net: Network) -> None:
     sender = net.send("source", group, SOURCE, 800, 10)
     until("the kernel forwards", 20, lambda: net.entry(SOURCE, group)["outgoing"] == ["to-hosts"])
     ip("router", "link", "delete", "to-lan")
-    is_gone = lambda: any(row["interface"] == "to-lan" and row["why_down"] for row in net.show("interfaces"))
+    is_gone = lambda: bool(net.interface("to-lan")["why_down"])
     until("it is said to be gone", 10, is_gone)
     goes_on(net, group, "without it")
     net.connect("router", "10.7.0.3/24", "lan", None)
@@ -249,11 +249,11 @@ def another_address(net: Network) -> str:
     receiver = net.receive("hosts", group, HOST, 1500, 90)
     sender = net.send("source", group, SOURCE, 1500, 20)
     until("the kernel forwards", 20, lambda: net.entry(SOURCE, group)["outgoing"] == ["to-hosts"])
-    standing = lambda: next(row for row in net.show("interfaces") if row["interface"] == "to-lan")
     for new, old in (("10.7.9.1/24", "10.7.0.3/24"), ("10.7.0.3/24", "10.7.9.1/24")):
         ip("router", "address", "add", new, "dev", "to-lan")
         ip("router", "address", "delete", old, "dev", "to-lan")
-        until(f"it has {new}", 10, lambda: standing()["address"] == new and standing()["is_up"])
+        has_it = lambda row: row["address"] == new and row["is_up"]
+        until(f"it has {new}", 10, lambda: has_it(net.interface("to-lan")))
         until("the router has learned", 30, lambda: net.entry(SOURCE, group)["forwarding"] == "kernel")
     until("first is back there", 40, lambda: "10.7.0.2" in net.neighbours())
     sender.wait()
@@ -329,13 +329,12 @@ def packed_joins(net: Network) -> str:
     for number, setting in enumerate(("pack = true\n", "pack = false\n")):
         net.reload(setting + net.settings)
         groups = [f"239.1.{30 + number}.{last}" for last in range(150)]
-        sent = lambda: next(row["sent"] for row in net.show("interfaces") if row["interface"] == "to-second")
-        before = sent()
+        before = net.sent("to-second")
         words = inside("hosts", sys.executable, SENDER, "to-router", HOST, "report", *groups)
         subprocess.run(words, check=True, stdout=subprocess.DEVNULL)
         joined = lambda: len(frr_joined(net, "second", f"239.1.{30 + number}."))
         until("second has the Joins", 20, lambda: joined() == len(groups))
-        said.append(sent() - before)
+        said.append(net.sent("to-second") - before)
     net.reload(net.settings)
     # The Hellos and queries of these seconds are among them.
     if said[0] > 20 or said[1] < len(groups):
@@ -373,7 +372,8 @@ def routes(net: Network) -> None:
     wanted = ["10.2.0.1", None, "10.3.0.1", "10.2.0.1"]
     until(f"the next hops are {wanted}", 5, lambda: [row["next_hop"] for row in net.show("rp")[len(RPS):]] == wanted)
     ip("router", "route", "delete", "blackhole", "10.61.0.0/16")
-    until("the hole is filled", 5, lambda: net.show("rp")[len(RPS) + 1]["next_hop"] == "10.2.0.1")
+    wanted[1] = "10.2.0.1"
+    until("the hole is filled", 5, lambda: [row["next_hop"] for row in net.show("rp")[len(RPS):]] == wanted)
     net.reload(net.settings)
 
 

@@ -89,6 +89,8 @@ class Death:
         sent = [copy for taken in done for copy in taken.copies if copy.is_register()]
         if sent:
             return self.register_end(sent[0])
+        if self.packet.link is None:
+            return self.misdirected(known[done[0].router])
         drs = [taken for taken in done if taken.iface is not None and trees.is_dr(known[taken.router], taken.iface)]
         if drs and ttl_of(drs[0]) <= 1:
             return self.used_up(drs[0])
@@ -98,6 +100,15 @@ class Death:
         name, link = state.router.name, state.router.interfaces[iface].link
         told = f"to {name} the source {self.source} isn't on {link}, nor on any other link of it"
         return End("stranger", f"{told}, so {name} doesn't register it", name, link, self.source)
+
+    def misdirected(self, state: trees.Known) -> End:
+        """A Register from outside the scenario came to a router that isn't on the host's way, or isn't the RP."""
+        name, rp = state.router.name, trees.rp_of(state, self.group)
+        if served.is_rp(state, self.group):
+            told = f"it came in a Register to {name} alone, and on no link of {self.source}"
+            return End("not the source's dr", told, name, None, self.source)
+        told = f"has {rp} as the RP of {self.group}" if rp else f"has no RP for {self.group}"
+        return End("rp disagrees", f"it came in a Register to {name}, which {told}, and forwards nothing of it", name)
 
     def register_end(self, copy: trace.Copy) -> End:
         """What became of a Register."""

@@ -198,19 +198,27 @@ class Teller:
         whole = None
         for said in chain(map(printed.parsed, lines), [None]):
             if isinstance(said, printed.Emission):
-                self.sending(whole, said)
+                self.sending(self.whole(whole, Step, said), said)
             elif said is None or isinstance(said, (printed.Answer, printed.Heading)):
                 if whole is not None:
                     yield whole
                 whole = self.begun_by(said)
             else:
-                whole.rows.append(said)
+                self.whole(whole, Tables, said).rows.append(said)
+
+    @staticmethod
+    def whole(begun: Step | Tables | None, wanted: type[R], said: printed.Emission | printed.Row) -> R:
+        """What a line belongs to: a packet to the step of its answer, a row to the tables of its router."""
+        if isinstance(begun, wanted):
+            return begun
+        if wanted is Step:
+            raise Untold(f"packet {said.number} stands under no answer of a router")
+        raise Untold(f"a row of the table {type(said).__name__} stands under no line `router NAME`")
 
     def begun_by(self, said: printed.Answer | printed.Heading | None) -> Step | Tables | None:
         if isinstance(said, printed.Answer):
             return self.step(said)
         return None if said is None else Tables(said.router, self.moment(said.router))
-
 
     def told(self, lines: Iterable[str]) -> tuple[list[Step], dict[str, Tables]]:
         """All steps, and the tables by routers' names."""

@@ -128,6 +128,29 @@ class Served(unittest.TestCase):
         network.said += [{"do": "frame", "router": "hub", "iface": 1, "hex": each.hex()} for each in (hello, wins)]
         self.ends(network, f"hub, on 1 hub-east: it lost the assert of ({SOURCE}, {GROUP}) to 10.0.2.9")
 
+    def test_a_register_from_outside_that_comes_to_another_router_than_the_rp(self):
+        spare = router("spare", [("studio", "10.7.0.2/24")])
+        for kept, why in (([f"239.0.0.0/8 {RP}"], f"has {RP} as the RP of {GROUP}"), ([], f"has no RP for {GROUP}")):
+            network = Network(report(TO_EX, GROUP), registered("10.7.0.2", "spare"))
+            network.routers.append({**spare, "rps": kept})
+            lost = f"packet 1 didn't come: it came in a Register to spare, which {why}, and forwards nothing of it"
+            with self.subTest(kept=kept):
+                self.ends(network, f"it came in a Register to spare, which {why}", lost)
+
+    def test_a_register_from_outside_that_comes_to_the_rp_where_the_source_is_asked_for_by_its_own_tree(self):
+        network = Network(report(ALLOW, GROUP, SOURCE), registered("10.9.0.1", "far"))
+        network.routers.append({**router("far", [("attic", "10.9.0.1/24")]), "rps": ["239.0.0.0/8 10.9.0.1"]})
+        lost = f"packet 1 didn't come: it came in a Register to far alone, and on no link of {SOURCE}"
+        lines, _ = answer(network, HOST, GROUP, SOURCE)
+        self.assertTrue(any(lost in line for line in lines), lines)
+
+
+def registered(destination, name):
+    """A Register from outside the scenario, with a packet of the source."""
+    inner = packets.write_data(SOURCE, GROUP, b"hello")
+    outer = packets.write_pim(packets.REGISTER, "10.99.0.1", destination, 60, bytes(4) + inner)
+    return {"do": "unicast", "router": name, "hex": outer.hex()}
+
 
 def network_of(chance):
     """A network of some routers with what may be wrong in one, a source, and two hosts."""

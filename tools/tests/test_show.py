@@ -1,4 +1,5 @@
 """The printed lines shown to people."""
+import subprocess
 import unittest
 from collections import Counter
 
@@ -42,6 +43,16 @@ class Shown(unittest.TestCase):
         lines = (stored.EXAMPLES / "one_join.out").read_text().splitlines()
         with self.assertRaises((story.Untold, LookupError)):
             list(show.shown(lines, scenario.read(stored.EXAMPLES / "lan_assert.toml")))
+
+    def test_a_row_or_a_packet_below_no_line_of_its_router_is_said_to_be_one(self):
+        row, packet, answer, heading = "N 0 10.0.2.2 110000", "frame 1 lan 4500", "move 1 r done", "router r"
+        for lines, why in (([row], "`router NAME`"), ([answer, row], "`router NAME`"), ([packet], "packet 1 stands"),
+                           ([heading, packet], "packet 1 stands")):
+            with self.subTest(lines=lines), self.assertRaisesRegex(story.Untold, why):
+                list(show.shown(lines, None))
+            said = subprocess.run([stored.TOOLS / "show"], input="\n".join(lines), text=True, capture_output=True)
+            self.assertEqual((said.returncode, said.stderr.count("\n")), (1, 1), said.stderr)
+            self.assertRegex(said.stderr, why)
 
 
 if __name__ == "__main__":

@@ -1,7 +1,7 @@
 //! A multicast router: PIM Sparse Mode (RFC 7761) and IGMPv3 (RFC 3376). It is what `include/viqeshor/viqeshor.h`
 //! describes.
 //!
-//! A program tells a [`Router`] what happens, by one call an event, and after each sends the packets that it names. The
+//! A program gives a [`Router`] its events, by one call an event, and after each sends the packets that it lists. The
 //! router starts no thread, opens no socket and reads no clock. With the program's own `clock_ms`, `receive`,
 //! `wait_until`, `send` and `random`:
 //!
@@ -19,7 +19,8 @@
 //! }
 //! ```
 //!
-//! Moments are milliseconds from any beginning, at most 2^62. A draw is a random number, another one with each event.
+//! A moment is a timestamp, in milliseconds from any beginning, at most 2^62. A draw is a random number, another one
+//! with each event.
 #![deny(missing_debug_implementations, unsafe_op_in_unsafe_fn)]
 use std::ffi::CStr;
 use std::fmt;
@@ -242,7 +243,7 @@ pub enum Error {
     Refused(Refusal),
     /// Memory was refused, and nothing has changed: the call may be made again.
     Memory,
-    /// Memory was refused in the midst of a change: the router is lost, and answers `Failed` from now on.
+    /// Memory was refused amid a change: the router is lost, and answers `Failed` to every later event.
     Lost,
     /// The router was lost before.
     Failed,
@@ -437,7 +438,7 @@ impl Interfaces {
     }
 }
 
-/// How data of a source to a group goes.
+/// How data of a source to a group is forwarded.
 #[repr(C)]
 #[derive(Clone, Copy, Debug, Default, PartialEq, Eq)]
 #[non_exhaustive]
@@ -468,16 +469,16 @@ impl Forwarding {
     }
 }
 
-/// What a data plane may do of the packets of a source to a group.
+/// What a data plane may do with the packets of a source to a group.
 #[repr(C)]
 #[derive(Clone, Copy, Debug, Default, PartialEq, Eq)]
 #[non_exhaustive]
 pub struct PlaneRow {
-    /// The source has a fact: the row stays until `Router::changed` has the source, else until `Router::may_differ` is
-    /// true of it.
+    /// The source has a fact: the row is valid until `Router::changed` lists the source. Otherwise it is valid until
+    /// `Router::may_differ` is true for the source.
     pub is_known: bool,
     incoming: u32,
-    /// Where copies of accepted packets leave, but for the interface on which they came.
+    /// Where copies of accepted packets leave, except the interface on which they came.
     pub outgoing: Interfaces,
     /// Where a packet shows that the source is alive, accepted or not.
     pub alive: Interfaces,
@@ -638,7 +639,7 @@ pub fn answer_text(answer: u32) -> &'static str {
     text(unsafe { viq_answer_text(answer) })
 }
 
-/// A router, which ends where it is dropped.
+/// A router, which is freed when it is dropped.
 // The pointer is of a router that `viq_new` made, until it is dropped: this is what makes each call below safe. Those
 // that change it borrow it alone.
 pub struct Router(NonNull<c_void>);
@@ -657,7 +658,7 @@ impl fmt::Debug for Router {
 }
 
 impl Router {
-    /// Makes a router, at moment 0 and with all interfaces down.
+    /// Makes a router, at time 0 and with all interfaces down.
     pub fn new(
         settings: &Settings,
         interfaces: &[Interface],
@@ -698,14 +699,14 @@ impl Router {
 
     // ---- events
 
-    /// Time passes up to the moment, which isn't before the present.
+    /// Time passes up to the timestamp `moment`, which may not be before the present.
     pub fn advance(&mut self, moment: u64, draw: u32) -> Result<Verdict, Error> {
         // SAFETY: the router is there and borrowed alone.
         verdict(unsafe { viq_advance(self.at_mut(), moment, Draw { bits: draw }) })
     }
 
-    /// Time passes up to now, timer by timer, each with a draw of its own; each packet that leaves meanwhile is handed
-    /// on with its bytes.
+    /// Time passes up to the timestamp `now`, timer by timer, each with a draw of its own; each packet that leaves on
+    /// the way is passed to `send` with its bytes.
     pub fn run_to(
         &mut self,
         now: u64,
@@ -769,7 +770,7 @@ impl Router {
         unsafe { viq_packets(self.at()) }
     }
 
-    /// One of them, counted from 0; its bytes go into the room, as many as it takes.
+    /// One of them, counted from 0; its bytes are written into `room`, as many as it holds.
     pub fn packet(&self, index: usize, room: &mut [u8]) -> Option<Packet> {
         let mut packet = raw::Packet::default();
         // SAFETY: the router is there; the room is passed as its pointer and its length.
@@ -777,7 +778,7 @@ impl Router {
         is_there.then(|| Packet::told(packet))
     }
 
-    /// Hands on each of them with its bytes, in the order in which they are to leave.
+    /// Passes each of them to `take` with its bytes, in the order in which they are to leave.
     pub fn each_packet(&self, room: &mut [u8; MOST_BYTES], mut take: impl FnMut(&Packet, &[u8])) {
         for index in 0..self.packet_count() {
             if let Some(packet) = self.packet(index, room) {
@@ -801,7 +802,7 @@ impl Router {
         unsafe { viq_copies(self.at()) as usize }
     }
 
-    /// The moment at which the next timer ends: time is to pass then.
+    /// The timestamp at which the next timer expires: time is to pass then.
     pub fn next_moment(&self) -> Option<u64> {
         // SAFETY: the router is there.
         let moment = unsafe { viq_next_moment(self.at()) };
@@ -832,8 +833,8 @@ impl Router {
         unsafe { viq_row(self.at(), index, &mut row) }.then(|| Row::told(row))
     }
 
-    /// How data of a source to a group goes, as the forwarding cache has it; `None` where there is no fact of the
-    /// source.
+    /// How data of a source to a group is forwarded, as the forwarding cache has it; `None` where there is no fact of
+    /// the source.
     pub fn cached(&self, source: Ipv4Addr, group: Ipv4Addr) -> Option<Forwarding> {
         let mut told = Forwarding::default();
         // SAFETY: the router is there.
@@ -842,7 +843,7 @@ impl Router {
 
     // ---- a data plane: `include/viqeshor/plane.h` says what one owes
 
-    /// What a data plane may do of the packets of a source to a group; `None` where all are the router's.
+    /// What a data plane may do with the packets of a source to a group; `None` where all are the router's.
     pub fn offload(&self, source: Ipv4Addr, group: Ipv4Addr) -> Option<PlaneRow> {
         let mut row = PlaneRow::default();
         // SAFETY: the router is there.
@@ -862,22 +863,22 @@ impl Router {
         unsafe { viq_changed_source(self.at(), index, &mut name) }.then_some(name)
     }
 
-    /// Whether what `offload` tells of a source, with a fact or without one, may have changed at the last event.
+    /// Whether what `offload` returns for a source, with a fact or without one, may have changed at the last event.
     pub fn may_differ(&self, source: Ipv4Addr, group: Ipv4Addr) -> bool {
         // SAFETY: the router is there.
         unsafe { viq_may_differ(self.at(), source.into(), group.into()) }
     }
 
-    /// An event: a data plane saw a packet of a source to a group on an interface. Its copies and its Register don't
-    /// leave.
+    /// An event: a data plane saw a packet of a source to a group on an interface. No copy and no Register of the
+    /// packet leaves.
     pub fn seen(&mut self, iface: u32, source: Ipv4Addr, group: Ipv4Addr, draw: u32) -> Result<Verdict, Error> {
         // SAFETY: the router is there and borrowed alone.
         verdict(unsafe { viq_seen(self.at_mut(), iface, source.into(), group.into(), Draw { bits: draw }) })
     }
 
-    /// A data plane forwarded a packet of a source to a group at a moment, at most 2^62: the source's keepalive timer,
-    /// where it runs, ends 210 s after that, or when it would end later. It tells whether the timer runs; it is started
-    /// by `seen` alone.
+    /// A data plane forwarded a packet of a source to a group at the timestamp `moment`, at most 2^62. Where the
+    /// source's keepalive timer runs, its expiry moves to 210 s after that, unless it is later already. Returns whether
+    /// the timer runs; only `seen` starts one.
     pub fn keep(&mut self, source: Ipv4Addr, group: Ipv4Addr, moment: u64) -> Result<bool, Error> {
         // SAFETY: the router is there and borrowed alone.
         match unsafe { viq_keep(self.at_mut(), source.into(), group.into(), moment) } {

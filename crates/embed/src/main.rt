@@ -1,6 +1,7 @@
-//! A router in a program of its own. First two interfaces come up, Hellos and a Join(*,G) arrive, and time goes on: what
-//! becomes of each event is printed, and what leaves. Then six plays, each with a router of its own, tell of the forwarding
-//! cache and what it costs: the row of a source, how many trie nodes a packet visits, and how many rows an event touches.
+//! A router in a program of its own. First two interfaces come up, Hellos and a Join(*,G) arrive, and time goes on:
+//! what becomes of each event is printed, and what leaves. Then six plays, each with a router of its own, tell of the
+//! forwarding cache and what it costs: the row of a source, how many trie nodes a packet visits, and how many rows an
+//! event touches.
 #![tactic(auto)]
 
 mod config;

@@ -12,7 +12,7 @@ use Rattle.igmp_wire.specs.Reports.{report_test, report_of}
 abbrev pub type_of : List ℕ → ℕ
 type_of b = slice_index b 0
 
--- a report of version 1, a report or a leave of version 2
+-- The type is that of a version 1 report, or of a version 2 report or leave.
 abbrev pub is_old_type : ℕ → Bool
 is_old_type type = (type == 0x12) || (type == 0x16) || (type == 0x17)
 

@@ -8,7 +8,7 @@ use Rattle.pim_ip.specs.Checksum.{with_checksum}
 use Rattle.pim_ip.specs.Ipv4.{is_multicast}
 use Rattle.igmp_wire.specs.Values.{Query}
 
--- n addresses from place p on
+-- The n addresses from place p on.
 unfoldable pub addresses_at : List ℕ → ℕ → ℕ → List ℕ
 addresses_at b p zero = []
 addresses_at b p (suc n) = big_from p 4 b ∷ addresses_at b (p + 4) n
@@ -19,7 +19,7 @@ group_of b = big_from 4 4 b
 abbrev pub source_count_of : List ℕ → ℕ
 source_count_of b = big_from 10 2 b
 
--- 8 bytes are a query of an older version, 9 to 11 no query at all
+-- The tests of a query: 8 bytes are a query of an older version, 9 to 11 are no query.
 unfoldable pub query_test : List ℕ → Result (Unit {0}) Refusal
 query_test b =
     expect (not (length b == 8)) OldVersion
@@ -37,7 +37,7 @@ query_of b = record {
   sources = addresses_at b 12 (source_count_of b);
 }
 
--- a query as it is written, with its codes given
+-- The bytes of a query, with its codes given.
 unfoldable pub query_text : Query → List ℕ
 query_text q =
     with_checksum (0x11 ∷ q.max_response_code ∷ [])

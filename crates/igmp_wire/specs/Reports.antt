@@ -29,8 +29,7 @@ code_of_type ToExclude = 4
 code_of_type Allow = 5
 code_of_type Block = 6
 
--- a record at place p: type, length of the auxiliary data in words, number of sources, group, sources,
--- auxiliary data
+-- A record at place p: type, length of the auxiliary data in words, number of sources, group, sources, auxiliary data.
 abbrev pub record_type_at : List ℕ → ℕ → Option RecordType
 record_type_at b p = type_of_code (slice_index b p)
 
@@ -43,11 +42,11 @@ source_count_at b p = big_from (p + 2) 2 b
 abbrev pub record_group_at : List ℕ → ℕ → ℕ
 record_group_at b p = big_from (p + 4) 4 b
 
--- the place after the record at place p
+-- The place after the record at place p.
 abbrev pub after_record : List ℕ → ℕ → ℕ
 after_record b p = p + 8 + 4 * source_count_at b p + 4 * auxiliary_length_at b p
 
--- the tests of n records from place p on; the group of an unknown type may be anything
+-- The tests of n records from place p on; the group of an unknown type may be anything.
 unfoldable pub records_test : List ℕ → ℕ → ℕ → Result (Unit {0}) Refusal
 records_test b p zero = Ok tt
 records_test b p (suc n) =
@@ -61,13 +60,13 @@ abbrev pub record_of_known_type : ℕ → List ℕ → Option RecordType → Lis
 record_of_known_type group sources None = []
 record_of_known_type group sources (Some type) = record { type = type; group = group; sources = sources } ∷ []
 
--- the record at place p, unless it is skipped for its type or for a group of 224.0.0.0/24
+-- The record at place p, unless it is skipped for its type or for a group of 224.0.0.0/24.
 unfoldable pub record_at : List ℕ → ℕ → List Record
 record_at b p =
     if is_link_local (record_group_at b p) then []
     else record_of_known_type (record_group_at b p) (filter is_unicast (addresses_at b (p + 8) (source_count_at b p))) (record_type_at b p)
 
--- the n records from place p on, but for those that are skipped
+-- The n records from place p on, without those that are skipped.
 unfoldable pub records_at : List ℕ → ℕ → ℕ → List Record
 records_at b p zero = []
 records_at b p (suc n) = record_at b p ++ records_at b (after_record b p) n

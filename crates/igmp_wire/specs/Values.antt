@@ -1,8 +1,8 @@
--- What a query and a group record say.
+-- The values of a query and of a group record.
 use Rattle.std.specs.Prelude.{ℕ, Bool, List}
 use Rattle.igmp_wire.specs.declared.report.RecordType.{RecordType}
 
--- a query: group 0 asks for all groups, no sources for the whole group
+-- A query: group 0 queries all groups, and no sources the whole group.
 pub record Query : Type 0 where
   pub max_response_code : ℕ
   pub group : ℕ
@@ -11,7 +11,7 @@ pub record Query : Type 0 where
   pub interval_code : ℕ
   pub sources : List ℕ
 
--- a group record: its sources in their order, but for those that no host can be
+-- A group record: its sources in their order, without those that no host can be.
 pub record Record : Type 0 where
   pub type : RecordType
   pub group : ℕ

@@ -47,11 +47,11 @@ abbrev pub unsummed_report : List Record → List ℕ
 unsummed_report records =
     0x22 ∷ 0 ∷ 0 ∷ 0 ∷ 0 ∷ 0 ∷ big_bytes 2 (length records) ++ flat_map record_text records
 
--- a message with its checksum in place of the two bytes behind the first two
+-- A message with its checksum in its third and fourth byte.
 abbrev pub summed : List ℕ → List ℕ
 summed bytes = with_checksum (take 2 bytes) (drop 4 bytes)
 
--- the bytes begin with those of old
+-- The bytes begin with the old ones.
 abbrev pub BeginsWith : List ℕ → List ℕ → Type 0
 BeginsWith bytes old = take (length old) bytes ≡ old
 
@@ -60,7 +60,7 @@ abbrev pub QueryReadsBack : Query → Type 0
 QueryReadsBack q =
     IsTrue ((q.group == 0) || is_multicast q.group) → igmp_reading (query_text q) ≡ Ok (query_view q)
 
--- a record of which nothing is refused or skipped
+-- A record of which nothing is refused or skipped.
 pub record IsKept (r : Record) : Type 0 where
   pub group : IsTrue (is_multicast r.group)
   pub routable : IsTrue (not (is_link_local r.group))

@@ -1,5 +1,5 @@
-//! The codes by which a query tells its times (RFC 3376, sections 4.1.1 and 4.1.7): a number below
-//! 128 as itself, a greater one as a mantissa of 4 bits and an exponent of 3.
+//! The codes by which a query gives its times (RFC 3376, sections 4.1.1 and 4.1.7): a number below 128 as itself, a
+//! greater one as a mantissa of 4 bits and an exponent of 3.
 ghost use Rattle.std.specs.Prelude.{◌≡◌, ℕ, ◌<◌, ◌≤◌};
 ghost use Rattle.igmp_wire.specs.Codes.{code_value, value_code};
 

@@ -6,7 +6,7 @@ use std::marker::Model;
 /// Where the sources of a query begin.
 const SOURCES_PLACE: usize = 12;
 
-/// A query that was read, lent from its bytes (RFC 3376, section 4.1).
+/// A query that was read, borrowed from its bytes (RFC 3376, section 4.1).
 #[derive(Drop)]
 pub struct QueryView<'a> {
     message: &'a [u8],
@@ -67,7 +67,7 @@ impl<'a> QueryView<'a> {
         address_at(self.message, 4)
     }
 
-    /// Whether routers that hear the query leave their timers as they are.
+    /// Whether routers that hear the query leave their timers unchanged.
     pub fn is_suppress(&self) -> bool
         ensures { result ≡ self.now.suppress }
     {

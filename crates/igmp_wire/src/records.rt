@@ -21,7 +21,7 @@ fn record_length(message: &[u8], place: usize) -> usize
     RECORD_LENGTH + 4 * source_count + 4 * auxiliary_length
 }
 
-/// Tests the record at a place, and gives the place after it.
+/// Tests the record at a place, and returns the place after it.
 #[tactic(auto, unfolding(crate::specs::Parts::record_reading))]
 pub(crate) fn record_end(message: &[u8], place: usize) -> Result<usize, Refusal>
     requires { place ≤ length message.now }
@@ -61,7 +61,7 @@ fn kept_record(message: &[u8], place: usize) -> Option<RecordView<'_>>
     })
 }
 
-/// A group record of a report, lent from its bytes.
+/// A group record of a report, borrowed from its bytes.
 #[derive(Drop)]
 pub struct RecordView<'a> {
     message: &'a [u8],
@@ -101,7 +101,7 @@ impl<'a> RecordView<'a> {
         address_at(self.message, self.place + 4)
     }
 
-    /// The sources in their order, but for those that no host can be.
+    /// The sources in their order, without those that no host can be.
     pub fn sources(&self) -> Sources<'a>
         ensures { result ≡ self.now.sources }
     {
@@ -110,7 +110,7 @@ impl<'a> RecordView<'a> {
     }
 }
 
-/// The sources of a record in their order, but for those that no host can be.
+/// The sources of a record in their order, without those that no host can be.
 #[derive(Drop)]
 pub struct Sources<'a> {
     addresses: Addresses<'a>,
@@ -155,7 +155,7 @@ impl<'a> Iterator for Sources<'a> {
     }
 }
 
-/// The records of a report in their order, but for those that are skipped.
+/// The records of a report in their order, without those that are skipped.
 #[derive(Drop)]
 pub struct Records<'a> {
     message: &'a [u8],

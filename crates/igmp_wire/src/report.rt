@@ -52,7 +52,7 @@ impl RecordType {
     }
 }
 
-/// A report that was read, lent from its bytes (RFC 3376, section 4.2).
+/// A report that was read, borrowed from its bytes (RFC 3376, section 4.2).
 #[derive(Drop)]
 pub struct ReportView<'a> {
     message: &'a [u8],
@@ -89,8 +89,8 @@ impl<'a> ReportView<'a> {
         Ok(ReportView { message })
     }
 
-    /// The records in their order, but for those of an unknown type and those of a group whose
-    /// packets never leave their link.
+    /// The records in their order, without those of an unknown type and those of a group whose packets never leave
+    /// their link.
     #[tactic(auto, unfolding(crate::specs::Reports::report_test, crate::specs::Reports::report_of))]
     pub fn records(&self) -> Records<'a>
         ensures { result ≡ self.now }

@@ -12,14 +12,14 @@ use std::alloc::AllocError;
 /// Where the checksum stands in a message.
 const CHECKSUM_PLACE: usize = 2;
 
-/// What a query says besides its sources.
+/// A query without its sources.
 #[derive(Clone, Copy)]
 pub struct QueryHeader {
     /// The code of the time in which hosts answer, in tenths of a second.
     pub max_response_code: u8,
     /// The group that is asked for, or 0.0.0.0 for all groups.
     pub group: Addr,
-    /// Whether routers that hear the query leave their timers as they are.
+    /// Whether routers that hear the query leave their timers unchanged.
     pub suppress: bool,
     /// The robustness variable, below 8.
     pub robustness: u8,
@@ -150,7 +150,7 @@ fn append_report(out: &mut Vec<u8>, records: &[GroupRecord<'_>]) -> Result<(), A
     Ok(())
 }
 
-/// Makes the checksum of the message from a place on, or takes back what there is of it.
+/// Writes the checksum of the message from a place on, or removes the unfinished message.
 fn finish(
     out: &mut Vec<u8>,
     start: usize,

@@ -1,5 +1,5 @@
--- What is asked of a source, with other neighbours: whether it is named is what it was where its next hops are the same, and so
--- is what is answered of it, where these are the same or it isn't wanted.
+-- What is asked of a source, with other neighbours: whether it is named is what it was where its next hops are the
+-- same, and so is what is answered of it, where these are the same or it isn't wanted.
 use Rattle.std.proofs.Common.{◌≡◌, ◌&&◌, ◌||◌, ℕ, Bool, true, false, not, cond, Option, Some, None, is_some, refl, sym, ◌∙◌}
 use Rattle.std.specs.Option.{option_map_or}
 use Rattle.pim_types.specs.declared.fact.NeighbourRow.{NeighbourRow}

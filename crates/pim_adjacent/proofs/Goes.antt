@@ -1,5 +1,5 @@
--- What goes after a change of neighbours, and which registers are settled, is of the touched keys. With the neighbours that
--- there were each state on the way agrees with the opening on all other keys.
+-- What goes after a change of neighbours, and which registers are settled, is of the touched keys. With the neighbours
+-- that there were each state on the way agrees with the opening on all other keys.
 use Rattle.std.proofs.Common.{◌≡◌, ◌&&◌, ◌||◌, ℕ, Bool, true, false, not, cond, List, ◌++◌, filter, fold, Some, option_map, refl, sym, ap, ◌∙◌}
 use Rattle.std.specs.Cmp.{first_so, second_so}
 use Rattle.std.specs.Cmp.Derive.{both_true}

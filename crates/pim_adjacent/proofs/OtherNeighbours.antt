@@ -1,5 +1,5 @@
--- The macros of a state with other neighbours: all are as they were where the router is the DR of the same interfaces, but
--- for the upstream neighbours, which are where the next hops are.
+-- The macros of a state with other neighbours: all are as they were where the router is the DR of the same interfaces,
+-- but for the upstream neighbours, which are where the next hops are.
 use Rattle.std.proofs.Common.{◌≡◌, ℕ, Bool, false, not, ◌||◌, ◌&&◌, cond, refl, ap, ◌∙◌}
 use Rattle.std.specs.Option.{option_map_or, option_or}
 use Rattle.pim_types.specs.declared.fact.Key.{Key}

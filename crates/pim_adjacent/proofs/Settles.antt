@@ -1,5 +1,5 @@
--- All that follows of a change of neighbours follows of the keys that take what it moves: the views of what isn't touched are as
--- they were. So is what is asked of sources that aren't touched.
+-- All that follows of a change of neighbours follows of the keys that take what it moves: the views of what isn't
+-- touched are as they were. So is what is asked of sources that aren't touched.
 use Rattle.std.proofs.Common.{◌≡◌, ◌&&◌, ◌||◌, ℕ, Bool, true, false, not, List, [], ◌++◌, Option, option_map, refl, sym, ap, ◌∙◌, eq-eqb}
 use Rattle.std.specs.Cmp.{first_so, second_so}
 use Rattle.std.specs.List.{AllByRecursion, list_all, list_any}

@@ -1,4 +1,5 @@
--- A source that isn't touched: with a fact it isn't named, and with a fact or without it is answered in the end as it was.
+-- A source that isn't touched: with a fact it isn't named, and with a fact or without it is answered in the end as it
+-- was.
 use Rattle.std.proofs.Common.{◌≡◌, ◌==◌, ◌&&◌, ◌||◌, ℕ, Bool, true, false, List, [], is_some, map, refl, sym, ap, ◌∙◌, eqb-true}
 use Rattle.std.specs.Cmp.{first_so, second_so}
 use Rattle.std.specs.List.{list_any}

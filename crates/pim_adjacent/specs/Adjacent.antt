@@ -1,5 +1,5 @@
--- A change of neighbours that leaves on which interfaces the router is the DR. It moves what looks to another upstream
--- neighbour after it, and no more: all that follows of it follows of keys that touch that, of which there are facts.
+-- A change of neighbours after which the router is the DR of the same interfaces. It moves only what has another
+-- upstream neighbour after it: all that follows of it follows of the keys that touch that, of which there are facts.
 use Rattle.std.specs.List.{flat_map, list_all, list_any}
 use Rattle.std.specs.Prelude.{Bool, List, None, Option, Some, [], false, filter, if◌then◌else◌, is_some, map, not, true, ℕ, ◌&&◌, ◌++◌, ◌==◌, ◌||◌, ◌≡◌, ◌∷◌}
 use Rattle.pim_types.specs.declared.config.Route.{Route}
@@ -29,7 +29,7 @@ use Rattle.pim_reach.specs.Named.{is_source_named}
 
 -- ---- any such change
 
--- with these neighbours
+-- The state with these neighbours.
 abbrev pub with_neighbour_rows : State → Table NeighbourRow → State
 with_neighbour_rows s rows = record s { neighbours = rows }
 
@@ -37,15 +37,15 @@ with_neighbour_rows s rows = record s { neighbours = rows }
 abbrev pub has_same_hop : State → State → Option Path → Bool
 has_same_hop o c path = same_hop (nbr o path) (nbr c path)
 
--- the keys touch the machines of (*,G) where another neighbour leads to RP(G), and those of a source where another leads
--- to it
+-- the keys touch the machines of (*,G) where another neighbour leads to RP(G), and those of a source where another
+-- leads to it
 abbrev pub is_touched_where_hop_differs : List Key → State → State → Key → Bool
 is_touched_where_hop_differs keys o c k =
     (has_same_hop o c (rp_route o (group_in k)) || touching keys (star_key 0 (group_in k)))
     && (is_star k || has_same_hop o c (route o (source_in k))
     || touching keys (source_key 0 (group_in k) (source_in k)))
 
--- they touch a lost assert whose winner is a neighbour in one state alone
+-- The keys touch each lost assert whose winner is a neighbour in only one of the states.
 abbrev pub keeps_winner : List Key → State → State → Key × AssertRow → Bool
 keeps_winner keys o c e =
     touching keys e.0 || is_winner (Some e.1)
@@ -60,24 +60,24 @@ pub record AdjoinsAlone (keys : List Key) (o c : State) : Type 0 where
   pub taken : list_all (is_touched_where_hop_differs keys o c) (fact_keys o) ≡ true
   pub facts : (p : Key → Bool) → list_any p (fact_keys c) ≡ true → list_any p (fact_keys o) ≡ true
 
--- from a quiet state what goes, and which registers are settled, is of the touched keys
+-- From a quiet state the facts that go, and the registers that are settled, are of the touched keys.
 abbrev pub AdjoinsGoes : Type 0
 AdjoinsGoes = (keys : List Key) (o c : State) → IsQuiet o → AdjoinsAlone keys o c
     → clear o c ≡ touched_clear (touching keys) o (touched_registers (touching keys) c)
 
--- and all that follows
+-- From a quiet state all that follows of a change of neighbours follows of the touched keys.
 abbrev pub AdjoinsSettles : Type 0
 AdjoinsSettles = (keys : List Key) (o c : State) → IsQuiet o → AdjoinsAlone keys o c → (messages : List Message) (w : ℕ)
     → settled o (c, messages) w ≡ own_settled keys o (c, messages) w
 
--- a source with a fact that isn't touched isn't named
+-- A source with a fact that isn't touched isn't named.
 abbrev pub AdjoinsNames : Type 0
 AdjoinsNames = (keys : List Key) (o c : State) → IsQuiet o → AdjoinsAlone keys o c → (g src : ℕ)
     → list_any (names_source g src) (fact_keys o) ≡ true → touching keys (source_key 0 g src) ≡ false
     → is_source_named g src o (clear o c).0 ≡ false
 
--- one that isn't touched, with a fact or without, is answered in the end as with the neighbours that there were, with
--- which it isn't named
+-- A source that isn't touched, with a fact or without, has in the end the answers that it has with the earlier
+-- neighbours, with which it isn't named.
 abbrev pub AdjoinsStays : Type 0
 AdjoinsStays = (keys : List Key) (o c : State) → IsQuiet o → AdjoinsAlone keys o c → (messages : List Message)
     (w g src : ℕ) → touching keys (source_key 0 g src) ≡ false
@@ -92,20 +92,21 @@ abbrev pub leads_to : ℕ → ℕ → Option Path → Bool
 leads_to i address None = false
 leads_to i address (Some p) = (p.iface.number == i) && (p.next_hop.bits == address)
 
--- the sources of a group with any fact to which it leads
+-- The sources of a group with any fact whose path leads to the neighbour.
 unfoldable pub led_sources : State → ℕ → ℕ → ℕ → List ℕ
 led_sources s i address g = filter (λ src. leads_to i address (route s src)) (sources_of g (fact_keys s))
 
--- the group, where it leads to its RP, or else those sources
+-- What leads to the neighbour in a group: the whole group where the path to its RP does, else those sources whose path
+-- does.
 unfoldable pub led_of_group : State → ℕ → ℕ → ℕ → List Key
 led_of_group s i address g =
     if leads_to i address (rp_route s g) then star_key 0 g ∷ [] else map (source_key 0 g) (led_sources s i address g)
 
--- of each group with any fact
+-- What leads to the neighbour, of each group with any fact.
 unfoldable pub led_keys : State → ℕ → ℕ → List Key
 led_keys s i address = flat_map (led_of_group s i address) (groups_of (fact_keys s))
 
--- the asserts that the router lost to it
+-- The keys of the asserts that the router lost to the neighbour.
 abbrev pub lost_keys : State → ℕ → ℕ → List Key
 lost_keys s i address = keys_in (filter (is_lost_to i address) s.asserts)
 
@@ -116,26 +117,26 @@ may_lead s address =
     || list_any (λ (r : RpRange). r.rp.bits == address) s.ranges
     || list_any (λ k. is_some k.source && (source_in k == address)) (fact_keys s)
 
--- to another address none does
+-- No path leads to an address for which `may_lead` is false.
 abbrev pub LeadsNowhere : Type 0
 LeadsNowhere = (s : State) (i address : ℕ) → may_lead s address ≡ false → led_keys s i address ≡ []
 
--- all that looks to it
+-- All keys of what depends on the neighbour.
 unfoldable pub keys_towards : State → ℕ → ℕ → List Key
 keys_towards s i address = led_keys s i address ++ lost_keys s i address
 
 -- ---- a Hello
 
--- it leaves whether the router is the DR of its interface
+-- The Hello doesn't change whether the router is the DR of its interface.
 unfoldable pub hello_keeps_dr : State → ℕ → ℕ → HelloValue → Bool
 hello_keeps_dr s i address h = same_bool (is_dr s i) (is_dr (neighbour_replaced s i address h) i)
 
--- its neighbour was known, and stays
+-- The Hello's neighbour was known, and still is after it.
 abbrev pub is_still_neighbour : State → ℕ → ℕ → HelloValue → Bool
 is_still_neighbour s i address h = is_neighbour s i address && not (hello_holdtime_of h == 0)
 
--- what looks to a neighbour that comes or goes; of one that stays the asserts that were lost to it, which end where it
--- started anew
+-- What a Hello touches: what depends on a neighbour that comes or goes; for one that stays the asserts that were lost
+-- to it, which go where it restarted.
 unfoldable pub keys_of_hello : State → ℕ → ℕ → HelloValue → List Key
 keys_of_hello s i address h =
     if is_still_neighbour s i address h then lost_keys s i address else keys_towards s i address

@@ -2,32 +2,32 @@
 
 ghost use Rattle.pim_adjacent.specs.Adjacent.{AdjoinsGoes, AdjoinsNames, AdjoinsSettles, AdjoinsStays, EndAdjoins, HelloAdjoins, LeadsNowhere};
 
-/// What goes after a change of neighbours is of the keys that take what it moves.
+/// What goes after a change of neighbours is of the keys of what the change moves.
 pub fn adjoins_goes()
     ensures { AdjoinsGoes }
 {}
 
-/// All that follows of it follows of these keys.
+/// All that follows of a change of neighbours follows of the keys of what it moves.
 pub fn adjoins_settles()
     ensures { AdjoinsSettles }
 {}
 
-/// A source with a fact that they don't touch isn't named.
+/// A source with a fact that the keys of what is moved don't touch isn't named.
 pub fn adjoins_names()
     ensures { AdjoinsNames }
 {}
 
-/// A source that they don't touch is answered in the end as it was.
+/// A source that the keys of what is moved don't touch has the same answers in the end.
 pub fn adjoins_stays()
     ensures { AdjoinsStays }
 {}
 
-/// A Hello that leaves the DR moves no more than what looks to its neighbour.
+/// A Hello that doesn't change the DR moves only what depends on its neighbour.
 pub fn hello_adjoins()
     ensures { HelloAdjoins }
 {}
 
-/// So does a neighbour's end.
+/// The expiry of a neighbour that doesn't change the DR moves only what depends on that neighbour.
 pub fn end_adjoins()
     ensures { EndAdjoins }
 {}

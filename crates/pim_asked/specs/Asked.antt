@@ -1,4 +1,4 @@
--- Nothing flows unasked: of each copy of (S,G) on a link an earlier event is the cause.
+-- Nothing flows unasked: each copy of (S,G) on a link has an earlier event as its cause.
 use Rattle.std.specs.Prelude.{List, Ok, [], ◌≡◌}
 use Rattle.pim_types.specs.declared.config.Config.{Config}
 use Rattle.pim_types.specs.declared.event.Event.{Event}
@@ -7,7 +7,7 @@ use Rattle.pim_model.specs.Limits.{config_test}
 use Rattle.pim_model.specs.State.{opening}
 use Rattle.pim_model.specs.Step.{outcome_of, run, state_after, step}
 
--- after any events from the opening with an accepted configuration, each copy that an event makes is asked for
+-- After any events from the opening with an accepted configuration, each copy that an event makes has a cause.
 abbrev pub NothingFlowsUnasked : Type 0
 NothingFlowsUnasked =
     (c : Config) (earlier : List Event) (e : Event) → config_test c ≡ Ok tt
@@ -15,7 +15,7 @@ NothingFlowsUnasked =
     (record { before = state_after (opening c) earlier; event = e })
     (outcome_of (step (state_after (opening c) earlier) e))
 
--- the same of the outcomes of a run
+-- In the outcomes of a run each copy has a cause.
 abbrev pub RunIsAsked : Type 0
 RunIsAsked = (c : Config) (events : List Event) → config_test c ≡ Ok tt
     → OutcomesAreAsked [] (opening c) events (run (opening c) events)

@@ -1,5 +1,5 @@
--- What a cause is, told as a rule: an earlier event that asks, answered Done, with no Down of the interface answered
--- Done after it.
+-- What a cause is, as a rule: an earlier event that requests the copy, answered Done, with no Down of the interface
+-- answered Done after it.
 use Rattle.std.specs.List.{All, Contains}
 use Rattle.std.specs.Prelude.{List, Ok, false, true, ℕ, ◌*◌, ◌++◌, ◌+◌, ◌<◌, ◌≡◌, ◌⊎◌, ◌∷◌}
 use Rattle.pim_types.specs.declared.event.EventKind.{EventKind}
@@ -16,7 +16,7 @@ use Rattle.pim_model.specs.Querier.{group_membership_interval, is_skipped}
 use Rattle.pim_model.specs.State.{State}
 use Rattle.pim_model.specs.Step.{step}
 
--- an accepted Join(*,G) or Join(S,G)
+-- The message has an accepted Join(*,G) or Join(S,G).
 pub record HasJoin (s : State) (m : JoinPrune) (g src : ℕ) : Type 0 where
   pub entry : Named
   pub accepted : Contains (accepted_joins s m) entry
@@ -24,14 +24,14 @@ pub record HasJoin (s : State) (m : JoinPrune) (g src : ℕ) : Type 0 where
   pub kind : ((entry.1).kind ≡ EntryKind.Star)
       ⊎ (((entry.1).kind ≡ EntryKind.Source) × ((entry.1).address.bits ≡ src))
 
--- a Join/Prune to the router with one, whose holdtime is without end or not over
+-- A Join/Prune to the router with such a Join (`HasJoin`), whose holdtime never expires or hasn't expired yet.
 pub record AsksByJoin (h : Happened) (now i g src : ℕ) : Type 0 where
   pub message : JoinPrune
   pub was : judged h.before h.event.kind ≡ Ok (Accepted.JoinPruneToMe (record { number = i }) message)
   pub join : HasJoin h.before message g src
   pub lasts : (message.holdtime ≡ 65535) ⊎ (now < h.before.present + 1000 * message.holdtime)
 
--- a record of G, not skipped, of type IS_EX or TO_EX, or of type IS_IN, ALLOW or TO_IN that names S
+-- The records have one of G, not skipped, of type IS_EX or TO_EX, or of type IS_IN, ALLOW or TO_IN that names S.
 pub record HasRecord (records : List Record) (g src : ℕ) : Type 0 where
   pub one : Record
   pub among : Contains records one
@@ -41,7 +41,7 @@ pub record HasRecord (records : List Record) (g src : ℕ) : Type 0 where
       ⊎ (((one.type ≡ RecordType.IsInclude) ⊎ ((one.type ≡ RecordType.Allow) ⊎ (one.type ≡ RecordType.ToInclude)))
       × Contains one.sources src)
 
--- a report with one, whose Group Membership Interval isn't over
+-- A report with such a record (`HasRecord`), whose Group Membership Interval hasn't expired yet.
 pub record AsksByReport (h : Happened) (now i g src : ℕ) : Type 0 where
   pub records : List Record
   pub was : judged h.before h.event.kind ≡ Ok (Accepted.Report (record { number = i }) records)
@@ -51,11 +51,11 @@ pub record AsksByReport (h : Happened) (now i g src : ℕ) : Type 0 where
 abbrev pub IsDone : Happened → Type 0
 IsDone h = (step h.before h.event).answer ≡ Ok Verdict.Done
 
--- not a Down of the interface that was answered Done
+-- The event isn't a Down of the interface that was answered Done.
 abbrev pub StaysUp : ℕ → Happened → Type 0
 StaysUp i h = h.event.kind ≡ EventKind.Down (record { number = i }) → IsDone h → ⊥
 
--- of the events of the past, the latest first
+-- The event is a cause among the events of the past, the latest first.
 pub record IsCause (past : Past) (now i g src : ℕ) (h : Happened) : Type 0 where
   pub later : Past
   pub earlier : Past

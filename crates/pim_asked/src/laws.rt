@@ -11,13 +11,13 @@ pub fn nothing_flows_unasked()
     ensures { NothingFlowsUnasked }
 {}
 
-/// The same of the outcomes of a run, event by event.
+/// In the outcomes of a run, event by event, each copy that an event makes on a link has its cause in an earlier event.
 #[tactic(auto, using(crate::proofs::Steps::run_is_asked))]
 pub fn run_is_asked()
     ensures { RunIsAsked }
 {}
 
-/// A cause is an earlier event, answered Done, that asks; and the interface did not go down after it.
+/// A cause is an earlier event, answered Done, that requests the copy; and the interface didn't go down after it.
 #[tactic(auto, using(crate::proofs::Told::cause_is_an_earlier_event))]
 pub fn cause_is_an_earlier_event()
     ensures { CauseIsAnEarlierEvent }

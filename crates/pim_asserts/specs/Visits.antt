@@ -66,12 +66,12 @@ unfoldable pub machine_nodes : State → Key → AssertMetric → ℕ
 machine_nodes s k theirs =
     key_nodes s k + action_nodes s k theirs (action_of (stance_at s k) (row_at s.asserts k) theirs)
 
--- of a source, as an event of (S,G)
+-- The nodes of an Assert about a source, as an event of (S,G).
 abbrev pub source_asserted_nodes : State → ℕ → ℕ → AssertMessage → ℕ
 source_asserted_nodes s i from a =
     if a.source.bits == 0 then 0 else machine_nodes s (source_key i a.group.bits a.source.bits) (theirs_of a from)
 
--- and of (*,G), where it goes on to that
+-- The nodes of an Assert as an event of (*,G), where it goes on to that.
 abbrev pub star_asserted_nodes : (before after : State) → ℕ → ℕ → AssertMessage → ℕ
 star_asserted_nodes s t i from a =
     if goes_on_to_star s t i a then machine_nodes t (star_key i a.group.bits) (theirs_of a from) else 0
@@ -92,7 +92,8 @@ turn_nodes was group source s =
     sight_nodes s group source
     + (if is_some (part_to_clear was group.bits (source_bits source) s) then mark_nodes s group source else 0)
 
--- and the next turn, in the state that it leaves, where one went: so many after the first at most
+-- The nodes of one turn and, where an assert goes in it, of the turns after it, in the state that it leaves: at most as
+-- many turns after the first as the number says.
 unfoldable pub turns_nodes : Option IfaceId → Addr → Option Addr → ℕ → State → ℕ
 turns_nodes was group source zero s = turn_nodes was group source s
 turns_nodes was group source (suc n) s =
@@ -100,8 +101,8 @@ turns_nodes was group source (suc n) s =
     + (if is_some (part_to_clear was group.bits (source_bits source) s)
     then turns_nodes was group source n (clear_once was group.bits (source_bits source) s).0 else 0)
 
--- the asserts of (*,G), where there is no source, or of (S,G), turn after turn until none must go: each takes one away of
--- what could go
+-- the asserts of (*,G), where there is no source, or of (S,G), turn after turn until none must go: each takes one away
+-- of what could go
 abbrev pub part_nodes : Option IfaceId → Addr → Option Addr → State → ℕ
 part_nodes was group source s = turns_nodes was group source (clearable_count s) s
 

@@ -53,9 +53,9 @@ pub(crate) fn win_again(
         .change_assert(key, AssertRow { end, ..row }, meter)
 }
 
-/// What the end of an assert timer changes: a winner asserts again, and a loser forgets the assert. The meter rises by the
-/// nodes that the look-ups visit, at least those of a winner's sight, or those that lead to what a loser forgets. An error is
-/// want of memory.
+/// What the end of an assert timer changes: a winner asserts again, and a loser forgets the assert. The meter rises by
+/// the nodes that the look-ups visit, at least those of a winner's sight, or those that lead to what a loser forgets.
+/// An error is want of memory.
 #[tactic(auto, unfolding(pim_model::specs::Firing::fired, pim_model::specs::Firing::fire_row, pim_model::specs::Asserts::assert_due, pim_model::specs::Asserts::assert_forgotten))]
 pub fn fired(
     world: &mut World,

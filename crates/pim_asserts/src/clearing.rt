@@ -130,7 +130,7 @@ fn forget_spt_bit(
         ≡ without_spt_bit world.old (source_key 0 name.group.bits name.source.bits)) }
     ensures at_least { OnOk result (raised meter.old (gone_bit_nodes world.old name.group name.source) ≤ meter.new) }
 {
-    // It tells that a key stands once.
+    // For the proof: a key stands once.
     world.recall_keyed();
     let left = row
         .keepalive
@@ -210,9 +210,9 @@ fn clear_all_bits(
 }
 
 /// What must go of what was opened: group after group the asserts of (*,G) and of its sources, then source after source
-/// the SPTbit and the asserts that must go with it; all macros are evaluated afresh after each. The meter rises by the nodes
-/// that the look-ups visit, at least those of each sight, and those that lead to the facts of what goes. An error is want of
-/// memory.
+/// the SPTbit and the asserts that must go with it; all macros are evaluated afresh after each. The meter rises by the
+/// nodes that the look-ups visit, at least those of each sight, and those that lead to the facts of what goes. An error
+/// is want of memory.
 #[tactic(auto, unfolding(crate::specs::Opened::clear_by))]
 pub fn clear(
     world: &mut World,
@@ -247,7 +247,7 @@ fn clear_source_by_sight(
     ensures source { OnOk result (sight.new.source ≡ sight.old.source) }
     ensures at_least { OnOk result (raised meter.old (alone_asserts_nodes sight.old.star.group world.old opened) ≤ meter.new) }
 {
-    // It tells that asserts are under keys of their kind, each of which stands once.
+    // For the proof: asserts are under keys of their kind, each of which stands once.
     world.recall_keyed();
     let Some(_) = first_of_source(world, sight, opened.view.iface) else {
         return Ok(());
@@ -284,9 +284,9 @@ fn clear_bit_by_sight(
     Ok(())
 }
 
-/// The same where one source alone was opened, by its sight, which is gathered anew only where something goes: it is
-/// true of the state before, and then of the state after. The meter rises where something goes, by
-/// the nodes that the look-ups visit.
+/// Clears what must go where one source alone was opened, by its sight, which is gathered again only where something
+/// goes: it is true of the state before, and then of the state after. The meter rises where something goes, by the
+/// nodes that the look-ups visit.
 #[tactic(auto, unfolding(crate::specs::Opened::clear_by, crate::specs::Opened::clear_asserts, crate::specs::Opened::clear_star, crate::specs::Opened::clear_bits))]
 pub fn clear_alone(
     world: &mut World,
@@ -318,7 +318,7 @@ fn is_clear_star(world: &World, after: &GroupAfter) -> bool
     requires { IsStarSight world.now after.now.star }
     ensures { IsTrue result → clear_star world.now (opening_in after.now) ≡ (world.now, []) }
 {
-    // It tells that asserts are under keys of their kind, each of which stands once.
+    // For the proof: asserts are under keys of their kind, each of which stands once.
     world.recall_keyed();
     if !after.is_whole {
         return true;
@@ -336,7 +336,7 @@ fn is_clear_of_asserts(world: &World, after: &SourceAfter) -> bool
     ensures { IsTrue result
         → clear_source after.now.sight.star.group.bits world.now after.now.opened ≡ (world.now, []) }
 {
-    // It tells that asserts are under keys of their kind, each of which stands once.
+    // For the proof: asserts are under keys of their kind, each of which stands once.
     world.recall_keyed();
     let Some(_) = first_of_source(world, &after.sight, after.opened.view.iface) else {
         return true;
@@ -375,8 +375,8 @@ fn are_clear_among(world: &World, star: &StarSight, sources: &[SourceAfter]) -> 
     true
 }
 
-/// Whether nothing must go of a touched group and of its touched sources, by what was gathered of them. Where it answers
-/// yes, `clear` would change nothing, and send nothing.
+/// Whether nothing must go of a touched group and of its touched sources, by what was gathered of them. Where it
+/// answers yes, `clear` would change nothing, and send nothing.
 pub fn are_clear(world: &World, after: &GroupAfter) -> bool
     requires { IsAfter world.now after.now }
     ensures { IsTrue result → clear_by (opening_in after.now ∷ []) world.now ≡ (world.now, []) }

@@ -192,9 +192,9 @@ pub(crate) fn metric_of(from: Addr, assert: &Assert) -> AssertMetric
 }
 
 /// Takes an Assert that came from an address: one of a source goes to (S,G), and with R set on to (*,G) where (S,G) was
-/// and stays in NoInfo; one without a source goes to (*,G) alone. The meter rises by the nodes that the look-ups visit, at
-/// least those of the sight of each machine that it goes to, and those that lead to the facts of what gets an assert or loses
-/// one. An error is want of memory.
+/// and stays in NoInfo; one without a source goes to (*,G) alone. The meter rises by the nodes that the look-ups visit,
+/// at least those of the sight of each machine that it goes to, and those that lead to the facts of what gets an assert
+/// or loses one. An error is want of memory.
 pub fn received(
     world: &mut World,
     turn: &mut Turn,
@@ -272,7 +272,7 @@ fn data_seen_of_group(
     win_by_data(world, turn, meter, key, stance, asserted)
 }
 
-// The same of a source of a group, as an event of the machine of (S,G).
+// A packet of data of a source of a group, as an event of the machine of (S,G).
 fn data_seen_of_source(
     world: &mut World,
     turn: &mut Turn,
@@ -295,9 +295,9 @@ fn data_seen_of_source(
     win_by_data(world, turn, meter, key, stance, asserted)
 }
 
-/// Takes data on an interface on which the router forwards it, as an event of the machine of (S,G) with SPTbit(S,G), else
-/// of (*,G): where it could assert and none has won or lost yet, it wins, and the meter rises by the nodes that lead to the facts
-/// of the source, or the group. An error is want of memory.
+/// Takes data on an interface on which the router forwards it, as an event of the machine of (S,G) with SPTbit(S,G),
+/// else of (*,G): where it could assert and none has won or lost yet, it wins, and the meter rises by the nodes that
+/// lead to the facts of the source, or the group. An error is want of memory.
 pub fn data_seen(
     world: &mut World,
     turn: &mut Turn,

@@ -91,7 +91,7 @@ fn clear_next(
         (clear_once part.was part.group.bits (source_bits part.source) world.old).1) }
     ensures at_least { OnOk result (raised meter.old (turn_nodes part.was part.group part.source world.old) ≤ meter.new) }
 {
-    // It tells that asserts are under keys of their kind, each of which stands once.
+    // For the proof: asserts are under keys of their kind, each of which stands once.
     world.recall_keyed();
     let Some(iface) = first_to_go(world, meter, part) else {
         return Ok(false);

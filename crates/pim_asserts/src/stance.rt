@@ -25,7 +25,7 @@ pub(crate) struct Stance {
     pub(crate) switches: bool,
 }
 
-/// That of (*,G).
+/// The stance of the machine of (*,G) on an interface.
 pub(crate) fn star_stance(world: &World, star: &StarSight, iface: IfaceId) -> Stance
     requires sight { IsStarSight world.now star.now }
     requires below { iface.number < 120 }
@@ -40,7 +40,7 @@ pub(crate) fn star_stance(world: &World, star: &StarSight, iface: IfaceId) -> St
     }
 }
 
-/// That of (S,G).
+/// The stance of the machine of (S,G) on an interface.
 pub(crate) fn source_stance(world: &World, sight: &SourceSight, iface: IfaceId) -> Stance
     requires sight { IsSourceSight world.now sight.now }
     requires below { iface.number < 120 }

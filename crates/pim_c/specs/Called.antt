@@ -1,4 +1,5 @@
--- What a call leaves of a handle, and answers, by what stood there: nothing, a router that has failed, or one that hasn't.
+-- What a call does to a handle and answers, by what the handle had: nothing, a router that has failed, or one that
+-- works.
 use Rattle.std.specs.Option.{option_map_or}
 use Rattle.std.specs.Prelude.{[], Bool, Err, List, None, Ok, Option, Result, Some, drop, false, filter, length, min, nat_lt, true, unwrap_or, ℕ, ◌+◌, ◌≡◌, ◌⊎◌}
 use Rattle.pim_fanout.specs.Disturbed.{is_disturbed}
@@ -38,15 +39,15 @@ use Rattle.pim_c.specs.declared.told.Packet.{Packet}
 use Rattle.pim_c.specs.declared.told.PlaneRow.{PlaneRow}
 use Rattle.pim_c.specs.declared.told.TableRow.{TableRow}
 
--- a new router
+-- What a session shows of a new router.
 abbrev pub new_shown : Config → ShownSession
 new_shown config = record { router = begun (opening config); sent = []; rows = [] }
 
--- after memory was refused
+-- What a session shows after an allocation failed.
 abbrev pub lost : ShownSession → ShownSession
 lost s = record { router = nothing_shown; sent = s.sent; rows = s.rows }
 
--- after an event that was taken
+-- What a session shows after an event that was accepted.
 abbrev pub Taken : ShownSession → Standing → Event → ShownSession → Type 0
 Taken s r e left = (left.router.standing ≡ Some (standing (step r.state e)))
     × IsCheap r.state e left.router.probes left.router.touched
@@ -61,7 +62,7 @@ SteppedFrom s (Some r) e answer left =
     ((answer ≡ answer_number (step r.state e).answer) × Taken s r e left)
     ⊎ ((answer ≡ 43) × (left ≡ lost s) × (needs_no_memory (step r.state e).answer ≡ false))
 
--- the router took the event and the answer is its own, or memory was refused
+-- The router took the event and the answer is the router's, or an allocation failed.
 abbrev pub Stepped : Option ShownSession → Event → ℕ → Option ShownSession → Type 0
 Stepped None e answer left = (answer ≡ 50) × (left ≡ None)
 Stepped (Some s) e answer (Some left) = SteppedFrom s s.router.standing e answer left
@@ -71,12 +72,12 @@ abbrev pub refused_number : Option Standing → ℕ
 refused_number None = 41
 refused_number (Some r) = 40
 
--- memory was refused for an event that is to be copied, and nothing changed
+-- An allocation failed for an event that is to be copied, and nothing changed.
 abbrev pub Refused : Option ShownSession → ℕ → Option ShownSession → Type 0
 Refused None answer left = (answer ≡ 50) × (left ≡ None)
 Refused (Some s) answer left = (answer ≡ refused_number s.router.standing) × (left ≡ Some s)
 
--- an event was copied, or memory was refused for that; where it was, the router took it, or memory was refused
+-- The event was copied or an allocation failed for that; if it was copied, the router took it, or an allocation failed.
 abbrev pub Copied : Option ShownSession → Event → ℕ → Option ShownSession → Type 0
 Copied old e answer left = Stepped old e answer left ⊎ Refused old answer left
 
@@ -85,7 +86,8 @@ SeenFrom s None e answer left = (answer ≡ 41) × (left ≡ lost s)
 SeenFrom s (Some r) e answer left =
     ((answer ≡ answer_number (step r.state e).answer) × Taken s r e left) ⊎ ((answer ≡ 43) × (left ≡ lost s))
 
--- the router took the event that tells of a packet, or memory was refused, whatever event it is
+-- The router took the event that stands for a packet which a data plane saw, or an allocation failed, whatever the
+-- event is.
 abbrev pub Seen : Option ShownSession → Event → ℕ → Option ShownSession → Type 0
 Seen None e answer left = (answer ≡ 50) × (left ≡ None)
 Seen (Some s) e answer (Some left) = SeenFrom s s.router.standing e answer left
@@ -101,14 +103,14 @@ SourceKeptFrom s (Some r) source group moment answer left =
     }))
     ⊎ ((answer ≡ 43) × (left ≡ lost s))
 
--- the source's timer was moved where it runs, or memory was refused
+-- The source's keepalive timer was moved if it runs, or an allocation failed.
 abbrev pub SourceKept : Option ShownSession → ℕ → ℕ → ℕ → ℕ → Option ShownSession → Type 0
 SourceKept None source group moment answer left = (answer ≡ 50) × (left ≡ None)
 SourceKept (Some s) source group moment answer (Some left) =
     SourceKeptFrom s s.router.standing source group moment answer left
 SourceKept (Some s) source group moment answer None = ⊥
 
--- a moment that is beyond the last one is refused, and nothing changes; else the source's timer is moved
+-- A timestamp past the latest is refused, and nothing changes; else the source's keepalive timer is moved.
 abbrev pub KeepAnswered : Bool → Option ShownSession → ℕ → ℕ → ℕ → ℕ → Option ShownSession → Type 0
 KeepAnswered true old source group moment answer left = (answer ≡ 21) × (left ≡ old)
 KeepAnswered false old source group moment answer left = SourceKept old source group moment answer left
@@ -119,18 +121,18 @@ ReadFrom s (Some r) table answer left =
     ((answer ≡ 0) × (left ≡ record { router = s.router; sent = s.sent; rows = rows r.state table }))
     ⊎ ((answer ≡ 40) × (left ≡ s))
 
--- the rows of the table were read, or memory was refused
+-- The rows of the table were read, or an allocation failed.
 abbrev pub Read : Option ShownSession → Table → ℕ → Option ShownSession → Type 0
 Read None table answer left = (answer ≡ 50) × (left ≡ None)
 Read (Some s) table answer (Some left) = ReadFrom s s.router.standing table answer left
 Read (Some s) table answer None = ⊥
 
--- a letter of no table is refused, and nothing is read
+-- A letter of no table is refused, and nothing is read; else the rows of its table are read.
 abbrev pub ReadBy : Option ShownSession → Option Table → ℕ → Option ShownSession → Type 0
 ReadBy old None answer left = (answer ≡ 51) × (left ≡ old)
 ReadBy old (Some table) answer left = Read old table answer left
 
--- what is to be sent: nothing once the router has failed
+-- What is to be sent: nothing once the router has failed.
 abbrev pub to_send : List Emission → Option Standing → List Emission
 to_send sent None = []
 to_send sent (Some r) = sent
@@ -155,24 +157,24 @@ abbrev pub touched_in : Option ShownSession → ℕ
 touched_in None = 0
 touched_in (Some s) = s.router.touched
 
--- the sources whose rows the last event changed
+-- The sources that the last event listed as changed.
 abbrev pub changed_in : Option ShownSession → List Key
 changed_in None = []
 changed_in (Some s) = s.router.changed
 
--- what is offered of the source may have changed at the last event
+-- What is offered of the source may have changed in the last event.
 abbrev pub may_differ_in : Option ShownSession → ℕ → ℕ → Bool
 may_differ_in None source group = true
 may_differ_in (Some s) source group = is_disturbed s.router.disturbed group source
 
--- the packet of this number is one of the last so many on links
+-- The packet of this number is one of the given number of last packets on links.
 abbrev pub is_copy : List Emission → ℕ → ℕ → Bool
 is_copy sent copies index = nat_lt (length (filter is_on_link (drop (index + 1) sent))) copies
 
 abbrev pub copies_in : Option Standing → ℕ
 copies_in standing = option_map_or (λ (r : Standing). r.copies) standing 0
 
--- a packet that is there is told, and its bytes are written
+-- A packet that exists is written out with its bytes, as many as fit.
 abbrev pub PacketTold : Option Emission → Bool → Bool → Packet → Packet → List ℕ → List ℕ → Type 0
 PacketTold None is_copied is_there packet told room filled = (is_there ≡ false) × (told ≡ packet) × (filled ≡ room)
 PacketTold (Some emission) is_copied is_there packet told room filled =
@@ -190,7 +192,7 @@ NameTold (Some key) is_there name told = (is_there ≡ true) × (told ≡ name_o
 abbrev pub interface_bits : Set → Interfaces
 interface_bits p = record { low = mask_of p 64; high = mask_of (λ q. p (64 + q)) 56 }
 
--- the answers of a source and RPF_interface(RP(G)), as they are told
+-- The answers of a source and RPF_interface(RP(G)), as C reads them.
 abbrev pub forwarding_of : Answers → Option ℕ → Forwarding
 forwarding_of a shared_rpf = record {
   rpf = unwrap_or a.rpf no_interface_number;
@@ -206,13 +208,13 @@ abbrev pub AnswersTold : Option Answers → Option ℕ → Bool → Forwarding �
 AnswersTold None shared_rpf is_there row told = (is_there ≡ false) × (told ≡ row)
 AnswersTold (Some a) shared_rpf is_there row told = (is_there ≡ true) × (told ≡ forwarding_of a shared_rpf)
 
--- the row of a source with a fact is told
+-- The row of a source with a fact is written out.
 abbrev pub CachedTold : Option Standing → ℕ → ℕ → Bool → Forwarding → Forwarding → Type 0
 CachedTold None source group is_there row told = (is_there ≡ false) × (told ≡ row)
 CachedTold (Some r) source group is_there row told =
     AnswersTold (cached r.state group source) (rpf_interface_rp r.state group) is_there row told
 
--- what is offered of a source, as it is told
+-- What is offered of a source, as C reads it.
 abbrev pub plane_row_of : Offered → PlaneRow
 plane_row_of o = record {
   is_known = o.is_known;
@@ -226,7 +228,7 @@ abbrev pub OfferTold : Option Offered → Bool → PlaneRow → PlaneRow → Typ
 OfferTold None is_there row told = (is_there ≡ false) × (told ≡ row)
 OfferTold (Some o) is_there row told = (is_there ≡ true) × (told ≡ plane_row_of o)
 
--- what a data plane may do of the packets of a source is told
+-- What a data plane may do with the packets of a source is written out.
 abbrev pub OffloadTold : Option Standing → ℕ → ℕ → Bool → PlaneRow → PlaneRow → Type 0
 OffloadTold None source group is_there row told = (is_there ≡ false) × (told ≡ row)
 OffloadTold (Some r) source group is_there row told = OfferTold (offered r.state group source) is_there row told
@@ -235,6 +237,6 @@ abbrev pub MadeBy : Result (Unit {0}) Refusal → Option ShownSession → Config
 MadeBy (Ok _) old config answer left = (answer ≡ 0) × (left ≡ Some (new_shown config))
 MadeBy (Err refusal) old config answer left = (answer ≡ refusal_number refusal) × (left ≡ old)
 
--- a router was made of the configuration, or this was refused, or memory was
+-- A router was made of the configuration, or the configuration was refused, or an allocation failed.
 abbrev pub Made : Option ShownSession → Config → ℕ → Option ShownSession → Type 0
 Made old config answer left = MadeBy (config_test config) old config answer left ⊎ ((answer ≡ 40) × (left ≡ old))

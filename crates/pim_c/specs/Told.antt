@@ -1,4 +1,4 @@
--- The numbers and values by which a program is told.
+-- The numbers and values that the router returns to a program.
 use Rattle.std.specs.Prelude.{Bool, Err, List, None, Ok, Option, Some, drop, false, length, take, true, unwrap_or, Result, if◌then◌else◌, ℕ, ◌++◌, ◌^◌, ◌-◌, ◌==◌}
 use Rattle.pim_ip.specs.Refusal.{refusal_number}
 use Rattle.pim_ip.specs.declared.fault.Fault.{Fault}
@@ -18,11 +18,11 @@ use Rattle.pim_c.specs.declared.told.NamedSource.{NamedSource}
 use Rattle.pim_c.specs.declared.told.Packet.{Packet}
 use Rattle.pim_c.specs.declared.told.TableRow.{TableRow}
 
--- no timer runs, and a time that isn't there
+-- The number that stands for a timestamp that doesn't exist.
 abbrev pub never : ℕ
 never = 2 ^ 64 - 1
 
--- no interface
+-- The number that stands for no interface.
 abbrev pub no_interface_number : ℕ
 no_interface_number = 2 ^ 32 - 1
 
@@ -44,13 +44,13 @@ abbrev pub answer_number : Result Verdict Refusal → ℕ
 answer_number (Ok verdict) = verdict_number verdict
 answer_number (Err refusal) = refusal_number refusal
 
--- a fault after which the router has failed
+-- The number of a fault after which the router has failed.
 abbrev pub loss_number : Fault → ℕ
 loss_number Fault.Memory = 43
 loss_number Fault.Failed = 41
 loss_number Fault.Wire = 42
 
--- whether a keepalive timer runs
+-- The number that says whether a keepalive timer runs.
 abbrev pub kept_number : Bool → ℕ
 kept_number true = 0
 kept_number false = 52
@@ -59,7 +59,7 @@ abbrev pub bytes_in : Emission → List ℕ
 bytes_in (Emission.Link iface bytes) = bytes
 bytes_in (Emission.Unicast destination bytes) = bytes
 
--- a packet on an interface is a copy of data (2) or isn't (1)
+-- The kind of a packet on an interface: a copy of data (2) or not (1).
 abbrev pub link_kind : Bool → ℕ
 link_kind true = 2
 link_kind false = 1
@@ -70,7 +70,7 @@ told_packet (Emission.Link iface bytes) is_copy =
 told_packet (Emission.Unicast destination bytes) is_copy =
     record { kind = 3; iface = 0; destination = destination.bits; length = length bytes }
 
--- bytes written into a room from its start, as many as it takes
+-- Bytes written into a buffer from its start, as many as fit.
 abbrev pub written_into : List ℕ → List ℕ → List ℕ
 written_into room bytes = take (length room) bytes ++ drop (length bytes) room
 

@@ -1,4 +1,4 @@
-//! The functions that C calls. Each repeats what the call promises that it makes.
+//! The functions that C calls. Each repeats the contract of the method of the handle that it calls.
 ghost use Rattle.std.specs.Option.{option_map_or};
 ghost use Rattle.std.specs.List.{slice_get};
 ghost use Rattle.std.specs.Prelude.{◌≡◌, None, length, map, nat_lt, option_and_then, unwrap_or};
@@ -21,7 +21,7 @@ use pim_intake::LentEvent;
 use pim_types::{Addr, Event, EventKind, IfaceId};
 use std::alloc::Global;
 
-/// Makes a router of a configuration. Where the handle had one, and the new one is made, the old one is ended.
+/// Makes a router of a configuration. If the handle had a router and the new one is made, the old one is freed.
 #[unsafe(no_mangle)]
 pub extern "C" fn viq_core_new(
     alloc: Global,
@@ -39,7 +39,7 @@ pub extern "C" fn viq_core_new(
     }
 }
 
-/// Ends a router, and gives its memory back. The handle has none then.
+/// Frees a router with its memory. The handle then has none.
 #[unsafe(no_mangle)]
 pub extern "C" fn viq_core_end(alloc: Global, router: &mut Handle)
     ensures { router.new.place.inside ≡ None }
@@ -47,7 +47,7 @@ pub extern "C" fn viq_core_end(alloc: Global, router: &mut Handle)
     let _ended = router.take(alloc);
 }
 
-/// Time passes up to the moment, in ms.
+/// Time passes up to the timestamp, in ms.
 #[unsafe(no_mangle)]
 pub extern "C" fn viq_core_advance(
     alloc: Global,
@@ -137,7 +137,7 @@ pub extern "C" fn viq_core_ranges(
     router.step_copied(alloc, given::new_ranges(alloc, draw, ranges))
 }
 
-/// How many packets the last event sent that was taken; none once the router has failed.
+/// How many packets the last accepted event sent; 0 once the router has failed.
 #[unsafe(no_mangle)]
 pub extern "C" fn viq_core_packets(alloc: Global, router: &mut Handle) -> usize
     ensures count { result ≡ length (packets_in router.old.place.inside) }
@@ -146,8 +146,8 @@ pub extern "C" fn viq_core_packets(alloc: Global, router: &mut Handle) -> usize
     router.packets(alloc)
 }
 
-/// One of these packets, counted from 0. Its bytes are written into the room, as many as this takes. False where there
-/// is none.
+/// Reads one of the packets that the last accepted event sent, counted from 0. As many of its bytes as the buffer holds
+/// are written into it. False where there is no packet of this number.
 #[unsafe(no_mangle)]
 pub extern "C" fn viq_core_packet(
     alloc: Global,
@@ -164,7 +164,8 @@ pub extern "C" fn viq_core_packet(
     router.packet(alloc, index, packet, room)
 }
 
-/// How many copies of a data packet the last event sent on links. They are the last of its packets on links.
+/// How many copies of a data packet the last event sent on links. They are the last of the packets that it sent on
+/// links.
 #[unsafe(no_mangle)]
 pub extern "C" fn viq_core_copies(alloc: Global, router: &mut Handle) -> u32
     ensures copies { result ≡ option_map_or (λ r. r.copies) (standing_in router.old.place.inside) 0 }
@@ -173,7 +174,7 @@ pub extern "C" fn viq_core_copies(alloc: Global, router: &mut Handle) -> u32
     router.copies(alloc)
 }
 
-/// The moment, in ms, at which the next timer ends, or 2^64 - 1 where none runs.
+/// The timestamp, in ms, at which the next timer expires, or 2^64 - 1 where none runs.
 #[unsafe(no_mangle)]
 pub extern "C" fn viq_core_next_moment(alloc: Global, router: &mut Handle) -> u64
     ensures moment { result ≡ unwrap_or (option_and_then (λ r. next_moment r.state) (standing_in router.old.place.inside)) never }
@@ -202,7 +203,7 @@ pub extern "C" fn viq_core_rows(alloc: Global, router: &mut Handle) -> usize
     router.rows(alloc)
 }
 
-/// One of these rows, counted from 0. False where there is none.
+/// Reads one of the rows that were read, counted from 0. False where there is no row of this number.
 #[unsafe(no_mangle)]
 pub extern "C" fn viq_core_row(
     alloc: Global,
@@ -216,7 +217,7 @@ pub extern "C" fn viq_core_row(
     router.row(alloc, index, row)
 }
 
-/// How data of a source to a group goes, as the forwarding cache has it. False where it has no row.
+/// How data of a source to a group is forwarded, by the forwarding cache. False where the cache has no row of it.
 #[unsafe(no_mangle)]
 pub extern "C" fn viq_core_cached(
     alloc: Global,
@@ -233,7 +234,7 @@ pub extern "C" fn viq_core_cached(
     router.cached(alloc, source, group, forwarding)
 }
 
-/// What a data plane may do of the packets of a source to a group. False where all are the router's.
+/// What a data plane may do with the packets of a source to a group. False where the router takes all of them.
 #[unsafe(no_mangle)]
 pub extern "C" fn viq_core_offload(
     alloc: Global,
@@ -250,7 +251,7 @@ pub extern "C" fn viq_core_offload(
     router.offload(alloc, source, group, row)
 }
 
-/// How many sources the last event changed the rows of.
+/// How many sources the last event listed as changed in the forwarding cache.
 #[unsafe(no_mangle)]
 pub extern "C" fn viq_core_changed(alloc: Global, router: &mut Handle) -> usize
     ensures count { result ≡ length (changed_in router.old.place.inside) }
@@ -259,7 +260,8 @@ pub extern "C" fn viq_core_changed(alloc: Global, router: &mut Handle) -> usize
     router.changed(alloc)
 }
 
-/// One of these sources, counted from 0. False where there is none.
+/// Reads one of the sources that the last event listed as changed, counted from 0. False where there is no source of
+/// this number.
 #[unsafe(no_mangle)]
 pub extern "C" fn viq_core_changed_source(
     alloc: Global,
@@ -273,7 +275,7 @@ pub extern "C" fn viq_core_changed_source(
     router.changed_source(alloc, index, name)
 }
 
-/// Whether what is offered of a source may have changed at the last event.
+/// Whether what is offered of a source may have changed in the last event.
 #[unsafe(no_mangle)]
 pub extern "C" fn viq_core_may_differ(
     alloc: Global,
@@ -307,7 +309,7 @@ pub extern "C" fn viq_core_seen(
     router.seen(alloc, draw, iface, source, group)
 }
 
-/// A data plane forwarded its last packet of a source to a group at the moment, in ms, at most 2^62.
+/// A data plane forwarded its last packet of a source to a group at the timestamp, in ms, at most 2^62.
 #[unsafe(no_mangle)]
 pub extern "C" fn viq_core_keep(
     alloc: Global,
@@ -326,7 +328,7 @@ pub extern "C" fn viq_core_keep(
     router.keep(alloc, source, group, moment)
 }
 
-/// The trie nodes that the last event visited.
+/// By how much the meter of visited trie nodes rose in the last event.
 #[unsafe(no_mangle)]
 pub extern "C" fn viq_core_probes(alloc: Global, router: &mut Handle) -> u64
     ensures probes { result ≡ probes_in router.old.place.inside }

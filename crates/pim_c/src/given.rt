@@ -1,4 +1,4 @@
-//! What a program gives: the parts of a configuration, and events.
+//! What a program passes in: the parts of a configuration, and events.
 ghost use Rattle.std.specs.Prelude.{◌≡◌, IfOk, map};
 ghost use Rattle.pim_c.specs.Given.{config_of, given_event, interface_of, range_of, route_of};
 ghost use Rattle.pim_types.specs.declared.event.EventKind.{EventKind};
@@ -136,7 +136,7 @@ fn ranges(alloc: Global, given: &[GivenRange]) -> Result<Series<RpRange>, AllocE
     Ok(all)
 }
 
-/// The configuration that these stand for.
+/// The configuration that the given parts describe.
 pub fn config(
     alloc: Global,
     settings: &GivenSettings,

@@ -29,7 +29,7 @@ use pim_types::{Addr, Config, Emission, Event, Fault, IfaceId, Refusal, Row, Sou
 use std::alloc::{AllocError, Global};
 use std::mem::replace;
 
-/// A handle: a router that C keeps, or none. One that is all zeros has none.
+/// A handle that C keeps: a router or none. A handle that is all zeros has none.
 #[repr(C)]
 pub struct Handle {
     pub place: Place,
@@ -60,7 +60,7 @@ impl Handle {
         Some(replace(&mut self.place, Place::none(alloc)).take())
     }
 
-    /// Puts a session in. One that stood there is forgotten.
+    /// Puts a session in. A session that was there is leaked.
     pub fn put(&mut self, session: Box<Session>)
         ensures { self.new.place.inside ≡ Some session.value }
     {
@@ -68,7 +68,7 @@ impl Handle {
         self.is_there = true;
     }
 
-    /// Has the router take an event. The answer, by its number.
+    /// Has the router take an event. The result is the number of the answer.
     pub fn step(&mut self, alloc: Global, event: &LentEvent<'_>) -> u32
         ensures { Stepped self.old.place.inside event.now result self.new.place.inside }
     {
@@ -80,7 +80,8 @@ impl Handle {
         answer
     }
 
-    /// Has the router take an event that was copied, for which memory may have been refused. The answer, by its number.
+    /// Has the router take an event that was copied; the copy may have failed for want of memory. The result is the
+    /// number of the answer.
     pub fn step_copied(&mut self, alloc: Global, event: Result<Event, AllocError>) -> u32
         ensures stepped { IfOk event (λ e. Stepped self.old.place.inside e result self.new.place.inside) }
         ensures refused { OnErr event (Refused self.old.place.inside result self.new.place.inside) }
@@ -93,7 +94,7 @@ impl Handle {
         answer
     }
 
-    /// Tells the router that a data plane saw a packet. The answer, by its number.
+    /// Tells the router that a data plane saw a packet. The result is the number of the answer.
     pub fn seen(
         &mut self,
         alloc: Global,
@@ -112,7 +113,8 @@ impl Handle {
         answer
     }
 
-    /// Tells the router when a data plane forwarded its last packet of a source. The answer, by its number.
+    /// Tells the router when a data plane forwarded its last packet of a source, as a timestamp in ms. The result is
+    /// the number of the answer.
     pub fn keep(&mut self, alloc: Global, source: Addr, group: Addr, moment: u64) -> u32
         ensures { SourceKept self.old.place.inside source.bits group.bits moment result self.new.place.inside }
     {
@@ -124,7 +126,7 @@ impl Handle {
         answer
     }
 
-    /// Has the router read the rows of a table. The answer, by its number.
+    /// Has the router read the rows of a table. The result is the number of the answer.
     pub fn read(&mut self, alloc: Global, table: Table) -> u32
         ensures { Read self.old.place.inside table result self.new.place.inside }
     {
@@ -136,7 +138,7 @@ impl Handle {
         answer
     }
 
-    /// Makes a router of a configuration, in place of the one that stood there.
+    /// Makes a router of a configuration, in place of the one in the handle. The result is the number of the answer.
     pub fn make(&mut self, alloc: Global, config: Config) -> u32
         ensures { Made self.old.place.inside config result self.new.place.inside }
     {
@@ -151,7 +153,7 @@ impl Handle {
         }
     }
 
-    /// How many packets the last event sent that was taken.
+    /// How many packets the last accepted event sent.
     pub fn packets(&mut self, alloc: Global) -> usize
         ensures count { result ≡ length (packets_in self.old.place.inside) }
         ensures stays { self.new.place.inside ≡ self.old.place.inside }
@@ -164,7 +166,7 @@ impl Handle {
         count
     }
 
-    /// One of these packets, counted from 0.
+    /// Reads one of the packets that the last accepted event sent, counted from 0.
     pub fn packet(
         &mut self,
         alloc: Global,
@@ -198,7 +200,7 @@ impl Handle {
         copies
     }
 
-    /// The moment, in ms, at which the next timer ends.
+    /// The timestamp, in ms, at which the next timer expires.
     pub fn next_moment(&mut self, alloc: Global) -> u64
         ensures moment { result ≡ unwrap_or (option_and_then (λ r. next_moment r.state) (standing_in self.old.place.inside)) never }
         ensures stays { self.new.place.inside ≡ self.old.place.inside }
@@ -231,7 +233,7 @@ impl Handle {
         is_there
     }
 
-    /// What a data plane may do of the packets of a source.
+    /// What a data plane may do with the packets of a source.
     pub fn offload(&mut self, alloc: Global, source: Addr, group: Addr, row: &mut PlaneRow) -> bool
         ensures told { OffloadTold (standing_in self.old.place.inside) source.bits group.bits result row.old row.new }
         ensures stays { self.new.place.inside ≡ self.old.place.inside }
@@ -244,7 +246,7 @@ impl Handle {
         is_there
     }
 
-    /// How many sources the last event changed the rows of.
+    /// How many sources the last event listed as changed.
     pub fn changed(&mut self, alloc: Global) -> usize
         ensures count { result ≡ length (changed_in self.old.place.inside) }
         ensures stays { self.new.place.inside ≡ self.old.place.inside }
@@ -257,7 +259,7 @@ impl Handle {
         count
     }
 
-    /// One of these sources, counted from 0.
+    /// Reads one of the sources that the last event listed as changed, counted from 0.
     pub fn changed_source(&mut self, alloc: Global, index: usize, name: &mut NamedSource) -> bool
         ensures told { NameTold (slice_get (changed_in self.old.place.inside) index) result name.old name.new }
         ensures stays { self.new.place.inside ≡ self.old.place.inside }
@@ -270,7 +272,7 @@ impl Handle {
         is_there
     }
 
-    /// Whether what is offered of a source may have changed at the last event.
+    /// Whether what is offered of a source may have changed in the last event.
     pub fn may_differ(&mut self, alloc: Global, source: Addr, group: Addr) -> bool
         ensures differs { result ≡ may_differ_in self.old.place.inside source.bits group.bits }
         ensures stays { self.new.place.inside ≡ self.old.place.inside }
@@ -283,7 +285,7 @@ impl Handle {
         may_differ
     }
 
-    /// The trie nodes that the last event visited.
+    /// By how much the meter of visited trie nodes rose in the last event.
     pub fn probes(&mut self, alloc: Global) -> u64
         ensures probes { result ≡ probes_in self.old.place.inside }
         ensures stays { self.new.place.inside ≡ self.old.place.inside }
@@ -322,7 +324,7 @@ impl Handle {
         count
     }
 
-    /// One of these rows, counted from 0.
+    /// Reads one of the rows that were read, counted from 0.
     pub fn row(&mut self, alloc: Global, index: usize, row: &mut TableRow) -> bool
         ensures told { RowTold (slice_get (rows_in self.old.place.inside) index) result row.old row.new }
         ensures stays { self.new.place.inside ≡ self.old.place.inside }
@@ -376,7 +378,7 @@ fn is_copy(sent: &[Emission], copies: u32, index: usize) -> bool
     links(&sent[index + 1..]) < copies as usize
 }
 
-// Tells one of the packets, where it is there.
+// Writes out one of the packets, if it exists.
 fn tell_packet(
     sent: &[Emission],
     copies: u32,
@@ -396,7 +398,7 @@ fn tell_packet(
     }
 }
 
-// Tells one of the rows, where it is there.
+// Writes out one of the rows, if it exists.
 fn tell_row(rows: &[Row], index: usize, row: &mut TableRow) -> bool
     ensures { RowTold (slice_get rows.now index) result row.old row.new }
 {
@@ -409,7 +411,7 @@ fn tell_row(rows: &[Row], index: usize, row: &mut TableRow) -> bool
     }
 }
 
-// Tells a row of the forwarding cache, with RPF_interface(RP(G)), where it is there.
+// Writes out a row of the forwarding cache, with RPF_interface(RP(G)), if it exists.
 fn tell_cached(
     row: Option<CacheRow>,
     shared_rpf: Option<IfaceId>,
@@ -428,7 +430,7 @@ fn tell_cached(
     }
 }
 
-// Tells what is offered of a source, where anything is.
+// Writes out what is offered of a source, if anything is.
 fn tell_offload(offered: Option<Offered>, row: &mut PlaneRow) -> bool
     ensures told { (offer : Option OfferedValue) → TellsOffload offered offer → OfferTold offer result row.old row.new }
     ensures none { offered ≡ None → (result ≡ false) × (row.new ≡ row.old) }
@@ -442,7 +444,7 @@ fn tell_offload(offered: Option<Offered>, row: &mut PlaneRow) -> bool
     }
 }
 
-// Tells one of the sources, where it is there.
+// Writes out one of the sources, if it exists.
 fn tell_name(names: &[SourceGroup], index: usize, name: &mut NamedSource) -> bool
     ensures { NameTold (slice_get (keys_of names.now) index) result name.old name.new }
 {
@@ -462,7 +464,7 @@ fn step(alloc: Global, session: &mut Session, event: &LentEvent<'_>) -> u32
     answer_number(session.step(alloc, event))
 }
 
-// Has a session take an event, for which memory may have been refused: then nothing changes.
+// Has a session take an event that was copied. If the copy failed for want of memory, nothing changes.
 fn step_copied(alloc: Global, session: &mut Session, event: Result<Event, AllocError>) -> u32
     ensures stepped { IfOk event (λ e. SteppedFrom session.old session.old.router.standing e result session.new) }
     ensures refused { OnErr event ((result ≡ refused_number session.old.router.standing) × (session.new ≡ session.old)) }

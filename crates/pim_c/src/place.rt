@@ -1,4 +1,4 @@
-//! A session as its pointer, or nothing: what stands in a handle that C keeps. The functions that reach the pointer are
+//! A session by its pointer, or nothing: the content of a handle that C keeps. The functions that use the pointer are
 //! proved by hand.
 ghost use Rattle.std.specs.Prelude.{◌≡◌, Option, IsSome, None, Some};
 ghost use Rattle.pim_session.specs.Session.{ShownSession};
@@ -9,8 +9,8 @@ use std::alloc::Global;
 use std::marker::Model;
 use std::ptr::null_mut;
 
-/// A session as its pointer, or nothing. It has no type parameter, since C can't be given one that has.
-// A place with a session behind it is never let go but by `take`: what is dropped is forgotten.
+/// A session by its pointer, or nothing. It has no type parameter, since C can't be given a type that has one.
+// Only `take` frees the session of a place: a place that is dropped with a session in it leaks the session.
 #[repr(C)]
 #[derive(Drop)]
 pub struct Place {
@@ -60,14 +60,14 @@ impl Place {
         }
     }
 
-    /// The session of the box.
+    /// The place that holds the session of the box.
     pub fn put(session: Box<Session>) -> Place
         ensures { result.inside ≡ Some session.value }
     {
         Place::of(Pointed::of(session))
     }
 
-    /// The box again.
+    /// The box of the session.
     pub fn take(self) -> Box<Session>
         requires { IsSome self.inside }
         ensures { self.inside ≡ Some result.value }

@@ -1,11 +1,11 @@
-//! A box as its pointer, for code that isn't Rattle to keep. The two calls that make and end a raw pointer are proved
-//! by hand.
+//! A box as its pointer, for code that isn't Rattle to keep. The two calls that make and consume a raw pointer are
+//! proved by hand.
 ghost use Rattle.std.specs.Prelude.{◌≡◌};
 
 use std::alloc::Allocator;
 use std::marker::Model;
 
-/// What a box was: its pointer and its allocator.
+/// The parts of a box: its pointer and its allocator.
 pub struct Pointed<T, A: Allocator> {
     pub at: *mut T,
     pub alloc: A,
@@ -27,7 +27,7 @@ impl<T: Drop, A: Allocator> Pointed<T, A> {
         Pointed { at, alloc }
     }
 
-    /// The box again.
+    /// The box of the pointer and the allocator.
     pub fn into_box(self) -> Box<T, A>
         ensures { result.value ≡ self.value }
     {

@@ -1,4 +1,4 @@
-//! What a program is told: answers, packets and rows.
+//! What the router returns to a program: answers, packets and rows.
 ghost use Rattle.std.specs.Prelude.{◌≡◌, ◌+◌, ◌<◌, ◌≤◌, ◌^◌, IfErr, IfOk, if◌then◌else◌, nat_lt, true, ℕ};
 ghost use Rattle.pim_fanout.specs.Before.{name_key};
 ghost use Rattle.pim_ifset.specs.Members.{has, mask_of};
@@ -22,15 +22,15 @@ use pim_types::{
     Addr, Emission, Fault, IfaceId, Ignored, Refusal, Row, SourceGroup, Table, Verdict,
 };
 
-/// An event was taken.
+/// The event was accepted and done.
 pub const DONE: u32 = 0;
-/// The moment is beyond the last one.
+/// The timestamp is past the latest that an event may have.
 pub const MOMENT_FAR: u32 = 21;
-/// Memory was refused, and nothing has changed.
+/// An allocation failed, and nothing has changed.
 pub const MEMORY: u32 = 40;
-/// The router has failed before.
+/// The router had failed before this call.
 pub const FAILED: u32 = 41;
-/// Memory was refused in the midst of a change: the router has failed.
+/// An allocation failed in the midst of a change: the router has failed.
 pub const LOST: u32 = 43;
 /// The handle has no router.
 pub const NO_ROUTER: u32 = 50;
@@ -44,9 +44,9 @@ pub const FRAME: u32 = 1;
 pub const COPY: u32 = 2;
 /// A packet that leaves by unicast routing.
 pub const UNICAST: u32 = 3;
-/// The last moment, in ms.
+/// The latest timestamp of an event, in ms.
 pub const LAST_MOMENT: u64 = 1 << 62;
-/// No timer runs, or the time isn't there.
+/// Stands for a timestamp that doesn't exist, as where no timer runs.
 pub const NEVER: u64 = u64::MAX;
 /// No interface.
 pub const NO_INTERFACE: u32 = u32::MAX;
@@ -135,7 +135,7 @@ fn link_kind(is_copy: bool) -> u32
     if is_copy { COPY } else { FRAME }
 }
 
-/// What a packet is, without its bytes. One on an interface is a copy of data or isn't.
+/// A packet without its bytes. One that leaves on an interface is marked as a copy of data or as none.
 pub fn outline(emission: &Emission, is_copy: bool) -> Packet
     ensures { result ≡ told_packet emission.now is_copy }
 {
@@ -168,7 +168,7 @@ pub fn bytes(emission: &Emission) -> &[u8]
     }
 }
 
-/// Writes bytes into a room from its start, as many as it takes.
+/// Writes bytes into a buffer from its start, as many as fit.
 pub fn write(room: &mut [u8], bytes: &[u8])
     ensures { room.new ≡ written_into room.old bytes.now }
 {
@@ -180,7 +180,7 @@ pub fn write(room: &mut [u8], bytes: &[u8])
     }
 }
 
-/// A row of a table. What its kind of row doesn't have is 0, or `NEVER` for a time.
+/// A row of a table. A column that its kind of row doesn't have is 0, or `NEVER` for a timestamp.
 #[repr(C)]
 #[derive(Drop)]
 pub struct TableRow {
@@ -193,14 +193,14 @@ pub struct TableRow {
     /// The winner of an assert.
     pub winner: u32,
     pub is_rpt: bool,
-    /// A group record in EXCLUDE mode; an assert that the router lost; a source that is pruned off the shared tree;
-    /// SPTbit.
+    /// What is true of a group record in EXCLUDE mode, of an assert that the router lost, of a source that is pruned
+    /// off the shared tree, and of a source with SPTbit.
     pub is_set: bool,
-    /// Downstream 1 joined, 2 about to be pruned, 3 pruned; register 1 joined, 2 about to be joined, 3 pruned.
+    /// The state. Downstream: 1 Joined, 2 Prune-Pending, 3 Pruned. Register: 1 Join, 2 Join-Pending, 3 Prune.
     pub state: u32,
-    /// In ms.
+    /// When the row's timer expires, in ms.
     pub end: u64,
-    /// In ms: the end of Prune-Pending.
+    /// When the Prune-Pending timer expires, in ms.
     pub pending: u64,
 }
 
@@ -243,7 +243,7 @@ fn register_number(register: Option<RegisterName>) -> u32
     }
 }
 
-// What each column of a row tells.
+// The letter of the table that a row is of.
 
 fn letter(row: &Row) -> u8
     ensures { result ≡ (row_of row.now).table }
@@ -365,7 +365,7 @@ fn pending(row: &Row) -> u64
     }
 }
 
-/// A row as it is told, column by column.
+/// A row as C reads it, column by column.
 pub fn row(row: &Row) -> TableRow
     ensures { result ≡ row_of row.now }
 {
@@ -391,7 +391,7 @@ pub struct Interfaces {
     pub high: u64,
 }
 
-/// How data of a source to a group goes.
+/// How data of a source to a group is forwarded.
 #[repr(C)]
 #[derive(Drop)]
 pub struct Forwarding {
@@ -401,7 +401,7 @@ pub struct Forwarding {
     pub shared_rpf: u32,
     /// SPTbit(S,G).
     pub has_spt_bit: bool,
-    /// The register tunnel is in the first two lists.
+    /// Whether the register tunnel is in `immediate` and in `inherited`.
     pub has_tunnel: bool,
     /// immediate_olist(S,G).
     pub immediate: Interfaces,
@@ -419,7 +419,7 @@ fn bit(set: IfSet, iface: IfaceId, at: u32) -> u64
     if set.contains(iface) { 1 << at } else { 0 }
 }
 
-// So many of a set's interfaces, from one on, as bits: the first is the lowest.
+// As many of a set's interfaces as `count`, from one on, as bits of a word: the first is the lowest bit.
 #[tactic(auto, using(crate::proofs::Bits::next_bit, crate::proofs::Bits::no_bit, crate::proofs::Bits::bits_fit))]
 fn word(set: IfSet, from: u32, count: u32) -> u64
     requires { (count ≤ 64) × (from ≤ 64) }
@@ -432,7 +432,7 @@ fn word(set: IfSet, from: u32, count: u32) -> u64
     word
 }
 
-// Both words of a set.
+// The two words that have a set's interfaces as bits.
 fn words(set: IfSet) -> Interfaces
     ensures shown { (p : Set) → Shows set p → result ≡ interface_bits p }
     ensures below { (p : Set) → ((i : ℕ) → nat_lt i 120 ≡ true → has set i ≡ p i) → result ≡ interface_bits p }
@@ -443,7 +443,7 @@ fn words(set: IfSet) -> Interfaces
     }
 }
 
-/// A row of the forwarding cache, with RPF_interface(RP(G)), as it is told.
+/// A row of the forwarding cache, with RPF_interface(RP(G)), as C reads it.
 pub fn cache_row(row: &CacheRow, shared_rpf: Option<IfaceId>) -> Forwarding
     ensures { (a : Answers) → IsAfresh row.now a → result ≡ forwarding_of a (number_of shared_rpf) }
 {
@@ -458,23 +458,23 @@ pub fn cache_row(row: &CacheRow, shared_rpf: Option<IfaceId>) -> Forwarding
     }
 }
 
-/// What a data plane may do of the packets of a source.
+/// What a data plane may do with the packets of a source.
 #[repr(C)]
 #[derive(Drop)]
 pub struct PlaneRow {
     /// The source has a fact.
     pub is_known: bool,
-    /// Where packets are accepted, or `NO_INTERFACE`.
+    /// The interface on which packets are accepted, or `NO_INTERFACE`.
     pub incoming: u32,
-    /// Where copies of these leave, but for the interface on which they came.
+    /// The interfaces on which copies of accepted packets leave, without the one on which they came.
     pub outgoing: Interfaces,
-    /// Where a packet shows that the source is alive.
+    /// The interfaces on which a packet shows that the source is alive.
     pub alive: Interfaces,
-    /// Where a packet is the router's.
+    /// The interfaces from which packets go to the router.
     pub to_core: Interfaces,
 }
 
-/// What is offered of a source as it is told.
+/// What is offered of a source, as C reads it.
 pub fn plane_row(offered: &Offered) -> PlaneRow
     ensures { (o : OfferedValue) → ShowsOffered offered.now o → result ≡ plane_row_of o }
 {
@@ -487,7 +487,7 @@ pub fn plane_row(offered: &Offered) -> PlaneRow
     }
 }
 
-/// A source of a group whose row changed.
+/// A source of a group.
 #[repr(C)]
 #[derive(Drop)]
 pub struct NamedSource {
@@ -495,7 +495,7 @@ pub struct NamedSource {
     pub group: u32,
 }
 
-/// A source of a group as it is told.
+/// A source of a group, as C reads it.
 pub fn named(name: &SourceGroup) -> NamedSource
     ensures { result ≡ name_of (name_key name.now) }
 {
@@ -505,7 +505,7 @@ pub fn named(name: &SourceGroup) -> NamedSource
     }
 }
 
-/// The table of a letter.
+/// The table that a letter names.
 pub fn table(letter: u8) -> Option<Table>
     ensures { result ≡ table_of_letter letter }
 {

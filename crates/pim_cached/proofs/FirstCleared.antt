@@ -1,4 +1,5 @@
--- What is cleared first stays cleared to the end. So where the end has all asserts and SPTbits that may go, nothing went.
+-- What is cleared first stays cleared to the end. So where the end has all asserts and SPTbits that may go, nothing
+-- went.
 use Rattle.std.proofs.Common.{◌≡◌, ℕ, Bool, true, false, not, ◌&&◌, ◌⊎◌, cond, List, [], Option, Some, None, option_map, is_some, ⊎_elim, refl, sym, ap, subst, ◌∙◌}
 use Rattle.std.proofs.lemmas.Bool.{false_from_ne_true}
 use Rattle.std.specs.Cmp.{first_so, second_so}

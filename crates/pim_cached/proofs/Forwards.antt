@@ -1,5 +1,5 @@
--- How a packet is forwarded that neither opens the register tunnel nor sets SPTbit: on its tree, on the shared tree, or on
--- neither.
+-- How a packet is forwarded that neither opens the register tunnel nor sets SPTbit: on its tree, on the shared tree, or
+-- on neither.
 use Rattle.std.proofs.Common.{◌≡◌, ℕ, Bool, true, false, not, ◌&&◌, ◌||◌, cond, List, [], Option, Some, None, is_some, refl, sym, ap, ◌∙◌}
 use Rattle.std.specs.Option.{option_map_or}
 use Rattle.pim_types.specs.declared.fact.SourceRow.{SourceRow}

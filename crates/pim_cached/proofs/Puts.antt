@@ -1,5 +1,5 @@
--- Tables whose keys stand once: each entry is the row that is found at its key. A row put twice is put once, and one put where it is
--- changes nothing.
+-- Tables whose keys stand once: each entry is the row that is found at its key. A row put twice is put once, and one
+-- put where it is changes nothing.
 use Rattle.std.proofs.Common.{◌≡◌, Bool, true, false, cond, [], ◌∷◌, Some, is_some, refl, ap, sym, ◌∙◌}
 use Rattle.std.specs.BTreeMap.{insert_entry, is_at}
 use Rattle.std.specs.declared.cmp.Ordering.{Ordering}

@@ -1,4 +1,5 @@
--- A change with what follows from it keeps the rows: those that are named are the state's, the others had the same answers.
+-- A change with what follows from it keeps the rows: those that are named are the state's, the others had the same
+-- answers.
 use Rattle.std.proofs.Common.{◌≡◌, ℕ, Bool, true, false, ◌&&◌, cond, List, length, ◌≤◌, Some, None, refl, sym, ap, ◌∙◌}
 use Rattle.std.proofs.lemmas.Bool.{or_parts}
 use Rattle.pim_types.specs.declared.fact.SourceRow.{SourceRow}

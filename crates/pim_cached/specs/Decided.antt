@@ -1,4 +1,4 @@
--- What a source's answers decide of a packet, and all that becomes of a packet that is plain by them.
+-- What a source's answers decide of a packet, and all that is done with a packet that is plain by them.
 use Rattle.std.specs.Prelude.{Bool, List, Ok, Option, Some, if◌then◌else◌, length, true, ℕ, ◌≡◌}
 use Rattle.pim_ip.specs.Ipv4.{Packet}
 use Rattle.pim_types.specs.declared.config.IfaceId.{IfaceId}
@@ -18,7 +18,7 @@ use Rattle.pim_model.specs.Writing.{copies_of}
 abbrev pub decided_by_answers : State → IfaceId → Packet → Option Plain
 decided_by_answers s i p = plain (answers s p.destination p.source) i.number p.time_to_live
 
--- the state with the keepalive timer of a source set, or as it is
+-- The state with the keepalive timer of a source set, or unchanged.
 abbrev pub kept_if : Bool → State → ℕ → ℕ → State
 kept_if keeps s g src = if keeps then with_keepalive s g src else s
 
@@ -32,7 +32,7 @@ plainly_taken s p how =
       state = kept_if how.keeps s p.destination p.source;
     }
 
--- an event brings a packet that the answers of its source, which has a fact, decide
+-- The event brings a packet of a source with a fact, and the answers of that source decide it.
 pub record IsDecided (s : State) (e : Event) (p : Packet) (how : Plain) : Type 0 where
   pub iif : IfaceId
   pub heard : judged s e.kind ≡ Ok (Accepted.Data iif p)

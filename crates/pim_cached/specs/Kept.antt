@@ -1,5 +1,5 @@
--- Answers kept beside a state, a row for each source with a fact, and how an event leaves them: the named rows are made
--- anew, or taken out, and no others.
+-- Answers that are kept with a state, one row for each source with a fact, and how an event leaves them: the named rows
+-- are evaluated again, or taken out, and no others.
 use Rattle.std.specs.List.{list_any}
 use Rattle.std.specs.Prelude.{Bool, Err, List, None, Ok, Option, Some, [], false, if◌then◌else◌, length, nat_lt, true, ℕ, ◌+◌, ◌-◌, ◌∷◌, ◌≡◌}
 use Rattle.pim_types.specs.declared.event.Event.{Event}
@@ -23,13 +23,14 @@ use Rattle.pim_reach.specs.Named.{named_by, named_of}
 abbrev pub Cache : Type 0
 Cache = ℕ → ℕ → Option Answers
 
--- the opening's
+-- The cache without rows, which is that of the opening.
 abbrev pub no_rows : Cache
 no_rows g src = None
 
 -- ---- the same answers
 
--- The same of all interfaces that can be configured. Whether SPTbit is reached counts where RPF_interface(S) is one.
+-- Two answers are the same for all interfaces that can be configured. Whether SPTbit is reached is compared only where
+-- RPF_interface(S) is one of these.
 pub record SameAnswers (a b : Answers) : Type 0 where
   pub immediate : (i : ℕ) → nat_lt i most_ifaces ≡ true → a.immediate i ≡ b.immediate i
   pub inherited : (i : ℕ) → nat_lt i most_ifaces ≡ true → a.inherited i ≡ b.inherited i
@@ -61,7 +62,7 @@ IsCached c s = (g src : ℕ) → SameRow (c g src) (cached s g src)
 unfoldable pub is_listed : List Key → ℕ → ℕ → Bool
 is_listed names g src = list_any (same_key (source_key 0 g src)) names
 
--- the named rows as the state has them, the others as they were
+-- The cache with the named rows as the state has them, and the others unchanged.
 unfoldable pub refreshed : List Key → State → Cache → Cache
 refreshed names s c g src = if is_listed names g src then cached s g src else c g src
 
@@ -69,7 +70,7 @@ pub record Held : Type 0 where
   pub state : State
   pub cache : Cache
 
--- firings, each with its rows made anew
+-- Timers that expire one by one, each with its rows evaluated again.
 module _ (w : ℕ) where
   unfoldable pub held_once : Held → Ending → Held × List Emission
   held_once h e =
@@ -95,19 +96,19 @@ abbrev pub cache_concluded : Cache → (Accepted → Cache) → Judged → Cache
 cache_concluded c next (Err stop) = c
 cache_concluded c next (Ok a) = next a
 
--- an event that is refused or ignored leaves all rows
+-- The cache after an event; one that is refused or ignored leaves all rows unchanged.
 unfoldable pub cache_after : State → Event → Cache → Cache
 cache_after s e c =
     cache_concluded c (λ a. cache_unless_full (is_full s a) c (cache_taken s e.draw a c)) (judged s e.kind)
 
--- after several events
+-- The cache after several events.
 unfoldable pub cache_at_end : State → List Event → Cache → Cache
 cache_at_end s [] c = c
 cache_at_end s (e ∷ es) c = cache_at_end (step s e).state es (cache_after s e c)
 
 -- ---- what rows decide
 
--- KAT(S,G) is set alike, and copies leave on the same interfaces
+-- KAT(S,G) is set in both or in neither, and copies leave on the same interfaces.
 pub record SamePlain (p q : Plain) : Type 0 where
   pub keeps : p.keeps ≡ q.keeps
   pub list : (i : ℕ) → nat_lt i most_ifaces ≡ true → p.list i ≡ q.list i

@@ -2,36 +2,36 @@
 
 ghost use Rattle.pim_cached.specs.KeptLaws.{EventKeepsCache, FiringKeepsCache, HeldEmits, HeldFires, HeldIsCached, OpeningIsCached, PlainEventNamesNone, PlainLeavesRows, PlainNamesNone, RouterKeepsCache, RunKeepsCache, SameAnswersDecide, StepKeepsCache, StepStaysConfigured, TakenKeepsCache};
 
-/// An event other than Advance makes the named rows anew, and then all rows are those of the state.
+/// After an event other than Advance, whose named rows are evaluated again, all rows are those of the state.
 #[tactic(auto, using(crate::proofs::RowsOfEvents::event_keeps_cache))]
 pub fn event_keeps_cache()
     ensures { EventKeepsCache }
 {}
 
-/// So does a timer's end.
+/// After the expiry of a timer, whose named rows are evaluated again, all rows are those of the state.
 #[tactic(auto, using(crate::proofs::RowsOfEvents::firing_keeps_cache))]
 pub fn firing_keeps_cache()
     ensures { FiringKeepsCache }
 {}
 
-/// Firing by firing the states are those of Advance.
+/// The states after each timer that expires one by one lead to the state after the Advance.
 #[tactic(auto, using(crate::proofs::RowsOfSteps::held_fires))]
 pub fn held_fires()
     ensures { HeldFires }
 {}
 
-/// The rows are kept firing by firing.
+/// The rows are those of the state after each timer that expires in an Advance.
 pub fn held_is_cached()
     ensures { HeldIsCached }
 {}
 
-/// The rows are kept at any event that is accepted.
+/// The rows are those of the state after any accepted event.
 #[tactic(auto, using(crate::proofs::RowsOfSteps::taken_keeps_cache))]
 pub fn taken_keeps_cache()
     ensures { TakenKeepsCache }
 {}
 
-/// The rows are kept at any event.
+/// The rows are those of the state after any event.
 #[tactic(auto, using(crate::proofs::RowsOfSteps::step_keeps_cache))]
 pub fn step_keeps_cache()
     ensures { StepKeepsCache }
@@ -55,36 +55,36 @@ pub fn plain_names_none()
     ensures { PlainNamesNone }
 {}
 
-/// So it leaves all rows.
+/// A plain packet leaves all rows unchanged.
 pub fn plain_leaves_rows()
     ensures { PlainLeavesRows }
 {}
 
-/// The rows are kept at any events.
+/// The rows are those of the state after any list of events.
 #[tactic(auto, using(crate::proofs::RowsOfRuns::run_keeps_cache))]
 pub fn run_keeps_cache()
     ensures { RunKeepsCache }
 {}
 
-/// A router keeps its rows from the opening on.
+/// A router's rows are those of its state from the opening on.
 #[tactic(auto, using(crate::proofs::RowsOfRuns::router_keeps_cache))]
 pub fn router_keeps_cache()
     ensures { RouterKeepsCache }
 {}
 
-/// The same answers decide the same of a packet.
+/// Equal answers decide a packet alike.
 #[tactic(auto, using(crate::proofs::Decides::decide_same))]
 pub fn same_answers_decide()
     ensures { SameAnswersDecide }
 {}
 
-/// What leaves firing by firing is what leaves of Advance.
+/// The packets of the timers that expire one by one are those of the Advance.
 #[tactic(auto, using(crate::proofs::RowsOfSteps::held_emits))]
 pub fn held_emits()
     ensures { HeldEmits }
 {}
 
-/// So does a plain event, by what it does.
+/// A plain event, by what it does, names no source.
 #[tactic(auto, using(crate::proofs::RowsOfRuns::plain_event_names_none))]
 pub fn plain_event_names_none()
     ensures { PlainEventNamesNone }

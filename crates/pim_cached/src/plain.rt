@@ -2,7 +2,7 @@
 
 ghost use Rattle.pim_cached.specs.PlainLaws.{AnswersAtRest, AnswersOfSame, CacheOfSame, DecidedIsPlain, KeepingChangesNoAnswer, KnownIsNotFull, PlainIsDecided, PlainIsStepped, PlainIsTaken, PlainKeepsCache, RegisteredWhereItCould};
 
-/// A packet that its source's answers decide is taken as they say, and nothing follows of it.
+/// A packet that its source's answers decide is forwarded as they say, and nothing follows of it.
 pub fn plain_is_taken()
     ensures { PlainIsTaken }
 {}
@@ -13,13 +13,13 @@ pub fn known_is_not_full()
     ensures { KnownIsNotFull }
 {}
 
-/// So it is of the whole step.
+/// The step of a packet that its source's answers decide is what they say.
 #[tactic(auto, using(crate::proofs::PlainPackets::plain_is_stepped))]
 pub fn plain_is_stepped()
     ensures { PlainIsStepped }
 {}
 
-/// It leaves the cache as it was.
+/// A packet that its source's answers decide leaves the cache unchanged.
 pub fn plain_keeps_cache()
     ensures { PlainKeepsCache }
 {}
@@ -34,29 +34,29 @@ pub fn plain_is_decided()
     ensures { PlainIsDecided }
 {}
 
-/// The keepalive timer of a source with a fact changes no answer.
+/// Setting the keepalive timer of a source with a fact changes no answer.
 pub fn keeping_changes_no_answer()
     ensures { KeepingChangesNoAnswer }
 {}
 
-/// Where a source sees the same, and is desired and registered alike, its answers are the same.
+/// Where a source's macros read the same, and it is desired and registered alike, its answers are the same.
 #[tactic(auto, using(crate::proofs::SameAnswers::answers_same))]
 pub fn answers_of_same()
     ensures { AnswersOfSame }
 {}
 
-/// A source with a fact is registered where it could be.
+/// At rest a source with a fact is registered if and only if it could be.
 pub fn registered_where_it_could()
     ensures { RegisteredWhereItCould }
 {}
 
-/// At rest what a source sees and CouldRegister(S,G) are enough.
+/// At rest a source's answers are the same where its macros read the same and CouldRegister(S,G) is the same.
 #[tactic(auto, using(crate::proofs::KeptAlive::answers_at_rest))]
 pub fn answers_at_rest()
     ensures { AnswersAtRest }
 {}
 
-/// So the cache has the same of a source with a fact that sees the same.
+/// At rest the cache has the same row of a source with a fact whose macros read the same.
 #[tactic(auto, using(crate::proofs::KeptAlive::cache_of_same))]
 pub fn cache_of_same()
     ensures { CacheOfSame }

@@ -45,7 +45,7 @@ stray_nodes s g src iif =
     if (if spt_bit s g src then inherited_olist s g src else inherited_olist_rpt s g src) iif
     then data_nodes s (if spt_bit s g src then source_key iif g src else star_key iif g) else 0
 
--- on the shortest path tree nothing is looked up
+-- The nodes of choosing a list; on the shortest path tree nothing is looked up.
 unfoldable pub chosen_nodes : State → ℕ → ℕ → ℕ → ℕ
 chosen_nodes s g src iif =
     if is_rpf_interface s src iif && spt_bit s g src then 0
@@ -66,6 +66,6 @@ abbrev pub registered_nodes : State → Packet → ℕ
 registered_nodes s p =
     rp_nodes s.ranges p.destination + (if is_some (rp_of s p.destination) then path_nodes s (Some p.source) else 0)
 
--- where the packet goes through the tunnel, and its TTL lets it
+-- The nodes of a Register that leaves: where the packet goes through the tunnel, and its TTL lets it.
 unfoldable pub leave_nodes : State → Packet → Bool → ℕ
 leave_nodes s p to_tunnel = if to_tunnel && leaves p then registered_nodes s p else 0

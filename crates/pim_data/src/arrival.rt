@@ -17,9 +17,10 @@ use std::alloc::AllocError;
 
 /// Takes a data packet of a source and a group that came on an interface below 120; the sight is what their macros read
 /// now, and is kept up to date by what the packet changes. A source on a link of the router's own is kept alive and
-/// registered, one that is joined is kept alive, the SPTbit is set where the shortest path tree is reached, and a packet
-/// that came on no tree's interface asks for an assert. The answer is where the packet leaves: never where it came. The meter
-/// rises by the nodes that the look-ups visit, at least those that lead to facts that come or go. An error is want of memory.
+/// registered, one that is joined is kept alive, the SPTbit is set where the shortest path tree is reached, and a
+/// packet that came on no tree's interface asks for an assert. The answer is where the packet leaves: never where it
+/// came. The meter rises by the nodes that the look-ups visit, at least those that lead to facts that come or go. An
+/// error is want of memory.
 #[tactic(auto, unfolding(pim_model::specs::Forwarding::forwarded))]
 pub fn arrived(
     world: &mut World,

@@ -23,7 +23,7 @@ use std::alloc::{AllocError, Global};
 /// What leaves of a packet.
 #[derive(Drop)]
 pub struct Leaving {
-    /// Its copies on links, by ascending interface: at most 120.
+    /// The packet's copies on links, in ascending order of interfaces: at most 120.
     pub copies: Vec<Emission>,
     /// The Register round it, if it goes through the tunnel.
     pub registered: Vec<Emission>,
@@ -66,8 +66,8 @@ fn copies_on(
     Ok(copies)
 }
 
-/// The packet's copies on the links of the list, by ascending interface: none where its TTL has run out. An error is want
-/// of memory.
+/// The packet's copies on the links of the list, by ascending interface: none where its TTL has run out. An error is
+/// want of memory.
 #[tactic(auto, unfolding(pim_model::specs::Writing::copies_of))]
 pub fn copies(
     world: &World,
@@ -83,7 +83,7 @@ pub fn copies(
         return Ok(room.list());
     }
     let count = world.interfaces().count();
-    // It tells how many there are.
+    // For the proof: how many interfaces the list has.
     let list = list.without_tunnel();
     copies_on(room, list.len(), members(list, count), packet)
 }
@@ -109,9 +109,9 @@ fn registered(
     Ok(sent)
 }
 
-/// What leaves of a packet whose list of outgoing interfaces this is: nothing where its TTL has run out. The meter rises by
-/// the nodes that the look-ups visit, at least those that lead to the RP and to the route to the source where the packet goes
-/// through the tunnel. An error is want of memory.
+/// What leaves of a packet whose list of outgoing interfaces this is: nothing where its TTL has run out. The meter
+/// rises by the nodes that the look-ups visit, at least those that lead to the RP and to the route to the source where
+/// the packet goes through the tunnel. An error is want of memory.
 #[tactic(auto, unfolding(pim_model::specs::Writing::tunnel_of))]
 pub fn leave(
     world: &World,

@@ -29,8 +29,8 @@ fn watch(world: &mut World, meter: &mut Meter, sight: &SourceSight) -> Result<()
     world.keep_alive(sight.name(), None, meter)
 }
 
-/// Whether the interface is on the list of the tree that the source comes by: the shortest path tree once it is reached,
-/// the shared tree before.
+/// Whether the interface is on the list of the tree that the source comes by: the shortest path tree once it is
+/// reached, the shared tree before.
 pub fn is_on_list(sight: &SourceSight, iface: IfaceId) -> bool
     requires { iface.number < 120 }
     ensures { InSource sight.now (λ s g src. result

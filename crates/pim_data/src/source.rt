@@ -1,5 +1,5 @@
-//! What a packet tells of its source (RFC 7761, sections 4.2 and 4.2.2). Each step takes the sight of the source, which is
-//! true of the state before it, and then of the state after it.
+//! What a packet tells of its source (RFC 7761, sections 4.2 and 4.2.2). Each step takes the sight of the source, which
+//! is true of the state before it, and then of the state after it.
 ghost use Rattle.std.specs.Prelude.{◌≡◌, ◌<◌, ◌≤◌, OnOk};
 ghost use Rattle.pim_macros.specs.Sights.{IsSourceSight};
 ghost use Rattle.pim_model.specs.Forwarding.{source_here, source_joined, spt_updated};

@@ -37,15 +37,15 @@ rows_set s changes = fold row_set s changes
 abbrev pub change_after : State → ℕ → ℕ → List Key → List Key → Key → Change
 change_after s i holdtime joined pruned k = record { key = k; row = row_after s i holdtime joined pruned k }
 
--- those of all that it can change
+-- What becomes of all keys whose rows the message can change.
 abbrev pub changes_after : State → ℕ → ℕ → List Key → List Key → List Change
 changes_after s i holdtime joined pruned = map (change_after s i holdtime joined pruned) (touched_keys s i joined pruned)
 
--- in the set stand the keys, where they are more than a few
+-- The set has the keys, if they are more than a few.
 abbrev pub IsSetOf : (keys set : List Key) → Type 0
 IsSetOf keys set = 8 < length keys → (q : Key) → is_named set q ≡ is_named keys q
 
--- in these sets stand the keys that a message joins, and those that it prunes, where they are more than a few
+-- The sets have the keys that a message joins, and those that it prunes, if they are more than a few.
 pub record AreSets (named : NamedKeys) (joined pruned : List Key) : Type 0 where
   pub joins : IsSetOf named.joined.items joined
   pub prunes : IsSetOf named.pruned.items pruned

@@ -1,5 +1,5 @@
--- How many nodes of tries are visited, at least, where a Join/Prune is taken in, and where a timer of a downstream state
--- ends.
+-- How many nodes of tries are visited, at least, where a Join/Prune is taken in, and where a timer of a downstream
+-- state ends.
 use Rattle.std.specs.Prelude.{List, if◌then◌else◌, is_none, not, sum_by, ℕ, ◌&&◌, ◌+◌, ◌||◌}
 use Rattle.pim_types.specs.Keys.{group_in, is_star}
 use Rattle.pim_types.specs.declared.fact.Key.{Key}
@@ -28,14 +28,14 @@ counted_nodes s n = if is_used n then accepted_nodes s n else 0
 abbrev pub joins_nodes : State → Group → ℕ
 joins_nodes s g = sum_by (λ e. counted_nodes s (g.group, e)) g.joins
 
--- those of all groups of a message
+-- The nodes of the keys that all groups of a message name.
 unfoldable pub message_named_nodes : State → JoinPrune → ℕ
 message_named_nodes s m = sum_by (joins_nodes s) m.groups
 
 -- ---- the rows that a message changes
 
--- what is marked of the key's group and source is looked up where a row comes or goes; where a row is put in the place of
--- another it may be, which isn't counted here
+-- what is marked of the key's group and source is looked up where a row comes or goes; where a row is put in the place
+-- of another it may be, which isn't counted here
 abbrev pub row_set_nodes : State → Change → ℕ
 row_set_nodes s c =
     if is_none c.row || not (has_row s.downstream c.key) then mark_nodes s c.key.group c.key.source else 0
@@ -44,8 +44,8 @@ row_set_nodes s c =
 unfoldable pub rows_set_nodes : State → List Change → ℕ
 rows_set_nodes s changes = nodes_in_turn row_set row_set_nodes s changes
 
--- a message with these keys: the rows of those that it can change are set. The asserts that its joins end aren't counted
--- here.
+-- a message with these keys: the rows of those that it can change are set. The asserts that its joins end aren't
+-- counted here.
 unfoldable pub to_me_nodes : State → ℕ → ℕ → List Key → List Key → ℕ
 to_me_nodes s i holdtime joined pruned = rows_set_nodes s (changes_after s i holdtime joined pruned)
 

@@ -101,9 +101,9 @@ fn expired(world: &mut World, meter: &mut Meter, key: Key)
 }
 
 /// What the end of a Prune-Pending timer, or of an expiry timer, changes: where Prune-Pending ends, (S,G,rpt) is pruned
-/// from now on, and (*,G) and (S,G) go with a PruneEcho; what expires goes in silence. The meter rises by the nodes that
-/// its look-ups visit, at least those that lead to RP(G) for a PruneEcho of (*,G), and to the facts of the group or source
-/// whose state goes. An error is want of memory.
+/// from now on, and (*,G) and (S,G) go with a PruneEcho; what expires goes in silence. The meter rises by the nodes
+/// that its look-ups visit, at least those that lead to RP(G) for a PruneEcho of (*,G), and to the facts of the group
+/// or source whose state goes. An error is want of memory.
 #[tactic(auto, unfolding(pim_model::specs::Firing::fired))]
 pub fn fired(
     world: &mut World,

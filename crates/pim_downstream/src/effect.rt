@@ -1,5 +1,5 @@
-//! What a message comes to, told before its change: the rows that it leaves, and the keys of which it moves more than an
-//! end.
+//! What a message comes to, told before its change: the rows that it leaves, and the keys of which it moves more than
+//! an end.
 ghost use Rattle.std.specs.Prelude.{◌≡◌, ◌++◌, [], ◌∷◌, IfOk, OnOk, filter, if◌then◌else◌, map, not};
 ghost use Rattle.pim_locality.specs.JoinPrunes.{moved_among, moves_end};
 ghost use Rattle.pim_downstream.specs.Naming.{change_after, changes_after};
@@ -30,7 +30,7 @@ pub struct Effect {
     pub moved: Series<Key>,
 }
 
-// Both ends are there, or neither is.
+// Whether a timer runs in both rows, or in neither.
 fn same_end(first: Option<u64>, second: Option<u64>) -> bool
     ensures { result ≡ same_end first second }
 {
@@ -40,7 +40,7 @@ fn same_end(first: Option<u64>, second: Option<u64>) -> bool
     }
 }
 
-// Both rows are there and the same but for ends, or neither is there.
+// Whether both rows are there and the same but for when timers expire, or neither is there.
 fn same_row(before: Option<DownstreamRow>, after: Option<DownstreamRow>) -> bool
     ensures { result ≡ same_both same_downstream before after }
 {
@@ -63,7 +63,8 @@ fn is_loser(row: Option<AssertRow>) -> bool
     }
 }
 
-// At most an end of the key's row moves, where this is the row after the message, and the key loses no assert.
+// Whether a message, after which this is the row, changes at most when the timers of the key's row expire, and the key
+// loses no assert by it.
 #[tactic(auto, unfolding(pim_locality::specs::JoinPrunes::moves_end))]
 fn moves_end(
     world: &World,
@@ -125,8 +126,8 @@ fn judge_keys(
 }
 
 impl Effect {
-    /// What a message on an interface comes to that names these keys and has a holdtime, in seconds: each key asks the whole
-    /// message, and the state that it finds.
+    /// What a message on an interface comes to that names these keys and has a holdtime, in seconds: each key asks the
+    /// whole message, and the state that it finds.
     pub fn of(
         world: &World,
         turn: &Turn,

@@ -20,8 +20,8 @@ pub fn is_used(group: Addr, entry: Entry) -> bool
         && (!group.is_source_specific() || matches!(entry.kind, EntryKind::Source))
 }
 
-/// Whether a join of the group is accepted: one of (*,G) has to name RP(G). The meter rises by the nodes that are visited
-/// for it.
+/// Whether a join of the group is accepted: one of (*,G) has to name RP(G). The meter rises by the nodes that are
+/// visited for it.
 #[tactic(auto, using(pim_world::proofs::Visits::raised_by_none), unfolding(pim_model::specs::Downstream::is_accepted))]
 pub fn is_accepted(world: &World, group: Addr, join: Entry, meter: &mut Meter) -> bool
     ensures accepted { result ≡ is_accepted world.now (group.bits, join) }
@@ -30,8 +30,8 @@ pub fn is_accepted(world: &World, group: Addr, join: Entry, meter: &mut Meter) -
     !matches!(join.kind, EntryKind::Star) || world.is_rp(group, join.address, meter)
 }
 
-/// Whether a join of the group counts: it is used and accepted. The meter rises by the nodes that are visited where RP(G) is
-/// asked for.
+/// Whether a join of the group counts: it is used and accepted. The meter rises by the nodes that are visited where
+/// RP(G) is asked for.
 #[tactic(auto, using(pim_world::proofs::Visits::raised_by_none))]
 pub fn is_counted(world: &World, group: Addr, join: Entry, meter: &mut Meter) -> bool
     ensures counted { result ≡ is_counted world.now (group.bits, join) }

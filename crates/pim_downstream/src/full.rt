@@ -73,8 +73,8 @@ fn may_be_full(world: &World, holdtime: u16, named: &Named) -> bool
     holdtime != 0 && world.passes_limit(named.joined.len() + named.pruned.len())
 }
 
-/// Whether the rows that a message with these keys and a holdtime, in seconds, would make pass the limit on facts. No key is
-/// looked up where there is room for all of them.
+/// Whether the rows that a message with these keys and a holdtime, in seconds, would make pass the limit on facts. No
+/// key is looked up where there is room for all of them.
 #[tactic(auto, unfolding(pim_model::specs::Full::keys_are_full, pim_model::specs::Full::needed))]
 pub fn is_full(world: &World, turn: &Turn, holdtime: u16, named: &Named) -> Result<bool, AllocError>
     ensures { IfOk result (λ full. full

@@ -14,8 +14,8 @@ use std::marker::Model;
 // A key is found among so few as fast by going through them, and no set of them takes memory.
 const FEW: usize = 8;
 
-/// The keys that a message names, each of which is found among all as fast as among few. Where they are more than a few they
-/// stand in sets.
+/// The keys that a message names, each of which is found among all as fast as among few. Where they are more than a few
+/// they stand in sets.
 #[derive(Drop)]
 pub(crate) struct Indexed<'a> {
     named: &'a Named,
@@ -67,7 +67,7 @@ fn is_among(keys: &[Key], set: &BTreeSet<Key>, key: Key) -> bool
 }
 
 impl<'a> Indexed<'a> {
-    /// These keys.
+    /// The given keys, indexed.
     pub(crate) fn of(alloc: Global, named: &'a Named) -> Result<Self, AllocError>
         ensures { IfOk result (λ indexed. indexed ≡ named.now) }
     {

@@ -36,8 +36,9 @@ fn set_rows(
 }
 
 /// Takes a Join/Prune to the router that came on an interface and names keys on it, as one message: each key asks the
-/// whole message, and the state that it finds. The meter rises by the nodes that its look-ups visit, at least those that lead
-/// to the facts of each key whose row comes or goes. Where memory is refused, some keys may be taken and others not.
+/// whole message, and the state that it finds. The meter rises by the nodes that its look-ups visit, at least those
+/// that lead to the facts of each key whose row comes or goes. Where memory is refused, some keys may be taken and
+/// others not.
 pub fn to_me(
     world: &mut World,
     turn: &Turn,

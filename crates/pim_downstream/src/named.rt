@@ -66,8 +66,8 @@ fn push_pruned(iface: IfaceId, group: &GroupView<'_>, keys: &mut Vec<Key>) -> Re
 }
 
 impl Named {
-    /// The keys that the message names on an interface. The meter rises by the nodes that its look-ups visit, at least those
-    /// that lead to RP(G) for each join of (*,G) that is used.
+    /// The keys that the message names on an interface. The meter rises by the nodes that its look-ups visit, at least
+    /// those that lead to RP(G) for each join of (*,G) that is used.
     pub fn of(
         world: &World,
         turn: &Turn,

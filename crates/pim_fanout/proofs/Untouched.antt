@@ -1,4 +1,5 @@
--- A source that a change doesn't touch isn't named, whether it has a fact or not, where routes and RP ranges are as they were.
+-- A source that a change doesn't touch isn't named, whether it has a fact or not, where routes and RP ranges are as
+-- they were.
 use Rattle.std.proofs.Common.{◌≡◌, ℕ, List, inl, inr, true, sym, ap, ◌∙◌}
 use Rattle.std.specs.Cmp.Derive.{both_true}
 use Rattle.std.specs.Prelude.{option_and_then}

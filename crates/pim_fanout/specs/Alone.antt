@@ -1,4 +1,4 @@
--- One source that alone is touched, as it is in a state.
+-- A source that is touched and no other, as it is in a state.
 use Rattle.std.specs.Prelude.{[], false, ◌≡◌, ◌∷◌}
 use Rattle.pim_types.specs.declared.name.SourceGroup.{SourceGroup}
 use Rattle.pim_model.specs.State.{State}
@@ -8,13 +8,13 @@ use Rattle.pim_world.specs.declared.touched.Touched.{Touched}
 use Rattle.pim_opening.specs.Openings.{is_whole, source_opening, touched_sources}
 use Rattle.pim_opening.specs.declared.opening.GroupOpening.{GroupOpening}
 
--- its group alone is touched, of that not all, and of its sources this one alone
+-- The source is touched, and nothing else of its group or of other groups.
 pub record TouchesAlone (touched : Touched) (name : SourceGroup) : Type 0 where
   pub groups : (s : State) → groups_of (concerned_keys s touched) ≡ name.group.bits ∷ []
   pub part : is_whole touched name.group.bits ≡ false
   pub sources : (s : State) → touched_sources s touched name.group.bits ≡ name.source.bits ∷ []
 
--- its group, as it is opened
+-- The source's group, as it is opened.
 abbrev pub opening_alone : State → SourceGroup → GroupOpening
 opening_alone s name = record {
   group = name.group;

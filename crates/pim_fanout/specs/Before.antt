@@ -19,7 +19,7 @@ use Rattle.pim_fanout.specs.declared.before.KnownSource.{KnownSource}
 use Rattle.pim_fanout.specs.declared.before.SourceBefore.{SourceBefore}
 use Rattle.pim_types.specs.declared.name.SourceGroup.{SourceGroup}
 
--- the touched sources, each under its key, ascending: by group, then by source
+-- The touched sources, each under its key, in ascending order: by group, then by source.
 unfoldable pub opened_sources : State → Touched → List Key
 opened_sources o touched =
     flat_map (λ g. map (source_key 0 g) (touched_sources o touched g)) (groups_of (concerned_keys o touched))
@@ -47,7 +47,7 @@ pub record KnownAs (o : State) (g src : ℕ) (k : KnownSource) : Type 0 where
 abbrev pub IsKnown : State → KnownSource → Type 0
 IsKnown o k = KnownAs o k.sight.star.group.bits k.sight.source.bits k
 
--- of one without a fact its name is all
+-- What is kept of a source: of one without a fact only its name.
 abbrev pub IsSourceBefore : State → SourceBefore → Type 0
 IsSourceBefore o (SourceBefore.Unknown n) = has_row o.sources (name_key n) ≡ false
 IsSourceBefore o (SourceBefore.Known k) = IsKnown o k
@@ -55,7 +55,7 @@ IsSourceBefore o (SourceBefore.Known k) = IsKnown o k
 abbrev pub AreBefore : State → List SourceBefore → Type 0
 AreBefore o sources = AllByRecursion (IsSourceBefore o) sources
 
--- the touched sources, in their order, as they are in the state
+-- What is kept of the touched sources, in their order, in the state.
 pub record IsBefore (o : State) (touched : Touched) (sources : List SourceBefore) : Type 0 where
   pub keys : map key_before sources ≡ opened_sources o touched
   pub each : AreBefore o sources

@@ -6,20 +6,23 @@ use Rattle.pim_adjacent.specs.Adjacent.{AdjoinsAlone}
 use Rattle.pim_world.specs.declared.touched.Touched.{Touched}
 use Rattle.pim_opening.specs.Covers.{Covers}
 
--- new routes or RP ranges move what has facts under the touched keys alone
+-- New routes or RP ranges move what has facts under the touched keys, and nothing else.
 abbrev pub Moves : Touched → State → State → Type 0
 Moves Touched.All o a = ⊥
 Moves (Touched.Keys keys) o a = MovesAlone keys o a
 
--- so do neighbours that leave where the router is the DR
+-- A change of neighbours after which the router is the DR of the same interfaces moves what has facts under the touched
+-- keys, and nothing else.
 abbrev pub Adjoins : Touched → State → State → Type 0
 Adjoins Touched.All o a = ⊥
 Adjoins (Touched.Keys keys) o a = AdjoinsAlone keys o a
 
--- the change concerns no others, or it is one of routes or RP ranges, which all macros read, and moves no others
+-- The change concerns no keys but the touched ones; or it is one of routes or RP ranges, which all macros read, and
+-- moves no keys but the touched ones.
 abbrev pub CoversOrMoves : Touched → State → State → Type 0
 CoversOrMoves touched o a = Covers touched o a ⊎ Moves touched o a
 
--- or it is one of neighbours, and moves no others
+-- The change concerns or moves no keys but the touched ones; or it is one of neighbours, leaves the
+-- DRs, and moves no keys but the touched ones.
 abbrev pub Contains : Touched → State → State → Type 0
 Contains touched o a = CoversOrMoves touched o a ⊎ Adjoins touched o a

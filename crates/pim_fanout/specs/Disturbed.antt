@@ -1,11 +1,11 @@
--- The keys whose machines some changes touched, and which sources they disturb: those that they name, and each source of a
--- group that they name whole.
+-- The keys whose machines some changes touched, and which sources they disturb: those that they name, and each source
+-- of a group that they name whole.
 use Rattle.std.specs.Prelude.{Bool, true, ℕ, ◌++◌}
 use Rattle.pim_types.specs.Keys.{source_key}
 use Rattle.pim_locality.specs.Locality.{touching}
 use Rattle.pim_world.specs.declared.touched.Touched.{Touched}
 
--- of two changes together
+-- What two changes touch together.
 unfoldable pub joined : Touched → Touched → Touched
 joined Touched.All t = Touched.All
 joined (Touched.Keys before) Touched.All = Touched.All

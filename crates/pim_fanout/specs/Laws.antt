@@ -1,4 +1,4 @@
--- What the named sources of an event are, and how rows that are made anew by them stay those of the state.
+-- Which sources an event names, and how rows that are evaluated again for them are those of the state.
 use Rattle.std.specs.List.Sorted.{IsStrictlySortedBy}
 use Rattle.std.specs.Prelude.{List, [], false, length, true, ℕ, ◌||◌, ◌≡◌, ◌≤◌}
 use Rattle.pim_ip.specs.Ipv4.{Packet}
@@ -32,32 +32,32 @@ use Rattle.pim_fanout.specs.Named.{named_among}
 
 -- ---- who is named
 
--- the opening is compared with what clearing leaves
+-- The sources that are named where the opening is compared with the state after clearing.
 abbrev pub names_of : State → State → Touched → List Key
 names_of o changed touched = named_among o (clear o changed).0 touched
 
--- each stands once
+-- Each named source is listed once.
 abbrev pub NamesRise : Type 0
 NamesRise = (o a : State) (touched : Touched) → IsStrictlySortedBy key_cmp (named_among o a touched)
 
--- from a quiet state those are named of the touched sources that are named of all
+-- From a quiet state, the sources that are named among the touched ones are those that are named among all.
 abbrev pub NamesAreNamed : Type 0
 NamesAreNamed = (o : State) → IsQuiet o → (touched : Touched) (changed : State) → Contains touched o changed → (g src : ℕ)
     → is_listed (names_of o changed touched) g src ≡ is_listed (named_by o changed) g src
 
--- Where routes and RP ranges are as they were, and the change isn't one of neighbours, a source that it doesn't touch isn't
--- named, whether it has a fact or not.
+-- Where routes and RP ranges are as they were, and the change isn't one of neighbours, a source that it doesn't touch
+-- isn't named, whether it has a fact or not.
 abbrev pub UntouchedIsUnnamed : Type 0
 UntouchedIsUnnamed = (o changed : State) → IsQuiet o → (touched : Touched) → CoversOrMoves touched o changed → (g src : ℕ)
     → o.routes ≡ changed.routes → o.ranges ≡ changed.ranges → is_disturbed touched g src ≡ false
     → is_source_named g src o (clear o changed).0 ≡ false
 
--- they are no more than those of all
+-- No more sources are named among the touched ones than among all.
 abbrev pub NamesAreFew : Type 0
 NamesAreFew = (o changed : State) (touched : Touched)
     → length (names_of o changed touched) ≤ length (named_by o changed)
 
--- where no interface row and no neighbour row differs on the way, those alone that the event reaches
+-- Where no interface row and no neighbour row differs, only sources that the event reaches are named.
 abbrev pub NamesAreReached : Type 0
 NamesAreReached = (s : State) (w : ℕ) (a : Accepted) → is_calm s (change s w a).state ≡ true → (touched : Touched)
     → (g src : ℕ) → is_listed (names_of s (change s w a).state touched) g src ≡ true
@@ -75,15 +75,15 @@ abbrev pub HasFact : ℕ → ℕ → State → State → Type 0
 HasFact g src o a =
     (has_row o.sources (source_key 0 g src) || has_row a.sources (source_key 0 g src)) ≡ true
 
--- a source with a fact that isn't named keeps SPTbit, CouldRegister, the states of its register fact and of both its
--- asserts, and every macro, to the end of the event
+-- A source with a fact that an event doesn't name keeps SPTbit, CouldRegister, the states of its register fact and of
+-- both its asserts, and every macro, to the end of the event.
 abbrev pub OthersKeep : Type 0
 OthersKeep = (s : State) → IsQuiet s → length s.configured ≤ most_ifaces → (w : ℕ) (a : Accepted) (touched : Touched)
     → Contains touched s (change s w a).state → (g src : ℕ) → HasFact g src s (done s w (change s w a)).state
     → is_listed (names_of s (change s w a).state touched) g src ≡ false
     → KeepsAnswers g src s (done s w (change s w a)).state
 
--- and of a timer's end
+-- A source with a fact that the expiry of a timer doesn't name keeps what `OthersKeep` lists.
 abbrev pub FiredOthersKeep : Type 0
 FiredOthersKeep = (s : State) → IsQuiet s → length s.configured ≤ most_ifaces → (w : ℕ) (e : Ending) (touched : Touched)
     → Contains touched s (own_firing s e) → (g src : ℕ) → HasFact g src s (fire_once w s e).0
@@ -91,11 +91,11 @@ FiredOthersKeep = (s : State) → IsQuiet s → length s.configured ≤ most_ifa
 
 -- ---- the rows
 
--- at the opening there are none
+-- The opening has no rows.
 abbrev pub OpeningShowsRows : Type 0
 OpeningShowsRows = (c : Config) → ShowsRows [] (cached (opening c))
 
--- where the named ones of what the state had are made anew, the rows are those of the state that the event leaves
+-- Where the named rows of the state before an event are evaluated again, the rows are those of the state after it.
 abbrev pub EventShowsRows : Type 0
 EventShowsRows = (s : State) → IsQuiet s → length s.configured ≤ most_ifaces → (w : ℕ) (a : Accepted)
     → (touched : Touched) → Contains touched s (change s w a).state → (rows : Table SourceAnswers)
@@ -103,19 +103,20 @@ EventShowsRows = (s : State) → IsQuiet s → length s.configured ≤ most_ifac
     ShowsRows rows (refreshed (names_of s (change s w a).state touched) after (cached s))
     → ShowsRows rows (cached after))
 
--- and that a timer's end leaves
+-- Where the named rows of the state before the expiry of a timer are evaluated again, the rows are those of the state
+-- after it.
 abbrev pub FiringShowsRows : Type 0
 FiringShowsRows = (s : State) → IsQuiet s → length s.configured ≤ most_ifaces → (w : ℕ) (e : Ending)
     → (touched : Touched) → Contains touched s (own_firing s e) → (rows : Table SourceAnswers)
     → (let after : State = (fire_once w s e).0 in
     ShowsRows rows (refreshed (names_of s (own_firing s e) touched) after (cached s)) → ShowsRows rows (cached after))
 
--- a packet that the answers of its source decide leaves them so
+-- A packet that the answers of its source decide leaves the rows those of the state.
 abbrev pub PlainShowsRows : Type 0
 PlainShowsRows = (s : State) (e : Event) (p : Packet) (how : Plain) → IsAtRest s → IsDecided s e p how
     → (rows : Table SourceAnswers) → ShowsRows rows (cached s) → ShowsRows rows (cached (step s e).state)
 
--- where the present alone moves they stay so
+-- The rows are those of the state after the present time alone changed.
 abbrev pub PresentShowsRows : Type 0
 PresentShowsRows = (s : State) (m : ℕ) → length s.configured ≤ most_ifaces → (rows : Table SourceAnswers)
     → ShowsRows rows (cached s) → ShowsRows rows (cached (record s { present = m }))

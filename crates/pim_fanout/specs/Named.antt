@@ -1,4 +1,4 @@
--- Which of the touched sources are named: those whose fact is in one of two states alone, and those with a fact of
+-- Which of the touched sources are named: those that have a fact in only one of two states, and those with a fact of
 -- which something differs that is compared.
 use Rattle.std.specs.Prelude.{Bool, List, filter, map, ℕ, ◌&&◌, ◌||◌}
 use Rattle.pim_types.specs.Keys.{group_in, source_in}
@@ -14,12 +14,12 @@ use Rattle.pim_types.specs.declared.name.SourceGroup.{SourceGroup}
 abbrev pub is_same_source : ℕ → ℕ → State → State → Bool
 is_same_source g src o a = is_same_sight g src o a && is_same_beside g src o a
 
--- it has a fact in one of the states, and is named
+-- The key's source has a fact in one of the states, and is named.
 unfoldable pub is_changed : State → State → Key → Bool
 is_changed o a k =
     (has_row o.sources k || has_row a.sources k) && is_source_named (group_in k) (source_in k) o a
 
--- of those that the opening's keys touch
+-- The sources that are named among those that the opening's keys touch.
 unfoldable pub named_among : State → State → Touched → List Key
 named_among o a touched = filter (is_changed o a) (opened_sources o touched)
 

@@ -1,5 +1,5 @@
--- The forwarding cache beside the number of rows that were evaluated, whose rows have changed and which keys were touched,
--- and what it is to make named rows anew.
+-- The forwarding cache with the number of evaluated rows, the sources whose rows have changed and the touched keys, and
+-- what it is to evaluate named rows again.
 use Rattle.std.specs.List.{sum_by}
 use Rattle.std.specs.Prelude.{List, [], if◌then◌else◌, ℕ, ◌++◌, ◌∷◌}
 use Rattle.pim_trie.specs.Meter.{raised}
@@ -21,26 +21,27 @@ pub record CacheValue : Type 0 where
 abbrev pub nothing_cached : CacheValue
 nothing_cached = record { mfc = record { rows = []; changes = 0 }; evaluated = 0; changed = []; disturbed = Touched.Keys [] }
 
--- with both counts and both lists begun anew
+-- The cache with both counts 0 and both lists empty.
 abbrev pub uncounted : CacheValue → CacheValue
 uncounted c = record { mfc = record c.mfc { changes = 0 }; evaluated = 0; changed = []; disturbed = Touched.Keys [] }
 
--- puts, removals and rows evaluated, together
+-- The puts, the removals and the evaluated rows, added up.
 unfoldable pub touches : CacheValue → ℕ
 touches c = raised (c.mfc).changes c.evaluated
 
--- of a named source with a fact, a row is evaluated and put; of another one it is taken out
+-- What one named source costs: a row is evaluated and put if the source has a fact, else it is taken out.
 abbrev pub touches_of : State → Key → ℕ
 touches_of s k = if has_row s.sources k then 2 else 1
 
 abbrev pub touches_in : State → List Key → ℕ
 touches_in s names = sum_by (touches_of s) names
 
--- of whatever the old rows show, the new ones show the named sources as the state has them, and the others as they were
+-- Whatever the old rows show, the new ones show the named sources as the state has them, and all other sources as
+-- before.
 abbrev pub Refreshes : List Key → State → Table SourceAnswers → Table SourceAnswers → Type 0
 Refreshes names s old new = (c : Cache) → ShowsRows old c → ShowsRows new (refreshed names s c)
 
--- one named source more
+-- The rows of one named source are evaluated again.
 abbrev pub RefreshesOne : Key → State → Table SourceAnswers → Table SourceAnswers → Type 0
 RefreshesOne k s old new = (names : List Key) (c : Cache) → ShowsRows old (refreshed names s c)
     → ShowsRows new (refreshed (names ++ k ∷ []) s c)

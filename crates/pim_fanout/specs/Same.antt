@@ -1,4 +1,4 @@
--- Two sights of one source, compared field by field: what is configured stays, and isn't compared.
+-- Two sights of one source, compared field by field. What is configured never changes, and isn't compared.
 use Rattle.std.specs.Prelude.{Bool, ◌&&◌, ◌==◌}
 use Rattle.pim_ifset.specs.Members.{Members}
 use Rattle.pim_model.specs.Rows.{same_both, same_path, same_register_state}
@@ -7,7 +7,7 @@ use Rattle.pim_macros.specs.declared.sight.SourceSight.{SourceSight}
 use Rattle.pim_macros.specs.declared.sight.StarSight.{StarSight}
 use Rattle.pim_fanout.specs.declared.before.KnownSource.{KnownSource}
 
--- the same interfaces, with the register tunnel or without it
+-- Both sets have the same interfaces; either may have the register tunnel.
 abbrev pub same_members : Members → Members → Bool
 same_members s t = s.mask == t.mask
 

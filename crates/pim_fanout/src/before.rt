@@ -1,4 +1,5 @@
-//! What an event touches, as it is before its own change: gathered once, for the machines and for the forwarding cache.
+//! What an event touches, as it is before the event's own change: gathered once, for the machines and for the
+//! forwarding cache.
 ghost use Rattle.std.specs.List.{flat_map};
 ghost use Rattle.std.specs.Prelude.{◌≡◌, ◌≤◌, ◌++◌, ◌∷◌, [], true, IfOk, IfSome, OnOk, map, sum_by};
 ghost use Rattle.pim_fanout.specs.Alone.{TouchesAlone, opening_alone};
@@ -24,13 +25,14 @@ use std::alloc::{AllocError, Global};
 use std::collections::BTreeMap;
 use std::marker::Model;
 
-/// What is compared of a source that has a fact: KAT(S,G) runs, or SPTbit(S,G) is set.
+/// What is compared of a source that has a fact.
 #[derive(Clone, Copy)]
 pub struct KnownSource {
     /// What its macros read.
     pub sight: SourceSight,
-    /// CouldRegister(S,G), but for KAT(S,G), and with it.
+    /// CouldRegister(S,G) without regard to KAT(S,G).
     pub may_register: bool,
+    /// CouldRegister(S,G).
     pub could_register: bool,
     /// The register state of (S,G), where that isn't NoInfo.
     pub register: Option<RegisterState>,
@@ -38,7 +40,7 @@ pub struct KnownSource {
     pub is_desired: bool,
 }
 
-/// A touched source. Of one that has no fact nothing is gathered.
+/// A touched source. Nothing is gathered of a source that has no fact.
 #[derive(Clone, Copy)]
 pub enum SourceBefore {
     Unknown(SourceGroup),
@@ -69,7 +71,7 @@ pub struct Gathered {
 }
 
 impl KnownSource {
-    /// Whose it is.
+    /// The source and group that it is of.
     pub fn name(&self) -> SourceGroup
         ensures { name_key result ≡ seen_key self.now.sight }
     {
@@ -78,7 +80,7 @@ impl KnownSource {
 }
 
 impl SourceBefore {
-    /// Whose it is.
+    /// The source and group that it is of.
     pub fn name(&self) -> SourceGroup
         ensures { name_key result ≡ key_before self.now }
     {
@@ -99,8 +101,9 @@ impl Before {
 }
 
 impl Gathered {
-    /// What the event touches, as it is now: of each touched group and source one sight is gathered. The meter rises by the
-    /// nodes that the look-ups visit, at least those of these sights, and those that lead to the facts of each source.
+    /// What the event touches, in the present state: one sight is gathered of each touched group and source. The meter
+    /// rises by the nodes that the look-ups visit, at least those of these sights, and those that lead to the facts of
+    /// each source.
     pub fn of(
         world: &World,
         alloc: Global,
@@ -121,7 +124,7 @@ impl Gathered {
     }
 }
 
-// The key that alone is touched, where it is so.
+// The key that is touched, if it is the only one.
 fn only_key(touched: &Touched) -> Option<Key>
     ensures { IfSome result (λ key. touched.now ≡ TouchedKeys.Keys (key ∷ [])) }
 {
@@ -134,7 +137,7 @@ fn only_key(touched: &Touched) -> Option<Key>
     }
 }
 
-// The source that alone is touched, where it is so. The key of source 0.0.0.0 touches all of its group.
+// The source that is touched, if it is the only one. The key of source 0.0.0.0 touches all of its group.
 fn only_source(touched: &Touched) -> Option<SourceGroup>
     ensures { IfSome result (TouchesAlone touched.now) }
 {
@@ -146,7 +149,7 @@ fn only_source(touched: &Touched) -> Option<SourceGroup>
     }
 }
 
-// The list of a value alone, with room for no more.
+// The list of one value, with no room for more.
 fn alone<T: Drop>(alloc: Global, value: T) -> Result<Vec<T>, AllocError>
     ensures { IfOk result (λ list. list.items ≡ value ∷ []) }
 {
@@ -155,7 +158,7 @@ fn alone<T: Drop>(alloc: Global, value: T) -> Result<Vec<T>, AllocError>
     Ok(list)
 }
 
-// One source alone: nothing is put in order for it.
+// Gathers one source alone, without ordering anything.
 fn gather_source(
     world: &World,
     alloc: Global,
@@ -184,7 +187,7 @@ fn gather_source(
     })
 }
 
-// What is touched, group after group.
+// Gathers what is touched, group after group.
 fn gather_groups(
     world: &World,
     alloc: Global,
@@ -207,7 +210,7 @@ fn gather_groups(
     })
 }
 
-// These groups. Their sources, as they are compared, are put behind others.
+// Opens the given groups. Their sources, as they are compared, are added at the end of the list.
 fn open_groups(
     world: &World,
     alloc: Global,
@@ -233,7 +236,7 @@ fn open_groups(
     Ok(opened)
 }
 
-// A group.
+// Opens a group.
 fn open_group(
     world: &World,
     alloc: Global,
@@ -260,7 +263,7 @@ fn open_group(
     })
 }
 
-// These sources of a group.
+// Opens the given sources of a group.
 fn open_sources(
     world: &World,
     alloc: Global,
@@ -286,7 +289,7 @@ fn open_sources(
     Ok(opened)
 }
 
-// A source of a group.
+// Opens a source of a group.
 fn open_source(
     world: &World,
     star: &StarSight,
@@ -308,7 +311,7 @@ fn open_source(
     Ok(opened_by_sight(world, &sight, meter))
 }
 
-// A source as its sight shows it to the machines.
+// A source as the machines compare it, by its sight.
 fn opened_by_sight(world: &World, sight: &SourceSight, meter: &mut Meter) -> SourceOpening
     requires { IsSourceSight world.now sight.now }
     ensures opened { result ≡ source_opening world.now sight.now.star.group.bits sight.now.source.bits }
@@ -325,7 +328,7 @@ fn opened_by_sight(world: &World, sight: &SourceSight, meter: &mut Meter) -> Sou
     }
 }
 
-/// A source as its sight shows it.
+/// A source as it is compared for the forwarding cache, by its sight.
 pub(crate) fn compared_by_sight(world: &World, sight: &SourceSight) -> SourceBefore
     requires { IsSourceSight world.now sight.now }
     ensures key { key_before result ≡ seen_key sight.now }
@@ -338,7 +341,7 @@ pub(crate) fn compared_by_sight(world: &World, sight: &SourceSight) -> SourceBef
     SourceBefore::Known(known_by(world, sight))
 }
 
-// A source with a fact, as its sight shows it.
+// A source with a fact, by its sight.
 fn known_by(world: &World, sight: &SourceSight) -> KnownSource
     requires sight { IsSourceSight world.now sight.now }
     requires fact { has_row world.now.sources (seen_key sight.now) ≡ true }
@@ -354,7 +357,7 @@ fn known_by(world: &World, sight: &SourceSight) -> KnownSource
     }
 }
 
-// A source with a fact as it is now.
+// A source with a fact, in the present state.
 fn known(world: &World, meter: &mut Meter, star: &StarSight, source: Addr) -> KnownSource
     requires sight { IsStarSight world.now star.now }
     requires fact { has_row world.now.sources (source_key 0 star.now.group.bits source.bits) ≡ true }
@@ -366,8 +369,8 @@ fn known(world: &World, meter: &mut Meter, star: &StarSight, source: Addr) -> Kn
     known_by(world, &SourceSight::of(world, *star, source, meter))
 }
 
-/// A source as it is now. The sight of its group is gathered where it isn't the last one. The meter rises by the nodes that the
-/// look-ups visit, at least those of the sights that are gathered.
+/// A source as it is compared, in the present state. The sight of its group is gathered unless it is the last one that
+/// was. The meter rises by the nodes that the look-ups visit, at least those of the sights that are gathered.
 pub(crate) fn compared(
     world: &World,
     meter: &mut Meter,
@@ -405,7 +408,7 @@ fn register_of(world: &World, name: SourceGroup) -> Option<RegisterState>
     Some(world.store().register(name.key())?.state)
 }
 
-// What the macros of (*,G) read now: the last that was gathered, where it is the same group's.
+// What the macros of (*,G) read: the sight that was gathered last, if it is of the same group, else a new one.
 fn star_of(world: &World, meter: &mut Meter, last: &Option<StarSight>, group: Addr) -> StarSight
     requires { IfSome last.now (IsStarSight world.now) }
     ensures sight { IsStarSight world.now result }

@@ -1,4 +1,4 @@
-//! The forwarding cache with what an event costs it.
+//! The forwarding cache, with the count of what an event costs it.
 ghost use Rattle.std.specs.List.Sorted.{IsStrictlySortedBy};
 ghost use Rattle.std.specs.Prelude.{◌≡◌, ℕ, ◌≤◌, ◌++◌, [], OnOk, if◌then◌else◌, sum_by};
 ghost use Rattle.pim_cached.specs.Kept.{is_listed};
@@ -22,8 +22,8 @@ use pim_world::{Touched, World};
 use std::alloc::{AllocError, Global};
 use std::marker::Model;
 
-/// The forwarding cache, how many rows were evaluated for it, and whose they were; and which sources may have been disturbed
-/// beside, that have no row.
+/// The forwarding cache, with the number of evaluated rows, the list of their sources, and which sources may have been
+/// disturbed, with a row or without one.
 pub struct Cache {
     mfc: Mfc,
     evaluated: Evaluations,
@@ -74,15 +74,15 @@ impl Cache {
         }
     }
 
-    /// The rows: what they tell, and what they decide of a packet.
+    /// The rows: what they answer, and what they decide of a packet.
     pub fn mfc(&self) -> &Mfc
         ensures { result.now ≡ self.now.mfc }
     {
         &self.mfc
     }
 
-    /// How often a row was put in or taken out since the last `reset`, and how many rows were evaluated: it stays at
-    /// `u64::MAX`.
+    /// How often a row was put in or taken out since the last `reset`, plus how many rows were evaluated. The count
+    /// doesn't pass `u64::MAX`.
     #[tactic(auto, unfolding(crate::specs::Refreshing::touches, pim_trie::specs::Meter::raised))]
     pub fn touched(&self) -> u64
         ensures { result ≡ touches self.now }
@@ -90,7 +90,7 @@ impl Cache {
         self.mfc.changes().saturating_add(self.evaluated.count())
     }
 
-    /// The sources whose rows were made anew or taken out since the last `reset`: none where nothing was touched.
+    /// The sources whose rows were evaluated again or taken out since the last `reset`: none where nothing was touched.
     pub fn changed(&self) -> &[SourceGroup]
         ensures names { keys_of result.now ≡ self.now.changed }
         ensures none { touches self.now ≡ 0 → result.now ≡ [] }
@@ -105,7 +105,7 @@ impl Cache {
         &self.disturbed
     }
 
-    /// All sources may be disturbed, where it is so.
+    /// Marks all sources as possibly disturbed if `is_so` is true.
     pub fn disturb_all_if(&mut self, is_so: bool)
         ensures { self.new ≡ record self.old { disturbed = if is_so then TouchedValue.All else self.old.disturbed } }
     {
@@ -114,7 +114,7 @@ impl Cache {
         }
     }
 
-    /// An event begins: both counts are 0, no source has changed, and none was disturbed.
+    /// Begins an event: both counts are 0, no source is listed as changed, and none as disturbed.
     pub fn reset(&mut self)
         ensures { self.new ≡ uncounted self.old }
     {
@@ -134,7 +134,7 @@ impl Cache {
         each_once(&mut self.changed);
     }
 
-    // Makes the row of a source anew, or takes it out.
+    // Evaluates the row of a source again, or takes it out where the source has no fact.
     fn refresh_one(
         &mut self,
         world: &World,
@@ -155,7 +155,7 @@ impl Cache {
         Ok(())
     }
 
-    // Makes the row of each of these sources anew, or takes it out.
+    // Evaluates the rows of the given sources again, and takes out those of sources without a fact.
     fn refresh_rows(
         &mut self,
         world: &World,
@@ -173,7 +173,8 @@ impl Cache {
         Ok(())
     }
 
-    // Puts these names behind the changed ones, or where there are none in their place, and the touched keys behind the others.
+    // Adds the names to the changed ones (if there are none, the list itself is taken), and the touched keys to the
+    // disturbed ones.
     fn list(&mut self, mut names: Vec<SourceGroup>, touched: Touched) -> Result<(), AllocError>
         requires { touches self.old ≡ 0 → names.items ≡ [] }
         ensures kept { (self.new.mfc ≡ self.old.mfc) × (self.new.evaluated ≡ self.old.evaluated) }
@@ -188,10 +189,10 @@ impl Cache {
         self.changed.append(&mut names)
     }
 
-    /// Makes the row anew of each named source that has a fact, by one evaluation and one put, takes that of each
-    /// other out, and lists them all as changed; and the sources that the touched keys name, or whose group, are disturbed. The meter
-    /// rises by the nodes that its look-ups visit, at least those of the sight of each named source that has a fact. After an error
-    /// nothing is known of the rows.
+    /// Evaluates the row of each named source that has a fact, once, and puts it in; takes out the row of each other
+    /// named source; and lists them all as changed. The sources that the touched keys name, alone or with their group,
+    /// become disturbed. The meter rises by the nodes that its look-ups visit, at least those of the sight of each
+    /// named source that has a fact. After an error nothing is known of the rows.
     pub fn refresh(
         &mut self,
         world: &World,

@@ -1,4 +1,4 @@
-//! Two sights of one source, compared field by field; what is configured stays, and isn't compared.
+//! Two sights of one source, compared field by field. What is configured never changes, and isn't compared.
 ghost use Rattle.std.specs.Prelude.{◌≡◌};
 ghost use Rattle.pim_fanout.specs.Same.{same_asserts, same_beside, same_members, same_routes, same_sight, same_source, same_star, same_star_routes};
 ghost use Rattle.pim_model.specs.Rows.{same_both, same_path, same_register_state};
@@ -11,7 +11,7 @@ use pim_macros::{SourceSight, StarSight};
 use pim_types::fact::RegisterState;
 use pim_types::{Addr, Path};
 
-/// Whether both are the same address, or none.
+/// Whether both are the same address, or both none.
 pub fn is_same_address(before: Option<Addr>, after: Option<Addr>) -> bool
     ensures { result ≡ same_address before after }
 {
@@ -22,7 +22,7 @@ pub fn is_same_address(before: Option<Addr>, after: Option<Addr>) -> bool
     }
 }
 
-/// Whether both are the same route, or none.
+/// Whether both are the same route, or both none.
 pub fn is_same_path(before: Option<Path>, after: Option<Path>) -> bool
     ensures { result ≡ same_both same_path before after }
 {
@@ -39,7 +39,7 @@ pub fn is_same_path(before: Option<Path>, after: Option<Path>) -> bool
     }
 }
 
-// Whether both are the same register state, or none; its end isn't asked for.
+// Whether both are the same register state, or both none. When its timer expires isn't compared.
 fn is_same_register(before: Option<RegisterState>, after: Option<RegisterState>) -> bool
     ensures { result ≡ same_both same_register_state before after }
 {
@@ -52,7 +52,7 @@ fn is_same_register(before: Option<RegisterState>, after: Option<RegisterState>)
     }
 }
 
-// Whether both have the same interfaces; the register tunnel isn't asked for.
+// Whether both have the same interfaces. The register tunnel isn't compared.
 fn is_same_set(before: IfSet, after: IfSet) -> bool
     ensures { result ≡ same_members before after }
 {
@@ -84,7 +84,7 @@ fn is_same_star(before: &StarSight, after: &StarSight) -> bool
         && is_same_set(before.dr, after.dr)
 }
 
-// Whether the group's part, the route to S and the neighbours there are the same.
+// Whether what is read of the group, the route to S and the neighbours on it are the same.
 #[tactic(auto, unfolding(crate::specs::Same::same_routes))]
 fn has_same_routes(before: &SourceSight, after: &SourceSight) -> bool
     ensures { result ≡ same_routes before.now after.now }
@@ -96,7 +96,7 @@ fn has_same_routes(before: &SourceSight, after: &SourceSight) -> bool
         && is_same_hop(before.tree_winner, after.tree_winner)
 }
 
-// Whether these are, and the joins, prunes and asserts of S.
+// Whether the group's part, the routes, and the joins, prunes and asserts of S are the same.
 #[tactic(auto, unfolding(crate::specs::Same::same_asserts))]
 fn has_same_asserts(before: &SourceSight, after: &SourceSight) -> bool
     ensures { result ≡ same_asserts before.now after.now }

@@ -11,7 +11,7 @@ use pim_world::Touched;
 use std::alloc::{AllocError, Global};
 use std::marker::Model;
 
-/// The keys that some changes touched, or that all were. Its room is kept.
+/// The keys that some changes touched, or the mark that all were touched. Its memory is kept for later keys.
 pub struct Disturbed {
     all: bool,
     keys: Vec<Key>,
@@ -42,7 +42,7 @@ fn is_read(name: SourceGroup, key: Key) -> bool
     key.group == name.group && (source == Addr::NONE || source == name.source)
 }
 
-// Whether that is so of one of the keys.
+// Whether the machines of the source read a fact under one of the keys.
 #[tactic(auto, unfolding(pim_locality::specs::Locality::touching))]
 fn is_touched(keys: &[Key], name: SourceGroup) -> bool
     ensures { result ≡ touching keys.now (source_key 0 name.group.bits name.source.bits) }
@@ -56,7 +56,7 @@ fn is_touched(keys: &[Key], name: SourceGroup) -> bool
 }
 
 impl Disturbed {
-    /// None. It takes no memory.
+    /// No key. Takes no memory.
     pub fn none(alloc: Global) -> Disturbed
         ensures { result ≡ TouchedValue.Keys [] }
     {
@@ -66,7 +66,7 @@ impl Disturbed {
         }
     }
 
-    /// Forgets them all.
+    /// Removes all keys, and the mark.
     pub fn clear(&mut self)
         ensures { self.new ≡ TouchedValue.Keys [] }
     {
@@ -74,14 +74,14 @@ impl Disturbed {
         self.keys.clear();
     }
 
-    /// All are touched.
+    /// Marks that all are touched.
     pub fn add_all(&mut self)
         ensures { self.new ≡ TouchedValue.All }
     {
         self.all = true;
     }
 
-    // These keys too; where there are none, as they stand.
+    // Adds the keys; if there are none yet, the list itself is taken.
     #[tactic(auto, unfolding(crate::specs::Disturbed::joined))]
     fn add_keys(&mut self, mut keys: Vec<Key>) -> Result<(), AllocError>
         ensures { OnOk result (self.new ≡ joined self.old (TouchedValue.Keys keys.items)) }
@@ -96,7 +96,7 @@ impl Disturbed {
         self.keys.append(&mut keys)
     }
 
-    /// Those of one change more.
+    /// Adds what one more change touched.
     pub fn add(&mut self, touched: Touched) -> Result<(), AllocError>
         ensures { OnOk result (self.new ≡ joined self.old touched) }
     {
@@ -109,7 +109,7 @@ impl Disturbed {
         }
     }
 
-    /// Whether the source may be disturbed: a key names it, or its group whole.
+    /// Whether the source may be disturbed: a key names it, or names its whole group.
     #[tactic(auto, unfolding(crate::specs::Disturbed::is_disturbed))]
     pub fn holds(&self, name: SourceGroup) -> bool
         ensures { result ≡ is_disturbed self.now name.group.bits name.source.bits }

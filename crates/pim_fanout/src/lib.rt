@@ -1,5 +1,6 @@
-//! Which rows of the forwarding cache an event makes anew: of the sources that it touches those whose fact, sight or
-//! register state differs between the opening and what clearing leaves. And the cache itself, with what that costs.
+//! Which rows of the forwarding cache an event evaluates again: of the touched sources, those whose fact, sight or
+//! register state differs between the opening and the state after clearing. The cache itself is here too, with the
+//! count of what this costs.
 #![tactic(auto)]
 
 pub mod before;

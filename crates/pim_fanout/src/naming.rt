@@ -1,4 +1,5 @@
-//! Of which of the touched sources the row in the forwarding cache is outdated: they are named, to be made anew.
+//! Which of the touched sources have an outdated row in the forwarding cache: they are named, and their rows evaluated
+//! again.
 ghost use Rattle.std.specs.Prelude.{◌≡◌, ◌≤◌, IfOk, IfSome, IsTrue, OnOk, filter, map};
 ghost use Rattle.pim_fanout.specs.Before.{AreBefore, IsBefore, IsSourceBefore, IsKnown, key_before, name_key, seen_key};
 ghost use Rattle.pim_fanout.specs.Named.{is_changed, keys_of, named_among};
@@ -28,7 +29,7 @@ fn differs(known: &KnownSource, after: &SourceBefore) -> bool
     }
 }
 
-// Whether that is so of a source, which is gathered.
+// Whether a source, which is gathered in the present state, differs from what was known of it.
 fn has_changed(
     world: &World,
     meter: &mut Meter,
@@ -44,7 +45,8 @@ fn has_changed(
     differs(known, &compared(world, meter, last, known.name()))
 }
 
-// Whether a source's row is outdated. Where it had no fact, and where it has none now, nothing is gathered.
+// Whether a source's row is outdated. Nothing is gathered of a source that had no fact or has none in the present
+// state.
 fn is_outdated(
     world: &World,
     meter: &mut Meter,
@@ -64,7 +66,7 @@ fn is_outdated(
     }
 }
 
-// Those of these sources whose rows are outdated.
+// Those of the given sources whose rows are outdated.
 fn outdated_among(
     world: &World,
     alloc: Global,
@@ -85,10 +87,11 @@ fn outdated_among(
     Ok(names)
 }
 
-/// The sources, by group, then by source, whose rows are to be made anew where the world is as clearing left it: their
-/// fact was there before and isn't now, or the other way; or it is there, and something differs of what their macros
-/// read, of CouldRegister(S,G) with KAT(S,G) or without it, of the register state, or of JoinDesired(S,G). The meter rises by the
-/// nodes that the look-ups visit, at least those of the sight of each source that had a fact and has one, and of its group's.
+/// The sources, ordered by group, then by source, whose rows are to be evaluated again where the world is as clearing
+/// left it. A source is named if it had a fact and has none, or the other way round; or if it has one, and something
+/// differs of what its macros read, of CouldRegister(S,G) with KAT(S,G) or without it, of the register state, or of
+/// JoinDesired(S,G). The meter rises by the nodes that the look-ups visit, at least those of the sight of each source
+/// that had a fact and has one, and of its group's.
 #[tactic(auto, unfolding(crate::specs::Named::named_among))]
 pub fn named(
     world: &World,
@@ -111,7 +114,7 @@ fn is_sight_of(sight: &SourceSight, name: SourceGroup) -> bool
     sight.star.group == name.group && sight.source == name.source
 }
 
-// Whether a source with a fact has changed, by the sight at hand; another's is gathered.
+// Whether a source with a fact has changed, by the sight at hand if it is of this source, else by one that is gathered.
 fn has_changed_at_hand(
     world: &World,
     meter: &mut Meter,
@@ -165,7 +168,7 @@ fn sight_at(
     }
 }
 
-// Those of these sources whose rows are outdated, by the sights at hand.
+// Those of the given sources whose rows are outdated, by the sights at hand.
 fn outdated_among_by_sights(
     world: &World,
     alloc: Global,
@@ -189,8 +192,8 @@ fn outdated_among_by_sights(
     Ok(names)
 }
 
-/// The same where one group alone was opened, by the sights of its sources in the world as clearing left it: they stand in the
-/// same order, so none is gathered again.
+/// The sources that `named` gives where one group alone was opened, by the sights of the group's sources in the world
+/// as clearing left it. The sights are in the same order as the sources, so none is gathered again.
 #[tactic(auto, unfolding(crate::specs::Named::named_among))]
 pub fn named_by_sights(
     world: &World,

@@ -45,7 +45,7 @@ impl Asking {
         Asking::default()
     }
 
-    /// These queries.
+    /// Queries of these sources, and of the group or not.
     pub(crate) fn with(sources: Option<Vec<Addr>>, group: bool) -> Asking
         ensures { result ≡ asked_in_order (option_map (λ v. bits_of v.items) sources) group }
     {

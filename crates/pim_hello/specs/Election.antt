@@ -11,15 +11,15 @@ use Rattle.pim_model.specs.Neighbours.{is_dr_among}
 use Rattle.pim_model.specs.State.{State, my_address, my_priority}
 use Rattle.pim_model.specs.Tables.{Table, rows_on, set_row}
 
--- another neighbour passes
+-- The row is another neighbour's than the key's, and passes a test.
 abbrev pub is_other : Key → (Key × NeighbourRow → Bool) → Key × NeighbourRow → Bool
 is_other k test e = not (same_key k e.0) && test e
 
--- another on the interface of the key does
+-- Another neighbour on the interface of the key passes a test.
 abbrev pub some_other : Key → (Key × NeighbourRow → Bool) → Table NeighbourRow → Bool
 some_other k test rows = list_any (is_other k test) (rows_on (iface_in k) rows)
 
--- it announced no priority
+-- The neighbour announced no DR priority.
 abbrev pub is_unranked : Key × NeighbourRow → Bool
 is_unranked e = is_none (e.1).priority
 

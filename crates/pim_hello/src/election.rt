@@ -1,4 +1,5 @@
-//! Whether a Hello, or a neighbour's end, leaves whether the router is the DR of the interface (RFC 7761, section 4.3.2).
+//! Whether a Hello, or a neighbour's end, leaves whether the router is the DR of the interface (RFC 7761, section
+//! 4.3.2).
 ghost use Rattle.std.specs.Prelude.{◌≡◌, ◌||◌, None, Some, is_none, not};
 ghost use Rattle.pim_adjacent.specs.Adjacent.{end_keeps_dr, hello_keeps_dr};
 ghost use Rattle.pim_hello.specs.Election.{is_dr_with, is_other, is_unranked, row_of_hello, some_other};
@@ -80,7 +81,7 @@ fn some_other_better(world: &World, by_priority: bool, own: &InterfaceConfig, ke
 fn is_dr_without(world: &World, key: Key) -> bool
     ensures { result ≡ is_dr_with world.now key None }
 {
-    // It tells that the keys of neighbours rise.
+    // For the proof: the keys of neighbours rise.
     let _ = world.neighbours().len();
     let own = own(world, key.iface);
     let by_priority = !some_other_unranked(world, key);
@@ -112,7 +113,7 @@ fn some_are_better(
 fn is_dr_beside(world: &World, key: Key, row: NeighbourRow) -> bool
     ensures { result ≡ is_dr_with world.now key (Some row) }
 {
-    // It tells that the keys of neighbours rise.
+    // For the proof: the keys of neighbours rise.
     let _ = world.neighbours().len();
     let own = own(world, key.iface);
     let by_priority = all_are_ranked(world, key, row);

@@ -10,8 +10,8 @@ use pim_world::World;
 /// The most neighbours of an interface.
 const MOST_NEIGHBOURS: usize = 64;
 
-/// Whether a Hello from an address names a new neighbour for which there is no room, on its interface or in the limit on
-/// facts.
+/// Whether a Hello from an address names a new neighbour for which there is no room, on its interface or in the limit
+/// on facts.
 #[tactic(auto, unfolding(pim_model::specs::Full::hello_is_full))]
 pub fn is_full(world: &World, iface: IfaceId, from: Addr, hello: &Hello) -> bool
     ensures { result ≡ hello_is_full world.now iface.number from.bits (hello_holdtime_of hello.now) }

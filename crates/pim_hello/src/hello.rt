@@ -18,9 +18,9 @@ const TRIGGERED_HELLO_DELAY: u32 = 5000;
 /// Takes a Hello that came on an interface from an address, with a draw (RFC 7761, section 4.3.1): one
 /// from a new neighbour, or from one that started anew, makes a Hello owed; then the neighbour stands
 /// as the Hello says. Where it started anew, the asserts lost to it end, and the Join timers towards it are
-/// lowered. With holdtime 0 the neighbour goes. The meter rises by the nodes that its look-ups visit, at least those of the
-/// sight of each Join timer's group and source where the neighbour started anew. Where memory is refused, the Hello may be
-/// taken in part.
+/// lowered. With holdtime 0 the neighbour goes. The meter rises by the nodes that its look-ups visit, at least those of
+/// the sight of each Join timer's group and source where the neighbour started anew. Where memory is refused, the Hello
+/// may be taken in part.
 #[tactic(auto, using(pim_world::proofs::Visits::raised_by_none), unfolding(pim_model::specs::Hellos::hello_received, pim_model::specs::Hellos::is_generation_changed))]
 pub fn received(
     world: &mut World,
@@ -83,7 +83,7 @@ fn restart(
     let towards = timers_towards(world, turn.alloc, meter, neighbour)?;
     trigger(world, iface, turn.draw)?;
     world.replace_neighbour(iface, from, hello)?;
-    // It tells that the keys of asserts rise, so that each stands once.
+    // For the proof: the keys of asserts rise, so that each stands once.
     world.recall_keyed();
     let lost = asserts_lost_to(world, turn, neighbour)?;
     world.store_mut().end_losses(&lost, meter);

@@ -1,5 +1,5 @@
-//! Hellos (RFC 7761, section 4.3): what one that came changes, whether there is room for its neighbour, what looks to it, and
-//! what ends with time.
+//! Hellos (RFC 7761, section 4.3): what one that came changes, whether there is room for its neighbour, what looks to
+//! it, and what ends with time.
 #![tactic(auto)]
 
 pub mod election;

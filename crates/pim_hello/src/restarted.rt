@@ -15,8 +15,8 @@ use pim_types::{Hop, Key};
 use pim_world::{Meter, Turn, World};
 use std::alloc::{AllocError, Global};
 
-/// The keys of the Join timers whose upstream neighbour it is. The meter rises by the nodes that the look-ups visit, at least
-/// those of the sight of each timer's group and source.
+/// The keys of the Join timers whose upstream neighbour it is. The meter rises by the nodes that the look-ups visit, at
+/// least those of the sight of each timer's group and source.
 pub(crate) fn timers_towards(
     world: &World,
     alloc: Global,
@@ -60,8 +60,8 @@ pub fn asserts_lost_to(world: &World, turn: &Turn, neighbour: Hop) -> Result<Vec
     Ok(keys)
 }
 
-/// Lowers the Join timers with these keys to an end, in ms. The meter rises by the nodes that lead to the group, or to the
-/// source, of each.
+/// Lowers the Join timers with these keys to an end, in ms. The meter rises by the nodes that lead to the group, or to
+/// the source, of each.
 pub(crate) fn lower_timers(
     world: &mut World,
     meter: &mut Meter,

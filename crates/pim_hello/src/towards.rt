@@ -1,5 +1,5 @@
-//! What looks to a neighbour: each group to whose RP it leads, of the other groups the sources to which it leads, and the
-//! asserts that the router lost to it.
+//! What looks to a neighbour: each group to whose RP it leads, of the other groups the sources to which it leads, and
+//! the asserts that the router lost to it.
 ghost use Rattle.std.specs.List.{flat_map};
 ghost use Rattle.std.specs.Prelude.{◌≡◌, ◌≤◌, ◌++◌, IfOk, OnOk, filter, map, sum_by};
 ghost use Rattle.pim_adjacent.specs.Adjacent.{keys_of_hello, keys_towards, leads_to, led_keys, led_of_group, may_lead};
@@ -96,7 +96,7 @@ fn put_group(
     put_sources(world, meter, neighbour, group, &sources, keys)
 }
 
-// Of these groups.
+// The keys of what leads to the neighbour, of the given groups.
 fn keys_of_groups(
     world: &World,
     alloc: Global,
@@ -166,9 +166,9 @@ pub fn keys_towards(
     Ok(keys)
 }
 
-/// The keys of what a Hello moves that leaves whether the router is the DR: of a neighbour that stays, the asserts that the
-/// router lost to it, which end where it started anew; of one that comes or goes, all that looks to it. The meter rises by the
-/// nodes that the look-ups visit.
+/// The keys of what a Hello moves that leaves whether the router is the DR: of a neighbour that stays, the asserts that
+/// the router lost to it, which end where it started anew; of one that comes or goes, all that looks to it. The meter
+/// rises by the nodes that the look-ups visit.
 #[tactic(auto, unfolding(pim_adjacent::specs::Adjacent::keys_of_hello))]
 pub fn keys_of_hello(
     world: &World,

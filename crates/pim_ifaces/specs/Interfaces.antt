@@ -28,7 +28,7 @@ InterfacesRise low count [] = Unit {0}
 InterfacesRise low count (e ∷ es) =
     (e.0 ≡ iface_key (iface_in e.0)) × (low ≤ iface_in e.0) × (iface_in e.0 < count) × InterfacesRise (iface_in e.0 + 1) count es
 
--- these interfaces are configured, and these are the rows of those that are up
+-- The configured interfaces are these, and the rows are those of the interfaces that are up.
 pub record IsHeld (configured : List InterfaceConfig) (rows : Table InterfaceRow) : Type 0 where
   pub within : length configured ≤ most_ifaces
   pub rise : InterfacesRise 0 (length configured) rows

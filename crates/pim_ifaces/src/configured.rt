@@ -27,7 +27,7 @@ impl Default for Subnet {
 }
 
 impl Subnet {
-    // That of the interface.
+    // The subnet of an interface.
     fn of(interface: InterfaceConfig) -> Subnet
         ensures { result ≡ subnet_of interface }
     {
@@ -67,7 +67,7 @@ impl Model for Configured {
 }
 
 impl Configured {
-    // These interfaces, held in place.
+    // The given interfaces, held in place.
     pub(crate) fn new(configured: &[InterfaceConfig]) -> Self
         requires { length configured.now ≤ MOST_INTERFACES }
         ensures { result ≡ configured.now }

@@ -48,7 +48,7 @@ impl Model for Interfaces {
 }
 
 impl Interfaces {
-    /// These interfaces, all down. It takes no memory.
+    /// The given interfaces, all down. Takes no memory.
     pub fn new(alloc: Global, configured: &[InterfaceConfig]) -> Self
         requires { interfaces_test configured.now ≡ Ok tt }
         ensures { result ≡ record { configured = configured.now; rows = [] } }
@@ -67,7 +67,8 @@ impl Interfaces {
         self.configured.as_slice().len() as u32
     }
 
-    /// At most 120 interfaces are configured, so an interface that is has a number below 120. It does nothing.
+    /// For the proof: at most 120 interfaces are configured, so a configured interface has a number below 120. Does
+    /// nothing when it runs.
     pub fn recall_few(&self)
         ensures { length self.now.configured ≤ MOST_INTERFACES }
     {
@@ -140,8 +141,8 @@ impl Interfaces {
         None
     }
 
-    /// On which interface the Hello timer ends first, and when, in ms: the least end by its moment and its key.
-    /// `None` where no interface is up.
+    /// On which interface the Hello timer expires first, and when, in ms: the least by timestamp, then by key. `None`
+    /// where no interface is up.
     #[tactic(auto, unfolding(pim_tables::specs::Ends::row_endings))]
     pub fn next(&self) -> Option<(u64, Timer)>
         ensures { result ≡ option_map due_of (first_by is_ending_first

@@ -1,4 +1,5 @@
--- Which interfaces are in the sets that the operations make, by the bits of their masks, and that the masks stay below 2 ^ 120.
+-- Which interfaces are in the sets that the operations make, by the bits of their masks, and that the masks stay below
+-- 2 ^ 120.
 use Rattle.std.proofs.Common.{◌≡◌, ◌≢◌, ℕ, ◌-◌, ◌*◌, ◌/◌, ◌%◌, ◌^◌, ◌<◌, ◌≤◌, min, max, Bool, true, false, not, ◌&&◌, ◌||◌, ◌==◌, bit_and, refl, ap, ◌∙◌, arith, inl, inr, nat_lt}
 use Rattle.std.specs.Int.{bit_at, bit_not, w128}
 use Rattle.std.proofs.Math.Nat.{pow-le-pow_right}

@@ -1,4 +1,5 @@
--- Sets as one number: that the number stays one of a set, which interfaces an operation on numbers leaves, and whether the tunnel.
+-- Sets as one number: that the number stays one of a set, which interfaces an operation on numbers leaves, and whether
+-- the tunnel.
 use Rattle.std.proofs.Common.{◌≡◌, ◌≢◌, ℕ, zero, suc, ◌+◌, ◌-◌, ◌*◌, ◌/◌, ◌%◌, ◌^◌, ◌<◌, ◌≤◌, Bool, true, false, not, ◌&&◌, ◌||◌, ◌==◌, bit_and, bit_or, refl, ap, sym, ◌∙◌, arith, nat_lt, if◌then◌else◌, count_ones, length, IsTrue, ◌↔◌}
 use Rattle.std.specs.Int.{bit_at, bit_not, w128}
 use lib.Count.{ones_step}

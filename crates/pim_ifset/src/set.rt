@@ -1,4 +1,5 @@
-//! A set of interfaces and of the register tunnel, as one number: a bit for each interface, and the highest for the tunnel.
+//! A set of interfaces and of the register tunnel, as one number: a bit for each interface, and the highest for the
+//! tunnel.
 ghost use Rattle.std.specs.Prelude.{◌≡◌, ◌↔◌, ◌+◌, ◌<◌, ◌≤◌, ◌==◌, ◌&&◌, ◌||◌, ℕ, Bool, true, false, not, length, nat_lt, IsTrue, if◌then◌else◌};
 ghost use Rattle.std.specs.List.{list_all};
 
@@ -153,12 +154,12 @@ impl IfSet {
         }
     }
 
-    /// The same interfaces, without the register tunnel.
+    /// The interfaces of the set, without the register tunnel.
     pub fn without_tunnel(self) -> IfSet
         ensures interfaces { (q : ℕ) → has result q ≡ has self q }
         ensures tunnel { result.tunnel ≡ false }
 
-        // Of every set: its interfaces are below the limit.
+        // This holds of every set: its interfaces are below the limit.
         ensures limit { (q : ℕ) → has result q ≡ (nat_lt q 120 && has self q) }
     {
         IfSet {

@@ -142,8 +142,8 @@ module _ (g rp d : ℕ) (started : ℕ → ℕ) (c : Pair) (isg : IsGroup g rp) 
     pub there : frame_at n j.number ≡ Some (frame_of g rp c j.pruned)
     pub comes : ComesBy g rp d started c j.pruned j.number j.sent n ms
 
-  -- the first comes before a moment, each other before the one before it is over, and the last is not over before the next
-  -- one comes that the Join timer sends
+  -- the first comes before a moment, each other before the one before it is over, and the last is not over before the
+  -- next one comes that the Join timer sends
   abbrev pub Chain : ℕ → Network → List Move → List Out → Type 0
   Chain limit n ms [] = (st : Station) (row : JoinTimerRow) → station_at n c.lower ≡ Some st
       → row_at (st.state).join_timers (star_key 0 g) ≡ Some row → row.end + started c.lower + 2 * d < limit

@@ -128,7 +128,7 @@ abbrev pub prunes_group : ℕ → ℕ → Option Accepted → Bool
 prunes_group g i (Some (Accepted.JoinPruneToMe j m)) = (j.number == i) && is_named (pruned_keys j.number m) (star_key i g)
 prunes_group g i o = false
 
--- another router's Join(*,G) to the same neighbour, for which the router would hold its own back
+-- Another router's Join(*,G) to the same neighbour, for which the router would suppress its own.
 abbrev pub is_suppressed : State → ℕ → Hop → Option Accepted → Bool
 is_suppressed s g hop (Some (Accepted.JoinPruneSeen j m)) =
     ((j.number == hop.iface.number) && (m.upstream == hop.address.bits)) && is_named (joined_keys s j.number m) (star_key j.number g)
@@ -159,7 +159,7 @@ AreInTime g rp d started c n (m ∷ ms) =
 
 -- ---- the law
 
--- as each router is after any events
+-- The router is ready, as it is after any events.
 pub record IsReady (r : ℕ) (n : Network) : Type 0 where
   pub station : Station
   pub there : station_at n r ≡ Some station

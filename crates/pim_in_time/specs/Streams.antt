@@ -13,7 +13,8 @@ use Rattle.pim_served.specs.Ways.{IsGroup}
 use Rattle.pim_stream.specs.Passing.{Passes, Receiver, Tree, lacks_room, leaves_tree, takes_effect, takes_link}
 use Rattle.pim_in_time.specs.Joins.{Always, ComeInTime, Pair, Wants, most_late}
 
--- a Prune of the source off the group's tree takes effect on the interface; s is the state before the event, t the one after
+-- a Prune of the source off the group's tree takes effect on the interface; s is the state before the event, t the one
+-- after
 abbrev pub prunes_source : State → State → ℕ → ℕ → ℕ → Option Accepted → Bool
 prunes_source s t g src down (Some (Accepted.Advance moment)) = takes_effect s (rpt_key down g src) moment
 prunes_source s t g src down (Some (Accepted.JoinPruneToMe j m)) = (j.number == down) && prunes t g src down
@@ -27,7 +28,7 @@ ends_otherwise tree s e g src up down =
     takes_link t g src up down done || leaves_tree tree Receiver.Router t g src up done || prunes_source s t g src down done
     || lacks_room tree t g src
 
--- of the events that come to the upper router none does
+-- No event that comes to the upper router ends the stream by `ends_otherwise`.
 abbrev pub NoneEndsOtherwise : Tree → (g src up : ℕ) → Pair → Network → List Move → Type 0
 NoneEndsOtherwise tree g src up c n [] = Unit {0}
 NoneEndsOtherwise tree g src up c n (m ∷ ms) =
@@ -41,7 +42,8 @@ pub record IsPassing (tree : Tree) (g src up : ℕ) (c : Pair) (n : Network) : T
   pub there : station_at n c.upper ≡ Some station
   pub passes : Passes tree Receiver.Router station.state g src up c.down
 
--- then it goes on to do so, however many moves there are
+-- While Joins come in time and nothing else ends the stream, the upper router goes on passing it, however many moves
+-- there are.
 abbrev pub JoinsKeepStream : Type 0
 JoinsKeepStream = (tree : Tree) (g rp d src up : ℕ) (started : ℕ → ℕ) (c : Pair) (n : Network) (ms : List Move)
     → IsGroup g rp → d < most_late → ComeInTime g rp d started c n ms → Always (Wants g c.lower) n ms

@@ -18,7 +18,7 @@ read_nodes (Err refusal) nodes = 0
 abbrev pub register_stop_nodes : State → RegisterStop → ℕ
 register_stop_nodes s r = if r.mask_length == 32 then rp_nodes s.ranges r.group.bits else 0
 
--- of another message nothing
+-- The nodes of the tests of a unicast message: none for another message than a Register-Stop.
 abbrev pub pim_to_me_nodes : State → PimView → ℕ
 pim_to_me_nodes s (PimView.RegisterStop r) = register_stop_nodes s r
 pim_to_me_nodes s _ = 0

@@ -66,7 +66,7 @@ fn judge_down<'a>(world: &World, iface: IfaceId) -> Result<Accepted<'a>, Stop>
 #[derive(Drop)]
 pub struct Admitted<'a> {
     pub accepted: Accepted<'a>,
-    /// Of the routes or the RP ranges that it brings, made to test them; empty where it brings none.
+    /// The table of the routes or the RP ranges that the event brings, made to test them; empty where it brings none.
     pub table: Mrib,
 }
 
@@ -127,8 +127,8 @@ fn without_table<'a>(
 }
 
 /// Judges an event: what the router is to act on, or the first test that fails. Only routes and RP ranges are
-/// tested in memory: a table is made of them, which comes with the answer. The meter rises by the nodes that lead to the RP
-/// of the group of a Register-Stop to the router; for a packet that came on a link nothing is looked up.
+/// tested in memory: a table is made of them, which comes with the answer. The meter rises by the nodes that lead to
+/// the RP of the group of a Register-Stop to the router; for a packet that came on a link nothing is looked up.
 #[tactic(auto, using(pim_world::proofs::Visits::raised_by_none), unfolding(pim_model::specs::Judging::judged, crate::specs::Lent::event_kind))]
 pub fn judge<'a>(
     alloc: Global,

@@ -62,7 +62,7 @@ pub fn sum16(bytes: &[u8]) -> u16
 pub fn set_checksum(bytes: &mut [u8], place: usize)
     requires { place + 2 ≤ length bytes.old }
     ensures set { bytes.new ≡ with_checksum (take place bytes.old) (drop (place + 2) bytes.old) }
-    // It is right where whole words stand before it.
+    // The checksum is right where whole words come before it.
     ensures right { place % 2 ≡ 0 → sum16 bytes.new ≡ 0 }
 {
     BigEndian::write_u16(&mut bytes[place..place + 2], 0);

@@ -13,32 +13,33 @@ use Rattle.pim_lab.specs.declared.frames.Frame.{Frame}
 use Rattle.pim_lab.specs.declared.frames.OnLink.{OnLink}
 use Rattle.pim_lab.specs.declared.station.Station.{Station}
 
--- how many frames were sent, the deliveries of the frame begun that are left, and the frames that no settle has taken
+-- How many frames were sent, the deliveries that are left of the current frame, and the frames that no settle has
+-- taken.
 pub record Queue : Type 0 where
   pub sent : ℕ
   pub begun : List Delivery
   pub waiting : List Frame
 
--- where a router's packet leaves
+-- Where a router's packet leaves.
 abbrev pub departure_of : ℕ → Emission → Departure
 departure_of router (Emission.Link iface bytes) = Departure.Interface router iface
 departure_of router (Emission.Unicast destination bytes) = Departure.Unicast destination
 
--- a packet more: it has the next number
+-- The queue with one packet more, which has the next number.
 abbrev pub with_sent : ℕ → Emission → Queue → Queue
 with_sent router e q = record q {
   sent = q.sent + 1;
   waiting = q.waiting ++ record { number = q.sent + 1; departure = departure_of router e } ∷ [];
 }
 
--- the interface is on the link, and isn't the one that the frame left on
+-- The interface is on the link, and isn't the one on which the frame left.
 abbrev pub receives : OnLink → ℕ → ℕ → Link → Bool
 receives f router i l = l.number == f.link && not (router == f.router && i == f.iface.number)
 
 abbrev pub delivery_to : ℕ → Option IfaceId → ℕ → Delivery
 delivery_to router iface frame = record { router = router; iface = iface; frame = frame }
 
--- the delivery to an interface, if it receives
+-- The delivery to an interface, if it receives the frame.
 abbrev pub received : OnLink → ℕ → ℕ → Link → List Delivery
 received f router i l =
     if receives f router i l then delivery_to router (Some (record { number = i })) f.frame ∷ [] else []
@@ -48,12 +49,12 @@ abbrev pub step_of : Delivery → ℕ → Move
 step_of d draw =
     option_map_or (λ iface. Move.Deliver d.router iface d.frame draw) d.iface (Move.DeliverUnicast d.router d.frame draw)
 
--- the interfaces of a router from one on, with the links from there on
+-- The deliveries to the interfaces of a router from one on, with the links from there on.
 unfoldable pub to_interfaces : OnLink → ℕ → ℕ → List Link → List Delivery
 to_interfaces f router i [] = []
 to_interfaces f router i (l ∷ ls) = received f router i l ++ to_interfaces f router (suc i) ls
 
--- every other interface on the link, by router and interface, of the routers from one on
+-- The deliveries to every other interface on the link, by router and interface, for the routers from one on.
 unfoldable pub to_routers : OnLink → ℕ → List Station → List Delivery
 to_routers f router [] = []
 to_routers f router (s ∷ ss) = to_interfaces f router 0 s.links ++ to_routers f (suc router) ss
@@ -68,7 +69,7 @@ link_of stations router iface =
 abbrev pub owner_of : List Station → ℕ → Option ℕ
 owner_of stations address = position (λ (s : Station). list_any (λ (a : Addr). a.bits == address) s.addresses) stations
 
--- where a frame is delivered: to every other interface on its link, or to the first router with its address
+-- Where a frame is delivered: to every other interface on its link, or to the first router with its address.
 unfoldable pub deliveries_of : List Station → ℕ → Departure → List Delivery
 deliveries_of stations frame (Departure.Interface router iface) =
     option_map_or
@@ -77,7 +78,7 @@ deliveries_of stations frame (Departure.Interface router iface) =
 deliveries_of stations frame (Departure.Unicast destination) =
     option_map_or (λ router. delivery_to router None frame ∷ []) (owner_of stations destination.bits) []
 
--- the next delivery: of the frame begun, or of the first frame that has one; and what is left
+-- The next delivery, and what is left: the next of the current frame, or the first of the next frame that has one.
 unfoldable pub next_delivery : List Station → ℕ → List Frame → List Delivery → Option Delivery × Queue
 next_delivery stations sent [] [] = (None, record { sent = sent; begun = []; waiting = [] })
 next_delivery stations sent (f ∷ fs) [] =

@@ -1,4 +1,4 @@
--- What comes of a scenario's text before its first move, and what the user is told of it.
+-- What becomes of a scenario's text before its first move, and what is reported of it.
 use Rattle.std.specs.Prelude.{Err, List, Ok, Result, map, ℕ, ⊤, ◌≡◌, ◌⊎◌}
 use Rattle.pim_ip.specs.declared.fault.Fault.{Fault}
 use Rattle.pim_ip.specs.declared.refusal.Refusal.{Refusal}
@@ -11,12 +11,12 @@ use Rattle.pim_scenario.specs.declared.scenario.RouterText.{RouterText}
 use Rattle.pim_scenario.specs.declared.scenario.Scenario.{Scenario}
 use Rattle.pim_lab.specs.declared.trouble.Trouble.{Trouble}
 
--- the line with which a trouble is told
+-- The line by which a trouble is reported.
 abbrev pub complaint_of : Trouble → Complaint
 complaint_of (Trouble.Refused refusal) = Complaint.Scenario refusal
 complaint_of (Trouble.Fault fault) = Complaint.Fault fault
 
--- a router's configuration, with the number of the link of each interface
+-- The configuration of a router, with the number of the link of each interface.
 abbrev pub router_node : RouterText → Config × List ℕ
 router_node r = (r.config, map (λ (l : Link). l.number) r.links)
 
@@ -24,27 +24,27 @@ router_node r = (r.config, map (λ (l : Link). l.number) r.links)
 abbrev pub routers_test : List RouterText → Result (Unit {0}) Refusal
 routers_test routers = nodes_test (map router_node routers)
 
--- the text says a scenario, and its routers pass all tests of a network
+-- The text is a scenario, and its routers pass all tests of a network.
 abbrev pub IsAccepted : List ℕ → Type 0
 IsAccepted text = (s : Scenario) × IsReadFrom text s × (routers_test s.routers ≡ Ok tt)
 
--- the text says no scenario; or it says one, of which no network is made for this reason
+-- The text is no scenario, and the reason is that; or it is one, and its network is refused for the reason.
 abbrev pub IsRefused : List ℕ → Refusal → Type 0
 IsRefused text refusal =
     ((refusal ≡ Refusal.BadScenario) × ((s : Scenario) → IsReadFrom text s → ⊥))
     ⊎ ((s : Scenario) × IsReadFrom text s × (routers_test s.routers ≡ Err refusal))
 
--- a test that failed, or want of memory
+-- The trouble is a test that failed, or want of memory.
 abbrev pub IsTroubleOf : Result (Unit {0}) Refusal → Trouble → Type 0
 IsTroubleOf test (Trouble.Refused refusal) = test ≡ Err refusal
 IsTroubleOf test (Trouble.Fault fault) = fault ≡ Fault.Memory
 
--- why a text comes to no move: it is refused, or memory is wanting
+-- Why a text comes to no move: it is refused, or memory is wanting.
 abbrev pub Stops : List ℕ → Trouble → Type 0
 Stops text (Trouble.Refused refusal) = IsRefused text refusal
 Stops text (Trouble.Fault fault) = fault ≡ Fault.Memory
 
--- no refusal
+-- The trouble is no refusal.
 abbrev pub IsFault : Trouble → Type 0
 IsFault (Trouble.Refused refusal) = ⊥
 IsFault (Trouble.Fault fault) = ⊤

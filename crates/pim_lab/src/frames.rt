@@ -57,7 +57,7 @@ pub(crate) struct Delivery {
 }
 
 impl Delivery {
-    /// The move of the network, with this draw.
+    /// The move of the network for this delivery, with this draw.
     pub(crate) fn with_draw(self, draw: u32) -> Move
         ensures { result ≡ step_of self draw }
     {
@@ -79,7 +79,7 @@ impl Delivery {
     }
 }
 
-/// The frames that were sent. What no settle has taken waits for the next.
+/// The frames that were sent. Those that no settle has taken wait for the next.
 #[derive(Drop)]
 pub(crate) struct Frames {
     sent: u32,
@@ -96,7 +96,7 @@ impl Model for Frames {
 }
 
 impl Frames {
-    /// No frame was sent yet.
+    /// A queue in which no frame was sent yet.
     pub(crate) fn new(alloc: Global) -> Frames
         ensures { result ≡ record { sent = 0; begun = []; waiting = [] } }
     {
@@ -107,8 +107,8 @@ impl Frames {
         }
     }
 
-    /// A router has sent a packet. The answer is the number of the frame; that no number is left is a want of memory
-    /// too, since all frames are kept.
+    /// Adds a packet that a router sent. The result is the number of the frame. Running out of numbers counts as want
+    /// of memory, since all frames are kept.
     pub(crate) fn send(&mut self, router: usize, emission: &Emission) -> Result<u32, Fault>
         ensures number { IfOk result (λ number. number ≡ self.old.sent + 1) }
         ensures sent { OnOk result (self.new ≡ with_sent router emission.now self.old) }
@@ -120,8 +120,8 @@ impl Frames {
         Ok(number)
     }
 
-    /// The next delivery of a settle, until all that was sent is delivered: of the frame begun, or of the first one that
-    /// somebody receives.
+    /// The next delivery of a settle, until all that was sent is delivered: the next of the frame that is being
+    /// delivered, or the first of the next frame that somebody receives.
     pub(crate) fn next(
         &mut self,
         alloc: Global,
@@ -139,7 +139,7 @@ impl Frames {
         Ok(self.begun.pop_front())
     }
 
-    /// A settle is over: what is left of the frame begun isn't delivered.
+    /// Ends a settle: deliveries of the current frame that are left aren't made.
     pub(crate) fn end_settle(&mut self)
         ensures { self.new ≡ record self.old { begun = [] } }
     {
@@ -234,7 +234,7 @@ struct OnLink {
 }
 
 impl OnLink {
-    // Deliveries to every other interface on the link, by router and interface.
+    // The deliveries to every other interface on the link, by router and interface.
     fn to_routers(
         self,
         alloc: Global,
@@ -249,7 +249,7 @@ impl OnLink {
         Ok(found)
     }
 
-    // The same to the interfaces of one router.
+    // The deliveries to every other interface on the link that one router has.
     fn to_interfaces(
         self,
         router: usize,
@@ -274,7 +274,7 @@ impl OnLink {
         link.number == self.link && !is_sender
     }
 
-    // The delivery to an interface by its place. A place past all numbers of interfaces is more than there is memory for.
+    // The delivery to an interface by its place. A place past all interface numbers counts as want of memory.
     fn delivery(self, router: usize, place: usize) -> Result<Delivery, AllocError>
         ensures { IfOk result (λ d. d ≡ delivery_to router (Some (record { number = place })) self.frame) }
     {

@@ -1,4 +1,4 @@
-//! Moves over a network, and the lines that they bring.
+//! Moves over a network, and the lines that they print.
 ghost use Rattle.std.specs.Prelude.{◌≡◌, IfErr, IfOk, Ok, OnOk, map};
 ghost use Rattle.pim_net.specs.Showing.{node_of};
 ghost use Rattle.pim_lab.specs.Statuses.{IsFault, IsTroubleOf, router_node, routers_test};
@@ -39,8 +39,8 @@ pub(crate) struct Lab<W> {
 }
 
 impl<W: Wire> Lab<W> {
-    /// The network of a scenario, which prints a router's tables after each of its answers where `tables_each` says so.
-    /// The first test that its routers fail is told.
+    /// The network of a scenario, which prints a router's tables after each of its answers if `tables_each` is set. The
+    /// refusal is that of the first test that its routers fail.
     pub(crate) fn open(
         alloc: Global,
         texts: Series<RouterText>,
@@ -61,7 +61,7 @@ impl<W: Wire> Lab<W> {
         })
     }
 
-    /// Does a move, and prints what comes of it.
+    /// Does a move, and prints its outcome.
     pub(crate) fn make(
         &mut self,
         number: usize,
@@ -147,8 +147,8 @@ impl<W: Wire> Lab<W> {
         Ok(())
     }
 
-    // Delivers the frames that no settle has taken, and those that are sent meanwhile. What is left of a frame
-    // when the deliveries come to their limit isn't delivered.
+    // Delivers the frames that no settle has taken, and those that are sent meanwhile. When the number of deliveries
+    // reaches the limit, the rest of the current frame isn't delivered.
     fn settle(&mut self, number: usize, draw: u32, lines: &mut Lines) -> Result<(), Trouble>
         ensures { IfErr result (λ t. IsFault t) }
     {
@@ -218,7 +218,7 @@ fn print_table(router: &Router, table: Table, lines: &mut Lines) -> Result<(), T
     Ok(())
 }
 
-// The routers of a scenario, and what the network is made of for them.
+// The routers of a scenario, and the nodes of the network for them.
 fn stations_of(
     alloc: Global,
     texts: Series<RouterText>,
@@ -235,7 +235,7 @@ fn stations_of(
     Ok((stations, nodes))
 }
 
-// From which place on the packets on links are copies: they are the last, but for one to the RP.
+// The place from which on the packets on links are copies: copies are the last packets, except for a packet to the RP.
 fn first_copy(emissions: &[Emission], copies: u32) -> usize {
     let links = match emissions.split_last() {
         Some((Emission::Unicast { .. }, before)) if copies > 0 => before.len(),

@@ -1,4 +1,4 @@
-//! What `pimlab` does: scenarios are read, played over a network of routers, and printed.
+//! What `pimlab` does: it reads scenarios, plays them over a network of routers, and prints what comes of them.
 #![tactic(auto)]
 
 mod frames;

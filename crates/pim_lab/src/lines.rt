@@ -1,4 +1,4 @@
-//! The lines of a move, which are written at once.
+//! The lines of a move, which are written together.
 ghost use Rattle.std.specs.Io.KnownBytes.{Appends};
 ghost use Rattle.std.specs.Prelude.{◌≡◌, [], OnOk};
 
@@ -32,7 +32,7 @@ impl Lines {
         }
     }
 
-    /// Puts a line behind the others. An error is want of memory; what was written of the line is taken away again.
+    /// Adds a line at the end. The error is want of memory; what was written of the line is then removed.
     pub(crate) fn push<L: fmt::Display + Drop>(&mut self, line: L) -> Result<(), AllocError> {
         let whole = self.bytes.len();
         match self.bytes.writeln(line) {
@@ -44,7 +44,7 @@ impl Lines {
         }
     }
 
-    /// Writes them all, and has none left.
+    /// Writes all lines, and keeps none.
     pub(crate) fn write_to<O: Write>(&mut self, out: &mut O) -> io::Result<()>
         ensures written { OnOk result (Appends (O.contents out.old) (O.contents out.new) self.old) }
         ensures none { OnOk result (self.new ≡ []) }

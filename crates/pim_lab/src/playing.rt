@@ -17,10 +17,10 @@ use pim_types::{Fault, Series};
 use std::alloc::Global;
 use std::io::{self, Write};
 
-/// Does the moves of a scenario over its routers, whose frames this wire carries: for each move its answer is printed,
-/// and then each packet that left; at the end the routers' tables, where they are asked for. The status is 0, or 2 where
-/// the text or a configuration is refused, 3 after a fault of the wire or where a line can't be written, 4 for want of
-/// memory; what went wrong is told on `err`.
+/// Does the moves of a scenario over its routers, whose frames this wire carries. For each move its answer is printed,
+/// and then each packet that left; at the end the routers' tables, if they are requested. The status is 0; 2 where the
+/// text or a configuration is refused; 3 after a fault of the wire or where a line can't be written; 4 for want of
+/// memory. What went wrong is written to `err`.
 pub fn play<W: Wire, O: Write, E: Write>(
     alloc: Global,
     text: &str,
@@ -44,8 +44,8 @@ pub fn play<W: Wire, O: Write, E: Write>(
     play_with(alloc, text, wire, tables, out, err)
 }
 
-/// As [`play`], with these tables: those of the router that answered after each answer and its packets, those of all
-/// routers at the end, both or none.
+/// As [`play`], with these tables: after each answer and its packets those of the router that answered; at the end
+/// those of all routers; both, or none.
 pub fn play_with<W: Wire, O: Write, E: Write>(
     alloc: Global,
     text: &str,
@@ -72,7 +72,7 @@ pub fn play_with<W: Wire, O: Write, E: Write>(
     }
 }
 
-/// Reads a scenario and makes its routers, and prints `ok`. The status is as that of [`play`].
+/// Reads a scenario, makes its routers, and prints `ok`. The status is as that of [`play`].
 pub fn check_text<O: Write, E: Write>(alloc: Global, text: &str, out: &mut O, err: &mut E) -> u8
     ensures status { (result ≡ 0) ⊎ (result ≡ 2) ⊎ (result ≡ 3) ⊎ (result ≡ 4) }
     ensures done { result ≡ 0 → IsAccepted text.now
@@ -92,7 +92,7 @@ pub fn check_text<O: Write, E: Write>(alloc: Global, text: &str, out: &mut O, er
     }
 }
 
-// Prints `ok`, and has it written before it ends.
+// Prints `ok`, and flushes it.
 fn write_ok<O: Write>(out: &mut O) -> io::Result<()>
     ensures { OnOk result (Appends (O.contents out.old) (O.contents out.new) (codes "ok\n")) }
 {
@@ -137,7 +137,8 @@ fn read(alloc: Global, text: &str) -> Result<Scenario, Trouble>
     Ok(read_scenario(alloc, text)??)
 }
 
-// The moves, one after the other, and the tables. What can fail has the lab lent, so it is dropped in one place.
+// Does the moves, one after the other, and prints the tables. What can fail borrows the lab, so the lab is dropped in
+// one place.
 fn run<W: Wire, O: Write>(
     alloc: Global,
     lab: Lab<W>,
@@ -170,7 +171,7 @@ fn make_moves<W: Wire, O: Write>(
     Ok(())
 }
 
-// The lines of a move are out before the next one begins, and before what ended it early is told.
+// Does a move. Its lines are written before the next move begins, and before an early end is reported.
 fn make_move<W: Wire, O: Write>(
     lab: &mut Lab<W>,
     number: usize,

@@ -9,7 +9,7 @@ use pim_scenario::{Link, RouterText};
 use pim_types::{Addr, Config, Emission, IfaceId, Refusal, Series, Verdict};
 use std::alloc::{AllocError, Global};
 
-/// What the lab knows of a router, beside the network.
+/// What the lab knows of a router that the network doesn't.
 #[derive(Drop)]
 pub(crate) struct Station {
     name: String,
@@ -20,7 +20,7 @@ pub(crate) struct Station {
 }
 
 impl Station {
-    /// A router of a scenario, and what the network is made of for it.
+    /// A router of a scenario, and its node of the network.
     pub(crate) fn of(alloc: Global, text: RouterText) -> Result<(Station, Node), AllocError>
         ensures node { IfOk result (λ made. node_of made.1 ≡ router_node text) }
         ensures links { IfOk result (λ made. made.0.links ≡ text.links) }
@@ -103,7 +103,7 @@ impl Station {
     }
 }
 
-// The numbers of the links. More than a u32 can count is more than there is memory for.
+// The numbers of the links. More links than a u32 can count count as want of memory.
 fn link_numbers(alloc: Global, links: &[Link]) -> Result<Series<u32>, AllocError>
     ensures { IfOk result (λ numbers. numbers ≡ map (λ l. l.number) links.now) }
 {

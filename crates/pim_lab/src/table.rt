@@ -10,7 +10,7 @@ pub(crate) struct RowLine {
     pub(crate) row: Row,
 }
 
-// Each kind of row is written by a function of its own: one body that lends the values of all kinds is slow to prove.
+// Each kind of row is written by a function of its own: one body that borrows the values of all kinds is slow to prove.
 impl fmt::Display for RowLine {
     fn fmt<W: fmt::Write>(&self, f: &mut fmt::Formatter<W>) -> fmt::Result {
         match self.row {
@@ -154,7 +154,7 @@ fn write_active<W: fmt::Write>(
     write!(f, "F {group} {source} {keepalive} {spt} {register}")
 }
 
-// An end that is never where there is none, in ms.
+// A timestamp in ms, printed as never where there is none.
 #[derive(Clone, Copy)]
 struct End(Option<u64>);
 
@@ -167,7 +167,7 @@ impl fmt::Display for End {
     }
 }
 
-// An end that need not be there, in ms.
+// A timestamp in ms that may be absent.
 #[derive(Clone, Copy)]
 struct Absent(Option<u64>);
 

@@ -1,4 +1,4 @@
-//! What ends a run early, with its status and words.
+//! What ends a run early, with its status and its message.
 use pim_scenario::{fault, refused};
 use pim_types::{Fault, Refusal};
 use std::alloc::{AllocError, AllocFailed};
@@ -15,7 +15,7 @@ impl Trouble {
     ghost use Rattle.pim_lab.specs.Statuses.{complaint_of};
     ghost use Rattle.pim_scenario.specs.Complaints.{IsTold};
 
-    /// Tells it, and gives the status of the program.
+    /// Writes the message, and returns the status of the program.
     pub(crate) fn tell<E: Write>(self, err: &mut E) -> u8
         ensures { IsTold (complaint_of self) result (E.contents err.old) (E.contents err.new) }
     {
@@ -79,7 +79,7 @@ impl From<io::Error> for Trouble {
 
     ghost from_gives = { λ _ trouble. trouble ≡ Trouble.Fault Fault.Wire };
 
-    // a line that can't be written is a fault of the wire
+    // A line that can't be written counts as a fault of the wire.
     fn from(_unwritten: io::Error) -> Trouble {
         Trouble::Fault(Fault::Wire)
     }

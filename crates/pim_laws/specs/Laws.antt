@@ -76,13 +76,13 @@ ends_after m s = list_all (λ (e : Ending). nat_lt m e.end) (timers s)
 abbrev pub ends_from : ℕ → State → Bool
 ends_from m s = list_all (λ (e : Ending). nat_le m e.end) (timers s)
 
--- at the moment m, with nothing that should have fired before
+-- The state is at timestamp m, and no timer should have expired before.
 pub record IsReady (m : ℕ) (s : State) : Type 0 where
   pub firable : IsFirable s
   pub present : s.present ≡ m
   pub ends : ends_from m s ≡ true
 
--- at the moment m, with all that is due by then fired
+-- The state is at timestamp m, and all timers that are due by then have expired.
 pub record IsAhead (m : ℕ) (s : State) : Type 0 where
   pub firable : IsFirable s
   pub present : s.present ≡ m
@@ -107,11 +107,11 @@ abbrev pub due_by : ℕ → Option Ending → Option Ending
 due_by m None = None
 due_by m (Some e) = if nat_le e.end m then Some e else None
 
--- it is the least of all, where that is due
+-- The next timer that is due is the first of all, if that is due.
 abbrev pub NextIsNextEnding : Type 0
 NextIsNextEnding = (m : ℕ) (s : State) → next_due m s ≡ due_by m (next_ending s)
 
--- it is the first of its instant
+-- The next timer is the first of its instant.
 abbrev pub NextIsFirst : Type 0
 NextIsFirst = (m : ℕ) (s : State) (e : Ending) → next_due m s ≡ Some e → next_due e.end s ≡ Some e
 
@@ -122,7 +122,7 @@ abbrev pub OneFiringKeeps : Type 0
 OneFiringKeeps = (w : ℕ) (s : State) (e d : Ending) → IsFirable s → ends_from e.end s ≡ true → next_due e.end s ≡ Some d
     → IsReady e.end (fire_once w s d).0
 
--- it goes on by one firing, the emissions in that order, until nothing is due
+-- An instant goes on by the expiry of one timer, the emissions in that order, until nothing is due.
 abbrev pub InstantGoesOn : Type 0
 InstantGoesOn = (w : ℕ) (s : State) (e d : Ending) → IsFirable s → ends_from e.end s ≡ true → next_due e.end s ≡ Some d
     → fire_instant w s e ≡ and_then (next_due e.end) (fire_once w) (λ t. fire_instant w t e) (fire_once w s d)
@@ -137,12 +137,12 @@ InstantIsComplete = (w m : ℕ) (s : State) (e : Ending) → IsFirable s → nex
 
 -- ---- all that is due
 
--- it goes on by one instant, the emissions in that order, until nothing is due
+-- An Advance goes on by one instant, the emissions in that order, until nothing is due.
 abbrev pub FiringGoesOn : Type 0
 FiringGoesOn = (w m : ℕ) (s : State) (e : Ending) → IsReady s.present s → next_due m s ≡ Some e
     → fire_all w m s ≡ and_then (next_due m) (fire_instant w) (λ t. fire_all w m t) (fire_instant w s e)
 
--- likewise by one firing
+-- An Advance goes on by the expiry of one timer, the emissions in that order, until nothing is due.
 abbrev pub FiringGoesOnByOne : Type 0
 FiringGoesOnByOne = (w m : ℕ) (s : State) (e : Ending) → IsReady s.present s → next_due m s ≡ Some e
     → fire_all w m s ≡ and_then (next_due m) (fire_once w) (λ t. fire_all w m t) (fire_once w s e)
@@ -162,7 +162,7 @@ AdvancedIsAhead = (w m : ℕ) (s : State) → IsReady s.present s → IsAhead m 
 
 -- ---- the opening
 
--- with an accepted configuration it is one from which time can go on
+-- With an accepted configuration the opening is a state from which time can go on.
 abbrev pub OpeningIsAhead : Type 0
 OpeningIsAhead = (c : Config) → config_test c ≡ Ok tt → IsAhead 0 (opening c)
 

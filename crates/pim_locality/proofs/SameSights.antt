@@ -1,5 +1,5 @@
--- The macros of a group and of a source read the same in a state that differs in the present, and in asserts and sources
--- other than theirs.
+-- The macros of a group and of a source read the same in a state that differs in the present, and in asserts and
+-- sources other than theirs.
 use Rattle.std.proofs.Common.{◌≡◌, ℕ, Some, option_map, refl, ap}
 use Rattle.pim_types.specs.declared.fact.AssertRow.{AssertRow}
 use Rattle.pim_types.specs.declared.fact.SourceRow.{SourceRow}

@@ -1,5 +1,5 @@
--- Rows that differ between two states in more than an end that runs in both: the keys that such a row stands under, and
--- no others, are touched.
+-- Rows that differ between two states in more than when a timer expires that runs in both: exactly the keys that such
+-- rows are under are touched.
 use Rattle.std.specs.List.{list_any}
 use Rattle.std.specs.Prelude.{Bool, List, [], filter, false, map, not, true, ℕ, ◌&&◌, ◌++◌, ◌||◌, ◌≡◌}
 use Rattle.pim_types.specs.declared.fact.Key.{Key}
@@ -24,11 +24,11 @@ pub record IsShared (s t : State) : Type 0 where
 
 -- ---- which rows differ
 
--- the rows under a key: alike, or none in both
+-- The rows under a key are alike in both tables, or there is none in both.
 abbrev pub same_at : {R : Type 0} → (R → R → Bool) → Key → Table R → Table R → Bool
 same_at same k t u = same_both same (row_at t k) (row_at u k)
 
--- of the rows that macros read none differs under a key
+-- Under the key no row differs that macros read.
 unfoldable pub is_same_at : State → State → Key → Bool
 is_same_at s t k =
     same_at same_group_record k s.group_records t.group_records
@@ -36,7 +36,7 @@ is_same_at s t k =
     && same_at same_downstream k s.downstream t.downstream && same_at same_assert k s.asserts t.asserts
     && same_at same_source k s.sources t.sources && same_at same_register k s.registers t.registers
 
--- no row of a group differs
+-- No row of any group differs, but for when timers expire.
 unfoldable pub is_same_but_ends : State → State → Bool
 is_same_but_ends s t =
     same_rows same_group_record s.group_records t.group_records
@@ -44,11 +44,11 @@ is_same_but_ends s t =
     && same_rows same_downstream s.downstream t.downstream && same_rows same_assert s.asserts t.asserts
     && same_rows same_source s.sources t.sources && same_rows same_register s.registers t.registers
 
--- the keys under which the rows of two tables differ
+-- The keys under which the rows of two tables differ.
 unfoldable pub differing_in : {R : Type 0} → (R → R → Bool) → Table R → Table R → List Key
 differing_in same t u = filter (λ k. not (same_at same k t u)) (keys_in t ++ keys_in u)
 
--- those under which a row differs
+-- The keys under which a row differs.
 unfoldable pub differing : State → State → List Key
 differing s t =
     differing_in same_group_record s.group_records t.group_records
@@ -58,7 +58,7 @@ differing s t =
 
 -- ---- they alone are touched
 
--- keys cover a change where they touch each key under which a row differs
+-- Keys cover a change where they touch each key under which a row differs.
 abbrev pub NamedKeysCover : Type 0
 NamedKeysCover = (keys : List Key) (s t : State) → IsOrdered s → IsOrdered t → IsShared s t
     → ((k : Key) → is_same_at s t k ≡ false → touching keys k ≡ true) → AgreesBut (touching keys) s t
@@ -67,18 +67,18 @@ abbrev pub DifferingKeysCover : Type 0
 DifferingKeysCover =
     (s t : State) → IsOrdered s → IsOrdered t → IsShared s t → AgreesBut (touching (differing s t)) s t
 
--- the same is seen of a key in both, with the records of groups in INCLUDE
+-- The key reads the same in both states, with the records of groups in INCLUDE.
 abbrev pub AgreesWhollyOn : Key → State → State → Type 0
 AgreesWhollyOn k s t = whole_scope (reads k) s ≡ whole_scope (reads k) t
 
--- no others are touched: where the states agree so on a key, no row that it reads differs
+-- Where the states agree on a key, no row that it reads differs, so only keys at which a row differs are touched.
 abbrev pub AgreedRowsAreSame : Type 0
 AgreedRowsAreSame = (k q : Key) (s t : State) → AgreesWhollyOn k s t → reads k q ≡ true → is_same_at s t q ≡ true
 
 abbrev pub DifferingIsLeast : Type 0
 DifferingIsLeast = (s t : State) (k : Key) → AgreesWhollyOn k s t → touching (differing s t) k ≡ false
 
--- from a quiet state all that follows of a change follows of them
+-- From a quiet state all that follows of a change follows of the keys at which rows differ.
 abbrev pub DifferingSettles : Type 0
 DifferingSettles =
     (o : State) → IsQuiet o → IsOrdered o → (change : State × List Message) (w : ℕ) → IsOrdered change.0
@@ -90,7 +90,7 @@ abbrev pub SameButEndsTouchesNothing : Type 0
 SameButEndsTouchesNothing =
     (s t : State) → IsShared s t → is_same_but_ends s t ≡ true → AgreesBut (touching []) s t
 
--- of a change that touches nothing nothing follows from a quiet state: its own messages are written
+-- From a quiet state nothing follows of a change that touches nothing: only its own messages are written.
 abbrev pub NothingFollows : Type 0
 NothingFollows = (o : State) → IsQuiet o → (change : State × List Message) (w : ℕ)
     → AgreesBut (touching []) o change.0 → settled o change w ≡ write_all change.0 change.1
@@ -102,13 +102,14 @@ SameButEndsSettles =
 
 -- ---- rows that are new
 
--- the keys of the rows that macros read
+-- The keys of the rows that macros read.
 unfoldable pub read_keys : State → List Key
 read_keys s =
     keys_in s.group_records ++ keys_in s.source_records ++ keys_in s.downstream ++ keys_in s.asserts
     ++ keys_in s.sources ++ keys_in s.registers
 
--- they are among the keys under which rows differ: of what a test says of keys, such as that they name a source
+-- The keys of new rows are among the keys under which rows differ, for any test of keys, such as that they name a
+-- source.
 abbrev pub NewKeysDiffer : Type 0
 NewKeysDiffer = (s t : State) (test : Key → Bool) → list_any test (read_keys t) ≡ true
     → (list_any test (read_keys s) || list_any test (differing s t)) ≡ true

@@ -1,4 +1,4 @@
--- An event costs what it concerns: what follows of it is found by the keys that it touches.
+-- The cost of an event depends on what it concerns: what follows of it is found by the keys that it touches.
 use Rattle.std.specs.Prelude.{List, None, Option, Some, [], true, ℕ, ◌++◌, ◌∷◌, ◌≡◌}
 use Rattle.pim_types.specs.Keys.{source_key}
 use Rattle.pim_types.specs.declared.fact.Key.{Key}
@@ -14,7 +14,7 @@ use Rattle.pim_model.specs.Timers.{Ending}
 use Rattle.pim_locality.specs.Locality.{AgreesBut, IsQuiet, own_settled, touching}
 use Rattle.pim_locality.specs.Touches.{isnt_neighbour, touched_by, packet_keys}
 
--- the keys that an event's own change touches; none are named where it is for all groups
+-- The keys that an event's own change touches; `None` where it concerns all groups.
 unfoldable pub touched_by_event : State → Accepted → Option (List Key)
 touched_by_event s (Accepted.JoinPruneToMe i m) = Some (joined_keys s i.number m ++ pruned_keys i.number m)
 touched_by_event s (Accepted.JoinPruneSeen i m) = Some []
@@ -26,21 +26,21 @@ touched_by_event s (Accepted.Register p r) = Some (source_key 0 (registered_grou
 touched_by_event s (Accepted.RegisterStop from r) = Some (source_key 0 r.group.bits r.source.bits ∷ [])
 touched_by_event s _ = None
 
--- it touches no others
+-- An event's own change touches no keys but those of `touched_by_event`.
 abbrev pub ChangeTouches : Type 0
 ChangeTouches = (s : State) (w : ℕ) (a : Accepted) (keys : List Key) → touched_by_event s a ≡ Some keys
     → AgreesBut (touching keys) s (change s w a).state
 
--- the own change of what was accepted, with its messages
+-- The own change of an accepted event, with its messages.
 abbrev pub own_change : State → ℕ → Accepted → State × List Message
 own_change s w a = ((change s w a).state, (change s w a).messages)
 
--- from a quiet state all that follows of an event follows of the keys that it touches
+-- From a quiet state all that follows of an event follows of the keys that it touches.
 abbrev pub EventIsLocal : Type 0
 EventIsLocal = (s : State) → IsQuiet s → (w : ℕ) (a : Accepted) (keys : List Key) → touched_by_event s a ≡ Some keys
     → settled s (own_change s w a) w ≡ own_settled keys s (own_change s w a) w
 
--- likewise of a timer's end
+-- From a quiet state all that follows of the expiry of a timer follows of the keys that it touches.
 abbrev pub FiringIsLocal : Type 0
 FiringIsLocal = (s : State) → IsQuiet s → (w : ℕ) (e : Ending) → isnt_neighbour e.timer.kind ≡ true
     → fire_once w s e

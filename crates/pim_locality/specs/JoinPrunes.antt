@@ -1,5 +1,5 @@
--- What a Join/Prune to the router touches, told before its change: the keys whose downstream rows it changes in more than
--- an end, and those whose lost asserts it ends.
+-- What a Join/Prune to the router touches, found before its change: the keys whose downstream rows it changes in more
+-- than when a timer expires, and those whose lost asserts it removes.
 use Rattle.std.specs.Prelude.{Bool, List, [], filter, not, ℕ, ◌&&◌, ◌≡◌}
 use Rattle.pim_types.specs.declared.config.IfaceId.{IfaceId}
 use Rattle.pim_types.specs.declared.fact.Key.{Key}
@@ -16,13 +16,14 @@ use Rattle.pim_ready.specs.Ready.{IsOrdered}
 use Rattle.pim_locality.specs.Events.{own_change}
 use Rattle.pim_locality.specs.Locality.{AgreesBut, IsQuiet, own_settled, touching}
 
--- of a message with these keys: at most an end of the key's row moves, and it loses no assert
+-- A message that joins and prunes these keys changes at most when a timer of the key's row expires, and removes no lost
+-- assert under the key.
 unfoldable pub moves_end : State → ℕ → ℕ → List Key → List Key → Key → Bool
 moves_end s i holdtime joined pruned k =
     same_both same_downstream (row_at s.downstream k) (row_after s i holdtime joined pruned k)
     && not (is_loser (row_at s.asserts k) && is_named joined k)
 
--- the keys of which it moves more than an end, among those whose rows it can change
+-- The keys, among those whose rows the message can change, of which it changes more than when a timer expires.
 unfoldable pub moved_among : State → ℕ → ℕ → List Key → List Key → List Key
 moved_among s i holdtime joined pruned =
     filter (λ k. not (moves_end s i holdtime joined pruned k)) (touched_keys s i joined pruned)
@@ -34,13 +35,13 @@ abbrev pub JoinPruneTouchesMoved : Type 0
 JoinPruneTouchesMoved =
     (s : State) → IsOrdered s → (i : ℕ) (m : JoinPrune) → AgreesBut (touching (moved_keys s i m)) s (to_me s i m)
 
--- from a quiet state all that follows of it follows of them
+-- From a quiet state all that follows of a Join/Prune follows of the keys that it touches.
 abbrev pub JoinPruneIsLocal : Type 0
 JoinPruneIsLocal = (s : State) → IsQuiet s → IsOrdered s → (i : IfaceId) (m : JoinPrune) (w : ℕ)
     → settled s (own_change s w (Accepted.JoinPruneToMe i m)) w
     ≡ own_settled (moved_keys s i.number m) s (own_change s w (Accepted.JoinPruneToMe i m)) w
 
--- where there are none, as where it says again what it said, nothing follows, and nothing is written
+-- Where a Join/Prune touches no key, as where it repeats what is known, nothing follows, and nothing is written.
 abbrev pub JoinPruneAgain : Type 0
 JoinPruneAgain = (s : State) → IsQuiet s → IsOrdered s → (i : IfaceId) (m : JoinPrune) (w : ℕ)
     → moved_keys s i.number m ≡ []

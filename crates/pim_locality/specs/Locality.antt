@@ -1,4 +1,4 @@
--- What is local to a key: the machines of (*,G), or of a source of it.
+-- What is local to a key: to the machine of (*,G), or to the machines of a source of it.
 use Rattle.std.specs.List.Sorted.{IsStrictlySortedBy}
 use Rattle.pim_types.specs.declared.fact.SourceRow.{SourceRow}
 use Rattle.std.specs.List.{list_all, list_any}
@@ -42,33 +42,34 @@ abbrev pub SourceViewsAreLocal : Type 0
 SourceViewsAreLocal =
     (g : ℕ) (s : State) (src : ℕ) → source_view (scope (reads (source_key 0 g src)) s) g src ≡ source_view s g src
 
--- whether a source can be registered
+-- Whether a source can be registered is local to its key.
 abbrev pub CouldRegisterIsLocal : Type 0
 CouldRegisterIsLocal = (k : Key) (s : State)
     → could_register (scope (reads k) s) (group_in k) (source_in k) ≡ could_register s (group_in k) (source_in k)
 
 -- ---- where two states agree
 
--- the machines of a key see the same in both
+-- The machines of a key read the same in both states.
 abbrev pub AgreesOn : Key → State → State → Type 0
 AgreesOn k s t = scope (reads k) s ≡ scope (reads k) t
 
--- they agree on all keys but those that are touched
+-- Two states agree on all keys but the touched ones.
 abbrev pub AgreesBut : (Key → Bool) → State → State → Type 0
 AgreesBut touches s t = (k : Key) → touches k ≡ false → AgreesOn k s t
 
--- who reads the rows of a touched key is touched: a touched (*,G) touches its sources
+-- The touched keys are closed: a key that reads the rows of a touched one is touched, so a touched (*,G) touches its
+-- sources.
 abbrev pub IsClosed : (Key → Bool) → Type 0
 IsClosed touches = (k q : Key) → touches k ≡ true → reads q k ≡ true → touches q ≡ true
 
--- a key reads rows under one of these keys
+-- The key reads rows under one of the given keys.
 unfoldable pub touching : List Key → Key → Bool
 touching keys q = list_any (reads q) keys
 
 abbrev pub TouchingIsClosed : Type 0
 TouchingIsClosed = (keys : List Key) → IsClosed (touching keys)
 
--- of a key on which they agree nothing is told
+-- Nothing of (*,G) is sent upstream where two states agree on it.
 abbrev pub AgreedStarIsUntold : Type 0
 AgreedStarIsUntold = (g : ℕ) (o a : State) (w : ℕ) → AgreesOn (star_key 0 g) o a
     → star_told a w g (star_view o g) (star_view a g) ≡ nothing_told
@@ -79,31 +80,32 @@ AgreedSourceIsUntold = (g src : ℕ) (o a : State) (w : ℕ) → AgreesOn (sourc
 
 -- ---- what is told upstream
 
--- the keys of all facts at the opening and now
+-- The keys of all facts at the opening and in the state.
 unfoldable pub facts_of_both : State → State → List Key
 facts_of_both o a = fact_keys o ++ fact_keys a
 
--- what is told upstream of the touched ones alone
+-- The messages upstream of the touched keys.
 unfoldable pub touched_upstream : (Key → Bool) → State → State → ℕ → State × List Message
 touched_upstream touches o a w =
     let keys : List Key = filter touches (facts_of_both o a) in
     each_in_turn (group_upstream o a w keys) a (groups_of keys)
 
--- where the opening and the state agree on all keys but the touched ones, it is all that is told
+-- Where the opening and the state agree on all keys but the touched ones, the messages of these are all messages
+-- upstream.
 abbrev pub UpstreamIsLocal : Type 0
 UpstreamIsLocal = (touches : Key → Bool) → IsClosed touches → (o a : State) (w : ℕ) → AgreesBut touches o a
     → upstream o a w ≡ touched_upstream touches o a w
 
 -- ---- clearing
 
--- whether an assert must go depends on the rows that its key reads
+-- Whether an assert must go depends on the rows that its key reads.
 abbrev pub AssertsAreLocal : Type 0
 AssertsAreLocal = (o s : State) (e : Key × AssertRow)
     → assert_must_go o (scope (reads e.0) s) e ≡ assert_must_go o s e
 
 -- ---- changes of tables
 
--- a row set under a key leaves the rows that are seen without it
+-- Setting a row under a key doesn't change what a key that doesn't read it sees.
 abbrev pub RowsElsewhereStay : Type 0
 RowsElsewhereStay = (sees : Key → Bool) (k : Key) → sees k ≡ false
     → (t : Table DownstreamRow) (row : Option DownstreamRow) → rows_where sees (set_row t k row) ≡ rows_where sees t
@@ -113,7 +115,7 @@ RowsElsewhereStay = (sees : Key → Bool) (k : Key) → sees k ≡ false
 abbrev pub of_touched : {R : Type 0} → (Key → Bool) → Key × R → Bool
 of_touched touches e = touches e.0
 
--- the first fact that must go among the touched ones
+-- The first touched assert that must go.
 unfoldable pub touched_assert : (Key → Bool) → State → State → Option Cleared
 touched_assert touches o s =
     option_map (λ e. ClearAssert e.0 e.1)
@@ -131,22 +133,23 @@ touched_to_clear touches o s =
 unfoldable pub touched_clear : (Key → Bool) → State → State → State × List Message
 touched_clear touches o s = until_none (touched_to_clear touches o) cleared (clearable_count s) s
 
--- a source is registered where it can be
+-- A source has a register row if and only if it can be registered.
 abbrev pub is_register_settled : State → Key → Bool
 is_register_settled s k = same_bool (could_register s (group_in k) (source_in k)) (has_row s.registers k)
 
--- where nothing changes no fact must go
+-- Nothing must go: no assert and no SPTbit.
 pub record IsClear (o : State) : Type 0 where
   pub asserts : list_all (λ e. not (assert_must_go o o e)) o.asserts ≡ true
   pub sources : list_all (λ e. not (spt_must_go o e)) o.sources ≡ true
 
--- likewise, and all registers are settled
+-- Nothing must go, and all registers are settled.
 pub record IsQuiet (o : State) : Type 0 where
   pub clear : IsClear o
   pub sources_settled : list_all (λ e. is_register_settled o e.0) o.sources ≡ true
   pub registers_settled : list_all (λ e. is_register_settled o e.0) o.registers ≡ true
 
--- where the opening was quiet, and the state agrees with it on all keys but the touched ones, touched facts go
+-- Where the opening was quiet, and the state agrees with it on all keys but the touched ones, all facts that go are of
+-- touched keys.
 abbrev pub ClearingIsLocal : Type 0
 ClearingIsLocal =
     (touches : Key → Bool) → IsClosed touches → (o : State) → IsQuiet o → (s : State) → AgreesBut touches o s
@@ -158,7 +161,7 @@ NextToClearIsLocal = (touches : Key → Bool) (o : State) → IsQuiet o → (s :
 
 -- ---- registers
 
--- the touched sources
+-- The keys of the touched sources.
 abbrev pub touched_source_keys : (Key → Bool) → State → List Key
 touched_source_keys touches s = filter touches (keys_in s.sources ++ keys_in s.registers)
 
@@ -184,27 +187,27 @@ SettlingIsLocal =
     (touches : Key → Bool) → IsClosed touches → (o : State) → IsQuiet o → (change : State × List Message) (w : ℕ)
     → AgreesBut touches o change.0 → settled o change w ≡ touched_settled touches o change w
 
--- after settling no fact must go
+-- After settling no fact must go.
 abbrev pub SettlingClears : Type 0
 SettlingClears = (o : State) (change : State × List Message) (w : ℕ) → IsClear (settled o change w).0
 
--- what is quiet stays quiet where all keys agree
+-- A quiet state stays quiet where all keys agree.
 abbrev pub QuietGoesOn : Type 0
 QuietGoesOn = (s t : State) → AgreesBut (touching []) s t → IsQuiet s → IsQuiet t
 
--- each key stands once in a table
+-- Each key of a table is listed once.
 abbrev pub AreOnce : {R : Type 0} → Table R → Type 0
 AreOnce [] = Unit {0}
 AreOnce (x ∷ xs) = (has_row xs x.0 ≡ false) × AreOnce xs
 
--- after settling a change whose sources stand once all is quiet
+-- After settling, a change whose sources are listed once leaves a quiet state.
 abbrev pub SettlingQuiets : Type 0
 SettlingQuiets = (o : State) (change : State × List Message) (w : ℕ) → AreOnce (change.0).sources
     → IsQuiet (settled o change w).0
 
 -- ---- what is found by the rows of a group
 
--- the keys of all facts of a group
+-- The keys of all facts of a group.
 unfoldable pub own_keys : ℕ → State → List Key
 own_keys g s =
     keys_in (rows_of g s.group_records) ++ keys_in (rows_of g s.source_records) ++ keys_in (rows_of g s.group_repeats)
@@ -212,7 +215,7 @@ own_keys g s =
     ++ keys_in (rows_of g s.asserts) ++ keys_in (rows_of g s.join_timers) ++ keys_in (rows_of g s.override_timers)
     ++ keys_in (rows_of g s.sources) ++ keys_in (rows_of g s.registers)
 
--- they name all its sources
+-- The rows of a group name all its sources.
 abbrev pub SourcesAreOwn : Type 0
 SourcesAreOwn =
     (g : ℕ) (o a : State) → sources_of g (own_keys g o ++ own_keys g a) ≡ sources_of g (fact_keys o ++ fact_keys a)
@@ -223,22 +226,22 @@ OpeningIsQuiet = (c : Config) → IsQuiet (opening c)
 abbrev pub PresentTouchesNone : Type 0
 PresentTouchesNone = (s : State) (m : ℕ) → AgreesBut (touching []) s (record s { present = m })
 
--- sources whose keys rise stand once
+-- Sources whose keys rise are listed once.
 abbrev pub SourcesStandOnce : Type 0
 SourcesStandOnce = (t : Table SourceRow) → IsStrictlySortedBy key_cmp (keys_in t) → AreOnce t
 
--- what is told upstream of the groups of some keys, by the keys of each group's own facts
+-- The messages upstream of the groups of some keys, found by the keys of each group's own facts.
 unfoldable pub own_upstream : List Key → State → State → ℕ → State × List Message
 own_upstream keys o a w =
     each_in_turn (λ s g. group_upstream o a w (filter (touching keys) (own_keys g o ++ own_keys g a)) s g) a
     (groups_of keys)
 
--- where they touch all that differs, it is all that is told
+-- Where the keys touch all that differs, the messages of their groups are all messages upstream.
 abbrev pub UpstreamIsOwn : Type 0
 UpstreamIsOwn = (keys : List Key) (o a : State) (w : ℕ) → AgreesBut (touching keys) o a
     → upstream o a w ≡ own_upstream keys o a w
 
--- all that follows of a change that touches these keys
+-- All that follows of a change that touches these keys, found by the rows of their groups.
 unfoldable pub own_settled : List Key → State → State × List Message → ℕ → State × List Emission
 own_settled keys o change w =
     let after_clearing : State × List Message =

@@ -1,5 +1,5 @@
--- What an event, or the end of a timer, touches by the rows that differ after its own change: not by the keys that it
--- names.
+-- What an event, or the expiry of a timer, touches by the rows that differ after its own change, and not by the keys
+-- that it names.
 use Rattle.std.specs.Prelude.{List, Ok, Some, [], true, ℕ, ◌≡◌}
 use Rattle.pim_types.specs.declared.event.EventKind.{EventKind}
 use Rattle.pim_types.specs.declared.fact.AssertMetric.{AssertMetric}
@@ -24,7 +24,7 @@ use Rattle.pim_locality.specs.Locality.{AgreesBut, IsQuiet, own_settled, touchin
 use Rattle.pim_locality.specs.Rest.{IsAtRest}
 use Rattle.pim_locality.specs.Touches.{isnt_neighbour}
 
--- what is accepted of an event, with an own change that names the keys that it touches
+-- The event is accepted, and its own change touches the listed keys.
 pub record IsTaken (s : State) (kind : EventKind) (a : Accepted) (keys : List Key) : Type 0 where
   pub timeless : IsTimeless kind
   pub accepted : judged s kind ≡ Ok a
@@ -32,19 +32,19 @@ pub record IsTaken (s : State) (kind : EventKind) (a : Accepted) (keys : List Ke
 
 -- ---- events
 
--- it touches no keys but those whose rows differ after it
+-- An event touches no keys but those whose rows differ after it.
 abbrev pub EventTouchesDiffering : Type 0
 EventTouchesDiffering = (s : State) → IsSettled s → (kind : EventKind) (a : Accepted) (keys : List Key)
     → IsTaken s kind a keys → (w : ℕ)
     → AgreesBut (touching (differing s (change s w a).state)) s (change s w a).state
 
--- between two events all that follows of it follows of them
+-- At rest all that follows of an event follows of the keys whose rows differ after its own change.
 abbrev pub EventFollowsOfDiffering : Type 0
 EventFollowsOfDiffering = (s : State) → IsAtRest s → (kind : EventKind) (a : Accepted) (keys : List Key)
     → IsTaken s kind a keys → (w : ℕ)
     → settled s (own_change s w a) w ≡ own_settled (differing s (change s w a).state) s (own_change s w a) w
 
--- an event that moves ends alone, of whatever kind: nothing follows
+-- Nothing follows of an event, of whatever kind, that changes only when timers expire.
 abbrev pub EventOfEnds : Type 0
 EventOfEnds = (s : State) → IsQuiet s → (a : Accepted) (keys : List Key) → touched_by_event s a ≡ Some keys → (w : ℕ)
     → is_same_but_ends s (change s w a).state ≡ true
@@ -61,12 +61,12 @@ FiringFollowsOfDiffering =
 
 -- ---- what machines do that moves an end alone
 
--- data of a source whose keepalive timer runs
+-- Data of a source whose keepalive timer runs touches nothing by restarting it.
 abbrev pub KeepaliveAgain : Type 0
 KeepaliveAgain = (s : State) → IsOrdered s → (g src : ℕ) → is_kept_alive s g src ≡ true
     → AgreesBut (touching []) s (with_keepalive s g src)
 
--- an Assert of the winner that the router lost to, with the metric that it had
+-- A repeated Assert of the winner that the router lost to, with the metric that it had, touches nothing.
 abbrev pub LosesAgain : Type 0
 LosesAgain = (s : State) → IsOrdered s → (k : Key) (r : AssertRow) (theirs : AssertMetric)
     → row_at s.asserts k ≡ Some r → is_loser (Some r) ≡ true → same_metric r.winner theirs ≡ true

@@ -1,4 +1,4 @@
--- Between two events the router is at rest: its state is quiet and settled, and every event leaves it so.
+-- Between two events the router is at rest: its state is quiet and settled, and every event leaves it at rest.
 use Rattle.std.specs.Prelude.{List, Ok, ℕ, ◌≡◌}
 use Rattle.pim_types.specs.declared.config.Config.{Config}
 use Rattle.pim_types.specs.declared.event.Event.{Event}
@@ -10,14 +10,15 @@ use Rattle.pim_model.specs.Timers.{Ending}
 use Rattle.pim_ready.specs.Ready.{IsLawful, IsSettled}
 use Rattle.pim_locality.specs.Locality.{IsQuiet}
 
--- no fact must go, all registers are settled, tables are in order, and all that is due by the present has fired
+-- At rest: no fact must go, all registers are settled, tables are in order, and all timers that are due at the present
+-- time have expired.
 pub record IsAtRest (s : State) : Type 0 where
   pub quiet : IsQuiet s
   pub settled : IsSettled s
 
 -- ---- quiet
 
--- after a firing in a lawful state all is quiet, whatever is still due
+-- After one timer expired in a lawful state, the state is quiet, whatever is still due.
 abbrev pub OneFiringQuiets : Type 0
 OneFiringQuiets = (w : ℕ) (s : State) (e : Ending) → IsLawful s → IsQuiet (fire_once w s e).0
 
@@ -27,7 +28,7 @@ InstantIsQuiet = (w : ℕ) (s : State) (e : Ending) → IsLawful s → IsQuiet s
 abbrev pub FiringIsQuiet : Type 0
 FiringIsQuiet = (w m : ℕ) (s : State) → IsLawful s → IsQuiet s → IsQuiet (fire_all w m s).0
 
--- every event leaves it quiet
+-- Every event leaves a settled, quiet state quiet.
 abbrev pub StepIsQuiet : Type 0
 StepIsQuiet = (s : State) (e : Event) → IsSettled s → IsQuiet s → IsQuiet (step s e).state
 

@@ -1,4 +1,4 @@
--- What the machines of a key see of a state: the rows that they read, and what all groups share.
+-- What the machines of a key read of a state: the rows under some keys, and what all groups share.
 use Rattle.std.specs.List.{list_any}
 use Rattle.std.specs.Option.{option_map_or}
 use Rattle.std.specs.Prelude.{Bool, None, Option, Some, [], is_some, map, false, ℕ, ◌&&◌, ◌==◌, ◌||◌}
@@ -17,8 +17,8 @@ use Rattle.pim_model.specs.Records.{is_at_group}
 use Rattle.pim_model.specs.Tables.{Table, row_at, rows_where}
 use Rattle.pim_types.specs.Keys.{group_in, iface_in, is_of_group, source_in}
 
--- The machines of a key are that of (*,G), or those of (S,G) and (S,G,rpt). They read the rows of (*,G), and those of
--- their own source: the rows of its group that have no source, or the same.
+-- Which keys the machines of a key read. They are the machine of (*,G), or those of (S,G) and (S,G,rpt). They read the
+-- rows of (*,G), and those of their own source.
 unfoldable pub reads : Key → Key → Bool
 reads k q = (group_in q == group_in k) && ((source_in q == 0) || (source_in q == source_in k))
 
@@ -26,28 +26,28 @@ reads k q = (group_in q == group_in k) && ((source_in q == 0) || (source_in q ==
 abbrev pub rows_of : {R : Type 0} → ℕ → Table R → Table R
 rows_of g t = rows_where (is_of_group g) t
 
--- which interfaces are up, without their Hellos
+-- An interface row as macros read it: without its Hellos.
 abbrev pub only_up : Key × InterfaceRow → Key × InterfaceRow
 only_up e = (e.0, record { generation = 0; hello_end = 0; is_hello_owed = false })
 
--- a neighbour with its priority alone
+-- A neighbour row as macros read it: its priority alone.
 abbrev pub only_priority : Key × NeighbourRow → Key × NeighbourRow
 only_priority e = (e.0, record e.1 { end = None; lan_delay = None; generation = None })
 
--- whether a timer runs, and not until when
+-- Whether a timer runs, without when it expires.
 abbrev pub only_running : Option ℕ → Option ℕ
 only_running None = None
 only_running (Some end) = Some 0
 
--- a group's record with its mode alone, and a source's with its side: no macro reads when their timers end
+-- A group's record with its mode alone, and a source's record with its side: no macro reads when their timers expire.
 abbrev pub only_mode : Key × GroupRecordRow → Key × GroupRecordRow
 only_mode e = (e.0, record { end = only_running (e.1).end })
 
 abbrev pub only_side : Key × SourceRecordRow → Key × SourceRecordRow
 only_side e = (e.0, record { end = only_running (e.1).end })
 
--- likewise of the other rows: a downstream state with its kind, an assert with its role and winner, a source with
--- whether it is kept alive and its SPTbit, a register with its state
+-- The other rows as macros read them: a downstream state with its kind, an assert with its role and winner, a source
+-- with whether it is kept alive and its SPTbit, a register with its state.
 abbrev pub only_kind : Key × DownstreamRow → Key × DownstreamRow
 only_kind e = (e.0, record { expiry = only_running (e.1).expiry; pending = only_running (e.1).pending })
 
@@ -65,8 +65,8 @@ state_without_end (RegisterState.Prune end) = RegisterState.Prune 0
 abbrev pub only_registered : Key × RegisterRow → Key × RegisterRow
 only_registered e = (e.0, record { state = state_without_end (e.1).state })
 
--- Of a group in INCLUDE a source's macros ask whether there is a record only where the source has one of its own. So of
--- the groups' records those are read that are in EXCLUDE, and those beside a source that is read.
+-- Which records of groups are read. In INCLUDE a source's macros read whether the group has a record only where the
+-- source has a record. Therefore records in EXCLUDE are read, and those of groups with a source record that is read.
 unfoldable pub is_mode_read : Table GroupRecordRow → Table SourceRecordRow → Key → Bool
 is_mode_read groups sources k =
     option_map_or (λ (r : GroupRecordRow). is_some r.end) (row_at groups k) false
@@ -75,8 +75,8 @@ is_mode_read groups sources k =
 abbrev pub modes_read : Table GroupRecordRow → Table SourceRecordRow → Table GroupRecordRow
 modes_read groups sources = rows_where (is_mode_read groups sources) groups
 
--- the state as macros see it that read these keys alone; they read no present, no timer of an upstream state, and
--- nothing of queriers
+-- The state as macros see it that read only the given keys. They don't read the present time, timers of upstream
+-- states, or queriers.
 unfoldable pub scope : (Key → Bool) → State → State
 scope sees s = record {
   settings = s.settings;
@@ -101,6 +101,6 @@ scope sees s = record {
   registers = map only_registered (rows_where sees s.registers);
 }
 
--- the same with all records of groups
+-- The state as macros see it that read only the given keys, with all records of groups.
 unfoldable pub whole_scope : (Key → Bool) → State → State
 whole_scope sees s = record (scope sees s) { group_records = map only_mode (rows_where sees s.group_records) }

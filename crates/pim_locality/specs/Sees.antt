@@ -12,11 +12,11 @@ use Rattle.pim_model.specs.Registers.{could_register}
 use Rattle.pim_model.specs.State.{State}
 use Rattle.pim_model.specs.Unicast.{is_connected, route, rp_of, rp_route}
 
--- a source without an end
+-- The source record has no running timer, so the source is excluded.
 abbrev pub is_excluded_row : Option SourceRecordRow → Bool
 is_excluded_row o = option_map_or (λ (r : SourceRecordRow). is_none r.end) o false
 
--- of (*,G), but for the neighbours
+-- The macros of (*,G) read the same in both states, but for the neighbours.
 pub record SeesStar (g : ℕ) (s t : State) : Type 0 where
   pub settings : s.settings ≡ t.settings
   pub configured : s.configured ≡ t.configured
@@ -31,7 +31,7 @@ pub record SeesStar (g : ℕ) (s t : State) : Type 0 where
   pub excluding : is_exclude s g ≡ is_exclude t g
   pub rp_nbr : nbr s (rp_route s g) ≡ nbr t (rp_route t g)
 
--- of (S,G) and (S,G,rpt)
+-- The macros of (S,G) and (S,G,rpt) read the same in both states.
 pub record SeesSource (g src : ℕ) (s t : State) : Type 0 where
   pub star : SeesStar g s t
   pub path : route s src ≡ route t src

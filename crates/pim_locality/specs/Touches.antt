@@ -26,21 +26,21 @@ use Rattle.pim_model.specs.Seen.{seen}
 use Rattle.pim_model.specs.State.{State}
 use Rattle.pim_locality.specs.Locality.{AgreesBut, touching}
 
--- the keys that a Join/Prune names
+-- A Join/Prune to the router touches the keys that it names.
 abbrev pub JoinPruneTouches : Type 0
 JoinPruneTouches = (s : State) (i : ℕ) (m : JoinPrune)
     → AgreesBut (touching (joined_keys s i m ++ pruned_keys i m)) s (to_me s i m)
 
--- the keys that an Assert names
+-- An Assert touches the keys that it names.
 abbrev pub AssertTouches : Type 0
 AssertTouches = (s : State) (i from : ℕ) (a : AssertMessage)
     → AgreesBut (touching (asserted_keys i a)) s (assert_received s i from a).0
 
--- an assert's end touches its key
+-- The expiry of an assert timer touches the assert's key.
 abbrev pub AssertDueTouches : Type 0
 AssertDueTouches = (s : State) (k : Key) (r : AssertRow) → AgreesBut (touching (k ∷ [])) s (assert_due s k r).0
 
--- a timer's end touches its key, that of a record its group, and that of an upstream timer none
+-- What the expiry of a timer touches: its key; for a timer of a record its group; for an upstream timer nothing.
 abbrev pub touched_by : TimerKind → Key → List Key
 touched_by TimerKind.PrunePending k = k ∷ []
 touched_by TimerKind.DownstreamExpiry k = k ∷ []
@@ -51,7 +51,7 @@ touched_by TimerKind.Keepalive k = k ∷ []
 touched_by TimerKind.Register k = k ∷ []
 touched_by _ k = []
 
--- a neighbour's end is for all groups
+-- The timer isn't a neighbour's, whose expiry concerns all groups.
 abbrev pub isnt_neighbour : TimerKind → Bool
 isnt_neighbour TimerKind.Neighbour = false
 isnt_neighbour _ = true
@@ -70,12 +70,12 @@ abbrev pub PacketTouches : Type 0
 PacketTouches = (s : State) (g src iif : ℕ)
     → AgreesBut (touching (packet_keys s g src iif)) s (forwarded s g src iif).state
 
--- the groups that a report names
+-- A report touches the groups that it names.
 abbrev pub ReportTouches : Type 0
 ReportTouches = (s : State) (i : ℕ) (records : List Record)
     → AgreesBut (touching (reported_groups i records)) s (report_seen s i records).0
 
--- the ends of group timers and source timers
+-- The expiry of a group timer or a source timer touches the group.
 abbrev pub GroupEndTouches : Type 0
 GroupEndTouches = (i g : ℕ) (s : State) → AgreesBut (touching (star_key 0 g ∷ [])) s (group_record_due s i g)
 
@@ -94,11 +94,11 @@ HelloAgainTouchesNone = (s : State) (i address : ℕ) (h : HelloValue) (w : ℕ)
     → h.priority ≡ old.priority → (hello_holdtime_of h == 0) ≡ false → is_generation_changed s i address h ≡ false
     → AgreesBut (touching []) s (hello_received s i address h w)
 
--- a query lowers ends, and touches nothing
+-- A query lowers timers, and touches nothing.
 abbrev pub QueryTouchesNone : Type 0
 QueryTouchesNone = (s : State) (i from : ℕ) (q : QueryValue) → AgreesBut (touching []) s (query_seen s i from q)
 
--- a Register touches its source, a Register-Stop its source, or its group where it names none
+-- A Register touches its source. A Register-Stop touches its source, or its group where it names no source.
 abbrev pub RegisterStopTouches : Type 0
 RegisterStopTouches = (s : State) (w g src : ℕ)
     → AgreesBut (touching (source_key 0 g src ∷ [])) s (register_stop_seen s w g src)

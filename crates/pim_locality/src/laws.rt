@@ -45,25 +45,25 @@ pub fn could_register_is_local()
     ensures { CouldRegisterIsLocal }
 {}
 
-/// Nothing is told upstream of (*,G) where the states agree on it.
+/// Nothing of (*,G) is sent upstream where the states agree on it.
 #[tactic(auto, using(crate::proofs::UntoldKeys::star_untold_where_agreed))]
 pub fn agreed_star_is_untold()
     ensures { AgreedStarIsUntold }
 {}
 
-/// Nothing is told upstream of a source where the states agree on it.
+/// Nothing of a source is sent upstream where the states agree on it.
 #[tactic(auto, using(crate::proofs::UntoldKeys::source_untold_where_agreed))]
 pub fn agreed_source_is_untold()
     ensures { AgreedSourceIsUntold }
 {}
 
-/// Who reads the rows of a touched key is touched.
+/// A key that reads the rows of a touched key is touched.
 #[tactic(auto, using(crate::proofs::Touches::touching_is_closed))]
 pub fn touching_is_closed()
     ensures { TouchingIsClosed }
 {}
 
-/// Where the opening and the state agree on all keys but the touched ones, what is told upstream is told of those.
+/// Where the opening and the state agree on all keys but the touched ones, all messages upstream are of touched keys.
 #[tactic(auto, using(crate::proofs::TouchedUpstream::upstream_is_local))]
 pub fn upstream_is_local()
     ensures { UpstreamIsLocal }
@@ -75,31 +75,31 @@ pub fn asserts_are_local()
     ensures { AssertsAreLocal }
 {}
 
-/// A row set under a key leaves the rows that are seen without it.
+/// Setting a row under a key doesn't change what a key that doesn't read it sees.
 #[tactic(auto, using(pim_laws::proofs::RowChanges::set_elsewhere))]
 pub fn rows_elsewhere_stay()
     ensures { RowsElsewhereStay }
 {}
 
-/// Where nothing had to go at the opening, the next fact that must go is a touched one.
+/// Where nothing had to go at the opening, the next fact that must go is of a touched key.
 #[tactic(auto, using(crate::proofs::Clearing::to_clear_of_touched))]
 pub fn next_to_clear_is_local()
     ensures { NextToClearIsLocal }
 {}
 
-/// Where nothing had to go at the opening, all that goes is touched.
+/// Where nothing had to go at the opening, all facts that go are of touched keys.
 #[tactic(auto, using(crate::proofs::TouchedClearing::clearing_is_local))]
 pub fn clearing_is_local()
     ensures { ClearingIsLocal }
 {}
 
-/// Where all registers were settled at the opening, those of touched sources are to be settled.
+/// Where all registers were settled at the opening, only those of touched sources are still to be settled.
 #[tactic(auto, using(crate::proofs::Registers::registers_of_touched))]
 pub fn registers_are_local()
     ensures { RegistersAreLocal }
 {}
 
-/// What follows of a change of touched keys follows of those alone.
+/// All that follows of a change follows of the keys that it touches.
 #[tactic(auto, using(crate::proofs::Settling::settling_is_local))]
 pub fn settling_is_local()
     ensures { SettlingIsLocal }
@@ -111,7 +111,7 @@ pub fn join_prune_touches()
     ensures { JoinPruneTouches }
 {}
 
-/// The end of an assert's timer touches its key.
+/// The expiry of an assert timer touches the assert's key.
 #[tactic(auto, using(crate::proofs::Events::assert_due_touches))]
 pub fn assert_due_touches()
     ensures { AssertDueTouches }
@@ -123,13 +123,13 @@ pub fn assert_touches()
     ensures { AssertTouches }
 {}
 
-/// The end of a timer touches its key or group, the end of an upstream timer nothing.
+/// The expiry of a timer touches its key or its group; that of an upstream timer touches nothing.
 #[tactic(auto, using(crate::proofs::SilentEvents::timer_touches))]
 pub fn timer_touches()
     ensures { TimerTouches }
 {}
 
-/// What is quiet stays quiet where all keys agree.
+/// A quiet state stays quiet where all keys agree.
 pub fn quiet_goes_on()
     ensures { QuietGoesOn }
 {}
@@ -139,7 +139,7 @@ pub fn settling_clears()
     ensures { SettlingClears }
 {}
 
-/// After settling a change whose sources stand once all is quiet.
+/// After settling, a change whose sources are listed once leaves a quiet state.
 pub fn settling_quiets()
     ensures { SettlingQuiets }
 {}
@@ -150,13 +150,13 @@ pub fn packet_touches()
     ensures { PacketTouches }
 {}
 
-/// The end of a group timer touches its group.
+/// The expiry of a group timer touches its group.
 #[tactic(auto, using(crate::proofs::Membership::group_end_here))]
 pub fn group_end_touches()
     ensures { GroupEndTouches }
 {}
 
-/// The end of a source timer touches its group.
+/// The expiry of a source timer touches its group.
 #[tactic(auto, using(crate::proofs::Membership::source_end_here))]
 pub fn source_end_touches()
     ensures { SourceEndTouches }
@@ -180,30 +180,30 @@ pub fn sources_are_own()
     ensures { SourcesAreOwn }
 {}
 
-/// At the opening all is quiet.
+/// The opening is quiet.
 pub fn opening_is_quiet()
     ensures { OpeningIsQuiet }
 {}
 
-/// Time alone touches nothing.
+/// Setting the present time touches nothing.
 #[tactic(auto, using(crate::proofs::OwnKeys::present_touches_none))]
 pub fn present_touches_none()
     ensures { PresentTouchesNone }
 {}
 
-/// Sources whose keys rise stand once.
+/// Sources whose keys rise are listed once.
 pub fn sources_stand_once()
     ensures { SourcesStandOnce }
 {}
 
-/// Where the opening and the state agree on all keys but those that some touch, what is told upstream is found by the
-/// rows of their groups.
+/// Where the opening and the state agree on all keys but the given ones, the messages upstream are found by the rows of
+/// the groups of these.
 #[tactic(auto, using(crate::proofs::OwnKeys::upstream_is_own))]
 pub fn upstream_is_own()
     ensures { UpstreamIsOwn }
 {}
 
-/// A Hello of a neighbour with the priority and the generation that it had touches nothing.
+/// A Hello with the priority and the generation ID that its neighbour had touches nothing.
 #[tactic(auto, using(crate::proofs::RefreshedNeighbours::hello_again_touches_none))]
 pub fn hello_again_touches_none()
     ensures { HelloAgainTouchesNone }
@@ -227,49 +227,49 @@ pub fn register_touches()
     ensures { RegisterTouches }
 {}
 
-/// JoinDesired(S,G) is the same where it reads the same.
+/// JoinDesired(S,G) is the same in states in which its macros read the same.
 #[tactic(auto, using(crate::proofs::SameMacros::join_desired_same))]
 pub fn desires_of_same()
     ensures { DesiresOfSame }
 {}
 
-/// So is the upstream state of (S,G,rpt).
+/// The upstream state of (S,G,rpt) is the same in states in which its macros read the same.
 #[tactic(auto, using(crate::proofs::SameMacros::tree_state_same))]
 pub fn tree_states_of_same()
     ensures { TreeStatesOfSame }
 {}
 
-/// So is RPF'(S,G,rpt).
+/// RPF'(S,G,rpt) is the same in states in which its macros read the same.
 #[tactic(auto, using(crate::proofs::SameMacros::rpf_rpt_same))]
 pub fn tree_neighbours_of_same()
     ensures { TreeNeighboursOfSame }
 {}
 
-/// So is whether the source is connected.
+/// Whether a source is connected is the same in states in which its macros read the same.
 #[tactic(auto, using(crate::proofs::SameMacros::is_connected_same))]
 pub fn connections_of_same()
     ensures { ConnectionsOfSame }
 {}
 
-/// So is my_assert_metric(S,G,I).
+/// my_assert_metric(S,G,I) is the same in states in which its macros read the same.
 #[tactic(auto, using(crate::proofs::SameMacros::my_metric_same))]
 pub fn metrics_of_same()
     ensures { MetricsOfSame }
 {}
 
-/// So is AssertTrackingDesired(S,G,I).
+/// AssertTrackingDesired(S,G,I) is the same in states in which its macros read the same.
 #[tactic(auto, using(crate::proofs::SameMacros::is_tracking_same))]
 pub fn tracking_of_same()
     ensures { TrackingOfSame }
 {}
 
-/// So is AssertTrackingDesired(*,G,I).
+/// AssertTrackingDesired(*,G,I) is the same in states in which its macros read the same.
 #[tactic(auto, using(crate::proofs::SameMacros::is_tracking_star_same))]
 pub fn star_tracking_of_same()
     ensures { StarTrackingOfSame }
 {}
 
-/// So is CouldRegister(S,G).
+/// CouldRegister(S,G) is the same in states in which its macros read the same.
 #[tactic(auto, using(crate::proofs::SameMacros::could_register_same))]
 pub fn registers_of_same()
     ensures { RegistersOfSame }
@@ -281,7 +281,7 @@ pub fn settling_is_own()
     ensures { SettlingIsOwn }
 {}
 
-/// An event's own change touches no other keys than those that it is known by.
+/// An event's own change touches no keys but those that `touched_by_event` lists.
 #[tactic(auto, using(crate::proofs::EventLaws::change_touches))]
 pub fn change_touches()
     ensures { ChangeTouches }
@@ -293,23 +293,23 @@ pub fn event_is_local()
     ensures { EventIsLocal }
 {}
 
-/// From a quiet state all that follows of a timer's end follows of the keys that it touches.
+/// From a quiet state all that follows of the expiry of a timer follows of the keys that it touches.
 #[tactic(auto, using(crate::proofs::EventLaws::firing_is_local))]
 pub fn firing_is_local()
     ensures { FiringIsLocal }
 {}
 
-/// After a firing in a lawful state all is quiet.
+/// After one timer expired in a lawful state, the state is quiet.
 pub fn one_firing_quiets()
     ensures { OneFiringQuiets }
 {}
 
-/// After an instant in a lawful, quiet state all is quiet.
+/// After all timers of an instant expired in a lawful, quiet state, the state is quiet.
 pub fn instant_is_quiet()
     ensures { InstantIsQuiet }
 {}
 
-/// So it is after all that fires by a moment.
+/// After all timers that are due by a timestamp expired in a lawful, quiet state, the state is quiet.
 pub fn firing_is_quiet()
     ensures { FiringIsQuiet }
 {}
@@ -319,34 +319,34 @@ pub fn step_is_quiet()
     ensures { StepIsQuiet }
 {}
 
-/// With an accepted configuration the router begins at rest: quiet and settled.
+/// With an accepted configuration the router's opening is at rest: quiet and settled.
 pub fn opening_is_at_rest()
     ensures { OpeningIsAtRest }
 {}
 
-/// Every event leaves it at rest.
+/// Every event leaves a router at rest that was at rest.
 pub fn step_is_at_rest()
     ensures { StepIsAtRest }
 {}
 
-/// So do any events.
+/// Any list of events leaves a router at rest that was at rest.
 pub fn run_is_at_rest()
     ensures { RunIsAtRest }
 {}
 
-/// Keys cover a change where they touch each key under which a row differs in more than an end.
+/// Keys cover a change where they touch each key under which a row differs in more than when a timer expires.
 #[tactic(auto, using(crate::proofs::Differing::named_keys_cover))]
 pub fn named_keys_cover()
     ensures { NamedKeysCover }
 {}
 
-/// The keys under which rows differ in more than an end that runs in both cover a change.
+/// The keys under which rows differ in more than when a timer expires that runs in both cover a change.
 #[tactic(auto, using(crate::proofs::Differing::differing_keys_cover))]
 pub fn differing_keys_cover()
     ensures { DifferingKeysCover }
 {}
 
-/// Where two states agree on a key, the rows that it reads are the same but for ends.
+/// Where two states agree on a key, the rows that it reads are the same but for when timers expire.
 #[tactic(auto, using(crate::proofs::Differing::agreed_rows_are_same))]
 pub fn agreed_rows_are_same()
     ensures { AgreedRowsAreSame }
@@ -364,25 +364,25 @@ pub fn differing_settles()
     ensures { DifferingSettles }
 {}
 
-/// A change that moves ends alone, in whatever table, touches nothing.
+/// A change only of when timers expire, in whatever table, touches nothing.
 #[tactic(auto, using(crate::proofs::Differing::same_but_ends_touches_nothing))]
 pub fn same_but_ends_touches_nothing()
     ensures { SameButEndsTouchesNothing }
 {}
 
-/// Of a change that touches nothing nothing follows.
+/// Nothing follows of a change that touches nothing.
 #[tactic(auto, using(crate::proofs::Differing::nothing_follows))]
 pub fn nothing_follows()
     ensures { NothingFollows }
 {}
 
-/// Of a change that moves ends alone nothing follows.
+/// Nothing follows of a change only of when timers expire.
 #[tactic(auto, using(crate::proofs::Differing::same_but_ends_settles))]
 pub fn same_but_ends_settles()
     ensures { SameButEndsSettles }
 {}
 
-/// What an event touches is no more than the keys whose rows differ after it.
+/// An event touches no keys but those whose rows differ after it.
 #[tactic(auto, using(crate::proofs::OwnEnds::event_touches_differing))]
 pub fn event_touches_differing()
     ensures { EventTouchesDiffering }
@@ -394,50 +394,50 @@ pub fn event_follows_of_differing()
     ensures { EventFollowsOfDiffering }
 {}
 
-/// Of an event that moves ends alone nothing follows.
+/// Nothing follows of an event that changes only when timers expire.
 #[tactic(auto, using(crate::proofs::OwnEnds::event_of_ends))]
 pub fn event_of_ends()
     ensures { EventOfEnds }
 {}
 
-/// All that follows of a timer's end follows of the keys whose rows differ after its own change.
+/// All that follows of the expiry of a timer follows of the keys whose rows differ after its own change.
 #[tactic(auto, using(crate::proofs::OwnEnds::firing_follows_of_differing))]
 pub fn firing_follows_of_differing()
     ensures { FiringFollowsOfDiffering }
 {}
 
-/// A Join/Prune touches no more than the keys whose downstream rows it changes in more than an end, and those whose lost
-/// asserts it ends.
+/// A Join/Prune touches no keys but those whose downstream rows it changes in more than when a timer expires, and those
+/// whose lost asserts it removes.
 #[tactic(auto, using(crate::proofs::JoinPrunes::join_prune_touches_moved))]
 pub fn join_prune_touches_moved()
     ensures { JoinPruneTouchesMoved }
 {}
 
-/// All that follows of a Join/Prune follows of them.
+/// All that follows of a Join/Prune follows of the keys that it touches by its own change.
 #[tactic(auto, using(crate::proofs::JoinPrunes::join_prune_is_local))]
 pub fn join_prune_is_local()
     ensures { JoinPruneIsLocal }
 {}
 
-/// Of a Join/Prune that says again what it said nothing follows.
+/// Nothing follows of a Join/Prune that repeats what is known.
 #[tactic(auto, using(crate::proofs::JoinPrunes::join_prune_again))]
 pub fn join_prune_again()
     ensures { JoinPruneAgain }
 {}
 
-/// A row that is new stands under a key at which rows differ.
+/// A new row is under a key at which rows differ.
 #[tactic(auto, using(crate::proofs::NewKeys::new_keys_differ))]
 pub fn new_keys_differ()
     ensures { NewKeysDiffer }
 {}
 
-/// A keepalive timer that runs, set again, touches nothing.
+/// Restarting a keepalive timer that runs touches nothing.
 #[tactic(auto, using(crate::proofs::EndsAgain::keepalive_again))]
 pub fn keepalive_again()
     ensures { KeepaliveAgain }
 {}
 
-/// An Assert of the winner that the router lost to, heard again, touches nothing.
+/// A repeated Assert of the winner that the router lost to touches nothing.
 #[tactic(auto, using(crate::proofs::EndsAgain::loses_again))]
 pub fn loses_again()
     ensures { LosesAgain }

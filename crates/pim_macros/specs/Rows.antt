@@ -1,4 +1,4 @@
--- A row of the forwarding cache: what it answers of its source, and when these answers are those of a state.
+-- A row of the forwarding cache: its answers about its source, and when these are those of a state.
 use Rattle.std.specs.Prelude.{Option, Some, false, nat_lt, option_map, true, ℕ, ◌≡◌}
 use Rattle.pim_ifset.specs.Members.{has}
 use Rattle.pim_ip.specs.declared.addr.Addr.{Addr}
@@ -16,7 +16,7 @@ pub record MadeRow : Type 0 where
 abbrev pub number_of : Option IfaceId → Option ℕ
 number_of iface = option_map (λ (i : IfaceId). i.number) iface
 
--- what the row answers: of the sets those below 120
+-- The answers of a row: of the sets, the interfaces below 120.
 unfoldable pub answers_of : SourceAnswers → Answers
 answers_of row = record {
   immediate = has row.immediate;
@@ -36,7 +36,7 @@ answers_of row = record {
   contested = has row.contested;
 }
 
--- The row answers so. Whether SPTbit is reached counts where RPF_interface(S) is below 120.
+-- The row has these answers. Whether SPTbit is reached is only compared where RPF_interface(S) is below 120.
 pub record ShowsAnswers (row : SourceAnswers) (a : Answers) : Type 0 where
   pub immediate : Shows row.immediate a.immediate
   pub immediate_tunnel : row.immediate.tunnel ≡ a.has_tunnel

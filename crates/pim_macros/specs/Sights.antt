@@ -1,4 +1,4 @@
--- What a sight shows of a state: each of its fields by the definition.
+-- What a sight shows of a state: each of its fields, by the definition in pim_model.
 use Rattle.std.specs.Option.{option_map_or}
 use Rattle.std.specs.Prelude.{Option, Some, false, nat_lt, not, option_map, ℕ, ◌&&◌, ◌||◌, ◌≡◌, ◌≤◌}
 use Rattle.pim_ip.specs.declared.addr.Addr.{Addr}
@@ -20,7 +20,7 @@ use Rattle.pim_macros.specs.declared.sight.StarSight.{StarSight}
 abbrev pub is_interface_of : Option Path → Set
 is_interface_of path i = same_option (option_map (λ (p : Path). p.iface.number) path) (Some i)
 
--- where the source is wanted because its group is
+-- The interfaces on which the source is wanted because its group is.
 abbrev pub wanted_by_group : State → ℕ → ℕ → Set
 wanted_by_group s g src = (joins_star s g ∖ prunes s g src) ∪ (pim_include_star s g ∖ pim_exclude s g src)
 
@@ -30,7 +30,7 @@ is_tracked_upstream s g src i =
     (is_rpf_interface s src i && join_desired s g src)
     || (is_rpf_interface_rp s g i && join_desired_star s g && not (spt_bit s g src))
 
--- what a sight of (*,G) is in the state
+-- The sight of (*,G) in the state.
 pub record ShowsStar (s : State) (g : ℕ) (star : StarSight) : Type 0 where
   pub rp : option_map (λ (a : Addr). a.bits) star.rp ≡ rp_of s g
   pub rp_path : star.rp_path ≡ rp_route s g
@@ -48,7 +48,7 @@ pub record ShowsStar (s : State) (g : ℕ) (star : StarSight) : Type 0 where
   -- an Assert has preferences of 31 bits
   pub short : IsShort star.rp_path
 
--- what a sight of (S,G) is in the state
+-- The sight of (S,G) in the state.
 pub record ShowsSource (s : State) (g src : ℕ) (sight : SourceSight) : Type 0 where
   pub star : ShowsStar s g sight.star
   pub path : sight.path ≡ route s src
@@ -70,14 +70,14 @@ pub record ShowsSource (s : State) (g src : ℕ) (sight : SourceSight) : Type 0 
   pub is_spt_wanted : sight.is_spt_wanted ≡ is_spt_wanted s
   pub short : IsShort sight.path
 
--- the sight is that of its group in the state, or of its source and group
+-- The sight is that of its group in the state, or of its source and group.
 abbrev pub IsStarSight : State → StarSight → Type 0
 IsStarSight s star = ShowsStar s star.group.bits star
 
 abbrev pub IsSourceSight : State → SourceSight → Type 0
 IsSourceSight s sight = ShowsSource s sight.star.group.bits sight.source.bits sight
 
--- in each state of which the sight is true
+-- What holds in each state of which the sight is true.
 abbrev pub InStar : StarSight → (State → ℕ → Type 0) → Type 0
 InStar star P = (s : State) → IsStarSight s star → P s star.group.bits
 

@@ -12,7 +12,7 @@ use pim_ifset::IfSet;
 use pim_types::fact::AssertMetric;
 use pim_types::{Addr, IfaceId, Path};
 
-// Worse than every route, and not infinite.
+// The metric preference where there is no route: worse than every route, and not infinite.
 const UNREACHABLE_PREFERENCE: u32 = 0x7FFF_FFFF;
 
 const UNREACHABLE_METRIC: u32 = 0xFFFF_FFFE;

@@ -12,7 +12,7 @@ use crate::sight::{SourceSight, StarSight};
 use pim_ifset::IfSet;
 use pim_types::{Hop, TreeState};
 
-/// Whether both are the same neighbour, or none.
+/// Whether both are the same neighbour, or both none.
 pub fn is_same_hop(first: Option<Hop>, second: Option<Hop>) -> bool
     ensures { result ≡ same_hop first second }
 {
@@ -24,7 +24,7 @@ pub fn is_same_hop(first: Option<Hop>, second: Option<Hop>) -> bool
 }
 
 impl StarSight {
-    /// Whether no configured interface is in the set; the tunnel isn't asked for.
+    /// Whether no configured interface is in the set. The register tunnel doesn't count.
     pub(crate) fn is_empty(&self, set: IfSet) -> bool
         ensures { (s : State) (test : ℕ → Bool) → IsStarSight s self.now → Shows set test → result ≡ is_empty s test }
     {
@@ -39,7 +39,7 @@ impl StarSight {
         !self.is_empty(self.immediate_olist())
     }
 
-    /// RPTJoinDesired(G): it is JoinDesired(*,G), since there is no (*,*,RP).
+    /// RPTJoinDesired(G): it equals JoinDesired(*,G), since there is no (*,*,RP).
     pub fn rpt_join_desired(&self) -> bool
         ensures { InStar self.now (λ s g. result ≡ join_desired_star s g) }
     {
@@ -56,7 +56,7 @@ impl StarSight {
 }
 
 impl SourceSight {
-    /// Whether immediate_olist(S,G) is empty, the register tunnel asked for too.
+    /// Whether immediate_olist(S,G) is empty. The register tunnel counts as an interface in it.
     #[tactic(auto, unfolding(pim_model::specs::Desires::is_immediate_empty))]
     pub fn is_immediate_empty(&self) -> bool
         ensures { InSource self.now (λ s g src. result ≡ is_immediate_empty s g src) }
@@ -64,7 +64,7 @@ impl SourceSight {
         self.star.is_empty(self.immediate_olist()) && !self.tunnel
     }
 
-    /// Whether inherited_olist(S,G) is empty, the register tunnel asked for too.
+    /// Whether inherited_olist(S,G) is empty. The register tunnel counts as an interface in it.
     #[tactic(auto, unfolding(pim_model::specs::Desires::is_inherited_empty))]
     pub fn is_inherited_empty(&self) -> bool
         ensures { InSource self.now (λ s g src. result ≡ is_inherited_empty s g src) }

@@ -1,4 +1,4 @@
-//! What the forwarding of data asks of a source (RFC 7761, section 4.2).
+//! What the forwarding of data reads of a source (RFC 7761, section 4.2).
 ghost use Rattle.std.specs.Prelude.{◌≡◌, ◌<◌, ◌&&◌, is_some};
 ghost use Rattle.pim_macros.specs.Sights.{InSource, InStar};
 ghost use Rattle.pim_model.specs.Desires.{rpf_source, rpf_star};

@@ -1,4 +1,4 @@
-//! Sights, gathered of the state as it is.
+//! Sights, gathered from the present state.
 ghost use Rattle.std.specs.Option.{option_map_or};
 ghost use Rattle.std.specs.Prelude.{◌≡◌, ◌≤◌, ◌+◌, ℕ, false, option_map};
 ghost use Rattle.pim_ifset.specs.Members.{has};
@@ -27,7 +27,7 @@ use pim_types::fact::{AssertRole, RegisterState};
 use pim_types::{Addr, Hop, IfaceId, Key, Path, SourceGroup, SptSwitch};
 use pim_world::World;
 
-// To whom the router lost the assert with the key's group and source on the interface of a route.
+// The winner of the assert that the router lost on the interface of a route, of the key's group and source.
 fn winner_along(world: &World, path: Option<Path>, key: Key) -> Option<Hop>
     ensures { result ≡ winner_hop (option_map (λ (p : PathValue). p.iface.number) path)
         (λ i. row_at world.now.asserts (record key { iface = record { number = i } })) }
@@ -105,7 +105,7 @@ fn is_beaten(world: &World, iface: IfaceId, name: SourceGroup, path: Option<Path
     }
 }
 
-// Where the winner of the assert of (S,G) is better than spt_assert_metric(S,I), of the interfaces with an assert.
+// The interfaces with an assert on which the winner of the assert of (S,G) is better than spt_assert_metric(S,I).
 fn beaten(world: &World, asserted: IfSet, name: SourceGroup, path: Option<Path>) -> IfSet
     requires asserted { (i : ℕ) → has asserted i
         ≡ has_row world.now.asserts (source_key i name.group.bits name.source.bits) }
@@ -133,14 +133,14 @@ fn is_dr_of_path(world: &World, path: Option<Path>) -> bool
 }
 
 impl StarSight {
-    /// What the macros of (*,G) read now. The meter rises by the nodes that the look-ups visit, at least those that lead
-    /// to the RP, to its route and to the facts of the group.
+    /// What the macros of (*,G) read. The meter rises by the nodes that the look-ups visit, at least those that lead to
+    /// the RP, to its route and to the facts of the group.
     pub fn of(world: &World, group: Addr, meter: &mut Meter) -> StarSight
         ensures sight { IsStarSight world.now result }
         ensures group { result.group ≡ group }
         ensures at_least { raised meter.old (star_nodes world.now group) ≤ meter.new }
     {
-        // It tells that preferences have 31 bits.
+        // For the proof: preferences have 31 bits.
         world.recall_short_preferences();
         let rp = world.rp(group, meter);
         let rp_path = world.rp_route(group, rp, meter);
@@ -163,8 +163,8 @@ impl StarSight {
 }
 
 impl SourceSight {
-    /// What the macros of (S,G) and of (S,G,rpt) read now, beside those of (*,G). The meter rises by the nodes that the
-    /// look-ups visit, at least those that lead to the route and to the facts of the source.
+    /// What the macros of (S,G) and of (S,G,rpt) read, with what those of (*,G) read, which is given. The meter rises
+    /// by the nodes that the look-ups visit, at least those that lead to the route and to the facts of the source.
     #[tactic(auto, unfolding(pim_model::specs::Sets::spt_bit, pim_model::specs::Sets::is_kept_alive, pim_model::specs::Sets::tunnel))]
     pub fn of(world: &World, star: StarSight, source: Addr, meter: &mut Meter) -> SourceSight
         requires { IsStarSight world.now star }
@@ -173,7 +173,7 @@ impl SourceSight {
         ensures source { result.source ≡ source }
         ensures at_least { raised meter.old (source_nodes world.now star.group source) ≤ meter.new }
     {
-        // It tells that preferences have 31 bits.
+        // For the proof: preferences have 31 bits.
         world.recall_short_preferences();
         let name = SourceGroup {
             source,
@@ -210,7 +210,7 @@ impl SourceSight {
 }
 
 impl SourceSight {
-    /// What the macros of a source of a group read now, beside those of the group, which is gathered with it. The meter
+    /// What the macros of a source of a group read, with what those of the group read, gathered together. The meter
     /// rises by the nodes that the look-ups visit, at least those of both.
     pub fn with_star(world: &World, name: SourceGroup, meter: &mut Meter) -> SourceSight
         ensures sight { IsSourceSight world.now result }
@@ -223,7 +223,7 @@ impl SourceSight {
         SourceSight::of(world, star, name.source, meter)
     }
 
-    /// The same source's, of the state as it is now.
+    /// What the macros of the same source read, gathered again from the present state.
     pub fn gathered_again(&self, world: &World, meter: &mut Meter) -> SourceSight
         ensures sight { IsSourceSight world.now result }
         ensures group { result.star.group ≡ self.now.star.group }
@@ -235,8 +235,8 @@ impl SourceSight {
     }
 }
 
-/// The upstream neighbour of the key's Join timer: RPF'(*,G), or RPF'(S,G). The meter rises by the nodes that the look-ups
-/// visit, at least those of the sight of the group and, where the key has one, of the source.
+/// The upstream neighbour of the key's Join timer: RPF'(*,G), or RPF'(S,G). The meter rises by the nodes that the
+/// look-ups visit, at least those of the sight of the group and, where the key has one, of the source.
 #[tactic(auto, unfolding(pim_model::specs::Hellos::upstream_of))]
 pub fn upstream_of(world: &World, key: Key, meter: &mut Meter) -> Option<Hop>
     ensures upstream { result ≡ upstream_of world.now key }

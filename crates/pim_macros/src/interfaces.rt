@@ -9,7 +9,7 @@ ghost use Rattle.pim_world.specs.Shown.{Shows};
 use pim_ifset::{IfSet, Iter};
 use pim_types::{IfaceId, Path};
 
-/// The interfaces below 120 that pass the test, each asked once.
+/// The interfaces below 120 that pass the test; each is tested once.
 pub(crate) fn interfaces_where<F: Fn(IfaceId) -> bool>(test: F) -> IfSet
     requires { F.IsAlwaysCallable test }
     ensures { (p : ℕ → Bool)
@@ -45,7 +45,7 @@ pub fn is_over(path: Option<Path>, iface: IfaceId) -> bool
     path.is_some_and(|path| path.iface == iface)
 }
 
-/// The configured interfaces in the set, ascending, where so many are: at most 120.
+/// The configured interfaces in the set, in ascending order, where `count` are configured: at most 120.
 pub fn members(set: IfSet, count: u32) -> Iter
     requires { count ≤ 120 }
     ensures { (s : State) (test : ℕ → Bool) → count ≡ iface_count s → Shows set test

@@ -1,5 +1,5 @@
-//! What the macros of RFC 7761, section 4.1.5, read of a group and of a source, gathered once of the whole state as a
-//! sight; and the sets and macros, each a method of the sight.
+//! What the macros of RFC 7761, section 4.1.5, read of a group and of a source, gathered once from the whole state as a
+//! sight. The sets and macros are methods of the sight.
 #![tactic(auto)]
 
 pub mod asserts;

@@ -1,5 +1,5 @@
-//! Rows of the forwarding cache: all that is asked of a source of a group when its data comes (RFC 7761, section 4.2),
-//! evaluated of one sight.
+//! Rows of the forwarding cache: all that is read of a source of a group when its data comes (RFC 7761, section 4.2),
+//! evaluated from one sight.
 ghost use Rattle.std.specs.Option.{option_map_or};
 ghost use Rattle.std.specs.Prelude.{◌≡◌, ◌≤◌, ◌+◌, ◌&&◌, Some, false, nat_lt, not, true, ℕ};
 ghost use Rattle.pim_macros.specs.Rows.{ShowsAnswers, number_of};
@@ -24,8 +24,8 @@ use pim_types::{Addr, IfaceId, SourceGroup};
 use pim_world::World;
 use std::marker::Model;
 
-/// What is asked of a source of a group when its data comes. Each set says of the interfaces below 120 alone which are
-/// in it.
+/// What is read of a source of a group when its data comes. Each set says only which of the interfaces below 120 are in
+/// it.
 #[derive(Clone, Copy)]
 pub struct SourceAnswers {
     /// immediate_olist(S,G), with the register tunnel where it is in joins(S,G).
@@ -34,33 +34,34 @@ pub struct SourceAnswers {
     pub inherited: IfSet,
     /// inherited_olist(S,G,rpt).
     pub inherited_rpt: IfSet,
-    /// RPF_interface(S), and RPF_interface(RP(G)).
+    /// RPF_interface(S).
     pub rpf: Option<IfaceId>,
+    /// RPF_interface(RP(G)).
     pub rp_rpf: Option<IfaceId>,
     /// SPTbit(S,G).
     pub spt: bool,
     /// S is on a link of the router.
     pub is_connected: bool,
-    /// CouldRegister(S,G), but for KAT(S,G).
+    /// CouldRegister(S,G) without regard to KAT(S,G).
     pub may_register: bool,
     /// The register state of (S,G) isn't NoInfo.
     pub is_registered: bool,
     /// JoinDesired(S,G).
     pub is_desired: bool,
-    /// inherited_olist(S,G) isn't empty, the register tunnel asked for too.
+    /// inherited_olist(S,G) isn't empty; the register tunnel counts as an interface in it.
     pub flows: bool,
     /// Update_SPTbit(S,G,iif) sets SPTbit for a packet on RPF_interface(S).
     pub reaches_spt: bool,
     /// A packet on the shared tree sets KAT(S,G).
     pub watches: bool,
-    /// Where a packet that is off its tree makes the router the winner of an assert.
+    /// The interfaces on which a packet that is off its tree makes the router the winner of an assert.
     pub contested: IfSet,
-    /// The place of the source's own row when this was evaluated, if it had one. It is no answer, but a hint for `keep_alive` of
-    /// `World`.
+    /// The place of the source's own row when this was evaluated, if it had one. It is no answer, but a hint for
+    /// `keep_alive` of `World`.
     pub place: Option<usize>,
 }
 
-/// How many rows were evaluated: `row` alone raises it, and nobody sets it back. It stays at `u64::MAX`.
+/// How many rows were evaluated. Only `row` raises it, and nothing sets it back. The count doesn't pass `u64::MAX`.
 #[derive(Drop)]
 pub struct Evaluations {
     count: u64,
@@ -75,21 +76,21 @@ impl Model for Evaluations {
 }
 
 impl Evaluations {
-    /// None yet.
+    /// No row evaluated yet.
     pub fn none() -> Self
         ensures { result ≡ 0 }
     {
         Evaluations { count: 0 }
     }
 
-    /// The rows evaluated.
+    /// How many rows were evaluated.
     pub fn count(&self) -> u64
         ensures { result ≡ self.now }
     {
         self.count
     }
 
-    // One row more.
+    // Counts one more row.
     #[tactic(auto, unfolding(pim_trie::specs::Meter::raised))]
     fn raise(&mut self)
         ensures { self.new ≡ raised self.old 1 }
@@ -117,14 +118,14 @@ impl Model for Made {
 }
 
 impl Made {
-    /// The group that it was evaluated of.
+    /// The group that the answers are of.
     pub fn group(&self) -> Addr
         ensures { result ≡ self.now.group }
     {
         self.group
     }
 
-    /// The source that it was evaluated of.
+    /// The source that the answers are of.
     pub fn source(&self) -> Addr
         ensures { result ≡ self.now.source }
     {
@@ -148,7 +149,7 @@ impl StarSight {
         self.rp_path.map(|path| path.iface)
     }
 
-    // Where the assert of (*,G) isn't in NoInfo.
+    // The interfaces on which the assert of (*,G) isn't in NoInfo.
     fn asserted(&self) -> IfSet
         ensures { InStar self.now (λ s g. Shows result (λ i. has_row s.asserts (star_key i g))) }
     {
@@ -165,7 +166,7 @@ impl SourceSight {
         self.path.map(|path| path.iface)
     }
 
-    /// CouldRegister(S,G), but for KAT(S,G).
+    /// CouldRegister(S,G) without regard to KAT(S,G).
     #[tactic(auto, unfolding(pim_model::specs::Cache::may_register))]
     pub fn may_register(&self) -> bool
         ensures { InSource self.now (λ s g src. result ≡ may_register s g src) }
@@ -181,7 +182,7 @@ impl SourceSight {
         self.has_local_receivers() && self.is_spt_wanted
     }
 
-    /// Whether data on RPF_interface(S), where that is below 120, sets SPTbit(S,G).
+    /// Whether data on RPF_interface(S), if that is below 120, sets SPTbit(S,G).
     #[tactic(auto, unfolding(pim_model::specs::Unicast::rpf_interface))]
     pub fn reaches_spt(&self) -> bool
         ensures { InSource self.now (λ s g src. (i : ℕ) → nat_lt i 120 ≡ true → rpf_interface s src ≡ Some i
@@ -193,14 +194,15 @@ impl SourceSight {
         }
     }
 
-    // Where the assert of (S,G) isn't in NoInfo.
+    // The interfaces on which the assert of (S,G) isn't in NoInfo.
     fn asserted(&self) -> IfSet
         ensures { InSource self.now (λ s g src. Shows result (λ i. has_row s.asserts (source_key i g src))) }
     {
         self.lost.union(self.won)
     }
 
-    // With SPTbit(S,G): where (S,G) is forwarded, CouldAssert(S,G) holds, and its assert is in NoInfo.
+    // With SPTbit(S,G) set: the interfaces on which (S,G) is forwarded, CouldAssert(S,G) holds, and the assert of (S,G)
+    // is in NoInfo.
     fn contested_by_source(&self) -> IfSet
         ensures { InSource self.now (λ s g src. Shows result (λ i.
             inherited_olist s g src i && could_assert s g src i && not (has_row s.asserts (source_key i g src)))) }
@@ -210,7 +212,8 @@ impl SourceSight {
             .minus(self.asserted())
     }
 
-    // Without SPTbit(S,G): where (S,G,rpt) is forwarded, CouldAssert(*,G) holds, and its assert is in NoInfo.
+    // Without SPTbit(S,G): the interfaces on which (S,G,rpt) is forwarded, CouldAssert(*,G) holds, and the assert of
+    // (*,G) is in NoInfo.
     fn contested_by_group(&self) -> IfSet
         ensures { InSource self.now (λ s g src. Shows result (λ i.
             inherited_olist_rpt s g src i && could_assert_star s g i && not (has_row s.asserts (star_key i g)))) }
@@ -220,8 +223,9 @@ impl SourceSight {
             .minus(self.star.asserted())
     }
 
-    /// Where a packet that is off its tree makes the router the winner of an assert: it forwards there, CouldAssert
-    /// holds, and the assert of (S,G), or without SPTbit of (*,G), is in NoInfo (RFC 7761, section 4.6).
+    /// The interfaces on which a packet that is off its tree makes the router the winner of an assert: it forwards
+    /// there, CouldAssert holds, and the assert of (S,G), or without SPTbit of (*,G), is in NoInfo (RFC 7761, section
+    /// 4.6).
     #[tactic(auto, unfolding(pim_model::specs::Cache::is_contested))]
     pub fn contested(&self) -> IfSet
         ensures { InSource self.now (λ s g src. Shows result (is_contested s g src)) }
@@ -233,7 +237,7 @@ impl SourceSight {
         }
     }
 
-    // All answers, with whether the register state of (S,G) isn't NoInfo.
+    // All answers of a source, with `is_registered` as given: the register state of (S,G) isn't NoInfo.
     #[tactic(auto, unfolding(pim_model::specs::Cache::answers))]
     fn answers(&self, is_registered: bool, place: Option<usize>) -> SourceAnswers
         ensures { (s : State) → IsSourceSight s self.now
@@ -268,8 +272,8 @@ fn is_registered(world: &World, name: SourceGroup) -> bool
     world.store().register(name.key()).is_some()
 }
 
-/// A row of the forwarding cache: the answers of a source of a group now, evaluated of one sight. The meter rises by the
-/// nodes that its look-ups visit. The number of rows evaluated rises by one.
+/// A row of the forwarding cache: the answers of a source of a group in the present state, evaluated from one sight.
+/// The meter rises by the nodes that its look-ups visit. The number of evaluated rows rises by one.
 pub fn row(world: &World, name: SourceGroup, meter: &mut Meter, evaluated: &mut Evaluations) -> Made
     ensures group { result.group ≡ name.group }
     ensures source { result.source ≡ name.source }

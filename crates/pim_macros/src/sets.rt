@@ -26,7 +26,7 @@ impl StarSight {
         self.receivers
     }
 
-    /// I_am_DR: of each interface.
+    /// The interfaces on which I_am_DR holds.
     pub fn i_am_dr(&self) -> IfSet
         ensures { InStar self.now (λ s g. Shows result (is_dr s)) }
     {
@@ -41,7 +41,8 @@ impl StarSight {
         self.lost.minus(interface_of(self.rp_path))
     }
 
-    /// Where the router serves receivers of the group.
+    /// The interfaces on which the router serves receivers of the group: it is the DR and lost no assert of (*,G), or
+    /// it won that assert.
     #[tactic(auto, unfolding(pim_model::specs::Sets::serves_star))]
     pub fn serves(&self) -> IfSet
         ensures { InStar self.now (λ s g. Shows result (serves_star s g)) }
@@ -69,7 +70,7 @@ impl StarSight {
 }
 
 impl SourceSight {
-    /// joins(S,G), with the register tunnel where it is there.
+    /// joins(S,G), with the register tunnel if it is joined.
     pub fn joins(&self) -> IfSet
         ensures interfaces { InSource self.now (λ s g src. Shows result (joins s g src)) }
         ensures tunnel { InSource self.now (λ s g src. result.tunnel ≡ tunnel s g src) }
@@ -123,7 +124,8 @@ impl SourceSight {
         }
     }
 
-    /// Where the router serves receivers of the source alone.
+    /// The interfaces on which the router serves receivers of the source: it is the DR and lost no assert of (S,G), or
+    /// it won that assert.
     #[tactic(auto, unfolding(pim_model::specs::Sets::serves))]
     pub fn serves(&self) -> IfSet
         ensures { InSource self.now (λ s g src. Shows result (serves s g src)) }
@@ -161,7 +163,7 @@ impl SourceSight {
         olist
     }
 
-    // Where the source is wanted because its group is.
+    // The interfaces on which the source is wanted because its group is.
     fn wanted_by_group(&self) -> IfSet
         ensures { InSource self.now (λ s g src. Shows result (wanted_by_group s g src)) }
     {
@@ -194,7 +196,7 @@ impl SourceSight {
         olist
     }
 
-    /// The interfaces on which (S,G) is forwarded, but for receivers of that source alone.
+    /// The interfaces on which (S,G) is forwarded, without those that only receivers of this source want.
     #[tactic(auto, unfolding(pim_model::specs::AssertMacros::forwarding_set))]
     pub fn forwarding_set(&self) -> IfSet
         ensures { InSource self.now (λ s g src. Shows result (forwarding_set s g src)) }

@@ -4,7 +4,7 @@ ghost use Rattle.std.specs.Prelude.{◌≡◌};
 use pim_ifset::IfSet;
 use pim_types::{Addr, Hop, Path, SourceGroup};
 
-/// What the macros of (*,G) read. Each set says of the interfaces below 120 alone which are in it.
+/// What the macros of (*,G) read. Each set says only which of the interfaces below 120 are in it.
 #[derive(Clone, Copy)]
 pub struct StarSight {
     pub group: Addr,
@@ -14,12 +14,13 @@ pub struct StarSight {
     pub rp_path: Option<Path>,
     /// NBR of the next hop to RP(G).
     pub next_hop: Option<Hop>,
-    /// To whom the router lost the assert of (*,G) on RPF_interface(RP(G)).
+    /// The winner of the assert of (*,G) that the router lost on RPF_interface(RP(G)).
     pub winner: Option<Hop>,
     /// joins(*,G).
     pub joined: IfSet,
-    /// Where the router lost the assert of (*,G), and where it won it.
+    /// The interfaces on which the router lost the assert of (*,G).
     pub lost: IfSet,
+    /// The interfaces on which the router won the assert of (*,G).
     pub won: IfSet,
     /// local_receiver_include(*,G): where the group is in EXCLUDE mode.
     pub receivers: IfSet,
@@ -40,20 +41,23 @@ pub struct SourceSight {
     pub path: Option<Path>,
     /// NBR of the next hop to S.
     pub next_hop: Option<Hop>,
-    /// To whom the router lost the assert of (S,G) on RPF_interface(S), and on RPF_interface(RP(G)).
+    /// The winner of the assert of (S,G) that the router lost on RPF_interface(S).
     pub winner: Option<Hop>,
+    /// The winner of the assert of (S,G) that the router lost on RPF_interface(RP(G)).
     pub tree_winner: Option<Hop>,
-    /// joins(S,G), but for the register tunnel.
+    /// joins(S,G) without the register tunnel.
     pub joined: IfSet,
     /// prunes(S,G,rpt).
     pub pruned: IfSet,
-    /// Where the router lost the assert of (S,G), and where it won it.
+    /// The interfaces on which the router lost the assert of (S,G).
     pub lost: IfSet,
+    /// The interfaces on which the router won the assert of (S,G).
     pub won: IfSet,
-    /// Where the winner of the assert of (S,G) is better than spt_assert_metric(S,I).
+    /// The interfaces on which the winner of the assert of (S,G) is better than spt_assert_metric(S,I).
     pub beaten: IfSet,
-    /// local_receiver_include(S,G) and local_receiver_exclude(S,G).
+    /// local_receiver_include(S,G).
     pub included: IfSet,
+    /// local_receiver_exclude(S,G).
     pub excluded: IfSet,
     /// SPTbit(S,G).
     pub spt: bool,
@@ -70,7 +74,7 @@ pub struct SourceSight {
 }
 
 impl SourceSight {
-    /// Whose it is.
+    /// The source and group that the sight is of.
     pub fn name(&self) -> SourceGroup
         ensures { result ≡ record { source = self.now.source; group = self.now.star.group } }
     {

@@ -1,4 +1,4 @@
-//! What a sight becomes where the machines change what it shows: the source's own row, or its register.
+//! What a sight becomes where the machines change what it shows: the source's own row, or its register state.
 ghost use Rattle.std.specs.Prelude.{◌≡◌};
 ghost use Rattle.pim_macros.specs.Sights.{InSource, IsSourceSight};
 ghost use Rattle.pim_model.specs.Asserts.{with_spt_bit};
@@ -11,7 +11,7 @@ ghost use Rattle.pim_types.specs.declared.fact.RegisterRow.{RegisterRow};
 use crate::sight::SourceSight;
 
 impl SourceSight {
-    /// The same, with KAT(S,G) set.
+    /// The sight with KAT(S,G) set, and all else unchanged.
     pub fn kept_alive(self) -> SourceSight
         ensures sight { InSource self (λ s g src. IsSourceSight (with_keepalive s g src) result) }
         ensures star { result.star ≡ self.star }
@@ -23,7 +23,7 @@ impl SourceSight {
         }
     }
 
-    /// The same, with SPTbit(S,G) set.
+    /// The sight with SPTbit(S,G) set, and all else unchanged.
     pub fn with_spt_bit(self) -> SourceSight
         ensures sight { InSource self (λ s g src. IsSourceSight (with_spt_bit s g src) result) }
         ensures star { result.star ≡ self.star }
@@ -32,7 +32,7 @@ impl SourceSight {
         SourceSight { spt: true, ..self }
     }
 
-    /// The same, with the register tunnel in joins(S,G) or not.
+    /// The sight with the register tunnel in joins(S,G) or not, and all else unchanged.
     pub fn with_tunnel(self, is_joined: bool) -> SourceSight
         ensures sight { (s : State) (t : Table RegisterRow) → IsSourceSight s self
             → let new : State = record s { registers = t } in

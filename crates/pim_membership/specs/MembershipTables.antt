@@ -13,16 +13,16 @@ use Rattle.pim_model.specs.Tables.{Table, keys_in}
 use Rattle.pim_model.specs.Timers.{Ending, endings, next_query, other_querier_end}
 
 pub record MembershipTables : Type 0 where
-  -- by interface
+  -- under keys of interfaces
   pub queriers : Table QuerierRow
-  -- by interface, group and source
+  -- under keys of interface, group and source
   pub group_records : Table GroupRecordRow
   pub source_records : Table SourceRecordRow
   pub group_repeats : Table GroupRepeatRow
   pub source_repeats : Table SourceRepeatRow
   pub sendings : Table SendingRow
 
--- each robustness variable has 3 bits
+-- Each robustness variable has 3 bits.
 abbrev pub AreRobust : Table QuerierRow → Type 0
 AreRobust rows = AllByRecursion (λ (e : Key × QuerierRow). (e.1).robustness ≤ 7) rows
 
@@ -40,7 +40,7 @@ no_membership = record {
 unfoldable pub counted_records : MembershipTables → ℕ
 counted_records m = length m.group_records + length m.source_records
 
--- what ends in the rows
+-- The timers that run in the rows.
 unfoldable pub membership_endings : MembershipTables → List Ending
 membership_endings m =
     endings TimerKind.GroupRecord (λ (r : GroupRecordRow). r.end) m.group_records

@@ -10,15 +10,15 @@ use Rattle.pim_model.specs.Tables.{Table, keys_in}
 abbrev pub has_number : {U : Type 0} → ℕ → List (Addr × U) → Bool
 has_number n entries = list_any (λ e. (e.0).bits == n) entries
 
--- the key is of this source
+-- The key is of the source.
 abbrev pub is_of_source : ℕ → Key → Bool
 is_of_source n k = is_some k.source && (source_in k == n)
 
--- a key that names no source
+-- The key names no source.
 abbrev pub NamesNone : Key → Type 0
 NamesNone k = is_none k.source ≡ true
 
--- a key of no (S,G,rpt)
+-- The key isn't of (S,G,rpt).
 abbrev pub IsPlain : Key → Type 0
 IsPlain k = k.rpt ≡ false
 
@@ -29,7 +29,7 @@ module _ {R : Type 0} where
   abbrev pub ArePlain : Table R → Type 0
   ArePlain t = AllByRecursion (λ (e : Key × R). IsPlain e.0) t
 
-  -- the group's sources among the facts were put into a set of addresses
+  -- The group's sources among the facts were added to a set of addresses.
   abbrev pub Gathers : {U : Type 0} → (before after : List (Addr × U)) → ℕ → Table R → Type 0
   Gathers before after g t =
       (n : ℕ) → has_number n after ≡ (has_number n before || list_any (names_source g n) (keys_in t))

@@ -15,11 +15,11 @@ may_lack (Unrecorded.At key) k = same_key key k
 may_lack (Unrecorded.Of key) k = is_at_group (iface_in key) (group_in key) k
 may_lack Unrecorded.Anywhere k = true
 
--- all others have one
+-- All other sendings are of sources with a record.
 abbrev pub HaveRecords : Unrecorded → Table SourceRecordRow → Table SendingRow → Type 0
 HaveRecords u records sendings =
     AllByRecursion (λ (e : Key × SendingRow). (may_lack u e.0 || has_row records e.0) ≡ true) sendings
 
--- of a source of the group on the interface, and without a record
+-- The key is of a source of the group on the interface that has no record.
 abbrev pub is_unrecorded : ℕ → ℕ → Table SourceRecordRow → Key → Bool
 is_unrecorded i g records k = is_at_group i g k && not (has_row records k)

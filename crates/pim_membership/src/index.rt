@@ -1,4 +1,4 @@
-//! What is listed of all groups and sources.
+//! Which interfaces are listed for all groups and sources.
 ghost use Rattle.std.specs.Prelude.{◌≡◌, ◌<◌, ◌≤◌, ◌+◌, [], ℕ, None, Some, OnErr, OnOk, filter, option_map};
 ghost use Rattle.pim_model.specs.Tables.{keys_in, row_at};
 ghost use Rattle.pim_source_trie.specs.Entries.{address_bits, entry_key, nodes_visited, raised};
@@ -12,7 +12,7 @@ use pim_types::IfaceId;
 use std::alloc::{AllocError, Global};
 use std::marker::Model;
 
-// The interfaces listed of each group, and of each source, that has any.
+// The interfaces listed for each group, and for each source, that has any.
 #[derive(Drop)]
 pub(crate) struct Index {
     entries: SourceTrie<Listed>,
@@ -28,7 +28,7 @@ impl Model for Index {
 }
 
 impl Index {
-    // No interface is listed; it takes no memory.
+    // An index that lists no interface. Takes no memory.
     pub(crate) fn new(alloc: Global) -> Index
         ensures { result ≡ [] }
     {
@@ -37,7 +37,7 @@ impl Index {
         }
     }
 
-    // What is listed of (*,G), where `source` is `None`, or of a source of the group.
+    // The interfaces listed for (*,G), where `source` is `None`, or for a source of the group.
     pub(crate) fn get(&self, group: Addr, source: Option<Addr>, meter: &mut Meter) -> Listed
         ensures sides { (x : Side) (i : ℕ) → in_side x result i ≡ listed self.now x i group.bits (option_map address_bits source) }
         ensures visited { meter.new ≡ raised meter.old (nodes_visited (keys_in self.now) group source) }
@@ -48,7 +48,7 @@ impl Index {
         }
     }
 
-    // What is listed of the group and of its sources.
+    // The interfaces listed for the group and for its sources.
     pub(crate) fn walk(&self, group: Addr, meter: &mut Meter) -> Entries<'_, Listed>
         ensures entries { result ≡ filter (λ e. is_of_group group.bits e.0) self.now }
         ensures visited { meter.new ≡ raised meter.old (nodes_visited (keys_in self.now) group None) }
@@ -56,8 +56,8 @@ impl Index {
         self.entries.walk(group, meter)
     }
 
-    // Lists these of a group, or of a source. Where there are some and nothing was listed it may fail for want of
-    // memory, and then nothing has changed.
+    // Lists the given interfaces for a group, or for a source. If there are some and none was listed before, it may
+    // fail for want of memory, and then nothing has changed.
     fn write(&mut self, group: Addr, source: Option<Addr>, listed: Listed) -> Result<(), AllocError>
         ensures ok { OnOk result (ListsAt self.old self.new (entry_key group source) listed) }
         ensures err { OnErr result (self.new ≡ self.old) }
@@ -70,8 +70,8 @@ impl Index {
         self.entries.put(group, source, listed)
     }
 
-    // Lists the interface, where the record's timer runs or doesn't. An error is want of memory, and then nothing
-    // has changed.
+    // Lists the interface, with or without a running record timer. The error is want of memory, and then nothing has
+    // changed.
     pub(crate) fn list(
         &mut self,
         iface: IfaceId,
@@ -89,7 +89,7 @@ impl Index {
         self.write(group, source, listed.with(iface, is_running))
     }
 
-    // Takes the interface out; it takes no memory.
+    // Removes the interface from the list. Takes no memory.
     pub(crate) fn unlist(
         &mut self,
         iface: IfaceId,
@@ -101,7 +101,7 @@ impl Index {
         ensures visited { meter.new ≡ raised meter.old (nodes_visited (keys_in self.old) group source) }
     {
         let listed = self.get(group, source, meter);
-        // Where it fails nothing was listed.
+        // Where this fails, nothing was listed.
         let _ = self.write(group, source, listed.without(iface));
     }
 }

@@ -1,4 +1,4 @@
-//! What is listed of a group, or of a source.
+//! Which interfaces are listed for a group, or for a source.
 ghost use Rattle.std.specs.Prelude.{◌≡◌, ◌<◌, ◌==◌, ℕ, IsTrue, None, Some, cond, false};
 ghost use Rattle.pim_membership.specs.Listing.{Side, in_side, told_of};
 
@@ -8,14 +8,14 @@ use pim_types::IfaceId;
 // The interfaces with a record of a group, or of a source. No set has the register tunnel.
 #[derive(Clone, Copy)]
 pub(crate) struct Listed {
-    // All of them.
+    // All interfaces with a record.
     pub(crate) there: IfSet,
-    // Those where the record's timer runs.
+    // The interfaces where the record's timer runs.
     pub(crate) running: IfSet,
 }
 
 impl Listed {
-    // No interface.
+    // A list of no interface.
     pub(crate) fn none() -> Listed
         ensures { (x : Side) (i : ℕ) → in_side x result i ≡ false }
     {
@@ -32,7 +32,7 @@ impl Listed {
         self.there.is_empty() && self.running.is_empty()
     }
 
-    // With the interface, where the record's timer runs or doesn't.
+    // The list with the interface, where the record's timer runs or doesn't.
     pub(crate) fn with(self, iface: IfaceId, is_running: bool) -> Listed
         requires { iface.number < 120 }
         ensures { (x : Side) (i : ℕ)
@@ -46,7 +46,7 @@ impl Listed {
         changed
     }
 
-    // Without the interface.
+    // The list without the interface.
     pub(crate) fn without(self, iface: IfaceId) -> Listed
         ensures { (x : Side) (i : ℕ)
             → in_side x result i ≡ cond (i == iface.number) (told_of x None) (in_side x self i) }

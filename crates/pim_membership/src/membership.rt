@@ -38,9 +38,9 @@ use std::collections::btree_map::Iter;
 use std::marker::Model;
 
 /// The IGMP membership facts of the router (RFC 3376, sections 4 and 6). After want of memory in a call that changes
-/// them nothing is promised of what they are, but that all that is told of them is true. What changes records raises
-/// the meter by the nodes that lead to what is listed of a group or a source, wherever a record comes or goes there, or
-/// its timer begins or ends to run.
+/// them, nothing is promised of their values, but all that is stated of every membership still holds. A call that
+/// changes records raises the meter by the nodes that lead to the interfaces listed for a group or a source, wherever a
+/// record is added or removed there, or its timer starts or stops.
 pub struct Membership {
     queriers: Timed<QuerierRow>,
     group_records: Records<GroupRecordRow>,
@@ -48,7 +48,7 @@ pub struct Membership {
     group_repeats: Repeats<GroupRepeatRow>,
     source_repeats: Repeats<SourceRepeatRow>,
     sendings: Sendings,
-    // Which of them may be of a source without a record.
+    // Which of the sendings may be of a source without a record.
     unrecorded: Unrecorded,
 }
 
@@ -88,7 +88,7 @@ impl Model for Membership {
 }
 
 impl Membership {
-    /// No facts. It takes no memory.
+    /// Membership without facts. Takes no memory.
     pub fn new(alloc: Global) -> Membership
         ensures { result ≡ no_membership }
     {
@@ -107,7 +107,7 @@ impl Membership {
     pub fn querier(&self, iface: IfaceId) -> Option<QuerierRow>
         ensures row { result ≡ row_at self.now.queriers (iface_key iface.number) }
 
-        // Of every querier: the robustness variable has 3 bits.
+        // This holds of every querier: its robustness variable has 3 bits.
         ensures robust { IfSome result (λ row. row.robustness ≤ 7) }
     {
         self.queriers.get(Key::iface(iface))
@@ -120,7 +120,7 @@ impl Membership {
         self.queriers.get(key)
     }
 
-    /// Gives the interface this querier; its robustness variable has 3 bits. An error is want of memory.
+    /// Sets the querier of the interface; its robustness variable has 3 bits. The error is want of memory.
     pub fn put_querier(&mut self, iface: IfaceId, row: QuerierRow) -> Result<(), AllocError>
         requires { row.robustness ≤ 7 }
         ensures { OnOk result (self.new
@@ -129,8 +129,8 @@ impl Membership {
         self.queriers.put(Key::iface(iface), row)
     }
 
-    /// Changes the querier of the interface, if it has one, to this one; its robustness variable has 3 bits. An error
-    /// is want of memory.
+    /// Replaces the querier of the interface, if it has one; the new robustness variable has 3 bits. The error is want
+    /// of memory.
     pub fn change_querier(&mut self, iface: IfaceId, row: QuerierRow) -> Result<(), AllocError>
         requires { row.robustness ≤ 7 }
         ensures { OnOk result (self.new ≡ record self.old {
@@ -162,7 +162,7 @@ impl Membership {
         self.group_records.iter()
     }
 
-    /// Gives the group this record on the interface, or takes its record away. An error is want of memory.
+    /// Sets the record of the group on the interface, or removes it. The error is want of memory.
     pub fn set_group_record(
         &mut self,
         iface: IfaceId,
@@ -181,7 +181,7 @@ impl Membership {
         self.group_records.set(iface, group, None, row, meter)
     }
 
-    /// Takes the group's record on the interface away.
+    /// Removes the group's record on the interface.
     pub fn remove_group_record(&mut self, iface: IfaceId, group: Addr, meter: &mut Meter)
         ensures removed { self.new ≡ record self.old {
           group_records = drop_at self.old.group_records (star_key iface.number group.bits);
@@ -191,7 +191,7 @@ impl Membership {
         self.group_records.remove(iface, group, None, meter);
     }
 
-    /// Changes the group's record on the interface, if there is one, to this one. An error is want of memory.
+    /// Replaces the group's record on the interface, if there is one. The error is want of memory.
     pub fn change_group_record(
         &mut self,
         iface: IfaceId,
@@ -248,17 +248,16 @@ impl Membership {
         ensures rows { result ≡ filter (λ e. is_at_group iface.number group.bits e.0) self.now.source_records }
         ensures near { 0 < length result → iface.number < 120 }
 
-        // Each is under the key of a source, so the sources rise too.
+        // Each record is under the key of a source, so the sources rise too.
         ensures rising { IsStrictlySortedBy nat_cmp (map (λ e. source_in e.0) result) }
     {
-        // They tell how the keys are made, and that they rise.
+        // For the proof: how the keys are made, and that they rise.
         self.source_records.recall_kind();
         self.source_records.recall_rising();
         self.source_records.rows_at(iface, group)
     }
 
-    /// Gives the source of the group this record on the interface, or takes its record away. An error is want of
-    /// memory.
+    /// Sets the record of the source of the group on the interface, or removes it. The error is want of memory.
     pub fn set_source_record(
         &mut self,
         iface: IfaceId,
@@ -277,7 +276,7 @@ impl Membership {
     {
         let key = Key::source(iface, group, source);
         let unrecorded = self.unrecorded.with_key(key, row.is_none());
-        // Where memory is wanting any record may be gone.
+        // After want of memory any record may be gone.
         self.unrecorded = Unrecorded::Anywhere;
         self.source_records
             .set(iface, group, Some(source), row, meter)?;
@@ -285,7 +284,7 @@ impl Membership {
         Ok(())
     }
 
-    /// Takes the record of the source of the group on the interface away.
+    /// Removes the record of the source of the group on the interface.
     pub fn remove_source_record(
         &mut self,
         iface: IfaceId,
@@ -304,7 +303,7 @@ impl Membership {
         self.unrecorded = self.unrecorded.with_key(key, true);
     }
 
-    /// Changes the source record under the key, if there is one, to this one. An error is want of memory.
+    /// Replaces the source record under the key, if there is one. The error is want of memory.
     pub fn change_source_record(
         &mut self,
         key: Key,
@@ -319,29 +318,28 @@ impl Membership {
             (keys_in self.old.source_records) key.group key.source meter.old meter.new) }
     {
         let unrecorded = self.unrecorded;
-        // Where memory is wanting any record may be gone.
+        // After want of memory any record may be gone.
         self.unrecorded = Unrecorded::Anywhere;
         self.source_records.change(key, row, meter)?;
         self.unrecorded = unrecorded;
         Ok(())
     }
 
-    /// Does nothing when it runs: it tells the prover that source records are under keys that rise.
+    /// For the proof: source records are under keys that rise. Does nothing when it runs.
     pub fn recall_rising_source_records(&self)
         ensures { IsStrictlySortedBy key_cmp (keys_in self.now.source_records) }
     {
         self.source_records.recall_rising();
     }
 
-    /// Does nothing when it runs: it tells the prover that source records are each under the key of a source of a
-    /// group.
+    /// For the proof: source records are each under the key of a source of a group. Does nothing when it runs.
     pub fn recall_keyed_source_records(&self)
         ensures { AllByRecursion (λ e. is_under_source e ≡ true) self.now.source_records }
     {
         self.source_records.recall_kind();
     }
 
-    /// Takes the source records of the group on the interface away.
+    /// Removes the source records of the group on the interface.
     pub fn drop_source_records(&mut self, iface: IfaceId, group: Addr, meter: &mut Meter)
         ensures dropped { self.new ≡ record self.old {
           source_records = drop_where (is_at_group iface.number group.bits) self.old.source_records;
@@ -353,7 +351,7 @@ impl Membership {
         self.unrecorded = self.unrecorded.with_group(iface, group);
     }
 
-    /// The repeats of a group's query that are still to leave, under the key.
+    /// The repeats of a group-specific query that are still to leave, under the key.
     pub fn group_repeat_at(&self, key: Key) -> Option<GroupRepeatRow>
         ensures { result ≡ row_at self.now.group_repeats key }
     {
@@ -367,7 +365,8 @@ impl Membership {
         self.group_repeats.iter()
     }
 
-    /// Repeats the group's query on the interface so, or no more. An error is want of memory.
+    /// Sets when and how often the group-specific query is repeated on the interface, or stops its repeats. The error
+    /// is want of memory.
     pub fn set_group_repeat(
         &mut self,
         iface: IfaceId,
@@ -381,7 +380,7 @@ impl Membership {
         self.group_repeats.set(iface, group, row)
     }
 
-    /// Repeats the group's query on the interface no more.
+    /// Stops the repeats of the group-specific query on the interface.
     pub fn remove_group_repeat(&mut self, iface: IfaceId, group: Addr)
         ensures { self.new ≡ record self.old {
           group_repeats = drop_at self.old.group_repeats (star_key iface.number group.bits);
@@ -390,8 +389,8 @@ impl Membership {
         self.group_repeats.remove(iface, group);
     }
 
-    /// Changes how the group's query on the interface is repeated, if it is, to this, or ends it. An error is want of
-    /// memory.
+    /// Changes when and how often the group-specific query is repeated on the interface, if it is, or stops its
+    /// repeats. The error is want of memory.
     pub fn change_group_repeat(
         &mut self,
         iface: IfaceId,
@@ -405,14 +404,14 @@ impl Membership {
         self.group_repeats.change(iface, group, row)
     }
 
-    /// The repeats of queries of sources, by rising key.
+    /// The repeats of group-and-source-specific queries, by rising key.
     pub fn source_repeat_rows(&self) -> Iter<'_, Key, SourceRepeatRow>
         ensures { result ≡ self.now.source_repeats }
     {
         self.source_repeats.iter()
     }
 
-    /// Queries the group's sources on the interface again then, or no more. An error is want of memory.
+    /// Sets when the group's sources on the interface are queried again, or stops that. The error is want of memory.
     pub fn set_source_repeat(
         &mut self,
         iface: IfaceId,
@@ -426,7 +425,7 @@ impl Membership {
         self.source_repeats.set(iface, group, row)
     }
 
-    /// Queries the group's sources on the interface no more.
+    /// Stops the repeated queries of the group's sources on the interface.
     pub fn remove_source_repeat(&mut self, iface: IfaceId, group: Addr)
         ensures { self.new ≡ record self.old {
           source_repeats = drop_at self.old.source_repeats (star_key iface.number group.bits);
@@ -435,8 +434,8 @@ impl Membership {
         self.source_repeats.remove(iface, group);
     }
 
-    /// Changes when the group's sources on the interface are queried again, if they are, to this, or ends it. An error
-    /// is want of memory.
+    /// Changes when the group's sources on the interface are queried again, if they are, or stops that. The error is
+    /// want of memory.
     pub fn change_source_repeat(
         &mut self,
         iface: IfaceId,
@@ -450,7 +449,7 @@ impl Membership {
         self.source_repeats.change(iface, group, row)
     }
 
-    /// The sendings, by rising key.
+    /// The sendings, by rising key: how often each source is still to be named in queries.
     pub fn sending_rows(&self) -> Iter<'_, Key, SendingRow>
         ensures { result ≡ self.now.sendings }
     {
@@ -464,7 +463,8 @@ impl Membership {
         self.sendings.rows_at(iface, group)
     }
 
-    /// Sends the source of the group so often on the interface, or no more. An error is want of memory.
+    /// Sets how often the source of the group is still to be named in queries on the interface, or stops that. The
+    /// error is want of memory.
     pub fn set_sending(
         &mut self,
         iface: IfaceId,
@@ -479,23 +479,23 @@ impl Membership {
         let key = Key::source(iface, group, source);
         let is_lacking = would_lack(&self.source_records, key, row);
         let unrecorded = self.unrecorded.with_key(key, is_lacking);
-        // Where memory is wanting any sending may be left.
+        // After want of memory any sending may be left.
         self.unrecorded = Unrecorded::Anywhere;
         self.sendings.set(iface, group, source, row)?;
         self.unrecorded = unrecorded;
         Ok(())
     }
 
-    /// Changes the sending under the key, if there is one, to this, or ends it.
+    /// Changes the sending under the key, if there is one, or removes it.
     pub fn change_sending(&mut self, key: Key, row: Option<SendingRow>)
         ensures { self.new ≡ record self.old { sendings = change_row (λ _. row) key self.old.sendings } }
     {
         self.sendings.change(key, row);
     }
 
-    /// Takes away the sendings of those of the group's sources on the interface that have no record. Where since the
-    /// last call records went one at most, and none with the others of their group, no sending but that one's is looked
-    /// at. An error is want of memory.
+    /// Removes the sendings of those of the group's sources on the interface that have no record. If since the last
+    /// such call at most one record was removed, and none together with the others of its group, only the sending of
+    /// that source is looked at. The error is want of memory.
     pub fn drop_unrecorded(
         &mut self,
         alloc: Global,
@@ -518,14 +518,14 @@ impl Membership {
         Ok(())
     }
 
-    /// Does nothing when it runs: it tells the prover that sendings are under keys that rise.
+    /// For the proof: sendings are under keys that rise. Does nothing when it runs.
     pub fn recall_rising_sendings(&self)
         ensures { IsStrictlySortedBy key_cmp (keys_in self.now.sendings) }
     {
         self.sendings.recall_rising();
     }
 
-    /// Takes all facts of the interface away.
+    /// Removes all facts of the interface.
     pub fn drop_on(&mut self, iface: IfaceId, meter: &mut Meter)
         ensures dropped { self.new ≡ record {
           queriers = drop_where (is_on iface.number) self.old.queriers;
@@ -543,13 +543,14 @@ impl Membership {
         self.queriers.drop_on(iface);
         self.group_records.drop_on(iface, meter);
         self.source_records.drop_on(iface, meter);
-        // Not by a call of `drop_repeats_on`: the sendings are of sources without a record until they have gone too.
+        // This isn't a call of `drop_repeats_on`: the sendings are of sources without a record until they are removed
+        // too.
         self.group_repeats.drop_on(iface);
         self.source_repeats.drop_on(iface);
         self.sendings.drop_on(iface);
     }
 
-    /// Takes the repeats and the sendings of the interface away, where another router queries.
+    /// Removes the repeats and the sendings of the interface, where another router is the querier.
     pub fn drop_repeats_on(&mut self, iface: IfaceId)
         ensures { self.new ≡ record self.old {
           group_repeats = drop_where (is_on iface.number) self.old.group_repeats;
@@ -562,8 +563,8 @@ impl Membership {
         self.sendings.drop_on(iface);
     }
 
-    /// The sources of the group with any fact, ascending. Of another group one sending on each interface is looked at.
-    /// An error is want of memory.
+    /// The sources of the group with any fact, ascending. Of other groups one sending on each interface is read. The
+    /// error is want of memory.
     pub fn sources_of(
         &self,
         alloc: Global,
@@ -575,18 +576,18 @@ impl Membership {
         ensures at_least { OnOk result (raised meter.old
             (nodes_to_sources (keys_in self.now.source_records) group) ≤ meter.new) }
     {
-        // It tells that no other fact is of a source.
+        // For the proof: no other fact is of a source.
         self.recall_keyed();
         let mut found = BTreeMap::new(alloc);
         self.source_records
             .gather_sources(group, &mut found, meter)?;
         self.sendings.gather_sources(group, &mut found)?;
-        // It tells that the sources rise.
+        // For the proof: the sources rise.
         let _ = found.len();
         Ok(found)
     }
 
-    // Does nothing when it runs: it tells the prover that no fact but source records and sendings is of a source.
+    // For the proof: no fact but source records and sendings is of a source. Does nothing when it runs.
     fn recall_keyed(&self)
         ensures records { NameNone self.now.group_records }
         ensures group_repeats { NameNone self.now.group_repeats }
@@ -605,7 +606,7 @@ impl Membership {
             (nodes_visited (keys_in self.now.source_records) name.group (Some name.source)) ≤ meter.new }
         ensures at_most { meter.new ≤ meter.old + 66 }
     {
-        // It tells that no other fact is of a source.
+        // For the proof: no other fact is of a source.
         self.recall_keyed();
         self.source_records.has_source(name, meter) || self.sendings.has_source(name)
     }
@@ -619,8 +620,8 @@ impl Membership {
         self.group_records.len() as u128 + self.source_records.len() as u128
     }
 
-    /// Which fact ends first, and when, in ms: the least end by its moment, its kind and its key. `None` where no
-    /// fact ever ends.
+    /// Which timer expires first, and when, in ms: the least by timestamp, then by kind, then by key. `None` where no
+    /// timer runs.
     pub fn next(&self) -> Option<(u64, Timer)>
         ensures { result ≡ option_map due_of (first_by is_ending_first (membership_endings self.now)) }
     {
@@ -632,9 +633,9 @@ impl Membership {
         )
     }
 
-    /// The interfaces on which the group has receivers of all its sources, but those excluded: it is in EXCLUDE
-    /// there. The meter rises by the nodes that are visited: 33 at most, and at least those that lead to the group
-    /// among those with a record.
+    /// The interfaces on which the group is in EXCLUDE mode: it has receivers of all its sources but the excluded ones.
+    /// The meter rises by the nodes that are visited: 33 at most, and at least those that lead to the group among those
+    /// with a record.
     pub fn receivers_star(&self, group: Addr, meter: &mut Meter) -> IfSet
         ensures interfaces { (i : ℕ) → has result i ≡ is_exclude_among self.now.group_records group.bits i }
         ensures tunnel { result.tunnel ≡ false }
@@ -647,7 +648,7 @@ impl Membership {
             .without_tunnel()
     }
 
-    /// The interfaces with receivers of this source of the group alone: the group is in INCLUDE there, and lists the
+    /// The interfaces with receivers of this source of the group: the group is in INCLUDE mode there, and lists the
     /// source. The meter rises by the nodes that are visited, 99 at most.
     pub fn receivers_include(&self, name: SourceGroup, meter: &mut Meter) -> IfSet
         ensures interfaces { (i : ℕ) → has result i ≡ local_receiver_include_among self.now.group_records
@@ -665,8 +666,8 @@ impl Membership {
         include.intersection(sources.there).without_tunnel()
     }
 
-    /// The interfaces with receivers of the group's sources that exclude this one: the group is in EXCLUDE there, and
-    /// the source is excluded. The meter rises by the nodes that are visited, 99 at most.
+    /// The interfaces with receivers of the group that exclude this source: the group is in EXCLUDE mode there, and the
+    /// source is excluded. The meter rises by the nodes that are visited, 99 at most.
     pub fn receivers_exclude(&self, name: SourceGroup, meter: &mut Meter) -> IfSet
         ensures interfaces { (i : ℕ) → has result i ≡ local_receiver_exclude_among self.now.group_records
             self.now.source_records name.group.bits name.source.bits i }

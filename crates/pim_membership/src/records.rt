@@ -40,7 +40,7 @@ pub(crate) trait Record: Ends {
     fn is_running(self) -> bool
         ensures { result ≡ runs self };
 
-    // A row has no other timer.
+    // The rows have no other timer.
     ghost one_end: { Self.kinds.1 ≡ None };
 }
 
@@ -95,7 +95,7 @@ impl<R: Record> Model for Records<R> {
 }
 
 impl<R: Record> Records<R> {
-    // No records; it takes no memory.
+    // A table without records. Takes no memory.
     pub(crate) fn new(alloc: Global) -> Records<R>
         ensures { result ≡ [] }
     {
@@ -105,21 +105,21 @@ impl<R: Record> Records<R> {
         }
     }
 
-    // How many there are.
+    // How many records there are.
     pub(crate) fn len(&self) -> usize
         ensures { result ≡ length self.now }
     {
         self.rows.len()
     }
 
-    // Does nothing when it runs: it tells the prover that they are under keys that rise.
+    // For the proof: the records are under keys that rise. Does nothing when it runs.
     pub(crate) fn recall_rising(&self)
         ensures { IsStrictlySortedBy key_cmp (keys_in self.now) }
     {
         self.rows.recall_rising();
     }
 
-    // Does nothing when it runs: it tells the prover that each is under a key of its kind, and of no (S,G,rpt).
+    // For the proof: each record is under a key of its kind, and of no (S,G,rpt). Does nothing when it runs.
     pub(crate) fn recall_kind(&self)
         ensures fit { AllByRecursion (λ e. is_record_key e.0 ≡ true) self.now }
         ensures kind { AllByRecursion (λ e. is_some (e.0).source ≡ R.of_sources) self.now }
@@ -135,7 +135,7 @@ impl<R: Record> Records<R> {
         self.rows.rows().iter()
     }
 
-    // Those of a group on an interface, by rising key; where there is one, the interface is below 120.
+    // The records of a group on an interface, by rising key; if there is one, the interface is below 120.
     pub(crate) fn rows_at(&self, iface: IfaceId, group: Addr) -> RowsOf<'_, R>
         ensures rows { result ≡ filter (λ e. is_at_group iface.number group.bits e.0) self.now }
         ensures near { 0 < length result → iface.number < 120 }
@@ -157,7 +157,7 @@ impl<R: Record> Records<R> {
         self.rows.contains(key)
     }
 
-    // Which record's timer ends first, and when, in ms.
+    // Which record's timer expires first, and when, in ms.
     pub(crate) fn next(&self) -> Option<(u64, Timer)>
         ensures { result ≡ option_map due_of (first_by is_ending_first (row_endings R.kinds R.ends self.now)) }
     {
@@ -183,15 +183,14 @@ impl<R: Record> Records<R> {
             (nodes_visited (keys_in self.now) name.group (Some name.source)) ≤ meter.new }
         ensures at_most { meter.new ≤ meter.old + 66 }
     {
-        // These tell that the keys rise, and of which form they are.
+        // For the proof: the keys rise, and what form they have.
         self.recall_rising();
         self.recall_kind();
         let listed = self.listed(name.group, Some(name.source), meter);
         !listed.there.without_tunnel().is_empty()
     }
 
-    // Puts the group's sources that have a record, on any interface, into a set of sources. An error is want of
-    // memory.
+    // Adds the group's sources that have a record, on any interface, to a set of sources. The error is want of memory.
     pub(crate) fn gather_sources(
         &self,
         group: Addr,
@@ -201,7 +200,7 @@ impl<R: Record> Records<R> {
         ensures gathered { OnOk result (Gathers found.old.entries found.new.entries group.bits self.now) }
         ensures at_least { OnOk result (raised meter.old (nodes_to_sources (keys_in self.now) group) ≤ meter.new) }
     {
-        // These tell that the keys rise, and of which form they are.
+        // For the proof: the keys rise, and what form they have.
         self.recall_rising();
         self.recall_kind();
         for (key, _) in self.index.walk(group, meter) {
@@ -215,7 +214,8 @@ impl<R: Record> Records<R> {
         Ok(())
     }
 
-    // Puts this record there, or takes away the one that is there. An error is want of memory.
+    // Sets the record of a group, where `source` is `None`, or of its source, on the interface, or removes it. The
+    // error is want of memory.
     #[tactic(auto, unfolding(pim_model::specs::Tables::set_row))]
     pub(crate) fn set(
         &mut self,
@@ -241,7 +241,7 @@ impl<R: Record> Records<R> {
         }
     }
 
-    // Puts the record under the key, in place of one that is there. An error is want of memory.
+    // Puts the record under the key, replacing one that is there. The error is want of memory.
     fn put(&mut self, key: Key, row: R, meter: &mut Meter) -> Result<(), AllocError>
         requires fit { IsTrue (is_record_key key) }
         requires kind { is_some key.source ≡ R.of_sources }
@@ -249,7 +249,7 @@ impl<R: Record> Records<R> {
         ensures visited { OnOk result (IsLookedUpWhere (is_listed_anew R.runs row (row_at self.old key))
             (keys_in self.old) key.group key.source meter.old meter.new) }
     {
-        // What is put under a key that is there stands in its place.
+        // For the proof: what is put under a key with a record takes the place of that record.
         self.recall_rising();
         if self.update(key, row, meter)? {
             return Ok(());
@@ -257,7 +257,7 @@ impl<R: Record> Records<R> {
         self.add(key, row, meter)
     }
 
-    // Changes the record under the key, where there is one, to this one; whether there is one. It is looked up once. An
+    // Replaces the record under the key, if there is one. The result is whether there is one. It is looked up once. The
     // error is want of memory.
     fn update(&mut self, key: Key, row: R, meter: &mut Meter) -> Result<bool, AllocError>
         ensures changed { OnOk result (self.new ≡ change_row (λ _. Some row) key self.old) }
@@ -265,7 +265,7 @@ impl<R: Record> Records<R> {
         ensures visited { OnOk result (IsLookedUpWhere (changes_listed R.runs row (row_at self.old key))
             (keys_in self.old) key.group key.source meter.old meter.new) }
     {
-        // A key stands once.
+        // For the proof: a key is listed once.
         self.rows.recall_rising();
         let Some(before) = self.rows.update(None, key, To { row })? else {
             return Ok(false);
@@ -274,7 +274,7 @@ impl<R: Record> Records<R> {
             return Ok(true);
         }
         if let Err(refused) = list_record(&mut self.index, key, row, meter) {
-            // The record is listed as the one before.
+            // The index lists the record as it was before.
             drop_listed(&mut self.rows, &mut self.index, key, meter);
             return Err(refused);
         }
@@ -297,7 +297,7 @@ impl<R: Record> Records<R> {
         Ok(())
     }
 
-    // Takes the record away.
+    // Removes the record.
     pub(crate) fn remove(
         &mut self,
         iface: IfaceId,
@@ -312,7 +312,7 @@ impl<R: Record> Records<R> {
         self.index.unlist(iface, group, source, meter);
     }
 
-    // Changes the record under the key, where there is one, to this one. An error is want of memory.
+    // Replaces the record under the key, if there is one. The error is want of memory.
     pub(crate) fn change(&mut self, key: Key, row: R, meter: &mut Meter) -> Result<(), AllocError>
         ensures to { OnOk result (self.new ≡ change_row (λ _. Some row) key self.old) }
         ensures by { OnOk result ((change : R → Option R)
@@ -321,7 +321,7 @@ impl<R: Record> Records<R> {
         ensures visited { OnOk result (IsLookedUpWhere (changes_listed R.runs row (row_at self.old key))
             (keys_in self.old) key.group key.source meter.old meter.new) }
     {
-        // A key stands once.
+        // For the proof: a key is listed once.
         self.recall_rising();
         self.update(key, row, meter)?;
         Ok(())
@@ -331,7 +331,7 @@ impl<R: Record> Records<R> {
     fn first_of_group(&self, iface: IfaceId, group: Addr) -> Option<Key>
         ensures first { result ≡ first_key (filter (λ e. is_at_group iface.number group.bits e.0) self.now) }
 
-        // The key stands once, so without its record the others are left.
+        // The key is listed once, so without its record the others are left.
         ensures others { IfSome result (λ key. keys_in (filter (λ e. is_at_group iface.number group.bits e.0) self.now)
             ≡ key ∷ keys_in (filter (λ e. is_at_group iface.number group.bits e.0) (drop_at self.now key))) }
         ensures kind { IfSome result (λ key. IsTrue (is_record_key key)) }
@@ -345,7 +345,7 @@ impl<R: Record> Records<R> {
     fn first_on(&self, iface: IfaceId) -> Option<Key>
         ensures first { result ≡ first_key (rows_on iface.number self.now) }
 
-        // The key stands once, so without its record the others are left.
+        // The key is listed once, so without its record the others are left.
         ensures others { IfSome result (λ key. keys_in (rows_on iface.number self.now)
             ≡ key ∷ keys_in (rows_on iface.number (drop_at self.now key))) }
         ensures kind { IfSome result (λ key. IsTrue (is_record_key key)) }
@@ -355,7 +355,7 @@ impl<R: Record> Records<R> {
         Some(*key)
     }
 
-    // Takes the group's records on the interface away.
+    // Removes the group's records on the interface.
     pub(crate) fn drop_group(&mut self, iface: IfaceId, group: Addr, meter: &mut Meter)
         ensures dropped { self.new ≡ drop_where (is_at_group iface.number group.bits) self.old }
         ensures at_least { raised meter.old (nodes_to_each self.old
@@ -366,7 +366,7 @@ impl<R: Record> Records<R> {
         }
     }
 
-    // Takes the interface's records away.
+    // Removes the interface's records.
     pub(crate) fn drop_on(&mut self, iface: IfaceId, meter: &mut Meter)
         ensures dropped { self.new ≡ drop_where (is_on iface.number) self.old }
         ensures at_least { raised meter.old
@@ -390,14 +390,15 @@ fn record_key(iface: IfaceId, group: Addr, source: Option<Addr>) -> Key
     }
 }
 
-// Whether the row is listed otherwise than the one before.
+// Whether the row is listed differently from the one before.
 fn is_listed_anew<R: Record>(before: R, row: R) -> bool
     ensures { result ≡ is_listed_anew R.runs row (Some before) }
 {
     before.is_running() != row.is_running()
 }
 
-// Lists the interface of the key as the row under it has it. An error is want of memory, and then nothing has changed.
+// Lists the interface of the key as the row under the key has it. The error is want of memory, and then nothing has
+// changed.
 fn list_record<R: Record>(
     index: &mut Index,
     key: Key,
@@ -412,7 +413,7 @@ fn list_record<R: Record>(
     index.list(key.iface, key.group, key.source, row.is_running(), meter)
 }
 
-// Takes the record under the key away, and its interface out of what is listed.
+// Removes the record under the key, and its interface from the index.
 fn drop_listed<R: Record>(rows: &mut Timed<R>, index: &mut Index, key: Key, meter: &mut Meter)
     requires { IsTrue (is_record_key key) }
     ensures removed { rows.new ≡ drop_at rows.old key }

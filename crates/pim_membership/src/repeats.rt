@@ -38,7 +38,7 @@ impl<R: Ends> Model for Repeats<R> {
 }
 
 impl<R: Ends> Repeats<R> {
-    // No repeats; it takes no memory.
+    // A table without repeats. Takes no memory.
     pub(crate) fn new(alloc: Global) -> Repeats<R>
         ensures { result ≡ [] }
     {
@@ -47,7 +47,7 @@ impl<R: Ends> Repeats<R> {
         }
     }
 
-    // Does nothing when it runs: it tells the prover that they name no source.
+    // For the proof: the repeats name no source. Does nothing when it runs.
     pub(crate) fn recall_no_source(&self)
         ensures { NameNone self.now }
     {
@@ -75,7 +75,7 @@ impl<R: Ends> Repeats<R> {
         self.rows.next()
     }
 
-    // Repeats so for the group on the interface, or no more. An error is want of memory.
+    // Sets the repeat for the group on the interface, or removes it. The error is want of memory.
     pub(crate) fn set(
         &mut self,
         iface: IfaceId,
@@ -87,15 +87,14 @@ impl<R: Ends> Repeats<R> {
         self.rows.set(Key::star(iface, group), row)
     }
 
-    // Repeats no more for the group on the interface.
+    // Removes the repeat for the group on the interface.
     pub(crate) fn remove(&mut self, iface: IfaceId, group: Addr)
         ensures { self.new ≡ drop_at self.old (star_key iface.number group.bits) }
     {
         self.rows.remove(Key::star(iface, group));
     }
 
-    // Changes the repeat for the group on the interface, if there is one, to this, or ends it. An error is want of
-    // memory.
+    // Changes the repeat for the group on the interface, if there is one, or removes it. The error is want of memory.
     pub(crate) fn change(
         &mut self,
         iface: IfaceId,
@@ -112,7 +111,7 @@ impl<R: Ends> Repeats<R> {
         self.rows.change(key, row)
     }
 
-    // Takes the repeats on the interface away.
+    // Removes the repeats on the interface.
     pub(crate) fn drop_on(&mut self, iface: IfaceId)
         ensures { self.new ≡ drop_where (is_on iface.number) self.old }
     {

@@ -1,4 +1,4 @@
-//! How often sources are still to be named in queries.
+//! How often sources are still to be named in group-and-source-specific queries.
 ghost use Rattle.std.specs.List.{list_any};
 ghost use Rattle.std.specs.List.Sorted.{IsStrictlySortedBy};
 ghost use Rattle.std.specs.Prelude.{◌≡◌, [], OnOk, filter};
@@ -42,7 +42,7 @@ impl Model for Sendings {
 }
 
 impl Sendings {
-    // No sendings; it takes no memory.
+    // A table without sendings. Takes no memory.
     pub(crate) fn new(alloc: Global) -> Sendings
         ensures { result ≡ [] }
     {
@@ -51,7 +51,7 @@ impl Sendings {
         }
     }
 
-    // Does nothing when it runs: it tells the prover that they are under keys that rise.
+    // For the proof: the sendings are under keys that rise. Does nothing when it runs.
     pub(crate) fn recall_rising(&self)
         ensures { IsStrictlySortedBy key_cmp (keys_in self.now) }
     {
@@ -65,7 +65,7 @@ impl Sendings {
         self.rows.iter()
     }
 
-    // Those of a group on an interface, by rising key.
+    // The sendings of a group on an interface, by rising key.
     pub(crate) fn rows_at(&self, iface: IfaceId, group: Addr) -> RowsOf<'_, SendingRow>
         ensures { result ≡ filter (λ e. is_at_group iface.number group.bits e.0) self.now }
     {
@@ -76,7 +76,7 @@ impl Sendings {
     pub(crate) fn has_source(&self, name: SourceGroup) -> bool
         ensures { result ≡ list_any (names_source name.group.bits name.source.bits) (keys_in self.now) }
     {
-        // It tells that the keys rise.
+        // For the proof: the keys rise.
         self.recall_rising();
         for number in 0..above_interfaces(self.rows.iter()) {
             let iface = IfaceId {
@@ -92,8 +92,7 @@ impl Sendings {
         false
     }
 
-    // Puts the group's sources that have a sending, on any interface, into a set of sources. An error is want of
-    // memory.
+    // Adds the group's sources that have a sending, on any interface, to a set of sources. The error is want of memory.
     pub(crate) fn gather_sources(
         &self,
         group: Addr,
@@ -101,7 +100,7 @@ impl Sendings {
     ) -> Result<(), AllocError>
         ensures { OnOk result (Gathers found.old.entries found.new.entries group.bits self.now) }
     {
-        // It tells that the keys rise.
+        // For the proof: the keys rise.
         self.recall_rising();
         for number in 0..above_interfaces(self.rows.iter()) {
             let iface = IfaceId {
@@ -112,7 +111,8 @@ impl Sendings {
         Ok(())
     }
 
-    // Sends the source of the group so often on the interface, or no more. An error is want of memory.
+    // Sets how often the source of the group is still to be named on the interface, or removes that. The error is want
+    // of memory.
     pub(crate) fn set(
         &mut self,
         iface: IfaceId,
@@ -125,7 +125,7 @@ impl Sendings {
         self.rows.set(Key::source(iface, group, source), row)
     }
 
-    // Changes the sending under the key, if there is one, to this, or ends it.
+    // Changes the sending under the key, if there is one, or removes it.
     pub(crate) fn change(&mut self, key: Key, row: Option<SendingRow>)
         ensures { self.new ≡ change_row (λ _. row) key self.old }
     {
@@ -135,14 +135,14 @@ impl Sendings {
         }
     }
 
-    // Takes the sending under the key away.
+    // Removes the sending under the key.
     pub(crate) fn remove(&mut self, key: Key)
         ensures { self.new ≡ drop_at self.old key }
     {
         self.rows.remove(key);
     }
 
-    // Takes the sendings on the interface away.
+    // Removes the sendings on the interface.
     pub(crate) fn drop_on(&mut self, iface: IfaceId)
         ensures { self.new ≡ drop_where (is_on iface.number) self.old }
     {

@@ -13,7 +13,7 @@ use std::alloc::{AllocError, Global};
 use std::collections::BTreeMap;
 use std::collections::btree_map::Iter;
 
-// Puts the sources of these facts into a set of sources.
+// Adds the sources of the facts to a set of sources.
 pub(crate) fn gather<R>(
     facts: RowsOf<'_, R>,
     found: &mut BTreeMap<Addr, (), Global>,
@@ -30,7 +30,7 @@ pub(crate) fn gather<R>(
     Ok(())
 }
 
-// The number above the interface.
+// The number after that of the interface.
 fn next_number(iface: IfaceId) -> u64
     ensures next { result ≡ iface.number + 1 }
     ensures within { result ≤ 2 ^ 32 }
@@ -38,7 +38,7 @@ fn next_number(iface: IfaceId) -> u64
     u64::from(iface.number) + 1
 }
 
-// The number above all interfaces of the facts, whose keys rise.
+// The number after those of all interfaces of the facts, whose keys rise.
 pub(crate) fn above_interfaces<R>(mut facts: Iter<'_, Key, R>) -> u64
     requires { IsStrictlySortedBy key_cmp (keys_in facts) }
     ensures above { AllByRecursion (λ e. iface_in e.0 < result) facts.entry }

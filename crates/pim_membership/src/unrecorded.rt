@@ -1,4 +1,4 @@
-//! Which sendings may be of a source without a record, and how they go.
+//! Which sendings may be of a source without a record, and how they are removed.
 ghost use Rattle.std.specs.Prelude.{◌≡◌, ◌&&◌, ◌||◌, IfOk, OnErr, OnOk, filter, fold, is_some, map, not, true};
 ghost use Rattle.pim_model.specs.Records.{is_at_group};
 ghost use Rattle.pim_model.specs.Tables.{drop_at, drop_where, has_row};
@@ -14,7 +14,7 @@ use pim_types::{IfaceId, Key};
 use std::alloc::{AllocError, Global};
 
 // Which sendings may be of a source without a record: none, the one under this key, those of the sources of this key's
-// group on its interface, or any. All others have one.
+// group on its interface, or any. All other sendings are of sources with a record.
 #[derive(Clone, Copy)]
 pub(crate) enum Unrecorded {
     Nowhere,
@@ -24,7 +24,7 @@ pub(crate) enum Unrecorded {
 }
 
 impl Unrecorded {
-    // With the one under the key, where that lacks a record.
+    // Adds the sending under the key, if it lacks a record.
     pub(crate) fn with_key(self, key: Key, is_lacking: bool) -> Unrecorded
         ensures { (k : KeyValue) → (may_lack self k || (is_lacking && same_key key k)) ≡ true
             → may_lack result k ≡ true }
@@ -38,7 +38,7 @@ impl Unrecorded {
         }
     }
 
-    // With those of the sources of a group on an interface.
+    // Adds the sendings of the sources of a group on an interface.
     pub(crate) fn with_group(self, iface: IfaceId, group: Addr) -> Unrecorded
         ensures { (k : KeyValue) → (may_lack self k || is_at_group iface.number group.bits k) ≡ true
             → may_lack result k ≡ true }
@@ -49,7 +49,7 @@ impl Unrecorded {
         }
     }
 
-    // Where none of the group's on the interface is left.
+    // What is left once no sending of the group's on the interface lacks a record.
     pub(crate) fn without(self, iface: IfaceId, group: Addr) -> Unrecorded
         ensures { (k : KeyValue) → (may_lack self k && not (is_at_group iface.number group.bits k)) ≡ true
             → may_lack result k ≡ true }
@@ -61,8 +61,8 @@ impl Unrecorded {
         }
     }
 
-    // Takes away the sendings of those of the group's sources on the interface that have no record. Where one alone may
-    // have none, no other is looked at. An error is want of memory, and then nothing has changed.
+    // Removes the sendings of those of the group's sources on the interface that have no record. If only one may lack a
+    // record, no other is looked at. The error is want of memory, and then nothing has changed.
     pub(crate) fn drop_of(
         self,
         records: &Records<SourceRecordRow>,
@@ -110,7 +110,7 @@ fn is_at(key: Key, iface: IfaceId, group: Addr) -> bool
     key.iface == iface && key.group == group
 }
 
-// Takes the sending under the key away, where its source has no record.
+// Removes the sending under the key, if its source has no record.
 fn drop_one(records: &Records<SourceRecordRow>, sendings: &mut Sendings, key: Key)
     ensures { sendings.new
         ≡ drop_where (λ k. same_key key k && not (has_row records.now k)) sendings.old }
@@ -140,7 +140,7 @@ fn unrecorded_at(
     Ok(keys)
 }
 
-// Takes the sendings under these keys away.
+// Removes the sendings under the given keys.
 fn drop_each(sendings: &mut Sendings, keys: &[Key])
     ensures { sendings.new ≡ fold drop_at sendings.old keys.now }
 {

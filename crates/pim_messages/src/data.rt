@@ -36,7 +36,7 @@ pub fn register_of_copy(
 ) -> Result<Emission, AllocError>
     ensures { IfOk result (λ e. e ≡ pim_to from.bits to.bits (register_text (copy_text packet.now))) }
 {
-    // It tells that the packet is short.
+    // For the proof: the packet is short.
     let _ = packet.total_length();
     let mut copy = room.buffer();
     write_copy(packet, &mut copy)?;

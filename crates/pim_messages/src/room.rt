@@ -11,8 +11,8 @@ const MOST_BUFFERS: usize = 128;
 // The most lists that are kept.
 const MOST_LISTS: usize = 4;
 
-/// The memory of packets that are done with, and of lists of them, into which others are written. No clause speaks of what
-/// it holds: a packet is the same wherever its bytes lie.
+/// The memory of packets that are done with, and of lists of them, into which others are written. No clause speaks of
+/// what it holds: a packet is the same wherever its bytes lie.
 pub struct Room {
     pub alloc: Global,
     buffers: Vec<Vec<u8>>,
@@ -89,7 +89,7 @@ impl Room {
     /// Takes a buffer back, unless there are many.
     pub fn give(&mut self, buffer: Vec<u8>) {
         if self.buffers.len() < MOST_BUFFERS {
-            // Where the list of buffers can't grow the buffer goes.
+            // Where the list of buffers can't grow, the buffer is freed.
             let _ = self.buffers.push(buffer);
         }
     }

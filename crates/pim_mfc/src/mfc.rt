@@ -65,8 +65,8 @@ impl Mfc {
         self.changes = 0;
     }
 
-    /// Puts what was evaluated of a source in the place of its row, or as its first. It fails only where there was no row
-    /// and there is no memory, and then nothing has changed.
+    /// Puts what was evaluated of a source in the place of its row, or as its first. It fails only where there was no
+    /// row and there is no memory, and then nothing has changed.
     #[tactic(auto, unfolding(crate::specs::Kept::with_source_row, pim_trie::specs::Meter::raised))]
     pub fn put(&mut self, made: Made) -> Result<(), AllocError>
         ensures ok { OnOk result (self.new ≡ with_source_row self.old made) }
@@ -109,9 +109,9 @@ impl Mfc {
             .copied()
     }
 
-    /// How a packet of the source that came on the interface goes, by its row alone; `None` where there is none, or where
-    /// more comes of the packet than that KAT(S,G) is set and copies leave on links. The meter rises by the nodes visited,
-    /// 66 at most, and by one at least where there is a row.
+    /// How a packet of the source that came on the interface goes, by its row alone; `None` where there is none, or
+    /// where more comes of the packet than that KAT(S,G) is set and copies leave on links. The meter rises by the nodes
+    /// visited, 66 at most, and by one at least where there is a row.
     #[tactic(auto, unfolding(crate::specs::Kept::decided))]
     pub fn forward(
         &self,

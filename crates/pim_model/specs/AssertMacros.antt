@@ -45,7 +45,7 @@ is_tracking_desired_star s g i =
     || (local_receiver_star s g i && (is_dr s i || is_winner (assert_star s g i)))
     || (is_rpf_interface_rp s g i && join_desired_star s g)
 
--- the infinity of a metric; that of a preference is 0x7FFFFFFF
+-- the infinite metric; the infinite preference is 0x7FFFFFFF
 abbrev pub infinite_metric : ℕ
 infinite_metric = 0xFFFF_FFFF
 
@@ -53,7 +53,7 @@ infinite_metric = 0xFFFF_FFFF
 abbrev pub infinite : AssertMetric
 infinite = metric_of true unreachable_preference infinite_metric 0
 
--- an AssertCancel (4.6.4), from whichever address
+-- the metric is infinite, as that of an AssertCancel (4.6.4), whatever its address
 unfoldable pub is_infinite : AssertMetric → Bool
 is_infinite m = m.rpt && (m.preference == unreachable_preference) && (m.metric == infinite_metric)
 

@@ -1,6 +1,6 @@
 -- The assert machines of (S,G) and (*,G) (RFC 7761, sections 4.6.1 and 4.6.2), by the actions A1 to A6 of their tables.
--- A row is "I am Assert Winner" (W) or "I am Assert Loser" (L), no row NoInfo (NI). What must go after a change is in
--- `Clearing`.
+-- A row is "I am Assert Winner" (W) or "I am Assert Loser" (L), no row NoInfo (NI). Which asserts must go after a
+-- change is in `Clearing`.
 use Rattle.std.specs.Prelude.{Bool, List, None, Option, Some, [], false, if◌then◌else◌, is_some, not, option_and_then, true, ℕ, ◌&&◌, ◌++◌, ◌+◌, ◌==◌, ◌||◌, ◌∷◌}
 use Rattle.pim_types.specs.{Keys.{group_in, iface_in, is_star, source_in, source_key, star_key}, declared.fact.{AssertMetric.AssertMetric, AssertRole.AssertRole, AssertRow.AssertRow, Key.Key, SourceRow.SourceRow}}
 use Rattle.pim_wire.specs.declared.assert.Assert.{Assert as AssertMessage}
@@ -20,13 +20,13 @@ could_assert_at s k =
     if is_star k then could_assert_star s (group_in k) (iface_in k)
     else could_assert s (group_in k) (source_in k) (iface_in k)
 
--- AssertTrackingDesired of a machine
+-- AssertTrackingDesired of a machine, by the key of its row: (*,G) or (S,G) on I
 abbrev pub is_tracking_at : State → Key → Bool
 is_tracking_at s k =
     if is_star k then is_tracking_desired_star s (group_in k) (iface_in k)
     else is_tracking_desired s (group_in k) (source_in k) (iface_in k)
 
--- my_assert_metric of a machine
+-- my_assert_metric of a machine, by the key of its row: (*,G) or (S,G) on I
 abbrev pub my_metric_at : State → Key → AssertMetric
 my_metric_at s k =
     if is_star k then my_metric_star s (group_in k) (iface_in k)
@@ -41,11 +41,11 @@ asserted_metric s k =
 unfoldable pub assert_message : Key → AssertMetric → Message
 assert_message k metric = Message.Assert (iface_in k) (group_in k) (source_in k) metric
 
--- Send Assert
+-- Send Assert: the Assert of a machine, with the metric that it sends
 abbrev pub assert_sent : State → Key → Message
 assert_sent s k = assert_message k (asserted_metric s k)
 
--- Send AssertCancel (4.6.4)
+-- Send AssertCancel (4.6.4): the Assert of a machine, with the infinite metric
 abbrev pub assert_cancel : Key → Message
 assert_cancel k = assert_message k infinite
 
@@ -68,26 +68,27 @@ unfoldable pub loses : State → Key → AssertMetric → State
 loses s k theirs =
     record s { asserts = put s.asserts k (record { role = AssertRole.Loser; winner = theirs; end = s.present + loser_time }) }
 
--- A5, and with an AssertCancel A4: assert information goes
+-- A5, and the state of A4, which also sends an AssertCancel: assert information is deleted
 unfoldable pub assert_forgotten : State → Key → State
 assert_forgotten s k = record s { asserts = drop_at s.asserts k }
 
--- with SPTbit(S,G) set
+-- the state with SPTbit(S,G) set
 unfoldable pub with_spt_bit : State → ℕ → ℕ → State
 with_spt_bit s g src =
     let keepalive : Option ℕ =
     option_and_then (λ (r : SourceRow). r.keepalive) (row_at s.sources (source_key 0 g src)) in
     record s { sources = put s.sources (source_key 0 g src) (record { keepalive = keepalive; spt = true }) }
 
--- a source fact stays while its keepalive timer runs
+-- a source row without SPTbit: it stays while its keepalive timer runs
 abbrev pub without_spt : SourceRow → Option SourceRow
 without_spt r = if is_some r.keepalive then Some (record r { spt = false }) else None
 
--- with SPTbit(S,G) cleared
+-- the state with SPTbit(S,G) cleared
 unfoldable pub without_spt_bit : State → Key → State
 without_spt_bit s k = record s { sources = change_row without_spt k s.sources }
 
--- A6 of (S,G), A2 of (*,G): as A2; if I is RPF_interface(S) AND UpstreamJPState(S,G) == Joined, SPTbit(S,G) is set
+-- A6 of (S,G), A2 of (*,G): the winner is stored as by A2; for (S,G), if I is RPF_interface(S) AND UpstreamJPState(S,G)
+-- == Joined, SPTbit(S,G) is set
 unfoldable pub loses_first : State → Key → AssertMetric → State
 loses_first s k theirs =
     let lost : State = loses s k theirs in
@@ -108,7 +109,7 @@ abbrev pub is_challenge : State → Key → AssertMetric → Bool
 is_challenge s k theirs =
     could_assert_at s k && ((theirs.rpt && not (is_star k)) || is_inferior s k theirs)
 
--- with RPTbit clear, where the machine is that of (S,G)
+-- RPTbit is clear, as some events of the machine of (S,G) require; the machine of (*,G) has no such event
 abbrev pub is_of_tree : Key → AssertMetric → Bool
 is_of_tree k theirs = is_star k || not theirs.rpt
 
@@ -126,7 +127,7 @@ assert_as_winner s k r theirs =
     if is_better theirs r.winner then (loses s k theirs, [])
     else (if is_inferior s k theirs then wins_again s k r else (s, []))
 
--- from Current Winner
+-- an Assert is from Current Winner
 abbrev pub is_from_winner : AssertRow → AssertMetric → Bool
 is_from_winner r theirs = theirs.address.bits == r.winner.address.bits
 

@@ -1,5 +1,5 @@
--- The forwarding cache: what is asked of a source of a group when its data comes (RFC 7761, section 4.2), and which
--- packets these answers alone decide.
+-- The forwarding cache: what is read of a source of a group when its data comes (RFC 7761, section 4.2), and which
+-- packets these answers decide alone.
 use Rattle.std.specs.{Option.option_map_or, Prelude.{Bool, None, Option, Some, false, if◌then◌else◌, nat_lt, not, ℕ, ◌&&◌, ◌==◌, ◌||◌}}
 use Rattle.pim_types.specs.Keys.{source_key, star_key}
 use Rattle.pim_model.specs.{AssertMacros.{could_assert, could_assert_star}, Desires.{is_inherited_empty, join_desired}, Forwarding.{has_local_receivers, is_spt_reached, no_interface}, Registers.{has_other_rp, is_dr_of_path, is_spt_wanted}, Sets.{Set, immediate_olist, inherited_olist, inherited_olist_rpt, spt_bit, tunnel}, State.State, Tables.{has_row, same_option}, Unicast.{is_connected, route, rpf_interface, rpf_interface_rp}}
@@ -11,7 +11,7 @@ pub record Answers : Type 0 where
   pub immediate : Set
   pub inherited : Set
   pub inherited_rpt : Set
-  -- the register tunnel is in the first two
+  -- the register tunnel is in immediate_olist(S,G) and inherited_olist(S,G)
   pub has_tunnel : Bool
   -- RPF_interface(S), RPF_interface(RP(G))
   pub rpf : Option ℕ
@@ -20,7 +20,7 @@ pub record Answers : Type 0 where
   pub spt : Bool
   -- S is on a link of the router
   pub connected : Bool
-  -- CouldRegister(S,G), but for KAT(S,G)
+  -- CouldRegister(S,G) without regard to KAT(S,G)
   pub may_register : Bool
   -- (S,G) is registered: its register state isn't NoInfo
   pub registered : Bool
@@ -30,17 +30,19 @@ pub record Answers : Type 0 where
   pub flows : Bool
   -- Update_SPTbit(S,G) sets SPTbit for a packet on RPF_interface(S)
   pub reaches : Bool
-  -- a packet on the shared tree sets KAT(S,G): it has receivers here, and SwitchToSptDesired(S,G) holds
+  -- a packet on the shared tree sets KAT(S,G): it has receivers on links of the router, and SwitchToSptDesired(S,G)
+  -- holds
   pub watches : Bool
-  -- where a packet that is off its tree makes the router the winner of an assert
+  -- the interfaces on which a packet that is off its tree makes the router the winner of an assert
   pub contested : Set
 
--- CouldRegister(S,G), but for KAT(S,G)
+-- CouldRegister(S,G) without regard to KAT(S,G) (4.4.1)
 -- reads: the route to S, I_am_DR of its interface, the RP ranges, the own addresses
 unfoldable pub may_register : State → ℕ → ℕ → Bool
 may_register s g src = option_map_or (is_dr_of_path s) (route s src) false && has_other_rp s g
 
--- the assert of (S,G), or without SPTbit of (*,G), is in NoInfo, CouldAssert holds, and the router forwards there
+-- the assert of (S,G), or without SPTbit of (*,G), is in NoInfo, CouldAssert holds, and the router forwards on the
+-- interface
 -- reads: what CouldAssert and the inherited lists read, and the assert of (S,G) or of (*,G) on the interface
 unfoldable pub is_contested : State → ℕ → ℕ → Set
 is_contested s g src i =
@@ -48,7 +50,7 @@ is_contested s g src i =
     then inherited_olist s g src i && could_assert s g src i && not (has_row s.asserts (source_key i g src))
     else inherited_olist_rpt s g src i && could_assert_star s g i && not (has_row s.asserts (star_key i g))
 
--- evaluated afresh
+-- the answers about (S,G) in a state, each macro evaluated anew
 unfoldable pub answers : State → ℕ → ℕ → Answers
 answers s g src = record {
   immediate = immediate_olist s g src;
@@ -74,35 +76,36 @@ cached s g src = if has_row s.sources (source_key 0 g src) then Some (answers s 
 
 -- ---- what they decide
 
--- how a plain packet goes: whether it sets KAT(S,G), and where copies leave
+-- how a plain packet is forwarded: whether it sets KAT(S,G), and on which interfaces copies leave
 pub record Plain : Type 0 where
   pub keeps : Bool
   pub list : Set
 
--- it came by RPF_interface(S), or by RPF_interface(RP(G))
+-- the packet came by RPF_interface(S), or by RPF_interface(RP(G))
 abbrev pub is_on_tree : Answers → ℕ → Bool
 is_on_tree r iif = same_option r.rpf (Some iif)
 
 abbrev pub is_on_shared_tree : Answers → ℕ → Bool
 is_on_shared_tree r iif = same_option r.rp_rpf (Some iif)
 
--- its source is connected here, or joined and forwarded from here
+-- a packet sets KAT(S,G) by coming on RPF_interface(S), where S is connected, or (S,G) is joined and forwarded
 abbrev pub keeps_alive : Answers → ℕ → Bool
 keeps_alive r iif = is_on_tree r iif && (r.connected || (r.desired && r.flows))
 
--- it opens the register tunnel
+-- a packet opens the register tunnel
 abbrev pub opens_tunnel : Answers → ℕ → Bool
 opens_tunnel r iif = is_on_tree r iif && r.connected && r.may_register && not r.registered
 
--- it sets SPTbit(S,G)
+-- a packet sets SPTbit(S,G)
 abbrev pub sets_spt : Answers → ℕ → Bool
 sets_spt r iif = is_on_tree r iif && r.reaches && not r.spt
 
--- never back to where it came from
+-- a set without the interface on which the packet came
 abbrev pub away_from : ℕ → Set → Set
 away_from iif list i = list i && not (i == iif)
 
--- A packet isn't plain where it opens the tunnel, sets SPTbit, leaves by the tunnel, or makes the winner of an assert.
+-- How the answers decide a packet. They don't where it opens the tunnel, sets SPTbit, leaves by the tunnel, or makes
+-- the router the winner of an assert.
 unfoldable pub plain : Answers → ℕ → ℕ → Option Plain
 plain r iif time_to_live =
     if opens_tunnel r iif || sets_spt r iif then None

@@ -1,6 +1,6 @@
--- Nothing flows unasked: what asked for a copy of a packet on a link. A Join/Prune asks for as long as its holdtime
--- says (RFC 7761, section 4.5), a membership report for the Group Membership Interval (RFC 3376, section 8.4), and
--- neither beyond a Down of the interface.
+-- Nothing flows unasked: what is the cause of a copy of a packet on a link. A Join/Prune is one for as long as its
+-- holdtime says (RFC 7761, section 4.5), a membership report for the Group Membership Interval (RFC 3376, section 8.4),
+-- and neither beyond a Down of the interface.
 use Rattle.std.specs.{List.{All, list_any}, Prelude.{Bool, List, None, Ok, Option, Result, Some, [], drop, false, filter, length, nat_lt, not, true, ℕ, ◌&&◌, ◌*◌, ◌+◌, ◌-◌, ◌==◌, ◌||◌, ◌≡◌, ◌∷◌}}
 use Rattle.pim_ip.specs.{Ipv4.{Packet, copy_text}, declared.refusal.Refusal.Refusal}
 use Rattle.pim_types.specs.{Keys.{source_key, star_key}, declared.{event.Event.Event, outcome.{Emission.Emission, Outcome.Outcome, Verdict.Verdict}}}
@@ -8,7 +8,7 @@ use Rattle.pim_wire.specs.Values.{Encapsulated, JoinPrune}
 use Rattle.igmp_wire.specs.{Values.Record, declared.report.RecordType.RecordType}
 use Rattle.pim_model.specs.{Downstream.{holdtime_forever, is_named, joined_keys}, Judging.{Judged, judged}, Querier.{group_membership_interval, is_excluding, is_skipped}, State.State, Step.step, Tables.is_among, Writing.on_link, declared.accepted.Accepted.Accepted}
 
--- an event with the state that it found, whose present is the event's moment
+-- an event with the state that it found, whose present is the event's timestamp
 pub record Happened : Type 0 where
   pub before : State
   pub event : Event
@@ -31,7 +31,8 @@ done_as h = if_done (step h.before h.event).answer (judged h.before h.event.kind
 
 -- ---- who asks
 
--- a Join/Prune to the router with an accepted Join(*,G) or Join(S,G), whose holdtime is endless or lasts beyond now
+-- a Join/Prune to the router with an accepted Join(*,G) or Join(S,G), whose holdtime never expires or hasn't expired
+-- yet
 unfoldable pub is_join_for : ℕ → ℕ → ℕ → ℕ → State → JoinPrune → Bool
 is_join_for now i g src s m =
     (is_named (joined_keys s i m) (star_key i g) || is_named (joined_keys s i m) (source_key i g src))
@@ -49,12 +50,13 @@ is_record_for g src r =
     not (is_skipped r) && (r.group == g)
     && (is_excluding r.type || (is_including r.type && is_among src r.sources))
 
--- a report with such a record, where the interface's Group Membership Interval from it lasts beyond now
+-- a report with such a record (`is_record_for`), where the interface's Group Membership Interval from it hasn't expired
+-- yet
 unfoldable pub is_report_for : ℕ → ℕ → ℕ → ℕ → State → List Record → Bool
 is_report_for now i g src s records =
     list_any (is_record_for g src) records && nat_lt now (s.present + group_membership_interval s i)
 
--- an event of this kind, in the state that it found, asks for (S,G) on the interface, beyond now
+-- an event of this kind, in the state that it found, is a cause of copies of (S,G) on the interface at this time
 unfoldable pub asks_for : ℕ → ℕ → ℕ → ℕ → State → Option Accepted → Bool
 asks_for now i g src s (Some (Accepted.JoinPruneToMe j m)) = (j.number == i) && is_join_for now i g src s m
 asks_for now i g src s (Some (Accepted.Report j records)) = (j.number == i) && is_report_for now i g src s records
@@ -64,7 +66,7 @@ abbrev pub is_down_of : ℕ → Option Accepted → Bool
 is_down_of i (Some (Accepted.Down j)) = j.number == i
 is_down_of i _ = false
 
--- (S,G) has a cause on the interface: an event so far asks for it, and the interface hasn't gone down since
+-- (S,G) has a cause on the interface: an event so far is one, and the interface hasn't gone down since
 unfoldable pub has_cause : Past → ℕ → ℕ → ℕ → ℕ → Bool
 has_cause [] now i g src = false
 has_cause (h ∷ past) now i g src =
@@ -82,13 +84,13 @@ abbrev pub is_on_link : Emission → Bool
 is_on_link (Emission.Link i bytes) = true
 is_on_link (Emission.Unicast to bytes) = false
 
--- the copies of an outcome: the last of what it sends on links
+-- the copies of an outcome: the last of the packets that it sends on links
 unfoldable pub copies_in : Outcome → List Emission
 copies_in o =
     let links : List Emission = filter is_on_link o.emissions in
     drop (length links - o.copies) links
 
--- a copy of the packet that the event brings, on a link, with a cause there
+-- a copy, on a link, of the packet that the event brings, which has a cause there
 pub record IsAskedFor (past : Past) (h : Happened) (copy : Emission) : Type 0 where
   pub link : ℕ
   pub packet : Packet
@@ -96,12 +98,12 @@ pub record IsAskedFor (past : Past) (h : Happened) (copy : Emission) : Type 0 wh
   pub copied : copy ≡ on_link link (copy_text packet)
   pub cause : has_cause past h.before.present link packet.destination packet.source ≡ true
 
--- an outcome has so many copies as it says, and each is asked for
+-- an outcome has as many copies as it says, and each has a cause
 pub record CopiesAreAsked (past : Past) (h : Happened) (o : Outcome) : Type 0 where
   pub count : length (copies_in o) ≡ o.copies
   pub asked : All (IsAskedFor past h) (copies_in o)
 
--- likewise the outcomes of events from a state on, one after the other
+-- the outcomes of events from a state on, one after the other, have as many copies as they say, and each has a cause
 abbrev pub OutcomesAreAsked : Past → State → List Event → List Outcome → Type 0
 OutcomesAreAsked past s [] [] = Unit {0}
 OutcomesAreAsked past s (e ∷ es) (o ∷ os) =

@@ -11,7 +11,7 @@ pub record Forwarded : Type 0 where
   pub list : Set
   pub to_tunnel : Bool
 
--- NULL
+-- NULL: the empty set of interfaces
 abbrev pub no_interface : Set
 no_interface i = false
 
@@ -20,8 +20,8 @@ abbrev pub when : Bool → (State → State) → State → State
 when true change s = change s
 when false change s = s
 
--- if DirectlyConnected(S) AND iif == RPF_interface(S): set KeepaliveTimer(S,G) to Keepalive_Period (4.2), and the
--- register machine moves at once
+-- if DirectlyConnected(S) AND iif == RPF_interface(S): set KeepaliveTimer(S,G) to Keepalive_Period (4.2); here: the
+-- register machine is settled at once
 unfoldable pub source_here : State → ℕ → ℕ → ℕ → State
 source_here s g src iif =
     if is_connected s src && is_rpf_interface s src iif
@@ -55,13 +55,13 @@ unfoldable pub has_local_receivers : State → ℕ → ℕ → Bool
 has_local_receivers s g src =
     not (is_empty s ((pim_include_star s g ∖ pim_exclude s g src) ∪ pim_include s g src))
 
--- CheckSwitchToSpt(S,G) (4.2.1): if the source has such receivers AND SwitchToSptDesired(S,G),
--- set KeepaliveTimer(S,G) to Keepalive_Period
+-- CheckSwitchToSpt(S,G) (4.2.1): if `has_local_receivers` AND SwitchToSptDesired(S,G), set KeepaliveTimer(S,G) to
+-- Keepalive_Period
 unfoldable pub watched : State → ℕ → ℕ → State
 watched s g src = when (has_local_receivers s g src && is_spt_wanted s) (λ t. with_keepalive t g src) s
 
--- RPF check failed (4.2): data for the assert of (S,G) if SPTbit(S,G) AND iif in inherited_olist(S,G), for that of
--- (*,G) if NOT SPTbit(S,G) AND iif in inherited_olist(S,G,rpt)
+-- RPF check failed (4.2): the data is an event of the assert machine of (S,G) if SPTbit(S,G) AND iif in
+-- inherited_olist(S,G), for that of (*,G) if NOT SPTbit(S,G) AND iif in inherited_olist(S,G,rpt)
 unfoldable pub stray : State → ℕ → ℕ → ℕ → Forwarded
 stray s g src iif =
     let k : Key = (if spt_bit s g src then source_key iif g src else star_key iif g) in
@@ -70,7 +70,8 @@ stray s g src iif =
     record { state = asserted.0; messages = asserted.1; list = no_interface; to_tunnel = false }
 
 -- oiflist (4.2): inherited_olist(S,G) if iif == RPF_interface(S) AND SPTbit(S,G); inherited_olist(S,G,rpt), and
--- CheckSwitchToSpt(S,G), if iif == RPF_interface(RP(G)) AND NOT SPTbit(S,G); else NULL, and the RPF check failed
+-- CheckSwitchToSpt(S,G), if iif == RPF_interface(RP(G)) AND NOT SPTbit(S,G); else NULL, and `stray`, since the RPF
+-- check failed
 unfoldable pub list_chosen : State → ℕ → ℕ → ℕ → Forwarded
 list_chosen s g src iif =
     if is_rpf_interface s src iif && spt_bit s g src

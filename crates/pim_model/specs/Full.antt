@@ -11,7 +11,7 @@ counted s =
     length s.neighbours + length s.group_records + length s.source_records
     + length s.downstream + length s.asserts + length s.sources
 
--- the keys in their order, each once
+-- a list of keys, each once, with a key added unless it is in the list
 unfoldable pub once_more : List Key → Key → List Key
 once_more found k = if is_named found k then found else found ++ k ∷ []
 
@@ -23,7 +23,7 @@ distinct ks = fold once_more [] ks
 unfoldable pub needed : {R : Type 0} → Table R → List Key → ℕ
 needed t ks = length (filter (λ k. not (has_row t k)) (distinct ks))
 
--- so many more facts would pass the limit
+-- this many more facts would pass the limit
 unfoldable pub passes_limit : State → ℕ → Bool
 passes_limit s more = not (more == 0) && nat_lt s.settings.limit (counted s + more)
 
@@ -31,7 +31,7 @@ passes_limit s more = not (more == 0) && nat_lt s.settings.limit (counted s + mo
 abbrev pub most_neighbours : ℕ
 most_neighbours = 64
 
--- a Hello of a new neighbour
+-- a Hello is of a new neighbour for which there is no room: on its interface, or by the limit
 unfoldable pub hello_is_full : State → ℕ → ℕ → ℕ → Bool
 hello_is_full s i address holdtime =
     not (holdtime == 0) && not (is_neighbour s i address)
@@ -46,7 +46,7 @@ unfoldable pub keys_are_full : State → ℕ → List Key → List Key → Bool
 keys_are_full s holdtime joined pruned =
     not (holdtime == 0) && passes_limit s (needed s.downstream (makeable_keys joined pruned))
 
--- the same by the message
+-- a Join/Prune to the router names more new facts than there is room for; one with holdtime 0 makes no row
 unfoldable pub join_prune_is_full : State → ℕ → JoinPrune → Bool
 join_prune_is_full s i m = keys_are_full s m.holdtime (joined_keys s i m) (pruned_keys i m)
 
@@ -59,7 +59,7 @@ unfoldable pub reported_sources : ℕ → List Record → List Key
 reported_sources i records =
     flat_map (λ (r : Record). map (source_key i r.group) r.sources) (filter (λ r. not (is_skipped r)) records)
 
--- a report, by all that it names
+-- a report names more new facts than there is room for, by all groups and sources in it
 unfoldable pub report_is_full : State → ℕ → List Record → Bool
 report_is_full s i records =
     passes_limit s
@@ -71,15 +71,15 @@ asserted_keys i a =
     (if a.source.bits == 0 then [] else source_key i a.group.bits a.source.bits ∷ [])
     ++ (if a.rpt then star_key i a.group.bits ∷ [] else [])
 
--- an Assert that isn't infinite
+-- an Assert that isn't infinite names more new facts than there is room for
 unfoldable pub assert_is_full : State → ℕ → AssertMessage → Bool
 assert_is_full s i a = not (is_infinite (theirs_of a 0)) && passes_limit s (needed s.asserts (asserted_keys i a))
 
--- a packet of a source, or a Register of one
+-- a packet of a source, or a Register of one, needs a source row for which there is no room
 unfoldable pub source_is_full : State → ℕ → ℕ → Bool
 source_is_full s g src = passes_limit s (needed s.sources (source_key 0 g src ∷ []))
 
--- what the router is to act on names more new facts than there is room for
+-- an accepted event names more new facts than there is room for
 unfoldable pub is_full : State → Accepted → Bool
 is_full s (Accepted.Hello i from h) = hello_is_full s i.number from.bits (hello_holdtime_of h)
 is_full s (Accepted.JoinPruneToMe i m) = join_prune_is_full s i.number m

@@ -31,11 +31,11 @@ is_generation_changed_among rows i address h =
     is_other_generation
     (option_and_then (λ (r : NeighbourRow). r.generation) (row_at rows (neighbour_key i address))) h.generation
 
--- the same of a state
+-- the neighbour is known in the state by another GenID than the Hello's
 unfoldable pub is_generation_changed : State → ℕ → ℕ → HelloValue → Bool
 is_generation_changed s i address h = is_generation_changed_among s.neighbours i address h
 
--- a Hello is owed, before the next Join/Prune or Assert; here: the Hello Timer itself is lowered to the end
+-- a Hello is owed, before the next Join/Prune or Assert; here: the Hello Timer itself is lowered to a timestamp
 unfoldable pub hellos_triggered : ℕ → ℕ → Table InterfaceRow → Table InterfaceRow
 hellos_triggered i end rows =
     map (λ (e : Key × InterfaceRow).
@@ -47,7 +47,8 @@ hello_triggered s i w =
     let end : ℕ = s.present + delay_in 1 triggered_hello_delay w in
     record s { interfaces = hellos_triggered i end s.interfaces }
 
--- what a Hello says supersedes what was known (4.3.1), and NLT(N,I) is set to its holdtime (4.3.2), which may be 0
+-- the values of a Hello replace what was known of its neighbour (4.3.1), and NLT(N,I) is set to its holdtime (4.3.2),
+-- which may be 0
 unfoldable pub neighbours_replaced : ℕ → ℕ → ℕ → HelloValue → Table NeighbourRow → Table NeighbourRow
 neighbours_replaced present i address h rows =
     let row : NeighbourRow = record {
@@ -58,7 +59,7 @@ neighbours_replaced present i address h rows =
     } in
     set_row rows (neighbour_key i address) (if hello_holdtime_of h == 0 then None else Some row)
 
--- the same of a state
+-- the state in which the values of a Hello replace what was known of its neighbour (4.3.1, 4.3.2)
 unfoldable pub neighbour_replaced : State → ℕ → ℕ → HelloValue → State
 neighbour_replaced s i address h = record s { neighbours = neighbours_replaced s.present i address h s.neighbours }
 
@@ -66,7 +67,7 @@ neighbour_replaced s i address h = record s { neighbours = neighbours_replaced s
 abbrev pub is_lost_to : ℕ → ℕ → Key × AssertRow → Bool
 is_lost_to i address e = is_on i e.0 && is_loser (Some e.1) && ((e.1).winner.address.bits == address)
 
--- RPF'(*,G), or RPF'(S,G), by the key of a Join Timer
+-- RPF'(*,G), or RPF'(S,G), by the key of a Join Timer (4.1.5)
 abbrev pub upstream_of : State → Key → Option Hop
 upstream_of s k = if is_star k then rpf_star s (group_in k) else rpf_source s (group_in k) (source_in k)
 
@@ -82,7 +83,7 @@ neighbour_restarted o i address w s =
           then (e.0, record { end = min (e.1).end end }) else e) s.join_timers;
     }
 
--- a Hello: of a new neighbour, or with a new GenID, it triggers one (4.3.1)
+-- a Hello is received (4.3.1, 4.3.2); where it is of a new neighbour, or has a new GenID, it triggers a Hello
 unfoldable pub hello_received : State → ℕ → ℕ → HelloValue → ℕ → State
 hello_received s i address h w =
     let changed : Bool = is_generation_changed s i address h in
@@ -91,7 +92,7 @@ hello_received s i address h w =
     let replaced : State = neighbour_replaced triggered i address h in
     if changed then neighbour_restarted s i address w replaced else replaced
 
--- NLT(N,I) expires (4.3.2)
+-- NLT(N,I) expires (4.3.2): the neighbour is removed
 unfoldable pub neighbour_due : State → Key → State
 neighbour_due s k = record s { neighbours = drop_at s.neighbours k }
 

@@ -1,4 +1,4 @@
--- What becomes of an event before anything changes: its reading and its tests in their order, and what the router is
+-- The judgement of an event, before anything changes: how it is read, its tests in their order, and what the router is
 -- then to act on. An event that is refused or ignored changes nothing. Sections are those of RFC 7761.
 use Rattle.std.specs.Prelude.{Bool, Err, List, Ok, Result, false, if◌then◌else◌, length, nat_le, nat_lt, not, true, ℕ, ◌&&◌, ◌==◌, ◌^◌}
 use Rattle.pim_ip.specs.{Addr.addr, Ipv4.{Packet, all_pim_routers, frame_limit, ipv4_reading, is_link_local, is_multicast, protocol_igmp, protocol_pim}, declared.refusal.Refusal.Refusal}
@@ -7,46 +7,46 @@ use Rattle.pim_wire.specs.{Messages.pim_reading, RegisterParts.registered_group,
 use Rattle.igmp_wire.specs.{Messages.igmp_reading, declared.view.IgmpView.IgmpView}
 use Rattle.pim_model.specs.{Hellos.hello_holdtime_of, Limits.{are_routes, are_rps}, Neighbours.is_neighbour, State.{State, iface_count, is_own, is_up, my_address}, Unicast.is_rp, declared.accepted.Accepted.Accepted}
 
--- what the router is to act on, or why not
+-- an accepted event, or why it is refused or ignored
 abbrev pub Judged : Type 0
 Judged = Result Accepted Stop
 
--- a refusal, with its number
+-- the event is refused if the condition holds; else the next test follows
 abbrev pub refuse_if : Bool → Refusal → Result (Unit {0}) Stop
 refuse_if true refusal = Err (Stop.Refuse refusal)
 refuse_if false refusal = Ok tt
 
--- a reason to ignore the event
+-- the event is ignored for a reason if the condition holds; else the next test follows
 abbrev pub ignore_if : Bool → Ignored → Result (Unit {0}) Stop
 ignore_if true reason = Err (Stop.Ignore reason)
 ignore_if false reason = Ok tt
 
--- what follows, where the test before it held
+-- the second test where the first one passed, else what stopped at the first
 infixr 20 ◌>>◌
 abbrev pub ◌>>◌ : {A : Type 0} → Result (Unit {0}) Stop → Result A Stop → Result A Stop
 ◌>>◌ (Ok held) next = next
 ◌>>◌ (Err stop) next = Err stop
 
--- what follows of a value that was read
+-- the judgement of a value that was read, or the refusal of what can't be read
 abbrev pub of_read : {A B : Type 0} → Result A Refusal → (A → Result B Stop) → Result B Stop
 of_read (Ok a) next = next a
 of_read (Err refusal) next = Err (Stop.Refuse refusal)
 
 -- ---- a packet on a link
 
--- a Hello; one with holdtime 0 of no neighbour is ignored
+-- a Hello from a link; one with holdtime 0 from no neighbour is ignored (4.3.2)
 unfoldable pub hello_judged : State → IfaceId → ℕ → HelloValue → Judged
 hello_judged s i from h =
     ignore_if ((hello_holdtime_of h == 0) && not (is_neighbour s i.number from)) Ignored.NoNeighbour
     >> Ok (Accepted.Hello i (addr from) h)
 
--- a Join/Prune from a neighbour (4.5), to the router or to another
+-- a Join/Prune from a neighbour on a link (4.5), to the router or to another
 unfoldable pub join_prune_judged : State → IfaceId → ℕ → JoinPrune → Judged
 join_prune_judged s i from m =
     ignore_if (not (is_neighbour s i.number from)) Ignored.NoNeighbour
     >> Ok (if m.upstream == my_address s i.number then Accepted.JoinPruneToMe i m else Accepted.JoinPruneSeen i m)
 
--- an Assert from a neighbour (4.6), about one group that isn't link-local
+-- an Assert from a neighbour on a link (4.6), about one group that isn't link-local
 unfoldable pub assert_judged : State → IfaceId → ℕ → AssertMessage → Judged
 assert_judged s i from a =
     ignore_if (not (a.mask_length == 32)) Ignored.Mask
@@ -63,12 +63,12 @@ pim_judged s i from PimView.Other = Err (Stop.Ignore Ignored.OtherType)
 pim_judged s i from (PimView.Register r) = Err (Stop.Ignore Ignored.NotForMe)
 pim_judged s i from (PimView.RegisterStop r) = Err (Stop.Ignore Ignored.NotForMe)
 
--- read whole first, then the tests
+-- a PIM message on a link: it is read whole first, and then judged (4.9)
 unfoldable pub pim_message_judged : State → IfaceId → Packet → Judged
 pim_message_judged s i p =
     of_read (pim_reading p.payload) (λ m. ignore_if (is_own s p.source) Ignored.Own >> pim_judged s i p.source m)
 
--- a query, or a report
+-- an IGMP message that is accepted: a query, or a report
 abbrev pub igmp_accepted : IfaceId → ℕ → IgmpView → Accepted
 igmp_accepted i from (IgmpView.Query q) = Accepted.Query i (addr from) q
 igmp_accepted i from (IgmpView.Report records) = Accepted.Report i records
@@ -80,7 +80,7 @@ igmp_judged s i p m =
     >> ignore_if (not (is_multicast p.destination)) Ignored.NotForMe
     >> Ok (igmp_accepted i p.source m)
 
--- read whole first, then the tests
+-- an IGMP message on a link: it is read whole first, and then judged
 unfoldable pub igmp_message_judged : State → IfaceId → Packet → Judged
 igmp_message_judged s i p = of_read (igmp_reading p.payload) (igmp_judged s i p)
 
@@ -99,7 +99,7 @@ packet_judged s i p =
     then pim_message_judged s i p
     else (if p.protocol == protocol_igmp then igmp_message_judged s i p else data_judged s i p)
 
--- a packet on a link, of at most 1500 bytes
+-- a packet on a link, of at most 1500 bytes; longer ones are refused
 unfoldable pub frame_judged : State → IfaceId → List ℕ → Judged
 frame_judged s i bytes =
     refuse_if (nat_le (iface_count s) i.number) Refusal.NoInterface
@@ -126,7 +126,7 @@ pim_to_me_judged s p (PimView.Register r) = register_judged p r
 pim_to_me_judged s p (PimView.RegisterStop r) = register_stop_judged s p.source r
 pim_to_me_judged s p _ = Err (Stop.Ignore Ignored.NotForMe)
 
--- one to an address of the router
+-- a PIM message by unicast to an address of the router
 unfoldable pub unicast_packet_judged : State → Packet → Judged
 unicast_packet_judged s p =
     if p.protocol == protocol_pim
@@ -134,49 +134,49 @@ unicast_packet_judged s p =
     ignore_if (not (is_own s p.destination)) Ignored.NotForMe >> pim_to_me_judged s p m)
     else Err (Stop.Ignore Ignored.NotForMe)
 
--- a packet by unicast, of at most 1528 bytes
+-- a packet by unicast, of at most 1528 bytes; longer ones are refused
 unfoldable pub unicast_judged : State → List ℕ → Judged
 unicast_judged s bytes = of_read (ipv4_reading bytes) (unicast_packet_judged s)
 
 -- ---- interfaces, time, routes and RP ranges
 
--- a configured interface that is down
+-- Up of a configured interface that is down
 unfoldable pub up_judged : State → IfaceId → Judged
 up_judged s i =
     refuse_if (nat_le (iface_count s) i.number) Refusal.NoInterface
     >> ignore_if (is_up s i.number) Ignored.Already
     >> Ok (Accepted.Up i)
 
--- a configured interface that is up
+-- Down of a configured interface that is up
 unfoldable pub down_judged : State → IfaceId → Judged
 down_judged s i =
     refuse_if (nat_le (iface_count s) i.number) Refusal.NoInterface
     >> ignore_if (not (is_up s i.number)) Ignored.Already
     >> Ok (Accepted.Down i)
 
--- the last moment that an event may have
+-- the latest timestamp that an event may have, in ms
 abbrev pub last_moment : ℕ
 last_moment = 2 ^ 62
 
--- a moment that isn't past, nor too far
+-- an Advance to a timestamp that isn't past, nor later than the latest
 unfoldable pub advance_judged : State → ℕ → Judged
 advance_judged s moment =
     refuse_if (nat_lt moment s.present) Refusal.MomentBack
     >> refuse_if (nat_lt last_moment moment) Refusal.MomentFar
     >> Ok (Accepted.Advance moment)
 
--- routes that are accepted
+-- new routes that pass their tests
 unfoldable pub routes_judged : State → List Route → Judged
 routes_judged s routes =
     refuse_if (not (are_routes s.configured routes)) Refusal.BadRoutes >> Ok (Accepted.Routes routes)
 
--- RP ranges that are accepted
+-- new RP ranges that pass their tests
 unfoldable pub rps_judged : List RpRange → Judged
 rps_judged ranges = refuse_if (not (are_rps ranges)) Refusal.BadRps >> Ok (Accepted.Rps ranges)
 
 -- ---- events
 
--- every kind of event
+-- the judgement of each kind of event
 unfoldable pub judged : State → EventKind → Judged
 judged s (EventKind.Advance moment) = advance_judged s moment
 judged s (EventKind.Frame i bytes) = frame_judged s i bytes

@@ -6,20 +6,20 @@ use Rattle.pim_model.specs.{State.is_own_among, Unicast.subnet}
 
 -- ---- routes and RP ranges
 
--- equal prefixes
+-- two prefixes are equal
 abbrev pub same_prefix : Prefix → Prefix → Bool
 same_prefix p q = (p.address.bits == q.address.bits) && (p.length == q.length)
 
--- no prefix stands twice
+-- no prefix is listed twice
 unfoldable pub are_distinct : List Prefix → Bool
 are_distinct [] = true
 are_distinct (p ∷ ps) = not (list_any (same_prefix p) ps) && are_distinct ps
 
--- a prefix of at most 32 bits, with no other bit set
+-- a prefix of at most 32 bits, with no bit set past its length
 abbrev pub is_prefix : Prefix → Bool
 is_prefix p = nat_le p.length 32 && is_host_clear p
 
--- a next hop is another router's address
+-- a route that is accepted: its next hop is a unicast address, and none of the router's
 unfoldable pub is_route : List InterfaceConfig → Route → Bool
 is_route configured r =
     is_prefix r.prefix
@@ -63,7 +63,7 @@ most_ifaces = 120
 abbrev pub overlaps : InterfaceConfig → InterfaceConfig → Bool
 overlaps a b = contains (subnet a) b.address.bits || contains (subnet b) a.address.bits
 
--- no two subnets overlap
+-- of a list of subnets no two overlap
 unfoldable pub are_apart : List InterfaceConfig → Bool
 are_apart [] = true
 are_apart (c ∷ cs) = not (list_any (overlaps c) cs) && are_apart cs
@@ -81,11 +81,12 @@ is_querier_config c =
     && nat_lt c.query_response_interval (10 * c.query_interval)
     && is_between 1 255 c.last_member_query_interval
 
--- both fit into the fields of LAN Prune Delay (RFC 7761, section 4.9.2), in ms
+-- the propagation delay and the override interval fit into the fields of LAN Prune Delay (RFC 7761, section 4.9.2), in
+-- ms
 abbrev pub is_delay_config : InterfaceConfig → Bool
 is_delay_config c = nat_le c.propagation_delay 32767 && nat_le c.override_interval 65535
 
--- a configuration, test after test
+-- the tests of a configuration, in their order
 unfoldable pub config_test : Config → Result (Unit {0}) Refusal
 config_test c =
     expect (is_between 1 most_ifaces (length c.interfaces)) Refusal.InterfaceCount

@@ -1,4 +1,5 @@
--- What the machines send, as data (RFC 7761, section 4.9; RFC 3376, section 4.1). It becomes packets in one last pass.
+-- What the machines send, as data (RFC 7761, section 4.9; RFC 3376, section 4.1). It becomes packets at the end of a
+-- change.
 use Rattle.std.specs.Prelude.{List, ℕ}
 use Rattle.pim_ip.specs.Addr.{addr}
 use Rattle.pim_types.specs.declared.fact.AssertMetric.{AssertMetric}

@@ -40,7 +40,7 @@ is_better_dr by_priority priority address e =
     let theirs : ℕ = unwrap_or (e.1).priority 0 in
     if by_priority && not (theirs == priority) then nat_lt priority theirs else nat_lt address (source_in e.0)
 
--- DR(I) == me (4.3.2): no neighbour is better
+-- DR(I) == me (4.3.2): no neighbour is a better DR
 unfoldable pub is_dr_among : ℕ → ℕ → Table NeighbourRow → Bool
 is_dr_among priority address rows = not (list_any (is_better_dr (all_have_priority rows) priority address) rows)
 
@@ -61,28 +61,28 @@ default_override_interval = 2500
 unfoldable pub all_have_lan_delay : Table NeighbourRow → Bool
 all_have_lan_delay rows = list_all (λ e. is_some (e.1).lan_delay) rows
 
--- the greatest of the router's own delay and those of its neighbours
+-- the greatest of the router's own delay and those of its neighbours (4.3.3)
 unfoldable pub greatest_delay : (LanDelay → ℕ) → ℕ → Table NeighbourRow → ℕ
 greatest_delay field mine rows = fold (λ most e. max most (option_map_or field (e.1).lan_delay 0)) mine rows
 
--- the default where NOT lan_delay_enabled(I), else the greatest (4.3.3)
+-- the default where NOT lan_delay_enabled(I), else the greatest delay of the router and its neighbours (4.3.3)
 unfoldable pub effective_delay : (LanDelay → ℕ) → ℕ → ℕ → Table NeighbourRow → ℕ
 effective_delay field default mine rows = if all_have_lan_delay rows then greatest_delay field mine rows else default
 
--- Effective_Propagation_Delay(I) (4.3.3), in ms
+-- Effective_Propagation_Delay(I) (4.3.3), in ms, by the router's own delay and its neighbours on I
 unfoldable pub propagation_delay_among : ℕ → Table NeighbourRow → ℕ
 propagation_delay_among mine rows = effective_delay (λ d. d.propagation_delay) default_propagation_delay mine rows
 
--- Effective_Override_Interval(I) (4.3.3), in ms
+-- Effective_Override_Interval(I) (4.3.3), in ms, by the router's own interval and its neighbours on I
 unfoldable pub override_interval_among : ℕ → Table NeighbourRow → ℕ
 override_interval_among mine rows = effective_delay (λ d. d.override_interval) default_override_interval mine rows
 
--- the same of a state
+-- Effective_Propagation_Delay(I) (4.3.3) in a state, in ms
 -- reads: the interface's configuration, the neighbour rows on it
 unfoldable pub effective_propagation_delay : State → ℕ → ℕ
 effective_propagation_delay s i = propagation_delay_among (my_propagation_delay s i) (neighbours_on s i)
 
--- the same of a state
+-- Effective_Override_Interval(I) (4.3.3) in a state, in ms
 -- reads: the interface's configuration, the neighbour rows on it
 unfoldable pub effective_override_interval : State → ℕ → ℕ
 effective_override_interval s i = override_interval_among (my_override_interval s i) (neighbours_on s i)
@@ -97,7 +97,7 @@ unfoldable pub is_suppression_among : Table NeighbourRow → Bool
 is_suppression_among rows =
     not (list_all (λ e. option_map_or (λ (d : LanDelay). d.can_track) (e.1).lan_delay false) rows)
 
--- the same of a state
+-- Suppression_Enabled(I) (4.3.3) in a state
 -- reads: the neighbour rows on the interface
 unfoldable pub is_suppression_on : State → ℕ → Bool
 is_suppression_on s i = is_suppression_among (neighbours_on s i)
@@ -106,7 +106,7 @@ is_suppression_on s i = is_suppression_among (neighbours_on s i)
 unfoldable pub t_override_among : ℕ → Table NeighbourRow → ℕ → ℕ
 t_override_among mine rows w = delay_in 1 (max 1 (override_interval_among mine rows)) w
 
--- the same of a state
+-- t_override on I (4.11) in a state, in ms
 -- reads: the interface's configuration, the neighbour rows on it
 unfoldable pub t_override : State → ℕ → ℕ → ℕ
 t_override s i w = t_override_among (my_override_interval s i) (neighbours_on s i) w
@@ -115,7 +115,7 @@ t_override s i w = t_override_among (my_override_interval s i) (neighbours_on s 
 unfoldable pub t_suppressed_among : Table NeighbourRow → ℕ → ℕ
 t_suppressed_among rows w = if is_suppression_among rows then delay_in 66000 84000 w else 0
 
--- the same of a state
+-- t_suppressed on I (4.11) in a state, in ms
 -- reads: the neighbour rows on the interface
 unfoldable pub t_suppressed : State → ℕ → ℕ → ℕ
 t_suppressed s i w = t_suppressed_among (neighbours_on s i) w

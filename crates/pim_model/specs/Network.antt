@@ -1,11 +1,11 @@
--- Several routers, and the frames that they ever sent: nothing is taken out, so loss, repeats and any order
--- of delivery are lists of moves.
+-- Several routers, and the frames that they ever sent: no frame is taken out, so loss, repeats and any order of
+-- delivery are lists of moves.
 use Rattle.std.specs.{List.list_all, Option.option_map_or, Prelude.{Bool, Err, List, None, Ok, Option, Result, Some, [], if◌then◌else◌, is_some, length, map, nat_le, option_and_then, option_map, set, slice_get, suc, zero, ℕ, ◌&&◌, ◌++◌, ◌==◌, ◌∷◌}}
 use Rattle.pim_ip.specs.{Tests.{expect, ◌>>◌}, declared.refusal.Refusal.Refusal}
 use Rattle.pim_types.specs.declared.{config.Config.Config, event.{Event.Event, EventKind.EventKind}, outcome.{Emission.Emission, Outcome.Outcome}}
 use Rattle.pim_model.specs.{Limits.config_test, State.{State, opening}, Step.{Answered, outcome_of, step}, Tables.same_option}
 
--- a frame with its link, none for a unicast
+-- a frame with the link on which it was sent; none for a unicast
 pub record Sent : Type 0 where
   pub link : Option ℕ
   pub bytes : List ℕ
@@ -31,7 +31,7 @@ configs_test (c ∷ cs) =
     let later : Result (Unit {0}) Refusal = configs_test cs in
     config_test c >> later
 
--- the most routers
+-- the most routers of a network
 abbrev pub most_routers : ℕ
 most_routers = 64
 
@@ -39,13 +39,14 @@ most_routers = 64
 abbrev pub is_node : Config × List ℕ → Bool
 is_node n = length n.1 == length (n.0).interfaces
 
--- configurations with their links, of which a network is made: not too many, each with its links, and accepted
+-- configurations with their links, of which a network is made: not too many, each with a link for each interface, and
+-- all accepted
 unfoldable pub nodes_test : List (Config × List ℕ) → Result (Unit {0}) Refusal
 nodes_test nodes =
     expect (nat_le (length nodes) most_routers && list_all is_node nodes) Refusal.BadScenario
     >> configs_test (map (λ n. n.0) nodes)
 
--- the configurations with their links
+-- the network of configurations with their links, in which nothing was sent yet
 unfoldable pub network : List (Config × List ℕ) → Network
 network nodes = record { stations = map station_of nodes; frames = [] }
 
@@ -79,7 +80,7 @@ frame_event i draw f = record { draw = draw; kind = EventKind.Frame (record { nu
 abbrev pub unicast_event : ℕ → Sent → Event
 unicast_event draw f = record { draw = draw; kind = EventKind.Unicast f.bytes }
 
--- a router and the event that a move is there, none where it is refused
+-- a router and the event at it that a move stands for; none where the move is refused
 unfoldable pub event_of : Network → Move → Option (ℕ × Event)
 event_of n (At r e) = option_map (λ st. (r, e)) (station_at n r)
 event_of n (Deliver r i k draw) =
@@ -88,7 +89,7 @@ event_of n (Deliver r i k draw) =
 event_of n (DeliverUnicast r k draw) =
     option_and_then (λ st. option_map (λ f. (r, unicast_event draw f)) (frame_at n k)) (station_at n r)
 
--- what a router sends, with the link that it leaves on
+-- what a router sends, with the link on which it leaves
 abbrev pub sent_by : List ℕ → Emission → Sent
 sent_by links (Emission.Link i bytes) = record { link = slice_get links i.number; bytes = bytes }
 sent_by links (Emission.Unicast destination bytes) = record { link = None; bytes = bytes }
@@ -104,7 +105,7 @@ stepped n r e st =
       },
     )
 
--- a move that names no such router, frame or interface
+-- the outcome of a move that names no such router, frame or interface
 abbrev pub bad_move : Outcome
 bad_move = record { answer = Err Refusal.BadMove; emissions = []; copies = 0 }
 
@@ -112,11 +113,11 @@ bad_move = record { answer = Err Refusal.BadMove; emissions = []; copies = 0 }
 unfoldable pub moved_at : Network → ℕ × Event → Outcome × Network
 moved_at n e = option_map_or (stepped n e.0 e.1) (station_at n e.0) (bad_move, n)
 
--- a move: what is answered, and the network after it
+-- the outcome of a move, and the network after it
 unfoldable pub moved : Network → Move → Outcome × Network
 moved n m = option_map_or (moved_at n) (event_of n m) (bad_move, n)
 
--- move after move: an outcome each, and the network at the end
+-- the outcomes of moves, one after the other, and the network at the end
 unfoldable pub network_ran : Network → List Move → List Outcome × Network
 network_ran n [] = ([], n)
 network_ran n (m ∷ ms) =

@@ -36,7 +36,7 @@ assert_line e = Row.Assert e.0 (e.1).role (e.1).winner.address (e.1).end
 abbrev pub upstream_line : Key × JoinTimerRow → Row
 upstream_line e = Row.Upstream (e.0).group (e.0).source (e.1).end
 
--- the (S,G,rpt) states of the sources with a fact, where the group is joined
+-- the lines of the (S,G,rpt) states of the sources with a fact, where the group is joined
 abbrev pub tree_line : ℕ → ℕ → TreeState → List Row
 tree_line g src TreeState.NotJoined = []
 tree_line g src TreeState.Pruned = Row.Tree (addr g) (addr src) true ∷ []

@@ -1,15 +1,16 @@
 -- One IGMPv3 group record. Sections are those of RFC 3376: its tables of current-state records (6.4.1), of changes
--- (6.4.2), and of timers that end (6.2.2, 6.2.3, 6.5), as equations between sets, for each source by itself.
+-- (6.4.2), and of timers that expire (6.2.2, 6.2.3, 6.5), as equations between sets, for each source by itself.
 use Rattle.std.specs.{List.list_any, Option.option_map_or, Prelude.{Bool, List, None, Option, Some, [], false, filter, filter_map, find, fold, if◌then◌else◌, is_none, is_some, map, nat_lt, not, option_and_then, true, ℕ, ◌&&◌, ◌++◌, ◌==◌, ◌∷◌}}
 use Rattle.pim_types.specs.{Keys.{is_of_group, is_on, source_in, source_key, star_key}, declared.fact.{GroupRecordRow.GroupRecordRow, Key.Key, SendingRow.SendingRow, SourceRecordRow.SourceRecordRow}}
 use Rattle.pim_model.specs.{Sets.Set, State.State, Tables.{Table, ascending, drop_at, drop_where, has_row, is_among, is_empty_list, put, row_at}}
 pub use Rattle.igmp_wire.specs.declared.report.RecordType.{RecordType}
 
--- a source record (6.2): with an end its source timer runs, without one it is 0 and the source excluded
+-- a source record (6.2): a source with its source timer; without a timer the timer is 0 and the source excluded
 abbrev pub Member : Type 0
 Member = ℕ × Option ℕ
 
--- (group timer, filter-mode, source records) (6.2): INCLUDE without a timer, EXCLUDE with its end; sources ascending
+-- (group timer, filter-mode, source records) (6.2): in INCLUDE without a group timer, in EXCLUDE with when it expires;
+-- sources ascending
 pub record GroupRecord : Type 0 where
   pub timer : Option ℕ
   pub members : List Member
@@ -18,37 +19,37 @@ pub record GroupRecord : Type 0 where
 abbrev pub no_record : GroupRecord
 no_record = record { timer = None; members = [] }
 
--- the record goes with its last source
+-- the record is INCLUDE of no source, which is no record (6.3)
 abbrev pub is_no_record : GroupRecord → Bool
 is_no_record r = is_none r.timer && is_empty_list r.members
 
--- Send Q(G), and Send Q(G,A) (6.4.2)
+-- the queries that a record requests: Send Q(G), and Send Q(G,A) (6.4.2)
 pub data Asked : Type 0 where
   AskGroup : Asked
   AskSources : List ℕ → Asked
 
--- what becomes of a source
+-- what becomes of a source of a record
 pub data Fate : Type 0 where
-  -- it is in neither set
+  -- the source is in neither set
   Gone : Fate
   Excluded : Fate
   Until : ℕ → Fate
 
--- how a source stands in a record
+-- what a source is in a record
 unfoldable pub fate_in : GroupRecord → ℕ → Fate
 fate_in r src = option_map_or (λ (m : Member). option_map_or Until m.1 Excluded) (find (λ m. m.0 == src) r.members) Gone
 
--- the source record of one that isn't gone
+-- the source record of a source that isn't gone
 abbrev pub member_of : ℕ → Fate → Option Member
 member_of src Gone = None
 member_of src Excluded = Some (src, None)
 member_of src (Until end) = Some (src, Some end)
 
--- the sources of a record and those of a message
+-- the sources of a record and those of a message, ascending
 abbrev pub sources_of_both : GroupRecord → List ℕ → List ℕ
 sources_of_both r named = ascending (map (λ (m : Member). m.0) r.members ++ named)
 
--- the record in which each source fares as told
+-- the record in which each source is what a function says
 unfoldable pub record_with : Option ℕ → (ℕ → Fate) → List ℕ → GroupRecord
 record_with timer fate sources =
     record { timer = timer; members = filter_map (λ src. member_of src (fate src)) sources }
@@ -63,7 +64,7 @@ abbrev pub is_excluded : Fate → Bool
 is_excluded Excluded = true
 is_excluded _ = false
 
--- Send Q(G,A), where A has the sources that pass, of an ascending list
+-- Send Q(G,A), where A has those sources of an ascending list that pass a test
 abbrev pub asks : (ℕ → Bool) → List ℕ → List Asked
 asks test sources = AskSources (filter test sources) ∷ []
 
@@ -84,12 +85,13 @@ include_to_exclude r named src =
 abbrev pub exclude_less : ℕ → GroupRecord → Set → ℕ → Fate
 exclude_less full r named src = if named src then Until full else fate_in r src
 
--- (A-X-Y)=end, with the timers of X and the exclusion of Y kept
+-- (A-X-Y)=`end`: a source in neither set gets this timer; those of X keep theirs, and those of Y stay excluded
 abbrev pub kept_or_until : ℕ → Fate → Fate
 kept_or_until end Gone = Until end
 kept_or_until end fate = fate
 
--- IS_EX (A): EXCLUDE (A-Y,Y*A), (A-X-Y)=GMI, Delete (X-A), Delete (Y-A). TO_EX (A): likewise, (A-X-Y)=Group Timer
+-- IS_EX (A): EXCLUDE (A-Y,Y*A), (A-X-Y)=GMI, Delete (X-A), Delete (Y-A). TO_EX (A): EXCLUDE (A-Y,Y*A), (A-X-Y)=Group
+-- Timer, Delete (X-A), Delete (Y-A)
 abbrev pub exclude_again : ℕ → GroupRecord → Set → ℕ → Fate
 exclude_again end r named src = if named src then kept_or_until end (fate_in r src) else Gone
 
@@ -97,19 +99,19 @@ exclude_again end r named src = if named src then kept_or_until end (fate_in r s
 abbrev pub exclude_more : ℕ → GroupRecord → Set → ℕ → Fate
 exclude_more end r named src = if named src then kept_or_until end (fate_in r src) else fate_in r src
 
--- A*B
+-- A*B: the source is in the record and in the message
 abbrev pub in_both : GroupRecord → Set → Set
 in_both r named src = is_running (fate_in r src) && named src
 
--- A-B of INCLUDE (A), X-A of EXCLUDE (X,Y)
+-- A-B of INCLUDE (A), X-A of EXCLUDE (X,Y): the source's timer runs, and the message doesn't name it
 abbrev pub running_unnamed : GroupRecord → Set → Set
 running_unnamed r named src = is_running (fate_in r src) && not (named src)
 
--- A-Y
+-- A-Y: the message names the source, and it isn't excluded
 abbrev pub named_not_excluded : GroupRecord → Set → Set
 named_not_excluded r named src = named src && not (is_excluded (fate_in r src))
 
--- the lines of both tables that begin with INCLUDE (A); `full` is GMI from now
+-- the lines of both tables (6.4.1, 6.4.2) that begin with INCLUDE (A); `full` is GMI from the present time
 unfoldable pub from_include : ℕ → GroupRecord → RecordType → Set → List ℕ → GroupRecord × List Asked
 from_include full r RecordType.IsInclude named all = (record_with None (include_more full r named) all, [])
 from_include full r RecordType.Allow named all = (record_with None (include_more full r named) all, [])
@@ -120,7 +122,8 @@ from_include full r RecordType.ToExclude named all =
 from_include full r RecordType.ToInclude named all =
     (record_with None (include_more full r named) all, asks (running_unnamed r named) all)
 
--- the lines that begin with EXCLUDE (X,Y), whose group timer ends at `end`; Group Timer=GMI is `Some full`
+-- the lines of both tables (6.4.1, 6.4.2) that begin with EXCLUDE (X,Y), whose group timer expires at `end`; Group
+-- Timer=GMI is `Some full`
 unfoldable pub from_exclude : ℕ → ℕ → GroupRecord → RecordType → Set → List ℕ → GroupRecord × List Asked
 from_exclude full end r RecordType.IsInclude named all = (record_with (Some end) (exclude_less full r named) all, [])
 from_exclude full end r RecordType.Allow named all = (record_with (Some end) (exclude_less full r named) all, [])
@@ -133,7 +136,7 @@ from_exclude full end r RecordType.ToExclude named all =
 from_exclude full end r RecordType.ToInclude named all =
     (record_with (Some end) (exclude_less full r named) all, asks (running_unnamed r named) all ++ AskGroup ∷ [])
 
--- a group record of a report, of one type with its sources, in either mode
+-- a group record of a report, of one type with its sources, in either mode (6.4)
 unfoldable pub apply_record : ℕ → GroupRecord → RecordType → List ℕ → GroupRecord × List Asked
 apply_record full r type sources =
     let all : List ℕ = sources_of_both r sources in
@@ -143,14 +146,14 @@ apply_record full r type sources =
       | Some end ↦ from_exclude full end r type named all
     ]
 
--- the group timer ends (6.5): EXCLUDE (X,Y) becomes INCLUDE (X), where X has the sources whose timers run on
+-- the group timer expires (6.5): EXCLUDE (X,Y) becomes INCLUDE (X), where X has the sources whose timers run on
 unfoldable pub group_expired : ℕ → GroupRecord → GroupRecord
 group_expired now r = record {
   timer = None;
   members = filter (λ (m : Member). option_map_or (nat_lt now) m.1 false) r.members;
 }
 
--- a source timer ends (6.3): in INCLUDE the source record goes, in EXCLUDE the source is excluded from now on
+-- a source timer expires (6.3): in INCLUDE the source record is deleted, in EXCLUDE the source is excluded from then on
 unfoldable pub source_expired : ℕ → GroupRecord → GroupRecord
 source_expired src r =
     if is_some r.timer
@@ -159,7 +162,7 @@ source_expired src r =
 
 -- ---- the record as rows of the state
 
--- the source records of rows
+-- the source records that rows stand for
 unfoldable pub members_of : Table SourceRecordRow → List Member
 members_of rows = map (λ (e : Key × SourceRecordRow). (source_in e.0, (e.1).end)) rows
 
@@ -174,11 +177,11 @@ record_of s i g = record {
   members = members_of (filter (λ e. is_at_group i g e.0) s.source_records);
 }
 
--- with a source record
+-- a table with the row of a source record
 abbrev pub put_member : ℕ → ℕ → Table SourceRecordRow → Member → Table SourceRecordRow
 put_member i g t m = put t (source_key i g m.0) (record { end = m.1 })
 
--- without the queries of sources and records that are gone
+-- the state without the repeated queries of sources and records that are gone
 unfoldable pub with_repeats_of_rows : State → ℕ → ℕ → State
 with_repeats_of_rows s i g =
     let sendings : Table SendingRow =
@@ -191,7 +194,7 @@ with_repeats_of_rows s i g =
       sendings = sendings;
     }
 
--- the state in which the record has these members; the row of the group goes with the last of them in INCLUDE
+-- the state in which the record has the given sources; the group's row is deleted with the last of them in INCLUDE
 unfoldable pub with_members : State → ℕ → ℕ → GroupRecord → State
 with_members s i g r =
     let others : Table SourceRecordRow = drop_where (is_at_group i g) s.source_records in

@@ -1,4 +1,4 @@
--- Registering with the RP. Sections are those of RFC 7761. No row is NoInfo.
+-- Registering with the RP. Sections are those of RFC 7761. Where there is no register row the state is NoInfo.
 use Rattle.std.specs.{Option.option_map_or, Prelude.{Bool, List, Some, [], false, fold, if◌then◌else◌, map, not, true, unwrap_or, ℕ, ◌&&◌, ◌++◌, ◌+◌, ◌==◌, ◌||◌, ◌∷◌}}
 use Rattle.pim_types.specs.{Keys.{group_in, source_in, source_key}, declared.{config.SptSwitch.SptSwitch, fact.{Key.Key, RegisterRow.RegisterRow, RegisterState.RegisterState}, path.Path.Path}}
 use Rattle.pim_model.specs.{Messages.Message, Neighbours.is_dr, Sets.{is_kept_alive, spt_bit}, State.{State, is_own, my_address}, Tables.{Table, change_row, delay_in, drop_at, has_row, keys_in, put, same_option}, Unicast.{route, rp_of, rpf_interface}}
@@ -11,7 +11,7 @@ keepalive_period = 210000
 abbrev pub register_probe_time : ℕ
 register_probe_time = 5000
 
--- set KeepaliveTimer(S,G) to Keepalive_Period
+-- set KeepaliveTimer(S,G) to Keepalive_Period (4.2)
 unfoldable pub with_keepalive : State → ℕ → ℕ → State
 with_keepalive s g src =
     record s {
@@ -19,7 +19,7 @@ with_keepalive s g src =
           (record { keepalive = Some (s.present + keepalive_period); spt = spt_bit s g src });
     }
 
--- the RP is known, and another router
+-- RP(G) is known, and is another router
 unfoldable pub has_other_rp : State → ℕ → Bool
 has_other_rp s g = option_map_or (λ rp. not (is_own s rp)) (rp_of s g) false
 
@@ -34,32 +34,33 @@ unfoldable pub could_register : State → ℕ → ℕ → Bool
 could_register s g src =
     option_map_or (is_dr_of_path s) (route s src) false && is_kept_alive s g src && has_other_rp s g
 
--- CouldRegister ->True: NI -> J; CouldRegister ->False: any state -> NI (4.4.1)
+-- CouldRegister(S,G) ->True: NI -> J; CouldRegister(S,G) ->False: any state -> NI (4.4.1), by the key of a source
 unfoldable pub settled_register : State → Key → Table RegisterRow → Table RegisterRow
 settled_register s k t =
     if could_register s (group_in k) (source_in k)
     then (if has_row t k then t else put t k (record { state = RegisterState.Join }))
     else drop_at t k
 
--- the same of a state
+-- the state in which the register of one source is settled (4.4.1)
 unfoldable pub settle_register : State → Key → State
 settle_register s k = record s { registers = settled_register s k s.registers }
 
--- the same of all sources, at the end of a change
+-- the state in which the registers of all sources are settled (4.4.1); here: at the end of a change
 unfoldable pub settle_registers : State → State
 settle_registers s =
     record s { registers = fold (λ t k. settled_register s k t) s.registers (keys_in s.sources ++ keys_in s.registers) }
 
--- whom a Register-Stop means; one with source 0.0.0.0 means all sources of the group (4.4.1)
+-- a Register-Stop is for this register row; one with source 0.0.0.0 is for all sources of the group (4.4.1)
 abbrev pub is_meant : ℕ → ℕ → Key × RegisterRow → Bool
 is_meant g src e = (group_in e.0 == g) && ((src == 0) || (source_in e.0 == src))
 
--- Register-Stop received (4.4.1): J, JP -> P; P stays
+-- Register-Stop received (4.4.1): J, JP -> P; P is unchanged
 abbrev pub state_after_stop : ℕ → RegisterState → RegisterState
 state_after_stop end (RegisterState.Prune old) = RegisterState.Prune old
 state_after_stop end _ = RegisterState.Prune end
 
--- Register-Stop Timer = rand(0.5, 1.5) * Register_Suppression_Time - Register_Probe_Time (4.4.1)
+-- a Register-Stop is received: Register-Stop Timer = rand(0.5, 1.5) * Register_Suppression_Time - Register_Probe_Time
+-- (4.4.1)
 unfoldable pub register_stop_seen : State → ℕ → ℕ → ℕ → State
 register_stop_seen s w g src =
     let end : ℕ = s.present + delay_in 25000 85000 w in
@@ -72,7 +73,7 @@ register_stop_seen s w g src =
 abbrev pub registering_address : State → ℕ → ℕ
 registering_address s src = option_map_or (my_address s) (rpf_interface s src) 0
 
--- with another register state of (S,G)
+-- the state with another register state of (S,G)
 abbrev pub with_register_state : State → Key → RegisterState → State
 with_register_state s k state =
     record s { registers = change_row (λ (old : RegisterRow). Some (record { state = state })) k s.registers }

@@ -1,11 +1,11 @@
--- Which rows differ between two states: one that is in one of them alone, or one of which a value differs that is
--- neither the owed Hello nor an end that is there in both.
+-- Which rows differ between two states: a row that is in only one of them, or one of which a value differs, other than
+-- whether a Hello is owed and when a timer expires that runs in both.
 use Rattle.std.specs.Prelude.{Bool, None, Option, Some, [], false, is_some, true, ℕ, ◌&&◌, ◌==◌, ◌∷◌}
 use Rattle.pim_ip.specs.declared.lan.LanDelay.{LanDelay}
 use Rattle.pim_types.specs.{Keys.same_key, declared.{fact.{AssertMetric.AssertMetric, AssertRow.AssertRow, DownstreamRow.DownstreamRow, GroupRecordRow.GroupRecordRow, InterfaceRow.InterfaceRow, NeighbourRow.NeighbourRow, RegisterRow.RegisterRow, RegisterState.RegisterState, SourceRecordRow.SourceRecordRow, SourceRow.SourceRow}, path.Path.Path}}
 use Rattle.pim_model.specs.{Sets.is_winner, Tables.{Table, same_bool, same_option}}
 
--- both are there and alike, or neither is there
+-- both values are there and alike, or neither is there
 abbrev pub same_both : {X : Type 0} → (X → X → Bool) → Option X → Option X → Bool
 same_both same None None = true
 same_both same (Some a) (Some b) = same a b
@@ -19,11 +19,11 @@ same_rows same _ _ = false
 
 -- ---- each kind of row
 
--- two ends: both are there, or neither is
+-- a timer runs in both rows, or in neither
 abbrev pub same_end : Option ℕ → Option ℕ → Bool
 same_end a b = same_bool (is_some a) (is_some b)
 
--- the end of a Hello timer is always there
+-- two interface rows are alike; their Hello timers always run, and whether a Hello is owed doesn't count
 abbrev pub same_interface : InterfaceRow → InterfaceRow → Bool
 same_interface a b = a.generation == b.generation
 
@@ -51,14 +51,14 @@ same_metric m n =
     same_bool m.rpt n.rpt && (m.preference == n.preference) && (m.metric == n.metric)
     && (m.address.bits == n.address.bits)
 
--- the end of an assert is always there
+-- two asserts are alike: their timers always run
 abbrev pub same_assert : AssertRow → AssertRow → Bool
 same_assert a b = same_bool (is_winner (Some a)) (is_winner (Some b)) && same_metric a.winner b.winner
 
 abbrev pub same_source : SourceRow → SourceRow → Bool
 same_source a b = same_end a.keepalive b.keepalive && same_bool a.spt b.spt
 
--- a register state has an end by its kind
+-- two register states are alike: which state it is says whether the timer runs
 abbrev pub same_register_state : RegisterState → RegisterState → Bool
 same_register_state RegisterState.Join RegisterState.Join = true
 same_register_state (RegisterState.JoinPending end) (RegisterState.JoinPending later) = true

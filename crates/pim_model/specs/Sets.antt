@@ -1,6 +1,6 @@
 -- The state summarization macros (RFC 7761, section 4.1.5), the order of assert metrics (4.6.3), and who lost an assert
--- (4.6.5). A set of interfaces is its test. The register tunnel stands beside a set, so whether a list of (S,G) is
--- empty is asked by `is_immediate_empty` and `is_inherited_empty`. The line `reads:` of a macro names the rows that it
+-- (4.6.5). A set of interfaces is its test. The register tunnel is no member of such a set, so `is_immediate_empty` and
+-- `is_inherited_empty` say whether a list of (S,G) is empty. The line `reads:` of a macro names the rows that it
 -- depends on: no other row can change what it says.
 use Rattle.std.specs.{List.list_any, Option.option_map_or, Prelude.{Bool, List, None, Option, Some, false, filter, if◌then◌else◌, is_none, is_some, nat_lt, not, option_map, true, ℕ, ◌&&◌, ◌==◌, ◌||◌}}
 use Rattle.pim_ip.specs.Addr.{addr}
@@ -11,7 +11,7 @@ use Rattle.pim_model.specs.{Neighbours.is_dr, Receivers.{local_receiver_exclude,
 abbrev pub Set : Type 0
 Set = ℕ → Bool
 
--- both from left to right
+-- (+) and (-) are evaluated from left to right
 infixl 65 ◌∪◌ ◌∖◌
 -- A (+) B
 abbrev pub ◌∪◌ : Set → Set → Set
@@ -42,7 +42,7 @@ unfoldable pub is_kept_alive : State → ℕ → ℕ → Bool
 is_kept_alive s g src =
     option_map_or (λ (r : SourceRow). is_some r.keepalive) (row_at s.sources (source_key 0 g src)) false
 
--- the register state of (S,G) at its DR (4.4.1); none is NoInfo
+-- the register state of (S,G) at its DR (4.4.1); no row is NoInfo
 abbrev pub register_state : State → ℕ → ℕ → Option RegisterState
 register_state s g src = option_map (λ (r : RegisterRow). r.state) (row_at s.registers (source_key 0 g src))
 
@@ -51,7 +51,8 @@ abbrev pub is_register_join : Option RegisterState → Bool
 is_register_join (Some RegisterState.Join) = true
 is_register_join _ = false
 
--- DownstreamJPState(S,G,VI) == Join (4.4.1): the register tunnel VI is in joins(S,G), and so in both lists of (S,G)
+-- DownstreamJPState(S,G,VI) == Join (4.4.1): the register tunnel VI is in joins(S,G), and therefore in
+-- immediate_olist(S,G) and inherited_olist(S,G)
 -- reads: the register row of (S,G)
 unfoldable pub tunnel : State → ℕ → ℕ → Bool
 tunnel s g src = is_register_join (register_state s g src)
@@ -85,11 +86,11 @@ abbrev pub is_winner : Option AssertRow → Bool
 is_winner (Some r) = elim r.role [ AssertRole.Winner ↦ true | AssertRole.Loser ↦ false ]
 is_winner None = false
 
--- the assert of (*,G) on I: AssertWinner(*,G,I), AssertWinnerMetric(*,G,I) (4.6.5); none is NoInfo
+-- the assert of (*,G) on I: AssertWinner(*,G,I), AssertWinnerMetric(*,G,I) (4.6.5); no row is NoInfo
 abbrev pub assert_star : State → ℕ → ℕ → Option AssertRow
 assert_star s g i = row_at s.asserts (star_key i g)
 
--- the assert of (S,G) on I: AssertWinner(S,G,I), AssertWinnerMetric(S,G,I) (4.6.5); none is NoInfo
+-- the assert of (S,G) on I: AssertWinner(S,G,I), AssertWinnerMetric(S,G,I) (4.6.5); no row is NoInfo
 abbrev pub assert_source : State → ℕ → ℕ → ℕ → Option AssertRow
 assert_source s g src i = row_at s.asserts (source_key i g src)
 
@@ -107,11 +108,12 @@ abbrev pub metric_of : Bool → ℕ → ℕ → ℕ → AssertMetric
 metric_of rpt preference metric address =
     record { rpt = rpt; preference = preference; metric = metric; address = addr address }
 
--- here: what a router without a route asserts, which is worse than every route and not infinite
+-- here: the metric preference that a router without a route asserts (4.6.3), which is worse than every route's and not
+-- infinite
 abbrev pub unreachable_preference : ℕ
 unreachable_preference = 0x7FFF_FFFF
 
--- likewise its metric
+-- here: the metric that a router without a route asserts (4.6.3)
 abbrev pub unreachable_metric : ℕ
 unreachable_metric = 0xFFFF_FFFE
 
@@ -160,12 +162,14 @@ lost_assert s g src i =
 
 -- ---- local receivers
 
--- (I_am_DR(I) AND lost_assert(*,G,I) == FALSE) OR AssertWinner(*,G,I) == me
+-- the router serves receivers of G on I (4.1.5): (I_am_DR(I) AND lost_assert(*,G,I) == FALSE) OR AssertWinner(*,G,I) ==
+-- me
 -- reads: I_am_DR(I), the assert of (*,G) on the interface, RPF_interface(RP(G))
 unfoldable pub serves_star : State → ℕ → Set
 serves_star s g i = (is_dr s i && not (lost_assert_star s g i)) || is_winner (assert_star s g i)
 
--- (I_am_DR(I) AND lost_assert(S,G,I) == FALSE) OR AssertWinner(S,G,I) == me
+-- the router serves receivers of (S,G) on I (4.1.5): (I_am_DR(I) AND lost_assert(S,G,I) == FALSE) OR
+-- AssertWinner(S,G,I) == me
 -- reads: I_am_DR(I), and what lost_assert(S,G) reads
 unfoldable pub serves : State → ℕ → ℕ → Set
 serves s g src i = (is_dr s i && not (lost_assert s g src i)) || is_winner (assert_source s g src i)

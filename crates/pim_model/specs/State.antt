@@ -1,5 +1,5 @@
--- The state of the written machine: plain facts (RFC 7761, sections 4.1.1 to 4.1.4; RFC 3376, section 6.2). No upstream
--- state and no RPF neighbour is among them: they follow.
+-- The state of the specification: plain facts (RFC 7761, sections 4.1.1 to 4.1.4; RFC 3376, section 6.2). It has no
+-- upstream state and no RPF neighbour, since these follow from the facts.
 use Rattle.std.specs.{List.list_any, Option.option_map_or, Prelude.{Bool, List, Option, [], length, slice_get, ℕ, ◌==◌}}
 use Rattle.pim_types.specs.{Keys.iface_key, declared.{config.{Config.Config, InterfaceConfig.InterfaceConfig, Route.Route, RpRange.RpRange, Settings.Settings}, fact.{AssertRow.AssertRow, DownstreamRow.DownstreamRow, GroupRecordRow.GroupRecordRow, GroupRepeatRow.GroupRepeatRow, InterfaceRow.InterfaceRow, JoinTimerRow.JoinTimerRow, NeighbourRow.NeighbourRow, OverrideTimerRow.OverrideTimerRow, QuerierRow.QuerierRow, RegisterRow.RegisterRow, SendingRow.SendingRow, SourceRecordRow.SourceRecordRow, SourceRepeatRow.SourceRepeatRow, SourceRow.SourceRow}}}
 use Rattle.pim_model.specs.Tables.{Table, below, has_row}
@@ -11,8 +11,8 @@ pub record State : Type 0 where
   pub present : ℕ
   pub routes : List Route
   pub ranges : List RpRange
-  -- by interface: those that are up, with GenID and Hello Timer; PIM neighbours (RFC 7761, sections 4.1.1 and 4.3);
-  -- the querier's state (RFC 3376, section 6.6.2)
+  -- under keys of interfaces: the interfaces that are up, with GenID and Hello Timer; PIM neighbours (RFC 7761,
+  -- sections 4.1.1 and 4.3); the querier's state (RFC 3376, section 6.6.2)
   pub interfaces : Table InterfaceRow
   pub neighbours : Table NeighbourRow
   pub queriers : Table QuerierRow
@@ -45,7 +45,7 @@ settings_of c = record {
   last_member_query_interval = c.last_member_query_interval;
 }
 
--- moment 0, all interfaces down, the configured routes and RP ranges
+-- the state at the opening: timestamp 0, all interfaces down, the configured routes and RP ranges
 unfoldable pub opening : Config → State
 opening c = record {
   settings = settings_of c;
@@ -73,7 +73,7 @@ opening c = record {
 abbrev pub iface_count : State → ℕ
 iface_count s = length s.configured
 
--- their numbers, ascending
+-- the numbers of the configured interfaces, ascending
 abbrev pub ifaces : State → List ℕ
 ifaces s = below (iface_count s)
 
@@ -81,11 +81,11 @@ ifaces s = below (iface_count s)
 unfoldable pub iface_config : State → ℕ → Option InterfaceConfig
 iface_config s i = slice_get s.configured i
 
--- a value of an interface's configuration, 0 for a number that isn't configured
+-- a value of an interface's configuration; 0 for an interface that isn't configured
 abbrev pub value_among : (InterfaceConfig → ℕ) → List InterfaceConfig → ℕ → ℕ
 value_among field configured i = option_map_or field (slice_get configured i) 0
 
--- its address
+-- the address of an interface; 0 for an interface that isn't configured
 abbrev pub address_among : List InterfaceConfig → ℕ → ℕ
 address_among configured i = value_among (λ c. c.address.bits) configured i
 
@@ -110,7 +110,7 @@ pub record InterfaceTable : Type 0 where
   pub configured : List InterfaceConfig
   pub rows : Table InterfaceRow
 
--- the same of a state
+-- the interface table of a state
 abbrev pub interfaces_of : State → InterfaceTable
 interfaces_of s = record { configured = s.configured; rows = s.interfaces }
 
@@ -118,10 +118,10 @@ interfaces_of s = record { configured = s.configured; rows = s.interfaces }
 abbrev pub is_up : State → ℕ → Bool
 is_up s i = has_row s.interfaces (iface_key i)
 
--- an address of the router, its interface being up or not
+-- the address is one of the router's, whether its interface is up or not
 unfoldable pub is_own_among : List InterfaceConfig → ℕ → Bool
 is_own_among configured address = list_any (λ c. c.address.bits == address) configured
 
--- the same of a state
+-- the address is one of the router's, in a state
 abbrev pub is_own : State → ℕ → Bool
 is_own s address = is_own_among s.configured address

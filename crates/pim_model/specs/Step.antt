@@ -1,5 +1,5 @@
--- One step of the written machine: the judgement of an event, its own change, what follows from it. Sections are those
--- of RFC 7761.
+-- One step of the specification: the judgement of an event, its own change, and what follows from it. Sections are
+-- those of RFC 7761.
 use Rattle.std.specs.Prelude.{Err, List, Ok, Result, [], false, length, true, ℕ, ◌++◌, ◌+◌, ◌∷◌}
 use Rattle.pim_ip.specs.{Ipv4.Packet, declared.refusal.Refusal.Refusal}
 use Rattle.pim_types.specs.{Keys.{iface_key, is_on}, declared.{config.RpRange.RpRange, event.Event.Event, fact.InterfaceRow.InterfaceRow, outcome.{Emission.Emission, Outcome.Outcome, Stop.Stop, Verdict.Verdict}}}
@@ -8,14 +8,15 @@ use Rattle.pim_model.specs.{Asserts.assert_received, Downstream.to_me, Firing.{f
 
 -- ---- changes
 
--- an event's own change: the state, the messages, the copies of a packet on links, the Register round it
+-- an event's own change: the state after it, the messages, the copies of a packet on links, and the Register around
+-- that packet
 pub record Change : Type 0 where
   pub state : State
   pub messages : List Message
   pub copies : List Emission
   pub registered : List Emission
 
--- a change of the state alone
+-- a change of the state that sends nothing
 abbrev pub changed : State → Change
 changed s = record { state = s; messages = []; copies = []; registered = [] }
 
@@ -23,7 +24,7 @@ changed s = record { state = s; messages = []; copies = []; registered = [] }
 abbrev pub with_messages : State × List Message → Change
 with_messages c = record { state = c.0; messages = c.1; copies = []; registered = [] }
 
--- a packet that leaves by a list (4.2)
+-- the change of a packet that leaves by a list of interfaces (4.2)
 abbrev pub packet_forwarded : Packet → Forwarded → Change
 packet_forwarded p f = record {
   state = f.state;
@@ -32,7 +33,7 @@ packet_forwarded p f = record {
   registered = tunnel_of f.state p f.to_tunnel;
 }
 
--- what leaves of a Register (4.4.2): its packet, none of a Null-Register
+-- the change of a Register (4.4.2): the packet inside it leaves; a Null-Register has none
 abbrev pub decapsulated : Register → Forwarded → Change
 decapsulated (Encapsulated inner) f = packet_forwarded inner f
 decapsulated (Null source group) f = with_messages (f.state, f.messages)
@@ -48,7 +49,7 @@ iface_up s w i =
     } in
     querier_up (record s { interfaces = put s.interfaces (iface_key i) row }) i
 
--- all facts of the interface go; here: without a Hello with holdtime 0, nor anything else that leaves on it
+-- the interface goes down: all its facts are deleted; here: no Hello with holdtime 0 and nothing else leaves on it
 unfoldable pub iface_down : State → ℕ → State
 iface_down s i = record s {
   interfaces = drop_where (is_on i) s.interfaces;
@@ -63,13 +64,13 @@ iface_down s i = record s {
   asserts = drop_where (is_on i) s.asserts;
 }
 
--- other RP ranges: RP changed (4.4.1)
+-- the RP ranges are replaced: RP changed (4.4.1)
 unfoldable pub rps_replaced : State → List RpRange → State
 rps_replaced s rps =
     let after : State = record s { ranges = rps } in
     record after { registers = registers_after_rps s after }
 
--- the own change of what was accepted, with a draw; time that passes has none, its firings have
+-- the own change of an accepted event, with its draw; an Advance has none, but the timers that expire have
 unfoldable pub change : State → ℕ → Accepted → Change
 change s w (Accepted.Advance moment) = changed s
 change s w (Accepted.Up i) = with_messages (iface_up s w i.number)
@@ -89,19 +90,19 @@ change s w (Accepted.RegisterStop from r) = changed (register_stop_seen s w r.gr
 
 -- ---- the step
 
--- what an event is answered, what leaves, how many of it are copies of a packet, and the state after it
+-- the answer to an event, what leaves, how many of that are copies of a packet, and the state after it
 pub record Answered : Type 0 where
   pub answer : Result Verdict Refusal
   pub emissions : List Emission
   pub copies : ℕ
   pub state : State
 
--- an event that was refused or ignored
+-- the answer to an event that is refused or ignored
 abbrev pub stopped : State → Stop → Answered
 stopped s (Stop.Refuse refusal) = record { answer = Err refusal; emissions = []; copies = 0; state = s }
 stopped s (Stop.Ignore reason) = record { answer = Ok (Verdict.Ignored reason); emissions = []; copies = 0; state = s }
 
--- a change of a state, with what follows from it
+-- the answer to a change of a state, with what follows from it
 unfoldable pub done : State → ℕ → Change → Answered
 done s w c =
     let sent : State × List Emission = settled s (c.state, c.messages) w in
@@ -112,35 +113,35 @@ done s w c =
       state = sent.0;
     }
 
--- timers fire in their order; nothing else moves time
+-- an Advance: timers expire in their order; no other event changes the present time
 unfoldable pub advanced : State → ℕ → ℕ → Answered
 advanced s w moment =
     let fires : State × List Emission = fire_all w moment s in
     record { answer = Ok Verdict.Done; emissions = fires.1; copies = 0; state = record (fires.0) { present = moment } }
 
--- what was accepted, and for what there is room
+-- the answer to an accepted event for which there is room
 unfoldable pub taken : State → ℕ → Accepted → Answered
 taken s w (Accepted.Advance moment) = advanced s w moment
 taken s w a = done s w (change s w a)
 
--- here: an event that needs more facts than there is room for is refused whole
+-- the answer to an accepted event; here: one that needs more facts than there is room for is refused whole
 unfoldable pub taken_unless_full : State → ℕ → Accepted → Answered
 taken_unless_full s w a = elim (is_full s a) [ true ↦ stopped s (Stop.Refuse Refusal.Full) | false ↦ taken s w a ]
 
--- what follows of a judgement
+-- the answer by a judgement: what stopped the event, or what an accepted event brings
 abbrev pub concluded : State → (Accepted → Answered) → Judged → Answered
 concluded s next (Err stop) = stopped s stop
 concluded s next (Ok a) = next a
 
--- one event: judged, asked for room, taken
+-- one event: it is judged, refused if there is no room for its facts, and else taken
 unfoldable pub step : State → Event → Answered
 step s e = concluded s (taken_unless_full s e.draw) (judged s e.kind)
 
--- what a user sees of a step
+-- the outcome of an event, which a user sees
 abbrev pub outcome_of : Answered → Outcome
 outcome_of a = record { answer = a.answer; emissions = a.emissions; copies = a.copies }
 
--- event after event: the outcomes and the state at the end
+-- events one after the other: their outcomes, and the state at the end
 unfoldable pub ran : State → List Event → List Outcome × State
 ran s [] = ([], s)
 ran s (e ∷ es) =

@@ -17,27 +17,27 @@ module _ {R : Type 0} where
   unfoldable pub has_row : Table R → Key → Bool
   has_row t k = is_some (row_at t k)
 
-  -- with this row at a key
+  -- the table with this row at a key
   unfoldable pub put : Table R → Key → R → Table R
   put t k row = insert_entry key_cmp t k row
 
-  -- without the rows whose key passes
+  -- the table without the rows whose key passes
   unfoldable pub drop_where : (Key → Bool) → Table R → Table R
   drop_where test t = filter (λ e. not (test e.0)) t
 
-  -- without the row at a key
+  -- the table without the row at a key
   unfoldable pub drop_at : Table R → Key → Table R
   drop_at t k = drop_where (same_key k) t
 
-  -- the entry at a key with its row as the change leaves it, or without it
+  -- the entry at a key after a change of its row, which may remove it
   unfoldable pub changed_entry : (R → Option R) → Key → Key × R → Option (Key × R)
   changed_entry change k e = if same_key k e.0 then option_map (λ row. (e.0, row)) (change e.1) else Some e
 
-  -- the row at a key as the change leaves it, in its place
+  -- the table after a change of the row at a key, in its place
   unfoldable pub change_row : (R → Option R) → Key → Table R → Table R
   change_row change k t = filter_map (changed_entry change k) t
 
-  -- with this row at a key, or without one
+  -- the table with this row at a key, or without one
   unfoldable pub set_row : Table R → Key → Option R → Table R
   set_row t k None = drop_at t k
   set_row t k (Some row) = put t k row
@@ -58,7 +58,7 @@ module _ {R : Type 0} where
 abbrev pub below : ℕ → List ℕ
 below n = range_with_len 0 n
 
--- a number put into an ascending list without repeats
+-- an ascending list without repeats, with a number added in its place
 unfoldable pub insert_number : ℕ → List ℕ → List ℕ
 insert_number n [] = n ∷ []
 insert_number n (m ∷ ms) =
@@ -83,7 +83,7 @@ abbrev pub is_empty_list : {X : Type 0} → List X → Bool
 is_empty_list [] = true
 is_empty_list (x ∷ xs) = false
 
--- equal options of numbers, and of pairs of an interface and an address
+-- two options of numbers, or of pairs of an interface and an address, are equal
 abbrev pub same_option : Option ℕ → Option ℕ → Bool
 same_option None None = true
 same_option None (Some n) = false
@@ -94,22 +94,22 @@ same_option (Some m) (Some n) = m == n
 abbrev pub hop_at : ℕ → ℕ → Hop
 hop_at i address = record { iface = record { number = i }; address = addr address }
 
--- equal neighbours, or none
+-- two neighbours are equal, or both none
 abbrev pub same_hop : Option Hop → Option Hop → Bool
 same_hop None None = true
 same_hop None (Some h) = false
 same_hop (Some h) None = false
 same_hop (Some h) (Some k) = (h.iface.number == k.iface.number) && (h.address.bits == k.address.bits)
 
--- equal addresses, or none
+-- two addresses are equal, or both none
 abbrev pub same_address : Option Addr → Option Addr → Bool
 same_address a b = same_option (option_map (λ (x : Addr). x.bits) a) (option_map (λ (x : Addr). x.bits) b)
 
--- equal interfaces, or none
+-- two interfaces are equal, or both none
 abbrev pub same_iface : Option IfaceId → Option IfaceId → Bool
 same_iface a b = same_option (option_map (λ (x : IfaceId). x.number) a) (option_map (λ (x : IfaceId). x.number) b)
 
--- the later of two ends, where `None` never ends
+-- the later of two timestamps, where `None` is never
 abbrev pub later_end : Option ℕ → Option ℕ → Option ℕ
 later_end (Some a) (Some b) = Some (max a b)
 later_end _ _ = None

@@ -1,39 +1,39 @@
--- What ends, and when: each end of a row is a timer (RFC 7761, section 4.10), under the row's key.
+-- Which timers run, and when they expire: each timer of a row (RFC 7761, section 4.10) is under the row's key.
 use Rattle.std.specs.{Ordering.{is_lt, nat_cmp, ordering_then}, Prelude.{Bool, List, None, Option, Some, filter, filter_map, nat_le, option_map, ℕ, ◌++◌}, declared.cmp.Ordering.Ordering}
 use Rattle.pim_types.specs.{Timers.timer_cmp, declared.{fact.{AssertRow.AssertRow, DownstreamRow.DownstreamRow, GroupRecordRow.GroupRecordRow, GroupRepeatRow.GroupRepeatRow, InterfaceRow.InterfaceRow, JoinTimerRow.JoinTimerRow, Key.Key, NeighbourRow.NeighbourRow, OverrideTimerRow.OverrideTimerRow, QuerierRole.QuerierRole, QuerierRow.QuerierRow, RegisterRow.RegisterRow, RegisterState.RegisterState, SourceRecordRow.SourceRecordRow, SourceRepeatRow.SourceRepeatRow, SourceRow.SourceRow}, timer.{Timer.Timer, TimerKind.TimerKind}}}
 use Rattle.pim_model.specs.{Clearing.first_by, State.State, Tables.Table}
 
--- a moment, and the timer that ends then
+-- a timestamp, and the timer that expires then
 pub record Ending : Type 0 where
   pub end : ℕ
   pub timer : Timer
 
--- the end of a timer, by its kind and key
+-- the ending of a timer, by its kind, key and timestamp
 abbrev pub ending : TimerKind → Key → ℕ → Ending
 ending kind k end = record { end = end; timer = record { kind = kind; key = k } }
 
 module _ {R : Type 0} (kind : TimerKind) (end_of : R → Option ℕ) where
-  -- the ends of a table's rows
+  -- the timers that run in a table's rows
   unfoldable pub endings : Table R → List Ending
   endings rows = filter_map (λ (e : Key × R). option_map (ending kind e.0) (end_of e.1)) rows
 
--- RST(S,G) doesn't run in Join
+-- when RST(S,G) expires; it doesn't run in Join (4.4.1)
 abbrev pub register_end : RegisterState → Option ℕ
 register_end RegisterState.Join = None
 register_end (RegisterState.JoinPending end) = Some end
 register_end (RegisterState.Prune end) = Some end
 
--- the next general query
+-- when the next general query leaves, if the router is the querier
 abbrev pub next_query : QuerierRole → Option ℕ
 next_query (QuerierRole.Querier next left) = Some next
 next_query (QuerierRole.NonQuerier end) = None
 
--- the Other-Querier-Present timer
+-- when the Other-Querier-Present timer expires, if another router is the querier
 abbrev pub other_querier_end : QuerierRole → Option ℕ
 other_querier_end (QuerierRole.Querier next left) = None
 other_querier_end (QuerierRole.NonQuerier end) = Some end
 
--- all that run: NLT(N,I), PPT, ET, the group and source timers of IGMP, AT, KAT(S,G), RST(S,G), OT(S,G,rpt), JT,
+-- all timers that run: NLT(N,I), PPT, ET, the group and source timers of IGMP, AT, KAT(S,G), RST(S,G), OT(S,G,rpt), JT,
 -- Other-Querier-Present, repeats of queries, general queries, HT(I)
 unfoldable pub timers : State → List Ending
 timers s =
@@ -53,23 +53,23 @@ timers s =
     ++ endings TimerKind.GeneralQuery (λ (r : QuerierRow). next_query r.role) s.queriers
     ++ endings TimerKind.Hello (λ (r : InterfaceRow). Some r.hello_end) s.interfaces
 
--- by moment, rank and key
+-- the order of endings: by timestamp, rank of the kind, and key
 unfoldable pub ending_cmp : Ending → Ending → Ordering
 ending_cmp a b =
     ordering_then (nat_cmp a.end b.end) (timer_cmp a.timer b.timer)
 
--- a timer ends before another
+-- a timer expires before another
 abbrev pub is_ending_first : Ending → Ending → Bool
 is_ending_first a b = is_lt (ending_cmp a b)
 
--- the least timer
+-- the timer that expires first
 unfoldable pub next_ending : State → Option Ending
 next_ending s = first_by is_ending_first (timers s)
 
--- the moment at which time has to go on, if any timer runs
+-- the timestamp at which the next timer expires, if any runs
 unfoldable pub next_moment : State → Option ℕ
 next_moment s = option_map (λ (e : Ending). e.end) (next_ending s)
 
--- the least timer that is due at a moment
+-- the first timer that is due by a timestamp
 unfoldable pub next_due : ℕ → State → Option Ending
 next_due moment s = first_by is_ending_first (filter (λ (e : Ending). nat_le e.end moment) (timers s))

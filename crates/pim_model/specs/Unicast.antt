@@ -9,10 +9,10 @@ use Rattle.pim_model.specs.{State.{State, is_own_among}, Tables.{same_option, Ta
 abbrev pub subnet : InterfaceConfig → Prefix
 subnet c = record { address = c.address; length = c.length }
 
--- The rules read the configured interfaces, the rows of those that are up, the routes and the RP ranges; those
--- of a state are its own.
+-- The rules with names in `_among` read the configured interfaces, the rows of those that are up, the routes and the RP
+-- ranges; `route` and `rp_of` are those of a state.
 
--- the address lies in the subnet of the interface, which is up
+-- the address is in the subnet of the interface, and the interface is up
 unfoldable pub is_on_link_among : List InterfaceConfig → Table InterfaceRow → ℕ → ℕ → Bool
 is_on_link_among configured up address i =
     has_row up (iface_key i) && option_map_or (λ c. contains (subnet c) address) (slice_get configured i) false
@@ -21,7 +21,7 @@ is_on_link_among configured up address i =
 unfoldable pub link_among : List InterfaceConfig → Table InterfaceRow → ℕ → Option ℕ
 link_among configured up address = find (is_on_link_among configured up address) (below (length configured))
 
--- DirectlyConnected(A) (4.2): the route over the link itself, with preference and metric 0
+-- the route to a directly connected address (4.2): over the link itself, with preference and metric 0
 abbrev pub link_path : ℕ → ℕ → Path
 link_path address i = record {
   iface = record { number = i };
@@ -41,17 +41,17 @@ route_path r = record {
   is_connected = false;
 }
 
--- here: none where the interface is down
+-- the path of a route; here: none where its interface is down
 abbrev pub path_if_up : Table InterfaceRow → Path → Option Path
 path_if_up up p = if has_row up (iface_key p.iface.number) then Some p else None
 
--- the longest route, none where its interface is down
+-- the route with the longest prefix that contains the address; none where its interface is down
 unfoldable pub routed_among : Table InterfaceRow → List Route → ℕ → Option Path
 routed_among up routes address =
     option_and_then (λ r. path_if_up up (route_path r)) (longest_match (λ (r : Route). r.prefix) routes address)
 
 -- the route to A: RPF_interface(A) (4.2), MRIB.next_hop(A) (4.1.5), MRIB.pref(A) and MRIB.metric(A) (4.6.3)
--- here: none to an own address; else over a link where A is on one; else the longest route
+-- here: none to an address of the router; else over the link that A is on; else the route with the longest prefix
 unfoldable pub route_among : List InterfaceConfig → Table InterfaceRow → List Route → ℕ → Option Path
 route_among configured up routes address =
     let over_link : Option ℕ = link_among configured up address in
@@ -59,17 +59,19 @@ route_among configured up routes address =
     if is_own_among configured address then None
     else option_map_or (λ i. Some (link_path address i)) over_link over_route
 
+-- the route to A in a state (4.1.5, 4.2)
 -- reads: the configured interfaces, those that are up, the routes
 unfoldable pub route : State → ℕ → Option Path
 route s address = route_among s.configured s.interfaces s.routes address
 
--- RP(G) (4.7.1): of the longest range that contains G; an SSM group has none (4.8.1)
--- here: ranges are configured, each stands once, so neither a priority nor the hash function is asked
+-- RP(G) (4.7.1): that of the range with the longest prefix that contains G; an SSM group has none (4.8.1)
+-- here: ranges are configured, and no prefix is listed twice, so no priority and no hash function decides
 unfoldable pub rp_among : List RpRange → ℕ → Option ℕ
 rp_among ranges g =
     if is_source_specific g then None
     else option_map (λ (r : RpRange). r.rp.bits) (longest_match (λ (r : RpRange). r.prefix) ranges g)
 
+-- RP(G) (4.7.1) in a state
 -- reads: the RP ranges
 unfoldable pub rp_of : State → ℕ → Option ℕ
 rp_of s g = rp_among s.ranges g
@@ -78,7 +80,7 @@ rp_of s g = rp_among s.ranges g
 abbrev pub is_rp : State → ℕ → ℕ → Bool
 is_rp s g address = same_option (rp_of s g) (Some address)
 
--- the route to the RP of a group: none at the RP itself
+-- the route to RP(G): none at the RP itself
 -- reads: the RP ranges, and the route to RP(G)
 unfoldable pub rp_route : State → ℕ → Option Path
 rp_route s g = option_and_then (route s) (rp_of s g)

@@ -1,6 +1,6 @@
 -- The upstream machines of (*,G) (4.5.4), (S,G) (4.5.5) and (S,G,rpt) (4.5.6, 4.5.7). Sections are those of RFC 7761.
--- What is told follows from the desires and the upstream neighbours at the opening of an event, compared with those
--- after it. The macros read the state after the event as it is before these timers move.
+-- The messages follow from the desires and the upstream neighbours at the opening of an event, compared with those
+-- after its change. The macros read the state after the change, in which none of these timers has moved yet.
 use Rattle.std.specs.{Option.option_map_or, Prelude.{Bool, List, None, Option, Some, [], filter, if◌then◌else◌, is_none, is_some, map, min, not, option_map, take, ℕ, ◌&&◌, ◌++◌, ◌+◌, ◌||◌, ◌∷◌}}
 use Rattle.pim_ip.specs.{Addr.addr, declared.addr.Addr.Addr}
 use Rattle.pim_types.specs.{Keys.{group_in, is_of_group, is_star, rpt_key, source_in, source_key, star_key}, declared.{config.IfaceId.IfaceId, fact.{JoinTimerRow.JoinTimerRow, Key.Key, OverrideTimerRow.OverrideTimerRow}, path.{Hop.Hop, Path.Path}, upstream.{SourceView.SourceView, StarView.StarView, TreeState.TreeState}}}
@@ -11,18 +11,18 @@ use Rattle.pim_model.specs.{Desires.{join_desired, join_desired_star, rpf_rpt, r
 abbrev pub join_period : ℕ
 join_period = 60000
 
--- t_periodic from now
+-- t_periodic (4.11) from the present time, in ms
 abbrev pub periodic_end : State → ℕ
 periodic_end s = s.present + join_period
 
 -- ---- messages
 
--- a Join/Prune to a neighbour, none to NULL
+-- a Join/Prune to a neighbour (4.9.5); none where the neighbour is NULL
 unfoldable pub join_prune_to : Option Hop → ℕ → List Entry → List Entry → List Message
 join_prune_to None g joins prunes = []
 join_prune_to (Some hop) g joins prunes = Message.JoinPrune hop.iface.number hop.address.bits g joins prunes ∷ []
 
--- here: a Prune to an old upstream neighbour leaves only where it still is one
+-- here: a Prune to an old upstream neighbour leaves only if it still is a neighbour
 unfoldable pub if_neighbour : State → Option Hop → Option Hop
 if_neighbour s None = None
 if_neighbour s (Some hop) = if is_neighbour s hop.iface.number hop.address.bits then Some hop else None
@@ -93,16 +93,16 @@ pub data TimerChange : Type 0 where
   SetTo : ℕ → TimerChange
   LowerTo : ℕ → TimerChange
 
--- what an upstream machine does
+-- what an upstream machine does: messages, and a change of its timer
 pub record Told : Type 0 where
   pub timer : TimerChange
   pub messages : List Message
 
--- no transition
+-- an upstream machine that makes no transition does nothing
 abbrev pub nothing_told : Told
 nothing_told = record { timer = Keep; messages = [] }
 
--- what the machine of (*,G) compares before and after a change
+-- what the machine of (*,G) compares before and after a change (4.5.4)
 unfoldable pub star_view : State → ℕ → StarView
 star_view s g = record {
   is_desired = join_desired_star s g;
@@ -112,7 +112,7 @@ star_view s g = record {
   upstream = rpf_star s g;
 }
 
--- what the machines of (S,G) and (S,G,rpt) compare
+-- what the machines of (S,G) and (S,G,rpt) compare before and after a change (4.5.5, 4.5.7)
 unfoldable pub source_view : State → ℕ → ℕ → SourceView
 source_view s g src = record {
   is_desired = join_desired s g src;
@@ -124,11 +124,11 @@ source_view s g src = record {
   tree = tree_state s g src;
 }
 
--- RPF' changes due to an Assert: the RPF interface and its next hop are as before
+-- RPF' changes due to an Assert (4.5.4, 4.5.5): the RPF interface and its next hop are unchanged
 abbrev pub is_due_to_assert : Option IfaceId → Option IfaceId → Option Hop → Option Hop → Bool
 is_due_to_assert old_iface new_iface old_hop new_hop = same_iface old_iface new_iface && same_hop old_hop new_hop
 
--- t_override on the interface of the route, from now
+-- t_override (4.11) from the present time, on the interface of the route
 abbrev pub override_on : State → ℕ → Option IfaceId → ℕ
 override_on s w iface = s.present + option_map_or (λ (i : IfaceId). t_override s i.number w) iface 1
 
@@ -195,13 +195,13 @@ rpt_told_from a w g src old new TreeState.NotPruned TreeState.NotPruned =
 rpt_told_from a w g src old new TreeState.NotPruned TreeState.NotJoined = record { timer = Cancel; messages = [] }
 rpt_told_from a w g src old new _ _ = nothing_told
 
--- the same by the views
+-- from one state of (S,G,rpt) to another (4.5.7), by the views before and after a change
 unfoldable pub rpt_told : State → ℕ → ℕ → ℕ → SourceView → SourceView → Told
 rpt_told a w g src old new = rpt_told_from a w g src old new old.tree new.tree
 
 -- ---- all of them
 
--- an end after a change of its timer
+-- when a timer expires after a change of it
 abbrev pub changed_end : TimerChange → Option ℕ → Option ℕ
 changed_end Keep end = end
 changed_end Cancel end = None
@@ -209,34 +209,35 @@ changed_end (SetTo e) end = Some e
 changed_end (LowerTo e) None = Some e
 changed_end (LowerTo e) (Some old) = Some (min old e)
 
--- with the Join Timer of a key changed
+-- the state after a change of the Join Timer of a key
 unfoldable pub moved_join_timer : State → Key → TimerChange → State
 moved_join_timer s k change =
     let end : Option ℕ = changed_end change (option_map (λ (r : JoinTimerRow). r.end) (row_at s.join_timers k)) in
     record s { join_timers = set_row s.join_timers k (option_map (λ e. record { end = e }) end) }
 
--- the same, by what is told
+-- the state after an upstream machine changed the Join Timer of a key
 unfoldable pub with_join_timer : State → Key → TimerChange → State
 with_join_timer s k Keep = s
 with_join_timer s k Cancel = moved_join_timer s k Cancel
 with_join_timer s k (SetTo e) = moved_join_timer s k (SetTo e)
 with_join_timer s k (LowerTo e) = moved_join_timer s k (LowerTo e)
 
--- with the Override Timer of a key changed
+-- the state after a change of the Override Timer of a key
 unfoldable pub moved_override_timer : State → Key → TimerChange → State
 moved_override_timer s k change =
     let end : Option ℕ =
     changed_end change (option_map (λ (r : OverrideTimerRow). r.end) (row_at s.override_timers k)) in
     record s { override_timers = set_row s.override_timers k (option_map (λ e. record { end = e }) end) }
 
--- the same, by what is told
+-- the state after an upstream machine changed the Override Timer of a key
 unfoldable pub with_override_timer : State → Key → TimerChange → State
 with_override_timer s k Keep = s
 with_override_timer s k Cancel = moved_override_timer s k Cancel
 with_override_timer s k (SetTo e) = moved_override_timer s k (SetTo e)
 with_override_timer s k (LowerTo e) = moved_override_timer s k (LowerTo e)
 
--- (S,G), then (S,G,rpt); o is the opening and a the state after the change; the timers move in s
+-- the upstream machines of a source: (S,G), then (S,G,rpt); o is the opening and a the state after the change; the
+-- timers move in s
 unfoldable pub source_upstream : State → State → ℕ → ℕ → State → ℕ → State × List Message
 source_upstream o a w g s src =
     let old : SourceView = source_view o g src in
@@ -247,7 +248,7 @@ source_upstream o a w g s src =
       joins.messages ++ prunes.messages,
     )
 
--- (*,G), then its sources
+-- the upstream machines of a group: (*,G), then its sources; o is the opening and a the state after the change
 unfoldable pub group_upstream : State → State → ℕ → List Key → State → ℕ → State × List Message
 group_upstream o a w keys s g =
     let star : Told = star_told a w g (star_view o g) (star_view a g) in
@@ -255,7 +256,8 @@ group_upstream o a w keys s g =
     let later : State × List Message = each_in_turn (source_upstream o a w g) first (sources_of g keys) in
     (later.0, star.messages ++ later.1)
 
--- here: for each group (*,G), then for each of its sources (S,G) and (S,G,rpt), ascending
+-- the upstream machines of all groups; here: for each group (*,G), then for each of its sources (S,G) and (S,G,rpt),
+-- ascending
 unfoldable pub upstream : State → State → ℕ → State × List Message
 upstream o a w =
     let keys : List Key = fact_keys o ++ fact_keys a in
@@ -263,7 +265,7 @@ upstream o a w =
 
 -- ---- the timers' ends
 
--- Timer Expires: Send Join(*,G), or Join(S,G), to RPF'; Join Timer to t_periodic (4.5.4, 4.5.5)
+-- Join Timer expires: Send Join(*,G), or Join(S,G), to RPF'; Join Timer to t_periodic (4.5.4, 4.5.5)
 unfoldable pub join_timer_due : State → Key → State × List Message
 join_timer_due s k =
     let g : ℕ = group_in k in
@@ -274,7 +276,7 @@ join_timer_due s k =
     (record s { join_timers = change_row (λ (old : JoinTimerRow). Some (record { end = periodic_end s })) k s.join_timers }, messages)
 
 -- Override Timer expires: Send Join(S,G,rpt) to RPF'(S,G,rpt), leave OT unset (4.5.7)
--- here: also where this isn't RPF'(*,G), and the RFC sends none
+-- here: also where RPF'(S,G,rpt) isn't RPF'(*,G), where the RFC sends none
 unfoldable pub override_timer_due : State → Key → State × List Message
 override_timer_due s k = (
   record s { override_timers = drop_at s.override_timers k },

@@ -15,7 +15,7 @@ unicast_time_to_live = 64
 abbrev pub on_link : ℕ → List ℕ → Emission
 on_link i packet = Emission.Link (record { number = i }) packet
 
--- What a message becomes depends on the interfaces alone.
+-- What a message becomes depends only on the interface table.
 
 -- a PIM message to all routers of the link
 unfoldable pub pim_on_link : InterfaceTable → ℕ → List ℕ → Emission
@@ -25,7 +25,7 @@ pim_on_link t i text = on_link i (pim_packet_text 1 (address_among t.configured 
 unfoldable pub pim_to : ℕ → ℕ → List ℕ → Emission
 pim_to from to text = Emission.Unicast (addr to) (pim_packet_text unicast_time_to_live from to text)
 
--- a Hello, with the delays, the DR priority and the GenID of the interface (RFC 7761, section 4.3.1)
+-- a Hello on an interface, with the delays, the DR priority and the GenID of the interface (RFC 7761, section 4.3.1)
 unfoldable pub hello_emission : InterfaceTable → ℕ → Emission
 hello_emission t i =
     let generation : ℕ = option_map_or (λ (r : InterfaceRow). r.generation) (row_at t.rows (iface_key i)) 0 in
@@ -38,7 +38,7 @@ hello_emission t i =
 abbrev pub query_destination : ℕ → ℕ
 query_destination group = if group == 0 then all_systems else group
 
--- what a message becomes
+-- the packet that a message becomes
 unfoldable pub emission_of : InterfaceTable → Message → Emission
 emission_of t (Message.Hello i) = hello_emission t i
 emission_of t (Message.JoinPrune i upstream group joins prunes) =
@@ -54,21 +54,21 @@ emission_of t (Message.NullRegister from to source group) = pim_to from to (null
 abbrev pub is_hello_owed : InterfaceTable → ℕ → Bool
 is_hello_owed t i = option_map_or (λ (r : InterfaceRow). r.is_hello_owed) (row_at t.rows (iface_key i)) false
 
--- any Hello pays the debt
+-- no Hello is owed on the interface: any Hello that leaves there is the owed one
 unfoldable pub hellos_paid : ℕ → Table InterfaceRow → Table InterfaceRow
 hellos_paid i rows =
     map (λ (e : Key × InterfaceRow). if is_on i e.0 then (e.0, record e.1 { is_hello_owed = false }) else e) rows
 
--- the same of an interface table
+-- an interface table in which no Hello is owed on the interface
 unfoldable pub hello_paid : InterfaceTable → ℕ → InterfaceTable
 hello_paid t i = record t { rows = hellos_paid i t.rows }
 
--- a message with the Hello that is owed before it
+-- the packet of a message, after the Hello that is owed on its interface
 unfoldable pub with_owed_hello : InterfaceTable → ℕ → Emission → InterfaceTable × List Emission
 with_owed_hello t i emission =
     if is_hello_owed t i then (hello_paid t i, hello_emission t i ∷ emission ∷ []) else (t, emission ∷ [])
 
--- a message; before a Join/Prune and an Assert goes the Hello that is owed
+-- the packets of a message; an owed Hello goes before a Join/Prune and an Assert
 unfoldable pub written : InterfaceTable → Message → InterfaceTable × List Emission
 written t (Message.Hello i) = (hello_paid t i, hello_emission t i ∷ [])
 written t (Message.JoinPrune i upstream group joins prunes) =
@@ -77,17 +77,17 @@ written t (Message.Assert i group source m) =
     with_owed_hello t i (emission_of t (Message.Assert i group source m))
 written t m = (t, emission_of t m ∷ [])
 
--- message after message
+-- the packets of messages, one after the other
 unfoldable pub all_written : InterfaceTable → List Message → InterfaceTable × List Emission
 all_written t messages = each_in_turn written t messages
 
--- the same of a state
+-- the packets of messages, one after the other, and the state after them
 unfoldable pub write_all : State → List Message → State × List Emission
 write_all s messages =
     let sent : InterfaceTable × List Emission = all_written (interfaces_of s) messages in
     (record s { interfaces = (sent.0).rows }, sent.1)
 
--- a copy leaves with the TTL one lower; with TTL 0 or 1 none does
+-- a copy leaves with the TTL one lower; a packet with TTL 0 or 1 has no copy
 abbrev pub leaves : Packet → Bool
 leaves p = nat_lt 1 p.time_to_live
 
@@ -99,7 +99,7 @@ copies_of s p list = if leaves p then map (λ i. on_link i (copy_text p)) (membe
 unfoldable pub register_of_packet : State → Packet → ℕ → List Emission
 register_of_packet s p rp = pim_to (registering_address s p.source) rp (register_text (copy_text p)) ∷ []
 
--- likewise where the register tunnel is in oiflist
+-- a Register of the packet to RP(G) leaves if the register tunnel is in oiflist (4.4.1)
 unfoldable pub tunnel_of : State → Packet → Bool → List Emission
 tunnel_of s p to_tunnel =
     if to_tunnel && leaves p then option_map_or (register_of_packet s p) (rp_of s p.destination) [] else []

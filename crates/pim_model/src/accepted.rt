@@ -1,11 +1,11 @@
-//! What a judgement finds: what the router is to act on.
+//! The result of judging an event: what the router is to act on.
 use igmp_wire::{QueryView, ReportView};
 use pim_ip::{Addr, Ipv4View};
 use pim_types::{IfaceId, Lent, Route, RpRange};
 use pim_wire::{Assert, Hello, JoinPruneView, RegisterStop, RegisterView};
 
-/// An event that passed its tests, but for the limit on facts, with what was read of its packet. A view is lent
-/// from the event.
+/// An event that passed its tests, but for the limit on facts, with what was read of its packet. A view borrows from
+/// the event.
 #[derive(Drop)]
 pub enum Accepted<'a> {
     Advance {

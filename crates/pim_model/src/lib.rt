@@ -1,4 +1,5 @@
-//! The written machine: its definitions stand in `specs/`. The one type here is what they judge an event to be.
+//! The specification of the router (also called the written machine): its definitions are in `specs/`. The one type
+//! here is the result of judging an event by them.
 #![tactic(auto)]
 
 pub mod accepted;

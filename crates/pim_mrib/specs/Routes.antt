@@ -20,12 +20,12 @@ pub record RouteTable : Type 0 where
 abbrev pub are_preferred : List Route → Bool
 are_preferred routes = list_all (λ (r : Route). nat_le r.preference 0x7FFF_FFFE) routes
 
--- none for an own address and for one on a link: no route is looked up
+-- The nodes of a route: none for an address of the router and for one on a link, since no route is looked up.
 unfoldable pub route_nodes : List InterfaceConfig → Table InterfaceRow → List Route → ℕ → ℕ
 route_nodes configured up routes address =
     if is_own_among configured address || is_some (link_among configured up address) then 0
     else nodes_visited (λ (r : Route). r.prefix) routes address
 
--- none for a source-specific group
+-- The nodes of RP(G): none for a source-specific group.
 unfoldable pub rp_nodes : List RpRange → ℕ → ℕ
 rp_nodes ranges group = if is_source_specific group then 0 else nodes_visited (λ (r : RpRange). r.prefix) ranges group

@@ -225,7 +225,7 @@ impl Mrib {
         ensures { (configured : List InterfaceConfig) (up : Table InterfaceRow) (address : ℕ)
             → IfSome (route_among configured up self.now.routes address) (λ path. path.preference < 2 ^ 31) }
     {
-        // It tells what is known of the routes.
+        // For the proof: what is known of the routes.
         let _ = &self.routes;
     }
 

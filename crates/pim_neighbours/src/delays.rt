@@ -12,7 +12,7 @@ pub(crate) struct Delays {
 }
 
 impl Delays {
-    /// Where a neighbour announced none.
+    /// The delays that count for a neighbour that announced none.
     pub(crate) const DEFAULT: Delays = Delays {
         propagation_delay: InterfaceConfig::DEFAULT_PROPAGATION_DELAY,
         override_interval: InterfaceConfig::DEFAULT_OVERRIDE_INTERVAL,

@@ -66,8 +66,8 @@ pub fn holdtime_end(present: u64, holdtime: u16) -> Option<u64>
     }
 }
 
-/// Whether the neighbour comes before the router in the election of the DR (RFC 7761, section 4.3.2): by the priorities,
-/// where those count, and else by the addresses.
+/// Whether the neighbour comes before the router in the election of the DR (RFC 7761, section 4.3.2): by the
+/// priorities, where those count, and else by the addresses.
 #[tactic(auto, unfolding(pim_model::specs::Neighbours::is_better_dr))]
 pub fn is_better_dr(by_priority: bool, own: &InterfaceConfig, key: &Key, row: &NeighbourRow) -> bool
     ensures { result
@@ -96,7 +96,7 @@ impl Neighbours {
     pub fn len(&self) -> usize
         ensures count { result ≡ length self.now }
 
-        // Of every table: the keys rise.
+        // This holds of every table: the keys rise.
         ensures ascending { IsStrictlySortedBy key_cmp (keys_in self.now) }
     {
         self.rows.len()

@@ -1,4 +1,4 @@
--- What moves ask of a wire, whichever it is, and what becomes of the network by what the wire gives.
+-- What moves require of a wire, whichever it is, and what the network becomes by what the wire returns.
 use Rattle.std.specs.Option.{option_map_or}
 use Rattle.std.specs.Prelude.{Bool, IsSome, List, None, Option, Some, [], get_or, length, option_and_then, option_map, slice_get, take, true, ℕ, ◌+◌, ◌<◌, ◌≡◌, ◌∷◌}
 use Rattle.pim_types.specs.declared.event.Event.{Event}
@@ -13,7 +13,7 @@ bytes_of_kind (EventKind.Frame iface bytes) = bytes
 bytes_of_kind (EventKind.Unicast bytes) = bytes
 bytes_of_kind _ = []
 
--- the frame's bytes, where the move is a delivery that isn't refused
+-- The bytes of the frame, where the move is a delivery that isn't refused.
 unfoldable pub carried_packet : Network → Move → Option (List ℕ)
 carried_packet n (Move.Event router event) = None
 carried_packet n (Move.Deliver router iface frame draw) =
@@ -21,7 +21,7 @@ carried_packet n (Move.Deliver router iface frame draw) =
 carried_packet n (Move.DeliverUnicast router frame draw) =
     option_map (λ (e : ℕ × Event). bytes_of_kind (e.1).kind) (event_of n (move_of (Move.DeliverUnicast router frame draw)))
 
--- the outcome and the network where these bytes come to the router
+-- The outcome and the network where these bytes come to the router.
 abbrev pub moved_with : Network → Move → List ℕ → Outcome × Network
 moved_with n (Move.Event router event) bytes = moved_at n (router, event)
 moved_with n (Move.Deliver router iface frame draw) bytes = moved_at n (router, brought_on iface.number draw bytes)
@@ -30,13 +30,13 @@ moved_with n (Move.DeliverUnicast router frame draw) bytes = moved_at n (router,
 abbrev pub link_count : Network → ℕ → ℕ
 link_count n r = option_map_or (λ (s : Station). length s.links) (station_at n r) 0
 
--- the port to which a delivery goes, by the first port of each router
+-- The port to which a delivery goes, by the first port of each router.
 abbrev pub port_of : List ℕ → Network → Move → ℕ
 port_of ports n (Move.Event router event) = get_or ports router 0
 port_of ports n (Move.Deliver router iface frame draw) = get_or ports router 0 + iface.number
 port_of ports n (Move.DeliverUnicast router frame draw) = get_or ports router 0 + link_count n router
 
--- two steps, with the network and the wire between them
+-- Two steps, with the network and the wire between them.
 pub record AreBoth {W : Type 0} (First Later : Network → W → Type 0) : Type 0 where
   pub network : Network
   pub wire : W
@@ -44,7 +44,7 @@ pub record AreBoth {W : Type 0} (First Later : Network → W → Type 0) : Type 
   pub later : Later network wire
 
 module _ {W : Type 0} (is_faithful : Bool) (sends : W → ℕ → List ℕ → W → Type 0) (gives : W → ℕ → ℕ → List ℕ → W → Type 0) where
-  -- a packet is sent to a port, and taken there what the wire gives, of at most the packet's length
+  -- A packet is sent to a port, and what the wire returns there is taken: at most as many bytes as the packet has.
   pub record IsCarried (before : W) (port : ℕ) (packet given : List ℕ) (after : W) : Type 0 where
     pub between : W
     pub is_sent : sends before port packet between
@@ -52,14 +52,15 @@ module _ {W : Type 0} (is_faithful : Bool) (sends : W → ℕ → List ℕ → W
     pub is_same : is_faithful ≡ true → given ≡ packet
 
   module _ (ports : List ℕ) where
-    -- a delivery of a packet: what the wire gives comes to the router
+    -- A delivery of a packet: what the wire returns comes to the router.
     pub record IsDelivery (n : Network) (before : W) (m : Move) (packet : List ℕ) (o : Outcome) (next : Network) (after : W)
         : Type 0 where
       pub given : List ℕ
       pub carried : IsCarried before (port_of ports n m) packet given after
       pub moved_is : (o, next) ≡ moved_with n m given
 
-    -- what isn't carried is the written move, and makes no call of the wire
+    -- A move that carries nothing does what the specification's move does, and makes no call of the wire; any other is
+    -- a delivery.
     abbrev pub IsMoveOf : Option (List ℕ) → Network → W → Move → Outcome → Network → W → Type 0
     IsMoveOf None n before m o next after = ((o, next) ≡ moved n (move_of m)) × (after ≡ before)
     IsMoveOf (Some packet) n before m o next after = IsDelivery n before m packet o next after
@@ -67,7 +68,7 @@ module _ {W : Type 0} (is_faithful : Bool) (sends : W → ℕ → List ℕ → W
     abbrev pub IsMove : Network → W → Move → Outcome → Network → W → Type 0
     IsMove n before m o next after = IsMoveOf (carried_packet n m) n before m o next after
 
-    -- move after move
+    -- The moves are done one after another.
     unfoldable pub AreMoves : Network → W → List Move → List Outcome → Network → W → Type 0
     AreMoves n before [] [] last after = (last ≡ n) × (after ≡ before)
     AreMoves n before (m ∷ ms) (o ∷ os) last after =
@@ -75,7 +76,7 @@ module _ {W : Type 0} (is_faithful : Bool) (sends : W → ℕ → List ℕ → W
     AreMoves n before [] (o ∷ os) last after = ⊥
     AreMoves n before (m ∷ ms) [] last after = ⊥
 
-    -- the same of a network that may have ended
+    -- A move of a network that may have failed afterwards.
     pub record MovesTo (n : Network) (before : W) (m : Move) (o : Outcome) (last : Option Network) (after : W) : Type 0 where
       pub network : Network
       pub is : last ≡ Some network
@@ -87,7 +88,7 @@ module _ {W : Type 0} (is_faithful : Bool) (sends : W → ℕ → List ℕ → W
       pub is : last ≡ Some network
       pub moves : AreMoves n before ms os network after
 
-    -- some of the moves were done, and not all: the next is a delivery that isn't refused
+    -- Some of the moves were done, and not all: the next is a delivery that isn't refused.
     pub record IsPartWay (n : Network) (before : W) (ms : List Move) (last : Option Network) : Type 0 where
       pub count : ℕ
       pub below : count < length ms

@@ -5,10 +5,10 @@ pub record KeptPacket : Type 0 where
   pub port : ℕ
   pub packet : List ℕ
 
--- what a port gives to so many bytes
+-- The bytes that a port returns to a buffer of the given length.
 abbrev pub taken_by : KeptPacket → ℕ → ℕ → List ℕ
 taken_by kept port room = if kept.port == port then take room kept.packet else []
 
--- and what it leaves
+-- The wire after its packet was taken.
 abbrev pub left_by : KeptPacket → ℕ → KeptPacket
 left_by kept port = if kept.port == port then record kept { packet = [] } else kept

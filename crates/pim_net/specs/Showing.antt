@@ -1,4 +1,4 @@
--- What a network shows: the written network, and the wire beside it.
+-- What a network shows: the network of the specification, and its wire.
 use Rattle.std.specs.Prelude.{List, Option, Some, [], option_and_then, option_map, ℕ, ◌∷◌}
 use Rattle.pim_types.specs.declared.config.Config.{Config}
 use Rattle.pim_types.specs.declared.event.Event.{Event}
@@ -9,7 +9,7 @@ use Rattle.pim_model.specs.State.{State}
 use Rattle.pim_net.specs.declared.node.Node.{Node}
 use Rattle.pim_net.specs.declared.moves.Move.{Move}
 
--- all values, where each is there
+-- The list of all values, if each is there.
 unfoldable pub all_of : {A : Type 0} → List (Option A) → Option (List A)
 all_of [] = Some []
 all_of (x ∷ xs) = option_and_then (λ y. option_map (λ ys. y ∷ ys) (all_of xs)) x
@@ -22,14 +22,14 @@ move_of (Move.Event router event) = written.At router event
 move_of (Move.Deliver router iface frame draw) = written.Deliver router iface.number frame draw
 move_of (Move.DeliverUnicast router frame draw) = written.DeliverUnicast router frame draw
 
--- what comes to an interface, and to a router's own address
+-- The events of a packet that comes to an interface, and to a router's own address.
 abbrev pub brought_on : ℕ → ℕ → List ℕ → Event
 brought_on i draw bytes = record { draw = draw; kind = EventKind.Frame (record { number = i }) bytes }
 
 abbrev pub brought_to : ℕ → List ℕ → Event
 brought_to draw bytes = record { draw = draw; kind = EventKind.Unicast bytes }
 
--- the network, none once memory was refused to it, the first port of each router, and the wire
+-- The network (none once an allocation failed), the first port of each router, and the wire.
 pub record Wired (W : Type 0) : Type 0 where
   pub network : Option Network
   pub ports : List ℕ

@@ -6,14 +6,14 @@ use Rattle.pim_ip.specs.declared.fault.Fault.{Fault}
 abbrev pub most_failures : ℕ
 most_failures = 18446744073709551615
 
--- the count after a call that ended so
+-- The count of failures after a call with this result.
 abbrev pub failures_after : {A : Type 0} → ℕ → Result A Fault → ℕ
 failures_after before (Ok x) = before
 failures_after before (Err Fault.Memory) = before
 failures_after before (Err Fault.Failed) = before
 failures_after before (Err Fault.Wire) = min (before + 1) most_failures
 
--- a failure was counted, or couldn't be any more
+-- A failure was counted, unless the count had reached its end.
 abbrev pub HasRisen : ℕ → ℕ → Type 0
 HasRisen before after = (before < after) ⊎ (before ≡ most_failures)
 

@@ -1,4 +1,4 @@
-//! A network of routers over a wire: events at one router, and deliveries of what any of them ever sent.
+//! A network of routers over a wire: events at one router, and deliveries of any packet that was ever sent.
 #![tactic(auto)]
 
 pub mod memory;

@@ -10,7 +10,8 @@ pub enum Move {
         router: usize,
         event: Event,
     },
-    /// A frame comes on an interface of a router, which is on the frame's link. The router draws its delays from `draw`.
+    /// A frame comes on an interface of a router, which is on the frame's link. The router draws its delays from
+    /// `draw`.
     Deliver {
         router: usize,
         iface: IfaceId,

@@ -19,7 +19,7 @@ use pim_types::{EventKind, Fault, IfaceId, Outcome, Refusal, Series};
 use std::alloc::Global;
 use std::marker::Model;
 
-/// What moves brought: an outcome each.
+/// The outcomes of moves, one each.
 pub type NetLog = Vec<Outcome>;
 
 /// A network of routers, whose packets a wire carries. Every frame that was sent is kept, so it may come late, twice or
@@ -50,8 +50,9 @@ impl<W> Model for Net<W> {
 }
 
 impl<W: Wire> Net<W> {
-    /// The network of these nodes, at most 64, each with a link for each of its interfaces: else it is refused as
-    /// `BadScenario`. Then each configuration is tested, and the first that is refused is told. The fault is `Memory`.
+    /// The network of these nodes. It is refused as `BadScenario` where there are more than 64, or one hasn't a link
+    /// for each of its interfaces. Then each configuration is tested, and the refusal is that of the first that fails.
+    /// The fault is `Memory`.
     pub fn new(alloc: Global, nodes: Vec<Node>, wire: W) -> Result<Result<Net<W>, Refusal>, Fault>
         ensures accepted { IfOk result (λ made. IfOk made (λ net. (nodes_test (map node_of nodes.items) ≡ Ok tt)
             × (net.network ≡ Some (network (map node_of nodes.items))) × (net.ports ≡ first_ports nodes.items)
@@ -72,13 +73,13 @@ impl<W: Wire> Net<W> {
         }
     }
 
-    /// Does the moves one after the other, and tells the outcome of each: a move of an unknown router or frame, or to an
-    /// interface that isn't on the frame's link, is refused as `BadMove`, and changes nothing. Any other delivery sends
-    /// the frame's bytes to the receiver's port, and what the wire gives there comes to the router; nothing else is asked
-    /// of the wire. Where no moves are to be done no memory is taken, so there is no fault. A fault is `Memory`, after
-    /// which the net answers `Failed` for ever; or `Wire`, where the wire failed: then the moves before it stand, and the
-    /// net goes on working. In the first run of a net nothing flows unasked: each copy of a packet has its cause among
-    /// what came to its router before.
+    /// Does the moves one after the other, and returns the outcome of each. A move of an unknown router or frame, or to
+    /// an interface that isn't on the frame's link, is refused as `BadMove`, and changes nothing. Any other delivery
+    /// sends the frame's bytes to the receiver's port, and what the wire returns there is the packet that the router
+    /// receives; there is no other call of the wire. Without moves no memory is taken, so there is no fault. A fault is
+    /// `Memory`, after which the net answers `Failed` from then on; or `Wire`, where the wire failed: then the moves
+    /// before it are done, and the net goes on working. In the first run of a net nothing flows unasked: each copy
+    /// of a packet has its cause among what came to its router before.
     pub fn run(&mut self, moves: &[Move]) -> Result<NetLog, Fault>
         ensures outcomes { W.is_faithful ≡ true → IfSome self.old.network (λ n. IfOk result (λ log.
             log.items ≡ (network_ran n (map move_of moves.now)).0)) }
@@ -114,7 +115,7 @@ impl<W: Wire> Net<W> {
         ran
     }
 
-    /// Router `n`, counted from 0. None for an unknown one, and once memory was refused to a run. No memory is taken.
+    /// Router `n`, counted from 0. `None` for an unknown one, and once an allocation failed in a run. Takes no memory.
     pub fn router(&self, n: usize) -> Option<&Router>
         ensures some { IfSome result (λ router. (option_map (λ r. r.state) router.now.standing ≡ shown_state self.now.network n)
             × IsSome router.now.standing) }
@@ -156,7 +157,7 @@ fn run_all<W: Wire>(
     Ok(log)
 }
 
-// Does a move. A failure of the wire leaves the network as it was.
+// Does a move. Where the wire fails, the network is unchanged.
 fn make<W: Wire>(
     alloc: Global,
     network: &mut Network,
@@ -251,7 +252,7 @@ fn first_port(ports: &[u16], router: usize) -> u16
     ports.get(router).copied().unwrap_or(0)
 }
 
-// What comes to a port of what was sent there.
+// Sends bytes to a port, and takes what the wire returns there.
 fn carry<W: Wire>(alloc: Global, wire: &mut W, port: u32, bytes: &[u8]) -> Result<Series<u8>, Fault>
     ensures carried { IfOk result (λ given. IsCarried W.is_faithful W.sends W.gives
         wire.old port bytes.now given wire.new) }

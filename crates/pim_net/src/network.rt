@@ -18,7 +18,7 @@ use pim_types::{Emission, Event, EventKind, Fault, IfaceId, Outcome, Refusal, Se
 use std::alloc::Global;
 use std::marker::Model;
 
-/// What is carried to a router's port, which is told by its place among them.
+/// A packet that is carried to a router's port, which is given by its place among the router's ports.
 #[derive(Drop)]
 pub(crate) struct Delivery<'a> {
     pub(crate) place: u32,
@@ -106,8 +106,8 @@ impl Network {
         }
     }
 
-    /// What a delivery to an interface carries. None where router, interface or frame is unknown, or the interface isn't on
-    /// the frame's link.
+    /// What a delivery to an interface carries. None where router, interface or frame is unknown, or the interface
+    /// isn't on the frame's link.
     pub(crate) fn to_interface(
         &self,
         router: usize,
@@ -197,7 +197,7 @@ fn are_lawful(nodes: &[Node]) -> bool
     true
 }
 
-// The routers of the nodes, and the first port of each. The first that is refused is told.
+// The routers of the nodes, and the first port of each. The refusal is that of the first that is refused.
 fn open_all(
     alloc: Global,
     nodes: Vec<Node>,
@@ -229,7 +229,7 @@ fn open_all(
     Ok(Ok((stations, ports)))
 }
 
-// An event at a station, which puts what it sends at the end of the frames.
+// An event at a station. What the station sends is added at the end of the frames.
 fn take(
     alloc: Global,
     station: &mut Station,
@@ -249,7 +249,7 @@ fn take(
     Ok(outcome)
 }
 
-// Puts what a station sent at the end of the frames.
+// Adds what a station sent at the end of the frames.
 fn keep(
     alloc: Global,
     station: &Station,

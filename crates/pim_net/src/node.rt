@@ -1,4 +1,4 @@
-//! What a router of a network is made of.
+//! The parts of a router in a network.
 ghost use Rattle.std.specs.Prelude.{◌≡◌};
 ghost use Rattle.pim_model.specs.Network.{is_node};
 ghost use Rattle.pim_net.specs.Showing.{node_of};

@@ -27,8 +27,8 @@ impl Model for Frame {
     ghost view = { λ f. record { link = f.link; bytes = f.bytes } };
 }
 
-/// A router with the links of its interfaces. Of its ports the first are the interfaces', in their order, and the last is
-/// for unicasts.
+/// A router with the links of its interfaces. Of its ports the first are the interfaces', in their order, and the last
+/// is for unicasts.
 #[derive(Drop)]
 pub(crate) struct Station {
     router: Router,
@@ -123,7 +123,7 @@ impl Station {
     }
 }
 
-// The same bytes.
+// A copy of the bytes.
 fn copied(alloc: Global, bytes: &Series<u8>) -> Result<Series<u8>, AllocError>
     ensures { IfOk result (λ same. same ≡ bytes.now) }
 {

@@ -12,7 +12,7 @@ use std::marker::Model;
 use std::net::{Net, SocketAddr, UdpSocket};
 use std::time::Duration;
 
-// How long a packet is waited for, in seconds.
+// How long a receive waits for a packet, in seconds.
 const READ_TIMEOUT: u64 = 1;
 
 // A socket with its address.
@@ -24,8 +24,8 @@ struct Bound {
 }
 
 impl Bound {
-    // A socket of the loopback interface, at a number that the system picks. It is connected to itself: what others send
-    // it from then on is dropped by the system.
+    // A socket on the loopback interface, with a port number that the system picks. It is connected to itself, so the
+    // system drops what others send it afterwards.
     fn open<R: Net>(net: &R, port: u32) -> io::Result<Bound> {
         let socket = UdpSocket::bind(net, "127.0.0.1:0")?;
         socket.set_read_timeout(Some(Duration::from_secs(READ_TIMEOUT)))?;
@@ -38,8 +38,8 @@ impl Bound {
         })
     }
 
-    // Takes a packet that the socket sent. What others sent before it was connected is passed over: that is there
-    // already, so it costs no wait.
+    // Takes a packet that the socket sent. Packets that others sent before it was connected are skipped: they are there
+    // already, so this costs no wait.
     fn recv(&self, buffer: &mut [u8]) -> Result<usize, Fault>
         ensures within { IfOk result (λ n. n ≤ length buffer.new) }
         ensures wire { IfErr result (λ fault. fault ≡ Fault.Wire) }
@@ -55,8 +55,8 @@ impl Bound {
     }
 }
 
-/// A wire of UDP sockets on the loopback interface, one a port, each bound when its port is first used. It takes what its
-/// own sockets sent and drops what others send them. A packet is waited for one second.
+/// A wire of UDP sockets on the loopback interface, one for each port, bound when the port is first used. It takes what
+/// its own sockets sent and drops what others send them. A receive waits one second for a packet.
 #[derive(Drop)]
 pub struct UdpWire<R> {
     net: R,
@@ -85,8 +85,8 @@ impl<R: Net + Drop> UdpWire<R> {
         }
     }
 
-    /// Where the socket of a port is, which is bound where it wasn't yet. A fault is `Memory`, or `Wire` where it can't be
-    /// bound.
+    /// The address of the socket of a port, which is bound if it wasn't yet. A fault is `Memory`, or `Wire` where it
+    /// can't be bound.
     pub fn address(&mut self, port: u32) -> Result<SocketAddr, Fault>
         ensures { self.new ≡ self.old }
     {

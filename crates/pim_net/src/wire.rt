@@ -8,16 +8,16 @@ use pim_types::Fault;
 pub trait Wire: Drop {
     ghost use Rattle.std.specs.Prelude.{Bool, List, ℕ};
 
-    /// Whether each packet that was sent comes as it was sent.
+    /// Whether each packet that was sent is received unchanged.
     ghost is_faithful: { Bool };
 
-    /// The port gives this packet next.
+    /// The packet that the port returns next.
     ghost holds: { Self → ℕ → List ℕ → Type 0 };
 
-    /// A packet that is sent to a port leaves the wire so.
+    /// The wire after a packet was sent to a port.
     ghost sends: { Self → ℕ → List ℕ → Self → Type 0 };
 
-    /// A port gives, to a buffer of so many bytes, these bytes, and leaves the wire so.
+    /// The bytes that a port returns to a buffer of a given length, and the wire afterwards.
     ghost gives: { Self → ℕ → ℕ → List ℕ → Self → Type 0 };
 
     /// The count of failures.
@@ -30,7 +30,7 @@ pub trait Wire: Drop {
         ensures counted { failures self.new ≡ failures_after (failures self.old) result }
         ensures fault { IfErr result (IsFaultOver (failures self.old) (failures self.new)) };
 
-    /// Takes the next packet of a port to the beginning of the buffer, and tells how many bytes it has there, at
+    /// Takes the next packet of a port into the beginning of the buffer. The result is its number of bytes there, at
     /// most the buffer's length. A fault is `Memory`, or `Wire` where the wire failed.
     fn recv(&mut self, port: u32, buffer: &mut [u8]) -> Result<usize, Fault>
         ensures within { IfOk result (λ n. n ≤ length buffer.new) }
@@ -40,7 +40,7 @@ pub trait Wire: Drop {
         ensures counted { failures self.new ≡ failures_after (failures self.old) result }
         ensures fault { IfErr result (IsFaultOver (failures self.old) (failures self.new)) };
 
-    /// How many calls have failed so far; 2^64 - 1 where it was more.
+    /// How many calls have failed so far; 2^64 - 1 stands for that many or more.
     fn failures(&self) -> u64
         ensures { result ≡ failures self.now };
 }

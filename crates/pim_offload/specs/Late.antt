@@ -1,5 +1,5 @@
--- A split data plane whose core isn't told the moments of the packets that passed: it hears of each source's last one just
--- before an event of its own.
+-- A split data plane whose core doesn't get the timestamps of the packets that passed: it hears of each source's last
+-- packet just before an event of its own.
 use Rattle.std.specs.Prelude.{Bool, List, Ok, [], if◌then◌else◌, length, not, true, ◌∷◌, ◌≡◌, ◌≤◌}
 use Rattle.pim_types.specs.declared.config.Config.{Config}
 use Rattle.pim_types.specs.declared.event.Event.{Event}
@@ -48,7 +48,7 @@ late_ran x (e ∷ es) =
 
 -- ---- what it is as good as
 
--- a router to which, before each event of the core's, what is owed comes once more
+-- The state of a router to which, before each event of the core's, what is owed comes once more.
 unfoldable pub owed_again : Split → State → Event → State
 owed_again x r e = if is_the_cores x e then state_after r (packets_of x.owed) else r
 

@@ -1,5 +1,5 @@
--- What a router tells a plane of any source: the row of one with a fact, and of another what it decides of packets until
--- the router's next event.
+-- What a router offers to a plane of any source: the row of a source with a fact; of another source, what it decides of
+-- packets until the router's next event.
 use Rattle.std.specs.Prelude.{Bool, None, Option, Some, false, if◌then◌else◌, option_map, true, ℕ, ◌||◌, ◌≡◌}
 use Rattle.pim_ip.specs.Ipv4.{Packet}
 use Rattle.pim_types.specs.declared.config.IfaceId.{IfaceId}
@@ -12,7 +12,7 @@ use Rattle.pim_model.specs.Tables.{has_row}
 use Rattle.pim_offload.specs.Offload.{Row, handled, handling, handling_unknown, offload, told, unknown_of}
 use Rattle.pim_offload.specs.Split.{handled_at}
 
--- a source without a fact has no timer to set, so what shows it alive is the core's
+-- The row of a source without a fact: it has no timer to set, so packets that show it alive go to the core.
 unfoldable pub unknown_row : Row → Row
 unknown_row row = record {
   incoming = row.incoming;
@@ -21,12 +21,13 @@ unknown_row row = record {
   to_core = λ i. row.to_core i || row.alive i;
 }
 
--- the row of a source with a fact stays until an event names the source, that of another until the next event
+-- What is offered of a source. With a fact it is valid until an event names the source, without one until the next
+-- event.
 pub record Offered : Type 0 where
   pub is_known : Bool
   pub row : Row
 
--- none of a source that there is no room for
+-- Nothing is offered of a source without a fact for which there is no room.
 unfoldable pub offered : State → ℕ → ℕ → Option Offered
 offered s g src =
     if has_row s.sources (source_key 0 g src) then Some (record { is_known = true; row = offload (answers s g src) })
@@ -38,17 +39,18 @@ offered_row s g src = option_map (λ (o : Offered). o.row) (offered s g src)
 
 -- ---- laws
 
--- it says of a packet what is decided of a source without a fact
+-- The row of a source without a fact gives what is decided of its packets.
 abbrev pub UnknownRowDecides : Type 0
 UnknownRowDecides = (row : Row) (i : ℕ) → handling (unknown_row row) i ≡ handling_unknown row i
 
--- so by what is offered each packet is handled as by the router's rows beside what is decided of unknown sources
+-- By what is offered, each packet is handled as by the router's rows, or, for a source without a fact, as is decided of
+-- it.
 abbrev pub OfferedIsHandled : Type 0
 OfferedIsHandled = (s : State) (i : IfaceId) (p : Packet)
     → handled (offered_row s p.destination p.source) i.number
     ≡ handled_at (told s p.destination p.source) (unknown_of s i p) i.number
 
--- and the row of a source with a fact is the one that is told
+-- What is offered of a source with a fact is its row.
 abbrev pub KnownIsTold : Type 0
 KnownIsTold = (s : State) (g src : ℕ) → has_row s.sources (source_key 0 g src) ≡ true
     → offered_row s g src ≡ told s g src

@@ -26,22 +26,22 @@ use Rattle.pim_offload.specs.Offload.{Entry, Handling, Row, cache_entry, decisio
 
 -- ---- by the answers
 
--- a row decides what the answers decide of a packet with a TTL of more than 1
+-- A row decides what the answers decide of a packet with a TTL above 1.
 abbrev pub RowDecides : Type 0
 RowDecides = (r : Answers) (i ttl : ℕ) → nat_lt 1 ttl ≡ true → decision (handling (offload r) i) ≡ plain r i ttl
 
--- and what it decides, it decides of any TTL
+-- What a row decides, it decides for any TTL.
 abbrev pub RowDecidesAnyTtl : Type 0
 RowDecidesAnyTtl = (r : Answers) (i ttl : ℕ) (how : Plain) → decision (handling (offload r) i) ≡ Some how
     → plain r i ttl ≡ Some how
 
--- an entry is there exactly where packets on the incoming interface are decided, and has their list
+-- An entry exists exactly where packets on the incoming interface are decided, and has their list of interfaces.
 abbrev pub EntryDecides : Type 0
 EntryDecides = (row : Row) (i : ℕ) → row.incoming ≡ Some i
     → decision (handling row i) ≡ option_map (λ (e : Entry). record { keeps = row.alive i; list = e.outgoing }) (cache_entry row)
 
--- on the incoming interface and on RPF_interface(S) packets may be the core's for several reasons; beside them for an
--- assert alone, on outgoing interfaces
+-- On the incoming interface and on RPF_interface(S) packets may go to the core for several reasons; on others only for
+-- an assert, from outgoing interfaces.
 abbrev pub StrayIsOutgoing : Type 0
 StrayIsOutgoing = (s : State) (g src i : ℕ) → is_to_core (handling (offload (answers s g src)) i) ≡ true
     → is_incoming (offload (answers s g src)) i ≡ false → is_rpf_interface s src i ≡ false
@@ -53,7 +53,7 @@ StrayIsOutgoing = (s : State) (g src i : ℕ) → is_to_core (handling (offload 
 abbrev pub BringsData : State → Event → IfaceId → Packet → Type 0
 BringsData s e i p = judged s e.kind ≡ Ok (Accepted.Data i p)
 
--- what a plane has to look at before it asks a row
+-- What a plane has to test of a packet before it uses a row.
 pub record IsData (s : State) (i : IfaceId) (bytes : List ℕ) (p : Packet) : Type 0 where
   pub configured : nat_le (iface_count s) i.number ≡ false
   pub up : is_up s i.number ≡ true
@@ -69,40 +69,41 @@ abbrev pub DataIsHeard : Type 0
 DataIsHeard = (s : State) (e : Event) (i : IfaceId) (bytes : List ℕ) (p : Packet) → e.kind ≡ EventKind.Frame i bytes
     → IsData s i bytes p → BringsData s e i p
 
--- what the plane forwards or drops, the step forwards or drops
+-- A packet that the plane forwards or drops is forwarded or dropped alike by the step.
 abbrev pub PlaneIsStepped : Type 0
 PlaneIsStepped = (s : State) (e : Event) (i : IfaceId) (p : Packet) (a : Answered) → IsAtRest s → BringsData s e i p
     → taken_by_plane s p (handling_of s i p) ≡ Some a → step s e ≡ a
 
--- what the plane forwards or drops is plain
+-- A packet that the plane forwards or drops is plain.
 abbrev pub PlaneIsPlain : Type 0
 PlaneIsPlain = (s : State) (e : Event) (i : IfaceId) (p : Packet) → IsAtRest s → BringsData s e i p
     → is_to_core (handling_of s i p) ≡ false → IsPlainEvent s e
 
--- One of the same source and group on the same interface whose TTL has run out leaves the same state, and sends nothing: so
--- it tells the core of the others.
+-- A packet with an expired TTL leaves the same state as one of the same source and group on the same interface, and
+-- sends nothing: by it a plane can report others.
 abbrev pub SpentPacketTells : Type 0
 SpentPacketTells = (s : State) (e f : Event) (i : IfaceId) (p q : Packet) → IsAtRest s → BringsData s e i p → BringsData s f i q
     → q.destination ≡ p.destination → q.source ≡ p.source → nat_lt 1 q.time_to_live ≡ false
     → is_to_core (handling_of s i p) ≡ false → step s f ≡ dropped (step s e).state
 
--- and all that is plain, with a TTL of more than 1, the plane forwards or drops
+-- The plane forwards or drops each packet that is plain and has a TTL above 1.
 abbrev pub PlainIsPlane : Type 0
 PlainIsPlane = (s : State) (e : Event) → IsAtRest s → (is : IsPlainEvent s e)
     → nat_lt 1 (is.packet).time_to_live ≡ true → is_to_core (handling_of s is.iif is.packet) ≡ false
 
--- copies show where they leave
+-- Copies show on which interfaces they leave.
 abbrev pub CopiesShowWhere : Type 0
 CopiesShowWhere = (s : State) (p : Packet) (a b : Set) → nat_lt 1 p.time_to_live ≡ true
     → copies_of s p a ≡ copies_of s p b → members s a ≡ members s b
 
--- nothing leaves, and the core need not hear of it
+-- By the handling nothing leaves, and the core need not hear of the packet.
 abbrev pub IsSilent : State → Handling → Type 0
 IsSilent s (Handling.Forward alive list) = (alive ≡ false) × (members s list ≡ [])
 IsSilent s Handling.Drop = Unit {0}
 IsSilent s Handling.ToCore = ⊥
 
--- what changes nothing at all the plane drops, if the keepalive timer wasn't set at this moment anyway
+-- The plane drops each packet that changes nothing at all, unless the keepalive timer was set at this very timestamp
+-- anyway.
 abbrev pub UnchangedIsSilent : Type 0
 UnchangedIsSilent = (s : State) (e : Event) (i : IfaceId) (p : Packet) (fact : SourceRow) → IsAtRest s → BringsData s e i p
     → nat_lt 1 p.time_to_live ≡ true → row_at s.sources (fact_key p) ≡ Some fact
@@ -110,7 +111,7 @@ UnchangedIsSilent = (s : State) (e : Event) (i : IfaceId) (p : Packet) (fact : S
 
 -- ---- a source without a fact
 
--- a packet needs room, whatever becomes of it
+-- A packet of a source without a fact needs room, whatever becomes of it.
 abbrev pub UnknownNeedsRoom : Type 0
 UnknownNeedsRoom = (s : State) (i : IfaceId) (p : Packet) → has_row s.sources (fact_key p) ≡ false
     → is_full s (Accepted.Data i p) ≡ nat_lt s.settings.limit (counted s + 1)
@@ -119,20 +120,21 @@ abbrev pub UnknownIsRefused : Type 0
 UnknownIsRefused = (s : State) (e : Event) (i : IfaceId) (p : Packet) → BringsData s e i p
     → is_full s (Accepted.Data i p) ≡ true → step s e ≡ stopped s (Stop.Refuse Refusal.Full)
 
--- where there is room, what the row decides is what a step does, and nothing changes
+-- Where there is room, what the row decides of a source without a fact is what the step does, and nothing changes.
 abbrev pub UnknownIsStepped : Type 0
 UnknownIsStepped = (s : State) (e : Event) (i : IfaceId) (p : Packet) (a : Answered) → IsAtRest s → BringsData s e i p
     → has_row s.sources (fact_key p) ≡ false → is_full s (Accepted.Data i p) ≡ false
     → taken_by_plane s p (handling_unknown (offload (answers s p.destination p.source)) i.number) ≡ Some a
     → (step s e ≡ a) × (a.state ≡ s)
 
--- and what changes nothing at all isn't the core's
+-- A packet of a source without a fact that changes nothing at all isn't the core's.
 abbrev pub UnchangedUnknownIsPlane : Type 0
 UnchangedUnknownIsPlane = (s : State) (e : Event) (i : IfaceId) (p : Packet) → IsAtRest s → BringsData s e i p
     → has_row s.sources (fact_key p) ≡ false → is_full s (Accepted.Data i p) ≡ false → (step s e).state ≡ s
     → is_to_core (handling_unknown (offload (answers s p.destination p.source)) i.number) ≡ false
 
--- such a decision stays where the answers do, for whichever of the interfaces that can be configured
+-- What the row decides of a source without a fact is unchanged where the answers are, for each interface that can be
+-- configured.
 abbrev pub UnknownStays : Type 0
 UnknownStays = (a b : Answers) (i : ℕ) → SameAnswers a b → nat_lt i most_ifaces ≡ true
     → SameDecision (decision (handling_unknown (offload a) i)) (decision (handling_unknown (offload b) i))

@@ -1,4 +1,4 @@
--- An event that tells of a packet by its source and its group alone.
+-- An event that stands for a packet given only by its source and its group.
 use Rattle.std.specs.Prelude.{Bool, List, [], ℕ, ◌++◌, ◌≡◌}
 use Rattle.pim_ip.specs.Ipv4.{Packet, header_text}
 use Rattle.pim_types.specs.declared.config.IfaceId.{IfaceId}
@@ -10,7 +10,7 @@ use Rattle.pim_model.specs.Step.{Answered, step}
 use Rattle.pim_model.specs.Writing.{copies_of, tunnel_of}
 use Rattle.pim_offload.specs.OffloadLaws.{IsData}
 
--- UDP, and a TTL with which no router passes a packet on
+-- The protocol number of UDP, and a TTL with which no router forwards a packet.
 abbrev pub protocol_udp : ℕ
 protocol_udp = 17
 
@@ -24,7 +24,7 @@ bare_text g src = header_text [] last_time_to_live protocol_udp src g 0
 abbrev pub seen_event : ℕ → IfaceId → ℕ → ℕ → Event
 seen_event w i g src = record { draw = w; kind = EventKind.Frame i (bare_text g src) }
 
--- all that a packet does but for its copies on links and the Register round it
+-- All that a packet does, except for its copies on links and the Register around it.
 pub record IsAllBut (packet : Packet) (seen whole : Answered) : Type 0 where
   pub answer : seen.answer ≡ whole.answer
   pub state_is : seen.state ≡ whole.state
@@ -34,7 +34,7 @@ pub record IsAllBut (packet : Packet) (seen whole : Answered) : Type 0 where
   pub to_tunnel : Bool
   pub rest : whole.emissions ≡ seen.emissions ++ copies_of at packet list ++ tunnel_of at packet to_tunnel
 
--- whatever frame brings a packet of the source and the group on the interface
+-- Each frame that brings a packet of the source and the group on the interface does all that this event does.
 abbrev pub SeenIsStepped : Type 0
 SeenIsStepped = (s : State) (e : Event) (i : IfaceId) (bytes : List ℕ) (p : Packet) → e.kind ≡ EventKind.Frame i bytes
     → IsData s i bytes p → IsAllBut p (step s (seen_event e.draw i p.destination p.source)) (step s e)

@@ -1,4 +1,5 @@
--- What is made of what shows the answers of a state shows what is offered there, of a source with a fact and of another.
+-- What is made of what shows the answers of a state shows what is offered there, of a source with a fact and of
+-- another.
 use Rattle.std.proofs.Common.{◌||◌, ◌∙◌}
 use Rattle.pim_macros.specs.Rows.{answers_of}
 use Rattle.pim_offload.specs.Offload.{offload}

@@ -9,14 +9,14 @@ use pim_macros::SourceAnswers;
 /// What a data plane is told of a source.
 #[derive(Clone, Copy)]
 pub struct Offered {
-    /// Whether the source has a fact: its row then stays as it is until an event lists the source as changed. That of another
-    /// stays until an event may have disturbed it.
+    /// Whether the source has a fact: its row then stays as it is until an event lists the source as changed. That of
+    /// another stays until an event may have disturbed it.
     pub is_known: bool,
     pub row: OffloadRow,
 }
 
 impl Offered {
-    /// Of a source with a fact, by what its row of the cache answers.
+    /// What is offered of a source with a fact, by the answers of its row of the cache.
     pub fn known(row: &SourceAnswers) -> Offered
         ensures { ShowsOffered result (known_offer (answers_of row.now)) }
     {
@@ -26,7 +26,8 @@ impl Offered {
         }
     }
 
-    /// Of a source without a fact: it has no timer to set, so a packet that shows it alive is the router's.
+    /// What is offered of a source without a fact: it has no timer to set, so a packet that shows it alive is the
+    /// router's.
     pub fn unknown(row: &SourceAnswers) -> Offered
         ensures { ShowsOffered result (unknown_offer (answers_of row.now)) }
     {
@@ -43,13 +44,13 @@ impl Offered {
     }
 }
 
-/// Where what was evaluated shows the answers of a state, what is made of it shows what is offered of a source with a fact.
+/// Where a row shows the answers of a state, what is made of it shows what is offered of a source with a fact.
 #[tactic(auto, using(crate::proofs::OfferedAsShown::shown_is_known))]
 pub fn shown_is_known()
     ensures { ShownIsKnown }
 {}
 
-/// And of a source without one.
+/// Where a row shows the answers of a state, what is made of it shows what is offered of a source without a fact.
 #[tactic(auto, using(crate::proofs::OfferedAsShown::shown_is_unknown))]
 pub fn shown_is_unknown()
     ensures { ShownIsUnknown }

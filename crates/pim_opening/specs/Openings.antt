@@ -48,6 +48,6 @@ group_opening s touched g = record {
   sources = map (source_opening s g) (touched_sources s touched g);
 }
 
--- those of the touched groups, ascending
+-- The openings of the touched groups, ascending.
 unfoldable pub opening_of : State → Touched → List GroupOpening
 opening_of s touched = map (group_opening s touched) (groups_of (concerned_keys s touched))

@@ -24,15 +24,15 @@ pub struct SourceAfter {
 pub struct GroupAfter {
     /// All of it is touched.
     pub is_whole: bool,
-    /// Of (*,G), at the opening.
+    /// What the machine of (*,G) compares, at the opening.
     pub was: StarView,
     pub star: StarSight,
     pub sources: Series<SourceAfter>,
 }
 
 impl GroupAfter {
-    /// What was opened, with what is read of it now. The meter rises by the nodes that the look-ups visit, at least those of the
-    /// sight of the group, and of each of these sources.
+    /// What was opened, with what is read of it now. The meter rises by the nodes that the look-ups visit, at least
+    /// those of the sight of the group, and of each of these sources.
     pub fn of(
         world: &World,
         alloc: Global,
@@ -54,7 +54,7 @@ impl GroupAfter {
     }
 }
 
-// These sources of a group.
+// The given sources of a group.
 fn sources_after(
     world: &World,
     alloc: Global,

@@ -13,7 +13,7 @@ pub struct SourceOpening {
     pub source: Addr,
     /// There is a fact of it.
     pub has_facts: bool,
-    /// Of (S,G) and of (S,G,rpt).
+    /// What the machines of (S,G) and (S,G,rpt) compare.
     pub view: SourceView,
 }
 
@@ -23,7 +23,7 @@ pub struct GroupOpening {
     pub group: Addr,
     /// All of it is touched: (*,G), and with it all its sources.
     pub is_whole: bool,
-    /// Of (*,G).
+    /// What the machine of (*,G) compares.
     pub star: StarView,
     pub sources: Series<SourceOpening>,
 }
@@ -44,7 +44,7 @@ impl Model for Opening {
 }
 
 impl Opening {
-    /// These groups.
+    /// The opening of the given groups.
     pub fn new(groups: Vec<GroupOpening>) -> Opening
         ensures { result ≡ groups.items }
     {

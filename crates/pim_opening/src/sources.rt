@@ -49,8 +49,8 @@ fn gather_named(
     Ok(())
 }
 
-// The sources that the keys touch because they touch all of the group: those that have any fact, or none. The meter rises
-// where these are asked for.
+// The sources that the keys touch because they touch all of the group: those that have any fact, or none. The meter
+// rises where these are asked for.
 fn sources_of_whole(
     alloc: Global,
     world: &World,

@@ -1,9 +1,9 @@
-//! Plays stored scenarios: `pim_played NAME ..` plays NAME.toml, with tables where NAME.out has some, and says that it printed what
-//! NAME.out has, or what else it printed. Where a scenario ends in a complaint, NAME.err has the status on a line of its own and the
-//! complaint. After the word `--failing` names are played over wires that fail from one of their calls on, each in its turn; after
-//! `--udp` over sockets; after `--crowded` over sockets to which a stranger sends too; after `--full` where no line can be written;
-//! after `--check` they are checked and not played. `--unread` and `--help` print what `pimlab` says of a file that can't be read to
-//! its end, and of a request for help.
+//! Plays stored scenarios: `pim_played NAME ..` plays NAME.toml, with tables where NAME.out has some, and says that it
+//! printed what NAME.out has, or what else it printed. Where a scenario ends in a complaint, NAME.err has the status on
+//! a line of its own and the complaint. After the word `--failing` names are played over wires that fail from one of
+//! their calls on, each in its turn; after `--udp` over sockets; after `--crowded` over sockets to which a stranger
+//! sends too; after `--full` where no line can be written; after `--check` they are checked and not played. `--unread`
+//! and `--help` print what `pimlab` says of a file that can't be read to its end, and of a request for help.
 #![tactic(auto)]
 
 mod crowded;
@@ -67,7 +67,8 @@ fn obey(rt: &HostRuntime, word: &str, way: &mut Way) -> io::Result<bool> {
     Ok(true)
 }
 
-// Plays a scenario, and says whether it prints what it must. What was printed is owned below, where each way has one exit.
+// Plays a scenario, and says whether it prints what it must. What was printed is owned below, where each way has one
+// exit.
 fn agrees(rt: &HostRuntime, name: &str, way: Way, stored: &Stored) -> io::Result<bool> {
     match way {
         Way::Memory => agrees_over(rt, name, "", stored, MemoryWire::new(rt.alloc())),

@@ -23,7 +23,7 @@ pub fn trees(world: &World, alloc: Global) -> Result<Vec<Row>, AllocError>
     Ok(rows)
 }
 
-// Those of a group.
+// Adds the rows of a group.
 #[tactic(auto, unfolding(crate::specs::Trees::lines_of_group))]
 fn push_group(
     world: &World,
@@ -41,7 +41,7 @@ fn push_group(
     Ok(())
 }
 
-// That of a source.
+// Adds the row of a source.
 fn push_source(
     world: &World,
     star: &StarSight,

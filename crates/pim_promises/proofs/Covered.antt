@@ -1,4 +1,5 @@
--- The asserts are few: their keys are among those of sources on each interface, of downstream rows and of group records.
+-- The asserts are few: their keys are among those of sources on each interface, of downstream rows and of group
+-- records.
 use Rattle.std.proofs.Common.{◌≡◌, ◌∙◌, ℕ, zero, suc, ◌+◌, ◌*◌, ◌<◌, ◌≤◌, ◌==◌, not, Bool, true, false, cond, List, [], ◌∷◌, ◌++◌, filter, length, map, refl, sym, ap, subst, arith, length-append}
 use Rattle.std.proofs.Math.Nat.{mul-add, mul-one, mul-zero}
 use Rattle.std.proofs.lemmas.Bool.{or_left, or_right}

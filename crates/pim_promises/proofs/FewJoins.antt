@@ -1,4 +1,5 @@
--- Join timers are no more than the records, downstream rows and sources that make them wanted; and so all facts are counted.
+-- Join timers are no more than the records, downstream rows and sources that make them wanted; and so all facts are
+-- counted.
 use Rattle.std.proofs.Common.{◌≡◌, ◌∙◌, ℕ, ◌+◌, ◌*◌, ◌≤◌, not, ◌&&◌, ◌||◌, Bool, true, false, List, ◌++◌, length, map, Option, Some, None, is_some, option_map, refl, sym, ap, subst, arith, length-append}
 use Rattle.std.proofs.Math.Nat.{mul-add}
 use Rattle.std.proofs.lemmas.List.{length-map}

@@ -1,5 +1,5 @@
--- What an event's own change makes of the keys of asserts, of what makes them possible, and of sources: the only new ones are
--- those that it names.
+-- What an event's own change makes of the keys of asserts, of what makes them possible, and of sources: the only new
+-- ones are those that it names.
 use Rattle.std.proofs.Common.{◌≡◌, ℕ, ◌<◌, ◌==◌, not, ◌&&◌, ◌||◌, Bool, true, false, cond, List, [], Option, Some, None, is_some, refl, ap}
 use Rattle.std.specs.Cmp.{first_so, second_so}
 use Rattle.std.specs.Option.{option_map_or}

@@ -1,4 +1,5 @@
--- An Assert, and data, that is accepted came on a configured interface, and so an interface that comes up is configured.
+-- An Assert, and data, that is accepted came on a configured interface, and so an interface that comes up is
+-- configured.
 use Rattle.std.proofs.Common.{ℕ, ◌<◌}
 use Rattle.pim_types.specs.declared.event.EventKind.{EventKind}
 use Rattle.pim_model.specs.declared.accepted.Accepted.{Accepted}

@@ -1,4 +1,5 @@
--- A register lies under its source once all that follows of a change is done; interfaces stay those that are configured.
+-- A register lies under its source once all that follows of a change is done; interfaces stay those that are
+-- configured.
 use Rattle.std.proofs.Common.{◌≡◌, ◌∙◌, ℕ, nat_lt, ◌&&◌, ◌||◌, Bool, true, false, cond, List, [], ◌∷◌, ◌++◌, fold, Option, Some, None, is_some, option_map, refl, ap}
 use Rattle.std.proofs.lemmas.Bool.{or_left, or_right}
 use Rattle.std.specs.Cmp.Derive.{both_true}

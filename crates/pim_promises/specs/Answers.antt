@@ -1,4 +1,4 @@
--- What one event can send at most: answers of its own, what follows of it, and the Hellos that are owed.
+-- What one event can send at most: its own messages, what follows of it, and the Hellos that are owed.
 use Rattle.std.specs.List.{All}
 use Rattle.std.specs.Prelude.{Bool, List, Some, [], false, filter, if◌then◌else◌, length, min, true, ℕ, ◌&&◌, ◌*◌, ◌++◌, ◌+◌, ◌/◌, ◌==◌, ◌∷◌, ◌≡◌, ◌≤◌, ◌⊎◌}
 use Rattle.pim_ip.specs.Ipv4.{Packet}
@@ -36,7 +36,7 @@ use Rattle.pim_promises.specs.Copies.{happens}
 abbrev pub answer_count : Change → ℕ
 answer_count c = length c.messages + length c.copies + length c.registered
 
--- data: a copy on each interface and one Register, or one Assert
+-- Data sends a copy on each interface and one Register, or one Assert, at most.
 pub record CopiesOrAssert (s : State) (c : Change) : Type 0 where
   pub asserts : length c.messages ≤ 1
   pub copies : length c.copies ≤ iface_count s
@@ -46,7 +46,7 @@ pub record CopiesOrAssert (s : State) (c : Change) : Type 0 where
 abbrev pub DataGivesCopiesOrAssert : Type 0
 DataGivesCopiesOrAssert = (s : State) (w : ℕ) (i : IfaceId) (p : Packet) → CopiesOrAssert s (change s w (Accepted.Data i p))
 
--- a Register to the router: a copy on each interface and one Register-Stop
+-- A Register to the router sends a copy on each interface and one Register-Stop, at most.
 pub record CopiesAndStop (s : State) (c : Change) : Type 0 where
   pub stops : length c.messages ≤ 1
   pub copies : length c.copies ≤ iface_count s
@@ -56,13 +56,14 @@ abbrev pub RegisterGivesCopiesAndStop : Type 0
 RegisterGivesCopiesAndStop =
     (s : State) (w : ℕ) (p : Packet) (r : Register) → CopiesAndStop s (change s w (Accepted.Register p r))
 
--- an Assert: one Assert
+-- An Assert sends at most one Assert.
 abbrev pub AssertGivesOne : Type 0
 AssertGivesOne =
     (s : State) (w : ℕ) (i : IfaceId) (from : Addr) (a : AssertMessage) → answer_count (change s w (Accepted.Assert i from a)) ≤ 1
 
--- a Hello, a Join/Prune, a query, a Register-Stop, an interface that goes down, new routes, new RP ranges: none. Time is among them, since
--- it makes no change of its own: what it brings comes of the timers that end, each with a change that is counted nowhere here
+-- Events that send nothing themselves: a Hello, a Join/Prune, a query, a Register-Stop, an interface that goes down,
+-- new routes, new RP ranges. An Advance is among them, since it makes no change of its own: what it brings comes of the
+-- timers that expire, whose changes aren't counted here.
 abbrev pub is_unanswered : Accepted → Bool
 is_unanswered (Accepted.Up i) = false
 is_unanswered (Accepted.Assert i from a) = false
@@ -74,17 +75,18 @@ is_unanswered _ = true
 abbrev pub OthersGiveNone : Type 0
 OthersGiveNone = (s : State) (w : ℕ) (a : Accepted) → is_unanswered a ≡ true → answer_count (change s w a) ≡ 0
 
--- a query that names at most 366 sources
+-- The message is a query that names at most 366 sources.
 abbrev pub IsShortQuery : Message → Type 0
 IsShortQuery (Message.Query i q) = length q.sources ≤ most_sources
 IsShortQuery m = ⊥
 
--- the sources of a group that a record may have the router ask for: those still to be asked for, those with a fact, those named
+-- The sources of a group that a record may have the router query: those still to be queried, those with a fact, those
+-- named.
 unfoldable pub askable : ℕ → State → Record → ℕ
 askable i s r =
     length (sources_to_send s i r.group) + length (record_of s i r.group).members + length r.sources
 
--- a record of a report: a query of the group, and for its sources two and one more for each 366 of them
+-- The queries of one record of a report: one of the group, and for its sources two and one more for each 366 of them.
 pub record AsksFew (i : ℕ) (s : State) (r : Record) (asked : List Message) : Type 0 where
   pub short : All IsShortQuery asked
   pub few : length asked ≤ askable i s r / most_sources + 3
@@ -94,22 +96,22 @@ RecordAsksFew = (i : ℕ) (s : State) (r : Record) → AsksFew i s r (record_see
 
 -- ---- what follows
 
--- the Hellos that are owed
+-- The number of Hellos that are owed.
 unfoldable pub owed_among : Table InterfaceRow → ℕ
 owed_among rows = length (filter (λ (e : Key × InterfaceRow). (e.1).is_hello_owed) rows)
 
 abbrev pub owed : State → ℕ
 owed s = owed_among s.interfaces
 
--- the touched asserts that the router won: each that goes is cancelled
+-- The assert is touched, and the router won it: if it goes, it is cancelled.
 abbrev pub is_touched_winner : List Key → Key × AssertRow → Bool
 is_touched_winner keys e = touching keys e.0 && is_winner (Some e.1)
 
 unfoldable pub cancels : List Key → State → ℕ
 cancels keys s = length (filter (is_touched_winner keys) s.asserts)
 
--- what is told upstream of a group: one message of (*,G) where it is touched, two of each touched source with any fact
--- at the opening or now, one of (S,G) and one of (S,G,rpt)
+-- The most messages upstream of a group: one of (*,G) where it is touched, and for each touched source with any fact at
+-- the opening or after the change two, of (S,G) and of (S,G,rpt).
 unfoldable pub told_of_group : List Key → State → State → ℕ → ℕ
 told_of_group keys o a g =
     (if touching keys (star_key 0 g) then 1 else 0)
@@ -119,22 +121,23 @@ unfoldable pub told_of_groups : List Key → State → State → List ℕ → �
 told_of_groups keys o a [] = 0
 told_of_groups keys o a (g ∷ gs) = told_of_group keys o a g + told_of_groups keys o a gs
 
--- of a change of these keys, from an opening to a state
+-- The most messages that follow of a change of these keys, from an opening to a state.
 unfoldable pub follows : List Key → State → State → ℕ
 follows keys o changed = cancels keys changed + told_of_groups keys o (clear o changed).0 (groups_of keys)
 
--- with a Hello before each message whose interface owes one
+-- The most packets of a change of these keys, with a Hello before each message whose interface owes one.
 unfoldable pub most_sent : List Key → State → Change → ℕ
 most_sent keys s c =
     answer_count c + follows keys s c.state + min (length c.messages + follows keys s c.state) (owed c.state)
 
--- a quiet state is one in which nothing is to be cleared or settled, as after every event
+-- From a quiet state, in which nothing is to be cleared or settled, as after every event, a change sends at most
+-- `most_sent`.
 abbrev pub AnswersAreBounded : Type 0
 AnswersAreBounded = (s : State) (e : Event) (a : Accepted) (keys : List Key) → IsQuiet s
     → done_as (happens s e) ≡ Some a → touched_by_event s a ≡ Some keys
     → length (step s e).emissions ≤ most_sent keys s (change s e.draw a)
 
--- of a source alone follow a message of (S,G) and one of (S,G,rpt) upstream, and what is cancelled
+-- For one source a message of (S,G) and one of (S,G,rpt) upstream follow at most, and what is cancelled.
 abbrev pub OneSourceFollows : Type 0
 OneSourceFollows = (s t : State) (g src : ℕ) → (src == 0) ≡ false
     → follows (source_key 0 g src ∷ []) s t ≤ cancels (source_key 0 g src ∷ []) t + 2
@@ -146,7 +149,7 @@ abbrev pub SeenIsSilent : Type 0
 SeenIsSilent = (s : State) (e : Event) (i : IfaceId) (m : JoinPrune) → IsQuiet s
     → done_as (happens s e) ≡ Some (Accepted.JoinPruneSeen i m) → (step s e).emissions ≡ []
 
--- nor does the Hello of a neighbour that says its priority and its generation ID again
+-- The Hello repeats the priority and the generation ID of its neighbour.
 pub record IsHelloAgain (s : State) (i : IfaceId) (from : Addr) (h : HelloValue) : Type 0 where
   pub row : NeighbourRow
   pub known : row_at s.neighbours (neighbour_key i.number from.bits) ≡ Some row

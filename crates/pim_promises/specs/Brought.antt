@@ -11,7 +11,7 @@ use Rattle.pim_model.specs.Cause.{done_as, packet_in}
 use Rattle.pim_model.specs.State.{State}
 use Rattle.pim_promises.specs.Copies.{happens}
 
--- as the packet that came on a link, or as the one inside a Register that came to the router
+-- The event's bytes are read as the packet that came on a link, or as a Register to the router with the packet inside.
 pub data BringsPacket (e : Event) (p : Packet) : Type 0 where
   OnLink : (i : IfaceId) (bytes : List ℕ) → e.kind ≡ EventKind.Frame i bytes → ipv4_reading bytes ≡ Ok p → BringsPacket e p
   InRegister : (bytes : List ℕ) (outer : Packet) → e.kind ≡ EventKind.Unicast bytes → ipv4_reading bytes ≡ Ok outer

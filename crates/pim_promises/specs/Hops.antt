@@ -13,12 +13,12 @@ use Rattle.pim_model.specs.State.{State}
 use Rattle.pim_model.specs.Step.{change}
 use Rattle.pim_promises.specs.Copies.{copies_at, happens}
 
--- what was sent comes to a router: on one of its interfaces, or to an address of its own
+-- An emission comes to a router: on one of its interfaces, or to an address of its own.
 pub data Comes (x : Emission) (e : Event) : Type 0 where
   OnALink : (i j : IfaceId) (bytes : List ℕ) → x ≡ Emission.Link i bytes → e.kind ≡ EventKind.Frame j bytes → Comes x e
   ToARouter : (to : Addr) (bytes : List ℕ) → x ≡ Emission.Unicast to bytes → e.kind ≡ EventKind.Unicast bytes → Comes x e
 
--- what the router then sends on: a copy of the packet, or the Register round one
+-- What the router then forwards: a copy of the packet, or the Register around one.
 pub data GoesOn (s : State) (e : Event) (y : Emission) : Type 0 where
   AsACopy : Contains (copies_at s e) y → GoesOn s e y
   InTheTunnel : (a : Accepted) → done_as (happens s e) ≡ Some a → Contains (change s e.draw a).registered y → GoesOn s e y
@@ -32,13 +32,14 @@ pub record Hop (x y : Emission) : Type 0 where
   pub brought : packet_in (done_as (happens state event)) ≡ Some packet
   pub goes_on : GoesOn state event y
 
--- each hop from the next to the one after it
+-- Each emission of a list is a hop away from the one before.
 abbrev pub IsChainOfHops : List Emission → Type 0
 IsChainOfHops [] = Unit {0}
 IsChainOfHops (x ∷ []) = Unit {0}
 IsChainOfHops (x ∷ y ∷ more) = Hop x y × IsChainOfHops (y ∷ more)
 
--- a packet makes fewer hops than its TTL, by whatever routers in whatever states, and whatever is lost, repeated or reordered
+-- A packet makes fewer hops than its TTL, through any routers in any states, and whatever is lost, repeated or
+-- reordered.
 abbrev pub HopsEnd : Type 0
 HopsEnd = (x y : Emission) (more : List Emission) (first : Hop x y) → IsChainOfHops (y ∷ more)
     → length (y ∷ more) < first.packet.time_to_live

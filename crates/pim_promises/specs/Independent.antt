@@ -1,4 +1,5 @@
--- Groups don't meddle with one another: what names one group alone leaves all that the macros answer of the others.
+-- Groups don't affect one another: an event that names one group leaves all answers of the macros about the others
+-- unchanged.
 use Rattle.std.specs.List.{list_all}
 use Rattle.std.specs.Prelude.{List, Some, false, length, true, ℕ, ◌==◌, ◌≡◌, ◌≤◌}
 use Rattle.pim_types.specs.declared.event.Event.{Event}
@@ -17,8 +18,8 @@ use Rattle.pim_locality.specs.Touches.{isnt_neighbour}
 use Rattle.pim_reach.specs.Keeps.{KeepsAnswers}
 use Rattle.pim_promises.specs.Copies.{happens}
 
--- an event that was answered Done, and whose own change is about keys of one group: each Join/Prune, Assert, report,
--- query, packet, Register or Register-Stop of it
+-- An event that was answered Done, and whose own change is about keys of one group: each Join/Prune, Assert, report,
+-- query, packet, Register or Register-Stop of that group.
 pub record NamesAlone (g : ℕ) (s : State) (e : Event) : Type 0 where
   pub accepted : Accepted
   pub done : done_as (happens s e) ≡ Some accepted
@@ -26,12 +27,14 @@ pub record NamesAlone (g : ℕ) (s : State) (e : Event) : Type 0 where
   pub touched : touched_by_event s accepted ≡ Some keys
   pub alone : list_all (is_of_group g) keys ≡ true
 
--- it leaves the answers of each source of another group; what is refused or ignored changes nothing at all
+-- An event that names one group leaves the answers about each source of another group unchanged; an event that is
+-- refused or ignored changes nothing at all.
 abbrev pub OtherGroupsKeep : Type 0
 OtherGroupsKeep = (s : State) (e : Event) (g : ℕ) → IsQuiet s → length s.configured ≤ most_ifaces → NamesAlone g s e
     → (h src : ℕ) → (h == g) ≡ false → KeepsAnswers h src s (step s e).state
 
--- so does the end of a timer, which is of one group where it is no neighbour's
+-- The expiry of a timer of one group (any but a neighbour's) leaves the answers about each source of another group
+-- unchanged.
 abbrev pub OtherGroupsOutlast : Type 0
 OtherGroupsOutlast = (s : State) (w : ℕ) (e : Ending) → IsQuiet s → length s.configured ≤ most_ifaces
     → isnt_neighbour e.timer.kind ≡ true

@@ -1,4 +1,4 @@
--- From router to router in a network of them, in which frames are delivered as often and in whatever order as one likes.
+-- Hops in a network of routers, whose frames are delivered any number of times and in any order.
 use Rattle.std.specs.Prelude.{List, None, Some, [], length, ℕ, ◌<◌, ◌∷◌, ◌≡◌, ◌≤◌}
 use Rattle.pim_ip.specs.Ipv4.{Packet}
 use Rattle.pim_types.specs.declared.event.Event.{Event}
@@ -15,8 +15,8 @@ Delivers n (At r e) f = ⊥
 Delivers n (Deliver r i k draw) f = frame_at n k ≡ Some f
 Delivers n (DeliverUnicast r k draw) f = (frame_at n k ≡ Some f) × (f.link ≡ None)
 
--- a move of a network, whatever happened in it before: a frame is delivered to a router with a link for each of its interfaces,
--- which sends another with the packet
+-- a move of a network, whatever happened in it before: a frame is delivered to a router with a link for each of its
+-- interfaces, which sends another with the packet
 pub record NetHop (f g : Sent) : Type 0 where
   pub network : Network
   pub move : Move
@@ -38,7 +38,7 @@ AreNetHops [] = Unit {0}
 AreNetHops (f ∷ []) = Unit {0}
 AreNetHops (f ∷ g ∷ more) = NetHop f g × AreNetHops (g ∷ more)
 
--- a packet makes fewer hops than its TTL
+-- In a network a packet makes fewer hops than its TTL.
 abbrev pub NetHopsEnd : Type 0
 NetHopsEnd = (f g : Sent) (more : List Sent) (first : NetHop f g) → AreNetHops (g ∷ more)
     → length (g ∷ more) < first.packet.time_to_live

@@ -1,4 +1,4 @@
--- Who is served: where a data packet on its tree leaves.
+-- On which interfaces a data packet on its tree leaves.
 use Rattle.std.specs.List.{Contains}
 use Rattle.std.specs.Prelude.{Some, false, true, ℕ, ◌&&◌, ◌<◌, ◌==◌, ◌||◌, ◌≡◌, ◌⊎◌}
 use Rattle.pim_ip.specs.Ipv4.{Packet, copy_text}
@@ -17,15 +17,15 @@ use Rattle.pim_model.specs.Unicast.{is_rpf_interface, is_rpf_interface_rp}
 use Rattle.pim_model.specs.Writing.{on_link}
 use Rattle.pim_promises.specs.Copies.{copies_at, happens}
 
--- the facts as the packet renews them: its keepalive timer, its register, its SPTbit
+-- The facts after the packet renewed them: its keepalive timer, its register, its SPTbit.
 unfoldable pub renewed : State → ℕ → ℕ → ℕ → State
 renewed s g src iif = spt_updated (source_joined (source_here s g src iif) g src iif) g src iif
 
--- on the shortest path tree: it came on RPF_interface(S), and SPTbit is set
+-- The packet is on the shortest path tree: it came on RPF_interface(S), and SPTbit is set.
 abbrev pub OnShortestPath : State → ℕ → ℕ → ℕ → Type 0
 OnShortestPath s g src iif = (is_rpf_interface s src iif && spt_bit s g src) ≡ true
 
--- on the shared tree: it came on RPF_interface(RP), and SPTbit isn't set
+-- The packet is on the shared tree: it came on RPF_interface(RP), and SPTbit isn't set.
 abbrev pub OnSharedTree : State → ℕ → ℕ → ℕ → Type 0
 OnSharedTree s g src iif = (is_rpf_interface_rp s g iif ≡ true) × (spt_bit s g src ≡ false)
 
@@ -54,7 +54,7 @@ pub record IsServed (s : State) (g src j : ℕ) : Type 0 where
   pub group : is_loser (assert_star s g j) ≡ false
   pub source : is_loser (assert_source s g src j) ≡ false
 
--- on either tree
+-- The packet is on either tree.
 abbrev pub OnATree : State → ℕ → ℕ → ℕ → Type 0
 OnATree s g src iif = OnShortestPath s g src iif ⊎ OnSharedTree s g src iif
 
@@ -64,8 +64,8 @@ ServedHere = (s : State) (e : Event) (i : IfaceId) (p : Packet) (j : ℕ)
     → IsServed s p.destination p.source j → (j == i.number) ≡ false
     → Contains (copies_at s e) (on_link j (copy_text p))
 
--- a host on the link asked for the group and didn't exclude the source, and this router serves the link: it is the DR or
--- the winner of the group's assert, and lost no assert there
+-- A host on the link requested the group and didn't exclude the source, and this router serves the link: it is the DR
+-- or the winner of the group's assert, and lost no assert there.
 pub record IsMember (s : State) (g src j : ℕ) : Type 0 where
   pub configured : j < iface_count s
   pub asked : is_exclude s g j ≡ true
@@ -80,7 +80,7 @@ MemberIsServed = (s : State) (e : Event) (i : IfaceId) (p : Packet) (j : ℕ)
     → IsMember s p.destination p.source j → (j == i.number) ≡ false
     → Contains (copies_at s e) (on_link j (copy_text p))
 
--- a host on the link asked for that source alone, and this router serves the link for it
+-- A host on the link requested that source of the group, and this router serves the link for it.
 pub record IsSourceMember (s : State) (g src j : ℕ) : Type 0 where
   pub configured : j < iface_count s
   pub asked : local_receiver_include s g src j ≡ true
@@ -93,7 +93,8 @@ pub record IsSourceJoined (s : State) (g src j : ℕ) : Type 0 where
   pub joined : has_row s.downstream (source_key j g src) ≡ true
   pub source : is_loser (assert_source s g src j) ≡ false
 
--- both on the shortest path tree, since the shared tree is the group's
+-- A packet on the shortest path tree leaves where a router joined the source or a host requested it; the shared tree is
+-- the group's, so this isn't so there.
 abbrev pub SourceIsServed : Type 0
 SourceIsServed = (s : State) (e : Event) (i : IfaceId) (p : Packet) (j : ℕ)
     → Came s e i p → OnShortestPath (renewed s p.destination p.source i.number) p.destination p.source i.number

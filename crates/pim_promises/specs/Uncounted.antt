@@ -1,4 +1,5 @@
--- The facts that don't count: each is of an interface, lies under a fact that counts, runs for what is wanted, or ends soon.
+-- The facts that don't count: each is of an interface, lies under a fact that counts, runs for what is wanted, or
+-- expires soon.
 use Rattle.std.specs.List.{list_all, list_any}
 use Rattle.std.specs.Prelude.{Bool, List, Ok, if◌then◌else◌, length, nat_le, nat_lt, true, ℕ, ◌&&◌, ◌*◌, ◌+◌, ◌≡◌, ◌≤◌}
 use Rattle.pim_types.specs.Keys.{group_in, iface_in, iface_key, is_star, same_key, source_in}
@@ -26,9 +27,9 @@ use Rattle.pim_model.specs.Tables.{has_row}
 abbrev pub is_of_interface : State → Key → Bool
 is_of_interface s k = same_key (iface_key (iface_in k)) k && nat_lt (iface_in k) (iface_count s)
 
--- interfaces are configured and queriers up; a query's repeat lies under the record of its group, what is left to send of a
--- source's query under the record of the source, the time of the next sending under a source of its group on its interface;
--- a register lies under its source
+-- Where each fact that doesn't count lies: interfaces and queriers are of configured interfaces; a repeated group query
+-- lies under the record of its group; what is left to send of a source's query under the record of the source; the time
+-- of the next sending under a source of its group on its interface; a register under its source.
 pub record LiesUnder (s : State) : Type 0 where
   pub interfaces : list_all (λ (e : Key × InterfaceRow). is_of_interface s e.0) s.interfaces ≡ true
   pub queriers : list_all (λ (e : Key × QuerierRow). has_row s.interfaces e.0) s.queriers ≡ true
@@ -38,11 +39,11 @@ pub record LiesUnder (s : State) : Type 0 where
       list_any (is_sending (iface_in e.0) (group_in e.0)) s.sendings) s.source_repeats ≡ true
   pub registers : list_all (λ (e : Key × RegisterRow). has_row s.sources e.0) s.registers ≡ true
 
--- so it is after any events from the opening with an accepted configuration
+-- Each fact lies under one that counts, after any events from the opening with an accepted configuration.
 abbrev pub EachLiesUnder : Type 0
 EachLiesUnder = (c : Config) (events : List Event) → config_test c ≡ Ok tt → LiesUnder (state_after (opening c) events)
 
--- so each of these tables is no longer than the one that it lies under
+-- Each of these tables has at most as many rows as the one that it lies under.
 pub record IsShorter (s : State) : Type 0 where
   pub interfaces : length s.interfaces ≤ iface_count s
   pub queriers : length s.queriers ≤ length s.interfaces
@@ -54,7 +55,7 @@ pub record IsShorter (s : State) : Type 0 where
 abbrev pub EachIsShorter : Type 0
 EachIsShorter = (c : Config) (events : List Event) → config_test c ≡ Ok tt → IsShorter (state_after (opening c) events)
 
--- all of them, without the Join and override timers
+-- The facts that don't count, without the Join and override timers.
 abbrev pub uncounted_facts : State → ℕ
 uncounted_facts s =
     length s.interfaces + length s.queriers + length s.group_repeats + length s.sendings + length s.source_repeats
@@ -78,18 +79,18 @@ abbrev pub is_of_bytes : EventKind → Bool
 is_of_bytes (EventKind.Frame i bytes) = are_bytes bytes
 is_of_bytes kind = true
 
--- in a state, no override timer ends later
+-- In a state, no override timer expires later than the longest override interval after the present time.
 abbrev pub OverridesEndSoon : State → Type 0
 OverridesEndSoon s = list_all (λ (e : Key × OverrideTimerRow). nat_le (e.1).end (s.present + longest_override)) s.override_timers ≡ true
 
--- so it is after any events whose frames are of bytes
+-- Override timers expire within the longest override interval, after any events whose frames are of bytes.
 abbrev pub EachOverrideEndsSoon : Type 0
 EachOverrideEndsSoon = (c : Config) (events : List Event) → config_test c ≡ Ok tt
     → list_all (λ (e : Event). is_of_bytes e.kind) events ≡ true → OverridesEndSoon (state_after (opening c) events)
 
 -- ---- Join timers: each runs for what is wanted
 
--- (*,G) or (S,G), by its key
+-- The (*,G) or (S,G) of the key is wanted.
 abbrev pub is_wanted : State → Key → Bool
 is_wanted s k = if is_star k then join_desired_star s (group_in k) else join_desired s (group_in k) (source_in k)
 
@@ -98,7 +99,7 @@ EachJoinIsWanted = (c : Config) (events : List Event) → config_test c ≡ Ok t
     → list_all (λ (e : Key × JoinTimerRow). is_wanted (state_after (opening c) events) e.0)
     (state_after (opening c) events).join_timers ≡ true
 
--- so they are no more than the records, downstream rows and sources by which it is wanted
+-- The Join timers are no more than the records, downstream rows and sources by which their (*,G) or (S,G) is wanted.
 abbrev pub JoinTimersStayBounded : Type 0
 JoinTimersStayBounded = (c : Config) (events : List Event) → config_test c ≡ Ok tt
     → length (state_after (opening c) events).join_timers ≤ c.limit

@@ -10,12 +10,13 @@ ghost use Rattle.pim_promises.specs.NetHops.{NetHopsEnd};
 ghost use Rattle.pim_promises.specs.Served.{ListIsServed, MemberIsServed, ServedHere, SourceIsServed};
 ghost use Rattle.pim_promises.specs.Uncounted.{AllStayBounded, EachIsShorter, EachJoinIsWanted, EachLiesUnder, EachOverrideEndsSoon, JoinTimersStayBounded, UncountedStayBounded};
 
-/// The copies of an event are one text on each of some configured interfaces, ascending: on each link at most once.
+/// The copies of an event are the same bytes on some configured interfaces, in ascending order: at most one on each
+/// link.
 pub fn never_twice()
     ensures { NeverTwice }
 {}
 
-/// Of a data packet none goes back to where it came from.
+/// No copy of a data packet goes back to the interface on which the packet came.
 pub fn never_back()
     ensures { NeverBack }
 {}
@@ -35,17 +36,19 @@ pub fn copies_read_lower()
     ensures { CopiesReadLower }
 {}
 
-/// Likewise of the packet inside the Register by which data leaves by the tunnel.
+/// The packet inside the Register by which data leaves by the tunnel has the TTL one lower, and the packet's TTL was
+/// above 1.
 pub fn tunnel_ttl_falls()
     ensures { TunnelTtlFalls }
 {}
 
-/// From router to router, whatever state each is in, a packet makes fewer hops than its TTL, as copies on links and in Registers.
+/// From router to router, in any states, a packet makes fewer hops than its TTL, as copies on links and in Registers.
 pub fn hops_end()
     ensures { HopsEnd }
 {}
 
-/// So it is in a network, in which frames are delivered as often and in whatever order as one likes.
+/// In a network whose frames are delivered any number of times and in any order, a packet makes fewer hops than its
+/// TTL.
 pub fn net_hops_end()
     ensures { NetHopsEnd }
 {}
@@ -55,32 +58,35 @@ pub fn list_is_served()
     ensures { ListIsServed }
 {}
 
-/// It leaves where the group was joined, the source isn't pruned, and no assert was lost.
+/// A data packet on its tree leaves where the group was joined, the source isn't pruned, and no assert was lost.
 pub fn served_here()
     ensures { ServedHere }
 {}
 
-/// It leaves where a host asked for the group and didn't exclude the source, the router serves the link, and no assert was lost.
+/// A data packet on its tree leaves where a host requested the group and didn't exclude the source, the router serves
+/// the link, and no assert was lost.
 pub fn member_is_served()
     ensures { MemberIsServed }
 {}
 
-/// On the shortest path tree it leaves where a router joined its source, or a host asked for it, and no assert was lost.
+/// A data packet on the shortest path tree leaves where a router joined its source, or a host requested it, and no
+/// assert was lost.
 pub fn source_is_served()
     ensures { SourceIsServed }
 {}
 
-/// Time that passes, whatever fires, adds no neighbour, membership record, downstream row or source.
+/// Time that passes, whatever expires, adds no neighbour, membership record, downstream row or source.
 pub fn time_adds_none()
     ensures { TimeAddsNone }
 {}
 
-/// An event adds at most as many of these as it names keys without a row, of those under which it may make one.
+/// An event adds at most as many neighbours, membership records, downstream rows and sources as the keys that it names
+/// which have no row and under which it may make one.
 pub fn adds_what_is_needed()
     ensures { AddsWhatIsNeeded }
 {}
 
-/// So an event that names no new key adds none.
+/// An event that names no new key adds no neighbour, membership record, downstream row or source.
 pub fn nothing_new_adds_none()
     ensures { NothingNewAddsNone }
 {}
@@ -90,7 +96,8 @@ pub fn step_stays_within()
     ensures { StepStaysWithin }
 {}
 
-/// So they are after any events from the opening with an accepted configuration.
+/// After any events from the opening with an accepted configuration, neighbours, membership records, downstream rows
+/// and sources, taken together, are within the limit.
 pub fn run_stays_within()
     ensures { RunStaysWithin }
 {}
@@ -100,33 +107,34 @@ pub fn asserts_stay_bounded()
     ensures { AssertsStayBounded }
 {}
 
-/// So all that counts is at most the limit, once for each interface and once more.
+/// All facts that count are at most the limit, once for each interface and once more.
 pub fn counted_stay_bounded()
     ensures { CountedStayBounded }
 {}
 
-/// Other facts are of an interface, or lie under one that counts: what is still to be asked under the records of its group and
-/// sources, registers under sources.
+/// Each fact that doesn't count is of an interface, or lies under a fact that counts: repeated queries under the
+/// records of their group and sources, registers under sources.
 pub fn each_lies_under()
     ensures { EachLiesUnder }
 {}
 
-/// So they are no more than those.
+/// Facts that lie under facts that count are no more than these.
 pub fn each_is_shorter()
     ensures { EachIsShorter }
 {}
 
-/// All of them, the Join and override timers left out, are at most twice the limit and two for each interface.
+/// All facts that don't count, without the Join and override timers, are at most twice the limit and two for each
+/// interface.
 pub fn uncounted_stay_bounded()
     ensures { UncountedStayBounded }
 {}
 
-/// Each Join timer runs for what is wanted.
+/// Each Join timer runs for a (*,G) or (S,G) that is wanted.
 pub fn each_join_is_wanted()
     ensures { EachJoinIsWanted }
 {}
 
-/// So they are within the limit.
+/// The Join timers are no more than the limit.
 pub fn join_timers_stay_bounded()
     ensures { JoinTimersStayBounded }
 {}
@@ -136,44 +144,44 @@ pub fn all_stay_bounded()
     ensures { AllStayBounded }
 {}
 
-/// Each override timer ends within 65.535 s of the present, after any events whose frames are of bytes.
+/// Each override timer expires within 65.535 s of the present time, after any events whose frames are of bytes.
 pub fn each_override_ends_soon()
     ensures { EachOverrideEndsSoon }
 {}
 
-/// Data gives at most a copy on each interface and one Register, or else one Assert.
+/// Data sends at most a copy on each interface and one Register, or else one Assert.
 pub fn data_gives_copies_or_assert()
     ensures { DataGivesCopiesOrAssert }
 {}
 
-/// A Register to the router gives at most a copy on each interface and one Register-Stop.
+/// A Register to the router sends at most a copy on each interface and one Register-Stop.
 pub fn register_gives_copies_and_stop()
     ensures { RegisterGivesCopiesAndStop }
 {}
 
-/// An Assert gives at most one Assert.
+/// An Assert sends at most one Assert.
 pub fn assert_gives_one()
     ensures { AssertGivesOne }
 {}
 
-/// A Hello, a Join/Prune, a query and a Register-Stop give nothing themselves.
+/// A Hello, a Join/Prune, a query and a Register-Stop send nothing themselves.
 pub fn others_give_none()
     ensures { OthersGiveNone }
 {}
 
-/// A record of a report asks at most a query of its group, and for its sources two and one more for each 366 of them; each
-/// query names at most 366.
+/// A record of a report sends at most a query of its group, and for its sources two queries and one more for each 366
+/// of them; each query names at most 366.
 pub fn record_asks_few()
     ensures { RecordAsksFew }
 {}
 
-/// All that an event of some keys sends: what it gives itself, what is cancelled and told upstream of those keys, and a Hello
-/// before each message whose interface owes one.
+/// All that an event of some keys sends: what it sends itself, what is cancelled and sent upstream for those keys, and
+/// a Hello before each message whose interface owes one.
 pub fn answers_are_bounded()
     ensures { AnswersAreBounded }
 {}
 
-/// Of one source follow at most two messages upstream, and what is cancelled.
+/// For one source at most two messages upstream follow, and what is cancelled.
 pub fn one_source_follows()
     ensures { OneSourceFollows }
 {}
@@ -183,17 +191,17 @@ pub fn seen_is_silent()
     ensures { SeenIsSilent }
 {}
 
-/// The Hello of a neighbour that says what it said sends nothing.
+/// The Hello of a neighbour that repeats its priority and its generation ID sends nothing.
 pub fn hello_again_is_silent()
     ensures { HelloAgainIsSilent }
 {}
 
-/// What names one group alone leaves all that the macros answer of the sources of other groups.
+/// An event that names one group leaves all answers of the macros about sources of other groups unchanged.
 pub fn other_groups_keep()
     ensures { OtherGroupsKeep }
 {}
 
-/// So does the end of a timer.
+/// The expiry of a timer of one group leaves all answers of the macros about sources of other groups unchanged.
 pub fn other_groups_outlast()
     ensures { OtherGroupsOutlast }
 {}

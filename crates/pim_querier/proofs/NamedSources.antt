@@ -1,5 +1,5 @@
--- A record of a report that deletes no source changes the sources that it names, and no other: what is known of the others
--- need not be gathered, and isn't written anew.
+-- A record of a report that deletes no source changes the sources that it names, and no other: what is known of the
+-- others need not be gathered, and isn't written anew.
 use Rattle.std.proofs.Common.{◌≡◌, ℕ, ◌==◌, ◌&&◌, ◌||◌, Bool, true, false, not, cond, List, [], ◌∷◌, fold, Option, Some, None, is_some, eqb-true, eq-eqb, refl, ap, sym, subst, ◌∙◌}
 use Rattle.std.specs.List.{cons_option, filter, filter_map}
 use Rattle.std.specs.Option.{option_map_or, option_or}

@@ -46,7 +46,7 @@ member_put i g s m = record s { source_records = put_member i g s.source_records
 unfoldable pub members_put : ℕ → ℕ → State → List Member → State
 members_put i g s ms = fold (member_put i g) s ms
 
--- without the group's record on the interface, where it is none
+-- The state without the group's record on the interface, if that is empty.
 abbrev pub without_empty : Bool → ℕ → ℕ → State → State
 without_empty is_none i g s =
     record s { group_records = (if is_none then drop_at s.group_records (star_key i g) else s.group_records) }
@@ -56,13 +56,13 @@ abbrev pub with_excluded : ℕ → ℕ → ℕ → State → State
 with_excluded i g src s =
     record s { source_records = change_row (λ _. Some (record { end = None })) (source_key i g src) s.source_records }
 
--- without the record of a source, and without that of the group where no source is left
+-- The state without the record of a source, and without that of its group where no source is left.
 abbrev pub without_source_record : ℕ → ℕ → ℕ → State → State
 without_source_record i g src s =
     let left : Table SourceRecordRow = drop_at s.source_records (source_key i g src) in
     without_empty (not (list_any (λ e. is_at_group i g e.0) left)) i g (record s { source_records = left })
 
--- without the repeats of what has no sendings, and of what has no record
+-- The state without the repeats of what has no sendings, and of what has no record.
 abbrev pub without_source_repeat : ℕ → ℕ → State → State
 without_source_repeat i g s = record s {
   source_repeats = (if list_any (is_sending i g) s.sendings then s.source_repeats
@@ -94,11 +94,11 @@ unfoldable pub one_lowered : ℕ → ℕ → ℕ → State → Addr → State
 one_lowered i g end s a =
     record s { source_records = change_row (source_lowered end) (source_key i g a.bits) s.source_records }
 
--- those of these sources, one after the other
+-- The state after the timers of the given sources were lowered, one after the other.
 unfoldable pub each_lowered : ℕ → ℕ → ℕ → State → List Addr → State
 each_lowered i g end s sources = fold (one_lowered i g end) s sources
 
--- these sources of a group to be named in so many queries, one after the other
+-- The state after the given sources of a group were set to be named in a number of queries, one after the other.
 unfoldable pub sending_put : ℕ → ℕ → SendingRow → State → Addr → State
 sending_put i g row s a = record s { sendings = put s.sendings (source_key i g a.bits) row }
 

@@ -1,5 +1,5 @@
--- The records of a report: those that leave what they don't name, what is known of the sources that they name, and which
--- sources they move.
+-- The records of a report: those that leave what they don't name, what is known of the sources that they name, and
+-- which sources they move.
 use Rattle.std.specs.List.{filter_map, flat_map, list_all, list_any}
 use Rattle.std.specs.Option.{option_map_or}
 use Rattle.std.specs.Prelude.{Bool, List, Option, [], ◌∷◌, false, filter, if◌then◌else◌, is_some, length, map, not, option_map, true, ℕ, ◌&&◌, ◌++◌, ◌+◌, ◌||◌}
@@ -27,7 +27,7 @@ asks_named RecordType.Allow = true
 asks_named RecordType.Block = true
 asks_named _ = false
 
--- those of these sources of the group that have a record on the interface, in their order
+-- Those of the given sources of the group that have a record on the interface, in their order.
 abbrev pub member_named : ℕ → ℕ → Table SourceRecordRow → ℕ → Option Member
 member_named i g t n =
     option_map (λ (r : SourceRecordRow). let m : Member = (n, r.end) in m) (row_at t (source_key i g n))
@@ -46,20 +46,20 @@ record_named s i g sources =
 abbrev pub stays : RecordType → Option SourceRecordRow → Bool
 stays type o = option_map_or (λ (r : SourceRecordRow). not (is_including type) || is_some r.end) o false
 
--- The group stays in its mode: in EXCLUDE it does, and in INCLUDE where the sources stay that aren't named, and there is one
--- of them where the group has a record, and none where it has none.
+-- The group stays in its mode: in EXCLUDE it does, and in INCLUDE where the sources stay that aren't named, and there
+-- is one of them where the group has a record, and none where it has none.
 unfoldable pub keeps_mode : State → ℕ → Record → Bool
 keeps_mode s i r =
     let listed : Bool = list_any (λ e. is_at_group i r.group e.0) s.source_records in
     is_some (group_end s i r.group)
     || (keeps_others r.type && (if has_row s.group_records (star_key i r.group) then listed else not listed))
 
--- so do those of a report but those that are skipped
+-- All records of a report that aren't skipped keep the modes of their groups.
 unfoldable pub all_keep_modes : State → ℕ → List Record → Bool
 all_keep_modes s i records = list_all (keeps_mode s i) (filter (λ r. not (is_skipped r)) records)
 
--- The keys of the sources that a record may move: of those that it names, those that come or change sides; where it deletes
--- what it doesn't name, all that are there.
+-- The keys of the sources that a record may move: of those that it names, those that come or change sides; where it
+-- deletes what it doesn't name, all that are there.
 abbrev pub moved_named : Table SourceRecordRow → ℕ → Record → List Key
 moved_named t i r =
     map (source_key i r.group) (filter (λ src. not (stays r.type (row_at t (source_key i r.group src)))) r.sources)
@@ -71,7 +71,7 @@ moved_others t i r =
 abbrev pub moved_by : Table SourceRecordRow → ℕ → Record → List Key
 moved_by t i r = moved_named t i r ++ moved_others t i r
 
--- those of a report
+-- The sources that the records of a report move.
 unfoldable pub moved_sources : State → ℕ → List Record → List Key
 moved_sources s i records = flat_map (moved_by s.source_records i) (filter (λ r. not (is_skipped r)) records)
 

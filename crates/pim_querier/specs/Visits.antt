@@ -1,5 +1,5 @@
--- How many nodes of tries are visited, at least, where group records and source records come, go, or their timers begin or
--- end to run.
+-- How many nodes of tries are visited, at least, where group records and source records come, go, or their timers begin
+-- or end to run.
 use Rattle.std.specs.List.{list_any}
 use Rattle.std.specs.Prelude.{Bool, List, None, Option, Some, filter, fold, if◌then◌else◌, is_none, is_some, not, ℕ, ◌&&◌, ◌+◌}
 use Rattle.igmp_wire.specs.Values.{Record}
@@ -33,7 +33,7 @@ group_set_nodes i g s end =
     if sets_listed group_runs (Some (record { end = end })) (row_at s.group_records (star_key i g))
     then group_record_nodes s (addr g) else 0
 
--- the same of a record that stays without one
+-- The nodes of a group record that stays without a running timer.
 abbrev pub group_stopped_nodes : ℕ → ℕ → State → ℕ
 group_stopped_nodes i g s =
     if changes_listed group_runs (record { end = None }) (row_at s.group_records (star_key i g))
@@ -117,8 +117,8 @@ membership_end_nodes s _ k = 0
 
 -- ---- reports
 
--- a record of a report is applied to all of the group's sources, and one that leaves those that it doesn't name to those that
--- it does
+-- a record of a report is applied to all of the group's sources, and one that leaves those that it doesn't name to
+-- those that it does
 abbrev pub apply_to_all_nodes : ℕ → ℕ → ℕ → State → RecordType → List ℕ → ℕ
 apply_to_all_nodes full i g s type sources = set_record_nodes i g s (apply_record full (record_of s i g) type sources).0
 
@@ -134,7 +134,7 @@ apply_nodes full i g s type sources =
 abbrev pub record_seen_nodes : ℕ → State → Record → ℕ
 record_seen_nodes i s r = apply_nodes (s.present + group_membership_interval s i) i r.group s r.type r.sources
 
--- those of a report, one after the other, but for those that are skipped
+-- The nodes of the records of a report, one after the other, without those that are skipped.
 unfoldable pub report_seen_nodes : State → ℕ → List Record → ℕ
 report_seen_nodes s i records =
     nodes_in_turn (λ s r. (record_seen i s r).0) (record_seen_nodes i) s (filter (λ r. not (is_skipped r)) records)

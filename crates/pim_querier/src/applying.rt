@@ -57,7 +57,7 @@ fn member_of(world: &World, place: IfaceGroup, source: Addr) -> Option<Member>
     })
 }
 
-// Those of the sources that the group's record has, by rising source.
+// The sources of the group's record among the given ones, by rising source.
 fn members_among(
     world: &World,
     alloc: Global,
@@ -68,7 +68,7 @@ fn members_among(
         ≡ members_named place.iface.number place.group.bits world.now.source_records (bits_of sources.now.keys)) }
     ensures ascending { IfOk result (λ members. IsAscending (member_entries members.items)) }
 {
-    // It tells that the sources rise.
+    // For the proof: the sources rise.
     let _ = sources.len();
     let mut members = Vec::new(alloc);
     for source in sources.iter() {
@@ -94,10 +94,10 @@ fn named_record(
     ensures named { IfOk result (λ known. known
         ≡ record_named world.now place.iface.number place.group.bits (bits_of sources.now)) }
 {
-    // It tells that each is under the key of a source.
+    // For the proof: each is under the key of a source.
     world.membership().recall_keyed_source_records();
     let named = set_of(alloc, sources)?;
-    // It tells that the sources rise.
+    // For the proof: the sources rise.
     let _ = named.len();
     let members = members_among(world, alloc, place, &named)?;
     GroupRecord::with(alloc, world.group_end(place.iface, place.group), &members)
@@ -158,7 +158,7 @@ fn apply_to_named(
         (apply_to_named_nodes seen.full seen.place.iface.number seen.place.group.bits world.old seen.record_type
         (bits_of sources.now)) ≤ meter.new) }
 {
-    // They tell that each source has one record, under its own key, and that the sources rise.
+    // For the proof: each source has one record, under its own key, and the sources rise.
     world.membership().recall_rising_source_records();
     world.membership().recall_keyed_source_records();
     let _ = world

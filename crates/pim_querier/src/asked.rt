@@ -48,7 +48,7 @@ fn query_group(
     turn.out.query(place.iface, &query, &[])
 }
 
-// Those of the sources whose timers run on past this moment, in ms.
+// Those of the sources whose timers expire after this timestamp, in ms.
 fn running_past(
     world: &World,
     alloc: Global,
@@ -138,7 +138,8 @@ fn query_asked_sources(
     }
 }
 
-/// Queries what a record of a report asks for: of the group's sources first, and then the group. The meter stays.
+/// Queries what a record of a report asks for: of the group's sources first, and then the group. The meter is
+/// unchanged.
 pub fn query_asked(
     world: &mut World,
     turn: &mut Turn,

@@ -42,8 +42,8 @@ fn given_or(given: u32, configured: u32) -> u32
     if given == 0 { configured } else { given }
 }
 
-/// Another router is the querier of the interface now: its values are adopted, the interval in seconds, or the
-/// configured ones where they are 0. What the router was to repeat there it doesn't.
+/// Another router becomes the querier of the interface. Its values are adopted (the interval in seconds), or the
+/// configured ones where they are 0. Queries that the router was to repeat there are dropped.
 pub fn querier_elected(
     world: &mut World,
     iface: IfaceId,

@@ -22,7 +22,7 @@ fn lower_source(
     ensures lowered { OnOk result (world.new ≡ one_lowered place.iface.number place.group.bits end world.old source) }
     ensures kept { OnOk result (meter.new ≡ meter.old) }
 {
-    // It tells that each key stands once.
+    // For the proof: each key stands once.
     world.membership().recall_rising_source_records();
     let Some(row) = world
         .membership()
@@ -60,7 +60,7 @@ fn lower_each(
 }
 
 /// Lowers the timers of these sources of the group on the interface to an end, in ms, where they run and end later. The
-/// records of other sources aren't looked at. The meter stays.
+/// records of other sources aren't looked at. The meter is unchanged.
 pub fn lower_sources(
     world: &mut World,
     meter: &mut Meter,
@@ -72,7 +72,7 @@ pub fn lower_sources(
         ≡ lower_sources world.old place.iface.number place.group.bits (bits_of sources.now) end) }
     ensures kept { OnOk result (meter.new ≡ meter.old) }
 {
-    // It tells that each is under the key of a source.
+    // For the proof: each is under the key of a source.
     world.membership().recall_keyed_source_records();
     lower_each(world, meter, place, sources, end)
 }

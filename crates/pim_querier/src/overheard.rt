@@ -66,7 +66,7 @@ fn elect(world: &mut World, iface: IfaceId, query: &QueryView<'_>) -> Result<(),
 
 /// Takes a query that came on an interface from an address: of a router with a lower address than the router's own it
 /// makes that one the querier, whose values are adopted, and with S clear it lowers the timers of what it asks for. The
-/// meter stays.
+/// meter is unchanged.
 #[tactic(auto, unfolding(pim_model::specs::Querier::query_seen))]
 pub fn query_seen(
     world: &mut World,

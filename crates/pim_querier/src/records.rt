@@ -251,7 +251,7 @@ fn end_source(
     ensures at_least { OnOk result (raised meter.old
         (source_record_due_nodes place.iface.number place.group.bits source.bits world.old) ≤ meter.new) }
 {
-    // They tell that each source has one record, under its own key.
+    // For the proof: each source has one record, under its own key.
     world.membership().recall_rising_source_records();
     world.membership().recall_keyed_source_records();
     if world.group_end(place.iface, place.group).is_some() {

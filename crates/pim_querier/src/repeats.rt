@@ -64,7 +64,7 @@ pub fn send(world: &mut World, turn: &mut Turn, place: IfaceGroup) -> Result<(),
     let others = sources_by_end(world, turn.alloc, place, &sendings, end, false)?;
     say_sources(world, turn, place, true, &running)?;
     say_sources(world, turn, place, false, &others)?;
-    // It tells that each key stands once.
+    // For the proof: each key stands once.
     world.membership().recall_rising_sendings();
     lessen(world, &sendings);
     Ok(())

@@ -1,5 +1,5 @@
--- Firing leaves the interfaces as they count, and neighbours only go: so where none has gone in the end, none goes in any
--- firing.
+-- Firing leaves the interfaces as they count, and neighbours only go: so where none has gone in the end, none goes in
+-- any firing.
 use Rattle.std.proofs.Common.{◌≡◌, ℕ, zero, suc, ◌+◌, ◌-◌, ◌≤◌, Bool, true, false, not, ◌&&◌, cond, List, [], ◌∷◌, filter, length, Option, Some, None, is_some, option_map, refl, sym, ap, subst, ◌∙◌, arith}
 use Rattle.std.proofs.lemmas.List.Folds.{list_all-append}
 use Rattle.std.specs.Cmp.{second_so}

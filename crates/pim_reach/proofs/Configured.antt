@@ -1,4 +1,5 @@
--- No event and no firing changes the settings or what is configured, and none but new routes and RP ranges changes these.
+-- No event and no firing changes the settings or what is configured, and none but new routes and RP ranges changes
+-- these.
 use Rattle.std.proofs.Common.{◌≡◌, ◌==◌, ℕ, suc, ◌≤◌, Bool, true, false, ◌&&◌, ◌||◌, List, [], ◌∷◌, Some, max, refl, sym, ap, arith}
 use Rattle.std.specs.List.{list_any}
 use Rattle.pim_types.specs.declared.config.InterfaceConfig.{InterfaceConfig}

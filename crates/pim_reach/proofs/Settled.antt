@@ -1,5 +1,5 @@
--- What is told upstream, and what becomes packets, changes no answer: so an unnamed source keeps its answers to the end of
--- the event. What is configured stays.
+-- What is told upstream, and what becomes packets, changes no answer: so an unnamed source keeps its answers to the end
+-- of the event. What is configured stays.
 use Rattle.std.proofs.Common.{◌≡◌, ℕ, false, List, [], length, ◌≤◌, refl, subst, ◌∙◌}
 use Rattle.pim_types.specs.declared.config.InterfaceConfig.{InterfaceConfig}
 use Rattle.pim_types.specs.Keys.{source_key}

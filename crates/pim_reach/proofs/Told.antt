@@ -60,8 +60,8 @@ swap false false e = cc
 
 -- ---- the turns
 
--- the tests of a group and of a source say that nothing is told where neither is touched; of what has facts each is touched,
--- or passes
+-- the tests of a group and of a source say that nothing is told where neither is touched; of what has facts each is
+-- touched, or passes
 module _ (keys : List Key) (o a : State) (w : ℕ) (calm_star : ℕ → Bool) (calm : ℕ → ℕ → Bool)
     (star_idle : (g : ℕ) → touching keys (star_key 0 g) ≡ false → calm_star g ≡ true
     → star_told a w g (star_view o g) (star_view a g) ≡ nothing_told)

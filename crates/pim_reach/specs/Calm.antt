@@ -1,4 +1,4 @@
--- A change, or an event, in which no interface row and no neighbour row differs on the way.
+-- A change, or an event, in which no interface row and no neighbour row differs in between.
 use Rattle.std.specs.List.{list_all}
 use Rattle.std.specs.Prelude.{Bool, [], ℕ, ◌∷◌}
 use Rattle.pim_model.specs.declared.accepted.Accepted.{Accepted}
@@ -6,11 +6,11 @@ use Rattle.pim_model.specs.Reach.{keeps_neighbours, passes, told_all}
 use Rattle.pim_model.specs.State.{State}
 use Rattle.pim_model.specs.Step.{change}
 
--- none differs between the opening and another of the states that the change passes through
+-- No interface row and no neighbour row differs between the opening and any state that the change passes through.
 unfoldable pub is_calm : State → State → Bool
 is_calm o changed = list_all (keeps_neighbours o) (passes o changed)
 
--- of any event that is accepted; of an Advance in each of its firings
+-- An accepted event in which no such row differs; for an Advance in the expiry of each of its timers.
 unfoldable pub is_calm_event : State → ℕ → Accepted → Bool
 is_calm_event s w (Accepted.Advance moment) =
     list_all (λ b. b) (told_all (λ o changed. is_calm o changed ∷ []) w moment s).1

@@ -11,7 +11,7 @@ use Rattle.pim_model.specs.Sets.{assert_source, assert_star, immediate_olist, im
 use Rattle.pim_model.specs.State.{State}
 use Rattle.pim_model.specs.Unicast.{is_connected, route, rp_of, rp_route, rpf_interface, rpf_interface_rp}
 
--- on an interface: sets, asserts, the macros of the assert machines
+-- The sets, the asserts and the macros of the assert machines are the same on an interface.
 pub record KeepsAt (g src : ℕ) (o a : State) (i : ℕ) : Type 0 where
   pub joins_star : joins_star o g i ≡ joins_star a g i
   pub joins : joins o g src i ≡ joins a g src i
@@ -64,5 +64,5 @@ pub record KeepsAnswers (g src : ℕ) (o a : State) : Type 0 where
   pub rpf_star : rpf_star o g ≡ rpf_star a g
   pub rpf_source : rpf_source o g src ≡ rpf_source a g src
   pub rpf_rpt : rpf_rpt o g src ≡ rpf_rpt a g src
-  -- on each interface that can be configured
+  -- The answers are the same on each interface that can be configured.
   pub on : (i : ℕ) → nat_lt i most_ifaces ≡ true → KeepsAt g src o a i

@@ -1,5 +1,5 @@
--- What new routes or new RP ranges move: (*,G) where RP(G) or the route to it differs, and a source of a group where its
--- own route does. All that follows of them follows of what they move, of which there are facts.
+-- What new routes or new RP ranges move: (*,G) where RP(G) or the route to it differs, and a source of a group where
+-- the route to the source differs. All that follows of them follows of what they move that has facts.
 use Rattle.std.specs.List.{flat_map, list_all, list_any}
 use Rattle.std.specs.Prelude.{Bool, List, [], false, filter, if◌then◌else◌, is_some, map, not, true, ℕ, ◌&&◌, ◌==◌, ◌||◌, ◌≡◌, ◌∷◌}
 use Rattle.pim_types.specs.declared.config.Route.{Route}
@@ -21,7 +21,7 @@ use Rattle.pim_reach.specs.Named.{has_same_routes, has_same_rp, is_source_named,
 
 -- ---- the change
 
--- a key of the group and the source, or of the group where there is none
+-- A key of the group and the source; of the group where there is no source.
 abbrev pub is_of_place : ℕ → ℕ → Key → Bool
 is_of_place g src k = (group_in k == g) && (source_in k == src)
 
@@ -40,7 +40,7 @@ RpsReroute = (s : State) (w : ℕ) (ranges : List RpRange) → IsRerouted s (cha
 
 -- ---- what is moved
 
--- the machines of the key are
+-- The machines of the key are moved.
 abbrev pub is_moved : State → State → Key → Bool
 is_moved o c k = if is_star k then not (has_same_rp (group_in k) o c) else is_rerouted o c k
 
@@ -49,14 +49,15 @@ unfoldable pub rerouted_sources : State → State → ℕ → List ℕ
 rerouted_sources o c g =
     filter (λ src. not (same_both same_path (route o src) (route c src))) (sources_of g (fact_keys o))
 
--- of new routes: the groups with any fact whose RP has another route, and those sources of the other groups
+-- What new routes move of a group: all of a group with any fact whose RP has another route, else those sources that
+-- have another route.
 unfoldable pub moved_of_group : State → State → ℕ → List Key
 moved_of_group o c g = if has_same_rp g o c then map (source_key 0 g) (rerouted_sources o c g) else star_key 0 g ∷ []
 
 unfoldable pub keys_by_routes : State → State → List Key
 keys_by_routes o c = flat_map (moved_of_group o c) (groups_of (fact_keys o))
 
--- of new RP ranges: the groups with any fact that have another RP
+-- What new RP ranges move: the groups with any fact that have another RP.
 unfoldable pub keys_by_rps : State → State → List Key
 keys_by_rps o c =
     map (star_key 0) (filter (λ g. not (same_option (rp_of o g) (rp_of c g))) (groups_of (fact_keys o)))
@@ -87,12 +88,12 @@ RpsMove = (s : State) (w : ℕ) (ranges : List RpRange)
 abbrev pub HaveSources : {R : Type 0} → Table R → Type 0
 HaveSources t = list_all (λ e. is_some (e.0).source) t ≡ true
 
--- from a quiet state what goes, and which registers are settled, is of the touched keys
+-- From a quiet state the facts that go, and the registers that are settled, are of the touched keys.
 abbrev pub MovedGoes : Type 0
 MovedGoes = (keys : List Key) (o c : State) → IsQuiet o → MovesAlone keys o c → HaveSources c.sources
     → HaveSources c.registers → clear o c ≡ touched_clear (touching keys) o (touched_registers (touching keys) c)
 
--- and all that follows
+-- From a quiet state all that follows of a change of routes or RP ranges follows of the touched keys.
 abbrev pub MovedSettles : Type 0
 MovedSettles = (keys : List Key) (o c : State) → IsQuiet o → MovesAlone keys o c → HaveSources c.sources
     → HaveSources c.registers → (messages : List Message) (w : ℕ)

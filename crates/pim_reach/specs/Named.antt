@@ -1,5 +1,5 @@
--- Which sources are named after an event or a firing, to be evaluated anew: those whose fact is in one state alone, and
--- those of which something differs that the macros read.
+-- Which sources are named after an event or the expiry of a timer, so that their rows are evaluated again: those whose
+-- fact is in only one of the states, and those of which something differs that the macros read.
 use Rattle.std.specs.Int.{bit_at}
 use Rattle.std.specs.List.{list_all}
 use Rattle.std.specs.Prelude.{Bool, List, filter, nat_lt, not, ℕ, ◌&&◌, ◌==◌, ◌≡◌}
@@ -25,15 +25,15 @@ use Rattle.pim_model.specs.Unicast.{route, rp_of, rp_route, rpf_interface, rpf_i
 
 -- ---- sights
 
--- the same of the interfaces that can be configured
+-- Both sets have the same of the interfaces that can be configured.
 unfoldable pub same_set : Set → Set → Bool
 same_set a b = list_all (λ i. same_bool (a i) (b i)) (below most_ifaces)
 
--- the bits of a number that are set are those of the interfaces that can be configured and pass
+-- The set bits of a number are those of the interfaces that can be configured and are in the set.
 abbrev pub IsMask : ℕ → Set → Type 0
 IsMask mask test = (i : ℕ) → (bit_at mask i == 1) ≡ (nat_lt i most_ifaces && test i)
 
--- what the macros of (*,G) read
+-- The macros of (*,G) read the same in both states.
 unfoldable pub is_same_star : ℕ → State → State → Bool
 is_same_star g o a =
     same_option (rp_of o g) (rp_of a g)
@@ -47,7 +47,8 @@ is_same_star g o a =
     && same_set (is_exclude o g) (is_exclude a g)
     && same_set (is_dr o) (is_dr a)
 
--- what the macros of (S,G) and of (S,G,rpt) read beside, but for the keepalive timer and the register tunnel
+-- The macros of (S,G) and of (S,G,rpt) read the same in both states, but for the keepalive timer and the register
+-- tunnel.
 unfoldable pub is_same_sight : ℕ → ℕ → State → State → Bool
 is_same_sight g src o a =
     is_same_star g o a
@@ -68,7 +69,8 @@ is_same_sight g src o a =
 
 -- ---- named sources
 
--- what is asked beside the sight: CouldRegister, the state of the register fact, JoinDesired
+-- CouldRegister, the state of the register fact and JoinDesired, which are compared together with the sight, are the
+-- same.
 unfoldable pub is_same_beside : ℕ → ℕ → State → State → Bool
 is_same_beside g src o a =
     same_bool (may_register o g src) (may_register a g src)
@@ -76,28 +78,29 @@ is_same_beside g src o a =
     && same_both same_register_state (register_state o g src) (register_state a g src)
     && same_bool (join_desired o g src) (join_desired a g src)
 
--- the fact is there in both, or in none
+-- The fact is there in both states, or in neither.
 abbrev pub is_same_fact : ℕ → ℕ → State → State → Bool
 is_same_fact g src o a = same_bool (has_row o.sources (source_key 0 g src)) (has_row a.sources (source_key 0 g src))
 
--- the fact is in one alone, or something that is compared differs
+-- The source is named: its fact is in only one of the states, or something that is compared differs.
 unfoldable pub is_source_named : ℕ → ℕ → State → State → Bool
 is_source_named g src o a = not (is_same_fact g src o a && is_same_sight g src o a && is_same_beside g src o a)
 
 unfoldable pub named : State → State → List Key
 named o a = filter (λ k. is_source_named (group_in k) (source_in k) o a) (with_facts o a)
 
--- of an event or a firing, by the opening and the own change: the opening is compared with what clearing leaves
+-- The sources that an event or the expiry of a timer names, by the opening and the own change: the opening is compared
+-- with the state after clearing.
 unfoldable pub named_by : State → State → List Key
 named_by o changed = named o (clear o changed).0
 
--- those of them that are found where only the sources that pass are asked
+-- Those of the named sources that pass a test.
 unfoldable pub named_where : (Key → Bool) → State → State → List Key
 named_where asked o changed =
     let after : State = (clear o changed).0 in
     filter (λ k. is_source_named (group_in k) (source_in k) o after) (filter asked (with_facts o after))
 
--- of what was accepted; of an Advance those of its firings, one after the other
+-- The sources that an accepted event names; for an Advance those of its timers, one after the other.
 unfoldable pub named_of : State → ℕ → Accepted → List Key
 named_of s w (Accepted.Advance moment) = (told_all named_by w moment s).1
 named_of s w a = named_by s (change s w a).state
@@ -107,7 +110,7 @@ event_named s e = where_accepted s (named_of s e.draw) (judged s e.kind)
 
 -- ---- routes and RP ranges
 
--- RP(G) and the route to it are the same, and the route to S
+-- RP(G) and the route to it are the same, and the route to S.
 unfoldable pub has_same_rp : ℕ → State → State → Bool
 has_same_rp g s t = same_option (rp_of s g) (rp_of t g) && same_both same_path (rp_route s g) (rp_route t g)
 

@@ -1,5 +1,5 @@
--- A Join/Prune between other routers keeps what its single steps keep: a Join timer that is raised or lowered, an override
--- timer that is cancelled or lowered.
+-- A Join/Prune between other routers keeps what its single steps keep: a Join timer that is raised or lowered, an
+-- override timer that is cancelled or lowered.
 use Rattle.std.proofs.Common.{ℕ, not, cond, List, filter, fold, Some}
 use Rattle.pim_types.specs.declared.fact.Key.{Key}
 use Rattle.pim_types.specs.declared.path.Hop.{Hop}

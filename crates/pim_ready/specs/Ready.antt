@@ -1,4 +1,4 @@
--- What every event keeps: tables whose keys rise, ends that are later than the present.
+-- What every event keeps: tables whose keys rise, and timers that expire later than the present time.
 use Rattle.std.specs.List.{list_all}
 use Rattle.std.specs.List.Sorted.{IsStrictlySortedBy}
 use Rattle.std.specs.Prelude.{List, Ok, is_some, true, ◌||◌, ℕ, ◌≡◌}
@@ -26,7 +26,7 @@ use Rattle.pim_model.specs.Tables.{Table, keys_in}
 use Rattle.pim_types.specs.Keys.{iface_in, key_cmp}
 use Rattle.pim_model.specs.Timers.{Ending}
 
--- one row a key, the keys rising
+-- A table has one row for each key, and its keys rise.
 abbrev pub Rises : {R : Type 0} → Table R → Type 0
 Rises t = IsStrictlySortedBy key_cmp (keys_in t)
 
@@ -59,13 +59,14 @@ pub record IsTidy (s : State) : Type 0 where
   pub asserts : list_all (λ (e : Key × AssertRow). is_up s (iface_in e.0)) s.asserts ≡ true
   pub sources : list_all (λ (e : Key × SourceRow). is_some (e.1).keepalive || (e.1).spt) s.sources ≡ true
 
--- in order, with no robustness and no interval that is 0, and IGMP's facts under keys of their kind, whatever is due
+-- The tables are in order, no robustness and no interval is 0, and IGMP's facts are under keys of their kind, whatever
+-- is due.
 pub record IsLawful (s : State) : Type 0 where
   pub ordered : IsOrdered s
   pub firable : IsFirable s
   pub tidy : IsTidy s
 
--- between two events: in order, and with all that is due by the present fired
+-- The state between two events: the tables are in order, and all timers that are due at the present time have expired.
 pub record IsSettled (s : State) : Type 0 where
   pub ordered : IsOrdered s
   pub ahead : IsAhead s.present s
@@ -77,24 +78,24 @@ SettledIsLawful = (s : State) → IsSettled s → IsLawful s
 abbrev pub OpeningIsSettled : Type 0
 OpeningIsSettled = (c : Config) → config_test c ≡ Ok tt → IsSettled (opening c)
 
--- every event keeps it
+-- Every event leaves a settled state settled.
 abbrev pub StepIsSettled : Type 0
 StepIsSettled = (s : State) (e : Event) → IsSettled s → IsSettled (step s e).state
 
--- time moves by Advance alone
+-- Only an Advance moves time.
 abbrev pub IsTimeless : EventKind → Type 0
 IsTimeless (EventKind.Advance moment) = ⊥
 IsTimeless kind = Unit {0}
 
--- after any other event all ends are still later than the same present
+-- After an event other than Advance all timers still expire later than the present time, which is unchanged.
 abbrev pub StepStaysAhead : Type 0
 StepStaysAhead = (s : State) (e : Event) → IsTimeless e.kind → IsSettled s → IsAhead s.present (step s e).state
 
--- a router is settled after any events
+-- The state is settled after any events from the opening.
 abbrev pub RunIsSettled : Type 0
 RunIsSettled = (c : Config) (events : List Event) → config_test c ≡ Ok tt → IsSettled (state_after (opening c) events)
 
--- what follows from a change, and each firing, leaves a lawful state
+-- What follows from a change, and each expiry of a timer, leaves a lawful state lawful.
 abbrev pub SettlingIsLawful : Type 0
 SettlingIsLawful =
     (o : State) (change : State × List Message) (w : ℕ) → IsLawful change.0 → IsLawful (settled o change w).0

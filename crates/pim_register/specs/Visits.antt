@@ -26,8 +26,8 @@ use Rattle.pim_register.specs.Steps.{source_keys}
 
 -- ---- rows that come and go lead to the facts of their source
 
--- a register: where the source can't be registered there is to be none, which is looked up whether there was one or not;
--- where it can, one that is there stays
+-- a register: where the source can't be registered there is to be none, which is looked up whether there was one or
+-- not; where it can, one that is there stays
 abbrev pub register_mark_nodes : State → Addr → Addr → ℕ
 register_mark_nodes s group source =
     if could_register s group.bits source.bits && has_row s.registers (source_key 0 group.bits source.bits) then 0
@@ -86,7 +86,7 @@ abbrev pub kept_at_rp_nodes : State → Addr → Addr → ℕ
 kept_at_rp_nodes s group source =
     if spt_bit s group.bits source.bits || is_spt_wanted s then new_source_nodes s group source else 0
 
--- at the RP: the sight of the group, that of the source, and its row
+-- The nodes of a Register at the RP: the sight of the group, that of the source, and its row.
 abbrev pub at_rp_nodes : State → Register → ℕ
 at_rp_nodes s r =
     star_nodes s (addr (registered_group r))
@@ -100,7 +100,7 @@ register_nodes s p r =
 
 -- ---- where new RP ranges come
 
--- of a register: the RP of its group by the ranges there are, and by these
+-- The nodes of a register where RP ranges change: the RP of its group by the present ranges, and by the new ones.
 abbrev pub register_rps_nodes : State → List RpRange → Key × RegisterRow → ℕ
 register_rps_nodes s ranges e = rp_nodes s.ranges (group_in e.0) + rp_nodes ranges (group_in e.0)
 

@@ -29,8 +29,8 @@ pub fn source_is_full(world: &World, name: SourceGroup) -> bool
     world.passes_limit(missing(world, name))
 }
 
-/// Whether the row that a Register may make passes it: at another router than the RP a Register makes none. The meter rises
-/// by the nodes that lead to the RP.
+/// Whether the row that a Register may make passes it: at another router than the RP a Register makes none. The meter
+/// rises by the nodes that lead to the RP.
 pub fn is_full(
     world: &World,
     meter: &mut Meter,

@@ -51,7 +51,8 @@ fn is_stopped(sight: &SourceSight) -> bool
     sight.spt || sight.is_spt_wanted && sight.is_inherited_empty()
 }
 
-// Where the packet of a Register goes: down the shared tree, but for one that comes down the shortest path tree too.
+// The interfaces on which the packet of a Register leaves: those of the shared tree; none for a Null-Register, and none
+// where SPTbit(S,G) is set.
 fn list_at_rp(sight: &SourceSight, is_null: bool) -> IfSet
     ensures interfaces { InSource sight.now (λ s g src. Shows result
         (if spt_bit s g src || is_null then no_interface else inherited_olist_rpt s g src)) }
@@ -64,7 +65,7 @@ fn list_at_rp(sight: &SourceSight, is_null: bool) -> IfSet
     }
 }
 
-// At the RP: the packet goes down the shared tree, but for one that comes down the shortest path tree too.
+// A Register at the RP: its packet goes down the shared tree, unless SPTbit(S,G) is set.
 #[tactic(auto, unfolding(pim_model::specs::Forwarding::register_at_rp))]
 fn register_at_rp(
     world: &mut World,
@@ -94,11 +95,11 @@ fn register_at_rp(
     Ok(list)
 }
 
-/// Takes a Register that came in this packet. At the RP of its group its packet goes down the shared tree, the source is
-/// watched, and the source's router is told to stop where the source comes without Registers, or nobody wants it; any
-/// other router tells it to stop. The answer is where the packet leaves, without the tunnel; a Null-Register's leaves
-/// nowhere. The meter rises by the nodes that the look-ups visit, at least those that lead to the RP and, at it, those of
-/// the sight of the source. An error is want of memory.
+/// Takes a Register that came in this packet. At the RP of its group its packet goes down the shared tree, the source
+/// is watched, and the source's router is told to stop where the source comes without Registers, or nobody wants it;
+/// any other router tells it to stop. The answer is where the packet leaves, without the tunnel; a Null-Register's
+/// leaves nowhere. The meter rises by the nodes that the look-ups visit, at least those that lead to the RP and, at it,
+/// those of the sight of the source. An error is want of memory.
 #[tactic(auto, unfolding(pim_model::specs::Forwarding::register_received))]
 pub fn register_seen(
     world: &mut World,

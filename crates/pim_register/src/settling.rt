@@ -17,8 +17,8 @@ use pim_world::{Meter, World};
 use std::alloc::AllocError;
 
 /// Settles the register of one source: NoInfo becomes Join where CouldRegister(S,G) holds, any state NoInfo where it
-/// ceases. The sight is true of the state before, and then of the state after. The meter rises by the nodes that lead to the
-/// facts of the source, but where it has a register that stays. An error is want of memory.
+/// ceases. The sight is true of the state before, and then of the state after. The meter rises by the nodes that lead
+/// to the facts of the source, but where it has a register that stays. An error is want of memory.
 pub fn settle_register(
     world: &mut World,
     meter: &mut Meter,
@@ -50,7 +50,7 @@ pub fn settle_register(
     Ok(())
 }
 
-// The same, of a source of a group.
+// Settles the register of a source of a group.
 fn settle_source(
     world: &mut World,
     meter: &mut Meter,
@@ -67,7 +67,7 @@ fn settle_source(
     settle_register(world, meter, &mut sight)
 }
 
-// These sources of a group, one after the other.
+// Settles the registers of the given sources of a group, one after the other.
 fn settle_sources(
     world: &mut World,
     meter: &mut Meter,
@@ -101,8 +101,8 @@ fn settle_group(
 }
 
 /// Registers are settled: an opened source for which CouldRegister(S,G) holds has a register, in Join if it had none;
-/// no other opened source has one. The meter rises by the nodes that the look-ups visit, at least those of the sight of each
-/// opened group and source. An error is want of memory.
+/// no other opened source has one. The meter rises by the nodes that the look-ups visit, at least those of the sight of
+/// each opened group and source. An error is want of memory.
 pub fn changed(world: &mut World, meter: &mut Meter, opening: &Opening) -> Result<(), AllocError>
     ensures state { OnOk result (world.new ≡ registers_by opening.now world.old) }
     ensures at_least { OnOk result (raised meter.old (settled_nodes world.old opening.now) ≤ meter.new) }

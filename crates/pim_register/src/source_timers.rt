@@ -20,8 +20,8 @@ use std::alloc::AllocError;
 // Register_Probe_Time (RFC 7761, section 4.11), in ms.
 const REGISTER_PROBE_TIME: u64 = 5_000;
 
-/// The router's address on RPF_interface(S), from which it registers the source; 0.0.0.0 without a route. The meter rises by
-/// the nodes that lead to the route.
+/// The router's address on RPF_interface(S), from which it registers the source; 0.0.0.0 without a route. The meter
+/// rises by the nodes that lead to the route.
 #[tactic(auto, unfolding(pim_model::specs::Unicast::rpf_interface))]
 pub fn registering_address(world: &World, meter: &mut Meter, source: Addr) -> Addr
     ensures address { result.bits ≡ registering_address world.now source.bits }
@@ -55,8 +55,8 @@ fn probe(world: &World, turn: &mut Turn, meter: &mut Meter, key: Key) -> Result<
 }
 
 /// What the end of a register timer changes: in Prune the RP is probed by a Null-Register, and without an answer in
-/// Register_Probe_Time the tunnel opens again. The meter rises by the nodes that the look-ups visit, at least, of a probe, those
-/// that lead to the route to the source and to the RP. An error is want of memory.
+/// Register_Probe_Time the tunnel opens again. The meter rises by the nodes that the look-ups visit, at least, of a
+/// probe, those that lead to the route to the source and to the RP. An error is want of memory.
 #[tactic(auto, unfolding(pim_model::specs::Firing::fired, pim_model::specs::Firing::fire_row, pim_model::specs::Registers::register_due))]
 pub fn fired(
     world: &mut World,
@@ -85,8 +85,8 @@ pub fn fired(
         .change_register(key, RegisterRow { state }, meter)
 }
 
-/// What the end of KAT(S,G) changes: the source's row goes, unless SPTbit(S,G) is set. The meter rises by the nodes that lead
-/// to the facts of a source whose row goes. An error is want of memory.
+/// What the end of KAT(S,G) changes: the source's row goes, unless SPTbit(S,G) is set. The meter rises by the nodes
+/// that lead to the facts of a source whose row goes. An error is want of memory.
 #[tactic(auto, unfolding(pim_model::specs::Firing::fired, pim_model::specs::Firing::fire_row, pim_model::specs::Firing::keepalive_due))]
 pub fn keepalive_due(world: &mut World, meter: &mut Meter, key: Key) -> Result<(), AllocError>
     ensures state { OnOk result (world.new ≡ (fired world.old TimerKind.Keepalive key).0) }

@@ -50,7 +50,7 @@ fn stop(world: &mut World, meter: &mut Meter, key: Key, end: u64) -> Result<(), 
         ≡ record world.old { registers = change_row (stopping end) key world.old.registers }) }
     ensures rises { OnOk result (meter.old ≤ meter.new) }
 {
-    // It tells that their keys rise, so that the key stands once.
+    // For the proof: their keys rise, so that the key stands once.
     world.recall_keyed();
     let Some(row) = world.store().register(key) else {
         return Ok(());
@@ -92,7 +92,7 @@ pub fn stop_seen(
     ensures silent { turn.new ≡ turn.old }
     ensures rises { OnOk result (meter.old ≤ meter.new) }
 {
-    // It tells that each register is under the key of its source.
+    // For the proof: each register is under the key of its source.
     world.recall_keyed();
     let end = world.present() + delay_in(LEAST_SUPPRESSION, MOST_SUPPRESSION, turn.draw);
     if is_any(name.source) {
@@ -152,9 +152,9 @@ fn join_all(world: &mut World, meter: &mut Meter, keys: &[Key]) -> Result<(), Al
     Ok(())
 }
 
-/// Puts the RP ranges of the next table in the place of those there are: where the RP of a group becomes another one, its
-/// registers begin anew. The meter rises by the nodes that the look-ups visit, at least those that lead to the RP of each
-/// register, by the old ranges and by the new. An error is want of memory.
+/// Puts the RP ranges of the next table in the place of those there are: where the RP of a group becomes another one,
+/// its registers begin anew. The meter rises by the nodes that the look-ups visit, at least those that lead to the RP
+/// of each register, by the old ranges and by the new. An error is want of memory.
 pub fn rps_replaced(
     world: &mut World,
     turn: &mut Turn,

@@ -38,7 +38,7 @@ pub fn restart_is_asked()
     ensures { RestartIsAsked }
 {}
 
-/// So has each copy in the run of a state that earlier events led to.
+/// In the run of a state that earlier events led to, each copy has its cause in an earlier event.
 pub fn later_run_is_asked()
     ensures { LaterRunIsAsked }
 {}

@@ -1,5 +1,5 @@
--- A packet that comes by the tree of its source touches its source alone: it makes no assert, since SPTbit is set, or it
--- came on the interface to the RP too, or nobody wants it on the shared tree there.
+-- A packet that comes by the tree of its source touches its source alone: it makes no assert, since SPTbit is set, or
+-- it came on the interface to the RP too, or nobody wants it on the shared tree there.
 use Rattle.std.proofs.Common.{◌≡◌, ◌<◌, ◌&&◌, ◌||◌, ◌∙◌, ◌∷◌, ℕ, Bool, List, [], None, Option, Some, ap, cond, eqb-true, false, get_or, not, refl, subst, sym, true, zero-add}
 use Rattle.std.proofs.lemmas.Bool.{or_left, or_right}
 use Rattle.std.proofs.lemmas.List.Folds.{list_any_at}

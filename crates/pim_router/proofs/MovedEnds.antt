@@ -1,5 +1,5 @@
--- A record of a report whose group keeps its mode: what it writes is as it was, but for the sources that it moves and the
--- moments at which timers end.
+-- A record of a report whose group keeps its mode: what it writes is as it was, but for the sources that it moves and
+-- the moments at which timers end.
 use Rattle.std.proofs.Common.{◌≡◌, ℕ, ◌==◌, ◌&&◌, ◌||◌, Bool, true, false, not, cond, List, [], ◌∷◌, fold, map, Option, Some, None, is_none, is_some, option_map, refl, ap, sym, subst, ◌∙◌, eq-eqb}
 use Rattle.std.proofs.lemmas.Bool.{or_left, or_right}
 use Rattle.std.specs.Cmp.{first_so, second_so}

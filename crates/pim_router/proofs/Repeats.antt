@@ -1,5 +1,5 @@
--- What is heard again touches nothing: a packet of data, or a Register, that moves the end of a keepalive timer, and an Assert
--- of the known winner.
+-- What is heard again touches nothing: a packet of data, or a Register, that moves the end of a keepalive timer, and an
+-- Assert of the known winner.
 use Rattle.std.proofs.Common.{◌≡◌, ◌==◌, ◌&&◌, ◌||◌, ◌++◌, ◌∙◌, ◌∷◌, Bool, List, [], None, Option, Some, ap, cond, false, is_some, not, refl, subst, sym, true, ℕ}
 use Rattle.std.proofs.lemmas.Bool.{or_left, or_right}
 use Rattle.std.proofs.lemmas.List.Folds.{list_any-append}

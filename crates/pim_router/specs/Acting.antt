@@ -1,4 +1,4 @@
--- What an event is to do: of which event it is, and what was read for it.
+-- What an event is to do: which event it is of, and what was read for it.
 use Rattle.std.specs.Prelude.{List, None, Option, Some, ◌≡◌, ℕ}
 use Rattle.pim_types.specs.declared.config.Route.{Route}
 use Rattle.pim_types.specs.declared.config.RpRange.{RpRange}
@@ -16,7 +16,7 @@ use Rattle.pim_router.specs.declared.act.Control.{Control}
 
 -- ---- of which event it is
 
--- without a table the routes, or the RP ranges, are those there are
+-- The routes, or the RP ranges, that a table brings; without a table they are those of the state.
 abbrev pub routes_by : State → Option RouteTable → List Route
 routes_by s None = s.routes
 routes_by s (Some table) = table.routes
@@ -45,18 +45,18 @@ act_event s (Act.Control control) = control_event s control
 
 -- ---- what was read for it
 
--- the keys that a Join/Prune names
+-- The keys that a Join/Prune names.
 pub record HasKeys (joined pruned : List Key) (named : Named) : Type 0 where
   pub joins : named.joined.items ≡ joined
   pub prunes : named.pruned.items ≡ pruned
 
--- the sight of a packet's source
+-- What is read for a packet of (S,G): the sight of its source.
 pub record IsSightOf (s : State) (g src : ℕ) (sight : SourceSight) : Type 0 where
   pub shown : IsSourceSight s sight
   pub group : sight.star.group.bits ≡ g
   pub source : sight.source.bits ≡ src
 
--- of a Join/Prune its keys and, where it is to the router, the rows that it leaves
+-- What is read for a Join/Prune: its keys and, where it is to the router, what becomes of their rows.
 abbrev pub HasHeard : State → Control → Type 0
 HasHeard s (Control.JoinPruneToMe i m named changes) =
     HasKeys (joined_keys s i.number m) (pruned_keys i.number m) named

@@ -1,4 +1,4 @@
--- The forwarding cache beside the state: after a part of an event, and after the event.
+-- The forwarding cache and the state, after a part of an event and after the event.
 use Rattle.std.specs.List.Sorted.{IsStrictlySortedBy}
 use Rattle.std.specs.Prelude.{List, ℕ, ◌+◌, ◌*◌, ◌≤◌, ◌≡◌, length}
 use Rattle.pim_types.specs.declared.event.Event.{Event}
@@ -14,15 +14,16 @@ use Rattle.pim_router.specs.Disturbing.{event_disturbed}
 use Rattle.pim_router.specs.Listing.{ListsMore, ListsSame}
 use Rattle.pim_router.specs.Staying.{OffersStay, StaysBeside}
 
--- from one state to another, between which these sources are named: its rows are those of the second, it touched at most two
--- for each name, it lists the names too, and what it doesn't call disturbed is as it was
+-- The cache after a change of the state from `s` to `t`, between which the listed sources are named. Its rows are those
+-- of `t`. It touched at most two rows for each name, and its list of changed sources has the names too. What it doesn't
+-- call disturbed is the same in `t` as in `s`.
 pub record CacheFollows (s t : State) (names : List Key) (before after : CacheValue) : Type 0 where
   pub shown : ShowsRows after.mfc.rows (cached t)
   pub few : touches after ≤ touches before + 2 * length names
   pub listed : ListsMore before.changed names after.changed
   pub stays : (o : State) → StaysBeside before.disturbed o s → StaysBeside after.disturbed o t
 
--- after an event, whose counts and lists began with it: what the router shows of it
+-- What the router shows of the cache after an event that began with all counts and lists empty.
 pub record CacheAfter (s : State) (e : Event) (t : State) (cache : CacheValue) (probes : ℕ) : Type 0 where
   pub shown : ShowsRows cache.mfc.rows (cached t)
   pub cheap : IsCheap s e probes (touches cache)

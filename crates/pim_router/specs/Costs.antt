@@ -1,4 +1,5 @@
--- What an event may cost: the trie nodes that it visits, and the rows of the forwarding cache that it touches.
+-- What an event may cost: by how much the meter rises, in trie nodes, and the rows of the forwarding cache that it
+-- touches.
 use Rattle.std.specs.Prelude.{List, [], length, true, ℕ, ◌*◌, ◌∷◌, ◌≡◌, ◌≤◌}
 use Rattle.pim_types.specs.declared.event.Event.{Event}
 use Rattle.pim_model.specs.Plain.{IsPlainEvent}
@@ -6,18 +7,18 @@ use Rattle.pim_model.specs.Reach.{event_reach, keeps_neighbours}
 use Rattle.pim_model.specs.State.{State}
 use Rattle.pim_model.specs.Step.{step}
 
--- at least one node, and at most 33 for the group and 33 more for the source
+-- The meter rises by at least one node, and by at most 66: 33 for the group and 33 for the source.
 pub record IsWithinPath (probes : ℕ) : Type 0 where
   pub some : 1 ≤ probes
   pub few : probes ≤ 66
 
 pub record IsCheap (s : State) (e : Event) (probes touched : ℕ) : Type 0 where
-  -- a plain data event
+  -- of a plain data event
   pub plain : IsPlainEvent s e → IsWithinPath probes
-  -- an event after which each interface row and each neighbour row is as before, but for ends
+  -- of an event after which each interface row and each neighbour row is the same, but for when it expires
   pub calm : keeps_neighbours s (step s e).state ≡ true → touched ≤ 3 * length (event_reach s e)
 
--- the last of some events
+-- The last of a list of events is cheap.
 abbrev pub IsLastCheap : State → List Event → ℕ → ℕ → Type 0
 IsLastCheap s [] probes touched = Unit {0}
 IsLastCheap s (e ∷ []) probes touched = IsCheap s e probes touched

@@ -1,4 +1,4 @@
--- The ends of timers, as the router takes them.
+-- The expiry of timers, as the router takes it.
 use Rattle.std.specs.List.{list_any}
 use Rattle.std.specs.Prelude.{Bool, List, [], if◌then◌else◌, is_some, length, nat_lt, not, ℕ, ◌&&◌, ◌==◌, ◌∷◌, ◌||◌}
 use Rattle.pim_types.specs.declared.fact.Key.{Key}
@@ -16,30 +16,31 @@ use Rattle.pim_world.specs.declared.touched.Touched.{Touched}
 abbrev pub ending_of : ℕ × Timer → Ending
 ending_of due = record { end = due.0; timer = due.1 }
 
--- the group's record on the interface has a source beside this one
+-- The record of the group on the interface has a source other than this one.
 unfoldable pub has_other_sources : State → ℕ → ℕ → ℕ → Bool
 has_other_sources s i g src = list_any (λ e. is_at_group i g e.0 && not (source_in e.0 == src)) s.source_records
 
--- the group's own row stays as it is where the timer of this source ends: in EXCLUDE, or where another source is left
+-- The row of the group itself is unchanged where the timer of this source expires: the group is in EXCLUDE, or another
+-- source is left.
 unfoldable pub keeps_group : State → ℕ → ℕ → ℕ → Bool
 keeps_group s i g src = is_some (group_end s i g) || has_other_sources s i g src
 
--- so the end of a source's timer touches the source alone, or all of its group
+-- The expiry of a source's timer touches the source alone, or all of its group.
 unfoldable pub touched_by_source : State → Key → Key
 touched_by_source s k =
     if keeps_group s (iface_in k) (group_in k) (source_in k) then source_key 0 (group_in k) (source_in k)
     else star_key 0 (group_in k)
 
--- These keys, or all where there are many: each touched group is looked for among them.
+-- The given keys, or all where there are more than 256: each touched group is looked for among the keys.
 abbrev pub few_or_all : List Key → Touched
 few_or_all keys = if nat_lt 256 (length keys) then Touched.All else Touched.Keys keys
 
--- a neighbour's end touches what looks to it, or all where the router is the DR after it and wasn't
+-- The expiry of a neighbour touches what depends on it, or all where the router is the DR after it and wasn't before.
 abbrev pub touched_by_neighbour : State → Key → Touched
 touched_by_neighbour s k =
     if end_keeps_dr s k then few_or_all (keys_towards s (iface_in k) (source_in k)) else Touched.All
 
--- the keys that a timer's end touches
+-- The keys that the expiry of a timer touches.
 abbrev pub touched_by_end : State → TimerKind → Key → Touched
 touched_by_end s TimerKind.Neighbour k = touched_by_neighbour s k
 touched_by_end s TimerKind.SourceRecord k = Touched.Keys (touched_by_source s k ∷ [])

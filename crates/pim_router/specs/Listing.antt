@@ -1,4 +1,4 @@
--- Which sources are listed as changed: those that an event names, in whatever order, and however often each.
+-- Which sources are listed as changed: those that an event names, in any order, and any number of times each.
 use Rattle.std.specs.Prelude.{List, [], ℕ, ◌++◌, ◌∷◌, ◌≡◌}
 use Rattle.pim_types.specs.declared.event.Event.{Event}
 use Rattle.pim_types.specs.declared.fact.Key.{Key}
@@ -7,15 +7,15 @@ use Rattle.pim_model.specs.Step.{step}
 use Rattle.pim_cached.specs.Kept.{is_listed}
 use Rattle.pim_reach.specs.Named.{event_named}
 
--- the same sources
+-- Both lists have the same sources.
 abbrev pub ListsSame : List Key → List Key → Type 0
 ListsSame listed names = (g src : ℕ) → is_listed listed g src ≡ is_listed names g src
 
--- those that were listed, and the names
+-- The last list has the sources of the first, and the names.
 abbrev pub ListsMore : List Key → List Key → List Key → Type 0
 ListsMore before names listed = ListsSame listed (before ++ names)
 
--- by the last of some events
+-- The list has the sources that the last of some events names.
 abbrev pub IsLastListed : State → List Event → List Key → Type 0
 IsLastListed s [] listed = Unit {0}
 IsLastListed s (e ∷ []) listed = ListsSame listed (event_named s e)

@@ -1,4 +1,4 @@
--- What is touched where routes or RP ranges are new.
+-- What new routes or RP ranges touch.
 use Rattle.std.specs.Prelude.{Bool, List, not, ℕ}
 use Rattle.pim_types.specs.declared.config.Route.{Route}
 use Rattle.pim_model.specs.Rows.{same_both, same_path}
@@ -9,7 +9,7 @@ use Rattle.pim_model.specs.Unicast.{route, rp_of}
 abbrev pub with_routes : State → List Route → State
 with_routes s routes = record s { routes = routes }
 
--- the route to the address is another one, or RP(G) is
+-- The route to the address differs between the two states, or RP(G) does.
 abbrev pub has_other_route : State → State → ℕ → Bool
 has_other_route o c address = not (same_both same_path (route o address) (route c address))
 

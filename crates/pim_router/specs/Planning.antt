@@ -22,8 +22,9 @@ use Rattle.pim_router.specs.Acting.{HasRead, act_event}
 use Rattle.pim_router.specs.declared.plan.Plan.{Plan}
 use Rattle.pim_router.specs.declared.plan.Planning.{Planning}
 
--- What it touches: the keys that it names, or that it moves; none where it moves ends alone. An interface that goes up or
--- down may touch all, and so may a Hello after which the router is the DR there and wasn't, or isn't and was.
+-- What an accepted event touches: the keys that it names, or that it moves. It touches none where it changes only when
+-- timers expire. An interface that goes up or down may touch all, and so may a Hello that changes whether the router is
+-- the DR there.
 unfoldable pub touched_of : State → Accepted → Touched
 touched_of s (Accepted.Hello i from h) =
     if is_refreshed s.neighbours i.number from.bits h then Touched.Keys []
@@ -46,8 +47,8 @@ touched_of s (Accepted.Routes routes) = Touched.Keys (keys_by_routes s (with_rou
 touched_of s (Accepted.Rps ranges) = Touched.Keys (keys_by_rps s (rps_replaced s ranges))
 touched_of s _ = Touched.All
 
--- The plan is of the event, with what was read for it; there is room for what the event names; what it touches is told, no
--- more and no less, and covers its change.
+-- The plan is of the event, with what was read for it. There is room for what the event names. What the plan touches is
+-- exactly what the event touches, and covers its change.
 pub record Fits (s : State) (a : Accepted) (plan : Plan) : Type 0 where
   pub event : act_event s plan.act ≡ a
   pub read : HasRead s plan.act
@@ -55,7 +56,7 @@ pub record Fits (s : State) (a : Accepted) (plan : Plan) : Type 0 where
   pub touches : plan.touched ≡ touched_of s a
   pub covers : (w : ℕ) → Contains plan.touched s (change s w a).state
 
--- without room there is no plan, and time has none of its own
+-- Without room there is no plan; an Advance has no plan of its own.
 abbrev pub IsPlanned : State → Accepted → Planning → Type 0
 IsPlanned s a (Planning.Time moment) = a ≡ Accepted.Advance moment
 IsPlanned s a Planning.Full = is_full s a ≡ true

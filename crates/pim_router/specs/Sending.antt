@@ -5,7 +5,7 @@ use Rattle.pim_world.specs.Turns.{Taking, saying}
 use Rattle.pim_model.specs.State.{State}
 use Rattle.pim_model.specs.Step.{Change}
 
--- the state, the messages and the packets are those of a change
+-- The state, the messages and the packets are those of a change.
 pub record Sends (leaving : Leaving) (state : State) (before after : Taking) (c : Change) : Type 0 where
   pub state_is : state ≡ c.state
   pub messages : after ≡ saying before c.messages

@@ -1,4 +1,4 @@
--- What follows of a change, by what was opened: the touched groups and sources as they were.
+-- What follows of a change, by what was opened: the touched groups and sources as they were before it.
 use Rattle.std.specs.Prelude.{List, ℕ, ◌++◌, ◌≡◌}
 use Rattle.pim_types.specs.declared.fact.Key.{Key}
 use Rattle.pim_types.specs.declared.outcome.Emission.{Emission}
@@ -16,29 +16,29 @@ use Rattle.pim_fanout.specs.Laws.{names_of}
 use Rattle.pim_fanout.specs.Named.{named_among}
 use Rattle.pim_fanout.specs.declared.before.SourceBefore.{SourceBefore}
 
--- registers are settled, then what must go is cleared
+-- Registers are settled, then the asserts and SPTbits that must go are cleared.
 unfoldable pub cleared_by : List GroupOpening → State → State × List Message
 cleared_by opening a = clear_by opening (registers_by opening a)
 
--- then what follows is told upstream
+-- After clearing, the messages upstream are made.
 unfoldable pub followed_by : List GroupOpening → State → ℕ → State × List Message
 followed_by opening a w =
     let after : State × List Message = cleared_by opening a in
     let told : State × List Message = upstream_by opening after.0 w in
     (told.0, after.1 ++ told.1)
 
--- the packets of the change's messages, and then of those
+-- The packets of the change's messages come first, then those of the messages that follow.
 unfoldable pub settled_by : List GroupOpening → State → List Message → ℕ → State × List Emission
 settled_by opening a messages w =
     let followed : State × List Message = followed_by opening a w in
     write_all followed.0 (messages ++ followed.1)
 
--- the keys are those that are named of what the sources were before, where all is cleared
+-- The keys are the sources that are named, by what the sources were before and by the state in which all is cleared.
 abbrev pub AreNamed : List SourceBefore → State → List Key → Type 0
 AreNamed before cleared names = (o : State) (touched : Touched) → IsBefore o touched before
     → names ≡ named_among o cleared touched
 
--- they are those that are named of the sources which a change touches, where what it touches covers it
+-- The names are those of the sources that a change touches, where what it touches covers the change.
 pub record AreNames (o changed : State) (touched : Touched) (names : List Key) : Type 0 where
   pub covers : Contains touched o changed
   pub are : names ≡ names_of o changed touched

@@ -1,5 +1,5 @@
--- What a router shows: its state, how many packets its last event copied, what that event cost, and whose rows of the
--- forwarding cache it changed.
+-- What a router shows: its state, how many copies its last event sent, what that event cost, and the sources whose rows
+-- of the forwarding cache it changed.
 use Rattle.std.specs.Prelude.{List, None, Option, Some, [], fold, ℕ}
 use Rattle.pim_types.specs.declared.event.Event.{Event}
 use Rattle.pim_types.specs.declared.fact.Key.{Key}
@@ -12,8 +12,8 @@ pub record Standing : Type 0 where
   pub state : State
   pub copies : ℕ
 
--- how the router stands, or that it has failed; the trie nodes that its last event visited, the rows of the forwarding
--- cache that it evaluated, put in and took out, the sources that it named, and those that it disturbed
+-- What a router shows: how it stands (none once it has failed), the trie nodes that its last event visited, the rows of
+-- the forwarding cache that it evaluated, put in and took out, the sources that it named, and those that it disturbed.
 pub record Shown : Type 0 where
   pub standing : Option Standing
   pub probes : ℕ
@@ -21,11 +21,11 @@ pub record Shown : Type 0 where
   pub changed : List Key
   pub disturbed : Touched
 
--- once memory was refused to it
+-- What a router shows once it has failed for want of memory.
 abbrev pub nothing_shown : Shown
 nothing_shown = record { standing = None; probes = 0; touched = 0; changed = []; disturbed = Touched.All }
 
--- before its first event
+-- How a router stands before its first event.
 abbrev pub beginning : State → Standing
 beginning s = record { state = s; copies = 0 }
 
@@ -38,19 +38,19 @@ begun s = record {
   disturbed = Touched.Keys [];
 }
 
--- after an event
+-- How a router stands after an event.
 abbrev pub standing : Answered → Standing
 standing a = record { state = a.state; copies = a.copies }
 
--- in another state, with all else as it was
+-- What a router shows in another state, with all else unchanged.
 abbrev pub with_state : Shown → Standing → State → Shown
 with_state shown r s = record shown { standing = Some (record r { state = s }) }
 
--- the copies of the last of these outcomes; where there are none, those of the event before
+-- The copies of the last of these outcomes; if there are none, the copies of the event before.
 unfoldable pub last_copies : ℕ → List Outcome → ℕ
 last_copies before outcomes = fold (λ n (o : Outcome). o.copies) before outcomes
 
--- after a run
+-- How a router stands after a run.
 abbrev pub standing_after : Standing → List Event → Standing
 standing_after r events = record {
   state = state_after r.state events;

@@ -1,4 +1,4 @@
--- Which sources stay as they were, whether they have a fact or not: all but those that are disturbed.
+-- Which sources are unchanged, whether they have a fact or not: all that aren't disturbed.
 use Rattle.std.specs.Prelude.{List, [], false, if◌then◌else◌, ℕ, ◌∷◌, ◌≡◌}
 use Rattle.pim_types.specs.declared.event.Event.{Event}
 use Rattle.pim_model.specs.declared.accepted.Accepted.{Accepted}
@@ -9,20 +9,21 @@ use Rattle.pim_fanout.specs.Disturbed.{is_disturbed}
 use Rattle.pim_offload.specs.Offered.{offered}
 use Rattle.pim_offload.specs.Staying.{OffersAlike, SourceStays, is_rerouting}
 
--- new routes and RP ranges touch what has facts alone, and move any source
+-- What an event disturbs: all sources where it brings new routes or RP ranges, since these touch only what has facts,
+-- and move any source; else what it touches.
 abbrev pub disturbed_by : Accepted → Touched → Touched
 disturbed_by a touched = if is_rerouting a then Touched.All else touched
 
--- its fact and its answers
+-- Of a source that isn't disturbed the fact and the answers are the same in both states.
 abbrev pub StaysBeside : Touched → State → State → Type 0
 StaysBeside disturbed s t = (g src : ℕ) → is_disturbed disturbed g src ≡ false → SourceStays g src s t
 
--- what is offered of it
+-- Of a source that isn't disturbed the same is offered to a data plane in both states.
 abbrev pub OffersStay : Touched → State → State → Type 0
 OffersStay disturbed s t = (g src : ℕ) → is_disturbed disturbed g src ≡ false
     → OffersAlike (offered s g src) (offered t g src)
 
--- at the last of some events
+-- The last of some events leaves what is offered of a source that it doesn't disturb.
 abbrev pub LastOffersStay : State → List Event → Touched → Type 0
 LastOffersStay s [] disturbed = Unit {0}
 LastOffersStay s (e ∷ []) disturbed = OffersStay disturbed s (step s e).state

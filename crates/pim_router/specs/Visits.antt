@@ -1,4 +1,4 @@
--- How many nodes of tries the router visits, at least, where it plans an event, takes it, and settles what follows.
+-- How many trie nodes the router visits, at least, where it plans an event, takes it, and settles what follows.
 use Rattle.std.specs.List.{sum_by}
 use Rattle.std.specs.Prelude.{List, None, Option, Some, [], if◌then◌else◌, ℕ, ◌+◌, ◌∷◌}
 use Rattle.pim_ip.specs.Addr.{addr}
@@ -39,32 +39,33 @@ use Rattle.pim_router.specs.Settling.{cleared_by}
 
 -- ---- what new routes and RP ranges touch
 
--- the route to an address, in the table there is and in the new one
+-- The nodes of the route to an address, in the present table and in the new one.
 abbrev pub both_routes_nodes : State → List Route → ℕ → ℕ
 both_routes_nodes s routes address =
     route_nodes s.configured s.interfaces s.routes address + route_nodes s.configured s.interfaces routes address
 
--- none where there is no address
+-- The nodes of the routes to an address in both tables; none where there is no address.
 abbrev pub both_paths_nodes : State → List Route → Option ℕ → ℕ
 both_paths_nodes s routes None = 0
 both_paths_nodes s routes (Some address) = both_routes_nodes s routes address
 
--- the RP of a group, and the routes to it
+-- The nodes of the RP of a group, and of the routes to it in both tables.
 abbrev pub moved_group_nodes : State → List Route → ℕ → ℕ
 moved_group_nodes s routes g = rp_nodes s.ranges g + both_paths_nodes s routes (rp_of s g)
 
--- and where those are the same its sources with any fact, and the routes to each
+-- The nodes of the RP of a group and of the routes to it. Where these routes are the same, also the nodes of the
+-- group's sources with any fact, and of the routes to each.
 abbrev pub moved_nodes : State → List Route → ℕ → ℕ
 moved_nodes s routes g =
     moved_group_nodes s routes g
     + (if has_same_rp g s (with_routes s routes)
     then sources_nodes s (addr g) + sum_by (both_routes_nodes s routes) (sources_of g (fact_keys s)) else 0)
 
--- of each group with any fact
+-- The nodes that new routes visit: those of each group with any fact.
 unfoldable pub routes_nodes : State → List Route → ℕ
 routes_nodes s routes = sum_by (moved_nodes s routes) (groups_of (fact_keys s))
 
--- the RP of a group, in the list there is and in the new one
+-- The nodes of the RP of a group, in the present list and in the new one.
 abbrev pub both_rps_nodes : State → List RpRange → ℕ → ℕ
 both_rps_nodes s ranges g = rp_nodes s.ranges g + rp_nodes ranges g
 
@@ -80,7 +81,7 @@ data_plan_nodes s p =
 
 -- ---- an event's own change; what leaves of a packet isn't counted here
 
--- where RP ranges are those there are nothing is looked up
+-- The nodes that new RP ranges visit: none where they equal the present ranges.
 abbrev pub ranges_nodes : State → Option RouteTable → ℕ
 ranges_nodes s None = 0
 ranges_nodes s (Some table) = replaced_nodes s table.ranges
@@ -100,7 +101,7 @@ change_nodes s (Act.Data i p sight) = arrived_nodes s p.destination p.source i.n
 change_nodes s (Act.Register p r) = register_nodes s p r
 change_nodes s (Act.Control control) = control_nodes s control
 
--- the end of a timer
+-- The nodes that the expiry of a timer visits.
 abbrev pub end_nodes : State → TimerKind → Key → ℕ
 end_nodes s TimerKind.PrunePending k = downstream_end_nodes s TimerKind.PrunePending k
 end_nodes s TimerKind.DownstreamExpiry k = downstream_end_nodes s TimerKind.DownstreamExpiry k
@@ -113,17 +114,17 @@ end_nodes s kind k = membership_end_nodes s kind k
 
 -- ---- what follows of a change
 
--- the registers are settled, then goes what must
+-- The nodes of clearing: the registers are settled, then what must go is cleared.
 abbrev pub cleared_nodes : List GroupOpening → State → ℕ
 cleared_nodes opening s = settled_nodes s opening + clear_nodes opening (registers_by opening s)
 
--- then it is asked which sources are named, and what follows is told
+-- The nodes of what follows: after clearing, the named sources are looked up, and the messages upstream are made.
 unfoldable pub followed_nodes : List GroupOpening → List SourceBefore → State → ℕ
 followed_nodes opening before s =
     let cleared : State = (cleared_by opening s).0 in
     cleared_nodes opening s + naming_nodes cleared before + told_nodes cleared opening
 
--- the same of one source alone, whose sight is gathered once
+-- The nodes of what follows where one source alone was opened, whose sight is gathered once.
 unfoldable pub followed_alone_nodes : GroupOpening → SourceOpening → State → ℕ
 followed_alone_nodes group opened s =
     let cleared : State = (cleared_by (group ∷ []) s).0 in
@@ -131,7 +132,8 @@ followed_alone_nodes group opened s =
     + register_mark_nodes s group.group opened.source
     + alone_nodes group.group (registers_by (group ∷ []) s) opened + told_alone_nodes cleared group opened
 
--- ---- an event, and a timer's end: what it touches is opened; then comes its own change. What follows isn't counted here.
+-- ---- an event, and a timer's end: what it touches is opened; then comes its own change. What follows isn't counted
+-- here.
 
 unfoldable pub act_nodes : State → Touched → Act → ℕ
 act_nodes s touched act = opening_nodes s touched + change_nodes s act

@@ -1,4 +1,5 @@
-//! What an event is to do, with all that it needs: what came with it, and what was read for it as it was planned.
+//! What an event is to do, with all that this needs: what came with the event, and what was read for it when it was
+//! planned.
 use igmp_wire::{QueryView, ReportView};
 use pim_downstream::{Change, Named};
 use pim_ip::Ipv4View;
@@ -7,7 +8,7 @@ use pim_mrib::Mrib;
 use pim_types::{Addr, IfaceId};
 use pim_wire::{Assert, Hello, JoinPruneView, RegisterStop, RegisterView};
 
-/// What an event does that has no packet which goes on.
+/// What an event does that forwards no packet.
 #[derive(Drop)]
 pub enum Control<'a> {
     Up {
@@ -16,11 +17,11 @@ pub enum Control<'a> {
     Down {
         iface: IfaceId,
     },
-    /// The routes of the table stand in the place of those there are; without one they are the same.
+    /// New routes: those of the table replace the routes of the router. Without a table the routes are unchanged.
     Routes {
         table: Option<Mrib>,
     },
-    /// So do its RP ranges.
+    /// New RP ranges: those of the table replace the RP ranges of the router. Without a table the ranges are unchanged.
     Ranges {
         table: Option<Mrib>,
     },
@@ -29,7 +30,7 @@ pub enum Control<'a> {
         from: Addr,
         hello: Hello,
     },
-    /// A Join/Prune to the router, with the keys that it names and the rows that it leaves.
+    /// A Join/Prune to the router, with the keys that it names, and what becomes of their rows.
     JoinPruneToMe {
         iface: IfaceId,
         message: JoinPruneView<'a>,
@@ -65,17 +66,17 @@ pub enum Control<'a> {
 /// What an event does.
 #[derive(Drop)]
 pub enum Act<'a> {
-    /// A packet of data goes on, by what the macros of its source read.
+    /// A packet of data is forwarded, by what the macros of its source read.
     Data {
         iface: IfaceId,
         packet: Ipv4View<'a>,
         sight: SourceSight,
     },
-    /// The packet in a Register goes on, where it has one.
+    /// The packet inside a Register is forwarded, if there is one.
     Register {
         packet: Ipv4View<'a>,
         register: RegisterView<'a>,
     },
-    /// No packet goes on.
+    /// No packet is forwarded.
     Control(Control<'a>),
 }

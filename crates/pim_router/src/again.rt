@@ -1,4 +1,5 @@
-//! What is heard again: which events change no more than the end of a timer that runs, so that they touch nothing.
+//! Which events repeat what the router knows: they change no more than when a running timer expires, so they touch
+//! nothing.
 ghost use Rattle.std.specs.Prelude.{◌≡◌, ◌<◌, if◌then◌else◌};
 ghost use Rattle.pim_macros.specs.Sights.{InSource, IsSourceSight};
 ghost use Rattle.pim_model.specs.Rows.{same_metric};
@@ -17,7 +18,7 @@ use pim_world::World;
 
 // ---- an Assert
 
-// The key of the machine that an Assert is for first.
+// The key of the assert machine that an Assert is for first.
 fn asserted_key(iface: IfaceId, assert: &Assert) -> Key
     ensures { result ≡ asserted_key iface.number assert.now }
 {
@@ -28,7 +29,7 @@ fn asserted_key(iface: IfaceId, assert: &Assert) -> Key
     }
 }
 
-// Both routers announce the same.
+// Whether two assert metrics are the same, with their addresses.
 fn is_same_metric(first: AssertMetric, second: AssertMetric) -> bool
     ensures { result ≡ same_metric first second }
 {
@@ -38,7 +39,7 @@ fn is_same_metric(first: AssertMetric, second: AssertMetric) -> bool
         && first.address == second.address
 }
 
-// The router lost to this metric.
+// Whether the assert is one that the router lost to this metric.
 #[tactic(auto, unfolding(crate::specs::Repeats::is_lost_to_metric))]
 fn is_lost_to_metric(row: Option<AssertRow>, theirs: AssertMetric) -> bool
     ensures { result ≡ is_lost_to_metric row theirs }
@@ -49,7 +50,7 @@ fn is_lost_to_metric(row: Option<AssertRow>, theirs: AssertMetric) -> bool
     }
 }
 
-/// Whether an Assert is one of the winner that the router lost to, with the metric that it had: it doesn't cancel.
+/// Whether an Assert repeats the metric of the winner that the router lost to, and isn't an AssertCancel.
 #[tactic(auto, unfolding(crate::specs::Repeats::is_assert_known))]
 pub(crate) fn is_assert_known(world: &World, iface: IfaceId, from: Addr, assert: &Assert) -> bool
     ensures { result ≡ is_assert_known world.now iface.number from.bits assert.now }
@@ -77,7 +78,7 @@ pub(crate) fn is_kept_alive(world: &World, name: SourceGroup) -> bool
     }
 }
 
-/// Whether the packet comes by the shortest path tree, which is joined, or from a link of the router.
+/// Whether the packet comes on RPF_interface(S), where S is connected or JoinDesired(S,G) holds.
 #[tactic(auto, unfolding(crate::specs::Repeats::is_direct))]
 pub(crate) fn is_direct(world: &World, sight: &SourceSight, iface: IfaceId) -> bool
     requires { IsSourceSight world.now sight.now }
@@ -86,7 +87,7 @@ pub(crate) fn is_direct(world: &World, sight: &SourceSight, iface: IfaceId) -> b
     sight.is_rpf_interface(iface) && (sight.is_connected() || sight.join_desired())
 }
 
-// Whether the source is watched where local receivers have it by the shared tree.
+// Whether the source has local receivers, and the router is to switch to shortest path trees.
 #[tactic(auto, unfolding(crate::specs::Repeats::is_watched))]
 fn is_watched(world: &World, sight: &SourceSight) -> bool
     requires { IsSourceSight world.now sight.now }
@@ -95,8 +96,8 @@ fn is_watched(world: &World, sight: &SourceSight) -> bool
     sight.has_local_receivers() && sight.is_spt_wanted
 }
 
-// The key of the assert that a packet off its tree may make: of (S,G) once the shortest path tree is reached, of (*,G)
-// before.
+// The key of the assert that a packet off its tree may make: of (S,G) where the shortest path tree is reached, else of
+// (*,G).
 fn stray_key(sight: &SourceSight, iface: IfaceId) -> Key
     ensures { InSource sight.now (λ s g src. result
         ≡ (if spt_bit s g src then source_key iface.number g src else star_key iface.number g)) }
@@ -116,7 +117,7 @@ fn has_assert(world: &World, key: Key) -> bool
     world.store().assert_at(key).is_some()
 }
 
-// Whether the router forwards where the packet came, and has no assert there.
+// Whether the router forwards to the interface on which the packet came, and has no assert there.
 #[tactic(auto, unfolding(crate::specs::Repeats::asserts_anew))]
 fn asserts_anew(world: &World, sight: &SourceSight, iface: IfaceId) -> bool
     requires sight { IsSourceSight world.now sight.now }
@@ -126,7 +127,7 @@ fn asserts_anew(world: &World, sight: &SourceSight, iface: IfaceId) -> bool
     is_on_list(sight, iface) && !has_assert(world, stray_key(sight, iface))
 }
 
-/// Whether a packet that came on the interface moves at most the end of the keepalive timer of its source.
+/// Whether a packet that came on the interface changes at most when the keepalive timer of its source expires.
 #[tactic(auto, unfolding(crate::specs::Repeats::packet_moves_end))]
 pub(crate) fn packet_moves_end(world: &World, sight: &SourceSight, iface: IfaceId) -> bool
     requires sight { IsSourceSight world.now sight.now }

@@ -1,4 +1,4 @@
-//! What an event does by itself.
+//! The change that an event makes by itself, before anything follows of it.
 ghost use Rattle.std.specs.Prelude.{◌≡◌, ◌≤◌, ◌<◌, IfOk, OnOk};
 ghost use Rattle.pim_data.specs.Visits.{arrived_nodes};
 ghost use Rattle.pim_register.specs.Visits.{register_nodes};
@@ -27,7 +27,7 @@ use pim_wire::RegisterView;
 use pim_world::{Meter, Turn, World};
 use std::alloc::AllocError;
 
-// The interface announces itself, and asks who is there.
+// The interface goes up: its first Hello is due, and its IGMP querier starts.
 #[tactic(auto, unfolding(pim_model::specs::Step::iface_up))]
 fn go_up(world: &mut World, turn: &mut Turn, iface: IfaceId) -> Result<(), AllocError>
     requires { iface.number < iface_count world.old }
@@ -43,7 +43,7 @@ fn go_up(world: &mut World, turn: &mut Turn, iface: IfaceId) -> Result<(), Alloc
     pim_querier::up(world, turn, iface)
 }
 
-// A packet of data goes on.
+// Forwards a packet of data.
 fn forward(
     world: &mut World,
     turn: &mut Turn,
@@ -63,7 +63,7 @@ fn forward(
     leave(world, turn, meter, packet, list)
 }
 
-// The packet in a Register goes on.
+// Forwards the packet inside a Register.
 fn decapsulate(
     world: &mut World,
     turn: &mut Turn,
@@ -83,7 +83,7 @@ fn decapsulate(
     }
 }
 
-// The routes of the next table stand in the place of those there are.
+// Replaces the routes by those of the table, if there is one.
 fn take_routes(world: &mut World, next: Option<Mrib>)
     ensures { world.new ≡ record world.old { routes = routes_by world.old next } }
 {
@@ -92,7 +92,7 @@ fn take_routes(world: &mut World, next: Option<Mrib>)
     }
 }
 
-// So do its RP ranges.
+// Replaces the RP ranges by those of the table, if there is one.
 fn take_ranges(
     world: &mut World,
     turn: &mut Turn,
@@ -109,8 +109,8 @@ fn take_ranges(
     }
 }
 
-/// Does what an event is to do, and tells what leaves of its packet, if it has one. Where memory is refused, the state may be
-/// changed in part.
+/// Does what an event is to do, and returns what leaves of its packet, if it has one. If an allocation fails, the state
+/// may be changed in part.
 pub(crate) fn apply(
     world: &mut World,
     turn: &mut Turn,
@@ -129,7 +129,7 @@ pub(crate) fn apply(
             packet,
             sight,
         } => {
-            // It tells that the interface is below 120.
+            // For the proof: the interface is below 120.
             world.interfaces().recall_few();
             forward(world, turn, meter, iface, &packet, sight)
         }
@@ -141,7 +141,7 @@ pub(crate) fn apply(
     }
 }
 
-// Does what has no packet that goes on.
+// Does what an event is to do that forwards no packet.
 #[tactic(auto, unfolding(pim_model::specs::Step::change, pim_model::specs::Downstream::to_me))]
 fn apply_control(
     world: &mut World,
@@ -177,7 +177,7 @@ fn apply_control(
             named,
             changes,
         } => {
-            // It tells that the interface is below 120.
+            // For the proof: the interface is below 120.
             world.interfaces().recall_few();
             take_changes(world, meter, iface, message.holdtime(), &named, &changes)
         }
@@ -198,7 +198,7 @@ fn apply_control(
             pim_querier::query_seen(world, turn, meter, iface, from, &query)
         }
         Control::Report { iface, report } => {
-            // It tells that the interface is below 120.
+            // For the proof: the interface is below 120.
             world.interfaces().recall_few();
             pim_querier::report_seen(world, turn, meter, iface, &report)
         }

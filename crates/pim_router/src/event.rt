@@ -1,4 +1,4 @@
-//! One event: it is judged; what is accepted changes the state, where there is room for its facts.
+//! One event: its tests, its change where there is room for its facts, and what follows of the change.
 ghost use Rattle.std.specs.List.Sorted.{IsStrictlySortedBy};
 ghost use Rattle.std.specs.Prelude.{◌≡◌, ◌≤◌, ◌<◌, [], IfOk, IsOk, IsOkUnless, IsTrue, Ok, OnOk, false, if◌then◌else◌, not, true};
 ghost use Rattle.pim_fanout.specs.Disturbed.{joined};
@@ -70,14 +70,14 @@ fn stopped(alloc: Global, stop: Stop) -> Outcome
     }
 }
 
-// What became of an event, and the sources whose rows of the forwarding cache are to be made anew.
+// What became of an event, and the sources whose rows of the forwarding cache are to be evaluated again.
 #[derive(Drop)]
 struct Changed {
     outcome: Outcome,
     names: Series<SourceGroup>,
 }
 
-// What an event does: its own change, what follows of it, and last the packets that go on.
+// What an event does: its own change, what follows of that, and last the packets that are forwarded.
 fn change_world(
     world: &mut World,
     turn: &mut Turn,
@@ -102,7 +102,7 @@ fn change_world(
         mut copies,
         mut registered,
     } = apply(world, turn, meter, act)?;
-    // It tells that asserts, sources and registers are under keys of their kind.
+    // For the proof: asserts, sources and registers are under keys of their kind.
     world.recall_keyed();
     let count = copies.len() as u32;
     let mut emissions = Vec::new(turn.alloc);
@@ -117,7 +117,7 @@ fn change_world(
     Ok(Changed { outcome, names })
 }
 
-// Whether the event brings new routes or RP ranges.
+// Whether an event that forwards no packet brings new routes or RP ranges.
 fn control_reroutes(control: &Control<'_>) -> bool
     ensures { (s : State) → result ≡ is_rerouting (control_event s control.now) }
 {
@@ -136,7 +136,7 @@ fn control_reroutes(control: &Control<'_>) -> bool
     }
 }
 
-// The same of what any event does.
+// Whether the event brings new routes or RP ranges.
 fn is_rerouting(act: &Act<'_>) -> bool
     ensures { (s : State) → result ≡ is_rerouting (act_event s act.now) }
 {
@@ -147,14 +147,15 @@ fn is_rerouting(act: &Act<'_>) -> bool
     }
 }
 
-// What a change disturbs: new routes and RP ranges touch what has facts alone, and move any source.
+// What a change disturbs: all sources where there are new routes or RP ranges, since these touch only what has facts,
+// and move any source; else what the change touches.
 fn disturbed_where(reroutes: bool, touched: Touched) -> Touched
     ensures { result ≡ (if reroutes then TouchedValue.All else touched) }
 {
     if reroutes { Touched::All } else { touched }
 }
 
-// The same, and then the rows of the named sources.
+// Makes a change, and then evaluates the rows of the named sources again.
 fn take_change(
     world: &mut World,
     cache: &mut Cache,
@@ -181,7 +182,7 @@ fn take_change(
     ensures fault { IsOkUnless result Fault.Memory }
     ensures at_least { OnOk result (raised meter.old (act_nodes world.old plan.entry.touched plan.entry.act) ≤ meter.new) }
 {
-    // It tells that there are at most 120 interfaces.
+    // For the proof: there are at most 120 interfaces.
     world.interfaces().recall_few();
     let Plan { touched, act } = plan;
     let reroutes = is_rerouting(&act);
@@ -190,7 +191,8 @@ fn take_change(
     Ok(outcome)
 }
 
-// What was accepted: time passes, and any other event is refused where there is no room for what it names.
+// Takes an accepted event: an Advance lets time pass, and any other event is refused where there is no room for the
+// facts that it names.
 fn take_unless_full(
     world: &mut World,
     cache: &mut Cache,
@@ -223,15 +225,15 @@ fn take_unless_full(
     }
 }
 
-// Whether there was room for one fact more and is none now, or the other way round: without room each packet of a source that
-// has no fact is refused.
+// Whether there was room for one more fact and is none after the event, or the other way round: without room each
+// packet of a source that has no fact is refused.
 fn has_room_changed(was_full: bool, is_full: bool) -> bool
     ensures { result ≡ not (same_bool was_full is_full) }
 {
     was_full != is_full
 }
 
-// What was accepted, in a turn of its own.
+// Takes an accepted event in a turn of its own.
 #[tactic(auto, unfolding(pim_model::specs::Step::step))]
 fn take_turn(
     room: &mut Room,
@@ -286,7 +288,7 @@ fn by_row(
         .forward(name, iface, packet.time_to_live(), meter)
 }
 
-// A packet of data: it goes by the row of its source, where that alone decides it.
+// Takes a packet of data: by the row of its source where that decides it, else in a turn of its own.
 fn take_data(
     room: &mut Room,
     world: &mut World,
@@ -312,7 +314,7 @@ fn take_data(
 {
     match by_row(cache, iface, &packet, meter) {
         Some(forward) => take_plain(room, world, &packet, forward, meter),
-        // It brings no table.
+        // The event brings no table.
         None => {
             let table = Mrib::new(room.alloc);
             let accepted = Accepted::Data { iface, packet };
@@ -321,8 +323,8 @@ fn take_data(
     }
 }
 
-// What was accepted that is no packet of data: a turn like any other. That it is none, which the case of `take_accepted`
-// tells, is the premise of a call of its own, since the prover asks for it where the turn's cost is told.
+// Takes an accepted event that is no packet of data, in a turn of its own. It is a function of its own because the
+// prover needs "this is no packet of data" as a premise where the cost of the turn is stated.
 fn take_other(
     room: &mut Room,
     world: &mut World,
@@ -349,7 +351,7 @@ fn take_other(
     take_turn(room, world, cache, event, accepted, table, meter)
 }
 
-// What was accepted.
+// Takes an accepted event.
 fn take_accepted(
     room: &mut Room,
     world: &mut World,
@@ -375,7 +377,7 @@ fn take_accepted(
 {
     match accepted {
         Accepted::Data { iface, packet } => {
-            // It tells that the interface is below 120.
+            // For the proof: the interface is below 120.
             world.interfaces().recall_few();
             take_data(room, world, cache, event, iface, packet, meter)
         }
@@ -383,8 +385,8 @@ fn take_accepted(
     }
 }
 
-/// Takes an event. Its cost is counted from 0: in the meter the nodes that its look-ups visit, in the cache the rows that it
-/// touches, whose sources are listed there.
+/// Takes an event. Its cost is counted from 0: the meter counts the trie nodes that its look-ups visit, and the cache
+/// counts the rows that it touches and lists their sources.
 #[tactic(auto, unfolding(pim_model::specs::Step::step))]
 pub(crate) fn take_in(
     room: &mut Room,

@@ -8,7 +8,8 @@ use pim_world::Touched;
 // The most keys that are opened one by one.
 const MOST_OPENED: usize = 256;
 
-/// These keys, or all where there are many: each touched group is looked for among them, so that many cost a square.
+/// The given keys, or all where there are more than 256: each touched group is looked for among the keys, so that the
+/// cost grows with their square.
 pub(crate) fn few_or_all(keys: Vec<Key>) -> Touched
     ensures { result ≡ few_or_all keys.items }
 {

@@ -1,4 +1,4 @@
-//! The router: events in, outcomes and packets out, exactly as the written machine has them.
+//! The router: it takes events and sends packets, exactly as the specification (pim_model) says.
 #![tactic(auto)]
 
 pub mod act;

@@ -15,8 +15,9 @@ use pim_mfc::Forward;
 use pim_types::{Fault, Outcome, Series, SourceGroup, Verdict};
 use pim_world::{Meter, World};
 
-/// Takes a packet as its row says: KAT(S,G) is set or not, and copies leave on links. Nothing is opened, settled or told, where
-/// the source has a row; that is found by the place that the row of the cache keeps.
+/// Forwards a packet as its row says: KAT(S,G) is set or not, and copies leave on links. Nothing else changes, and
+/// nothing is sent upstream, where the source has a row. The row is found by the place that the caller keeps, without a
+/// look-up.
 #[tactic(auto, unfolding(pim_cached::specs::Decided::plainly_taken, pim_cached::specs::Decided::kept_if))]
 pub(crate) fn take_plain(
     room: &mut Room,

@@ -1,4 +1,4 @@
-//! What is planned of an event before its change: whether there is room for the facts that it names, what its change
+//! The plan of an event, made before its change: whether there is room for the facts that it names, what its change
 //! touches, and what it is to do. Each kind of event says all three in one place.
 ghost use Rattle.std.specs.Prelude.{◌≡◌, ◌<◌, ◌≤◌, ◌∷◌, [], IfOk, OnOk, filter, not};
 ghost use Rattle.pim_types.specs.Keys.{is_star};
@@ -47,7 +47,7 @@ pub struct Plan<'a> {
 /// What is planned of an event.
 #[derive(Drop)]
 pub enum Planning<'a> {
-    /// Time passes until the moment (ms): the end of each timer is planned by itself.
+    /// Time passes until this timestamp (ms). The expiry of each timer is planned by itself.
     Time { moment: u64 },
     /// There is no room for the facts that the event names.
     Full,
@@ -55,7 +55,7 @@ pub enum Planning<'a> {
 }
 
 impl<'a> Planning<'a> {
-    // All may be touched, by an event that makes no facts.
+    // The plan of an event that makes no facts and may touch all.
     fn of_all(act: Act<'a>) -> Planning<'a>
         ensures { result ≡ PlanningValue.Change (record { touched = TouchedValue.All; act = act.entry }) }
     {
@@ -65,14 +65,14 @@ impl<'a> Planning<'a> {
         })
     }
 
-    // Nothing is touched.
+    // The plan of an event that touches nothing.
     fn of_nothing(alloc: Global, act: Act<'a>) -> Planning<'a>
         ensures { result ≡ PlanningValue.Change (record { touched = TouchedValue.Keys []; act = act.entry }) }
     {
         Planning::of_keys(Series::new(alloc), act)
     }
 
-    // These keys are touched.
+    // The plan of an event that touches the given keys.
     fn of_keys(keys: Series<Key>, act: Act<'a>) -> Planning<'a>
         ensures { result ≡ PlanningValue.Change (record { touched = TouchedValue.Keys keys; act = act.entry }) }
     {
@@ -96,7 +96,7 @@ fn of_sources(alloc: Global, keys: &[Key]) -> Result<Series<Key>, AllocError>
     Ok(Series::from_vec(found))
 }
 
-// A key alone.
+// A list of one key.
 fn only(alloc: Global, key: Key) -> Result<Series<Key>, AllocError>
     ensures { IfOk result (λ keys. keys ≡ key ∷ []) }
 {
@@ -105,8 +105,8 @@ fn only(alloc: Global, key: Key) -> Result<Series<Key>, AllocError>
     Ok(Series::from_vec(keys))
 }
 
-// A Hello that says no more of its neighbour than that it lasts touches nothing, another what looks to it, or all where it
-// changes whether the router is the DR.
+// Plans a Hello. One that changes only when its neighbour expires touches nothing. Any other touches what depends on
+// the neighbour, or all where it changes whether the router is the DR.
 fn plan_hello<'a>(
     world: &World,
     turn: &Turn,
@@ -134,7 +134,7 @@ fn plan_hello<'a>(
     Ok(Planning::of_all(Act::Control(Control::Hello { iface, from, hello })))
 }
 
-// A Join/Prune to the router touches the keys of which it moves more than an end.
+// Plans a Join/Prune to the router: it touches the keys of which it changes more than when a timer expires.
 fn plan_join_prune<'a>(
     world: &World,
     turn: &Turn,
@@ -161,8 +161,8 @@ fn plan_join_prune<'a>(
     Ok(Planning::of_keys(moved, Act::Control(control)))
 }
 
-// A Join/Prune to another router makes no more than override timers: they may be the first facts of the sources that it
-// prunes.
+// Plans a Join/Prune to another router: it makes no more than override timers, which may be the first facts of the
+// sources that it prunes.
 fn plan_seen<'a>(
     world: &World,
     turn: &Turn,
@@ -194,7 +194,8 @@ fn assert_act<'a>(iface: IfaceId, from: Addr, assert: Assert) -> Act<'a>
     })
 }
 
-// An Assert touches the keys of the asserts that it names, or none where the known winner says again what it said.
+// Plans an Assert: it touches the keys of the asserts that it names, or none where it repeats the metric of the known
+// winner.
 fn plan_assert<'a>(
     world: &World,
     turn: &Turn,
@@ -215,7 +216,7 @@ fn plan_assert<'a>(
     Ok(Planning::of_keys(keys, assert_act(iface, from, assert)))
 }
 
-// A query touches nothing, and makes no facts: the timers that it lowers run on.
+// Plans a query: it touches nothing and makes no facts, since the timers that it lowers run on.
 fn plan_query<'a>(
     world: &World,
     turn: &Turn,
@@ -231,8 +232,8 @@ fn plan_query<'a>(
     )
 }
 
-// A report whose groups keep their modes touches the sources that it moves, any other the groups and the sources that it
-// names.
+// Plans a report. One whose groups keep their modes touches the sources that it moves. Any other touches the groups and
+// the sources that it names.
 fn plan_report<'a>(
     world: &World,
     turn: &Turn,
@@ -284,8 +285,8 @@ fn packet_keys(
     Ok(Series::from_vec(keys))
 }
 
-// The keys that a packet of data touches: none where it moves at most the end of its source's keepalive timer, and its
-// source alone where it comes by the tree of that.
+// The keys that a packet of data touches: none where it changes at most when the keepalive timer of its source expires,
+// and its source alone where it comes by the tree of that source.
 fn keys_of_packet(
     world: &World,
     alloc: Global,
@@ -306,7 +307,7 @@ fn keys_of_packet(
     packet_keys(world, alloc, iface, sight)
 }
 
-// A packet of data goes by the sight of its source.
+// Plans a packet of data, by the sight of its source.
 fn plan_data<'a>(
     world: &World,
     turn: &Turn,
@@ -323,7 +324,7 @@ fn plan_data<'a>(
     if source_is_full(world, SourceGroup { source, group }) {
         return Ok(Planning::Full);
     }
-    // It tells that the interface is below 120.
+    // For the proof: the interface is below 120.
     world.interfaces().recall_few();
     let star = StarSight::of(world, group, meter);
     let sight = SourceSight::of(world, star, source, meter);
@@ -347,7 +348,7 @@ fn registered_name(register: &RegisterView<'_>) -> SourceGroup
     }
 }
 
-// A Register touches the source of its packet, or nothing where that is kept alive.
+// Plans a Register: it touches the source of its packet, or nothing where the keepalive timer of that source runs.
 fn plan_register<'a>(
     world: &World,
     turn: &Turn,
@@ -370,7 +371,7 @@ fn plan_register<'a>(
     Ok(Planning::of_keys(keys, Act::Register { packet, register }))
 }
 
-// A Register-Stop touches the source that it names, and makes no facts.
+// Plans a Register-Stop: it touches the source that it names, and makes no facts.
 fn plan_stop<'a>(
     world: &World,
     turn: &Turn,
@@ -387,7 +388,8 @@ fn plan_stop<'a>(
     Ok(Planning::of_keys(keys, Act::Control(Control::RegisterStop { from, stop })))
 }
 
-// New routes touch what they move, and make no facts. Where they are those there are, nothing is asked.
+// Plans new routes: they touch what they move, and make no facts. If they equal the present routes, nothing is looked
+// up.
 fn plan_routes<'a>(
     world: &World,
     turn: &Turn,
@@ -411,7 +413,8 @@ fn plan_routes<'a>(
     Ok(Planning::Change(Plan { touched, act }))
 }
 
-// So do new RP ranges.
+// Plans new RP ranges: they touch what they move, and make no facts. If they equal the present ranges, nothing is
+// looked up.
 fn plan_rps<'a>(
     world: &World,
     turn: &Turn,
@@ -435,7 +438,7 @@ fn plan_rps<'a>(
     Ok(Planning::Change(Plan { touched, act }))
 }
 
-/// What is planned of an event whose bytes and interface passed their tests, with the table of the routes or RP ranges that it
+/// The plan of an event whose bytes and interface passed their tests, with the table of the routes or RP ranges that it
 /// brings.
 pub(crate) fn planned<'a>(
     world: &World,

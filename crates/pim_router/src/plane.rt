@@ -1,4 +1,5 @@
-//! What the router tells a data plane, a kernel or a chip that forwards by told rows, and what it is told by one.
+//! What the router offers to a data plane (a kernel or a chip that forwards by rows that it was given), and what a data
+//! plane reports to the router.
 ghost use Rattle.std.specs.Prelude.{◌≡◌, ◌≤◌, ◌^◌, IfOk, OnOk, true};
 ghost use Rattle.pim_locality.specs.Rest.{IsAtRest};
 ghost use Rattle.pim_macros.specs.declared.rows.SourceAnswers.{SourceAnswers};
@@ -29,7 +30,8 @@ const KEEPALIVE_PERIOD: u64 = 210_000;
 // The protocol number of UDP.
 const PROTOCOL_UDP: u8 = 17;
 
-/// What a data plane may do of the packets of a source: by its row of the cache, or evaluated where it has no fact.
+/// What a data plane may do with the packets of a source: by its row of the cache, or evaluated where the source has no
+/// fact.
 pub(crate) fn offer(world: &World, cache: &Cache, name: SourceGroup) -> Option<Offered>
     requires { ShowsRows cache.now.mfc.rows (cached world.now) }
     ensures { TellsOffload result (offered world.now name.group.bits name.source.bits) }
@@ -40,13 +42,13 @@ pub(crate) fn offer(world: &World, cache: &Cache, name: SourceGroup) -> Option<O
     if source_is_full(world, name) {
         return None;
     }
-    // No event evaluates this.
+    // What this counts belongs to no event.
     let (mut uncounted, mut evaluated) = (Meter::outside_events(), Evaluations::none());
     let made = row(world, name, &mut uncounted, &mut evaluated);
     Some(Offered::unknown(&made.answers()))
 }
 
-// When KAT(S,G) ends, if it runs, in ms.
+// When KAT(S,G) expires, in ms, if it runs.
 #[tactic(auto, unfolding(pim_offload::specs::Keeping::keepalive_end))]
 fn keepalive_end(world: &World, name: SourceGroup) -> Option<u64>
     ensures { result ≡ keepalive_end world.now name.group.bits name.source.bits }
@@ -54,7 +56,7 @@ fn keepalive_end(world: &World, name: SourceGroup) -> Option<u64>
     world.store().source(name.key())?.keepalive
 }
 
-// KAT(S,G), which runs, ends at this moment, in ms. No trie is looked into: the meter stays.
+// Sets when KAT(S,G), which runs, expires, in ms. No trie is looked into: the meter is unchanged.
 fn keep_until(
     world: &mut World,
     name: SourceGroup,
@@ -69,8 +71,8 @@ fn keep_until(
     world.store_mut().keep_alive(name, end, place, meter)
 }
 
-/// A packet of the source passed at the moment, in ms: KAT(S,G), where it runs, ends 210 s later, or when it would end after that.
-/// It tells whether the timer runs. The meter stays.
+/// A packet of the source passed at a timestamp, in ms. KAT(S,G), if it runs, expires 210 s after that, or when it was
+/// to expire if that is later. The result is whether the timer runs. The meter is unchanged.
 pub(crate) fn keep(
     world: &mut World,
     name: SourceGroup,
@@ -98,8 +100,8 @@ pub(crate) fn keep(
     }
 }
 
-/// The bytes that tell of a packet by its source and its group alone: a header that no router passes on. An error is want of
-/// memory.
+/// The bytes of a packet that has the source, the group and no payload, in a header that no router forwards. The error
+/// is want of memory.
 pub(crate) fn bare_packet(room: &mut Room, name: SourceGroup) -> Result<Vec<u8>, AllocError>
     ensures { IfOk result (λ bytes. bytes.items ≡ bare_text name.group.bits name.source.bits) }
 {

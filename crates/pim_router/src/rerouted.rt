@@ -1,5 +1,6 @@
-//! Which keys new routes, or new RP ranges, touch: those of what they move, of which there are facts. The new ones stand
-//! in the table that was made to test them, beside those there are: each is asked once.
+//! Which keys new routes, or new RP ranges, touch: those of the groups and sources with facts that they move. The new
+//! routes or ranges stand in the table that was made to test them, and each address is looked up once in the present
+//! table and once in the new one.
 ghost use Rattle.std.specs.List.{flat_map};
 ghost use Rattle.std.specs.Prelude.{◌≡◌, ◌≤◌, ◌++◌, IfOk, OnOk, filter, map, not, sum_by};
 ghost use Rattle.pim_types.specs.Keys.{source_key, star_key};
@@ -54,7 +55,7 @@ fn group_has_other_rp(world: &World, meter: &mut Meter, next: &Mrib, group: Addr
     !is_same_address(before, after)
 }
 
-// Puts those of the sources of a group that have another route behind other keys.
+// Adds the keys of those sources of a group that have another route.
 fn put_sources(
     world: &World,
     meter: &mut Meter,
@@ -80,8 +81,8 @@ fn put_sources(
     Ok(())
 }
 
-// Puts what the new routes move of a group behind other keys: all of it where its RP has another route, or else each
-// source with any fact that has one.
+// Adds the keys of what the new routes move of a group: all of the group where its RP has another route, else each
+// source with any fact that has another route.
 fn put_group(
     world: &World,
     alloc: Global,
@@ -102,7 +103,7 @@ fn put_group(
     put_sources(world, meter, next, group, &sources, keys)
 }
 
-// The keys of what the new routes move of these groups.
+// The keys of what the new routes move of the given groups.
 fn keys_of_groups(
     world: &World,
     alloc: Global,
@@ -122,7 +123,7 @@ fn keys_of_groups(
     Ok(Series::from_vec(keys))
 }
 
-// The keys of those of these groups that have another RP by the new ranges.
+// The keys of those of the given groups that have another RP by the new ranges.
 fn keys_with_other_rp(
     world: &World,
     alloc: Global,
@@ -144,9 +145,9 @@ fn keys_with_other_rp(
     Ok(Series::from_vec(keys))
 }
 
-/// What the routes of the next table touch: the groups with any fact whose RP has another route, and of the other groups the
-/// sources with any fact that have one. The meter rises by the nodes that the look-ups visit, at least those of the RP of each
-/// group and of the routes that are compared.
+/// What the routes of the next table touch: the groups with any fact whose RP has another route, and of the other
+/// groups the sources with any fact that have another route. The meter rises by the nodes that the look-ups visit, at
+/// least those of the RP of each group and of the routes that are compared.
 pub(crate) fn touched_by_routes(
     world: &World,
     alloc: Global,
@@ -161,8 +162,8 @@ pub(crate) fn touched_by_routes(
     Ok(Touched::Keys(keys_of_groups(world, alloc, meter, next, &groups)?))
 }
 
-/// What the RP ranges of the next table touch: the groups with any fact that have another RP. The meter rises by the nodes of
-/// the RPs of each group.
+/// What the RP ranges of the next table touch: the groups with any fact that have another RP. The meter rises by the
+/// nodes of the RPs of each group.
 pub(crate) fn touched_by_rps(
     world: &World,
     alloc: Global,

@@ -1,4 +1,4 @@
-//! The router.
+//! The router, as its users call it.
 ghost use Rattle.std.specs.List.Sorted.{IsStrictlySortedBy};
 ghost use Rattle.std.specs.Option.{option_map_or};
 ghost use Rattle.std.specs.Prelude.{◌≡◌, ◌+◌, ◌<◌, ◌++◌, ◌↔◌, [], Err, IfErr, IfOk, IfSome, IsOk, IsOkUnless, IsTrue, None, Ok, OnErr, OnOk, Some, min, option_and_then};
@@ -51,19 +51,19 @@ use pim_world::World;
 use std::alloc::{AllocError, Global};
 use std::marker::Model;
 
-// The last moment that an event may have, in ms.
+// The latest timestamp that an event may have, in ms.
 const LAST_MOMENT: u64 = 1 << 62;
 
-/// A router: its state, or nothing more once memory was refused to it.
+/// A router. Once an allocation was refused in an event it has failed: it has no state any more, and answers `Failed`.
 #[derive(Drop)]
 pub struct Router {
     failed: bool,
     world: World,
     // The forwarding cache: a row for each source with a fact.
     cache: Cache,
-    // For packets that leave.
+    // The memory in which packets that leave are written.
     room: Room,
-    // Of the last event.
+    // How many copies of a data packet the last event sent on links.
     copies: u32,
     probes: Probes,
 }
@@ -93,9 +93,9 @@ impl Model for Router {
 }
 
 impl Router {
-    /// A router with this configuration at moment 0, all its interfaces down. Its configuration is refused by
-    /// the first test that fails: of the interfaces, the limit, the querier's values, the delays, the
-    /// routes and the RP ranges.
+    /// A router with this configuration at timestamp 0, all its interfaces down. A configuration is refused for the
+    /// first test that fails, in this order: the interfaces, the limit, the querier's values, the delays, the routes
+    /// and the RP ranges. The fault is want of memory.
     #[tactic(auto, unfolding(pim_fanout::specs::Refreshing::touches, pim_trie::specs::Meter::raised))]
     pub fn new(alloc: Global, config: Config) -> Result<Result<Router, Refusal>, Fault>
         ensures accepted { IfOk result (λ made. IfOk made (λ router. (config_test config ≡ Ok tt)
@@ -116,8 +116,8 @@ impl Router {
         }
     }
 
-    /// The moment, in ms, at which the next timer ends: time goes on there by `Advance`. `None` where no timer runs,
-    /// and where the router has failed. No memory is taken.
+    /// The timestamp, in ms, at which the next timer expires: an `Advance` to it lets that timer expire. `None` where
+    /// no timer runs, and where the router has failed. Takes no memory.
     pub fn next_moment(&self) -> Option<u64>
         ensures { result ≡ option_and_then (λ r. next_moment r.state) self.now.standing }
     {
@@ -130,8 +130,8 @@ impl Router {
         }
     }
 
-    /// How many copies of a data packet the last event sent on links: 0 where there was none yet, and where the router
-    /// has failed. They are the last of what it sent on links. No memory is taken.
+    /// How many copies of a data packet the last event sent on links: 0 before the first event, and where the router
+    /// has failed. They are the last packets that the event sent on links. Takes no memory.
     pub fn copies(&self) -> u32
         ensures { result ≡ option_map_or (λ r. r.copies) self.now.standing 0 }
     {
@@ -141,8 +141,9 @@ impl Router {
         self.copies
     }
 
-    /// The row of the forwarding cache of a source with a fact: what the macros are of the state as it is, each evaluated
-    /// afresh. `None` where there is no fact of the source, and where the router has failed. No memory is taken.
+    /// The row of the forwarding cache of a source with a fact. It equals what the macros of RFC 7761 give when each is
+    /// evaluated  anew in the present state. `None` where the source has no fact, and where the router has failed.
+    /// Takes no memory.
     pub fn cached(&self, source: Addr, group: Addr) -> Option<CacheRow>
         ensures cached { IfSome self.now.standing (λ r. TellsRow result (cached r.state group.bits source.bits)) }
         ensures failed { self.now.standing ≡ None → result ≡ None }
@@ -153,8 +154,8 @@ impl Router {
         self.cache.mfc().cached(SourceGroup { source, group })
     }
 
-    /// RPF_interface(RP(G)) of any group: what the macro is of the state as it is, evaluated afresh. `None` where the group has no
-    /// RP, where the router is the RP or has no route to it, and where the router has failed. No memory is taken.
+    /// RPF_interface(RP(G)) of any group, evaluated anew in the present state. `None` where the group has no RP, where
+    /// the router is the RP or has no route to it, and where the router has failed. Takes no memory.
     #[tactic(auto, unfolding(pim_model::specs::Unicast::rpf_interface_rp))]
     pub fn rp_interface(&self, group: Addr) -> Option<IfaceId>
         ensures rpf { IfSome self.now.standing (λ r. number_of result ≡ rpf_interface_rp r.state group.bits) }
@@ -163,15 +164,16 @@ impl Router {
         if self.failed {
             return None;
         }
-        // No event asks for this.
+        // What this look-up counts belongs to no event.
         let mut uncounted = Meter::outside_events();
         let rp = self.world.rp(group, &mut uncounted);
         let path = self.world.rp_route(group, rp, &mut uncounted);
         path.map(|path| path.iface)
     }
 
-    /// The trie nodes that the last event visited: 0 where there was none yet, and where the router has failed. Of an event
-    /// that is a plain packet of data they are at least 1 and at most 66, however many facts there are. No memory is taken.
+    /// By how much the meter rose in the last event, in trie nodes: 0 before the first event, and where the router has
+    /// failed. It is at least 1 and at most 66 after a plain packet of data, however many facts there are. Takes no
+    /// memory.
     pub fn probes(&self) -> u64
         ensures { result ≡ self.now.probes }
     {
@@ -181,8 +183,8 @@ impl Router {
         self.probes.meter.count()
     }
 
-    /// The rows of the forwarding cache that the last event evaluated, put in and took out: 0 where there was none yet,
-    /// and where the router has failed. No memory is taken.
+    /// How many rows of the forwarding cache the last event evaluated, put in and took out: 0 before the first event,
+    /// and where the router has failed. Takes no memory.
     pub fn touched(&self) -> u64
         ensures { result ≡ self.now.touched }
     {
@@ -192,10 +194,10 @@ impl Router {
         self.cache.touched()
     }
 
-    /// The sources whose rows of the forwarding cache the last event changed: all others have the rows that they had. Each stands
-    /// once, ascending by group and then by source; of an `Advance` they are those of all its timers' ends. A plain packet of
-    /// data, and an event that is ignored or refused, changes none. Where nothing was touched there is none, nor before the
-    /// first event, nor where the router has failed. No memory is taken.
+    /// The sources whose rows of the forwarding cache the last event may have changed: the rows of all other sources
+    /// are unchanged. Each source is listed once, ascending by group and then by source. After an `Advance` they are
+    /// those of all timers that expired. A plain packet of data, and an event that is ignored or refused, list none. The
+    /// list is empty before the first event, and where the router has failed. Takes no memory.
     pub fn changed(&self) -> &[SourceGroup]
         ensures names { keys_of result.now ≡ self.now.changed }
         ensures once { IsStrictlySortedBy key_cmp self.now.changed }
@@ -207,9 +209,10 @@ impl Router {
         self.cache.changed()
     }
 
-    /// What a data plane may do of the packets of (S,G), which a kernel or a chip forwards by rows that it is told. That of a source
-    /// with a fact stays until `changed` lists it, that of another until `may_differ` says so of it. `None` of a source without a fact
-    /// where there is no room for one, whose packets are all the router's, and where the router has failed. No memory is taken.
+    /// What a data plane, which forwards by rows that it was given, may do with the packets of (S,G). For a source with
+    /// a fact this is unchanged until `changed` lists the source; for any other source, until `may_differ` answers yes.
+    /// `None` where the source has no fact and there is no room for one (the router takes all its packets), and where
+    /// the router has failed. Takes no memory.
     pub fn offload(&self, source: Addr, group: Addr) -> Option<Offered>
         ensures told { IfSome self.now.standing (λ r. TellsOffload result (offered r.state group.bits source.bits)) }
         ensures failed { self.now.standing ≡ None → result ≡ None }
@@ -220,11 +223,12 @@ impl Router {
         offer(&self.world, &self.cache, SourceGroup { source, group })
     }
 
-    /// Whether what `offload` tells of (S,G) may be another than before the last event, whether the source has a fact or not: where it
-    /// answers no, it is the same. It answers yes exactly of the sources that the event's change, or the end of one of its timers,
-    /// touched, and of all sources of a group that it touched whole; of all after new routes or RP ranges, after an interface went
-    /// up or down, after a Hello or a neighbour's end that changes whether the router is the DR or touches more than 256 keys,
-    /// and where there is no more room for a fact, or room again; and where the router has failed. No memory is taken.
+    /// Whether the answer of `offload` for (S,G) may differ from its answer before the last event, whether the source
+    /// has a fact or not. If this is false, the answer is the same. It is true exactly for the sources that the event's
+    /// change, or the expiry of one of its timers, touched, and for all sources of a group that it touched whole; for
+    /// all sources after new routes or RP ranges; after an interface went up or down; after a Hello, or the expiry of a
+    /// neighbour, that changes whether the router is the DR or touches more than 256 keys; after an event that took the
+    /// last room for a fact or made room again; and where the router has failed. Takes no memory.
     #[tactic(auto, unfolding(pim_fanout::specs::Disturbed::is_disturbed))]
     pub fn may_differ(&self, source: Addr, group: Addr) -> bool
         ensures { result ≡ is_disturbed self.now.disturbed group.bits source.bits }
@@ -235,8 +239,8 @@ impl Router {
         self.cache.disturbed().holds(SourceGroup { source, group })
     }
 
-    /// The rows of a printed table, ascending by their keys. The only fault of a router that hasn't failed is want of
-    /// memory.
+    /// The rows of a printed table, in ascending order of their keys. The only fault of a router that hasn't failed is
+    /// want of memory.
     pub fn rows(&self, table: Table) -> Result<Vec<Row>, Fault>
         ensures rows { IfSome self.now.standing (λ r. IfOk result (λ found. found.items ≡ rows r.state table)) }
         ensures failed { (result ≡ Err Fault.Failed) ↔ (self.now.standing ≡ None) }
@@ -248,11 +252,11 @@ impl Router {
         Ok(pim_printed::rows(&self.world, self.room.alloc, table)?)
     }
 
-    /// Takes one event: it is done, ignored or refused. The packets that leave stand at the end of the
-    /// emissions, in their order. After a fault the emissions are as they were, and the router answers
-    /// `Failed` from then on. No memory is taken, so there is no fault in a router that hasn't failed, where
-    /// the event is ignored, or refused for its bytes, its moment or its interface. A plain packet of data is looked up
-    /// once, and an event touches at most three rows of the forwarding cache for each source that it reaches.
+    /// Takes one event: it is done, ignored or refused. The packets that leave are added at the end of `emissions`, in
+    /// their order. After a fault `emissions` are unchanged, and the router answers `Failed` from then on. A router
+    /// that hasn't failed takes no memory and has no fault where the event is ignored, or is refused for its bytes, its
+    /// timestamp or its interface. For a plain packet of data the meter rises by at most 66 nodes, and an event touches
+    /// at most three rows of the forwarding cache for each source that it reaches.
     pub fn step(
         &mut self,
         event: &Event,
@@ -280,7 +284,8 @@ impl Router {
         self.step_lent(&LentEvent::of(event), emissions)
     }
 
-    /// Takes one event whose packet, routes or ranges are lent, and copies none of them: all else is as of `step`.
+    /// Takes one event whose packet, routes or ranges are borrowed, and copies none of them. All else is as `step`
+    /// says.
     pub fn step_lent(
         &mut self,
         event: &LentEvent<'_>,
@@ -322,9 +327,9 @@ impl Router {
         Ok(outcome.answer)
     }
 
-    /// A data plane saw a packet of (S,G) on the interface, and tells no more of it: what `step` does of a frame that brings such a
-    /// packet with a TTL of 1. The state and the messages are those of any packet of (S,G) there; its copies and its Register
-    /// don't leave.
+    /// A data plane saw a packet of (S,G) on the interface, and reports no more of it than this. The router does what
+    /// `step` does with a frame that brings such a packet with a TTL of 1: its state and its messages are those of any
+    /// packet of (S,G) there, but no copy and no Register leaves.
     pub fn seen(
         &mut self,
         draw: u32,
@@ -364,9 +369,10 @@ impl Router {
         answer
     }
 
-    /// A data plane forwarded its last packet of (S,G) at the moment, in ms: KAT(S,G), where it runs, ends 210 s after it, or when
-    /// it would end later. It tells whether the timer runs: one that doesn't isn't started. A moment past the last that an event
-    /// may have counts as that. What `copies`, `probes`, `touched`, `changed`, `may_differ` and `offload` tell stays.
+    /// A data plane forwarded its last packet of (S,G) at this timestamp, in ms. KAT(S,G), if it runs, expires 210 s
+    /// after that, or when it was to expire if that is later. The result is whether the timer runs: one that doesn't
+    /// run isn't started. A timestamp past the latest that an event may have counts as the latest. What `copies`,
+    /// `probes`, `touched`, `changed`, `may_differ` and `offload` answer is unchanged.
     pub fn keep(&mut self, source: Addr, group: Addr, moment: u64) -> Result<bool, Fault>
         ensures runs { IfSome self.old.standing (λ r. IfOk result (λ runs.
             runs ≡ is_kept_alive r.state group.bits source.bits)) }
@@ -390,18 +396,19 @@ impl Router {
         Ok(runs)
     }
 
-    /// Takes packets back that were sent and are done with: others are written into their room. It changes nothing of what the
-    /// router shows, and takes no memory that it can't do without.
+    /// Takes back packets that were sent and aren't needed: later packets are written into their memory. Nothing of
+    /// what the router shows changes, and it does no harm where an allocation is refused here.
     pub fn take_back(&mut self, packets: Vec<Emission>)
         ensures { self.new ≡ self.old }
     {
         self.room.take_back(packets);
     }
 
-    /// Takes events one after the other, and tells the outcome of each. After a fault the router answers
-    /// `Failed` from then on. Where there are no events no memory is taken, so there is no fault. In the run of a new
-    /// router nothing flows unasked: each copy of a packet has its cause in an earlier event. After it the facts that count,
-    /// beside the asserts, are within the limit, and with them at most the limit once for each interface and once more.
+    /// Takes events one after the other, and returns the outcome of each. After a fault the router answers `Failed`
+    /// from then on. Without events no memory is taken, so there is no fault. In the run of a new router nothing flows
+    /// unasked: each copy of a packet has its cause in an earlier event. After such a run the facts that count,
+    /// without the asserts, are within the limit; with the asserts they are at most the limit once for each interface
+    /// and once more.
     pub fn run(&mut self, events: &[Event]) -> Result<Vec<Outcome>, Fault>
         ensures outcomes { IfSome self.old.standing (λ r. IfOk result (λ outcomes. outcomes.items ≡ run r.state events.now)) }
         ensures state { IfSome self.old.standing (λ r. OnOk result (self.new.standing ≡ Some (standing_after r events.now))) }
@@ -439,8 +446,8 @@ impl Router {
     }
 }
 
-// Puts what was sent behind the packets that are there; where there are none, as they stand. An error is want of memory, and
-// changes nothing.
+// Adds what was sent after the packets that are there; if there are none, what was sent takes their place. The error is
+// want of memory, and changes nothing.
 fn hand_over(mut sent: Vec<Emission>, emissions: &mut Vec<Emission>) -> Result<(), AllocError>
     ensures ok { OnOk result (emissions.new.items ≡ emissions.old.items ++ sent.items) }
     ensures err { OnErr result (emissions.new.items ≡ emissions.old.items) }
@@ -453,7 +460,7 @@ fn hand_over(mut sent: Vec<Emission>, emissions: &mut Vec<Emission>) -> Result<(
     emissions.append(&mut sent)
 }
 
-// The copies of the last of these outcomes; where there are none, those of the event before.
+// The copies of the last of these outcomes; if there are none, the copies of the event before.
 #[tactic(auto, unfolding(crate::specs::Standing::last_copies))]
 fn last_copies(before: u32, outcomes: &[Outcome]) -> u32
     ensures { result ≡ last_copies before outcomes.now }
@@ -465,8 +472,8 @@ fn last_copies(before: u32, outcomes: &[Outcome]) -> u32
     copies
 }
 
-// Takes an event. It begins both counts anew, of the nodes that its look-ups visit, and of the rows of the cache that it
-// touches, with the list of the sources whose they are.
+// Takes an event. It starts from 0 the count of the nodes that its look-ups visit, the count of the rows of the cache
+// that it touches, and the list of the sources of these rows.
 fn take_next(
     room: &mut Room,
     world: &mut World,

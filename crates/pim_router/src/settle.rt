@@ -1,4 +1,4 @@
-//! What follows of an event's own change.
+//! What follows of an event's own change: registers, asserts and SPTbits that must go, and messages upstream.
 ghost use Rattle.std.specs.Prelude.{◌≡◌, ◌≤◌, ◌++◌, ◌∷◌, [], IfOk, IsOkUnless, IsTrue, OnOk, false};
 ghost use Rattle.pim_fanout.specs.Named.{keys_of};
 ghost use Rattle.pim_ip.specs.declared.fault.Fault.{Fault};
@@ -16,7 +16,7 @@ use pim_types::{Emission, Fault, Series, SourceGroup};
 use pim_world::{Meter, Turn, World};
 use std::alloc::AllocError;
 
-// The registers are settled, then goes what must.
+// Settles the registers, then clears the asserts and SPTbits that must go.
 #[tactic(auto, unfolding(crate::specs::Settling::cleared_by))]
 fn clear(
     world: &mut World,
@@ -32,8 +32,8 @@ fn clear(
     pim_asserts::clear(world, turn, meter, opening)
 }
 
-// What follows, group after group of the opening. It tells the sources whose rows of the forwarding cache are to be made
-// anew, which are asked between clearing and telling.
+// Does what follows, group after group of the opening. The result is the sources whose rows of the forwarding cache are
+// to be evaluated again, found between the clearing and the messages upstream.
 #[tactic(auto, unfolding(crate::specs::Settling::followed_by))]
 fn follow_all(
     world: &mut World,
@@ -63,7 +63,7 @@ fn seen_alone(opened: SourceOpening, sight: &SourceSight) -> SourceAfter
     }
 }
 
-// What follows where one source alone was opened: its sight is gathered once, and kept up to date by what goes.
+// Does what follows where one source alone was opened: its sight is gathered once, and updated by what is cleared.
 #[tactic(auto, unfolding(crate::specs::Settling::followed_by))]
 fn follow_source(
     world: &mut World,
@@ -91,7 +91,7 @@ fn follow_source(
     Ok(names)
 }
 
-// Whether nothing is to be settled of a group, and nothing must go.
+// Whether a group has no register to settle, and no assert or SPTbit that must go.
 #[tactic(auto, unfolding(crate::specs::Settling::cleared_by))]
 fn stays(world: &World, seen: &GroupAfter) -> bool
     requires { IsAfter world.now seen.now }
@@ -103,8 +103,8 @@ fn stays(world: &World, seen: &GroupAfter) -> bool
     pim_asserts::are_clear(world, seen)
 }
 
-// The registers are settled, then goes what must, of one group alone. It is gathered once, and anew only where something of it
-// was to be settled or to go.
+// Settles the registers, then clears what must go, of one group. The group is gathered once, and again only where
+// something was settled or cleared.
 fn clear_group(
     world: &mut World,
     turn: &mut Turn,
@@ -128,7 +128,8 @@ fn clear_group(
     Ok(anew)
 }
 
-// What follows where one group alone was opened: which sources are named, and what is told, by what was gathered once.
+// Does what follows where one group alone was opened. Which sources are named, and what is sent upstream, is decided by
+// what was gathered once.
 fn follow_group(
     world: &mut World,
     turn: &mut Turn,
@@ -150,7 +151,8 @@ fn follow_group(
     Ok(names)
 }
 
-// What follows, by comparison with the opening: the registers first, then what must go, then what is told upstream.
+// Does what follows, by comparison with the opening: first the registers, then what must go, then the messages
+// upstream.
 fn follow(
     world: &mut World,
     turn: &mut Turn,
@@ -172,8 +174,8 @@ fn follow(
     follow_group(world, turn, meter, opening, group, before)
 }
 
-/// Settles a change: what follows of it, and then the packets of all messages, which go behind the emissions, those of
-/// the change first. It tells the sources whose rows of the forwarding cache are to be made anew.
+/// Settles a change: does what follows of it, and then writes the packets of all messages after the emissions, those of
+/// the change first. The result is the sources whose rows of the forwarding cache are to be evaluated again.
 #[tactic(auto, unfolding(crate::specs::Settling::settled_by))]
 pub(crate) fn settle(
     world: &mut World,

@@ -1,4 +1,4 @@
-//! Time that passes: timers end one after the other, and what follows of each end is settled before the next one.
+//! Time that passes: timers expire one after the other, and what follows of each is settled before the next.
 ghost use Rattle.std.specs.List.Sorted.{IsStrictlySortedBy};
 ghost use Rattle.std.specs.Prelude.{◌≡◌, ◌≤◌, ◌^◌, ◌++◌, [], IfOk, IsOkUnless, OnOk, option_map, true};
 ghost use Rattle.pim_fanout.specs.Disturbed.{joined};
@@ -38,7 +38,7 @@ use pim_types::{
 use pim_world::{Meter, Touched, Turn, World};
 use std::alloc::AllocError;
 
-// The timer that ends first, with its end in ms, where that is due by the moment.
+// The timer that expires first, with its timestamp in ms, if it is due by the given timestamp.
 fn next_due(world: &World, moment: u64) -> Option<(u64, Timer)>
     ensures { result ≡ option_map due_of (next_due moment world.now) }
 {
@@ -46,7 +46,7 @@ fn next_due(world: &World, moment: u64) -> Option<(u64, Timer)>
     if due.0 <= moment { Some(due) } else { None }
 }
 
-// Whether the group's record on the interface has a source beside this one.
+// Whether the record of the group on the interface has a source other than this one.
 #[tactic(auto, unfolding(crate::specs::Ends::has_other_sources))]
 fn has_other_sources(world: &World, iface: IfaceId, name: SourceGroup) -> bool
     ensures { result ≡ has_other_sources world.now iface.number name.group.bits name.source.bits }
@@ -59,7 +59,7 @@ fn has_other_sources(world: &World, iface: IfaceId, name: SourceGroup) -> bool
     false
 }
 
-// Whether the group's own row stays as it is where the timer of this source ends.
+// Whether the row of the group itself is unchanged where the timer of this source expires.
 #[tactic(auto, unfolding(crate::specs::Ends::keeps_group))]
 fn keeps_group(world: &World, iface: IfaceId, name: SourceGroup) -> bool
     ensures { result ≡ keeps_group world.now iface.number name.group.bits name.source.bits }
@@ -67,7 +67,8 @@ fn keeps_group(world: &World, iface: IfaceId, name: SourceGroup) -> bool
     world.group_end(iface, name.group).is_some() || has_other_sources(world, iface, name)
 }
 
-// The key that the end of a source's timer touches: that of the source, or of its group where no other is left.
+// The key that the expiry of a source's timer touches: that of the source, or of its group where no other source is
+// left.
 #[tactic(auto, unfolding(crate::specs::Ends::touched_by_source))]
 fn touched_by_source(world: &World, key: Key) -> Key
     ensures { result ≡ touched_by_source world.now key }
@@ -80,7 +81,8 @@ fn touched_by_source(world: &World, key: Key) -> Key
     }
 }
 
-// What the end of the neighbour with this key touches: what looks to it, or all where it changes whether the router is the DR.
+// What the expiry of the neighbour with this key touches: what depends on the neighbour, or all where it changes
+// whether the router is the DR.
 fn touched_by_neighbour(
     world: &World,
     turn: &Turn,
@@ -97,7 +99,7 @@ fn touched_by_neighbour(
     Ok(Touched::All)
 }
 
-// The keys that the end of a timer touches.
+// The keys that the expiry of a timer touches.
 fn touched_by_end(
     world: &World,
     turn: &Turn,
@@ -129,7 +131,7 @@ fn touched_by_end(
     Ok(Touched::Keys(Series::from_vec(keys)))
 }
 
-// The change of a timer's end.
+// The change that the expiry of a timer makes.
 fn fired(
     world: &mut World,
     turn: &mut Turn,
@@ -160,8 +162,8 @@ fn fired(
     }
 }
 
-// The end of a timer at its moment, with what follows of it. It tells the sources whose rows of the forwarding cache are to
-// be made anew.
+// Lets a timer expire, and does what follows. The result is the sources whose rows of the forwarding cache are to be
+// evaluated again.
 fn fire_world(
     world: &mut World,
     turn: &mut Turn,
@@ -187,12 +189,13 @@ fn fire_world(
     let gathered = Gathered::of(world, turn.alloc, touched, meter)?;
     world.set_present(due.0);
     fired(world, turn, meter, due.1)?;
-    // It tells that asserts, sources and registers are under keys of their kind.
+    // For the proof: asserts, sources and registers are under keys of their kind.
     world.recall_keyed();
     settle(world, turn, meter, &gathered, emissions)
 }
 
-// The same, and then the rows of the named sources; whatever was sent in the turn before.
+// Lets a timer expire, and then evaluates the rows of the named sources again. Messages of an earlier turn are dropped
+// first.
 fn fire_once(
     world: &mut World,
     cache: &mut Cache,
@@ -218,7 +221,7 @@ fn fire_once(
     ensures fault { IsOkUnless result Fault.Memory }
     ensures at_least { OnOk result (raised meter.old (firing_nodes world.old due) ≤ meter.new) }
 {
-    // It tells that there are at most 120 interfaces.
+    // For the proof: there are at most 120 interfaces.
     world.interfaces().recall_few();
     turn.out = Outbox::new(turn.alloc);
     let touched = touched_by_end(world, turn, meter, due.1)?;
@@ -227,7 +230,7 @@ fn fire_once(
     Ok(())
 }
 
-// All that is due at the moment of a timer's end.
+// Lets all timers expire that are due at the timestamp of one that is due.
 fn fire_instant(
     world: &mut World,
     cache: &mut Cache,
@@ -258,7 +261,7 @@ fn fire_instant(
     Ok(())
 }
 
-// Instant after instant, all that is due by the moment.
+// Lets all timers expire that are due by a timestamp, one instant after another.
 fn fire_all(
     world: &mut World,
     cache: &mut Cache,
@@ -288,7 +291,7 @@ fn fire_all(
     Ok(())
 }
 
-/// Time passes until the moment (ms): all that is due by then ends in its order.
+/// Lets time pass until a timestamp (ms): all timers that are due by then expire in their order.
 #[tactic(auto, unfolding(pim_model::specs::Step::advanced, pim_reach::specs::Named::named_of))]
 pub(crate) fn advance(
     world: &mut World,
@@ -312,9 +315,9 @@ pub(crate) fn advance(
 {
     let mut emissions = Vec::new(turn.alloc);
     fire_all(world, cache, turn, meter, moment, &mut emissions)?;
-    // Several of the ends may have named the same source.
+    // Several of the timers may have named the same source.
     cache.list_once();
-    // It tells that there are at most 120 interfaces.
+    // For the proof: there are at most 120 interfaces.
     world.interfaces().recall_few();
     world.set_present(moment);
     Ok(Outcome {

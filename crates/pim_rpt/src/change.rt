@@ -6,6 +6,6 @@ pub enum Change {
     Keep,
     Cancel,
     SetTo(u64),
-    /// It ends at this moment at the latest; where there is none, it starts.
+    /// The override timer is to expire at this timestamp at the latest; if it doesn't run, it starts.
     LowerTo(u64),
 }

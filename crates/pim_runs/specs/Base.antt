@@ -32,7 +32,7 @@ rp = address 10 9 9 9
 abbrev pub prefix : ℕ → ℕ → Prefix
 prefix bits length = record { address = addr bits; length = length }
 
--- with the default priority and delays
+-- An interface with the default priority and delays.
 abbrev pub interface : ℕ → InterfaceConfig
 interface bits = record {
   address = addr bits;
@@ -42,7 +42,7 @@ interface bits = record {
   override_interval = 2500;
 }
 
--- with preference 110 and metric 20
+-- A route with preference 110 and metric 20.
 abbrev pub route_by : ℕ → ℕ → Prefix → Route
 route_by i next_hop p = record {
   prefix = p;

@@ -15,7 +15,8 @@ use Rattle.pim_runs.specs.Words.{advance, done_with_copies, down, frame, join_pr
 
 -- ---- what is looked at
 
--- of a row: immediate, inherited and inherited (S,G,rpt), the tunnel, the interface of the source's route, SPTbit
+-- What is shown of a row: immediate, inherited and inherited (S,G,rpt), the tunnel, the interface of the source's
+-- route, SPTbit.
 pub record SeenRow : Type 0 where
   pub immediate : List ℕ
   pub inherited : List ℕ
@@ -24,7 +25,7 @@ pub record SeenRow : Type 0 where
   pub rpf : Option ℕ
   pub spt : Bool
 
--- the same list twice, no (S,G,rpt), no tunnel
+-- A row with the same list as immediate and inherited, no (S,G,rpt), and no tunnel.
 abbrev pub seen_row : List ℕ → ℕ → Bool → Option SeenRow
 seen_row list rpf spt = Some (record {
   immediate = list;
@@ -69,8 +70,8 @@ no_row = None
 
 -- ---- rows
 
--- A source that is joined on 1 has a row once it sends; its next packet is plain, and leaves there. Another source of the
--- group has none.
+-- A source that is joined on 1 has a row once it sends; its next packet is plain, and leaves there. Another source of
+-- the group has none.
 abbrev pub JoinedSourceIsCached : Type 0
 JoinedSourceIsCached =
     (seen_of (after (frame 1 join_source ∷ [])) source ≡ None)
@@ -93,7 +94,7 @@ PlainPacketMovesItsTimer =
 abbrev pub joined_and_silent : State
 joined_and_silent = after (frame 1 join_source_forever ∷ frame 0 packet ∷ advance 210000 ∷ [])
 
--- It may also start the timer of a source that has its SPTbit alone.
+-- A plain packet may also start the timer of a source that has only its SPTbit.
 abbrev pub PlainPacketStartsTheTimer : Type 0
 PlainPacketStartsTheTimer =
     (rows joined_and_silent Table.Active ≡ active source None true None ∷ [])
@@ -106,7 +107,7 @@ PlainPacketStartsTheTimer =
 abbrev pub flooded : State
 flooded = state_after joined_and_sent (map (λ n. frame 0 (data_from (n + 6))) (below 200))
 
--- They make no row, and the one row is as it was.
+-- Other events make no row, and the one row is unchanged.
 abbrev pub OthersMakeNoRow : Type 0
 OthersMakeNoRow =
     (rows flooded Table.Active ≡ active source (Some 210000) true None ∷ [])
@@ -179,15 +180,15 @@ OpeningIsNotPlain =
     × (decided_of silent_host host 2 64 ≡ not_plain)
     × (decided_of silent_host host 2 1 ≡ not_plain)
 
--- Off its tree, where the router forwards the source, a packet makes it the winner of an assert, and isn't plain. The next one
--- there is dropped, as it is where the router doesn't forward.
+-- Off its tree, where the router forwards the source, a packet makes it the winner of an assert, and isn't plain. The
+-- next one there is dropped, as it is where the router doesn't forward.
 abbrev pub StrayOfTheSourceIsNotPlain : Type 0
 StrayOfTheSourceIsNotPlain =
     (decided_of joined_and_sent source 1 64 ≡ not_plain)
     × (decided_of (state_after joined_and_sent (frame 1 packet ∷ [])) source 1 64 ≡ goes false [])
     × (decided_of joined_and_sent source 2 64 ≡ goes false [])
 
--- Likewise where it forwards the group, while the source has no SPTbit.
+-- A packet on a link to which the router forwards the group, while the source has no SPTbit, isn't plain.
 abbrev pub StrayOfTheGroupIsNotPlain : Type 0
 StrayOfTheGroupIsNotPlain =
     (decided_of watched_source source 2 64 ≡ not_plain)

@@ -85,7 +85,7 @@ on_its_tree = record (with_neighbours base) {
   join_timers = put [] (source_key 0 group source) in_a_minute;
 }
 
--- its assert on 1 is lost
+-- The state in which the assert of the source on 1 is lost.
 abbrev pub source_lost : State
 source_lost = record on_its_tree { asserts = put [] (source_key 1 group source) lost_row }
 
@@ -121,7 +121,7 @@ GroupsAssertGoesBeforeItsSources =
 
 -- ---- a route of one source of two
 
--- beside 10.0.3.5
+-- Another source than 10.0.3.5.
 abbrev pub other_source : ℕ
 other_source = address 10 0 4 5
 
@@ -131,7 +131,7 @@ source_by i next_hop = record base {
   routes = route_by i next_hop source_network ∷ route_by 0 (address 10 0 0 1) (prefix (address 10 0 4 0) 24) ∷ [];
 }
 
--- both sources are joined on 2
+-- The state in which both sources are joined on 2.
 abbrev pub two_joined : Config → State
 two_joined c = record (with_neighbours c) {
   downstream = put (put [] (source_key 2 group source) endless) (source_key 2 group other_source) endless;

@@ -25,7 +25,7 @@ HostIsRegistered =
     × (rows (after (frame 2 host_packet ∷ [])) Table.Active
     ≡ active host (Some 210000) true (Some RegisterName.Join) ∷ [])
 
--- With TTL 1 nothing leaves, but the source is kept alive.
+-- A packet with TTL 1 doesn't leave, but its source is kept alive.
 abbrev pub LastHopIsNotRegistered : Type 0
 LastHopIsNotRegistered =
     (run opened (frame 2 host_packet_of_ttl_1 ∷ []) ≡ done_with [] ∷ [])
@@ -84,7 +84,7 @@ NothingPassesAfterTheJoinEnds =
     ≡ done_with (hello_on_0 ∷ join_source_up ∷ []) ∷ done_with (hello_on_0 ∷ hello_on_1 ∷ hello_on_2 ∷ [])
     ∷ done_with_copies 1 (copy_on_1 ∷ []) ∷ done_with (prune_source_up ∷ []) ∷ done_with [] ∷ []
 
--- So does a membership, which ends after 260 s.
+-- After a membership expired, after 260 s, no packet passes.
 abbrev pub NothingPassesAfterTheMembershipEnds : Type 0
 NothingPassesAfterTheMembershipEnds =
     (run (after (frame 2 allow_source ∷ advance 259999 ∷ [])) (frame 0 packet ∷ []) ≡ done_with_copies 1 (copy_on_2 ∷ []) ∷ [])

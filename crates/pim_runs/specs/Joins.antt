@@ -38,7 +38,7 @@ outcomes_of_one_join =
 abbrev pub OneJoinBringsOneJoin : Type 0
 OneJoinBringsOneJoin = run (opening base) one_join ≡ outcomes_of_one_join
 
--- The same Join once more brings nothing.
+-- A repeated Join brings nothing.
 abbrev pub SecondJoinBringsNothing : Type 0
 SecondJoinBringsNothing = run (after (frame 1 join_star ∷ [])) (frame 1 join_star ∷ []) ≡ done_with [] ∷ []
 
@@ -60,7 +60,7 @@ JoinIsRepeatedUntilItExpires =
 abbrev pub JoinOfSourceGoesUp : Type 0
 JoinOfSourceGoesUp = run opened (frame 1 join_source ∷ []) ≡ done_with (hello_on_0 ∷ join_source_up ∷ []) ∷ []
 
--- With holdtime 0 a Join makes no entry. With 1 it ends after a second, with 65535 never; a later 1 doesn't
+-- A Join with holdtime 0 makes no entry. One with 1 expires after a second, one with 65535 never; a later 1 doesn't
 -- shorten that.
 abbrev pub HoldtimesOfJoins : Type 0
 HoldtimesOfJoins =
@@ -92,7 +92,7 @@ PrunedSourceLeavesTheSharedTree =
 abbrev pub joined_beside : List Event
 joined_beside = frame 0 hello_of_10_0_0_9 ∷ frame 1 join_star ∷ frame 0 join_star_beside ∷ []
 
--- and prunes it after 10 ms
+-- 10.0.0.9 joins the group, and prunes it after 10 ms.
 abbrev pub pruned_beside : List Event
 pruned_beside = joined_beside ++ advance 10 ∷ frame_drawn 4 0 prune_star_beside ∷ []
 

@@ -71,8 +71,8 @@ AssertOfDataPassesTheLimit =
     × (rows (state_after (limited_to 4) (looped ++ frame 1 assert_source_equal ∷ [])) Table.Asserts
     ≡ Row.Assert (source_key 1 group source) AssertRole.Loser (addr (address 10 0 1 2)) 180000 ∷ [])
 
--- From NoInfo an Assert with R set makes the router the winner where it forwards the source (RFC 7761, section 4.6.1). An
--- infinite one has R set and is made without room, so it makes an assert beyond the limit. Another Join is refused.
+-- From NoInfo an Assert with R set makes the router the winner where it forwards the source (RFC 7761, section 4.6.1).
+-- An infinite one has R set and is made without room, so it makes an assert beyond the limit. Another Join is refused.
 abbrev pub InfiniteAssertPassesTheLimit : Type 0
 InfiniteAssertPassesTheLimit =
     (run (state_after (limited_to 4) joined_and_sent)

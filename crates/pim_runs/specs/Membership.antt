@@ -44,7 +44,7 @@ LowerQuerierIsFollowed =
     ≡ Some (non_querier_until 185000 3 60))
     × (group_membership_interval (after (frame 0 query_of_robustness_3 ∷ [])) 0 ≡ 190000)
 
--- With the default values it is non-querier for 255 s. Then it queries, and again every 125 s.
+-- With the default values the router is non-querier for 255 s. Then it queries, and again every 125 s.
 abbrev pub SilentQuerierIsReplaced : Type 0
 SilentQuerierIsReplaced =
     (row_at (after (frame 0 query_of_robustness_2 ∷ [])).queriers (iface_key 0)
@@ -124,7 +124,7 @@ NewSourceGetsTheGroupTimer =
     × (records_after (excluding_at_60000 100000) (frame 2 to_exclude_two ∷ [])
     ≡ excluding_until 320000 ∷ excluded (address 10 0 2 4) ∷ source_until 62000 host ∷ [])
 
--- Where it is at most 2 s ahead, it stays, and no query leaves.
+-- Where the group timer expires at most 2 s ahead, a new source's timer isn't lowered, and no query leaves.
 abbrev pub NewSourceThatEndsSoonIsNotAskedFor : Type 0
 NewSourceThatEndsSoonIsNotAskedFor =
     (map (queries_on 2) (run (excluding_at_60000 61500) (frame 2 to_exclude_two ∷ advance 61499 ∷ []))

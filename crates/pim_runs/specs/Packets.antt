@@ -6,31 +6,31 @@ use Rattle.pim_runs.specs.Words.{address, hex, on, to}
 
 -- ---- Hellos received: Holdtime 65535 alone
 
--- of 10.0.0.1 on 0
+-- A Hello of 10.0.0.1 on 0.
 abbrev pub hello_of_10_0_0_1 : List ℕ
 hello_of_10_0_0_1 =
     hex "45 c0 00 1e 00 00 00 00 01 67 ce ab 0a 00 00 01 e0 00 00 0d"
     ++ hex "20 00 df fc 00 01 00 02 ff ff"
 
--- of 10.0.1.2 on 1
+-- A Hello of 10.0.1.2 on 1.
 abbrev pub hello_of_10_0_1_2 : List ℕ
 hello_of_10_0_1_2 =
     hex "45 c0 00 1e 00 00 00 00 01 67 cd aa 0a 00 01 02 e0 00 00 0d"
     ++ hex "20 00 df fc 00 01 00 02 ff ff"
 
--- of 10.0.1.3 on 1
+-- A Hello of 10.0.1.3 on 1.
 abbrev pub hello_of_10_0_1_3 : List ℕ
 hello_of_10_0_1_3 =
     hex "45 c0 00 1e 00 00 00 00 01 67 cd a9 0a 00 01 03 e0 00 00 0d"
     ++ hex "20 00 df fc 00 01 00 02 ff ff"
 
--- of 10.0.0.9 on 0
+-- A Hello of 10.0.0.9 on 0.
 abbrev pub hello_of_10_0_0_9 : List ℕ
 hello_of_10_0_0_9 =
     hex "45 c0 00 1e 00 00 00 00 01 67 ce a3 0a 00 00 09 e0 00 00 0d"
     ++ hex "20 00 df fc 00 01 00 02 ff ff"
 
--- of 10.0.2.9 on 2
+-- A Hello of 10.0.2.9 on 2.
 abbrev pub hello_of_10_0_2_9 : List ℕ
 hello_of_10_0_2_9 =
     hex "45 c0 00 1e 00 00 00 00 01 67 cc a3 0a 00 02 09 e0 00 00 0d"
@@ -38,19 +38,19 @@ hello_of_10_0_2_9 =
 
 -- ---- other Hellos received on 0
 
--- of 10.0.0.1 with generation ID 1
+-- A Hello of 10.0.0.1 with generation ID 1.
 abbrev pub hello_of_generation_1 : List ℕ
 hello_of_generation_1 =
     hex "45 c0 00 26 00 00 00 00 01 67 ce a3 0a 00 00 01 e0 00 00 0d"
     ++ hex "20 00 df e3 00 01 00 02 ff ff 00 14 00 04 00 00 00 01"
 
--- of 10.0.0.1 with generation ID 2
+-- A Hello of 10.0.0.1 with generation ID 2.
 abbrev pub hello_of_generation_2 : List ℕ
 hello_of_generation_2 =
     hex "45 c0 00 26 00 00 00 00 01 67 ce a3 0a 00 00 01 e0 00 00 0d"
     ++ hex "20 00 df e2 00 01 00 02 ff ff 00 14 00 04 00 00 00 02"
 
--- of 10.0.0.9 with Holdtime 105 alone
+-- A Hello of 10.0.0.9 with Holdtime 105 alone.
 abbrev pub hello_for_105_s : List ℕ
 hello_for_105_s =
     hex "45 c0 00 1e 00 00 00 00 01 67 ce a3 0a 00 00 09 e0 00 00 0d"
@@ -170,19 +170,19 @@ prune_star_beside =
 
 -- ---- Hellos sent
 
--- from 10.0.0.2
+-- The router's Hello from 10.0.0.2.
 abbrev pub hello_on_0 : Emission
 hello_on_0 = on 0 (
     hex "45 c0 00 36 00 00 00 00 01 67 ce 92 0a 00 00 02 e0 00 00 0d"
     ++ hex "20 00 d3 9e 00 01 00 02 00 69 00 02 00 04 01 f4 09 c4 00 13 00 04 00 00 00 01 00 14 00 04 00 00 00 07")
 
--- from 10.0.1.1
+-- The router's Hello from 10.0.1.1.
 abbrev pub hello_on_1 : Emission
 hello_on_1 = on 1 (
     hex "45 c0 00 36 00 00 00 00 01 67 cd 93 0a 00 01 01 e0 00 00 0d"
     ++ hex "20 00 d3 9e 00 01 00 02 00 69 00 02 00 04 01 f4 09 c4 00 13 00 04 00 00 00 01 00 14 00 04 00 00 00 07")
 
--- from 10.0.2.1
+-- The router's Hello from 10.0.2.1.
 abbrev pub hello_on_2 : Emission
 hello_on_2 = on 2 (
     hex "45 c0 00 36 00 00 00 00 01 67 cc 93 0a 00 02 01 e0 00 00 0d"
@@ -474,31 +474,31 @@ source_query_on_2 = on 2 (
 
 -- ---- data packets received
 
--- from 10.0.3.5 to G, on 0
+-- A packet from 10.0.3.5 to G, on 0.
 abbrev pub packet : List ℕ
 packet =
     hex "45 00 00 1c 00 00 00 00 40 11 8b ca 0a 00 03 05 e1 01 01 01"
     ++ hex "00 01 00 02 00 03 00 04"
 
--- from 10.0.3.6 to G, on 0
+-- A packet from 10.0.3.6 to G, on 0.
 abbrev pub packet_6 : List ℕ
 packet_6 =
     hex "45 00 00 1c 00 00 00 00 40 11 8b c9 0a 00 03 06 e1 01 01 01"
     ++ hex "00 01 00 02 00 03 00 04"
 
--- from 10.0.3.k to G, on 0, for k up to 207
+-- A packet from 10.0.3.k to G, on 0, for k up to 207.
 abbrev pub data_from : ℕ → List ℕ
 data_from k =
     hex "45 00 00 1c 00 00 00 00 40 11 8b" ++ (0xcf - k) ∷ hex "0a 00 03" ++ k ∷ hex "e1 01 01 01"
     ++ hex "00 01 00 02 00 03 00 04"
 
--- from 10.0.2.5 to G, on 2
+-- A packet from 10.0.2.5 to G, on 2.
 abbrev pub host_packet : List ℕ
 host_packet =
     hex "45 00 00 1c 00 00 00 00 40 11 8c ca 0a 00 02 05 e1 01 01 01"
     ++ hex "00 01 00 02 00 03 00 04"
 
--- the same with TTL 1
+-- A packet from 10.0.2.5 to G, on 2, with TTL 1.
 abbrev pub host_packet_of_ttl_1 : List ℕ
 host_packet_of_ttl_1 =
     hex "45 00 00 1c 00 00 00 00 01 11 cb ca 0a 00 02 05 e1 01 01 01"
@@ -596,13 +596,13 @@ ssm_join_star =
     hex "45 c0 00 36 00 00 00 00 01 67 cd 92 0a 00 01 02 e0 00 00 0d"
     ++ hex "23 00 ca d5 01 00 0a 00 01 01 00 01 00 d2 01 00 00 20 e8 01 01 01 00 01 00 00 01 00 07 20 0a 09 09 09"
 
--- from 10.0.3.5, on 0
+-- A packet from 10.0.3.5 to the SSM group, on 0.
 abbrev pub ssm_packet : List ℕ
 ssm_packet =
     hex "45 00 00 1c 00 00 00 00 40 11 84 ca 0a 00 03 05 e8 01 01 01"
     ++ hex "00 01 00 02 00 03 00 04"
 
--- from 10.0.2.5, on 2
+-- A packet from 10.0.2.5 to the SSM group, on 2.
 abbrev pub ssm_host_packet : List ℕ
 ssm_host_packet =
     hex "45 00 00 1c 00 00 00 00 40 11 85 ca 0a 00 02 05 e8 01 01 01"

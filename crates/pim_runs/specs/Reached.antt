@@ -61,7 +61,7 @@ abbrev pub eight_sent : State
 eight_sent = after
     (map (λ n. frame 1 (join_source_of (n + 5))) (below 8) ++ map (λ n. frame 0 (data_from (n + 5))) (below 8))
 
--- Of eight rows a Join again touches none, and a Prune at most three times one.
+-- Of eight rows a repeated Join touches none, and a Prune at most three times one.
 abbrev pub OneOfEightIsReached : Type 0
 OneOfEightIsReached =
     (length eight_sent.sources ≡ 8)
@@ -72,8 +72,8 @@ OneOfEightIsReached =
 
 -- ---- time
 
--- Time reaches a source once for each of its facts that changes: the Join ends, and with it SPTbit, then the keepalive timer.
--- Hellos, queries and the Joins between reach nothing.
+-- Time reaches a source once for each of its facts that changes: the Join ends, and with it SPTbit, then the keepalive
+-- timer. Hellos, queries and the Joins between reach nothing.
 abbrev pub TimeReachesOnceAFiring : Type 0
 TimeReachesOnceAFiring =
     (event_reach joined_and_sent (advance 209999) ≡ [])

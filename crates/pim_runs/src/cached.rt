@@ -63,7 +63,7 @@ pub fn stray_of_the_source_is_not_plain()
     ensures { StrayOfTheSourceIsNotPlain }
 {}
 
-/// So it is on a link that the group is forwarded to.
+/// A packet of the group on a link to which the group is forwarded isn't plain.
 pub fn stray_of_the_group_is_not_plain()
     ensures { StrayOfTheGroupIsNotPlain }
 {}

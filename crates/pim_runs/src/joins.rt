@@ -13,7 +13,7 @@ pub fn one_join_brings_one_join()
     ensures { OneJoinBringsOneJoin }
 {}
 
-/// The same Join once more is sent nowhere.
+/// A repeated Join is sent nowhere.
 pub fn second_join_brings_nothing()
     ensures { SecondJoinBringsNothing }
 {}

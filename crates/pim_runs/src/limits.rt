@@ -18,7 +18,7 @@ pub fn assert_of_data_passes_the_limit()
     ensures { AssertOfDataPassesTheLimit }
 {}
 
-/// Nor is an assert that an infinite Assert makes.
+/// An assert that an infinite Assert makes passes the limit.
 pub fn infinite_assert_passes_the_limit()
     ensures { InfiniteAssertPassesTheLimit }
 {}

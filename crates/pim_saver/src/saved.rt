@@ -8,7 +8,7 @@ use std::alloc::AllocError;
 
 /// A value with a text of its own.
 pub trait Saved: Copy {
-    /// Its text, and how one is read.
+    /// The bytes of a value, and how one is read.
     ghost text: { Self → List ℕ };
 
     ghost reading: { Reader Self };

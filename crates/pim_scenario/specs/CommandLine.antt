@@ -68,18 +68,18 @@ command_named name =
     if bytes_eq name (codes "run") then Some Run
     else (if bytes_eq name (codes "check") then Some Check else None)
 
--- the wire of that name; memory where none is named
+-- The wire of that name; memory where none is named.
 abbrev pub wire_named : Option Text → Option WireKind
 wire_named None = Some Memory
 wire_named (Some name) =
     if bytes_eq name (codes "memory") then Some Memory
     else (if bytes_eq name (codes "udp") then Some Udp else None)
 
--- an option that takes no value is given
+-- An option that takes no value is given.
 abbrev pub is_set : Text → List Row → Bool
 is_set id rows = option_map_or (λ t. bytes_eq t (codes "true")) (first_of id rows) false
 
--- what the rows of a subcommand say
+-- The meaning of the rows of a subcommand.
 abbrev pub meant_in : Text → List Row → Option Meaning
 meant_in name rows =
     option_and_then (λ command.
@@ -100,7 +100,7 @@ abbrev pub meant_by : Option (Text × List Row) → Option Meaning
 meant_by None = None
 meant_by (Some entered) = meant_in entered.0 entered.1
 
--- what a command line means: nothing where clap finds a mistake in it
+-- The meaning of a command line: nothing where clap finds a mistake in it.
 abbrev pub meaning_unless : Kinds → Option Meaning → Option Meaning
 meaning_unless [] meaning = meaning
 meaning_unless (k ∷ ks) meaning = None
@@ -109,17 +109,17 @@ unfoldable pub meaning_of : List Text → Option Meaning
 meaning_of words =
     meaning_unless (fault_of pimlab_app words) (meant_by (subcommand_of pimlab_app words))
 
--- what the words say
+-- The meaning of words that were accepted.
 abbrev pub meaning_in : Words → Meaning
 meaning_in w = record { command = w.command; file = w.file.now; wire = w.wire; tables = w.tables }
 
--- the words of an answer
+-- The words of an answer.
 abbrev pub words_in : Answer → Option Meaning
 words_in (Accepted w) = Some (meaning_in w)
 words_in Refused = None
 words_in (Help text) = None
 
--- the answers that there may be, by the kinds of mistake that clap finds
+-- The answers that are possible, by the kinds of mistake that clap finds.
 abbrev pub CanAnswer : Answer → Kinds → Type 0
 CanAnswer (Accepted w) kinds = kinds ≡ []
 CanAnswer Refused kinds = kinds ≢ DisplayHelp ∷ []

@@ -1,4 +1,4 @@
--- What the user is told where something went wrong.
+-- What is reported where something went wrong.
 use Rattle.std.specs.Io.KnownBytes.{Appends}
 use Rattle.std.specs.Prelude.{ℕ, List, Option, ◌++◌, ◌≡◌, ◌⊎◌, codes, decimal}
 use Rattle.pim_ip.specs.Refusal.{refusal_number}
@@ -31,7 +31,7 @@ complaint_text (complaint.Scenario refusal) =
     codes "pimlab: scenario refused: " ++ decimal (refusal_number refusal)
 complaint_text (complaint.Fault fault) = fault_text fault
 
--- the line, with its end
+-- The line, with its line break.
 abbrev pub line_of : Complaint → List ℕ
 line_of c = complaint_text c ++ codes "\n"
 

@@ -4,7 +4,7 @@ use Rattle.std.specs.List.{list_all, list_any}
 use Rattle.std.specs.Str.{bytes_eq}
 use Rattle.toml.specs.Data.{Data, Items, no_items, item, Members, no_members, member, get_member, as_str, as_integer, as_array}
 
--- a number from 0 and below 2^32
+-- A number from 0 and below 2^32.
 abbrev pub number_of_integer : ℤ → Option ℕ
 number_of_integer (pos n) = if nat_lt n (2 ^ 32) then Some n else None
 number_of_integer (negsuc n) = None
@@ -12,7 +12,7 @@ number_of_integer (negsuc n) = None
 abbrev pub number_in : Data → Option ℕ
 number_in d = option_and_then number_of_integer (as_integer d)
 
--- a moment, in ms
+-- A timestamp, in ms.
 abbrev pub moment_of_integer : ℤ → Option ℕ
 moment_of_integer (pos n) = Some n
 moment_of_integer (negsuc n) = None
@@ -20,7 +20,7 @@ moment_of_integer (negsuc n) = None
 abbrev pub moment_of : Data → Option ℕ
 moment_of d = option_and_then moment_of_integer (as_integer d)
 
--- what a list holds
+-- The values of a list.
 abbrev pub values_of : Items → List Data
 values_of no_items = []
 values_of (item d ds) = d ∷ values_of ds
@@ -28,7 +28,7 @@ values_of (item d ds) = d ∷ values_of ds
 abbrev pub list_of : Data → Option (List Data)
 list_of d = option_map values_of (as_array d)
 
--- what stands at a key that has to be there
+-- The value at a key that is required.
 abbrev pub text_at : List ℕ → Members → Option (List ℕ)
 text_at key ms = option_and_then as_str (get_member key ms)
 
@@ -41,7 +41,7 @@ moment_at key ms = option_and_then moment_of (get_member key ms)
 abbrev pub list_at : List ℕ → Members → Option (List Data)
 list_at key ms = option_and_then list_of (get_member key ms)
 
--- what stands at a key that may be missing
+-- The value at a key that may be missing.
 abbrev pub read_or : {X : Type 0} → (Data → Option X) → X → Option Data → Option X
 read_or read default None = Some default
 read_or read default (Some d) = read d
@@ -55,7 +55,7 @@ list_or_empty key ms = read_or list_of [] (get_member key ms)
 abbrev pub optional_text : List ℕ → Members → Option (Option (List ℕ))
 optional_text key ms = read_or (λ d. option_map (λ t. Some t) (as_str d)) None (get_member key ms)
 
--- the keys, in their order
+-- The keys, in their order.
 abbrev pub member_names : Members → List (List ℕ)
 member_names no_members = []
 member_names (member key d ms) = key ∷ member_names ms
@@ -63,6 +63,6 @@ member_names (member key d ms) = key ∷ member_names ms
 abbrev pub is_known : List (List ℕ) → List ℕ → Bool
 is_known known key = list_any (λ k. bytes_eq k key) known
 
--- no other keys than these
+-- The table has no other keys than these.
 abbrev pub has_only : List (List ℕ) → Members → Bool
 has_only known ms = list_all (is_known known) (member_names ms)

@@ -15,7 +15,7 @@ use std::alloc::{AllocError, Global};
 /// What is to be done with the scenario.
 #[derive(Clone, Copy)]
 pub enum Command {
-    /// Its moves are done, and what they bring is printed.
+    /// Its moves are done, and their outcomes are printed.
     Run,
     /// It is read, and its routers are made.
     Check,
@@ -32,9 +32,9 @@ pub enum WireKind {
 /// Which tables are printed.
 #[derive(Clone, Copy)]
 pub struct Tables {
-    /// After each answer and its packets those of the router that answered.
+    /// After each answer and its packets the tables of the router that answered.
     pub after_each: bool,
-    /// Those of all routers at the end.
+    /// At the end the tables of all routers.
     pub at_end: bool,
 }
 
@@ -48,7 +48,7 @@ pub struct Words<'a> {
     pub tables: Tables,
 }
 
-/// What a command line comes to.
+/// What a command line means.
 #[derive(Drop)]
 pub enum Answer<'a> {
     Accepted(Words<'a>),
@@ -81,7 +81,7 @@ fn pimlab_command<'a>(alloc: Global) -> Result<clap::Command<'a>, AllocError>
     command_with_run(alloc)?.subcommand(check)
 }
 
-/// It with its first subcommand alone.
+/// The command line with its first subcommand only.
 fn command_with_run<'a>(alloc: Global) -> Result<clap::Command<'a>, AllocError>
     ensures { IfOk result (λ c. app_of c ≡ with_subcommand top_app run_app.top) }
 {
@@ -223,7 +223,7 @@ fn command_named(name: &str) -> Option<Command>
     }
 }
 
-/// The wire that was asked for; memory where the command has no such option.
+/// The wire that an option names; memory where the command has no such option.
 fn wire_named(name: Option<&str>) -> Option<WireKind>
     ensures { result ≡ wire_named (option_map (λ n. n.now) name.entry) }
 {

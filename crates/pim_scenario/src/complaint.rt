@@ -1,4 +1,4 @@
-//! What the user is told where something went wrong: one line on standard error, and the status.
+//! The message where something went wrong: one line on standard error, and the status.
 ghost use Rattle.std.specs.Prelude.{◌≡◌, Some, OnOk};
 ghost use Rattle.std.specs.Io.KnownBytes.{Appends};
 ghost use Rattle.pim_scenario.specs.Complaints.{IsTold, line_of, status_of};
@@ -40,8 +40,8 @@ impl Complaint<'_> {
         err.writeln(self)
     }
 
-    /// Writes the line and gives the status. A line that can't be written is a fault of the wire, whatever
-    /// it was to tell.
+    /// Writes the line and returns the status. A line that can't be written counts as a fault of the wire, whatever it
+    /// was to say.
     pub fn tell<W: Write>(self, err: &mut W) -> u8
         ensures { IsTold self.entry result (W.contents err.old) (W.contents err.new) }
     {
@@ -71,15 +71,15 @@ impl fmt::Display for Complaint<'_> {
     }
 }
 
-/// Tells that a scenario is refused, and gives the status: 2, or as [`Complaint::tell`] says.
+/// Reports that a scenario is refused, and returns the status: 2, or as [`Complaint::tell`] says.
 pub fn refused<W: Write>(err: &mut W, refusal: Refusal) -> u8
     ensures { IsTold (Complaint.Scenario refusal) result (W.contents err.old) (W.contents err.new) }
 {
     Complaint::Scenario(refusal).tell(err)
 }
 
-/// Tells a fault, and gives the status: 3 for the wire, and 4 for memory. As with [`Complaint::tell`], a line
-/// that can't be written is a fault of the wire.
+/// Reports a fault, and returns the status: 3 for the wire, and 4 for memory. As with [`Complaint::tell`], a line that
+/// can't be written counts as a fault of the wire.
 pub fn fault<W: Write>(err: &mut W, fault: Fault) -> u8
     ensures { IsTold (Complaint.Fault fault) result (W.contents err.old) (W.contents err.new) }
 {

@@ -9,9 +9,9 @@ use pim_types::Fault;
 use std::alloc::Global;
 use std::io::{ErrorKind, Read, Write};
 
-/// The whole text of a file. `reader` is none where the file couldn't be opened. Where it can't be
-/// read to its end, or isn't UTF-8, that is told by `name` on `err`; so is want of memory. Then the
-/// status is given: 2 or 4, or 3 where the line can't be written.
+/// The whole text of a file. `reader` is none where the file couldn't be opened. If the file can't be read to its end,
+/// isn't UTF-8, or memory is wanting, that is reported by `name` on `err`, and the status is returned: 2 or 4, or 3
+/// where the line can't be written.
 pub fn load<R: Read + Drop, W: Write>(
     alloc: Global,
     name: &str,

@@ -1,5 +1,5 @@
-//! The part of `pimlab` that needs no router: its command line, the scenario file as plain data, and
-//! the one line with the status by which it says what went wrong.
+//! The part of `pimlab` that needs no router: its command line, the scenario file as plain data, and the one line with
+//! the status that reports what went wrong.
 #![tactic(auto)]
 
 pub mod command_line;

@@ -31,13 +31,13 @@ pub struct Link {
 #[derive(Drop)]
 pub struct RouterText {
     pub name: String,
-    /// As the scenario has it: nobody has judged its values yet.
+    /// The configuration as the scenario has it: its values haven't been tested yet.
     pub config: Config,
     /// The link of each interface.
     pub links: Series<Link>,
 }
 
-/// What a scenario asks for. A router goes by its place among the routers, from 0, and a frame by its number among
+/// What a scenario requests. A router is named by its place among the routers, from 0, and a frame by its number among
 /// all that were ever sent, from 1.
 #[derive(Drop)]
 pub enum ScenarioMove {
@@ -65,7 +65,7 @@ pub enum ScenarioMove {
     },
 }
 
-/// What a scenario file says.
+/// The content of a scenario file.
 #[derive(Drop)]
 pub struct Scenario {
     /// At most 64, each with a name of its own.
@@ -119,10 +119,10 @@ impl<T: Drop> From<AllocFailed<T>> for Unread {
     }
 }
 
-/// Reads a scenario. It is refused as `BadScenario` exactly where it is no TOML document, has an
-/// unknown key, lacks one, has a value of another type, text or range than its key wants, has more
-/// than 64 routers or two of one name, or moves a router that it hasn't. The values of a
-/// configuration are not judged here. The only fault is want of memory.
+/// Reads a scenario. It is refused as `BadScenario` exactly where it is no TOML document, has an unknown key, lacks
+/// one, has a value of another type, text or range than its key requires, has more than 64 routers or two of one name,
+/// or moves a router that it doesn't have. The values of a configuration aren't tested here. The only fault is want of
+/// memory.
 pub fn read_scenario(alloc: Global, text: &str) -> Result<Result<Scenario, Refusal>, Fault>
     ensures read { IfOk result (Parses IsReadFrom text.now) }
     ensures other_text { parse_document text.now ≡ None

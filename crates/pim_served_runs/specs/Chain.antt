@@ -45,7 +45,7 @@ second = record base {
 abbrev pub third : Config
 third = record base { interfaces = interface root ∷ []; routes = []; rps = rp_for all_groups root ∷ [] }
 
--- they come up, and hear each other's Hellos
+-- The routers come up, and hear each other's Hellos.
 abbrev pub hello_from : ℕ → List ℕ
 hello_from from = pim_packet_text 1 from all_pim_routers (hello_text 500 2500 1 7)
 
@@ -96,11 +96,12 @@ request = record { type = RecordType.ToExclude; group = asked_group; sources = [
 abbrev pub report : Event
 report = frame 0 (igmp_packet_text (address 10 0 3 9) (address 224 0 0 22) (report_text (request ∷ [])))
 
--- its host is served
+-- The chain's host is served.
 abbrev pub ChainIsServed : Type 0
 ChainIsServed = IsServedFrom chain asked_group root sender 3 first_place second_place report (third_place ∷ [])
 
--- a packet of the source, of 16 bytes behind its header, and the Register round it that a router far away sends to the RP
+-- a packet of the source, of 16 bytes behind its header, and the Register round it that a router far away sends to the
+-- RP
 abbrev pub content : List ℕ
 content = 0x13 ∷ 0x8C ∷ 0x13 ∷ 0x8C ∷ 0 ∷ 16 ∷ 0 ∷ 0 ∷ 1 ∷ 2 ∷ 3 ∷ 4 ∷ 5 ∷ 6 ∷ 7 ∷ 8 ∷ []
 
@@ -114,7 +115,7 @@ sent_packet = packet_living 4
 abbrev pub register : List ℕ
 register = pim_packet_text 16 (address 10 9 0 1) root (register_text sent_packet)
 
--- it comes to the host's link, where it can be passed on no more
+-- The packet comes to the host's link, where its TTL doesn't let it go further.
 abbrev pub PacketIsServed : Type 0
 PacketIsServed = (f : ChainIsServed)
     → IsFlowed (moved (network_ran chain (At 0 report ∷ f.joins)).1 (At 2 (unicast register))).1 asked_group sender 3 content 1

@@ -1,4 +1,5 @@
-//! A router with what it sent last and the rows that were read last, for programs that ask for these one after the other.
+//! A router with the packets that it sent last and the rows that were read last, for programs that fetch these one by
+//! one.
 #![tactic(auto)]
 
 pub mod session;

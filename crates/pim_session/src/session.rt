@@ -1,4 +1,4 @@
-//! A router behind a box, with what the last calls told of it.
+//! A router in a box, with what its last calls returned.
 ghost use Rattle.std.specs.List.Sorted.{IsStrictlySortedBy};
 ghost use Rattle.std.specs.Option.{option_map_or};
 ghost use Rattle.std.specs.Prelude.{◌≡◌, ◌↔◌, [], Err, IfErr, IfOk, IfSome, IsOk, IsOkUnless, IsSome, IsTrue, None, Ok, OnErr, OnOk, Some, min, option_and_then};
@@ -40,10 +40,10 @@ use std::alloc::Global;
 use std::marker::Model;
 use std::mem;
 
-/// A router, the packets of the last event that it took, and the rows of the table that was asked for last.
+/// A router, the packets of the last event that it accepted, and the rows of the table that was read last.
 pub struct Session {
     router: Box<Router>,
-    // Memory was refused to it.
+    // An allocation failed, so the session has failed.
     is_lost: bool,
     sent: Vec<Emission>,
     rows: Vec<Row>,
@@ -78,7 +78,8 @@ impl Drop for Session {
 }
 
 impl Session {
-    /// A router with this configuration, at moment 0 and with all its interfaces down, as `Router::new` makes it.
+    /// A router with this configuration, at timestamp 0 and with all its interfaces down, as `Router::new` makes it.
+    /// The fault is want of memory.
     pub fn new(alloc: Global, config: Config) -> Result<Result<Session, Refusal>, Fault>
         ensures accepted { IfOk result (λ made. IfOk made (λ s. (config_test config ≡ Ok tt)
             × (s.router ≡ begun (opening config)) × (s.sent ≡ []) × (s.rows ≡ []))) }
@@ -103,9 +104,9 @@ impl Session {
         }
     }
 
-    /// Takes one event, as `Router::step_lent` does, and keeps its packets in place of those before. After a fault the packets are as
-    /// they were, and the session answers `Failed` from then on. There is none in a session that hasn't failed, where the event is
-    /// ignored, or refused for its bytes, its moment or its interface.
+    /// Takes one event, as `Router::step_lent` does, and keeps its packets in place of the packets kept before. After a
+    /// fault the kept packets are unchanged, and the session answers `Failed` from then on. A session that hasn't
+    /// failed has no fault where the event is ignored, or is refused for its bytes, its timestamp or its interface.
     pub fn step(
         &mut self,
         alloc: Global,
@@ -147,8 +148,9 @@ impl Session {
         }
     }
 
-    /// A data plane saw a packet of (S,G) on the interface, as `Router::seen` is told. What leaves is kept in place of the packets
-    /// before. After a fault these are as they were, and the session answers `Failed` from then on.
+    /// A data plane saw a packet of (S,G) on the interface, as `Router::seen` says. What leaves is kept in place of the
+    /// packets kept before. After a fault the kept packets are unchanged, and the session answers `Failed` from then
+    /// on.
     pub fn seen(
         &mut self,
         alloc: Global,
@@ -193,8 +195,8 @@ impl Session {
         }
     }
 
-    /// A data plane forwarded its last packet of (S,G) at the moment, in ms, as `Router::keep` is told. It tells whether KAT(S,G)
-    /// runs. After a fault the session answers `Failed` from then on.
+    /// A data plane forwarded its last packet of (S,G) at this timestamp, in ms, as `Router::keep` says. The result is
+    /// whether KAT(S,G) runs. After a fault the session answers `Failed` from then on.
     pub fn keep(&mut self, source: Addr, group: Addr, moment: u64) -> Result<bool, Fault>
         ensures runs { IfSome self.old.router.standing (λ r. IfOk result (λ runs.
             runs ≡ is_kept_alive r.state group.bits source.bits)) }
@@ -217,7 +219,7 @@ impl Session {
         }
     }
 
-    // Packets that were sent, in place of those before, whose room the router has again.
+    // Keeps packets that were sent in place of those kept before, whose memory goes back to the router.
     fn keep_sent(&mut self, sent: Vec<Emission>)
         ensures sent { self.new.sent ≡ sent.items }
         ensures rest { (self.new.router ≡ self.old.router) × (self.new.rows ≡ self.old.rows) }
@@ -226,15 +228,15 @@ impl Session {
         self.router.take_back(done);
     }
 
-    /// Whether memory was refused to it: it answers `Failed` from then on.
+    /// Whether an allocation failed in an event: the session answers `Failed` from then on.
     pub fn has_failed(&self) -> bool
         ensures { IsTrue result ↔ (self.now.router.standing ≡ None) }
     {
         self.is_lost
     }
 
-    /// Reads the rows of a table, as `Router::rows` does, and keeps them in place of those before. After a fault these are as they
-    /// were.
+    /// Reads the rows of a table, as `Router::rows` does, and keeps them in place of the rows kept before. After a
+    /// fault the kept rows are unchanged.
     pub fn read(&mut self, table: Table) -> Result<(), Fault>
         ensures rows { IfSome self.old.router.standing (λ r. OnOk result (self.new.rows ≡ rows r.state table)) }
         ensures silent { OnErr result (self.new.rows ≡ self.old.rows) }
@@ -249,21 +251,21 @@ impl Session {
         Ok(())
     }
 
-    /// The packets of the last event that was taken, in their order.
+    /// The packets of the last event that was accepted, in their order.
     pub fn sent(&self) -> &[Emission]
         ensures { result.now ≡ self.now.sent }
     {
         self.sent.as_slice()
     }
 
-    /// The rows that were read last, ascending by their keys.
+    /// The rows that were read last, in ascending order of their keys.
     pub fn rows(&self) -> &[Row]
         ensures { result.now ≡ self.now.rows }
     {
         self.rows.as_slice()
     }
 
-    /// The moment, in ms, at which the next timer ends; `None` where no timer runs, and after a fault.
+    /// The timestamp, in ms, at which the next timer expires; `None` where no timer runs, and after a fault.
     pub fn next_moment(&self) -> Option<u64>
         ensures { result ≡ option_and_then (λ r. next_moment r.state) self.now.router.standing }
     {
@@ -283,7 +285,7 @@ impl Session {
         self.router.copies()
     }
 
-    /// The row of the forwarding cache of a source, as `Router::cached` tells it; `None` after a fault.
+    /// The row of the forwarding cache of a source, as `Router::cached` returns it; `None` after a fault.
     pub fn cached(&self, source: Addr, group: Addr) -> Option<CacheRow>
         ensures cached { IfSome self.now.router.standing (λ r. TellsRow result (cached r.state group.bits source.bits)) }
         ensures failed { self.now.router.standing ≡ None → result ≡ None }
@@ -294,7 +296,7 @@ impl Session {
         self.router.cached(source, group)
     }
 
-    /// RPF_interface(RP(G)) of any group, as `Router::rp_interface` tells it; `None` after a fault.
+    /// RPF_interface(RP(G)) of any group, as `Router::rp_interface` returns it; `None` after a fault.
     pub fn rp_interface(&self, group: Addr) -> Option<IfaceId>
         ensures rpf { IfSome self.now.router.standing (λ r. number_of result ≡ rpf_interface_rp r.state group.bits) }
         ensures failed { self.now.router.standing ≡ None → result ≡ None }
@@ -305,7 +307,7 @@ impl Session {
         self.router.rp_interface(group)
     }
 
-    /// What a data plane may do of the packets of (S,G), as `Router::offload` tells it; `None` after a fault.
+    /// What a data plane may do with the packets of (S,G), as `Router::offload` returns it; `None` after a fault.
     pub fn offload(&self, source: Addr, group: Addr) -> Option<Offered>
         ensures told { IfSome self.now.router.standing (λ r. TellsOffload result (offered r.state group.bits source.bits)) }
         ensures failed { self.now.router.standing ≡ None → result ≡ None }
@@ -316,7 +318,7 @@ impl Session {
         self.router.offload(source, group)
     }
 
-    /// The sources whose rows the last event changed, each once, as `Router::changed` lists them; none after a fault.
+    /// The sources that the last event listed as changed, each once, as `Router::changed` lists them; none after a fault.
     pub fn changed(&self) -> &[SourceGroup]
         ensures names { keys_of result.now ≡ self.now.router.changed }
         ensures once { IsStrictlySortedBy key_cmp self.now.router.changed }
@@ -328,7 +330,8 @@ impl Session {
         self.router.changed()
     }
 
-    /// Whether what is offered of (S,G) may have changed at the last event, as `Router::may_differ` tells it; true after a fault.
+    /// Whether what is offered of (S,G) may have changed in the last event, as `Router::may_differ` answers; true after
+    /// a fault.
     #[tactic(auto, unfolding(pim_fanout::specs::Disturbed::is_disturbed))]
     pub fn may_differ(&self, source: Addr, group: Addr) -> bool
         ensures { result ≡ is_disturbed self.now.router.disturbed group.bits source.bits }
@@ -339,7 +342,7 @@ impl Session {
         self.router.may_differ(source, group)
     }
 
-    /// The trie nodes that the last event visited, as `Router::probes` counts them; 0 after a fault.
+    /// By how much the meter rose in the last event, in trie nodes, as `Router::probes` counts; 0 after a fault.
     pub fn probes(&self) -> u64
         ensures { result ≡ self.now.router.probes }
     {

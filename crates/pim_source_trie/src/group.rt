@@ -191,7 +191,7 @@ fn with_row<V: Drop>(
     }
 }
 
-// The same beside the value of (*,G), or over it.
+// Adds a value to a group that has only the value of (*,G), or replaces that value.
 #[tactic(auto, unfolding(crate::specs::Rows::row_cmp))]
 fn with_star<V: Drop>(
     alloc: Global,
@@ -230,7 +230,7 @@ fn is_source(source: Option<Addr>, own: Addr) -> bool
     }
 }
 
-// The same beside the value of a source, or over it.
+// Adds a value to a group that has only the value of one source, or replaces that value.
 #[tactic(auto, unfolding(crate::specs::Rows::row_cmp))]
 fn with_source<V: Drop>(
     alloc: Global,
@@ -306,7 +306,7 @@ fn altered<V: Drop, A: Alter<V>>(
     }
 }
 
-// The same of the value of (*,G), which alone there is.
+// Alters the value in a group that has only the value of (*,G).
 #[tactic(auto, unfolding(crate::specs::Rows::row_cmp))]
 fn altered_star<V: Drop, A: Alter<V>>(
     value: Box<V>,
@@ -326,7 +326,7 @@ fn altered_star<V: Drop, A: Alter<V>>(
     }
 }
 
-// The same of the value of a source, which alone there is. The meter rises as it does in a trie of it.
+// Alters the value in a group that has only one source. The meter rises as it does in a trie of that source.
 #[tactic(auto, unfolding(crate::specs::Rows::row_cmp), using(crate::proofs::Visited::raised_by_none))]
 fn altered_source<V: Drop, A: Alter<V>>(
     own: Addr,

@@ -62,7 +62,7 @@ impl<V> SourceTrie<V> {
     pub fn is_empty(&self) -> bool
         ensures empty { IsTrue result ↔ (self.now ≡ []) }
 
-        // Of every table: the keys rise, and each is of the whole router.
+        // This holds of every table: the keys rise, and each is of the whole router.
         ensures ascending { IsStrictlySortedBy key_cmp (keys_in self.now) }
         ensures keys { All (λ e. e.0 ≡ entry_key (e.0).group (e.0).source) self.now }
     {

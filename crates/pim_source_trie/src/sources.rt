@@ -203,7 +203,7 @@ fn with<V: Drop>(
     }
 }
 
-// The same beside a single source, or over its value.
+// Adds a source's value to that of a single source, or replaces the value of that source.
 fn with_one<V: Drop>(
     alloc: Global,
     own: Addr,
@@ -352,7 +352,7 @@ fn altered<V: Drop, A: Alter<V>>(
     }
 }
 
-// The same of a single source. The meter rises as it does in a trie of it.
+// Alters the value of a single source. The meter rises as it does in a trie of that source.
 fn altered_one<V: Drop, A: Alter<V>>(
     own: Addr,
     value: Box<V>,
@@ -390,7 +390,7 @@ fn alter_among<V: Drop, A: Alter<V>>(
     ensures there { result ≡ is_some (source_at source.bits (trie_values trie.old)) }
     ensures visited { meter.new ≡ raised meter.old (nodes_among (trie_values trie.old) source.bits) }
 {
-    // It tells that the prefixes rise.
+    // For the proof: the prefixes rise.
     let _ = trie.len();
     let prefix = host(source);
     let Some(found) = trie.get_mut_counted(prefix, meter) else {

@@ -44,7 +44,7 @@ impl<'a, V> Model for Entries<'a, V> {
 }
 
 impl<'a, V> Entries<'a, V> {
-    // Those of a group.
+    // The entries of a group.
     pub(crate) fn of(group: Addr, found: &'a Group<V>) -> Self
         ensures { result ≡ keyed group.bits found.now }
     {
@@ -57,7 +57,7 @@ impl<'a, V> Entries<'a, V> {
         }
     }
 
-    // That of (*,G) alone.
+    // The entry of (*,G), which is the only one.
     fn of_star(group: Addr, value: &'a V) -> Self
         ensures { result ≡ keyed group.bits ((None, value.now) ∷ []) }
     {
@@ -68,7 +68,7 @@ impl<'a, V> Entries<'a, V> {
         }
     }
 
-    // That of a source alone.
+    // The entry of a source, which is the only one.
     fn of_source(group: Addr, source: Addr, value: &'a V) -> Self
         ensures { result ≡ keyed group.bits ((Some source.bits, value.now) ∷ []) }
     {
@@ -79,7 +79,7 @@ impl<'a, V> Entries<'a, V> {
         }
     }
 
-    // Those of (*,G) and of its sources.
+    // The entries of (*,G) and of its sources.
     fn of_parts(group: Addr, parts: &'a Parts<V>) -> Self
         ensures { result ≡ keyed group.bits parts.now }
     {
@@ -146,7 +146,7 @@ impl<'a, V> Model for Groups<'a, V> {
 }
 
 impl<'a, V> Groups<'a, V> {
-    // Those of the trie.
+    // The entries of all groups of the trie.
     pub(crate) fn of(groups: &'a Trie<Group<V>>) -> Self
         ensures { result ≡ map address_in groups.now }
     {
@@ -173,7 +173,7 @@ impl<'a, V> FusedIterator for Groups<'a, V> {}
 
 /// All entries that are left, by rising key.
 pub struct AllEntries<'a, V> {
-    // Those of the group that the walk has come to.
+    // The entries of the group at which the walk is.
     entries: Entries<'a, V>,
     groups: Under<'a, Group<V>>,
 }
@@ -205,7 +205,7 @@ impl<'a, V> AllEntries<'a, V> {
     ghost use Rattle.std.specs.List.{AllByRecursion};
     ghost use Rattle.pim_source_trie.specs.Groups.{HasRisingRows, table_of};
 
-    // Those of the trie, of whose groups each has a value.
+    // The groups of the trie, each of which has a value.
     pub(crate) fn of(groups: &'a Trie<Group<V>>) -> Self
         requires { AllByRecursion HasRisingRows groups.now }
         ensures { result ≡ table_of groups.now }

@@ -28,7 +28,8 @@ way (Handling.Forward alive list) = Some (alive, members at_ten list)
 way Handling.Drop = Some (false, [])
 way Handling.ToCore = None
 
--- on 0 it comes from the source, and leaves on 1; on 1 it would make the router the winner of an assert; on 2 it is dropped
+-- A packet on 0 comes from the source, and leaves on 1; on 1 it would make the router the winner of an assert; on 2 it
+-- is dropped.
 abbrev pub EachLinkIsHandled : Type 0
 EachLinkIsHandled =
     map (λ i. way (handled its_row i)) (0 ∷ 1 ∷ 2 ∷ [])
@@ -69,7 +70,8 @@ spt_never = state_after (opened_with (record base { spt = SptSwitch.Never })) (f
 abbrev pub on_shared_tree : List Outcome × Split
 on_shared_tree = split_ran (whole spt_never (told spt_never)) (advance 15 ∷ frame 0 packet ∷ frame 1 packet ∷ [])
 
--- its packet leaves on 2, and one that comes on 1 is dropped; the core stands at 10, and hears of neither
+-- The packet of an unknown source leaves on 2, and one that comes on 1 is dropped; the core stands at 10, and hears of
+-- neither.
 abbrev pub UnknownIsForwarded : Type 0
 UnknownIsForwarded =
     (on_shared_tree.0 ≡ done_with [] ∷ done_with_copies 1 (copy_on_2 ∷ []) ∷ done_with [] ∷ [])
@@ -81,7 +83,8 @@ UnknownIsForwarded =
 abbrev pub beside_dr : State
 beside_dr = after (frame 2 hello_of_10_0_2_9 ∷ frame 2 host_packet ∷ [])
 
--- the incoming interface is that of the shared tree, and a packet of the host, on 2, leaves nowhere; yet the core is to hear of it
+-- the incoming interface is that of the shared tree, and a packet of the host, on 2, leaves nowhere; yet the core is to
+-- hear of it
 abbrev pub HostIsHeardOf : Type 0
 HostIsHeardOf =
     (option_map (λ (r : Row). r.incoming) (told beside_dr group host) ≡ Some (Some 0))

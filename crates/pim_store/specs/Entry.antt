@@ -1,4 +1,4 @@
--- What stands at a group, or at one of its sources, and the marks that it stands for. No public clause cites this module.
+-- The entry of a group, or of one of its sources, and the marks that it stands for. No public clause cites this module.
 use Rattle.std.specs.Int.Bits.{bit_or, bit_xor}
 use Rattle.std.specs.Prelude.{Bool, Box, None, Option, Some, cond, false, is_some, nat_lt, not, true, ℕ, ◌&&◌, ◌==◌, ◌^◌, ◌||◌, ◌≡◌}
 use Rattle.std.specs.Box.{box_value}
@@ -17,12 +17,12 @@ empty_set = record { mask = 0; tunnel = false }
 abbrev pub is_empty_set : Members → Bool
 is_empty_set s = (s.mask == 0) && not s.tunnel
 
--- with an interface, or without it
+-- A set of interfaces with one added or removed.
 unfoldable pub with_bit : ℕ → Bool → Members → Members
 with_bit i true s = record { mask = bit_or s.mask (2 ^ i); tunnel = s.tunnel }
 with_bit i false s = record { mask = bit_xor (bit_or s.mask (2 ^ i)) (2 ^ i); tunnel = s.tunnel }
 
--- no set has an interface from 120 on
+-- A set of interfaces with one added or removed; no set has an interface from 120 on.
 abbrev pub with_iface : ℕ → Bool → Members → Members
 with_iface i is_in s = with_bit i (is_in && nat_lt i 120) s
 
@@ -34,7 +34,7 @@ no_rare = record { branched = empty_set; pruned = empty_set; lost = empty_set; w
 abbrev pub is_no_rare : Rare → Bool
 is_no_rare r = is_empty_set r.branched && is_empty_set r.pruned && is_empty_set r.lost && is_empty_set r.won
 
--- those of a block of their own
+-- The sets of an entry's block; all empty where it has none.
 abbrev pub rare_of : {A : Type 0} → Option (Box Rare A) → Rare
 rare_of None = no_rare
 rare_of (Some block) = box_value block
@@ -70,7 +70,7 @@ marks_of e = record {
 
 -- ---- changes of marks
 
--- with a mark set, or not set, on an interface or for the whole router
+-- The marks with one set, or cleared, on an interface or for the whole router.
 abbrev pub with_mark : Mark → ℕ → Bool → Marks → Marks
 with_mark Joined i is_set m = record m { joined = with_iface i is_set m.joined }
 with_mark Branched i is_set m = record m { branched = with_iface i is_set m.branched }
@@ -92,7 +92,7 @@ is_plain _ = true
 abbrev pub with_plain : Mark → ℕ → Bool → Marks → Marks
 with_plain x i is_set m = cond (is_plain x) (with_mark x i is_set m) m
 
--- without one mark, or two
+-- The marks without one, or without two.
 abbrev pub without_either : Mark → Option Mark → ℕ → Marks → Marks
 without_either first None i m = with_mark first i false m
 without_either first (Some second) i m = with_mark second i false (with_mark first i false m)
@@ -103,6 +103,6 @@ are_none m =
     is_empty_set m.joined && is_no_rare (rare_in m)
     && not (is_some m.join_timer || m.has_override_timer || m.has_source || m.has_register)
 
--- the marks, if any is set
+-- The marks if any is set, else none.
 abbrev pub kept : Marks → Option Marks
 kept m = cond (are_none m) None (Some m)

@@ -18,16 +18,16 @@ use Rattle.pim_model.specs.Tables.{Table, keys_in}
 use Rattle.pim_model.specs.Timers.{Ending, endings, register_end}
 
 pub record PimTables : Type 0 where
-  -- by interface, group and source
+  -- under keys of interface, group and source
   pub downstream : Table DownstreamRow
   pub asserts : Table AssertRow
-  -- of the whole router, by group and source
+  -- under keys of the whole router, by group and source
   pub join_timers : Table JoinTimerRow
   pub override_timers : Table OverrideTimerRow
   pub sources : Table SourceRow
   pub registers : Table RegisterRow
 
--- those of a state
+-- The PIM facts of a state.
 abbrev pub pim_tables : State → PimTables
 pim_tables s = record {
   downstream = s.downstream;
@@ -59,7 +59,7 @@ is_assert_key k = nat_lt (iface_in k) 120 && not k.rpt
 abbrev pub is_source_key : Key → Bool
 is_source_key k = (iface_in k == 0) && not k.rpt && is_some k.source
 
--- they stand under such keys, and the keys rise
+-- Asserts, sources and registers are under keys of their kind, and the keys rise.
 pub record AreKeyed (f : PimTables) : Type 0 where
   pub asserts : list_all (λ e. is_assert_key e.0) f.asserts ≡ true
   pub sources : list_all (λ e. is_source_key e.0) f.sources ≡ true
@@ -68,15 +68,15 @@ pub record AreKeyed (f : PimTables) : Type 0 where
   pub sources_rise : IsStrictlySortedBy key_cmp (keys_in f.sources)
   pub registers_rise : IsStrictlySortedBy key_cmp (keys_in f.registers)
 
--- in Prune, and not Prune-Pending
+-- The downstream state is Prune, and not Prune-Pending.
 abbrev pub is_prune : Option DownstreamRow → Bool
 is_prune row = option_map_or (λ (r : DownstreamRow). is_none r.pending) row false
 
--- a source's row once its keepalive timer ends then, by the row that is there
+-- A source's row once its keepalive timer expires at the timestamp, by the row that is there.
 abbrev pub kept_alive : ℕ → Option SourceRow → SourceRow
 kept_alive end row = record { keepalive = Some end; spt = option_map_or (λ (r : SourceRow). r.spt) row false }
 
--- a Join timer that is lowered to an end
+-- A Join timer that is lowered to a timestamp.
 abbrev pub lowered_join_timer : ℕ → JoinTimerRow → Option JoinTimerRow
 lowered_join_timer end row = Some (record { end = min row.end end })
 
@@ -90,7 +90,7 @@ stored_keys f =
 unfoldable pub counted_facts : PimTables → ℕ
 counted_facts f = length f.downstream + length f.asserts + length f.sources
 
--- what ends in the rows
+-- The timers that run in the rows.
 unfoldable pub stored_endings : PimTables → List Ending
 stored_endings f =
     endings TimerKind.PrunePending (λ (r : DownstreamRow). r.pending) f.downstream

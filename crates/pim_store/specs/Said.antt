@@ -1,4 +1,4 @@
--- What the marks of a group, or of a source, say of its facts. No public clause cites this module.
+-- What the marks of a group, or of a source, mean for its facts. No public clause cites this module.
 use Rattle.std.specs.Option.{option_map_or}
 use Rattle.std.specs.Prelude.{Bool, None, Option, Some, cond, false, is_some, nat_lt, not, option_map, true, ℕ, ◌&&◌, ◌==◌, ◌≡◌}
 use Rattle.pim_ip.specs.declared.addr.Addr.{Addr}
@@ -35,7 +35,7 @@ tunnel_in Lost m = (m.lost).tunnel
 tunnel_in Won m = (m.won).tunnel
 tunnel_in _ m = false
 
--- the mark is the one that is set, and on the interface that it is set on
+-- The mark is the same as the one that is set, on the same interface.
 abbrev pub is_set_by : Mark → ℕ → Mark → ℕ → Bool
 is_set_by Joined i Joined q = q == i
 is_set_by Branched i Branched q = q == i
@@ -49,7 +49,7 @@ is_set_by _ i _ q = false
 
 -- ---- the facts that they are about
 
--- facts of an interface, and of the whole router
+-- The interface of the fact that a mark is about; facts of the whole router have number 0.
 abbrev pub iface_at : Mark → ℕ → ℕ
 iface_at Joined i = i
 iface_at Branched i = i
@@ -58,21 +58,21 @@ iface_at Lost i = i
 iface_at Won i = i
 iface_at _ i = 0
 
--- facts of (S,G,rpt)
+-- The mark is about facts of (S,G,rpt).
 abbrev pub is_rpt : Mark → Bool
 is_rpt Branched = true
 is_rpt Pruned = true
 is_rpt HasOverrideTimer = true
 is_rpt _ = false
 
--- the key of the fact
+-- The key of the fact that the mark is about.
 abbrev pub place : Mark → ℕ → ℕ → Option ℕ → Key
 place x i g s = key_of (iface_at x i) g s (is_rpt x)
 
 abbrev pub source_bits : Option Addr → Option ℕ
 source_bits source = option_map (λ (a : Addr). a.bits) source
 
--- the fact under the key is the one that the mark is about, if its group and its source are
+-- The fact under the key is of the kind and on the interface that the mark is about.
 abbrev pub is_here : Mark → ℕ → ℕ → Bool
 is_here Joined i n = i == n
 is_here Branched i n = i == n
@@ -97,7 +97,7 @@ seen_in x i (Some m) = seen x m i
 abbrev pub said : Table Marks → Mark → ℕ → ℕ → Option ℕ → Bool
 said t x i g s = seen_in x i (row_at t (mark_key g s))
 
--- the Join timer that runs there
+-- The Join timer that the entry has.
 abbrev pub timer_in : Option Marks → Option JoinTimerRow
 timer_in None = None
 timer_in (Some m) = m.join_timer
@@ -106,7 +106,7 @@ timer_in (Some m) = m.join_timer
 unfoldable pub timers_in : Table Marks → Table JoinTimerRow
 timers_in marks = rows_in (λ (m : Marks). m.join_timer) marks
 
--- under the key of a group or a source some mark is set, or a Join timer runs, and no set has the tunnel
+-- An entry under the key of a group or a source has some mark set, or a Join timer, and no set has the tunnel.
 pub record IsEntry (k : Key) (m : Marks) : Type 0 where
   pub placed : k ≡ entry_key k.group k.source
   pub speaks : ((x : Mark) (i : ℕ) → seen x m i ≡ false) → m.join_timer ≡ None → ⊥
@@ -120,16 +120,16 @@ pub record AreLookedUp (marks : Table Marks) (k : Key) (old new : ℕ) : Type 0 
   pub entries : AreEntries marks
   pub visited : new ≡ raised old (nodes_visited (keys_in marks) k.group k.source)
 
--- the Join timer under the key is this, or none, and each other one is as it was
+-- The Join timer under the key is the given one, or none, and each other one is unchanged.
 abbrev pub WritesTimer : (before after : Table Marks) → Key → Option JoinTimerRow → Type 0
 WritesTimer before after k row =
     (q : Key) → timer_in (row_at after q) ≡ cond (same_key q k) row (timer_in (row_at before q))
 
--- all marks are as they were
+-- All marks are unchanged.
 abbrev pub KeepsMarks : (before after : Table Marks) → Type 0
 KeepsMarks before after = (x : Mark) (i g : ℕ) (s : Option ℕ) → said after x i g s ≡ said before x i g s
 
--- a value is written for a group or a source, or taken away where nothing is marked
+-- The marks of a group or a source are replaced, or its entry is removed where nothing is marked.
 abbrev pub Writes : (before after : Table Marks) → Key → Marks → Type 0
 Writes before after k m =
     (x : Mark) (i g : ℕ) (s : Option ℕ)
@@ -137,7 +137,7 @@ Writes before after k m =
 
 -- ---- what the rows of a table tell
 
--- which keys the rows have
+-- The keys that rows of an interface have.
 abbrev pub is_of_iface : Key → Bool
 is_of_iface k = nat_lt (iface_in k) 120
 
@@ -151,27 +151,27 @@ abbrev pub is_rpt_of_router : Key → Bool
 is_rpt_of_router k = (iface_in k == 0) && k.rpt
 
 module _ {R : Type 0} (tells : Mark → Bool) (says : Mark → R → Bool) where
-  -- nothing is said where there is no row
+  -- The row sets the mark; no row sets none.
   abbrev pub row_says : Mark → Option R → Bool
   row_says x row = option_map_or (says x) row false
 
-  -- a row says of each mark that it tells what another row says
+  -- Both rows set the same marks.
   abbrev pub SaysAlike : R → R → Type 0
   SaysAlike row before = (x : Mark) → tells x ≡ true → says x row ≡ says x before
 
-  -- the marks that the row under a key tells are as it says, and no other one changed
+  -- The marks that the row under a key can set are as it says, and no other mark changed.
   abbrev pub SetsMarks : (before after : Table Marks) → Key → Option R → Type 0
   SetsMarks before after k row =
       (x : Mark) (i g : ℕ) (s : Option ℕ)
       → said after x i g s ≡ cond (tells x && same_key (place x i g s) k) (row_says x row) (said before x i g s)
 
-  -- the marks are as the rows say, and each row is under a key of its kind
+  -- The marks are as the rows say, and each row is under a key of its kind.
   pub record IsTold (fits : Key → Bool) (marks : Table Marks) (rows : Table R) : Type 0 where
     pub told : (x : Mark) → tells x ≡ true → (i g : ℕ) (s : Option ℕ)
         → said marks x i g s ≡ row_says x (row_at rows (place x i g s))
     pub fit : (k : Key) → has_row rows k ≡ true → fits k ≡ true
 
--- no mark changed but those that are told
+-- Only marks that pass the test changed.
 abbrev pub KeepsOtherMarks : (Mark → Bool) → (before after : Table Marks) → Type 0
 KeepsOtherMarks tells before after =
     (x : Mark) → tells x ≡ false → (i g : ℕ) (s : Option ℕ) → said after x i g s ≡ said before x i g s

@@ -1,4 +1,4 @@
--- A store: its tables, and what stands at groups and sources. No public clause cites this module.
+-- A store: its tables, and the entries of groups and sources. No public clause cites this module.
 use Rattle.std.specs.Prelude.{◌≡◌}
 use Rattle.pim_model.specs.Tables.{Table}
 use Rattle.pim_store.specs.PimTables.{PimTables}
@@ -7,7 +7,7 @@ use Rattle.pim_store.specs.Telling.{assert_says, assert_table, downstream_says, 
 use Rattle.pim_store.specs.declared.marks.Marks.{Marks}
 use Rattle.pim_store.specs.declared.store.Store.TheInside.{Inside}
 
--- the Join timers are taken out of the index
+-- The tables of a store; the Join timers are those of the index.
 abbrev pub tables_of : Inside → PimTables
 tables_of s = record {
   downstream = s.downstream;
@@ -18,7 +18,7 @@ tables_of s = record {
   registers = s.registers;
 }
 
--- the marks are as the rows of all tables say, and the Join timers stand beside them
+-- The marks are as the rows of all tables say, and the Join timers are in the same entries.
 pub record IsIndexed (marks : Table Marks) (f : PimTables) : Type 0 where
   pub downstream : IsTold (is_told_by downstream_table) downstream_says is_of_iface marks f.downstream
   pub asserts : IsTold (is_told_by assert_table) assert_says is_plain_of_iface marks f.asserts

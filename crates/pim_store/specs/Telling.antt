@@ -1,4 +1,4 @@
--- Which marks the rows of each table tell, and what a row says of them. No public clause cites this module.
+-- Which marks the rows of each table set. No public clause cites this module.
 use Rattle.std.specs.Prelude.{Bool, None, Option, Some, false, is_none, true, ℕ, ◌==◌, ◌||◌}
 use Rattle.pim_types.specs.declared.fact.AssertRow.{AssertRow}
 use Rattle.pim_types.specs.declared.fact.DownstreamRow.{DownstreamRow}
@@ -15,7 +15,7 @@ is_second (Some mark) i x q = is_set_by mark i x q
 abbrev pub is_set_by_either : Mark × Option Mark → ℕ → Mark → ℕ → Bool
 is_set_by_either marks i x q = is_set_by marks.0 i x q || is_second marks.1 i x q
 
--- the table whose rows tell a mark: each has a number
+-- Each table has a number; `table_of` is that of the table whose rows set a mark.
 abbrev pub downstream_table : ℕ
 downstream_table = 0
 
@@ -53,6 +53,6 @@ assert_says Lost row = is_loser (Some row)
 assert_says Won row = is_winner (Some row)
 assert_says _ row = false
 
--- that it is there
+-- A row sets the mark by its being there.
 abbrev pub is_there : {R : Type 0} → Mark → R → Bool
 is_there x row = true

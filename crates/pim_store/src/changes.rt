@@ -1,10 +1,10 @@
-//! Changes of a row that is there.
+//! Changes of a row that exists.
 ghost use Rattle.std.specs.Prelude.{Some, min};
 
 use pim_tables::Change;
 use pim_types::fact::{JoinTimerRow, SourceRow};
 
-// KAT(S,G) ends at this moment, in ms.
+// Sets when KAT(S,G) expires, in ms.
 #[derive(Clone, Copy)]
 pub(crate) struct KeepAlive {
     pub(crate) end: u64,
@@ -21,7 +21,7 @@ impl Change<SourceRow> for KeepAlive {
     }
 }
 
-// The end of a Join timer is lowered, in ms.
+// Lowers when a Join timer expires, in ms.
 #[derive(Clone, Copy)]
 pub(crate) struct Lowering {
     pub(crate) end: u64,

@@ -1,4 +1,4 @@
-//! What stands at a group, or at one of its sources.
+//! The entry of a group, or of one of its sources.
 ghost use Rattle.std.specs.Prelude.{◌≡◌, IfOk, false};
 ghost use Rattle.pim_store.specs.Entry.{are_none, kept, with_mark, with_plain, without_either};
 
@@ -11,7 +11,7 @@ use pim_types::fact::JoinTimerRow;
 use std::alloc::{AllocError, Global};
 use std::marker::Model;
 
-// What there is of (*,G), or of (S,G) with its (S,G,rpt). Most have no block.
+// The entry of (*,G), or of (S,G) with its (S,G,rpt). Most entries have no block.
 pub struct Entry {
     joined: IfSet,
     rare: Option<Box<Rare>>,
@@ -47,7 +47,7 @@ impl Model for Entry {
 }
 
 impl Entry {
-    // One with these marks. An error is want of memory.
+    // An entry with these marks. The error is want of memory.
     pub(crate) fn of(alloc: Global, marks: Marks) -> Result<Entry, AllocError>
         ensures { IfOk result (λ entry. entry ≡ marks) }
     {
@@ -66,7 +66,7 @@ impl Entry {
         })
     }
 
-    // Its marks.
+    // The marks of the entry.
     pub(crate) fn marks(&self) -> Marks
         ensures { result ≡ self.now }
     {
@@ -84,7 +84,7 @@ impl Entry {
         }
     }
 
-    // Its Join timer.
+    // The Join timer of the entry.
     pub(crate) fn join_timer(&self) -> Option<JoinTimerRow>
         ensures { result ≡ (self.now).join_timer }
     {
@@ -100,7 +100,7 @@ impl Entry {
         is_empty_set(self.joined) && self.rare.is_none() && !has_flags
     }
 
-    // Sets or clears the mark, if every entry has room for it, on the interface or for the whole router.
+    // Sets or clears the mark, if it is one that every entry has room for, on the interface or for the whole router.
     fn set(&mut self, mark: Mark, iface: IfaceId, is_set: bool)
         ensures { self.new ≡ with_plain mark iface.number is_set self.old }
     {
@@ -125,7 +125,7 @@ impl Entry {
     }
 }
 
-// A mark that every entry has room for is set, or cleared.
+// Sets or clears a mark that every entry has room for.
 #[derive(Clone, Copy)]
 pub(crate) struct Marking {
     pub(crate) mark: Mark,
@@ -142,7 +142,7 @@ impl Alter<Entry> for Marking {
     }
 }
 
-// One mark is cleared, or two.
+// Clears one mark or two.
 #[derive(Clone, Copy)]
 pub(crate) struct Unmarking {
     pub(crate) first: Mark,

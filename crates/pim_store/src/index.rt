@@ -46,7 +46,7 @@ impl Model for Index {
     ghost invariant = { λ a. AreKept a.entries a.ends a.timers };
 }
 
-// Whether the row says this of the mark; nothing is said where there is no row.
+// Whether the row sets the mark; no row sets none.
 pub(crate) fn row_says<R: TellsMarks>(row: Option<R>, mark: Mark) -> bool
     ensures { result ≡ row_says R.tells R.says mark row }
 {
@@ -56,7 +56,7 @@ pub(crate) fn row_says<R: TellsMarks>(row: Option<R>, mark: Mark) -> bool
     }
 }
 
-// The marks of the key's group, or of its source, as the row under the key says.
+// The marks of the key's group, or of its source, with those that the row under the key sets.
 fn marked<R: TellsMarks>(marks: Marks, key: Key, row: Option<R>) -> Marks
     requires { IsTrue (R.fits key) }
     ensures marks { (x : MarkValue) (i : ℕ)
@@ -72,7 +72,7 @@ fn marked<R: TellsMarks>(marks: Marks, key: Key, row: Option<R>) -> Marks
     }
 }
 
-// Makes these what there is of a group, or of a source. An error is want of memory, and then nothing has changed.
+// Replaces the entry of a group, or of a source. The error is want of memory, and then nothing has changed.
 fn write(
     alloc: Global,
     entries: &mut SourceTrie<Entry>,
@@ -95,8 +95,8 @@ fn write(
     entries.put(group, source, entry)
 }
 
-// Arms the end of the Join timer that is to run under the key, if one is, beside that of the one before. An error is want of
-// memory.
+// Arms the timer queue for the Join timer that is to run under the key, if one is; the earlier timer's entry is kept.
+// The error is want of memory.
 fn arm_timer(
     ends: &mut EndQueue<JoinTimerRow>,
     key: Key,
@@ -114,8 +114,9 @@ fn arm_timer(
     }
 }
 
-// Arms the end of the Join timer that these have, if one, beside that of the one before, and makes these what there is of the
-// key's group, or of its source; what is left is to settle. An error is want of memory, and then no entry has changed.
+// Arms the timer queue for the Join timer in the marks, if there is one, keeping the earlier timer's entry, and
+// replaces the entry of the key's group, or of its source; the queue is still to be settled. The error is want of
+// memory, and then no entry has changed.
 fn write_armed(
     alloc: Global,
     entries: &mut SourceTrie<Entry>,
@@ -136,17 +137,17 @@ fn write_armed(
     ensures rise { IsStrictlySortedBy key_cmp (keys_in (timers_in entries.old)) }
     ensures beside { AreTimersBeside ends.new entries.new key }
 {
-    // It tells that the keys rise.
+    // For the proof: the keys rise.
     let _ = entries.is_empty();
     arm_timer(ends, key, before, marks.join_timer)?;
     let written = write(alloc, entries, key.group, key.source, marks);
-    // The keys still rise.
+    // For the proof: the keys still rise.
     let _ = entries.is_empty();
     written
 }
 
 impl Index {
-    // No marks; it takes no memory.
+    // An index without marks. Takes no memory.
     pub(crate) fn new(alloc: Global) -> Index
         ensures { result ≡ [] }
     {
@@ -162,7 +163,7 @@ impl Index {
     pub(crate) fn groups(&self) -> Groups<'_, Entry>
         ensures groups { result ≡ ascending (map group_in (keys_in self.now)) }
 
-        // Of every index.
+        // This holds of every index.
         ensures entries { AreEntries self.now }
     {
         self.entries.groups()
@@ -173,11 +174,11 @@ impl Index {
         ensures entries { result ≡ filter (λ e. is_of_group group.bits e.0) self.now }
         ensures visited { meter.new ≡ raised meter.old (nodes_visited (keys_in self.now) group None) }
 
-        // Of every index.
+        // This holds of every index.
         ensures ascending { IsStrictlySortedBy key_cmp (keys_in self.now) }
         ensures all { AreEntries self.now }
     {
-        // It tells that the keys rise.
+        // For the proof: the keys rise.
         let _ = self.entries.is_empty();
         self.entries.walk(group, meter)
     }
@@ -190,11 +191,11 @@ impl Index {
         ensures row { result.join_timer ≡ row_at (timers_in self.now) (entry_key group source) }
         ensures visited { meter.new ≡ raised meter.old (nodes_visited (keys_in self.now) group source) }
 
-        // Of every index.
+        // This holds of every index.
         ensures ascending { IsStrictlySortedBy key_cmp (keys_in self.now) }
         ensures entries { AreEntries self.now }
     {
-        // It tells that the keys rise.
+        // For the proof: the keys rise.
         let _ = self.entries.is_empty();
         match self.entries.get(group, source, meter) {
             Some(entry) => entry.marks(),
@@ -209,7 +210,7 @@ impl Index {
 
         ensures visited { meter.new ≡ raised meter.old (nodes_visited (keys_in self.now) group (Some source)) }
 
-        // Of every index.
+        // This holds of every index.
         ensures entries { AreEntries self.now }
     {
         match self.entries.get(group, Some(source), meter) {
@@ -218,8 +219,8 @@ impl Index {
         }
     }
 
-    // Makes these what there is of the key's group, or of its source, whose Join timer stays. An error is want of memory, and then
-    // nothing has changed.
+    // Replaces the entry of the key's group, or of its source, whose Join timer is unchanged. The error is want of
+    // memory, and then nothing has changed.
     fn keep(&mut self, key: Key, marks: Marks) -> Result<(), AllocError>
         requires bare { (x : MarkValue) → tunnel_in x marks ≡ false }
         requires timer { marks.join_timer ≡ timer_in (row_at self.old (entry_key key.group key.source)) }
@@ -227,16 +228,16 @@ impl Index {
         ensures timers { timers_in self.new ≡ timers_in self.old }
         ensures err { OnErr result (self.new ≡ self.old) }
     {
-        // It tells that the keys rise.
+        // For the proof: the keys rise.
         let _ = self.entries.is_empty();
         let written = write(self.alloc, &mut self.entries, key.group, key.source, marks);
-        // The keys still rise.
+        // For the proof: the keys still rise.
         let _ = self.entries.is_empty();
         written
     }
 
-    // Where there are marks of the key's group, or of its source, sets or clears one of them, if every entry has room for it;
-    // whether there are any.
+    // Sets or clears a mark of the key's group, or of its source, if that has an entry and every entry has room for the
+    // mark. The result is whether there is an entry.
     fn set_plain(&mut self, key: Key, mark: Mark, is_set: bool, meter: &mut Meter) -> bool
         ensures there { result ≡ has_row self.old (entry_key key.group key.source) }
         ensures marks { (m : MarksValue) → row_at self.old (entry_key key.group key.source) ≡ Some m
@@ -245,7 +246,7 @@ impl Index {
         ensures timers { timers_in self.new ≡ timers_in self.old }
         ensures visited { AreLookedUp self.old key meter.old meter.new }
     {
-        // It tells that the keys rise.
+        // For the proof: the keys rise.
         let _ = self.entries.is_empty();
         let marking = Marking {
             mark,
@@ -255,8 +256,8 @@ impl Index {
         self.entries.alter(key.group, key.source, marking, meter)
     }
 
-    // Marks what the row says. An error is want of memory, and then nothing has changed. A mark that not every entry has room
-    // for may want some, so that the entry is made anew.
+    // Sets the marks that the row sets. The error is want of memory, and then nothing has changed. A mark that not
+    // every entry has room for may need memory: the entry is then made anew.
     pub(crate) fn mark<R: TellsMarks>(
         &mut self,
         key: Key,
@@ -282,7 +283,7 @@ impl Index {
         self.keep(key, marks)
     }
 
-    // Takes the marks away that a row under the key made; it takes no memory.
+    // Clears the marks that a row under the key set. Takes no memory.
     pub(crate) fn unmark<R: TellsMarks>(&mut self, key: Key, meter: &mut Meter)
         requires { IsTrue (R.fits key) }
         ensures marks { SetsMarks R.tells R.says self.old self.new key None }
@@ -291,7 +292,7 @@ impl Index {
         ensures rises { meter.old ≤ meter.new }
     {
         let (first, second) = R::told(key);
-        // It tells that the keys rise.
+        // For the proof: the keys rise.
         let _ = self.entries.is_empty();
         let unmarking = Unmarking {
             first,
@@ -310,12 +311,12 @@ impl Index {
         marks.join_timer
     }
 
-    // Which Join timer ends first, and when (ms).
+    // Which Join timer expires first, and when, in ms.
     pub(crate) fn next_timer(&self) -> Option<(u64, Timer)>
         ensures { result ≡ option_map due_of (first_by is_ending_first
             (row_endings ⟦<JoinTimerRow as Ends>⟧.kinds ⟦<JoinTimerRow as Ends>⟧.ends (timers_in self.now))) }
     {
-        // It tells that the keys rise.
+        // For the proof: the keys rise.
         let _ = self.entries.is_empty();
         self.ends.first()
     }
@@ -327,8 +328,8 @@ impl Index {
         JoinTimerRows::among(self.entries.iter())
     }
 
-    // Sets the Join timer of the key's group, or of its source, or takes it away, where this is what there is of it. An error
-    // is want of memory, and then no timer has changed.
+    // Sets or removes the Join timer of the key's group, or of its source, whose entry is given. The error is want of
+    // memory, and then no timer has changed.
     fn set_known(
         &mut self,
         key: Key,
@@ -362,8 +363,8 @@ impl Index {
         set
     }
 
-    // Sets the Join timer of the key's group, or of its source, or takes it away. An error is want of memory, and then no timer
-    // has changed. The meter rises by the nodes that lead there.
+    // Sets or removes the Join timer of the key's group, or of its source. The error is want of memory, and then no
+    // timer has changed. The meter rises by the nodes that lead there.
     pub(crate) fn set_timer(
         &mut self,
         key: Key,
@@ -379,8 +380,8 @@ impl Index {
         self.set_known(key, marks, row)
     }
 
-    // Changes the Join timer under the key, where there is one. An error is want of memory, and then none has changed. The meter
-    // rises by the nodes that lead to the key's group, or to its source.
+    // Changes the Join timer under the key, if there is one. The error is want of memory, and then no timer has
+    // changed. The meter rises by the nodes that lead to the key's group, or to its source.
     pub(crate) fn change_timer<C: Change<JoinTimerRow>>(
         &mut self,
         key: Key,

@@ -1,4 +1,4 @@
-//! The Join timers: they stand in the index, and their ends in a queue beside it.
+//! The Join timers: they are in the entries of the index, and a queue has when they expire.
 ghost use Rattle.std.specs.Prelude.{◌≡◌, ◌+◌, IfSome, OnErr, OnOk, cond, is_some};
 ghost use Rattle.std.specs.Iterator.{YieldsFirst, item_count};
 ghost use Rattle.pim_source_trie.specs.Entries.{entry_key};
@@ -38,7 +38,7 @@ impl<'a> Model for JoinTimerRows<'a> {
 }
 
 impl<'a> JoinTimerRows<'a> {
-    // Those of all entries.
+    // The Join timers of all entries.
     pub(crate) fn among(entries: AllEntries<'a, Entry>) -> Self
         ensures { result ≡ timers_in entries.entry }
     {
@@ -87,7 +87,7 @@ impl<'a> Model for GroupJoinTimers<'a> {
 }
 
 impl<'a> GroupJoinTimers<'a> {
-    // Those of the entries of a group.
+    // The Join timers of the entries of a group.
     pub(crate) fn among(entries: Entries<'a, Entry>) -> Self
         ensures { result ≡ timers_in entries.entry }
     {
@@ -124,15 +124,15 @@ pub(crate) fn timer_key(key: Key) -> Key
     }
 }
 
-// Whether the key is that of a group, or of a source, of the whole router.
+// Whether the key is one of the whole router, of a group or of a source.
 pub(crate) fn is_placed(key: Key) -> bool
     ensures { result ≡ same_key key (entry_key key.group key.source) }
 {
     key == timer_key(key)
 }
 
-// The Join timers among the entries, as the queue of their ends asks for them. What it asks for an end when it drops an entry
-// of its own that is out of date is not counted.
+// The Join timers in the entries, as the queue of their expiries looks them up. Look-ups that the queue does to drop
+// outdated entries of its own aren't counted.
 pub(crate) struct Lent<'a> {
     entries: &'a SourceTrie<Entry>,
     count: usize,
@@ -162,7 +162,7 @@ impl<'a> Model for Lent<'a> {
 }
 
 impl<'a> Lent<'a> {
-    // Those of the entries, which are so many.
+    // The Join timers of the entries, `count` of them.
     pub(crate) fn of(entries: &'a SourceTrie<Entry>, count: usize) -> Self
         requires { AreLent entries.now count }
         ensures { result ≡ timers_in entries.now }
@@ -179,7 +179,7 @@ impl<'a> Holding<JoinTimerRow> for Lent<'a> {
     }
 
     fn recall_rise(&self) {
-        // It tells that the keys rise.
+        // For the proof: the keys rise.
         let _ = self.entries.is_empty();
     }
 
@@ -188,7 +188,7 @@ impl<'a> Holding<JoinTimerRow> for Lent<'a> {
     }
 
     fn at(&self, key: Key) -> Option<JoinTimerRow> {
-        // It tells that the keys rise.
+        // For the proof: the keys rise.
         let _ = self.entries.is_empty();
         if !is_placed(key) {
             return None;
@@ -207,7 +207,8 @@ impl<'a> Holding<JoinTimerRow> for Lent<'a> {
     }
 }
 
-// How many there are after one went, if there was one, and one came, if there is one; `None` where they are too many to count.
+// How many timers there are after one was removed, if there was one, and one added, if there is one; `None` where they
+// are too many to count.
 pub(crate) fn counted(
     count: usize,
     before: Option<JoinTimerRow>,

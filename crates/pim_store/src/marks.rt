@@ -1,4 +1,4 @@
-//! What there is of a group, or of one of its sources.
+//! What is marked of a group, or of one of its sources.
 ghost use Rattle.std.specs.Prelude.{◌≡◌, ◌||◌, ℕ, None, false, is_some};
 ghost use Rattle.pim_store.specs.Entry.{are_none, empty_set, is_empty_set, is_plain, with_iface, with_mark};
 ghost use Rattle.pim_store.specs.Said.{seen, tunnel_in};
@@ -9,23 +9,23 @@ use pim_ifset::IfSet;
 use pim_types::IfaceId;
 use pim_types::fact::JoinTimerRow;
 
-/// What there is of (*,G), or of (S,G) with its (S,G,rpt). No set has the register tunnel.
+/// The marks of (*,G), or of (S,G) with its (S,G,rpt). No set has the register tunnel.
 #[derive(Clone, Copy)]
 pub struct Marks {
     /// The interfaces with a downstream state of (*,G), or of (S,G): joins(*,G), joins(S,G).
     pub joined: IfSet,
-    /// Those with a downstream state of (S,G,rpt).
+    /// The interfaces with a downstream state of (S,G,rpt).
     pub branched: IfSet,
-    /// Those whose downstream state of (S,G,rpt) is in Prune: prunes(S,G,rpt).
+    /// The interfaces whose downstream state of (S,G,rpt) is Prune: prunes(S,G,rpt).
     pub pruned: IfSet,
-    /// Those with an assert that was lost.
+    /// The interfaces with an assert that was lost.
     pub lost: IfSet,
-    /// Those with an assert that was won.
+    /// The interfaces with an assert that was won.
     pub won: IfSet,
     /// The Join timer.
     pub join_timer: Option<JoinTimerRow>,
     pub has_override_timer: bool,
-    /// A row of the source: its keepalive timer runs, or its SPTbit is set.
+    /// Whether the source has a row: its keepalive timer runs, or its SPTbit is set.
     pub has_source: bool,
     pub has_register: bool,
 }
@@ -44,7 +44,7 @@ pub enum Mark {
 }
 
 impl Mark {
-    // Whether every entry has room for it.
+    // Whether every entry has room for the mark.
     pub(crate) fn is_plain(self) -> bool
         ensures { result ≡ is_plain self }
     {
@@ -72,7 +72,7 @@ pub(crate) fn is_empty_set(set: IfSet) -> bool
     set.is_empty()
 }
 
-// The set with the interface, if a set can have it, or without it.
+// The set with the interface, if a set can hold it, or without it.
 pub(crate) fn put(set: IfSet, iface: IfaceId, is_in: bool) -> IfSet
     ensures { result ≡ with_iface iface.number is_in set }
 {
@@ -86,7 +86,7 @@ pub(crate) fn put(set: IfSet, iface: IfaceId, is_in: bool) -> IfSet
 }
 
 impl Marks {
-    // No mark is set.
+    // Marks of which none is set.
     pub(crate) fn none() -> Marks
         ensures silent { (x : MarkValue) (i : ℕ) → seen x result i ≡ false }
         ensures bare { (x : MarkValue) → tunnel_in x result ≡ false }
@@ -106,7 +106,7 @@ impl Marks {
         }
     }
 
-    // Whether there is something of the whole router.
+    // Whether a mark of the whole router is set.
     fn is_of_router(&self) -> bool
         ensures { result ≡ (is_some (self.now).join_timer || (self.now).has_override_timer
             || (self.now).has_source || (self.now).has_register) }
@@ -122,7 +122,7 @@ impl Marks {
         is_empty_set(self.joined) && Rare::of(*self).is_empty() && !self.is_of_router()
     }
 
-    // With the mark set, or not set, on the interface or for the whole router.
+    // The marks with one set, or cleared, on the interface or for the whole router.
     pub(crate) fn with(self, mark: Mark, iface: IfaceId, is_set: bool) -> Marks
         ensures { result ≡ with_mark mark iface.number is_set self }
     {

@@ -16,7 +16,7 @@ pub(crate) struct Rare {
 }
 
 impl Rare {
-    // None of them.
+    // The sets, all empty.
     fn none() -> Rare
         ensures { result ≡ no_rare }
     {
@@ -28,7 +28,7 @@ impl Rare {
         }
     }
 
-    // Those of the marks.
+    // The sets of the marks.
     pub(crate) fn of(marks: Marks) -> Rare
         ensures { result ≡ rare_in marks }
     {
@@ -40,7 +40,7 @@ impl Rare {
         }
     }
 
-    // Those of a block, if there is one.
+    // The sets of a block; all empty where there is none.
     pub(crate) fn within(block: &Option<Box<Rare>>) -> Rare
         ensures { result ≡ rare_of block.now }
     {
@@ -50,7 +50,7 @@ impl Rare {
         }
     }
 
-    // Whether all are empty.
+    // Whether all sets are empty.
     pub(crate) fn is_empty(self) -> bool
         ensures { result ≡ is_no_rare self }
     {
@@ -58,7 +58,7 @@ impl Rare {
         states && is_empty_set(self.lost) && is_empty_set(self.won)
     }
 
-    // Clears the mark, if it is one of theirs, on the interface.
+    // Clears the mark on the interface, if these sets have it.
     fn clear(&mut self, mark: Mark, iface: IfaceId)
         ensures { self.new ≡ without_rare mark iface.number self.old }
     {
@@ -72,7 +72,7 @@ impl Rare {
     }
 }
 
-// The same of a block, if there is one. It is given back where all its sets are empty then.
+// Clears the mark on the interface in a block, if there is one. A block whose sets are then all empty is freed.
 pub(crate) fn clear(block: &mut Option<Box<Rare>>, mark: Mark, iface: IfaceId)
     ensures same { rare_of block.new ≡ without_rare mark iface.number (rare_of block.old) }
     ensures needed { IsNeeded block.new }

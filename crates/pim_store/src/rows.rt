@@ -1,4 +1,4 @@
-//! A table's rows, changed with the marks that they tell.
+//! A table's rows, changed together with the marks that they set.
 ghost use Rattle.std.specs.Prelude.{◌≡◌, ◌≤◌, ◌&&◌, ℕ, None, Some, IfOk, IsTrue, OnOk, false, true};
 ghost use Rattle.pim_model.specs.Tables.{change_row, drop_at, drop_where, has_row, put, row_at, set_row};
 ghost use Rattle.pim_types.specs.Keys.{is_on};
@@ -12,7 +12,7 @@ use pim_tables::{Change, Keeping, Timed, To};
 use pim_types::{IfaceId, Key};
 use std::alloc::AllocError;
 
-// Whether the row says what the one before says.
+// Whether both rows set the same marks.
 fn says_alike<R: TellsMarks>(key: Key, before: R, row: R) -> bool
     requires { IsTrue (R.fits key) }
     ensures alike { IsTrue result → (x : MarkValue) (i : ℕ) → (R.tells x && is_about x i key) ≡ true
@@ -29,9 +29,9 @@ fn says_alike<R: TellsMarks>(key: Key, before: R, row: R) -> bool
     }
 }
 
-// Changes the row under the key, where there is one, in its place; whether there is one. The row is looked up once, or not at
-// all where the hint is its place; whatever the hint is, the same is done. An error is want of memory. The meter rises by the
-// nodes that lead to the marks, where the row says something else than the one before.
+// Changes the row under the key in its place, if there is one. The result is whether there is one. The row is looked up
+// once, or not at all where the hint is its place; the result doesn't depend on the hint. The error is want of memory.
+// The meter rises by the nodes that lead to the marks, if the new row sets other marks than the old one.
 pub(crate) fn update_row<R: TellsMarks, K: Keeping<R>, C: Change<R>>(
     rows: &mut Timed<R, K>,
     index: &mut Index,
@@ -53,7 +53,7 @@ pub(crate) fn update_row<R: TellsMarks, K: Keeping<R>, C: Change<R>>(
     ensures meter { IfOk result (λ there. there ≡ false → meter.new ≡ meter.old) }
     ensures rises { OnOk result (meter.old ≤ meter.new) }
 {
-    // A key stands once.
+    // For the proof: a key is listed once.
     rows.recall_rising();
     let found = match rows.update(hint, key, change) {
         Ok(found) => found,
@@ -76,7 +76,7 @@ pub(crate) fn update_row<R: TellsMarks, K: Keeping<R>, C: Change<R>>(
     Ok(true)
 }
 
-// Puts the row under the key, in place of one that is there. An error is want of memory.
+// Puts the row under the key, replacing one that is there. The error is want of memory.
 pub(crate) fn put_row<R: TellsMarks, K: Keeping<R>>(
     rows: &mut Timed<R, K>,
     index: &mut Index,
@@ -95,7 +95,7 @@ pub(crate) fn put_row<R: TellsMarks, K: Keeping<R>>(
     ensures new { OnOk result (row_at rows.old key ≡ None → AreLookedUp index.old key meter.old meter.new) }
     ensures rises { OnOk result (meter.old ≤ meter.new) }
 {
-    // What is put under a key that is there stands in its place.
+    // For the proof: what is put under a key with a row takes the place of that row.
     rows.recall_rising();
     if update_row(rows, index, None, key, To { row }, meter)? {
         return Ok(());
@@ -129,7 +129,7 @@ pub(crate) fn add_row<R: TellsMarks, K: Keeping<R>>(
     Ok(())
 }
 
-// Takes the row under the key away, and what it says, if anything is marked of it.
+// Removes the row under the key, with the marks that it set.
 fn drop_marked<R: TellsMarks, K: Keeping<R>>(
     rows: &mut Timed<R, K>,
     index: &mut Index,
@@ -147,7 +147,7 @@ fn drop_marked<R: TellsMarks, K: Keeping<R>>(
     index.unmark::<R>(key, meter);
 }
 
-// Takes the row under the key away.
+// Removes the row under the key.
 pub(crate) fn remove_row<R: TellsMarks, K: Keeping<R>>(
     rows: &mut Timed<R, K>,
     index: &mut Index,
@@ -166,7 +166,7 @@ pub(crate) fn remove_row<R: TellsMarks, K: Keeping<R>>(
     drop_marked(rows, index, key, meter);
 }
 
-// Puts the row under the key, or takes away the one that is there. An error is want of memory.
+// Puts the row under the key, or removes the one that is there. The error is want of memory.
 #[tactic(auto, unfolding(pim_model::specs::Tables::set_row))]
 pub(crate) fn set_row<R: TellsMarks, K: Keeping<R>>(
     rows: &mut Timed<R, K>,
@@ -196,7 +196,7 @@ pub(crate) fn set_row<R: TellsMarks, K: Keeping<R>>(
     }
 }
 
-// Where there is a row under the key, puts this one in its place, or takes it away. An error is want of memory.
+// If there is a row under the key, replaces it or removes it. The error is want of memory.
 pub(crate) fn change_row<R: TellsMarks, K: Keeping<R>>(
     rows: &mut Timed<R, K>,
     index: &mut Index,
@@ -215,7 +215,7 @@ pub(crate) fn change_row<R: TellsMarks, K: Keeping<R>>(
     ensures gone { row ≡ None → has_row rows.old key ≡ true → AreLookedUp index.old key meter.old meter.new }
     ensures rises { OnOk result (meter.old ≤ meter.new) }
 {
-    // What is put under a key that is there stands in its place.
+    // For the proof: what is put under a key with a row takes the place of that row.
     rows.recall_rising();
     if !rows.contains(key) {
         return Ok(());
@@ -223,7 +223,7 @@ pub(crate) fn change_row<R: TellsMarks, K: Keeping<R>>(
     set_row(rows, index, key, row, meter)
 }
 
-// Takes the row under the key away, if there is one.
+// Removes the row under the key, if there is one.
 pub(crate) fn drop_row<R: TellsMarks, K: Keeping<R>>(
     rows: &mut Timed<R, K>,
     index: &mut Index,
@@ -244,7 +244,7 @@ pub(crate) fn drop_row<R: TellsMarks, K: Keeping<R>>(
     }
 }
 
-// Takes the marks away that the interface's rows made.
+// Clears the marks that the interface's rows set.
 fn unmark_on<R: TellsMarks>(rows: &Timed<R>, index: &mut Index, iface: IfaceId, meter: &mut Meter)
     requires { IsTold R.tells R.says R.fits index.old rows.now }
     ensures told { IsTold R.tells R.says R.fits index.new (drop_where (is_on iface.number) rows.now) }
@@ -259,7 +259,7 @@ fn unmark_on<R: TellsMarks>(rows: &Timed<R>, index: &mut Index, iface: IfaceId, 
     }
 }
 
-// Takes the interface's rows away.
+// Removes the interface's rows.
 pub(crate) fn drop_rows_on<R: TellsMarks>(
     rows: &mut Timed<R>,
     index: &mut Index,

@@ -36,11 +36,12 @@ use std::collections::BTreeSet;
 use std::collections::btree_map::Iter;
 use std::marker::Model;
 
-/// The PIM facts of the router. After want of memory in a call that changes them nothing is promised of what they
-/// are, but that all that is told of them is true. What changes them raises the meter by the nodes that lead to the marks of
-/// a group or a source, wherever a row comes or goes there, or says something else than the one before. A Join timer stands
-/// with those marks, so each call that reads or changes one raises it so, whether there is one or not. Not counted is what
-/// the ends of the Join timers are asked for as one of them is set or taken away.
+/// The PIM facts of the router. After want of memory in a call that changes them, nothing is promised of their values,
+/// but all that is stated of every store still holds. A call that changes facts raises the meter by the nodes that lead
+/// to the marks of a group or a source, wherever a row is added or removed there, or a new row sets other marks than
+/// the old one. A Join timer is in the entry with those marks, so each call that reads or changes one raises the meter
+/// in this way, whether there is a timer or not. Not counted are the look-ups of Join timers that the timer queue does
+/// when one is set or removed.
 pub struct Store {
     downstream: Timed<DownstreamRow>,
     asserts: Timed<AssertRow>,
@@ -89,7 +90,7 @@ fn plain_key(group: Addr, source: Option<Addr>) -> Key
 }
 
 impl Store {
-    /// No facts. An error is want of memory.
+    /// A store without facts. The error is want of memory.
     pub fn new(alloc: Global) -> Result<Store, AllocError>
         ensures { IfOk result (λ store. store ≡ no_facts) }
     {
@@ -195,7 +196,8 @@ impl Store {
         self.sources.get(key)
     }
 
-    /// The place of the source's row, if it has one, while it stands there: a hint for `keep_alive`.
+    /// The place of the source's row, if it has one. It is valid as long as the row is there, as a hint for
+    /// `keep_alive`.
     pub fn source_place(&self, name: SourceGroup) -> Option<usize>
         ensures { is_some result ≡ has_row self.now.sources (source_key 0 name.group.bits name.source.bits) }
     {
@@ -209,7 +211,7 @@ impl Store {
         self.registers.get(key)
     }
 
-    /// Puts this downstream state under the key, or takes away the one that is there. An error is want of memory.
+    /// Puts this downstream state under the key, or removes the one that is there. The error is want of memory.
     pub fn set_downstream(
         &mut self,
         key: Key,
@@ -226,8 +228,8 @@ impl Store {
         set_row(&mut self.downstream, &mut self.index, key, row, meter)
     }
 
-    /// Gives (*,G), where `source` is `None`, or (S,G) this assert on the interface, or takes its assert away. An
-    /// error is want of memory.
+    /// Sets the assert of (*,G), where `source` is `None`, or of (S,G), on the interface, or removes it. The error is
+    /// want of memory.
     pub fn set_assert(
         &mut self,
         iface: IfaceId,
@@ -254,8 +256,7 @@ impl Store {
         set_row(&mut self.asserts, &mut self.index, key, row, meter)
     }
 
-    /// Sets the Join timer of (*,G), where `source` is `None`, or of (S,G), or takes it away. An error is want of
-    /// memory.
+    /// Sets the Join timer of (*,G), where `source` is `None`, or of (S,G), or removes it. The error is want of memory.
     pub fn set_join_timer(
         &mut self,
         group: Addr,
@@ -271,7 +272,7 @@ impl Store {
         self.index.set_timer(plain_key(group, source), row, meter)
     }
 
-    /// Sets the override timer of (S,G,rpt), or takes it away. An error is want of memory.
+    /// Sets the override timer of (S,G,rpt), or removes it. The error is want of memory.
     pub fn set_override_timer(
         &mut self,
         name: SourceGroup,
@@ -290,8 +291,8 @@ impl Store {
         set_row(&mut self.override_timers, &mut self.index, key, row, meter)
     }
 
-    /// Gives the source of the group this row, or takes its row away. An error is want of memory. The meter stays where
-    /// another row takes the place of one.
+    /// Sets the row of the source of the group, or removes it. The error is want of memory. The meter is unchanged
+    /// where a row replaces another.
     pub fn set_source(
         &mut self,
         name: SourceGroup,
@@ -312,9 +313,9 @@ impl Store {
         set_row(&mut self.sources, &mut self.index, key, row, meter)
     }
 
-    /// Gives the source of the group this end of its keepalive timer, in ms, and a row where it has none. The row that is
-    /// there is looked up once, or not at all where the hint is its place (`source_place`), and then the meter stays. Whatever
-    /// the hint is, the same is done. An error is want of memory.
+    /// Sets when the keepalive timer of the source of the group expires, in ms, and gives the source a row if it has
+    /// none. A row that is there is looked up once, or not at all where the hint is its place (`source_place`), and
+    /// then the meter is unchanged. The result doesn't depend on the hint. The error is want of memory.
     pub fn keep_alive(
         &mut self,
         name: SourceGroup,
@@ -332,7 +333,7 @@ impl Store {
             → Visits self.old name.group (Some name.source) meter.old meter.new) }
         ensures rises { OnOk result (meter.old ≤ meter.new) }
     {
-        // A key stands once.
+        // For the proof: a key is listed once.
         self.sources.recall_rising();
         let key = name.key();
         let change = KeepAlive { end };
@@ -346,7 +347,7 @@ impl Store {
         add_row(&mut self.sources, &mut self.index, key, row, meter)
     }
 
-    /// Gives the source of the group this register, or takes its register away. An error is want of memory.
+    /// Sets the register state of the source of the group, or removes it. The error is want of memory.
     pub fn set_register(
         &mut self,
         name: SourceGroup,
@@ -365,7 +366,7 @@ impl Store {
         set_row(&mut self.registers, &mut self.index, key, row, meter)
     }
 
-    /// Where there is a downstream state under the key, puts this one in its place. An error is want of memory.
+    /// If there is a downstream state under the key, replaces it. The error is want of memory.
     pub fn change_downstream(
         &mut self,
         key: Key,
@@ -380,7 +381,7 @@ impl Store {
         change_row(&mut self.downstream, &mut self.index, key, Some(row), meter)
     }
 
-    /// Takes the downstream state under the key away, if there is one.
+    /// Removes the downstream state under the key, if there is one.
     pub fn drop_downstream(&mut self, key: Key, meter: &mut Meter)
         ensures dropped { self.new ≡ record self.old { downstream = drop_at self.old.downstream key } }
         ensures absent { has_row self.old.downstream key ≡ false → meter.new ≡ meter.old }
@@ -390,7 +391,7 @@ impl Store {
         drop_row(&mut self.downstream, &mut self.index, key, meter);
     }
 
-    /// Where there is an assert under the key, puts this one in its place. An error is want of memory.
+    /// If there is an assert under the key, replaces it. The error is want of memory.
     pub fn change_assert(
         &mut self,
         key: Key,
@@ -405,7 +406,7 @@ impl Store {
         change_row(&mut self.asserts, &mut self.index, key, Some(row), meter)
     }
 
-    /// Takes the assert under the key away, if there is one.
+    /// Removes the assert under the key, if there is one.
     pub fn drop_assert(&mut self, key: Key, meter: &mut Meter)
         ensures dropped { self.new ≡ record self.old { asserts = drop_at self.old.asserts key } }
         ensures absent { has_row self.old.asserts key ≡ false → meter.new ≡ meter.old }
@@ -415,7 +416,7 @@ impl Store {
         drop_row(&mut self.asserts, &mut self.index, key, meter);
     }
 
-    /// Where there is a source under the key, gives it this row, or takes its row away. An error is want of memory.
+    /// If there is a source under the key, replaces its row or removes it. The error is want of memory.
     pub fn change_source(
         &mut self,
         key: Key,
@@ -432,7 +433,7 @@ impl Store {
         change_row(&mut self.sources, &mut self.index, key, row, meter)
     }
 
-    /// Where there is a register under the key, puts this one in its place. An error is want of memory.
+    /// If there is a register under the key, replaces it. The error is want of memory.
     pub fn change_register(
         &mut self,
         key: Key,
@@ -446,8 +447,8 @@ impl Store {
         change_row(&mut self.registers, &mut self.index, key, Some(row), meter)
     }
 
-    /// Where there is a Join timer under the key, puts this one in its place. An error is want of memory. The meter rises by the
-    /// nodes that lead to its group, or to its source.
+    /// If there is a Join timer under the key, replaces it. The error is want of memory. The meter rises by the nodes
+    /// that lead to its group, or to its source.
     pub fn change_join_timer(
         &mut self,
         key: Key,
@@ -461,7 +462,7 @@ impl Store {
         self.index.change_timer(key, To { row }, meter)
     }
 
-    /// Takes the override timer under the key away, if there is one.
+    /// Removes the override timer under the key, if there is one.
     pub fn drop_override_timer(&mut self, key: Key, meter: &mut Meter)
         ensures dropped { self.new ≡ record self.old { override_timers = drop_at self.old.override_timers key } }
         ensures absent { has_row self.old.override_timers key ≡ false → meter.new ≡ meter.old }
@@ -471,8 +472,8 @@ impl Store {
         drop_row(&mut self.override_timers, &mut self.index, key, meter);
     }
 
-    /// Lowers the Join timer under the key, if there is one, to this end, in ms. An error is want of memory. The meter rises by the
-    /// nodes that lead to its group, or to its source.
+    /// Lowers the Join timer under the key, if there is one, to this timestamp, in ms. The error is want of memory. The
+    /// meter rises by the nodes that lead to its group, or to its source.
     pub fn lower_join_timer(
         &mut self,
         key: Key,
@@ -486,7 +487,7 @@ impl Store {
         self.index.change_timer(key, Lowering { end }, meter)
     }
 
-    /// Ends the lost asserts under these keys.
+    /// Removes those asserts under the given keys that the router lost.
     pub fn end_losses(&mut self, keys: &[Key], meter: &mut Meter)
         ensures ended { self.new ≡ record self.old {
           asserts = filter (λ e. not (is_loser (Some e.1) && is_named keys.now e.0)) self.old.asserts;
@@ -498,21 +499,21 @@ impl Store {
         }
     }
 
-    // Ends the assert under the key, if it is lost.
+    // Removes the assert under the key, if the router lost it.
     fn end_loss(&mut self, key: Key, meter: &mut Meter)
         ensures ended { self.new ≡ record self.old {
           asserts = filter (λ e. not (is_loser (Some e.1) && same_key e.0 key)) self.old.asserts;
         } }
         ensures rises { meter.old ≤ meter.new }
     {
-        // The key stands once.
+        // For the proof: the key is listed once.
         self.asserts.recall_rising();
         if row_says(self.asserts.get(key), Mark::Lost) {
             remove_row(&mut self.asserts, &mut self.index, key, meter);
         }
     }
 
-    /// Takes the downstream states and the asserts of the interface away.
+    /// Removes the downstream states and the asserts of the interface.
     pub fn drop_on(&mut self, iface: IfaceId, meter: &mut Meter)
         ensures dropped { self.new ≡ record self.old {
           downstream = drop_where (is_on iface.number) self.old.downstream;
@@ -539,8 +540,8 @@ impl Store {
         Sources::among(self.index.walk(group, meter))
     }
 
-    /// Puts the keys of the (S,G,rpt) downstream states of these groups on the interface behind the others, by rising key.
-    /// No state of another group is looked at, but for one after each of them.
+    /// Adds the keys of the (S,G,rpt) downstream states of the given groups on the interface at the end of the list, by
+    /// rising key. Of other groups only one state after each of the given ones is read.
     pub fn push_rpt_keys(
         &self,
         iface: IfaceId,
@@ -554,8 +555,8 @@ impl Store {
         self.downstream.rows().push_rpt_keys(iface, groups, keys)
     }
 
-    /// The Join timers of the group, by rising key: that of (*,G), then those of its sources. All its sources are gone through.
-    /// The meter rises by the nodes that lead to the group.
+    /// The Join timers of the group, by rising key: that of (*,G), then those of its sources. All its sources are gone
+    /// through. The meter rises by the nodes that lead to the group.
     pub fn join_timers_of(&self, group: Addr, meter: &mut Meter) -> GroupJoinTimers<'_>
         ensures timers { result ≡ filter (λ e. is_of_group group.bits e.0) self.now.join_timers }
         ensures visited { Visits self.now group None meter.old meter.new }
@@ -563,8 +564,7 @@ impl Store {
         GroupJoinTimers::among(self.index.walk(group, meter))
     }
 
-    /// The registers of the group, ascending by source. No register of another group is looked at, but for the one that
-    /// comes next.
+    /// The registers of the group, ascending by source. Of other groups only the next register is read.
     pub fn registers_of(&self, group: Addr) -> RowsOf<'_, RegisterRow>
         ensures { result ≡ filter (λ e. is_of_group group.bits e.0) self.now.registers }
     {
@@ -581,7 +581,7 @@ impl Store {
         self.index.contains(name.group, name.source, meter)
     }
 
-    /// Asserts, sources and registers are under keys of their kind, which rise.
+    /// For the proof: asserts, sources and registers are under keys of their kind, which rise.
     pub fn recall_keyed(&self)
         ensures { AreKeyed self.now }
     {
@@ -600,8 +600,8 @@ impl Store {
         states + self.sources.len() as u128
     }
 
-    /// Which fact ends first, and when, in ms: the least end by its moment, its kind and its key. `None` where no
-    /// fact ever ends.
+    /// Which timer expires first, and when, in ms: the least by timestamp, then by kind, then by key. `None` where no
+    /// timer runs.
     pub fn next(&self) -> Option<(u64, Timer)>
         ensures { result ≡ option_map due_of (first_by is_ending_first (stored_endings self.now)) }
     {
@@ -613,9 +613,9 @@ impl Store {
         )
     }
 
-    /// What there is of (*,G), where `source` is `None`, or of (S,G) with its (S,G,rpt): of the downstream states
-    /// and asserts the interfaces that have them, and whether there are the others. The meter rises by the nodes
-    /// that it visits: as many as lead to the group, and to the source, where a trie has those of all facts.
+    /// The marks of (*,G), where `source` is `None`, or of (S,G) with its (S,G,rpt): the interfaces that have
+    /// downstream states and asserts, and which other facts there are. The meter rises by the nodes that it visits: as
+    /// many as lead to the group, and to the source, where a trie has those of all facts.
     #[tactic(auto, using(pim_source_trie::proofs::Visited::star_at_most, pim_source_trie::proofs::Visited::visited_at_most))]
     pub fn marks(&self, group: Addr, source: Option<Addr>, meter: &mut Meter) -> Marks
         ensures joined { (i : ℕ) → has result.joined i ≡ has_row self.now.downstream (fact_key i group source false) }

@@ -1,4 +1,4 @@
-//! What the rows of each table tell of their groups and sources.
+//! Which marks the rows of each table set for their groups and sources.
 ghost use Rattle.std.specs.Prelude.{◌≡◌, ◌<◌, ◌&&◌, ℕ, Bool, IsTrue};
 ghost use Rattle.pim_types.specs.declared.fact.Key.{Key as KeyValue};
 ghost use Rattle.pim_store.specs.Said.{is_about, is_of_iface, is_plain_of_iface, is_rpt_of_router, is_source_of_router};
@@ -12,25 +12,25 @@ use pim_types::fact::{
     AssertRole, AssertRow, DownstreamRow, OverrideTimerRow, RegisterRow, SourceRow,
 };
 
-// A row, and what it says of its group, or of its source.
+// A row that sets marks for its group, or for its source.
 pub(crate) trait TellsMarks: Ends {
-    // Which marks the rows of the table tell.
+    // Which marks the rows of the table set.
     ghost tells: { MarkValue → Bool };
 
-    // What a row says of a mark.
+    // Whether a row sets a mark.
     ghost says: { MarkValue → Self → Bool };
 
     // Which keys the rows have.
     ghost fits: { KeyValue → Bool };
 
-    // The one or two marks that the row under the key tells.
+    // The one or two marks that the row under the key can set.
     fn told(key: Key) -> (Mark, Option<Mark>)
         requires { IsTrue (fits key) }
         ensures marks { (x : MarkValue) (i : ℕ)
             → (tells x && is_about x i key) ≡ is_set_by_either result key.iface.number x i }
         ensures near { key.iface.number < 120 };
 
-    // What the row says of the mark.
+    // Whether the row sets the mark.
     fn says(self, mark: Mark) -> bool
         ensures { result ≡ says mark self };
 }

@@ -9,7 +9,7 @@ use pim_ip::Addr;
 use pim_source_trie::Entries;
 use std::marker::Model;
 
-/// The sources of a group that are left, ascending.
+/// The remaining sources of a group, ascending.
 pub struct Sources<'a> {
     entries: Entries<'a, Entry>,
 }
@@ -31,7 +31,7 @@ impl<'a> Model for Sources<'a> {
 }
 
 impl<'a> Sources<'a> {
-    // Those of the entries of one group.
+    // The sources of the entries of one group.
     pub(crate) fn among(entries: Entries<'a, Entry>) -> Sources<'a>
         ensures { result ≡ sources_in entries.entry }
     {

@@ -20,7 +20,7 @@ use Rattle.pim_stream.specs.Passing.{NoneEndsPassing, Receiver, Tree}
 use Rattle.pim_stream.specs.Roots.{NoneEndsSending, Sends}
 use Rattle.pim_stream.specs.Streams.{PassesAt}
 
--- a host's report of the group at its DR, where the group is new: from then on the DR passes the stream to the host's link
+-- A host's report of the group to its DR, where the group is new: after it the DR passes the stream to the host's link.
 abbrev pub HostBeginsStream : Type 0
 HostBeginsStream = (g rp src link : ℕ) (p : Place) (e : Event) (records : List Record)
     → IsRequest g records
@@ -28,7 +28,7 @@ HostBeginsStream = (g rp src link : ℕ) (p : Place) (e : Event) (records : List
     → CanServeHost g rp src link p
     → PassesAt Tree.Shared Receiver.Host g src link (became p (step (state_of p) e).state)
 
--- from the Join(*,G) that it takes on, the last router of a way sends what comes to it on the Join's link
+-- After the Join(*,G) that it takes, the last router of a way sends what comes to it on the Join's link.
 abbrev pub JoinBeginsSending : Type 0
 JoinBeginsSending = (g rp from to link src k : ℕ) (p : Place) (m : Network) → IsGroup g rp
     → CanTake g rp from to link p → IsSettled (state_of p) → is_loser (assert_source (state_of p) g src p.down) ≡ false
@@ -36,8 +36,8 @@ JoinBeginsSending = (g rp from to link src k : ℕ) (p : Place) (m : Network) �
     → (state : _) → station_at (delivered m p k) p.router ≡ Some (became p state).station
     → Sends state g src p.down
 
--- the move at which a router of a way begins to pass the stream to a link; the network and the place are as they stand
--- just before it
+-- The move at which a router of a way begins to pass the stream to a link. The network and the place are those just
+-- before the move.
 pub data BeginsAt (g rp src link : ℕ) (m : Network) (p : Place) : Receiver → Move → Type 0 where
   ByReport : (e : Event) (records : List Record) → IsRequest g records
       → done_as (happens (state_of p) e) ≡ Some (Accepted.Report (record { number = p.down }) records)
@@ -47,7 +47,7 @@ pub data BeginsAt (g rp src link : ℕ) (m : Network) (p : Place) : Receiver →
       → slice_get (p.station).links (up_iface p) ≡ Some p.next_link
       → BeginsAt g rp src link m p Receiver.Router (Deliver p.router p.down k p.draw)
 
--- it begins at one of the moves, and of the events that come to it after that none ends it
+-- A router begins at one of the moves, and no event that comes to it later ends the stream there.
 pub record HasBegun (g rp src link : ℕ) (n : Network) (ms : List Move) (by : Receiver) (p : Place) : Type 0 where
   pub before : List Move
   pub move : Move
@@ -60,13 +60,15 @@ pub record HasBegun (g rp src link : ℕ) (n : Network) (ms : List Move) (by : R
       → NoneEndsPassing Tree.Shared by state (events_in p.router (moved (network_ran n before).1 move).1 after)
       g src (up_iface p) p.down
 
--- from the link of who asked to that of the last router's next hop; the routers may begin in any order
+-- Each router of a way has begun, from the link of the requester up to that of the last router's next hop; the routers
+-- may begin in any order.
 abbrev pub HaveBegun : (ℕ → Receiver) → (g rp src link : ℕ) → Network → List Move → List Place → Type 0
 HaveBegun by g rp src link n ms [] = Unit {0}
 HaveBegun by g rp src link n ms (p ∷ ps) =
     HasBegun g rp src link n ms (by p.router) p × HaveBegun by g rp src p.next_link n ms ps
 
--- then each packet of the source on the link above comes down to who asked, by one delivery for each router
+-- Where each router of a way has begun, each packet of the source on the link above comes down to the requester, by one
+-- delivery for each router.
 abbrev pub BegunStreamIsServed : Type 0
 BegunStreamIsServed = (by : ℕ → Receiver) (n : Network) (ms : List Move) (g rp src link lives : ℕ) (payload : List ℕ)
     (ps : List Place)
@@ -74,7 +76,7 @@ BegunStreamIsServed = (by : ℕ → Receiver) (n : Network) (ms : List Move) (g 
     → IsCarried (network_ran n ms).1 g src (top_link link ps) payload (lives + length ps)
     → IsFlowed (network_ran n ms).1 g src link payload lives ps
 
--- the last router takes the Join(*,G) at one of the moves, and nothing after that ends its sending
+-- The last router takes the Join(*,G) at one of the moves, and nothing later stops it from sending.
 pub record HasTakenAt (g rp src link : ℕ) (n : Network) (ms : List Move) (p : Place) : Type 0 where
   pub before : List Move
   pub number : ℕ
@@ -91,7 +93,8 @@ pub record HasTakenAt (g rp src link : ℕ) (n : Network) (ms : List Move) (p : 
       → station_at (delivered (network_ran n before).1 p number) p.router ≡ Some (became p state).station
       → NoneEndsSending state (events_in p.router (delivered (network_ran n before).1 p number) after) g src p.down
 
--- then each packet that is brought to the last router, on a tree or in a Register, comes down to who asked
+-- Where each router of a way has begun, each packet that is brought to the last router, on a tree or in a Register,
+-- comes down to the requester.
 abbrev pub EachOfBegunStreamIsServed : Type 0
 EachOfBegunStreamIsServed = (by : ℕ → Receiver) (n : Network) (ms : List Move) (g rp src link lives : ℕ)
     (payload : List ℕ) (root : Place) (ps : List Place) (d : Event) (state : State)

@@ -1,4 +1,4 @@
--- A stream to a router goes on while Joins(*,G) come in time: before the holdtime of the one before is over.
+-- A stream to a router goes on while Joins(*,G) come in time: each before the holdtime of the one before has expired.
 use Rattle.std.specs.Prelude.{Bool, List, Option, Some, [], false, if◌then◌else◌, nat_le, not, ℕ, ◌&&◌, ◌*◌, ◌+◌, ◌==◌, ◌||◌, ◌∷◌, ◌≡◌}
 use Rattle.pim_types.specs.Keys.{rpt_key, star_key}
 use Rattle.pim_types.specs.declared.event.Event.{Event}
@@ -12,8 +12,8 @@ use Rattle.pim_promises.specs.Copies.{happens}
 use Rattle.pim_served.specs.Joins.{HoldsStar}
 use Rattle.pim_stream.specs.Passing.{Passes, Receiver, Tree, lacks_room, leaves_tree, takes_effect, takes_link}
 
--- a message to the router joins the group on the link, for a holdtime that ends, and doesn't also prune it there; s is the
--- state that it finds
+-- A message to the router joins the group on the link, for a holdtime that expires, and doesn't also prune it there; s
+-- is the state that it finds.
 abbrev pub joins_group : State → ℕ → ℕ → Option Accepted → Bool
 joins_group s g down (Some (Accepted.JoinPruneToMe j m)) =
     (j.number == down)
@@ -22,7 +22,7 @@ joins_group s g down (Some (Accepted.JoinPruneToMe j m)) =
     && (not (m.holdtime == 0) && not (m.holdtime == holdtime_forever))))
 joins_group s g down o = false
 
--- until when the last of them holds
+-- The timestamp until which the last Join(*,G) of a message holds.
 abbrev pub joined_until : State → Option Accepted → ℕ → ℕ
 joined_until s (Some (Accepted.JoinPruneToMe j m)) end = s.present + 1000 * m.holdtime
 joined_until s o end = end
@@ -32,8 +32,8 @@ next_end s e g down end =
     let done : Option Accepted = done_as (happens s e) in
     if joins_group s g down done then joined_until s done end else end
 
--- what isn't in time: an Advance to the end, or past it; and what takes the Join back: a Prune of the group there, and one
--- of the source that takes effect
+-- The events that aren't in time: an Advance to the Join's expiry or past it; and those that remove the Join: a Prune
+-- of the group there, and one of the source that takes effect.
 abbrev pub is_late : State → State → ℕ → ℕ → ℕ → ℕ → Option Accepted → Bool
 is_late s t g src down end (Some (Accepted.Advance moment)) =
     nat_le end moment || takes_effect s (rpt_key down g src) moment
@@ -48,7 +48,8 @@ ends_in_time tree s e g src up down end =
     takes_link t g src up down done || leaves_tree tree Receiver.Router t g src up done || is_late s t g src down end done
     || lacks_room tree t g src
 
--- the router passes the stream to another one, whose Join holds until an end at least, and nobody is pruning the group
+-- The router passes the stream to another router, whose Join holds until a timestamp at least, and no Prune of the
+-- group is pending.
 pub record PassesUntil (tree : Tree) (s : State) (g src up down end : ℕ) : Type 0 where
   pub passes : Passes tree Receiver.Router s g src up down
   pub holds : HoldsStar s down g (Some end)
@@ -58,14 +59,14 @@ EventKeepsPassingUntil = (tree : Tree) (s : State) (e : Event) (g src up down en
     → PassesUntil tree s g src up down end → ends_in_time tree s e g src up down end ≡ false
     → PassesUntil tree (step s e).state g src up down (next_end s e g down end)
 
--- each event comes before the end that the last Join left, however long the list is
+-- Each event comes before the expiry of the last Join, however long the list is.
 abbrev pub AllInTime : Tree → State → List Event → ℕ → ℕ → ℕ → ℕ → ℕ → Type 0
 AllInTime tree s [] g src up down end = Unit {0}
 AllInTime tree s (e ∷ es) g src up down end =
     (ends_in_time tree s e g src up down end ≡ false)
     × AllInTime tree (step s e).state es g src up down (next_end s e g down end)
 
--- so while Joins come in time the stream goes on, for ever
+-- While Joins come in time the stream goes on, for any number of events.
 abbrev pub JoinsInTimeKeepPassing : Type 0
 JoinsInTimeKeepPassing = (tree : Tree) (s : State) (events : List Event) (g src up down end : ℕ)
     → PassesUntil tree s g src up down end → AllInTime tree s events g src up down end

@@ -1,4 +1,4 @@
--- The router to which a source is connected: it puts the packets on their tree by itself, and as the DR registers them.
+-- A router to which a source is connected: it puts the packets on their tree by itself, and as the DR registers them.
 use Rattle.std.specs.List.{Contains}
 use Rattle.std.specs.Prelude.{List, Ok, Some, false, length, true, ℕ, ◌+◌, ◌==◌, ◌≡◌, ◌≤◌, ◌⊎◌}
 use Rattle.pim_ip.specs.Ipv4.{Packet, copy_text, frame_limit, ipv4_reading, protocol_igmp}
@@ -25,7 +25,7 @@ pub record IsConnectedAt (s : State) (src up : ℕ) : Type 0 where
   pub connected : is_connected s src ≡ true
   pub way : is_rpf_interface s src up ≡ true
 
--- an event brings a packet of (S,G) from that link, which the router takes
+-- An event brings a packet of (S,G) from the source's link, and the router takes it.
 pub record IsSent (s : State) (e : Event) (g src up : ℕ) (payload : List ℕ) (lives : ℕ) : Type 0 where
   pub bytes : List ℕ
   pub packet : Packet
@@ -38,8 +38,8 @@ pub record IsSent (s : State) (e : Event) (g src up : ℕ) (payload : List ℕ) 
   pub time_to_live : packet.time_to_live ≡ lives + 1
   pub done : done_as (happens s e) ≡ Some (Accepted.Data (record { number = up }) packet)
 
--- a router that sends the stream on a link, such as the RP, puts each packet of a source of its own there, without any
--- Register
+-- A router that sends the stream on a link, such as the RP, sends each packet of a directly connected source there,
+-- without any Register.
 abbrev pub ConnectedIsBrought : Type 0
 ConnectedIsBrought = (s : State) (e : Event) (g src up down lives : ℕ) (payload : List ℕ)
     → IsConnectedAt s src up → Sends s g src down → (down == up) ≡ false → IsSent s e g src up payload lives
@@ -47,7 +47,7 @@ ConnectedIsBrought = (s : State) (e : Event) (g src up down lives : ℕ) (payloa
 
 -- ---- the DR
 
--- the router is the DR of the source's link, the RP is another router, and no Register-Stop holds Registers back
+-- The router is the DR of the source's link, the RP is another router, and no Register-Stop suppresses Registers.
 pub record Registers (s : State) (g src up rp : ℕ) : Type 0 where
   pub at : IsConnectedAt s src up
   pub dr : is_dr s up ≡ true
@@ -55,7 +55,7 @@ pub record Registers (s : State) (g src up rp : ℕ) : Type 0 where
   pub other : is_own s rp ≡ false
   pub unstopped : (has_row s.registers (source_key 0 g src) ≡ false) ⊎ (tunnel s g src ≡ true)
 
--- then each packet of the source with a TTL above 1 leaves in a Register to the RP
+-- Each packet of such a source (`Registers`) with a TTL above 1 leaves in a Register to the RP.
 abbrev pub DrRegisters : Type 0
 DrRegisters = (s : State) (e : Event) (p : Packet) (up rp : ℕ) → Registers s p.destination p.source up rp
     → Came s e (record { number = up }) p

@@ -1,5 +1,5 @@
-//! A stream that is asked for is served until one of a few things happens. Laws of the definitions, each the contract of
-//! a function with nothing to do.
+//! A requested stream is served until one of a few things happens. Laws of the definitions, each the contract of a
+//! function with nothing to do.
 
 ghost use Rattle.pim_stream.specs.Begun.{BegunStreamIsServed, EachOfBegunStreamIsServed, HostBeginsStream, JoinBeginsSending};
 ghost use Rattle.pim_stream.specs.Bits.{ChangeKeepsSptBit, FiringKeepsSptBit, JoinKeepsSptBit};
@@ -10,7 +10,7 @@ ghost use Rattle.pim_stream.specs.Roots.{EachOfStreamIsServed, EachRegisterIsBro
 ghost use Rattle.pim_stream.specs.Sources.{ConnectedIsBrought, DrRegisters};
 ghost use Rattle.pim_stream.specs.Streams.{MemberBeginsStream, StreamIsServed};
 
-/// A frame that was sent stays deliverable, whatever is done in the network.
+/// A frame that was sent can be delivered from then on, whatever is done in the network.
 pub fn frames_stay()
     ensures { FramesStay }
 {}
@@ -20,12 +20,12 @@ pub fn join_climbs_over()
     ensures { JoinClimbsOver }
 {}
 
-/// From the Join that it takes on, a router that can pass packets of the source passes its stream.
+/// After the Join that it takes, a router that can forward packets of the source passes its stream.
 pub fn join_begins_stream()
     ensures { JoinBeginsStream }
 {}
 
-/// The DR of a host passes the stream from the host's report on.
+/// The DR of a host passes the stream after the host's report.
 pub fn member_begins_stream()
     ensures { MemberBeginsStream }
 {}
@@ -35,7 +35,7 @@ pub fn event_keeps_passing()
     ensures { EventKeepsPassing }
 {}
 
-/// On the source's tree a packet of the source needs no room: the fact of the source is there.
+/// On the source's tree a packet of the source needs no room, since the source has a fact.
 pub fn source_tree_has_room()
     ensures { SourceTreeHasRoom }
 {}
@@ -50,17 +50,17 @@ pub fn passing_serves()
     ensures { PassingServes }
 {}
 
-/// After any moves that end nothing on the way, each packet above comes down to who asked.
+/// After any moves that end nothing on the way, each packet above comes down to the requester.
 pub fn stream_is_served()
     ensures { StreamIsServed }
 {}
 
-/// An event ends the sending of the last router only where the test `ends_sending` says so.
+/// An event stops the last router from sending the stream only where the test `ends_sending` says so.
 pub fn event_keeps_sending()
     ensures { EventKeepsSending }
 {}
 
-/// A list of events, none of which ends it, leaves the last router sending.
+/// A list of events, of which none stops it, leaves the last router sending the stream.
 pub fn run_keeps_sending()
     ensures { RunKeepsSending }
 {}
@@ -70,37 +70,38 @@ pub fn each_register_is_brought()
     ensures { EachRegisterIsBrought }
 {}
 
-/// Each packet that is brought to the last router comes down to who asked.
+/// Each packet that is brought to the last router comes down to the requester.
 pub fn each_of_stream_is_served()
     ensures { EachOfStreamIsServed }
 {}
 
-/// A host's report at its DR begins the stream there, where the group is new.
+/// A host's report to its DR begins the stream there, where the group is new.
 pub fn host_begins_stream()
     ensures { HostBeginsStream }
 {}
 
-/// From the Join that it takes on, the last router of a way sends what comes to it.
+/// After the Join that it takes, the last router of a way sends what comes to it.
 pub fn join_begins_sending()
     ensures { JoinBeginsSending }
 {}
 
-/// Where each router of a way began at some move and nothing ended it, each packet above comes down to who asked.
+/// Where each router of a way began at some move and nothing ended it, each packet above comes down to the requester.
 pub fn begun_stream_is_served()
     ensures { BegunStreamIsServed }
 {}
 
-/// Each packet that is brought to the last router of such a way comes down to who asked.
+/// Where each router of a way began at some move and nothing ended it, each packet that is brought to the last router
+/// comes down to the requester.
 pub fn each_of_begun_stream_is_served()
     ensures { EachOfBegunStreamIsServed }
 {}
 
-/// An event keeps a stream to a router, and how long its Join holds, where it is none of those of `ends_in_time`.
+/// An event that `ends_in_time` doesn't list keeps a stream to a router, and how long the router's Join holds.
 pub fn event_keeps_passing_until()
     ensures { EventKeepsPassingUntil }
 {}
 
-/// While each Join(*,G) comes before the holdtime of the one before is over, the stream goes on.
+/// While each Join(*,G) comes before the holdtime of the one before has expired, the stream goes on.
 pub fn joins_in_time_keep_passing()
     ensures { JoinsInTimeKeepPassing }
 {}
@@ -115,17 +116,17 @@ pub fn change_keeps_spt_bit()
     ensures { ChangeKeepsSptBit }
 {}
 
-/// No end of a timer clears an SPTbit by itself.
+/// The expiry of a timer clears no SPTbit by itself.
 pub fn firing_keeps_spt_bit()
     ensures { FiringKeepsSptBit }
 {}
 
-/// Each packet of a source on a link of its own is brought to a router that sends the stream, such as the RP.
+/// Each packet of a directly connected source is brought to a router that sends the stream, such as the RP.
 pub fn connected_is_brought()
     ensures { ConnectedIsBrought }
 {}
 
-/// The DR of a source's link sends each of its packets in a Register to the RP.
+/// The DR of a source's link sends each packet of the source in a Register to the RP.
 pub fn dr_registers()
     ensures { DrRegisters }
 {}

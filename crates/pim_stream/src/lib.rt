@@ -1,4 +1,4 @@
-//! A stream is served, and stays served.
+//! A stream is served, and goes on being served until something ends it.
 #![tactic(auto)]
 
 pub mod laws;

@@ -1,4 +1,4 @@
--- Rows that stand at places, which a table tells by their keys.
+-- Rows at places, and the table that has the place of each key.
 use Rattle.std.specs.List.{filter_map}
 use Rattle.std.specs.List.Sorted.{IsStrictlySortedBy}
 use Rattle.std.specs.Prelude.{◌≡◌, ℕ, Option, Some, option_map}
@@ -15,7 +15,7 @@ module _ {R : Type 0} where
   abbrev pub key_placed : (ℕ → Option (Key × R)) → ℕ → Option Key
   key_placed at p = option_map (λ (e : Key × R). e.0) (at p)
 
-  -- the table tells of each row that stands at a place, and of no other
+  -- The table has the place of each row, and no other place.
   pub record ArePlaced (at : ℕ → Option (Key × R)) (places : Table ℕ) : Type 0 where
     pub rise : IsStrictlySortedBy key_cmp (keys_in places)
     pub there : (k : Key) (p : ℕ) → row_at places k ≡ Some p → key_placed at p ≡ Some k

@@ -10,7 +10,7 @@ use Rattle.pim_types.specs.declared.fact.Key.{Key}
 use Rattle.pim_types.specs.Keys.{is_of_group, is_on, key_cmp, star_key}
 use Rattle.pim_model.specs.Tables.{Table, keys_in}
 
--- on the interface, and of the group where there is one
+-- The key is on the interface, and of the group if there is one.
 abbrev pub is_of : ℕ → Option Addr → Key → Bool
 is_of i None k = is_on i k
 is_of i (Some g) k = is_on i k && is_of_group g.bits k

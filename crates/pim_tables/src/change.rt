@@ -1,7 +1,7 @@
-//! Changes of a row in its place.
+//! Changes of a row that exists.
 ghost use Rattle.std.specs.Prelude.{◌≡◌};
 
-/// What becomes of a row that is there.
+/// What becomes of a row that exists.
 pub trait Change<R>: Copy {
     /// The row after the change, by the one before.
     ghost after: { Self → R → R };
@@ -11,7 +11,7 @@ pub trait Change<R>: Copy {
         ensures { result ≡ after self before };
 }
 
-/// The change to one row, whatever was there.
+/// The change that replaces a row, whatever it was.
 #[derive(Clone, Copy)]
 pub struct To<R> {
     /// The row.

@@ -1,4 +1,4 @@
-//! The ends of rows that are kept elsewhere.
+//! The queue of when the timers of rows expire that are kept elsewhere.
 ghost use Rattle.std.specs.Prelude.{◌≡◌, [], OnOk, Option, Some, None, false, option_map};
 ghost use Rattle.std.specs.List.Sorted.{IsStrictlySortedBy};
 ghost use Rattle.pim_model.specs.Clearing.{first_by};
@@ -17,8 +17,8 @@ use pim_types::{Key, Timer};
 use std::alloc::{AllocError, Global};
 use std::marker::{Model, PhantomData};
 
-/// The ends of the rows of a table that is kept elsewhere. Whoever has both keeps them in step (`InStep`): it arms the ends of
-/// a row that comes or changes, changes the row, and then settles.
+/// When the timers of the rows of a table expire, where the table is kept elsewhere. The owner of both keeps them in
+/// step (`InStep`): it arms the queue for a row that is added or changed, changes the row, and then settles the queue.
 pub struct EndQueue<R: Ends> {
     queue: Queue,
     row: PhantomData<R>,
@@ -39,7 +39,7 @@ impl<R: Ends> Model for EndQueue<R> {
     ghost view = { λ e. e.queue };
 }
 
-// The ends of a row, if there is one.
+// When the timers of a row expire, if there is one.
 fn ends_of<R: Ends>(row: Option<R>) -> (Option<u64>, Option<u64>)
     ensures { result ≡ ends_under R.ends row }
 {
@@ -49,7 +49,8 @@ fn ends_of<R: Ends>(row: Option<R>) -> (Option<u64>, Option<u64>)
     }
 }
 
-// Arms the ends of a row under the key by those that are known. An error is want of memory; then as well no entry went.
+// Arms the timers of a row under the key, except where the queue already has an earlier entry. The error is want of
+// memory. No entry is removed, also where it fails.
 fn arm_ends<R: Ends>(
     queue: &mut Queue,
     key: Key,
@@ -71,7 +72,7 @@ fn arm_ends<R: Ends>(
     Ok(())
 }
 
-// Whether the first, if there is one, is of the key.
+// Whether the first entry, if there is one, is of the key.
 fn is_of(first: Option<(u64, Timer)>, key: Key) -> bool
     ensures { result ≡ false → (d : Due) → first ≡ Some d → same_key d.1.key key ≡ false }
 {
@@ -82,7 +83,7 @@ fn is_of(first: Option<(u64, Timer)>, key: Key) -> bool
 }
 
 impl<R: Ends> EndQueue<R> {
-    /// The ends of no rows; it takes no memory.
+    /// A queue for no rows. Takes no memory.
     pub fn new(alloc: Global) -> Self
         ensures { InStep R.kinds R.ends result [] }
     {
@@ -92,8 +93,8 @@ impl<R: Ends> EndQueue<R> {
         }
     }
 
-    /// Which row of the table that it is in step with ends first, and when (ms): the least end by its moment, its kind and
-    /// its key. `None` where no row ever ends.
+    /// Which row's timer expires first in the table that the queue is in step with, and when, in ms: the least by
+    /// timestamp, then by kind, then by key. `None` where no timer runs.
     pub fn first(&self) -> Option<(u64, Timer)>
         ensures { (rows : Table R) → IsStrictlySortedBy key_cmp (keys_in rows) → InStep R.kinds R.ends self.now rows
             → result ≡ option_map due_of (first_by is_ending_first (row_endings R.kinds R.ends rows)) }
@@ -101,9 +102,9 @@ impl<R: Ends> EndQueue<R> {
         self.queue.first()
     }
 
-    /// Arms the ends of the row that is to stand under the key, by those that are known of the one that stood there. An
-    /// error is want of memory. Whether it is one or not, no row needs to be armed anew: whatever then stands under the key,
-    /// this row, or the one before if it was refused, or none, is armed, and what is left is to settle.
+    /// Arms the timers of the row that is to be under the key, except where the timers of the row before are armed
+    /// early enough. The error is want of memory. In either case, whatever is under the key afterwards (the new row,
+    /// the row before, or none) is armed, and the queue is still to be settled.
     pub fn arm(&mut self, key: Key, before: Option<R>, row: R) -> Result<(), AllocError>
         requires { IsRowArmed R.kinds R.ends (holds self.old) key before }
         ensures ok { OnOk result (IsRowArmed R.kinds R.ends (holds self.new) key (Some row)) }
@@ -115,7 +116,8 @@ impl<R: Ends> EndQueue<R> {
         arm_ends(&mut self.queue, key, before, row)
     }
 
-    /// Settles the ends after the row under the key came, changed or went, with the rows as they are then.
+    /// Settles the queue after the row under the key was added, changed or removed, with the rows as they are
+    /// afterwards.
     pub fn settle<K: Holding<R>>(&mut self, rows: &K, key: Key)
         requires { InStepBeside R.kinds R.ends self.old (K.table rows.now) key }
         ensures { InStep R.kinds R.ends self.new (K.table rows.now) }
@@ -124,7 +126,7 @@ impl<R: Ends> EndQueue<R> {
         settle_ended(rows, &mut self.queue, !is_own);
     }
 
-    /// Settles the ends after rows went, with the rows as they are then.
+    /// Settles the queue after rows were removed, with the rows as they are afterwards.
     pub fn settle_all<K: Holding<R>>(&mut self, rows: &K)
         requires { AreArmed (ends_in R.kinds R.ends (K.table rows.now)) (holds self.old) }
         ensures { InStep R.kinds R.ends self.new (K.table rows.now) }

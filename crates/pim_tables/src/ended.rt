@@ -1,4 +1,4 @@
-//! Rows beside a queue of their ends.
+//! Rows together with a queue of when their timers expire.
 ghost use Rattle.std.specs.Prelude.{◌≡◌, ◌+◌, ◌<◌, ◌≤◌, true, length, Option, Some, None};
 ghost use Rattle.pim_timers.specs.Armed.{AreArmed, Grows, IsArmed, IsReal, holds};
 ghost use Rattle.pim_tables.specs.Ends.{InStep, IsRowArmed, end_of as end_in, ends_in, is_second, most_ends};
@@ -9,7 +9,7 @@ use pim_timers::{Queue, Schedule};
 use pim_types::{Key, Timer, TimerKind};
 use std::marker::PhantomData;
 
-// Rows, which tell when each of their timers ends.
+// Rows that answer when each of their timers expires.
 struct Ended<'a, R, K> {
     rows: &'a K,
     row: PhantomData<R>,
@@ -32,7 +32,7 @@ fn is_kind(second: Option<TimerKind>, kind: TimerKind) -> bool
     }
 }
 
-// The end of a kind of the row.
+// When the row's timer of a kind expires.
 fn end_of_row<R: Ends>(row: R, kind: TimerKind) -> Option<u64>
     ensures { result ≡ end_in R.kinds R.ends (Some row) kind }
 {
@@ -73,7 +73,7 @@ impl<'a, R: Ends, K: Holding<R>> Schedule for Ended<'a, R, K> {
     }
 }
 
-// Puts the end of a timer (ms) in, where there is one and room for it.
+// Puts a timer into the queue with its expiry (ms), if it runs and the queue has room for it.
 fn push_end(queue: &mut Queue, timer: Timer, end: Option<u64>)
     requires { 0 < queue.old.room }
     ensures armed { IsArmed (holds queue.new) timer end }
@@ -86,7 +86,7 @@ fn push_end(queue: &mut Queue, timer: Timer, end: Option<u64>)
     }
 }
 
-/// Puts the ends of a row into a queue that has room for them.
+/// Puts the timers of a row into a queue that has room for them.
 pub fn arm_row<R: Ends>(queue: &mut Queue, key: Key, row: R)
     requires { most_ends R.kinds.1 1 ≤ queue.old.room }
     ensures armed { IsRowArmed R.kinds R.ends (holds queue.new) key (Some row) }
@@ -102,7 +102,7 @@ pub fn arm_row<R: Ends>(queue: &mut Queue, key: Key, row: R)
     }
 }
 
-// Settles the queue after rows changed; whether its first is an end may be known.
+// Settles the queue after rows changed. `is_right` says whether its first entry is known to be right.
 pub(crate) fn settle_ended<R: Ends, K: Holding<R>>(rows: &K, queue: &mut Queue, is_right: bool)
     requires armed { AreArmed (ends_in R.kinds R.ends (K.table rows.now)) (holds queue.old) }
     requires right { is_right ≡ true → IsReal (ends_in R.kinds R.ends (K.table rows.now)) (holds queue.old) }

@@ -1,24 +1,23 @@
-//! Rows that end, and the kinds of their timers.
+//! Rows with timers, and the kinds of these.
 ghost use Rattle.std.specs.Prelude.{◌≡◌, ◌≢◌, ℕ, Option, Some};
 ghost use Rattle.pim_tables.specs.Ends.{Kinds};
 
 use pim_types::TimerKind;
 
-/// A row with two ends at most, each of a kind of its own. Ends are moments in ms; an end of `None`
-/// never comes.
+/// A row with at most two timers, each of a kind of its own. An end is when a timer expires, as a timestamp in ms;
+/// `None` never expires.
 pub trait Ends: Copy {
-    /// The kind of the first end, and that of the second where there is one.
+    /// The kind of the first timer, and that of the second if there is one.
     ghost kinds: { Kinds };
 
-    /// The first and the second end of a row.
+    /// When the first and the second timer of a row expire.
     ghost ends: { Self → Option ℕ × Option ℕ };
 
-    /// The kind of the first end, and that of the second where there is one.
+    /// The kind of the first timer, and that of the second if there is one.
     fn kinds() -> (TimerKind, Option<TimerKind>)
         ensures { result ≡ kinds };
 
-    /// The first and the second end of the row, in ms. Where there is no second kind, the second is
-    /// not looked at.
+    /// When the first and the second timer of the row expire, in ms. If there is no second kind, the second isn't used.
     fn ends(self) -> (Option<u64>, Option<u64>)
         ensures { result ≡ ends self };
 

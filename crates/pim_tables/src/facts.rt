@@ -39,7 +39,7 @@ impl<R> Model for Facts<R> {
 }
 
 impl<R> Facts<R> {
-    /// No facts; it takes no memory.
+    /// A table without facts. Takes no memory.
     pub fn new(alloc: Global) -> Self
         ensures { result ≡ [] }
     {
@@ -52,13 +52,13 @@ impl<R> Facts<R> {
     pub fn len(&self) -> usize
         ensures count { result ≡ length self.now }
 
-        // Of every table: the keys rise.
+        // This holds of every table: the keys rise.
         ensures ascending { IsStrictlySortedBy key_cmp (keys_in self.now) }
     {
         self.rows.len()
     }
 
-    /// The keys rise. It does nothing.
+    /// For the proof: the keys rise. Does nothing when it runs.
     pub fn recall_rising(&self)
         ensures { IsStrictlySortedBy key_cmp (keys_in self.now) }
     {
@@ -86,7 +86,7 @@ impl<R> Facts<R> {
         self.rows.iter()
     }
 
-    // Puts the keys of the (S,G,rpt) facts of the group on the interface behind the others, by rising key.
+    // Adds the keys of the (S,G,rpt) facts of the group on the interface at the end of the list, by rising key.
     fn push_rpt_keys_at(
         &self,
         iface: IfaceId,
@@ -104,8 +104,8 @@ impl<R> Facts<R> {
         Ok(())
     }
 
-    /// Puts the keys of the (S,G,rpt) facts of these groups on an interface behind the others, by rising key. No fact
-    /// of another group is looked at, but for one after each of them.
+    /// Adds the keys of the (S,G,rpt) facts of the given groups on an interface at the end of the list, by rising key.
+    /// Of other groups only one fact after each of the given ones is read.
     pub fn push_rpt_keys(
         &self,
         iface: IfaceId,
@@ -117,7 +117,7 @@ impl<R> Facts<R> {
             (keys_in self.now)) }
     {
         self.recall_rising();
-        // It tells that the groups rise.
+        // For the proof: the groups rise.
         let _ = groups.len();
         for group in groups {
             self.push_rpt_keys_at(iface, *group, keys)?;
@@ -132,7 +132,7 @@ impl<R> Facts<R> {
         RowsOf::among(&self.rows, iface, None)
     }
 
-    /// The facts of the group on the interface, by rising key. No other fact but the next one is looked at.
+    /// The facts of the group on the interface, by rising key. Of other facts only the next one is read.
     pub fn rows_at(&self, iface: IfaceId, group: Addr) -> RowsOf<'_, R>
         ensures { result ≡ filter (λ e. is_at_group iface.number group.bits e.0) self.now }
     {
@@ -148,7 +148,8 @@ impl<R: Copy> Facts<R> {
         self.rows.get(&key).copied()
     }
 
-    /// Puts the fact under the key, in place of one that is there. Only a further fact wants memory.
+    /// Puts the fact under the key, replacing one that is there. Memory is needed only where there was none. The error
+    /// is want of memory.
     pub fn put(&mut self, key: Key, row: R) -> Result<(), AllocError>
         ensures ok { OnOk result (self.new ≡ put self.old key row) }
         ensures absent { OnErr result (row_at self.old key ≡ None) }
@@ -158,14 +159,14 @@ impl<R: Copy> Facts<R> {
         Ok(())
     }
 
-    /// Takes the fact under the key away.
+    /// Removes the fact under the key.
     pub fn remove(&mut self, key: Key)
         ensures { self.new ≡ drop_at self.old key }
     {
         self.rows.remove(&key);
     }
 
-    // Takes the fact under the key away, and gives it.
+    // Removes the fact under the key, and returns it.
     pub(crate) fn pull(&mut self, key: Key) -> Option<R>
         ensures taken { result ≡ row_at self.old key }
         ensures left { self.new ≡ drop_at self.old key }
@@ -173,7 +174,7 @@ impl<R: Copy> Facts<R> {
         self.rows.remove(&key)
     }
 
-    /// Puts the fact under the key, or takes away the one that is there.
+    /// Puts the fact under the key, or removes the one that is there. The error is want of memory.
     pub fn set(&mut self, key: Key, row: Option<R>) -> Result<(), AllocError>
         ensures ok { OnOk result (self.new ≡ set_row self.old key row) }
         ensures err { OnErr result (self.new ≡ self.old) }
@@ -187,7 +188,7 @@ impl<R: Copy> Facts<R> {
         }
     }
 
-    /// Changes the fact under the key, where there is one, to this one.
+    /// Replaces the fact under the key, if there is one.
     pub fn change(&mut self, key: Key, row: R)
         ensures to { self.new ≡ change_row (λ _. Some row) key self.old }
         ensures by { (change : R → Option R) → IfSome (row_at self.old key) (λ before. change before ≡ Some row)
@@ -198,11 +199,11 @@ impl<R: Copy> Facts<R> {
         }
     }
 
-    /// How many facts are of the interface. Of the others one is looked at.
+    /// How many facts are of the interface. One fact of the others is read.
     pub fn count_on(&self, iface: IfaceId) -> usize
         ensures { result ≡ length (rows_on iface.number self.now) }
     {
-        // It tells that the count fits.
+        // For the proof: the count fits.
         let _ = self.len();
         let mut count = 0;
         for _row in self.rows_on(iface) {
@@ -219,7 +220,7 @@ impl<R: Copy> Facts<R> {
         Some(*key)
     }
 
-    /// Takes the facts of the interface away. Of the others one is looked at.
+    /// Removes the facts of the interface. One fact of the others is read.
     pub fn drop_on(&mut self, iface: IfaceId)
         ensures { self.new ≡ drop_where (is_on iface.number) self.old }
     {

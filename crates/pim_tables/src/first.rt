@@ -1,4 +1,4 @@
-//! The first of what ends in several tables.
+//! The timer that expires first, of several tables.
 ghost use Rattle.std.specs.Prelude.{◌≡◌, ◌++◌, List, option_map};
 ghost use Rattle.std.specs.Ordering.{is_lt};
 ghost use Rattle.pim_model.specs.Clearing.{first_by};
@@ -8,15 +8,14 @@ ghost use Rattle.pim_tables.specs.Ends.{due_of};
 
 use pim_types::Timer;
 
-// Whether the first comes before the second: by the moment, the kind and the key.
+// Whether the first timer comes before the second: by timestamp, then by kind, then by key.
 fn comes_before(first: (u64, Timer), second: (u64, Timer)) -> bool
     ensures { result ≡ is_lt (due_cmp first second) }
 {
     first.cmp(&second).is_lt()
 }
 
-/// What ends first in two tables, by what ends first in each, if anything does: a moment, in ms, and the timer
-/// that ends then.
+/// Which timer expires first in two tables, by the first of each, if there is one: a timestamp in ms, and the timer.
 pub fn earlier(one: Option<(u64, Timer)>, other: Option<(u64, Timer)>) -> Option<(u64, Timer)>
     ensures { (xs ys : List Ending) → one ≡ option_map due_of (first_by is_ending_first xs)
         → other ≡ option_map due_of (first_by is_ending_first ys)

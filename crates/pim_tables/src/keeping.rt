@@ -1,4 +1,4 @@
-//! What rows offer, however they are kept.
+//! What tables of rows offer, however the rows are kept.
 ghost use Rattle.std.specs.Prelude.{◌≡◌, ◌+◌, ◌≤◌, [], length, Option, Some, OnOk, OnErr};
 ghost use Rattle.std.specs.List.Sorted.{IsStrictlySortedBy};
 ghost use Rattle.pim_model.specs.Tables.{Table, keys_in, row_at, has_row, put, drop_at, change_row};
@@ -12,7 +12,7 @@ use pim_timers::Queue;
 use pim_types::Key;
 use std::alloc::{AllocError, Global};
 
-/// Rows, each under its key.
+/// A table that can be read: rows, each under its key.
 pub trait Holding<R: Ends> {
     /// The rows, by rising key.
     ghost table: { Self → Table R };
@@ -21,7 +21,7 @@ pub trait Holding<R: Ends> {
     fn count(&self) -> usize
         ensures { result ≡ length (table self.now) };
 
-    /// The keys rise. It does nothing.
+    /// For the proof: the keys rise. Does nothing when it runs.
     fn recall_rise(&self)
         ensures { IsStrictlySortedBy key_cmp (keys_in (table self.now)) };
 
@@ -33,7 +33,7 @@ pub trait Holding<R: Ends> {
     fn at(&self, key: Key) -> Option<R>
         ensures { result ≡ row_at (table self.now) key };
 
-    /// Puts the ends of all rows into a queue that has room for them.
+    /// Puts the timers of all rows into a queue that has room for them.
     fn arm_all(&self, queue: &mut Queue)
         requires { most_ends R.kinds.1 (length (table self.now)) ≤ queue.old.room }
         ensures armed { AreArmed (ends_in R.kinds R.ends (table self.now)) (holds queue.new) }
@@ -41,25 +41,25 @@ pub trait Holding<R: Ends> {
             ≤ most_ends R.kinds.1 (length (table self.now)) + length queue.old.dues };
 }
 
-/// Rows that change.
+/// A table that can be changed.
 pub trait Keeping<R: Ends>: Holding<R> {
-    /// No rows; it takes no memory.
+    /// A table without rows. Takes no memory.
     fn none(alloc: Global) -> Self
         ensures { Self.table result ≡ [] };
 
-    /// Puts the row under the key, in place of one that is there. An error is want of memory, and changes nothing.
+    /// Puts the row under the key, replacing one that is there. The error is want of memory, and changes nothing.
     fn insert(&mut self, key: Key, row: R) -> Result<(), AllocError>
         ensures ok { OnOk result (Self.table self.new ≡ put (Self.table self.old) key row) }
         ensures err { OnErr result (Self.table self.new ≡ Self.table self.old) };
 
-    /// Changes the row under the key, where there is one, in its place; what it was. A hint may tell the place of the row,
-    /// so that its key isn't looked up; whatever it is, it changes nothing of what is done.
+    /// Changes the row under the key, if there is one, in its place, and returns the row as it was. A hint may be the
+    /// place of the row, so that its key isn't looked up; the result doesn't depend on the hint.
     fn replace<C: Change<R>>(&mut self, hint: Option<usize>, key: Key, change: C) -> Option<R>
         ensures before { result ≡ row_at (Self.table self.old) key }
         ensures changed { Self.table self.new
             ≡ change_row (λ before. Some (C.after change before)) key (Self.table self.old) };
 
-    /// Takes the row under the key away, and gives it.
+    /// Removes the row under the key, and returns it.
     fn take(&mut self, key: Key) -> Option<R>
         ensures taken { result ≡ row_at (Self.table self.old) key }
         ensures left { Self.table self.new ≡ drop_at (Self.table self.old) key };

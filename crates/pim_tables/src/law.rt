@@ -1,4 +1,4 @@
-//! What the ends of the rows are in the written machine.
+//! How the timers of the rows are those of the specification (pim_model).
 ghost use Rattle.std.specs.Prelude.{◌≡◌, ◌++◌};
 ghost use Rattle.pim_model.specs.Clearing.{first_by};
 ghost use Rattle.pim_model.specs.State.{State};
@@ -12,7 +12,7 @@ use pim_types::fact::{
     SourceRow,
 };
 
-/// The first of the written machine's timers is the first of the ends of all tables' rows.
+/// The first timer of the specification's state is the first of the timers of all tables' rows.
 pub fn rows_end_as_written()
     ensures { (s : State) → next_ending s ≡ first_by is_ending_first (
         row_endings ⟦<NeighbourRow as Ends>⟧.kinds ⟦<NeighbourRow as Ends>⟧.ends s.neighbours

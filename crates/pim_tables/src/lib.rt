@@ -1,5 +1,5 @@
-//! Tables of facts, each under its key, in the order of the keys; where the facts end, a table tells
-//! which of them ends first.
+//! Tables of facts, each under its key, in the order of the keys. A table of facts with timers answers which timer
+//! expires first.
 #![tactic(auto, unfolding(pim_types::specs::Keys::key_cmp, pim_types::specs::Keys::addr_cmp, pim_model::specs::Tables::row_at, pim_model::specs::Tables::has_row, pim_model::specs::Tables::put, pim_model::specs::Tables::drop_at, pim_model::specs::Tables::drop_where, pim_model::specs::Tables::set_row, pim_model::specs::Tables::change_row, pim_model::specs::Tables::changed_entry, pim_model::specs::Tables::rows_on, pim_model::specs::Tables::keys_in))]
 
 pub mod change;

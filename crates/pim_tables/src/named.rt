@@ -1,4 +1,4 @@
-//! Keys that are named.
+//! Whether a key is in a list.
 ghost use Rattle.std.specs.Prelude.{◌≡◌};
 ghost use Rattle.pim_model.specs.Downstream.{is_named};
 ghost use Rattle.pim_types.specs.Keys.{same_key};
@@ -12,7 +12,7 @@ fn is_same(first: Key, second: Key) -> bool
     first.cmp(&second).is_eq()
 }
 
-/// Whether the key is among these.
+/// Whether the key is in the list.
 #[tactic(auto, unfolding(pim_model::specs::Downstream::is_named))]
 pub fn is_named(keys: &[Key], key: Key) -> bool
     ensures { result ≡ is_named keys.now key }

@@ -20,7 +20,7 @@ use std::collections::btree_map::Iter;
 use std::iter::FusedIterator;
 use std::marker::Model;
 
-/// Rows under their keys. Each stands at a place of its own, beside its key, until it is taken away.
+/// Rows under their keys. Each keeps a place of its own, with its key, until it is removed.
 pub struct Placed<R> {
     places: Facts<usize>,
     rows: Slab<(Key, R)>,
@@ -45,7 +45,7 @@ impl<R> Model for Placed<R> {
     ghost invariant = { λ p. ArePlaced (get p.rows) p.places };
 }
 
-// Whether the row under the key stands at the place.
+// Whether the row under the key is at the place.
 fn stands_at<R>(rows: &Slab<(Key, R)>, place: usize, key: Key) -> bool
     ensures { result ≡ true → key_placed (get rows.now) place ≡ Some key }
 {
@@ -55,7 +55,7 @@ fn stands_at<R>(rows: &Slab<(Key, R)>, place: usize, key: Key) -> bool
     }
 }
 
-// The place of the row under the key: the one that the hint tells, where that is right.
+// The place of the row under the key: that of the hint where the hint is right.
 fn find<R>(
     places: &Facts<usize>,
     rows: &Slab<(Key, R)>,
@@ -71,7 +71,7 @@ fn find<R>(
     }
 }
 
-// Changes the row at the place, where there is one; what it was.
+// Changes the row at the place, if there is one, and returns the row as it was.
 fn change_at<R: Copy, C: Change<R>>(rows: &mut Slab<(Key, R)>, place: usize, change: C) -> Option<R>
     ensures before { result ≡ option_map (λ e. e.1) (get rows.old place) }
     ensures changed { get rows.new place ≡ option_map (λ e. (e.0, C.after change e.1)) (get rows.old place) }
@@ -87,7 +87,7 @@ fn change_at<R: Copy, C: Change<R>>(rows: &mut Slab<(Key, R)>, place: usize, cha
     }
 }
 
-// Changes the row under the key, where there is one, in its place; what it was.
+// Changes the row under the key, if there is one, in its place, and returns the row as it was.
 fn replace_placed<R: Copy, C: Change<R>>(
     places: &Facts<usize>,
     rows: &mut Slab<(Key, R)>,
@@ -107,7 +107,7 @@ fn replace_placed<R: Copy, C: Change<R>>(
     }
 }
 
-// Puts a row under a key that has none. An error is want of memory, and changes nothing.
+// Puts a row under a key that has none. The error is want of memory, and changes nothing.
 fn add_placed<R: Copy>(
     places: &mut Facts<usize>,
     rows: &mut Slab<(Key, R)>,
@@ -123,13 +123,13 @@ fn add_placed<R: Copy>(
     rows.reserve(1)?;
     let place = rows.vacant_key();
     places.put(key, place)?;
-    // The keys still rise.
+    // For the proof: the keys still rise.
     places.recall_rising();
     rows.insert_reserved((key, row));
     Ok(())
 }
 
-// Takes the row under the key away, and gives it.
+// Removes the row under the key, and returns it.
 fn take_placed<R: Copy>(places: &mut Facts<usize>, rows: &mut Slab<(Key, R)>, key: Key) -> Option<R>
     requires { ArePlaced (get rows.old) places.old }
     ensures taken { result ≡ row_at (rows_placed (get rows.old) places.old) key }
@@ -138,7 +138,7 @@ fn take_placed<R: Copy>(places: &mut Facts<usize>, rows: &mut Slab<(Key, R)>, ke
 {
     match places.pull(key) {
         Some(place) => {
-            // The keys still rise.
+            // For the proof: the keys still rise.
             places.recall_rising();
             match rows.try_remove(place) {
                 Some(entry) => Some(entry.1),
@@ -150,8 +150,8 @@ fn take_placed<R: Copy>(places: &mut Facts<usize>, rows: &mut Slab<(Key, R)>, ke
 }
 
 impl<R> Placed<R> {
-    /// The place of the row under the key, if there is one, while it stands there. A call that changes a row takes it for a
-    /// hint, so that nothing rests on which it is.
+    /// The place of the row under the key, if there is one. It is valid as long as the row is there. A call that
+    /// changes a row takes it as a hint, so that no result depends on it.
     pub fn place(&self, key: Key) -> Option<usize>
         ensures { is_some result ≡ has_row self.now key }
     {
@@ -222,7 +222,7 @@ impl<R: Ends> Keeping<R> for Placed<R> {
     }
 }
 
-/// The rows that are left, by rising key.
+/// The remaining rows, by rising key.
 pub struct PlacedRows<'a, R> {
     places: Iter<'a, Key, usize>,
     rows: &'a Slab<(Key, R)>,

@@ -1,4 +1,4 @@
-//! When the rows of each table end.
+//! When the timers of the rows of each table expire.
 ghost use Rattle.std.specs.Prelude.{Some, None};
 ghost use Rattle.pim_model.specs.Timers.{next_query, other_querier_end, register_end};
 ghost use Rattle.pim_types.specs.declared.timer.TimerKind.{TimerKind as Kind};

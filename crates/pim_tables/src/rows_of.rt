@@ -10,7 +10,7 @@ use std::collections::BTreeMap;
 use std::collections::btree_map::Range;
 use std::marker::Model;
 
-/// The rows of an interface, or of a group on it, that are left, by rising key.
+/// The remaining rows of an interface, or of a group on it, by rising key.
 pub struct RowsOf<'a, R> {
     left: Range<'a, Key, R>,
     iface: IfaceId,
@@ -40,7 +40,7 @@ impl<'a, R> Model for RowsOf<'a, R> {
     ghost invariant = { λ w. RiseFrom w.iface.number w.group w.left };
 }
 
-// Whether the key is of the interface, and of the group where there is one.
+// Whether the key is of the interface, and of the group if there is one.
 fn is_of(iface: IfaceId, group: Option<Addr>, key: Key) -> bool
     ensures { result ≡ is_of iface.number group key }
 {
@@ -54,7 +54,7 @@ fn is_of(iface: IfaceId, group: Option<Addr>, key: Key) -> bool
 }
 
 impl<'a, R> RowsOf<'a, R> {
-    // Those of the rows of a table.
+    // The interface's rows, or the group's, among those of a table.
     pub(crate) fn among(
         rows: &'a BTreeMap<Key, R, Global>,
         iface: IfaceId,

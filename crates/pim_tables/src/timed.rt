@@ -1,4 +1,5 @@
-//! A table whose rows end. A queue of the ends that the rows know stands beside them, so that no caller sets a timer.
+//! A table whose rows have timers. It has a queue of when the rows' timers expire, which it keeps in step, so that no
+//! caller sets a timer.
 ghost use Rattle.std.specs.Prelude.{◌≡◌, [], length, IfOk, IfSome, OnOk, OnErr, Option, Some, None, option_map};
 ghost use Rattle.std.specs.List.Sorted.{IsStrictlySortedBy};
 ghost use Rattle.pim_model.specs.Clearing.{first_by};
@@ -16,7 +17,7 @@ use pim_types::{IfaceId, Key, Timer};
 use std::alloc::{AllocError, Global};
 use std::marker::Model;
 
-/// The facts of one kind, which end.
+/// The facts of one kind, which have timers.
 pub struct Timed<R: Ends, K: Keeping<R> = Facts<R>> {
     rows: K,
     queue: EndQueue<R>,
@@ -40,8 +41,8 @@ impl<R: Ends, K: Keeping<R>> Model for Timed<R, K> {
     ghost invariant = { λ a. InStep R.kinds R.ends a.queue (K.table a.rows) };
 }
 
-// Leaves what a refusal leaves under the key of a row that was changed: the row that was there, where rows have no second
-// end, else none.
+// Leaves under the key of a changed row what a refusal is to leave: the row as it was where rows have no second timer,
+// else none.
 fn put_back<R: Ends, K: Keeping<R>>(rows: &mut K, hint: Option<usize>, key: Key, before: R)
     ensures { K.table rows.new ≡ back_at R.kinds.1 (K.table rows.old) key before }
 {
@@ -55,8 +56,8 @@ fn put_back<R: Ends, K: Keeping<R>>(rows: &mut K, hint: Option<usize>, key: Key,
     }
 }
 
-// Changes the row under the key, where there is one, in its place, and moves its ends; what it was. The row is looked up
-// once. An error is want of memory.
+// Changes the row under the key, if there is one, in its place, and its timers, and returns the row as it was. The row
+// is looked up once. The error is want of memory.
 fn update_in_step<R: Ends, K: Keeping<R>, C: Change<R>>(
     rows: &mut K,
     queue: &mut EndQueue<R>,
@@ -71,7 +72,7 @@ fn update_in_step<R: Ends, K: Keeping<R>, C: Change<R>>(
     ensures err { OnErr result (K.table rows.new ≡ left_at R.kinds.1 (K.table rows.old) key) }
     ensures in_step { InStep R.kinds R.ends queue.new (K.table rows.new) }
 {
-    // A key stands once, so that the row can be put back.
+    // For the proof: a key is listed once, so that the row can be put back.
     rows.recall_rise();
     let Some(before) = rows.replace(hint, key, change) else {
         return Ok(None);
@@ -86,7 +87,7 @@ fn update_in_step<R: Ends, K: Keeping<R>, C: Change<R>>(
     Ok(Some(before))
 }
 
-// Puts a row under a key that has none, and its ends into the queue. An error is want of memory, and changes no row.
+// Puts a row under a key that has none, and its timers into the queue. The error is want of memory, and changes no row.
 fn insert_armed<R: Ends, K: Keeping<R>>(
     rows: &mut K,
     queue: &mut EndQueue<R>,
@@ -103,7 +104,8 @@ fn insert_armed<R: Ends, K: Keeping<R>>(
     rows.insert(key, row)
 }
 
-// Puts a row with its ends under a key that has none. An error is want of memory, and changes no row.
+// Puts a row with its timers under a key that has none, and settles the queue. The error is want of memory, and changes
+// no row.
 fn add_in_step<R: Ends, K: Keeping<R>>(
     rows: &mut K,
     queue: &mut EndQueue<R>,
@@ -121,7 +123,7 @@ fn add_in_step<R: Ends, K: Keeping<R>>(
     added
 }
 
-// Puts the row with its ends under the key, in place of one that is there. An error is want of memory.
+// Puts the row with its timers under the key, replacing one that is there. The error is want of memory.
 fn put_in_step<R: Ends, K: Keeping<R>>(
     rows: &mut K,
     queue: &mut EndQueue<R>,
@@ -133,7 +135,7 @@ fn put_in_step<R: Ends, K: Keeping<R>>(
     ensures err { OnErr result (K.table rows.new ≡ left_at R.kinds.1 (K.table rows.old) key) }
     ensures in_step { InStep R.kinds R.ends queue.new (K.table rows.new) }
 {
-    // What is put under a key that is there stands in its place.
+    // For the proof: what is put under a key with a row takes the place of that row.
     rows.recall_rise();
     match update_in_step(rows, queue, None, key, To { row })? {
         Some(_) => Ok(()),
@@ -142,7 +144,7 @@ fn put_in_step<R: Ends, K: Keeping<R>>(
 }
 
 impl<R: Ends, K: Keeping<R>> Timed<R, K> {
-    /// No facts; it takes no memory.
+    /// A table without facts. Takes no memory.
     pub fn new(alloc: Global) -> Self
         ensures { result ≡ [] }
     {
@@ -152,7 +154,7 @@ impl<R: Ends, K: Keeping<R>> Timed<R, K> {
         }
     }
 
-    /// The facts as they are kept.
+    /// The facts, in the table that keeps them.
     pub fn rows(&self) -> &K
         ensures { K.table result.now ≡ self.now }
     {
@@ -163,14 +165,14 @@ impl<R: Ends, K: Keeping<R>> Timed<R, K> {
     pub fn len(&self) -> usize
         ensures count { result ≡ length self.now }
 
-        // Of every table: the keys rise.
+        // This holds of every table: the keys rise.
         ensures ascending { IsStrictlySortedBy key_cmp (keys_in self.now) }
     {
         self.rows.recall_rise();
         self.rows.count()
     }
 
-    /// The keys rise. It does nothing.
+    /// For the proof: the keys rise. Does nothing when it runs.
     pub fn recall_rising(&self)
         ensures { IsStrictlySortedBy key_cmp (keys_in self.now) }
     {
@@ -191,18 +193,18 @@ impl<R: Ends, K: Keeping<R>> Timed<R, K> {
         self.rows.at(key)
     }
 
-    /// Which fact ends first, and when (ms): the least end by its moment, its kind and its key. `None`
-    /// where no fact ever ends.
+    /// Which timer expires first, and when, in ms: the least by timestamp, then by kind, then by key. `None` where no
+    /// timer runs.
     pub fn next(&self) -> Option<(u64, Timer)>
         ensures { result ≡ option_map due_of (first_by is_ending_first (row_endings R.kinds R.ends self.now)) }
     {
-        // A key stands once, so that the queue holds all the ends.
+        // For the proof: a key is listed once, so that the queue has all timers.
         self.rows.recall_rise();
         self.queue.first()
     }
 
-    /// Puts the fact under the key, in place of one that is there. An error is want of memory: facts with one
-    /// end are then as they were, and of those with two none is under the key.
+    /// Puts the fact under the key, replacing one that is there. The error is want of memory: facts with one timer are
+    /// then unchanged, and of those with two there is none under the key.
     pub fn put(&mut self, key: Key, row: R) -> Result<(), AllocError>
         ensures ok { OnOk result (self.new ≡ put self.old key row) }
         ensures err { OnErr result (self.new ≡ left_at R.kinds.1 self.old key) }
@@ -210,8 +212,8 @@ impl<R: Ends, K: Keeping<R>> Timed<R, K> {
         put_in_step(&mut self.rows, &mut self.queue, key, row)
     }
 
-    /// Puts the fact under a key that has none, so that no other is looked for. An error is want of memory, and changes no
-    /// fact.
+    /// Puts the fact under a key that has none, so that no other is looked for. The error is want of memory, and
+    /// changes no fact.
     pub fn add(&mut self, key: Key, row: R) -> Result<(), AllocError>
         requires { row_at self.old key ≡ None }
         ensures ok { OnOk result (self.new ≡ put self.old key row) }
@@ -220,9 +222,9 @@ impl<R: Ends, K: Keeping<R>> Timed<R, K> {
         add_in_step(&mut self.rows, &mut self.queue, key, row)
     }
 
-    /// Changes the fact under the key, where there is one, in its place, and answers what it was. The fact is looked up
-    /// once, or not at all where the hint is its place (`place` of `Placed`); whatever the hint is, the same is done. An
-    /// error is want of memory, and leaves what one of `put` leaves.
+    /// Changes the fact under the key, if there is one, in its place, and returns the fact as it was. The fact is
+    /// looked up once, or not at all where the hint is its place (`place` of `Placed`); the result doesn't depend on
+    /// the hint. The error is want of memory, and leaves what an error of `put` leaves.
     pub fn update<C: Change<R>>(
         &mut self,
         hint: Option<usize>,
@@ -236,7 +238,7 @@ impl<R: Ends, K: Keeping<R>> Timed<R, K> {
         update_in_step(&mut self.rows, &mut self.queue, hint, key, change)
     }
 
-    /// Takes the fact under the key away.
+    /// Removes the fact under the key.
     pub fn remove(&mut self, key: Key)
         ensures { self.new ≡ drop_at self.old key }
     {
@@ -244,8 +246,8 @@ impl<R: Ends, K: Keeping<R>> Timed<R, K> {
         self.queue.settle(&self.rows, key);
     }
 
-    /// Puts the fact under the key, or takes away the one that is there. An error is want of memory, and leaves
-    /// what one of `put` leaves.
+    /// Puts the fact under the key, or removes the one that is there. The error is want of memory, and leaves what an
+    /// error of `put` leaves.
     pub fn set(&mut self, key: Key, row: Option<R>) -> Result<(), AllocError>
         ensures ok { OnOk result (self.new ≡ set_row self.old key row) }
         ensures err { OnErr result (self.new ≡ left_at R.kinds.1 self.old key) }
@@ -259,8 +261,8 @@ impl<R: Ends, K: Keeping<R>> Timed<R, K> {
         }
     }
 
-    /// Changes the fact under the key, where there is one, to this one. An error is want of memory, and leaves
-    /// what one of `put` leaves.
+    /// Replaces the fact under the key, if there is one. The error is want of memory, and leaves what an error of `put`
+    /// leaves.
     pub fn change(&mut self, key: Key, row: R) -> Result<(), AllocError>
         ensures to { OnOk result (self.new ≡ change_row (λ _. Some row) key self.old) }
         ensures by { OnOk result ((change : R → Option R)
@@ -268,7 +270,7 @@ impl<R: Ends, K: Keeping<R>> Timed<R, K> {
             → self.new ≡ change_row change key self.old) }
         ensures err { OnErr result (self.new ≡ left_at R.kinds.1 self.old key) }
     {
-        // A key stands once.
+        // For the proof: a key is listed once.
         self.rows.recall_rise();
         update_in_step(&mut self.rows, &mut self.queue, None, key, To { row })?;
         Ok(())
@@ -277,12 +279,12 @@ impl<R: Ends, K: Keeping<R>> Timed<R, K> {
 
 // A table in an ordered map.
 impl<R: Ends> Timed<R> {
-    /// Takes the facts of the interface away. Of the others one is looked at.
+    /// Removes the facts of the interface. One fact of the others is read.
     pub fn drop_on(&mut self, iface: IfaceId)
         ensures { self.new ≡ drop_where (is_on iface.number) self.old }
     {
         self.rows.drop_on(iface);
-        // What ends first may have gone.
+        // The fact whose timer expires first may be among the removed ones.
         self.queue.settle_all(&self.rows);
     }
 }

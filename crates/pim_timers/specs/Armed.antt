@@ -14,7 +14,7 @@ pub record Entries : Type 0 where
 unfoldable pub holds : Entries → Due → Bool
 holds queue d = list_any (λ e. same_due d e.0) queue.dues
 
--- where the timer ends, an entry of it is held at or below its end
+-- If the timer runs, the queue has an entry of it at or before its expiry.
 abbrev pub IsArmed : (Due → Bool) → Timer → Option ℕ → Type 0
 IsArmed held timer end = (m : ℕ) → end ≡ Some m → (e : ℕ) × (e ≤ m) × (held (e, timer) ≡ true)
 
@@ -30,7 +30,8 @@ IsReal end_of held = (due : Due) → IsFirst held (Some due) → end_of due.1 �
 abbrev pub Grows : (before after : Due → Bool) → Type 0
 Grows before after = (d : Due) → before d ≡ true → after d ≡ true
 
--- both, with at most twice as many entries as timers can end, and 64
+-- The queue is settled: each timer that runs is armed, the first entry is right, and there are at most twice as many
+-- entries as timers can run, and 64.
 pub record IsSettled (end_of : Timer → Option ℕ) (most : ℕ) (queue : Entries) : Type 0 where
   pub armed : AreArmed end_of (holds queue)
   pub real : IsReal end_of (holds queue)

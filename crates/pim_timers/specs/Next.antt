@@ -15,7 +15,7 @@ abbrev pub IsNext : (Timer → Option ℕ) → Option (ℕ × Timer) → Type 0
 IsNext end_of None = (timer : Timer) → end_of timer ≡ None
 IsNext end_of (Some due) = IsLeast end_of due
 
--- at most one is next
+-- At most one timer is next.
 abbrev pub OneIsNext : Type 0
 OneIsNext =
     (end_of : Timer → Option ℕ) (first second : Option (ℕ × Timer)) → IsNext end_of first → IsNext end_of second

@@ -23,7 +23,7 @@ impl Model for Dues {
 }
 
 impl Dues {
-    /// None; it takes no memory.
+    /// A list without entries. Takes no memory.
     pub fn new(alloc: Global) -> Self
         ensures { result ≡ [] }
     {

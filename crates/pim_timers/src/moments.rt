@@ -101,7 +101,7 @@ impl Schedule for Moments {
     }
 
     fn arm_all(&self, queue: &mut Queue) {
-        // It tells that each timer stands once.
+        // For the proof: each timer stands once.
         let _ = self.moments.len();
         for (timer, moment) in self.moments.iter() {
             queue.push_in_room((*moment, *timer));

@@ -12,12 +12,12 @@ use std::cmp::Reverse;
 use std::collections::BinaryHeap;
 use std::marker::Model;
 
-/// So many entries may be left over however few timers end.
+/// How many outdated entries the queue may have at least, however few timers run.
 const SPARE: usize = 32;
 
-/// Moments (ms), each with a timer that ends then, or later, or not at all any more. The first is the least by its moment,
-/// and of one moment by the kind and the key of its timer. An end that moves later stays where it is; it is put right once it
-/// comes first. So the first is an end, wherever the queue is settled, while others may be none.
+/// Moments (ms), each with a timer that ends then, or later, or not at all any more. The first is the least by its
+/// moment, and of one moment by the kind and the key of its timer. An end that moves later stays where it is; it is put
+/// right once it comes first. So the first is an end, wherever the queue is settled, while others may be none.
 #[derive(Drop)]
 pub struct Queue {
     heap: BinaryHeap<Reverse<(u64, Timer)>>,
@@ -66,8 +66,8 @@ impl Queue {
         }
     }
 
-    // Makes room for an entry more, where there is none. There is a quarter more each time, not as much again: entries are
-    // most of what an end takes. An error is want of memory.
+    // Makes room for an entry more, where there is none. There is a quarter more each time, not as much again: entries
+    // are most of what an end takes. An error is want of memory.
     fn make_room(&mut self) -> Result<(), AllocError>
         ensures { self.new.dues ≡ self.old.dues }
     {
@@ -184,8 +184,8 @@ impl Queue {
         schedule.arm_all(self);
     }
 
-    /// Makes the first an end, after ends were moved and those that moved were armed; that it is one already may be known. Where
-    /// there are far more entries than ends, they are put in anew, which takes no memory.
+    /// Makes the first an end, after ends were moved and those that moved were armed; that it is one already may be
+    /// known. Where there are far more entries than ends, they are put in anew, which takes no memory.
     pub fn settle<S: Schedule>(&mut self, schedule: &S, is_right: bool)
         requires armed { AreArmed (S.end_of schedule.now) (holds self.old) }
         requires right { is_right ≡ true → IsReal (S.end_of schedule.now) (holds self.old) }

@@ -6,12 +6,12 @@ ghost use Rattle.pim_timers.specs.Armed.{AreArmed, holds};
 use crate::queue::Queue;
 use pim_types::Timer;
 
-/// Those who know when each timer ends (ms), beside a queue of the ends.
+/// What knows when each timer expires (ms), for a queue of these timestamps.
 pub trait Schedule {
     /// When each timer ends, if it does.
     ghost end_of: { Self → TimerValue → Option ℕ };
 
-    /// At most so many timers end.
+    /// The most timers that run.
     ghost most: { Self → ℕ };
 
     /// When the timer ends, in ms, if it does.

@@ -45,7 +45,7 @@ pub trait Timers {
         ensures due { IfSome result (λ due. due.0 ≤ moment) }
         ensures taken { IfSome result (λ due. contents self.new ≡ map.remove (contents self.old) due.1) }
 
-        // With nothing to take, each timer that is set ends later.
+        // If nothing is taken, each timer that is set expires later.
         ensures later { IfNone result (EndAfter (map.get (contents self.old)) moment) }
         ensures kept { IfNone result (contents self.new ≡ contents self.old) };
 }

@@ -12,7 +12,8 @@ use pim_types::Timer;
 use std::alloc::{AllocError, Global};
 use std::marker::Model;
 
-/// Timers by their moments, and a queue of what they end at, in which one that moves later isn't touched until it comes first.
+/// Timers by their moments, and a queue of what they end at, in which one that moves later isn't touched until it comes
+/// first.
 #[derive(Drop)]
 pub struct Wheel {
     queue: Queue,

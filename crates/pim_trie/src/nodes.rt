@@ -163,8 +163,8 @@ fn has_room<V>(nodes: &Slab<Node<V>>) -> bool
     capacity - nodes.len() >= 2 && capacity <= MOST_NODES
 }
 
-// Makes room for the two nodes that a new value may want. There is a quarter more each time, not as much again: nodes are most
-// of what a trie takes.
+// Makes room for the two nodes that a new value may want. There is a quarter more each time, not as much again: nodes
+// are most of what a trie takes.
 pub(crate) fn make_room<V>(
     nodes: &mut Slab<Node<V>>,
     root: Option<usize>,

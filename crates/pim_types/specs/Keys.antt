@@ -10,7 +10,7 @@ use Rattle.pim_types.specs.declared.fact.Key.{Key}
 unfoldable pub addr_cmp : Addr → Addr → Ordering
 addr_cmp a b = nat_cmp a.bits b.bits
 
--- by interface, group, (*,G) before its sources, source, (S,G) before (S,G,rpt)
+-- The order of keys: by interface, group, (*,G) before its sources, source, (S,G) before (S,G,rpt).
 unfoldable pub key_cmp : Key → Key → Ordering
 key_cmp a b =
     ordering_then (nat_cmp a.iface.number b.iface.number)
@@ -24,7 +24,7 @@ abbrev pub key_of : ℕ → ℕ → Option ℕ → Bool → Key
 key_of i g source rpt =
     record { iface = record { number = i }; group = addr g; source = option_map addr source; rpt = rpt }
 
--- (*,G), (S,G) and (S,G,rpt) on an interface; of the whole router they are on interface 0
+-- The keys of (*,G), (S,G) and (S,G,rpt) on an interface; keys of the whole router are on interface 0.
 abbrev pub star_key : ℕ → ℕ → Key
 star_key i g = key_of i g None false
 
@@ -34,7 +34,7 @@ source_key i g src = key_of i g (Some src) false
 abbrev pub rpt_key : ℕ → ℕ → ℕ → Key
 rpt_key i g src = key_of i g (Some src) true
 
--- an interface, and a neighbour on it
+-- The keys of an interface, and of a neighbour on it.
 abbrev pub iface_key : ℕ → Key
 iface_key i = key_of i 0 None false
 
@@ -47,14 +47,14 @@ iface_in k = k.iface.number
 abbrev pub group_in : Key → ℕ
 group_in k = k.group.bits
 
--- the source, or 0 where there is none
+-- The source of a key, or 0 where it has none.
 abbrev pub source_in : Key → ℕ
 source_in k = option_map_or (λ a. a.bits) k.source 0
 
 abbrev pub is_star : Key → Bool
 is_star k = is_none k.source
 
--- the key is about this source of this group, on whichever interface
+-- The key is about this source of this group, on any interface.
 unfoldable pub names_source : ℕ → ℕ → Key → Bool
 names_source g src k = (group_in k == g) && is_some k.source && (source_in k == src)
 

@@ -1,4 +1,4 @@
--- The order of timers: that of their kinds, and in one kind that of their keys.
+-- The order of timers: that of their kinds, and within one kind that of their keys.
 use Rattle.std.specs.Ordering.{nat_cmp, ordering_then}
 use Rattle.std.specs.Prelude.{ℕ}
 use Rattle.std.specs.declared.cmp.Ordering.{Ordering}
@@ -6,7 +6,7 @@ use Rattle.pim_types.specs.declared.timer.Timer.{Timer}
 use Rattle.pim_types.specs.declared.timer.TimerKind.{TimerKind}
 use Rattle.pim_types.specs.Keys.{key_cmp}
 
--- at one moment the kinds fire in the order of their ranks
+-- The rank of a kind: timers with the same timestamp expire in the order of their ranks.
 unfoldable pub rank : TimerKind → ℕ
 rank TimerKind.Neighbour = 1
 rank TimerKind.PrunePending = 2

@@ -9,10 +9,10 @@ pub struct IfaceId {
 }
 
 impl IfaceId {
-    /// What a key of the whole router has in place of an interface. It is the number of interface 0, and no fact can be
-    /// taken for another by it: each table has facts of interfaces alone, or, as Join timers, override timers, sources
-    /// and registers, of the whole router alone. Where keys of both stand in one list, which is what a change touches,
-    /// their groups and sources alone are read.
+    /// The interface in a key of the whole router. It is the number of interface 0, and no fact can be taken for
+    /// another by it: each table has facts of interfaces only, or, as Join timers, override timers, sources and
+    /// registers, facts of the whole router only. Where keys of both are in one list (the keys that a change touches),
+    /// only their groups and sources are read.
     pub const NONE: IfaceId = IfaceId { number: 0 };
 }
 
@@ -32,7 +32,7 @@ pub struct InterfaceConfig {
 }
 
 impl InterfaceConfig {
-    /// What stands for an interface that isn't configured.
+    /// The configuration that is read for an interface that isn't configured.
     pub const UNCONFIGURED: InterfaceConfig = InterfaceConfig {
         address: Addr { bits: 0 },
         length: 0,
@@ -49,7 +49,7 @@ impl InterfaceConfig {
     pub const DEFAULT_OVERRIDE_INTERVAL: u32 = 2500;
 }
 
-/// What a place for an interface holds before one is put there.
+/// The value of a place for an interface before one is put there.
 impl Default for InterfaceConfig {
     fn default() -> Self {
         Self::UNCONFIGURED
@@ -83,7 +83,7 @@ pub struct RpRange {
     pub rp: Addr,
 }
 
-/// What a router is made with.
+/// The configuration that a router is made of.
 pub struct Config {
     /// The interfaces in the order of their numbers, 1 to 120.
     pub interfaces: Series<InterfaceConfig>,

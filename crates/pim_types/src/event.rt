@@ -1,11 +1,11 @@
-//! Events.
+//! What happens to a router.
 use crate::config::{IfaceId, Route, RpRange};
 use crate::series::Series;
 
 /// What happens to a router in one step.
 #[derive(Drop)]
 pub enum EventKind {
-    /// Time passes up to the moment: what is due by then fires.
+    /// Time passes up to this timestamp, in ms: the timers that are due by then expire.
     Advance { moment: u64 },
     /// An IPv4 packet received on a link.
     Frame { iface: IfaceId, bytes: Series<u8> },
@@ -21,7 +21,7 @@ pub enum EventKind {
     Rps { rps: Series<RpRange> },
 }
 
-/// An event with the number from which its random delays are drawn.
+/// An event, with the number from which its random delays are drawn.
 #[derive(Drop)]
 pub struct Event {
     pub draw: u32,

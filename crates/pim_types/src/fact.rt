@@ -13,9 +13,9 @@ use crate::path::Hop;
 use pim_ip::{Addr, LanDelay};
 use std::cmp::Ordering;
 
-/// The key of every fact and of every timer. What a fact doesn't have is 0, or `None`: a fact of the
-/// whole router has interface 0, one of an interface group 0.0.0.0; `source: None` is (*,G), and a
-/// neighbour's address stands in `source`. Keys compare by these fields in this order.
+/// The key of every fact and of every timer. A field that a fact doesn't have is 0, or `None`: a fact of the whole
+/// router has interface 0, and a fact of an interface has group 0.0.0.0. `source: None` is (*,G). A neighbour's address
+/// is in `source`. Keys compare by these fields in this order.
 #[derive(Clone, Copy, PartialEq, Eq, Hash)]
 pub struct Key {
     pub iface: IfaceId,
@@ -35,7 +35,7 @@ impl PartialOrd for Key {
     }
 }
 
-// A look-up in an ordered table compares some ten keys, and two numbers are compared faster than four fields.
+// A look-up in an ordered table compares about ten keys, and two numbers are compared faster than four fields.
 impl Ord for Key {
     ghost cmp = { fields_cmp };
 
@@ -127,14 +127,14 @@ impl Key {
         Key::star(IfaceId::NONE, group)
     }
 
-    /// The source, or a neighbour's address; 0.0.0.0 where the key has none.
+    /// The source, or a neighbour's address; 0.0.0.0 for a key with neither.
     pub fn address(self) -> Addr
         ensures { result.bits ≡ source_in self }
     {
         self.source.unwrap_or(Addr::NONE)
     }
 
-    /// The source and the group of a key of (S,G) or (S,G,rpt). One of (*,G) has 0.0.0.0 for a source.
+    /// The source and the group of a key of (S,G) or (S,G,rpt). A key of (*,G) has 0.0.0.0 as its source.
     pub fn name(self) -> SourceGroup
         ensures source { result.source.bits ≡ source_in self }
         ensures group { result.group ≡ self.group }
@@ -157,7 +157,7 @@ impl Key {
     }
 }
 
-// A source as a number: none is 0, and below all others.
+// A source as a number: no source is 0, and below all others.
 fn source_number(source: Option<Addr>) -> u64
     ensures number { result ≡ source_number source }
     ensures bound { result < 2 ^ 33 }
@@ -173,16 +173,16 @@ fn source_number(source: Option<Addr>) -> u64
 pub struct InterfaceRow {
     /// The generation ID that the router announces.
     pub generation: u32,
-    /// When the next Hello leaves.
+    /// When the next Hello leaves, in ms.
     pub hello_end: u64,
-    /// A Hello goes before the next Join/Prune or Assert.
+    /// Whether a Hello goes before the next Join/Prune or Assert.
     pub is_hello_owed: bool,
 }
 
 /// A neighbour, by its last Hello.
 #[derive(Clone, Copy)]
 pub struct NeighbourRow {
-    /// `None` never ends.
+    /// When its holdtime expires, in ms; `None` never expires.
     pub end: Option<u64>,
     pub lan_delay: Option<LanDelay>,
     pub priority: Option<u32>,
@@ -192,9 +192,10 @@ pub struct NeighbourRow {
 /// Whether the router queries on an interface (RFC 3376, section 6.6.2).
 #[derive(Clone, Copy)]
 pub enum QuerierRole {
-    /// The next general query, and how many of the startup queries are still to leave with it.
+    /// The router queries: when the next general query leaves, in ms, and how many of the startup queries are still to
+    /// leave with it.
     Querier { next_query: u64, startup_left: u8 },
-    /// Another router queries, unless it is silent until then.
+    /// Another router queries. The router takes over at this timestamp, in ms, unless it hears a query before.
     NonQuerier { end: u64 },
 }
 
@@ -208,13 +209,13 @@ pub struct QuerierRow {
     pub query_interval: u16,
 }
 
-/// A group record: in EXCLUDE mode exactly while its timer runs.
+/// A group record. It is in EXCLUDE mode exactly while its timer runs.
 #[derive(Clone, Copy)]
 pub struct GroupRecordRow {
     pub end: Option<u64>,
 }
 
-/// A source of a group record; without an end it is excluded.
+/// A source of a group record. A source without a running timer is excluded.
 #[derive(Clone, Copy)]
 pub struct SourceRecordRow {
     pub end: Option<u64>,
@@ -239,11 +240,11 @@ pub struct SendingRow {
     pub left: u32,
 }
 
-/// A downstream state (RFC 7761, sections 4.5.1 to 4.5.3). With a pending end it is Prune-Pending,
-/// without one it is Join, or Prune for (S,G,rpt).
+/// A downstream state (RFC 7761, sections 4.5.1 to 4.5.3). With a pending end it is Prune-Pending. Without one it is
+/// Join, or Prune for (S,G,rpt).
 #[derive(Clone, Copy)]
 pub struct DownstreamRow {
-    /// `None` never ends.
+    /// When its expiry timer expires, in ms; `None` never expires.
     pub expiry: Option<u64>,
     pub pending: Option<u64>,
 }
@@ -251,7 +252,7 @@ pub struct DownstreamRow {
 /// The metric of an Assert (RFC 7761, section 4.6.3).
 #[derive(Clone, Copy)]
 pub struct AssertMetric {
-    /// The R bit: forwarded on the shared tree.
+    /// The R bit: the data came on the shared tree.
     pub rpt: bool,
     pub preference: u32,
     pub metric: u32,
@@ -265,7 +266,7 @@ pub enum AssertRole {
     Loser,
 }
 
-/// An assert that was decided: the winner's metric, the router's own where it is the winner.
+/// A decided assert: the winner's metric, which is the router's own where it is the winner.
 #[derive(Clone, Copy)]
 pub struct AssertRow {
     pub role: AssertRole,
@@ -273,13 +274,13 @@ pub struct AssertRow {
     pub end: u64,
 }
 
-/// When the next Join of an upstream state leaves.
+/// When the next Join of an upstream state leaves, in ms.
 #[derive(Clone, Copy)]
 pub struct JoinTimerRow {
     pub end: u64,
 }
 
-/// When a Join(S,G,rpt) leaves that overrides another router's Prune.
+/// When a Join(S,G,rpt) leaves that overrides another router's Prune, in ms.
 #[derive(Clone, Copy)]
 pub struct OverrideTimerRow {
     pub end: u64,

@@ -1,8 +1,7 @@
-//! The values of the router: its configuration, the events that it takes, what it answers and sends,
-//! the rows of its facts with their one key, and the rows of its printed tables. There is no
-//! behaviour here.
+//! The values of the router: its configuration, the events that it takes, its answers and packets, the rows of its
+//! facts with their one key, and the rows of its printed tables. There is no behaviour here.
 //!
-//! Times are moments in milliseconds, unless another unit is named.
+//! Times are timestamps in milliseconds, unless another unit is named.
 #![tactic(auto)]
 
 pub mod config;

@@ -8,7 +8,7 @@ use pim_ip::{Addr, Refusal};
 pub enum Ignored {
     /// The IP source of a frame is an address of the router.
     Own,
-    /// The destination isn't the router's, or the message doesn't belong where it came.
+    /// The destination isn't the router's, or the message may not come where it came.
     NotForMe,
     /// A PIM type that the router doesn't handle.
     OtherType,
@@ -16,7 +16,7 @@ pub enum Ignored {
     Mask,
     /// A group of 224.0.0.0/24.
     LinkLocal,
-    /// From an address without a live Hello.
+    /// From an address that isn't a neighbour.
     NoNeighbour,
     /// A Register-Stop that doesn't come from the RP.
     NotRp,
@@ -62,12 +62,12 @@ pub enum Emission {
     },
 }
 
-/// What a step answered and sent.
+/// The answer to an event, and what it sent.
 #[derive(Drop)]
 pub struct Outcome {
     pub answer: Result<Verdict, Refusal>,
-    /// The packets in their order: copies of a data packet last, but for one to the RP.
+    /// The packets in their order: copies of a data packet are the last, except for a packet to the RP.
     pub emissions: Series<Emission>,
-    /// How many of them are copies of a data packet on links.
+    /// How many of the emissions are copies of a data packet on links.
     pub copies: u32,
 }

@@ -1,10 +1,10 @@
-//! Lists that clauses see as their items: lent ones and owned ones.
+//! Lists, borrowed and owned, that clauses see as their items.
 ghost use Rattle.std.specs.Prelude.{◌≡◌, ◌↔◌, [], ◌∷◌, ◌++◌, OnOk, OnErr, IsTrue, length};
 
 use std::alloc::{AllocError, Global};
 use std::marker::Model;
 
-/// Values that are lent, which a clause sees as their list.
+/// Borrowed values, which a clause sees as a list.
 #[derive(Drop)]
 pub struct Lent<'a, T> {
     items: &'a [T],
@@ -19,7 +19,7 @@ impl<'a, T> Model for Lent<'a, T> {
 }
 
 impl<'a, T> Lent<'a, T> {
-    /// These values.
+    /// The given values.
     pub fn of(items: &'a [T]) -> Self
         ensures { result ≡ items.now }
     {
@@ -34,7 +34,7 @@ impl<'a, T> Lent<'a, T> {
     }
 }
 
-/// Values in order, which a clause sees as their list.
+/// Owned values in order, which a clause sees as a list.
 pub struct Series<T> {
     items: Vec<T>,
 }
@@ -55,7 +55,7 @@ impl<T> Model for Series<T> {
 }
 
 impl<T: Drop> Series<T> {
-    /// The empty series; it takes no memory until something is put in.
+    /// The empty series. It takes no memory until something is put in.
     pub fn new(alloc: Global) -> Self
         ensures { result ≡ [] }
     {
@@ -64,7 +64,7 @@ impl<T: Drop> Series<T> {
         }
     }
 
-    /// The same values in the same order.
+    /// The values of a vector, in the same order.
     pub fn from_vec(items: Vec<T>) -> Self
         ensures { result ≡ items.items }
     {
@@ -78,21 +78,21 @@ impl<T: Drop> Series<T> {
         self.items.as_slice()
     }
 
-    /// How many there are.
+    /// How many values there are.
     pub fn len(&self) -> usize
         ensures { result ≡ length self.now }
     {
         self.items.len()
     }
 
-    /// Whether there is none.
+    /// Whether there is no value.
     pub fn is_empty(&self) -> bool
         ensures { IsTrue result ↔ (self.now ≡ []) }
     {
         self.items.is_empty()
     }
 
-    /// Puts a value at the end. Where memory is refused the series stays as it was.
+    /// Puts a value at the end. The error is want of memory, and then the series is unchanged.
     pub fn push(&mut self, item: T) -> Result<(), AllocError>
         ensures ok { OnOk result (self.new ≡ self.old ++ item ∷ []) }
         ensures err { OnErr result (self.new ≡ self.old) }
@@ -101,7 +101,7 @@ impl<T: Drop> Series<T> {
         Ok(())
     }
 
-    /// The values, given up by the series.
+    /// The values as a vector.
     pub fn into_vec(self) -> Vec<T>
         ensures { result.items ≡ self }
     {

@@ -40,7 +40,7 @@ pub enum RegisterName {
     Prune,
 }
 
-/// A row of a printed table: the columns of its line. An end that is `None` is never, or absent.
+/// A row of a printed table: the columns of its line. A timer's `None` never expires, or isn't there.
 #[derive(Clone, Copy)]
 pub enum Row {
     Neighbour {

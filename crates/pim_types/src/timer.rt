@@ -1,7 +1,7 @@
-//! The kinds of timers, in the order in which they fire, and the timer of a fact.
+//! The kinds of timers, in the order in which they expire, and the timer of a fact.
 use crate::fact::Key;
 
-/// What ends. At one moment the kinds fire in this order.
+/// The kinds of timers. Timers with the same timestamp expire in this order.
 #[derive(Clone, Copy, PartialEq, Eq, PartialOrd, Ord, Hash)]
 pub enum TimerKind {
     Neighbour = 1,
@@ -21,7 +21,7 @@ pub enum TimerKind {
     Hello = 15,
 }
 
-/// The timer of a fact. Timers compare by their kinds, and those of one kind by their keys.
+/// The timer of a fact. Timers compare by their kinds, and timers of one kind by their keys.
 #[derive(Clone, Copy, PartialEq, Eq, PartialOrd, Ord, Hash)]
 pub struct Timer {
     pub kind: TimerKind,

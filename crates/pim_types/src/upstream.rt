@@ -40,6 +40,6 @@ pub struct SourceView {
     /// RPF'(*,G) and RPF'(S,G,rpt).
     pub star_upstream: Option<Hop>,
     pub tree_upstream: Option<Hop>,
-    /// Of (S,G,rpt).
+    /// The upstream state of (S,G,rpt).
     pub tree: TreeState,
 }

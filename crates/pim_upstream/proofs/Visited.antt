@@ -1,4 +1,5 @@
--- What is looked up in loops where a step may be left out: of sources while there is room, and of keys that are named again.
+-- What is looked up in loops where a step may be left out: of sources while there is room, and of keys that are named
+-- again.
 use Rattle.std.proofs.Common.{◌≡◌, ◌≤◌, ◌<◌, ◌+◌, ◌++◌, ◌∙◌, ◌∷◌, Bool, List, [], None, Option, Some, ap, append_assoc, drop, false, get_or, length, not, refl, subst, suc, sym, take, true, zero, ℕ}
 use Rattle.std.specs.List.{flat_map, sum_by}
 use Rattle.std.specs.Bool.{beq}

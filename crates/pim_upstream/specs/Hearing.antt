@@ -40,7 +40,7 @@ module _ (o : State) (hop : Hop) (end : ℕ) where
   abbrev pub heard_in_join : Key → List TimerMove
   heard_in_join k = heard_of_join k.group k.source k.rpt
 
-  -- of the keys of Joins, those of (*,G), or the others
+  -- What overheard Joins move, by their keys: those of (*,G), or the others.
   unfoldable pub heard_in_joins : Bool → List Key → List TimerMove
   heard_in_joins star keys =
       flat_map (λ (k : Key). if same_bool star (is_star k) then heard_in_join k else []) keys
@@ -53,7 +53,7 @@ module _ (o : State) (hop : Hop) (end : ℕ) where
   unfoldable pub heard_of_timer : Addr → Key → List TimerMove
   heard_of_timer group k = option_map_or (heard_of_source group) k.source []
 
-  -- those of the sources of the group that have a Join timer
+  -- What an overheard Prune moves of the sources of the group that have a Join timer.
   unfoldable pub heard_of_timers : Addr → Table JoinTimerRow → List TimerMove
   heard_of_timers group timers = flat_map (λ (e : Key × JoinTimerRow). heard_of_timer group e.0) timers
 

@@ -9,12 +9,12 @@ use Rattle.pim_opening.specs.Covers.{Covers, IsWithin, NewAreNamed}
 use Rattle.pim_opening.specs.Openings.{opening_of}
 use Rattle.pim_upstream.specs.Told.{upstream_by}
 
--- by the sources of these keys
+-- The messages upstream by the groups of some keys are those by what the keys opened.
 abbrev pub OwnIsOpened : Type 0
 OwnIsOpened = (keys : List Key) (o a : State) (w : ℕ) → NewAreNamed keys o a
     → own_upstream keys o a w ≡ upstream_by (opening_of o (Touched.Keys keys)) a w
 
--- where all is touched
+-- Where all is touched, the messages upstream are those by what was opened.
 abbrev pub AllIsOpened : Type 0
 AllIsOpened =
     (o a : State) (w : ℕ) → IsWithin o a → upstream o a w ≡ upstream_by (opening_of o Touched.All) a w

@@ -9,7 +9,7 @@ use Rattle.pim_types.specs.Keys.{key_of, rpt_key}
 use Rattle.pim_rpt.specs.Changes.{change_of}
 use Rattle.pim_upstream.specs.declared.timer.TimerMove.{TimerMove}
 
--- of (*,G), where there is no source, or of (S,G)
+-- The key of the Join timer of (*,G), where there is no source, or of (S,G).
 abbrev pub join_key : Addr → Option Addr → Key
 join_key group source = key_of 0 group.bits (option_map (λ (a : Addr). a.bits) source) false
 

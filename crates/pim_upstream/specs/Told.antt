@@ -25,7 +25,7 @@ source_moved a w g s src old =
       joins.messages ++ prunes.messages,
     )
 
--- of a source without facts, before and after, nothing is told
+-- The messages upstream of a source; there are none where it has no facts before and after.
 unfoldable pub source_step : State → ℕ → ℕ → State → SourceOpening → State × List Message
 source_step a w g s before =
     if before.has_facts || has_facts a g before.source.bits

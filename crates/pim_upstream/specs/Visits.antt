@@ -1,5 +1,5 @@
--- How many nodes of tries are visited, at least, where the upstream machines tell what changed, where a Join timer ends,
--- and where a Join/Prune between other routers is heard. The timers move last: of those nothing is counted.
+-- How many nodes of tries are visited, at least, where the upstream machines tell what changed, where a Join timer
+-- ends, and where a Join/Prune between other routers is heard. The timers move last: of those nothing is counted.
 use Rattle.std.specs.Option.{option_map_or}
 use Rattle.std.specs.Prelude.{Bool, List, None, Option, Some, [], ◌∷◌, if◌then◌else◌, not, false, option_map, suc, sum_by, true, zero, ℕ, ◌+◌, ◌++◌, ◌||◌}
 use Rattle.pim_ip.specs.Addr.{addr}
@@ -44,7 +44,8 @@ abbrev pub join_star_nodes : State → Addr → Option Addr → Option Hop → �
 join_star_nodes s group (Some rp) (Some hop) = pruned_nodes s group
 join_star_nodes s group _ _ = 0
 
--- of a group that was desired, and is: it joins at another neighbour, if no assert made it so, or with another RP
+-- The nodes of a group that was desired and is: it joins at another neighbour, if no assert made it so, or with another
+-- RP.
 unfoldable pub star_stays_nodes : State → Addr → StarView → StarView → ℕ
 star_stays_nodes s group old new =
     if not (same_hop old.upstream new.upstream)
@@ -52,7 +53,7 @@ star_stays_nodes s group old new =
     else join_star_nodes s group new.rp new.upstream)
     else (if same_address old.rp new.rp then 0 else join_star_nodes s group new.rp new.upstream)
 
--- of a group, by its views before and after
+-- The nodes of a group, by its views before and after a change.
 unfoldable pub star_told_nodes : State → Addr → StarView → StarView → ℕ
 star_told_nodes s group old new =
     if new.is_desired
@@ -63,7 +64,7 @@ star_told_nodes s group old new =
 abbrev pub is_told_nodes : State → Addr → SourceOpening → ℕ
 is_told_nodes s group before = if before.has_facts then 0 else fact_nodes s group before.source
 
--- then the sight of the source, where there is one, before or after
+-- The nodes of a source: whether it has a fact, and, where it has one before or after the change, its sight.
 abbrev pub source_told_nodes : State → Addr → SourceOpening → ℕ
 source_told_nodes s group before =
     is_told_nodes s group before

@@ -139,7 +139,7 @@ fn hear_source(
     )
 }
 
-// That of the source of a Join timer's key.
+// What the source of a Join timer's key does by an overheard Prune.
 #[tactic(auto, unfolding(crate::specs::Hearing::heard_of_timer))]
 fn hear_timer(
     world: &World,
@@ -162,7 +162,7 @@ fn hear_timer(
     }
 }
 
-// Those of the sources of the group that have a Join timer.
+// What the sources of the group with a Join timer do by an overheard Prune.
 #[tactic(auto, unfolding(crate::specs::Hearing::heard_of_timers))]
 fn hear_timers(
     world: &World,

@@ -21,9 +21,9 @@ use std::alloc::AllocError;
 pub(crate) enum TimerMove {
     Join(Addr, Option<Addr>, Change),
     Override(SourceGroup, Change),
-    /// Where the Join timer runs, it ends at this moment at the earliest.
+    /// Where the Join timer runs, it is to expire at this timestamp at the earliest.
     RaiseJoin(Addr, Option<Addr>, u64),
-    /// Where the Join timer runs, it ends at this moment at the latest.
+    /// Where the Join timer runs, it is to expire at this timestamp at the latest.
     LowerJoin(Addr, Option<Addr>, u64),
 }
 

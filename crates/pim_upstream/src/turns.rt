@@ -82,7 +82,7 @@ fn tell_source_by_sight(
     Ok(())
 }
 
-// The same, where the sight is yet to be gathered.
+// The turn of a source whose sight is yet to be gathered.
 #[tactic(auto, unfolding(crate::specs::Told::source_step))]
 fn tell_source(
     world: &World,
@@ -214,9 +214,9 @@ pub fn changed(
     move_timers(world, meter, moves.as_slice())
 }
 
-/// The same where one source alone was opened, by its sight of the state as the change left it: neither that nor the
-/// group's is gathered again. The meter rises by the nodes that the look-ups visit, at least those of the sources that
-/// the group's Join may prune, and those that lead to the facts of the source where it had none.
+/// The messages upstream where one source alone was opened, by its sight in the state after the change: neither this
+/// sight nor that of the group is gathered again. The meter rises by the nodes that the look-ups visit, at least those
+/// of the sources that the group's Join may prune, and those that lead to the facts of the source where it had none.
 #[tactic(auto, unfolding(crate::specs::Timers::after_moves))]
 pub fn changed_alone(
     world: &mut World,
@@ -266,9 +266,9 @@ fn tell_sources_by_sights(
     Ok(())
 }
 
-/// The same of one group alone, by what was gathered of it in the state as the change left it: nothing of that is gathered
-/// again. The meter rises by the nodes that the look-ups visit, at least those of the sources that the group's Join may
-/// prune, and those that lead to the facts of each source that had none.
+/// The messages upstream where one group alone was opened, by what was gathered of it in the state after the change:
+/// nothing of that is gathered again. The meter rises by the nodes that the look-ups visit, at least those of the
+/// sources that the group's Join may prune, and those that lead to the facts of each source that had none.
 #[tactic(auto, unfolding(crate::specs::Timers::after_moves))]
 pub fn changed_group(
     world: &mut World,

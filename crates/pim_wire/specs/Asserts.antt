@@ -9,7 +9,7 @@ use Rattle.pim_wire.specs.declared.assert.Assert.{Assert}
 use Rattle.pim_wire.specs.Encoded.{field_test, unicast_test, group_test, mask_length_at, address_at, unicast_at, unicast_text, group_text, pim_text}
 use Rattle.pim_ip.specs.Addr.{addr}
 
--- group, source, the R bit with the preference, the metric
+-- The tests of an Assert: group, source, the R bit with the preference, the metric.
 unfoldable pub assert_test : List ℕ → Result (Unit {0}) Refusal
 assert_test b =
     group_test b 4
@@ -28,7 +28,7 @@ assert_of b = record {
   metric = big_from 22 4 b;
 }
 
--- an Assert about a source, or about the group with source 0.0.0.0
+-- The bytes of an Assert about a source, or, with source 0.0.0.0, about the group.
 unfoldable pub assert_text : ℕ → ℕ → Bool → ℕ → ℕ → List ℕ
 assert_text group source rpt preference metric =
     pim_text 5

@@ -14,22 +14,22 @@ pim_version_of b = slice_index b 0 / 16
 abbrev pub pim_type_of : List ℕ → ℕ
 pim_type_of b = slice_index b 0 % 16
 
--- n bytes are there from place p on
+-- There are n bytes from place p on.
 abbrev pub field_test : List ℕ → ℕ → ℕ → Result (Unit {0}) Refusal
 field_test b p n = expect (nat_le (p + n) (length b)) Short
 
--- address family 1 (IPv4) in the native encoding 0
+-- The address at the place has address family 1 (IPv4) and the native encoding 0.
 abbrev pub is_native_ipv4 : List ℕ → ℕ → Bool
 is_native_ipv4 b p = (slice_index b p == 1) && (slice_index b (p + 1) == 0)
 
--- Encoded-Unicast: family, encoding, address
+-- Encoded-Unicast: family, encoding, address.
 abbrev pub unicast_at : List ℕ → ℕ → ℕ
 unicast_at b p = big_from (p + 2) 4 b
 
 unfoldable pub unicast_test : List ℕ → ℕ → Result (Unit {0}) Refusal
 unicast_test b p = field_test b p 6 >> expect (is_native_ipv4 b p) BadAddress
 
--- Encoded-Group and Encoded-Source: family, encoding, flags, mask length, address
+-- Encoded-Group and Encoded-Source: family, encoding, flags, mask length, address.
 abbrev pub flags_at : List ℕ → ℕ → ℕ
 flags_at b p = slice_index b (p + 2)
 
@@ -45,7 +45,7 @@ source_test b p = field_test b p 8 >> expect (is_native_ipv4 b p) BadAddress
 unfoldable pub group_test : List ℕ → ℕ → Result (Unit {0}) Refusal
 group_test b p = source_test b p >> expect (is_multicast (address_at b p)) NotMulticast
 
--- written: native IPv4, mask length 32
+-- The bytes of encoded addresses as they are written: native IPv4, mask length 32.
 abbrev pub unicast_text : ℕ → List ℕ
 unicast_text address = 1 ∷ 0 ∷ big_bytes 4 address
 
@@ -55,6 +55,7 @@ group_text group = 1 ∷ 0 ∷ 0 ∷ 32 ∷ big_bytes 4 group
 abbrev pub source_text : ℕ → ℕ → List ℕ
 source_text flags address = 1 ∷ 0 ∷ flags ∷ 32 ∷ big_bytes 4 address
 
--- a message whose checksum covers all of it: version 2 and the type, a reserved byte, the checksum
+-- The bytes of a message whose checksum covers all of it: version 2 and the type, a reserved byte, the checksum, the
+-- body.
 unfoldable pub pim_text : ℕ → List ℕ → List ℕ
 pim_text type body = with_checksum ((0x20 + type) ∷ 0 ∷ []) body

@@ -8,7 +8,7 @@ use Rattle.pim_ip.specs.Tests.{expect, ◌>>◌}
 use Rattle.pim_wire.specs.declared.hello.Hello.{Hello}
 use Rattle.pim_wire.specs.Encoded.{field_test, pim_text}
 
--- an option at place p: type, length, value
+-- An option at place p: type, length, value.
 abbrev pub option_type : List ℕ → ℕ → ℕ
 option_type b p = big_from p 2 b
 
@@ -27,14 +27,14 @@ priority_option = 19
 abbrev pub generation_option : ℕ
 generation_option = 20
 
--- a known option has its one length
+-- A known option has its one length.
 unfoldable pub is_option_length : ℕ → ℕ → Bool
 is_option_length type len =
     if type == holdtime_option then len == 2
     else (if (type == lan_delay_option) || (type == priority_option) || (type == generation_option) then len == 4
     else (len == len))
 
--- the tests of the options from place p on; there are at most `most` of them
+-- The tests of the options from place p on; there are at most `most` of them.
 unfoldable pub options_test : List ℕ → ℕ → ℕ → Result (Unit {0}) Refusal
 options_test b p zero = Ok tt
 options_test b p (suc most) =
@@ -55,7 +55,7 @@ lan_delay_at b p = record {
   override_interval = big_from (p + 2) 2 b;
 }
 
--- a Hello with the option at place p; other options are skipped
+-- A Hello with the option at place p stored; unknown options are skipped.
 unfoldable pub with_option : List ℕ → ℕ → Hello → Hello
 with_option b p hello =
     if option_type b p == holdtime_option then record hello { holdtime = Some (big_from (p + 4) 2 b) }
@@ -64,7 +64,7 @@ with_option b p hello =
     else (if option_type b p == generation_option then record hello { generation = Some (big_from (p + 4) 4 b) }
     else hello)))
 
--- a Hello with the options from place p on put in one after the other, so that the last of a kind counts
+-- A Hello with the options from place p on stored one after the other, so that the last of a kind counts.
 unfoldable pub with_options : List ℕ → ℕ → ℕ → Hello → Hello
 with_options b p zero hello = hello
 with_options b p (suc most) hello =
@@ -80,15 +80,15 @@ hello_test b = options_test b 4 (length b)
 unfoldable pub hello_of : List ℕ → Hello
 hello_of b = with_options b 4 (length b) no_options
 
--- the holdtime that the router announces, in seconds
+-- The holdtime that the router announces, in seconds.
 abbrev pub hello_holdtime : ℕ
 hello_holdtime = 105
 
 abbrev pub option_text : ℕ → List ℕ → List ℕ
 option_text type value = big_bytes 2 type ++ big_bytes 2 (length value) ++ value
 
--- the Hello that the router sends: its propagation delay and override interval in ms, with T clear, its
--- priority and its generation ID
+-- The bytes of the Hello that the router sends: its propagation delay and override interval in ms, with T clear, its DR
+-- priority and its generation ID.
 unfoldable pub hello_text : ℕ → ℕ → ℕ → ℕ → List ℕ
 hello_text propagation_delay override_interval priority generation =
     pim_text 0

@@ -11,14 +11,14 @@ use Rattle.pim_wire.specs.Values.{Group, JoinPrune}
 use Rattle.pim_wire.specs.Encoded.{field_test, unicast_test, group_test, source_test, flags_at, mask_length_at, address_at, unicast_at, unicast_text, group_text, source_text, pim_text}
 use Rattle.pim_ip.specs.Addr.{addr}
 
--- the tests of n sources from place p on
+-- The tests of n sources from place p on.
 unfoldable pub sources_test : List ℕ → ℕ → ℕ → Result (Unit {0}) Refusal
 sources_test b p zero = Ok tt
 sources_test b p (suc n) =
     let later : Result (Unit {0}) Refusal = sources_test b (p + 8) n in
     source_test b p >> later
 
--- the kind of an entry, by its W and R bits; W without R is none
+-- The kind of an entry, by its W and R bits; W without R is no kind.
 unfoldable pub kind_of : ℕ → Option EntryKind
 kind_of flags =
     if (flags / 2) % 2 == 1
@@ -29,30 +29,30 @@ abbrev pub entry_of : ℕ → Option EntryKind → List Entry
 entry_of address None = []
 entry_of address (Some kind) = record { kind = kind; address = addr address } ∷ []
 
--- the entry at place p, unless it is skipped
+-- The entry at place p, unless it is skipped.
 unfoldable pub entry_at : List ℕ → ℕ → List Entry
 entry_at b p =
     if (mask_length_at b p == 32) && is_unicast (address_at b p)
     then entry_of (address_at b p) (kind_of (flags_at b p))
     else []
 
--- the n entries from place p on, but for those that are skipped
+-- The n entries from place p on, without those that are skipped.
 unfoldable pub entries_at : List ℕ → ℕ → ℕ → List Entry
 entries_at b p zero = []
 entries_at b p (suc n) = entry_at b p ++ entries_at b (p + 8) n
 
--- a group at place p: its address, the numbers of joins and of prunes, the joins, the prunes
+-- A group at place p: its address, the numbers of joins and of prunes, the joins, the prunes.
 abbrev pub join_count_at : List ℕ → ℕ → ℕ
 join_count_at b p = big_from (p + 8) 2 b
 
 abbrev pub prune_count_at : List ℕ → ℕ → ℕ
 prune_count_at b p = big_from (p + 10) 2 b
 
--- the place after the group at place p
+-- The place after the group at place p.
 abbrev pub after_group : List ℕ → ℕ → ℕ
 after_group b p = p + 12 + 8 * (join_count_at b p + prune_count_at b p)
 
--- the tests of n groups from place p on
+-- The tests of n groups from place p on.
 unfoldable pub groups_test : List ℕ → ℕ → ℕ → Result (Unit {0}) Refusal
 groups_test b p zero = Ok tt
 groups_test b p (suc n) =
@@ -62,7 +62,7 @@ groups_test b p (suc n) =
     >> sources_test b (p + 12) (join_count_at b p + prune_count_at b p)
     >> later
 
--- the group at place p, unless it is skipped
+-- The group at place p, unless it is skipped.
 unfoldable pub group_at : List ℕ → ℕ → List Group
 group_at b p =
     elim (mask_length_at b p == 32) [
@@ -74,7 +74,7 @@ group_at b p =
       | false ↦ []
     ]
 
--- the n groups from place p on, but for those that are skipped
+-- The n groups from place p on, without those that are skipped.
 unfoldable pub groups_at : List ℕ → ℕ → ℕ → List Group
 groups_at b p zero = []
 groups_at b p (suc n) = group_at b p ++ groups_at b (after_group b p) n
@@ -82,7 +82,7 @@ groups_at b p (suc n) = group_at b p ++ groups_at b (after_group b p) n
 abbrev pub group_count_of : List ℕ → ℕ
 group_count_of b = slice_index b 11
 
--- upstream neighbour, a reserved byte, the number of groups, the holdtime, the groups
+-- The tests of a Join/Prune: upstream neighbour, a reserved byte, the number of groups, the holdtime, the groups.
 unfoldable pub join_prune_test : List ℕ → Result (Unit {0}) Refusal
 join_prune_test b = unicast_test b 4 >> field_test b 10 4 >> groups_test b 14 (group_count_of b)
 
@@ -93,7 +93,7 @@ join_prune_of b = record {
   groups = groups_at b 14 (group_count_of b);
 }
 
--- written with S set, W and R by the kind
+-- The flags of an entry as it is written: S set, W and R by the kind.
 abbrev pub flags_of : EntryKind → ℕ
 flags_of Star = 7
 flags_of Source = 4
@@ -102,11 +102,11 @@ flags_of SourceRpt = 5
 abbrev pub entry_text : Entry → List ℕ
 entry_text e = source_text (flags_of e.kind) e.address.bits
 
--- the holdtime that is written, in seconds
+-- The holdtime that is written, in seconds.
 abbrev pub join_prune_holdtime : ℕ
 join_prune_holdtime = 210
 
--- the Join/Prune for one group with these joins and prunes
+-- The bytes of the Join/Prune for one group with these joins and prunes.
 unfoldable pub join_prune_text : ℕ → ℕ → List Entry → List Entry → List ℕ
 join_prune_text upstream group joins prunes =
     pim_text 3

@@ -15,11 +15,11 @@ use Rattle.pim_wire.specs.Asserts.{assert_test, assert_of}
 abbrev pub is_register : List ℕ → Bool
 is_register b = pim_type_of b == 1
 
--- right over the whole message, or for a Register over its first 8 bytes
+-- The checksum is right over the whole message, or for a Register over its first 8 bytes.
 unfoldable pub is_checksum_right : List ℕ → Bool
 is_checksum_right b = (sum16 b == 0) || (is_register b && (sum16 (take 8 b) == 0))
 
--- the body by the type; types 4, 6 and above are not looked into
+-- The reading of the body by the type; types 4, 6 and above aren't read.
 unfoldable pub body_reading : ℕ → List ℕ → Result PimView Refusal
 body_reading type b =
     if type == 0 then hello_test b >> Ok (Hello (hello_of b))

@@ -17,7 +17,7 @@ RegisterStopReads group source =
     → pim_reading (register_stop_text group source)
     ≡ Ok (RegisterStop (record { group = addr group; mask_length = 32; source = addr source }))
 
--- a source is below 224.0.0.0
+-- An Assert about a source below 224.0.0.0 reads back.
 abbrev pub AssertReads : ℕ → ℕ → Bool → ℕ → ℕ → Type 0
 AssertReads group source rpt preference metric =
     IsTrue (is_multicast group) → source < first_multicast
@@ -36,7 +36,7 @@ NullRegisterReads source group =
     IsTrue (is_unicast source) → IsTrue (is_multicast group)
     → pim_reading (null_register_text source group) ≡ Ok (Register (Null source group))
 
--- round a packet from a host to a group that a link carries
+-- A Register around a packet from a host to a group reads back, if a link can carry it.
 abbrev pub RegisterReads : List ℕ → Type 0
 RegisterReads inner =
     (p : Packet) → ipv4_reading inner ≡ Ok p → length inner ≤ frame_limit
@@ -54,7 +54,7 @@ HelloReads propagation_delay override_interval priority generation =
       generation = Some generation;
     }))
 
--- the addresses of the entries are those of hosts
+-- A Join/Prune reads back where the addresses of its entries are those of hosts.
 abbrev pub JoinPruneReads : ℕ → ℕ → List Entry → List Entry → Type 0
 JoinPruneReads upstream group joins prunes =
     IsTrue (is_multicast group) → All (λ e. IsTrue (is_unicast e.address.bits)) joins

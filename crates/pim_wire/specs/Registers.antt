@@ -11,15 +11,15 @@ use Rattle.pim_wire.specs.Values.{Register, Encapsulated, Null}
 use Rattle.pim_wire.specs.Encoded.{group_test, unicast_test, address_at, mask_length_at, unicast_at, group_text, unicast_text, pim_text}
 use Rattle.pim_ip.specs.Addr.{addr}
 
--- the N bit: a Null-Register
+-- The N bit is set: the message is a Null-Register.
 abbrev pub is_null_register : List ℕ → Bool
 is_null_register b = (slice_index b 4 / 0x40) % 2 == 1
 
--- the packet in a Register
+-- The bytes of the packet in a Register.
 abbrev pub inner_of : List ℕ → List ℕ
 inner_of b = drop 8 b
 
--- a packet that was read has a source and a group
+-- A packet that was read is from a host to a group.
 unfoldable pub source_and_group_test : Result Packet Refusal → Result (Unit {0}) Refusal
 source_and_group_test (Err refusal) = Err refusal
 source_and_group_test (Ok p) =
@@ -28,7 +28,8 @@ source_and_group_test (Ok p) =
 unfoldable pub inner_test : List ℕ → Result (Unit {0}) Refusal
 inner_test i = expect (nat_le (length i) frame_limit) BadLength >> source_and_group_test (ipv4_reading i)
 
--- the header of a Null-Register: its checksum may be 0, and nothing but the two addresses is tested
+-- The tests of the header in a Null-Register: its checksum may be 0, and only its length, version and two addresses are
+-- tested.
 unfoldable pub null_inner_test : List ℕ → Result (Unit {0}) Refusal
 null_inner_test i =
     expect (nat_le 20 (length i)) Short
@@ -57,11 +58,11 @@ register_stop_of b = record {
   source = addr (unicast_at b 12);
 }
 
--- a Register round a packet: its checksum covers the first 8 bytes alone
+-- The bytes of a Register around a packet: the checksum covers only the first 8 bytes.
 unfoldable pub register_text : List ℕ → List ℕ
 register_text inner = with_checksum (0x21 ∷ 0 ∷ []) (0 ∷ 0 ∷ 0 ∷ 0 ∷ []) ++ inner
 
--- the header alone that stands in a Null-Register
+-- The bytes of the header in a Null-Register.
 unfoldable pub dummy_text : ℕ → ℕ → List ℕ
 dummy_text source group =
     with_checksum

@@ -16,12 +16,12 @@ use std::alloc::AllocError;
 #[derive(Clone, Copy)]
 pub struct Assert {
     pub group: Addr,
-    /// The length of the group's mask; other lengths than 32 are read and not used.
+    /// The length of the group's mask. An Assert with another length than 32 is read but not used.
     pub mask_length: u8,
     pub source: Addr,
     /// The R bit.
     pub rpt: bool,
-    /// 31 bits.
+    /// The metric preference, of 31 bits.
     pub preference: u32,
     pub metric: u32,
 }

@@ -48,7 +48,7 @@ pub(crate) fn address_at(bytes: &[u8], place: usize) -> Addr
     Addr::from(u32_at(bytes, place + 4))
 }
 
-/// Whether there are so many bytes at a place.
+/// Whether there are `count` bytes from a place on.
 pub(crate) fn check_field(bytes: &[u8], place: usize, count: usize) -> Result<(), Refusal>
     requires { place ≤ length bytes.now }
     ensures value { result ≡ field_test bytes.now place count }
@@ -109,7 +109,7 @@ pub(crate) fn check_group(bytes: &[u8], place: usize) -> Result<(), Refusal>
     Ok(())
 }
 
-/// The first byte of a message of a type: version 2 stands before it.
+/// The first byte of a message of a type: version 2 is in its upper half.
 pub(crate) const VERSION_BITS: u8 = 0x20;
 
 /// The place of a message's checksum.

@@ -15,7 +15,7 @@ use std::alloc::AllocError;
 /// Default_Hello_Holdtime of RFC 7761, section 4.11.
 pub const DEFAULT_HOLDTIME: u16 = 105;
 
-/// The holdtime that never ends.
+/// The holdtime, in seconds, that never expires.
 pub const HOLDTIME_FOREVER: u16 = 0xffff;
 
 const HOLDTIME: u16 = 1;
@@ -32,7 +32,7 @@ const OPTION_HEADER: usize = 4;
 /// The options of a Hello that the router uses (RFC 7761, section 4.9.2).
 #[derive(Clone, Copy)]
 pub struct Hello {
-    /// In seconds; 0xFFFF never ends.
+    /// In seconds; 0xFFFF never expires.
     pub holdtime: Option<u16>,
     pub lan_delay: Option<LanDelay>,
     /// The DR priority.
@@ -40,7 +40,7 @@ pub struct Hello {
     pub generation: Option<u32>,
 }
 
-/// Whether an option of the type may have the length: a known one has its one length.
+/// Whether an option of the type may have the length: a known option has its one length.
 #[tactic(auto, unfolding(crate::specs::Hellos::is_option_length))]
 fn is_option_length(option: u16, length: usize) -> bool
     ensures { result ≡ is_option_length option length }
@@ -90,7 +90,7 @@ fn lan_delay_at(bytes: &[u8], place: usize) -> LanDelay
 }
 
 impl Hello {
-    /// Puts in the option at a place; others than the known ones are skipped.
+    /// Stores the option at a place; unknown options are skipped.
     #[tactic(auto, unfolding(crate::specs::Hellos::with_option, crate::specs::Hellos::is_option_length))]
     fn put_option(&mut self, bytes: &[u8], place: usize)
         requires there { place + 4 + option_length bytes.now place ≤ length bytes.now }

@@ -94,7 +94,7 @@ fn after_group(bytes: &[u8], place: usize) -> usize
     place + GROUP_LENGTH + SOURCE_LENGTH * (join_count(bytes, place) + prune_count(bytes, place))
 }
 
-/// Whether there are so many sources from a place on.
+/// Whether there are `count` sources from a place on.
 fn check_sources(bytes: &[u8], place: usize, count: usize) -> Result<(), Refusal>
     requires { place ≤ length bytes.now }
     ensures value { result ≡ sources_test bytes.now place count }
@@ -119,7 +119,7 @@ fn check_one_group(bytes: &[u8], place: usize) -> Result<(), Refusal>
     check_sources(bytes, place + GROUP_LENGTH, count)
 }
 
-/// Whether there are so many groups from a place on.
+/// Whether there are `count` groups from a place on.
 fn check_groups(bytes: &[u8], first: usize, count: usize) -> Result<(), Refusal>
     requires { first ≤ length bytes.now }
     ensures { result ≡ groups_test bytes.now first count }
@@ -160,8 +160,8 @@ fn entry_at(bytes: &[u8], place: usize) -> Option<Entry>
     Some(Entry { kind, address })
 }
 
-/// Joined or pruned sources, in their order in the message. Those that are skipped are left out: with
-/// another mask than that of a host, with an address that no host has, and with W but not R.
+/// Joined or pruned sources, in their order in the message. Skipped sources are left out: those with another mask than
+/// a host's, with an address that no host has, and with W but not R.
 #[derive(Drop)]
 pub struct Entries<'a> {
     message: &'a [u8],
@@ -265,8 +265,7 @@ fn group_at(message: &[u8], place: usize) -> Option<GroupView<'_>>
     (message[place + 3] == HOST_MASK).then_some(GroupView { message, place })
 }
 
-/// The groups of a Join/Prune, in their order in the message. Those with another mask than that of a
-/// host are left out.
+/// The groups of a Join/Prune, in their order in the message. Groups with another mask than a host's are left out.
 #[derive(Drop)]
 pub struct Groups<'a> {
     message: &'a [u8],
@@ -310,7 +309,7 @@ impl<'a> Iterator for Groups<'a> {
     }
 }
 
-/// A Join/Prune that was read, lent from its bytes.
+/// A Join/Prune that was read, borrowed from its bytes.
 #[derive(Drop)]
 pub struct JoinPruneView<'a> {
     message: &'a [u8],
@@ -338,7 +337,7 @@ impl<'a> JoinPruneView<'a> {
         unicast_at(self.message, 4)
     }
 
-    /// In seconds; 0xFFFF never ends.
+    /// The holdtime, in seconds; 0xFFFF never expires.
     #[tactic(auto, unfolding(crate::specs::JoinPrunes::join_prune_of))]
     pub fn holdtime(&self) -> u16
         ensures { result ≡ self.now.holdtime }
@@ -419,7 +418,7 @@ fn push_join_prune(
     push_entries(prunes, out)
 }
 
-/// Makes the checksum of the message that goes from a place to the end.
+/// Writes the checksum of the message from a place to the end.
 fn sum_from(start: usize, out: &mut Vec<u8>)
     requires { start + 4 ≤ length out.old.items }
     ensures { out.new.items ≡ take start out.old.items
@@ -428,7 +427,7 @@ fn sum_from(start: usize, out: &mut Vec<u8>)
     set_checksum(&mut out[start..], CHECKSUM_PLACE);
 }
 
-/// Writes a Join/Prune for one group at the end. An `Err` changes nothing.
+/// Writes a Join/Prune for one group at the end. An `Err` is want of memory, and changes nothing.
 pub fn write_join_prune(
     upstream: Addr,
     group: Addr,

@@ -18,7 +18,7 @@ use std::marker::Model;
 #[derive(Clone, Copy)]
 pub struct RegisterStop {
     pub group: Addr,
-    /// The length of the group's mask; other lengths than 32 are read and not used.
+    /// The length of the group's mask. A Register-Stop with another length than 32 is read but not used.
     pub mask_length: u8,
     pub source: Addr,
 }
@@ -35,8 +35,8 @@ enum Content<'a> {
     Null { source: Addr, group: Addr },
 }
 
-/// A Register that was read (RFC 7761, section 4.9.3), lent from its bytes: it holds a data packet from
-/// a host to a group, or, as a Null-Register, a source and a group alone.
+/// A Register that was read (RFC 7761, section 4.9.3), borrowed from its bytes: it holds a data packet from a host to a
+/// group, or, as a Null-Register, only a source and a group.
 #[derive(Drop)]
 pub struct RegisterView<'a> {
     content: Content<'a>,
@@ -217,7 +217,7 @@ fn dummy_bytes(source: Addr, group: Addr) -> [u8; 20]
     bytes
 }
 
-/// Writes one text behind the other at the end, or neither.
+/// Writes two byte strings at the end, or neither. The error is want of memory.
 fn write_both(first: &[u8], second: &[u8], out: &mut Vec<u8>) -> Result<(), AllocError>
     ensures ok { OnOk result (out.new.items ≡ out.old.items ++ (first.now ++ second.now)) }
     ensures err { OnErr result (out.new.items ≡ out.old.items) }
@@ -231,8 +231,8 @@ fn write_both(first: &[u8], second: &[u8], out: &mut Vec<u8>) -> Result<(), Allo
     written
 }
 
-/// Writes a Register round a packet at the end. Its checksum covers the header alone. An `Err` changes
-/// nothing.
+/// Writes a Register around a packet at the end. Its checksum covers only the header. An `Err` is want of memory, and
+/// changes nothing.
 #[tactic(auto, unfolding(crate::specs::Registers::register_text))]
 pub fn write_register(inner: &[u8], out: &mut Vec<u8>) -> Result<(), AllocError>
     ensures ok { OnOk result (out.new.items ≡ out.old.items ++ register_text inner.now) }

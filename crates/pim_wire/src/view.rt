@@ -72,9 +72,8 @@ fn read_body(message_type: u8, bytes: &[u8]) -> Result<PimView<'_>, Refusal>
     }
 }
 
-/// Reads a PIM message: the header's tests first, then the fields from first to last. The error is that
-/// of the first test that fails. Bytes after the stated content are ignored, but the checksum covers
-/// them.
+/// Reads a PIM message: first the header's tests, then the fields from first to last. The error is that of the first
+/// test that fails. Bytes after the message's fields are ignored, but the checksum covers them.
 #[tactic(auto, unfolding(crate::specs::Messages::pim_reading))]
 pub fn read_pim(bytes: &[u8]) -> Result<PimView<'_>, Refusal>
     ensures { result ≡ pim_reading bytes.now }

@@ -91,7 +91,8 @@ pub raised_further : (old between first rest : ℕ) → raised old first ≤ bet
 unfolding raised
 raised_further old between first rest e = omega (arith, e)
 
--- a loop's invariant over numbers: what was visited and what is left to visit is at least the whole; one more, and none left
+-- a loop's invariant over numbers: what was visited and what is left to visit is at least the whole; one more, and none
+-- left
 pub one_further : (before whole old new first left rest : ℕ) → raised before whole ≤ raised old left → left ≡ first + rest
     → raised old first ≤ new → raised before whole ≤ raised new rest
 one_further before whole old new first left rest least sum one =

@@ -16,7 +16,7 @@ settings_test c =
     >> expect (is_querier_config c) Refusal.BadQuerier
     >> delays_test c.interfaces
 
--- a state at moment 0 without facts
+-- A state at timestamp 0 without facts.
 abbrev pub without_facts : Settings → InterfaceTable → RouteTable → State
 without_facts settings interfaces mrib = record {
   settings = settings;

@@ -6,6 +6,6 @@ use Rattle.pim_model.specs.Tables.{insert_number}
 abbrev pub numbers_of : {U : Type 0} → List (Addr × U) → List ℕ
 numbers_of entries = map (λ e. (e.0).bits) entries
 
--- numbers put into ascending ones
+-- Numbers added to ascending ones, in order.
 unfoldable pub gathered : List ℕ → List ℕ → List ℕ
 gathered more numbers = fold (λ sorted n. insert_number n sorted) numbers more

@@ -1,4 +1,4 @@
--- The tables that the state lends: what it is with another value of one.
+-- The tables of the state that are borrowed: what the state is with another value of one.
 use Rattle.std.specs.Borrow.{Fml, Lends, MutBor}
 use Rattle.pim_model.specs.State.{State}
 use Rattle.pim_membership.specs.MembershipTables.{MembershipTables}
@@ -37,7 +37,7 @@ with_store s f = record s {
   registers = f.registers;
 }
 
--- the state ends with the last value behind what was lent
+-- The state ends with the last value of the borrowed table.
 abbrev pub LendsMembership : MutBor State → MutBor MembershipTables → Fml
 LendsMembership s r = Lends the_row membership_row s r (with_membership s.now)
 

@@ -8,7 +8,7 @@ use Rattle.pim_model.specs.Sets.{Set}
 use Rattle.pim_model.specs.State.{address_among, value_among}
 use Rattle.pim_model.specs.Tables.{Table, rows_on}
 
--- of the interfaces below 120 those that pass the test are in the set, and no other is
+-- Of the interfaces below 120, exactly those that pass the test are in the set.
 abbrev pub Shows : Members → Set → Type 0
 Shows set test = (i : ℕ) → has set i ≡ (nat_lt i 120 && test i)
 

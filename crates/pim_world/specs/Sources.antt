@@ -7,6 +7,6 @@ use Rattle.pim_types.specs.declared.fact.Key.{Key}
 abbrev pub is_from : ℕ → Key → Bool
 is_from address k = is_some k.source && (source_in k == address)
 
--- those of a group, in the order of the keys
+-- The sources of a group, in the order of the keys.
 unfoldable pub sources_among : ℕ → List Key → List ℕ
 sources_among g keys = map source_in (filter (λ k. is_of_group g k && is_some k.source) keys)

@@ -5,7 +5,7 @@ use Rattle.pim_model.specs.State.{State}
 use Rattle.pim_model.specs.Upstream.{fact_keys}
 use Rattle.pim_world.specs.declared.touched.Touched.{Touched}
 
--- all are those of the facts that there are
+-- The keys that a change may concern; where it may concern all, the keys of all facts.
 abbrev pub concerned_keys : State → Touched → List Key
 concerned_keys s Touched.All = fact_keys s
 concerned_keys s (Touched.Keys keys) = keys

@@ -6,6 +6,6 @@ pub record Taking : Type 0 where
   pub draw : ℕ
   pub messages : List Message
 
--- with these messages behind the others
+-- The turn with these messages added at the end.
 abbrev pub saying : Taking → List Message → Taking
 saying t messages = record t { messages = t.messages ++ messages }

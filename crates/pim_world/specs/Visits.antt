@@ -15,57 +15,58 @@ use Rattle.pim_store.specs.Visits.{nodes_visited}
 pub use Rattle.pim_trie.specs.Meter.{raised}
 use Rattle.pim_world.specs.Lending.{membership_tables}
 
--- the route to the address, none where there is no address
+-- The nodes of the route to the address; none where there is no address.
 abbrev pub path_nodes : State → Option ℕ → ℕ
 path_nodes s None = 0
 path_nodes s (Some address) = route_nodes s.configured s.interfaces s.routes address
 
--- the PIM facts of (*,G), where there is no source, or of (S,G)
+-- The nodes of the PIM facts of (*,G), where there is no source, or of (S,G).
 abbrev pub mark_nodes : State → Addr → Option Addr → ℕ
 mark_nodes s group source = nodes_visited (stored_keys (pim_tables s)) group source
 
--- a row of a source; one that is there stays in its place
+-- The nodes of a row that a source gets; none where the source has one, which keeps its place.
 abbrev pub new_source_nodes : State → Addr → Addr → ℕ
 new_source_nodes s group source =
     if has_row s.sources (source_key 0 group.bits source.bits) then 0 else mark_nodes s group (Some source)
 
--- the group records, and those of the source
+-- The nodes of the group records, and of those of the source.
 abbrev pub group_record_nodes : State → Addr → ℕ
 group_record_nodes s group = nodes_visited (keys_in s.group_records) group None
 
 abbrev pub source_record_nodes : State → Addr → Addr → ℕ
 source_record_nodes s group source = nodes_visited (keys_in s.source_records) group (Some source)
 
--- whether there is a fact of the source: those of the store are asked for where there is none of membership
+-- The nodes of whether a source has a fact: the store is looked up where membership has no fact of it.
 abbrev pub fact_nodes : State → Addr → Addr → ℕ
 fact_nodes s group source =
     source_record_nodes s group source
     + (if list_any (names_source group.bits source.bits) (membership_keys (membership_tables s)) then 0
     else mark_nodes s group (Some source))
 
--- what is asked for the sources of a group that have any fact: the source records of each, and the group among the PIM facts
+-- The nodes of the sources of a group that have any fact: the source records of each, and the group among the PIM
+-- facts.
 unfoldable pub sources_nodes : State → Addr → ℕ
 sources_nodes s group = nodes_to_sources (keys_in s.source_records) group + mark_nodes s group None
 
--- what the macros of (*,G) read
+-- The nodes of what the macros of (*,G) read.
 unfoldable pub star_nodes : State → Addr → ℕ
 star_nodes s group =
     rp_nodes s.ranges group.bits + path_nodes s (rp_of s group.bits) + mark_nodes s group None
     + group_record_nodes s group
 
--- what those of (S,G) read beside
+-- The nodes of what the macros of (S,G) read, without those of (*,G).
 unfoldable pub source_nodes : State → Addr → Addr → ℕ
 source_nodes s group source =
     path_nodes s (Some source.bits) + mark_nodes s group (Some source)
     + (group_record_nodes s group + source_record_nodes s group source)
     + (group_record_nodes s group + source_record_nodes s group source)
 
--- what the macros of (*,G) read, where there is no source, or those of (S,G) with them
+-- The nodes of what the macros of (*,G) read, where there is no source, or else of those of (*,G) and (S,G).
 abbrev pub sight_nodes : State → Addr → Option Addr → ℕ
 sight_nodes s group None = star_nodes s group
 sight_nodes s group (Some source) = star_nodes s group + source_nodes s group source
 
--- what each of these looks up in its turn, in the state that those before it leave
+-- The nodes that each element looks up in its turn, in the state that those before it leave.
 unfoldable pub nodes_in_turn : {S A : Type 0} → (S → A → S) → (S → A → ℕ) → S → List A → ℕ
 nodes_in_turn step nodes s [] = 0
 nodes_in_turn step nodes s (x ∷ xs) = nodes s x + nodes_in_turn step nodes (step s x) xs

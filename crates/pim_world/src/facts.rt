@@ -19,16 +19,16 @@ use std::alloc::AllocError;
 const KEEPALIVE_PERIOD: u64 = 210_000;
 
 impl World {
-    /// Asserts, sources and registers are under keys of their kind, which rise.
+    /// For the proof: asserts, sources and registers are under keys of their kind, which rise.
     pub fn recall_keyed(&self)
         ensures { AreKeyed (pim_tables self.now) }
     {
         self.store.recall_keyed();
     }
 
-    /// KAT(S,G) runs for its whole period from now on. The meter stays where the source has a row, and rises by the nodes
-    /// that lead to its PIM facts where it gets one. Where the hint is the place of its row (`source_place` of `Store`), no key is
-    /// looked up for it; whatever the hint is, the same is done.
+    /// KAT(S,G) is started for its whole period. The meter is unchanged where the source has a row, and rises by the
+    /// nodes that lead to its PIM facts where it gets one. If the hint is the place of the source's row (`source_place`
+    /// of `Store`), no key is looked up for it. The result doesn't depend on the hint.
     #[tactic(auto, unfolding(pim_model::specs::Registers::with_keepalive, pim_model::specs::Sets::spt_bit))]
     pub fn keep_alive(
         &mut self,
@@ -47,7 +47,7 @@ impl World {
         self.store.keep_alive(name, end, hint, meter)
     }
 
-    // When KAT(S,G) ends, if it runs, in ms.
+    // When KAT(S,G) expires, if it runs, in ms.
     fn keepalive_end(&self, name: SourceGroup) -> Option<u64>
         ensures { result ≡ option_and_then (λ (r : Row). r.keepalive)
             (row_at self.now.sources (source_key 0 name.group.bits name.source.bits)) }
@@ -55,8 +55,8 @@ impl World {
         self.store.source(name.key())?.keepalive
     }
 
-    /// Sets SPTbit(S,G). The meter stays where the source has a row, and rises by the nodes that lead to its PIM facts where it
-    /// gets one.
+    /// Sets SPTbit(S,G). The meter is unchanged where the source has a row, and rises by the nodes that lead to its PIM
+    /// facts where it gets one. The error is want of memory.
     #[tactic(auto, unfolding(pim_model::specs::Asserts::with_spt_bit, pim_model::specs::Tables::set_row))]
     pub fn set_spt_bit(&mut self, name: SourceGroup, meter: &mut Meter) -> Result<(), AllocError>
         ensures state { OnOk result (self.new ≡ with_spt_bit self.old name.group.bits name.source.bits) }

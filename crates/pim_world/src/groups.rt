@@ -28,7 +28,7 @@ impl World {
         Ok(found)
     }
 
-    /// Puts the groups that are touched into a set of groups.
+    /// Adds the touched groups to a set of groups.
     pub fn gather_touched(
         &self,
         touched: &Touched,
@@ -43,7 +43,7 @@ impl World {
         }
     }
 
-    // Puts the groups that have any fact into a set of groups.
+    // Adds the groups that have any fact to a set of groups.
     fn gather_groups(&self, found: &mut BTreeMap<Addr, (), Global>) -> Result<(), AllocError>
         ensures { OnOk result (numbers_of found.new.entries ≡ gathered (map group_in (fact_keys self.now)) (numbers_of found.old.entries)) }
     {
@@ -52,7 +52,7 @@ impl World {
     }
 }
 
-// Puts the groups of the facts of IGMP into a set of groups.
+// Adds the groups of the IGMP facts to a set of groups.
 fn gather_members(
     membership: &Membership,
     found: &mut BTreeMap<Addr, (), Global>,
@@ -67,12 +67,12 @@ fn gather_members(
     gather(membership.sending_rows(), found)
 }
 
-// Puts those of the facts of PIM into a set of groups; the store knows them.
+// Adds the groups of the PIM facts, which the store lists, to a set of groups.
 fn gather_stored(store: &Store, found: &mut BTreeMap<Addr, (), Global>) -> Result<(), AllocError>
     ensures { OnOk result (numbers_of found.new.entries
         ≡ gathered (map group_in (stored_keys store.now)) (numbers_of found.old.entries)) }
 {
-    // It tells that the groups of the set rise.
+    // For the proof: the groups of the set rise.
     let _ = found.len();
     for group in store.groups() {
         found.insert(group, ())?;
@@ -80,7 +80,7 @@ fn gather_stored(store: &Store, found: &mut BTreeMap<Addr, (), Global>) -> Resul
     Ok(())
 }
 
-// Puts the groups of facts into a set of groups.
+// Adds the groups of facts to a set of groups.
 fn gather<R>(
     facts: Iter<'_, Key, R>,
     found: &mut BTreeMap<Addr, (), Global>,
@@ -93,7 +93,7 @@ fn gather<R>(
     Ok(())
 }
 
-// Puts the groups of keys into a set of groups.
+// Adds the groups of keys to a set of groups.
 fn gather_named(keys: &[Key], found: &mut BTreeMap<Addr, (), Global>) -> Result<(), AllocError>
     ensures { OnOk result (numbers_of found.new.entries ≡ gathered (map group_in keys.now) (numbers_of found.old.entries)) }
 {

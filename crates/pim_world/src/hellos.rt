@@ -34,14 +34,14 @@ impl World {
         self.neighbours.is_dr(iface, &self.own(iface))
     }
 
-    /// Where I_am_DR, of the interfaces below 120.
+    /// The interfaces below 120 on which I_am_DR holds.
     pub fn dr(&self) -> IfSet
         ensures { Shows result (is_dr self.now) }
     {
         self.dr
     }
 
-    /// `t_override` on the interface (RFC 7761, section 4.11), in ms, as the number draws it.
+    /// `t_override` on the interface (RFC 7761, section 4.11), in ms, as the drawn number gives it.
     #[tactic(auto, unfolding(pim_model::specs::Neighbours::t_override))]
     pub fn override_delay(&self, iface: IfaceId, draw: u32) -> u64
         ensures delay { result ≡ t_override self.now iface.number draw }
@@ -51,8 +51,8 @@ impl World {
             .override_delay(iface, &self.own(iface), draw)
     }
 
-    /// When a Prune that comes now takes effect on the interface, in ms: after J/P_Override_Interval, or at once, `None`,
-    /// with at most one neighbour.
+    /// When a Prune that comes at the present time takes effect on the interface, in ms: after J/P_Override_Interval.
+    /// `None`, at once, where the interface has at most one neighbour.
     #[tactic(auto, unfolding(pim_model::specs::Downstream::prune_pending_end, pim_model::specs::Neighbours::join_prune_override_interval, pim_model::specs::Neighbours::effective_propagation_delay, pim_model::specs::Neighbours::effective_override_interval))]
     pub fn prune_pending_end(&self, iface: IfaceId) -> Option<u64>
         ensures { result ≡ prune_pending_end self.now iface.number }
@@ -66,7 +66,7 @@ impl World {
         Some(self.present + interval.max(1))
     }
 
-    /// Makes a Hello owed on the interface, and lowers its Hello timer to this end, in ms.
+    /// Marks that a Hello is owed on the interface, and lowers its Hello timer to this timestamp, in ms.
     pub fn owe_hello(&mut self, iface: IfaceId, end: u64) -> Result<(), AllocError>
         ensures { OnOk result (self.new
             ≡ record self.old { interfaces = hellos_triggered iface.number end self.old.interfaces }) }

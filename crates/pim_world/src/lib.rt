@@ -1,5 +1,4 @@
-//! All components of the router together: the whole state, the tables that it lends, and the changes that the machines
-//! make in it.
+//! All components of the router together: the whole state, the tables in it, and the changes that the machines make.
 #![tactic(auto)]
 
 pub mod facts;

@@ -1,4 +1,4 @@
-//! A set of interfaces with one more in it, or one less.
+//! A set of interfaces with one added or removed.
 ghost use Rattle.std.specs.Prelude.{◌≡◌, ◌==◌, ◌&&◌, if◌then◌else◌, nat_lt, ℕ};
 ghost use Rattle.pim_ifset.specs.Members.{has};
 

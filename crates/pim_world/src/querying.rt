@@ -11,7 +11,7 @@ use pim_types::fact::{GroupRecordRow, QuerierRole, QuerierRow};
 use pim_types::{Addr, IfaceId};
 use std::alloc::AllocError;
 
-/// The end, lowered to a moment where it runs; both in ms.
+/// When a timer expires that is lowered to a timestamp if it runs; both in ms.
 pub fn lowered(end: Option<u64>, moment: u64) -> Option<u64>
     ensures { result ≡ lowered moment end }
 {
@@ -19,7 +19,7 @@ pub fn lowered(end: Option<u64>, moment: u64) -> Option<u64>
 }
 
 impl World {
-    // A querier with the configured values; the next general query in ms.
+    // A row of a querier with the configured values. `next_query` is when it sends its next general query, in ms.
     #[tactic(auto, unfolding(pim_model::specs::Querier::querier_row))]
     fn querier_row(&self, next_query: u64, startup_left: u8) -> QuerierRow
         ensures row { result ≡ querier_row self.now next_query startup_left }
@@ -35,8 +35,8 @@ impl World {
         }
     }
 
-    /// Makes the router the querier of the interface, with the configured values: the next general query leaves then,
-    /// in ms, with so many of the startup queries still to leave.
+    /// Makes the router the querier of the interface, with the configured values. The next general query leaves at the
+    /// timestamp, in ms, and the given number of startup queries is still to leave.
     #[tactic(auto, unfolding(pim_model::specs::Querier::querying))]
     pub fn start_querying(
         &mut self,
@@ -50,7 +50,8 @@ impl World {
         self.membership.put_querier(iface, row)
     }
 
-    /// The same on an interface that has a querier; on another it changes nothing.
+    /// Updates the querier of an interface that has one: its next general query and its startup queries left. On
+    /// another interface nothing changes.
     #[tactic(auto, unfolding(pim_model::specs::Querier::querying_on))]
     pub fn keep_querying(
         &mut self,
@@ -64,8 +65,8 @@ impl World {
         self.membership.change_querier(iface, row)
     }
 
-    /// Gives the interface this querier, another router, whose robustness variable has 3 bits. What was to be repeated
-    /// there isn't.
+    /// Makes another router the querier of the interface. Its robustness variable has 3 bits. What was to be repeated
+    /// there is dropped.
     pub fn elect(&mut self, iface: IfaceId, row: QuerierRow) -> Result<(), AllocError>
         requires { row.robustness ≤ 7 }
         ensures { OnOk result (self.new ≡ record self.old {
@@ -80,7 +81,7 @@ impl World {
         Ok(())
     }
 
-    /// When the group's timer ends on the interface, in ms, where it runs.
+    /// When the group timer expires on the interface, in ms, if it runs.
     pub fn group_end(&self, iface: IfaceId, group: Addr) -> Option<u64>
         ensures { result ≡ group_end self.now iface.number group.bits }
     {
@@ -90,7 +91,7 @@ impl World {
         }
     }
 
-    /// When the source's timer ends on the interface, in ms, where it runs.
+    /// When the source timer expires on the interface, in ms, if it runs.
     pub fn source_end(&self, iface: IfaceId, group: Addr, source: Addr) -> Option<u64>
         ensures { result ≡ source_end self.now iface.number group.bits source.bits }
     {
@@ -108,7 +109,8 @@ impl World {
         self.membership.group_record(iface, group).is_some()
     }
 
-    /// Lowers the group's timer on the interface to this end, in ms, where it runs and ends later. The meter stays.
+    /// Lowers the group timer on the interface to this timestamp, in ms, if it runs and expires later. The meter is
+    /// unchanged.
     #[tactic(auto, unfolding(pim_model::specs::Querier::lower_group))]
     pub fn lower_group(
         &mut self,
@@ -130,7 +132,7 @@ impl World {
             .change_group_record(iface, group, lowered, meter)
     }
 
-    /// Whether a source of the group has sendings left on the interface.
+    /// Whether a query of a source of the group is still to be repeated on the interface.
     pub fn has_sendings(&self, iface: IfaceId, group: Addr) -> bool
         ensures { result ≡ list_any (is_sending iface.number group.bits) self.now.sendings }
     {

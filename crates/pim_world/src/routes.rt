@@ -1,5 +1,5 @@
-//! Which routes and RP ranges the router takes, and that it takes them: a table of them is made to test them, and it is the
-//! router's from then on.
+//! Which routes and RP ranges the router accepts, and how they become the router's: a table of them is made to test
+//! them, and that table is used from then on.
 ghost use Rattle.std.specs.Prelude.{◌≡◌, ◌↔◌, IfErr, IfOk, IsTrue, false, true};
 ghost use Rattle.pim_ip.specs.declared.fault.Fault.{Fault};
 ghost use Rattle.pim_ip.specs.declared.refusal.Refusal.{Refusal};
@@ -11,8 +11,8 @@ use pim_types::{Fault, Refusal, Route, RpRange};
 use std::alloc::Global;
 
 impl World {
-    /// A table of the routes that are to replace those there are, where they pass their test: each is of the interfaces, and
-    /// no prefix stands twice.
+    /// A table of the routes that are to replace the present ones, if they pass their test: each is over a configured
+    /// interface, and no prefix is listed twice.
     pub fn table_of_routes(
         &self,
         alloc: Global,
@@ -31,28 +31,28 @@ impl World {
         }
     }
 
-    /// Whether these are the routes that there are, in their order.
+    /// Whether these are the present routes, in their order.
     pub fn has_routes(&self, routes: &[Route]) -> bool
         ensures { IsTrue result ↔ (self.now.routes ≡ routes.now) }
     {
         self.mrib.has_routes(routes)
     }
 
-    /// Whether these are the RP ranges that there are, in their order.
+    /// Whether these are the present RP ranges, in their order.
     pub fn has_ranges(&self, ranges: &[RpRange]) -> bool
         ensures { IsTrue result ↔ (self.now.ranges ≡ ranges.now) }
     {
         self.mrib.has_ranges(ranges)
     }
 
-    /// Takes the routes of another table in the place of its own.
+    /// Replaces the routes by those of another table.
     pub fn take_routes(&mut self, other: Mrib)
         ensures { self.new ≡ record self.old { routes = other.routes } }
     {
         self.mrib.take_routes(other);
     }
 
-    /// Takes the RP ranges of another table in the place of its own.
+    /// Replaces the RP ranges by those of another table.
     pub fn take_ranges(&mut self, other: Mrib)
         ensures { self.new ≡ record self.old { ranges = other.ranges } }
     {
@@ -60,8 +60,8 @@ impl World {
     }
 }
 
-/// A table of the RP ranges that are to replace those there are, where they pass their test: each has an RP, and no prefix
-/// stands twice.
+/// A table of the RP ranges that are to replace the present ones, if they pass their test: each has an RP, and no
+/// prefix is listed twice.
 pub fn table_of_ranges(alloc: Global, ranges: &[RpRange]) -> Result<Result<Mrib, Refusal>, Fault>
     ensures made { IfOk result (λ tested. IfOk tested (λ table.
         (are_rps ranges.now ≡ true) × (table.ranges ≡ ranges.now))) }

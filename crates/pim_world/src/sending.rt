@@ -8,8 +8,9 @@ use pim_messages::{Outbox, Room};
 use pim_types::{Emission, Fault};
 
 impl World {
-    /// Puts the packets of all messages, in their order, at the end of the emissions; a Hello that is
-    /// owed goes directly before the next Join/Prune or Assert on its interface. They are written into the room.
+    /// Adds the packets of all messages, in their order, at the end of the emissions. A Hello that is owed goes
+    /// directly before the next Join/Prune or Assert on its interface. The packets are written into the memory of the
+    /// room.
     #[tactic(auto, unfolding(pim_model::specs::Writing::write_all))]
     pub fn write(
         &mut self,

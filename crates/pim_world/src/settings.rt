@@ -28,8 +28,8 @@ pub(crate) fn settings_of(config: &Config) -> Settings
     }
 }
 
-/// Tests a configuration but for its routes and RP ranges: the interfaces, the limit, the querier's values,
-/// the delays. The first test that fails names the refusal.
+/// Tests a configuration but for its routes and RP ranges: the interfaces, the limit, the querier's values, the delays.
+/// The refusal names the first test that fails.
 #[tactic(auto, unfolding(crate::specs::Configurations::settings_test, pim_ifaces::specs::Interfaces::interfaces_test, pim_ifaces::specs::Interfaces::delays_test))]
 pub fn test_settings(config: &Config) -> Result<(), Refusal>
     ensures { result ≡ settings_test config.now }

@@ -22,8 +22,9 @@ use std::collections::BTreeMap;
 use std::collections::btree_map::Iter;
 
 impl World {
-    /// The sources of the group that have any fact, ascending. The meter rises by the nodes that are visited, at least those
-    /// that lead to the group and to each of its sources among the source records, and to the group among the PIM facts.
+    /// The sources of the group that have any fact, ascending. The meter rises by the nodes that are visited, at least
+    /// those that lead to the group and to each of its sources among the source records, and to the group among the PIM
+    /// facts.
     pub fn sources(
         &self,
         alloc: Global,
@@ -38,8 +39,8 @@ impl World {
         Ok(found)
     }
 
-    /// Whether there is a fact of the source of the group. The meter rises by the nodes that are visited, at least those
-    /// that lead to its source records and, where membership has no fact of it, to its PIM facts.
+    /// Whether there is a fact of the source of the group. The meter rises by the nodes that are visited, at least
+    /// those that lead to its source records and, where membership has no fact of it, to its PIM facts.
     #[tactic(auto, using(crate::proofs::GatheredSources::any_fact), unfolding(pim_membership::specs::MembershipTables::membership_keys, pim_store::specs::PimTables::stored_keys))]
     pub fn has_facts(&self, name: SourceGroup, meter: &mut Meter) -> bool
         ensures value { result ≡ list_any (names_source name.group.bits name.source.bits) (fact_keys self.now) }
@@ -48,7 +49,7 @@ impl World {
         self.membership.has_facts(name, meter) || self.store.has_facts(name, meter)
     }
 
-    /// Whether a fact names the address as its source, of whichever group. It goes over the keys of all facts.
+    /// Whether a fact of any group names the address as its source. The keys of all facts are gone through.
     #[tactic(auto, using(crate::proofs::Named::any_from), unfolding(pim_membership::specs::MembershipTables::membership_keys, pim_store::specs::PimTables::stored_keys))]
     pub fn is_source(&self, address: Addr) -> bool
         ensures { result ≡ list_any (is_from address.bits) (fact_keys self.now) }
@@ -69,7 +70,7 @@ fn is_source_of_members(membership: &Membership, address: Addr) -> bool
         || is_source_among(membership.sending_rows(), address)
 }
 
-// Whether one of PIM does.
+// Whether a fact of PIM names the address as its source.
 #[tactic(auto, using(crate::proofs::Named::any_of_six), unfolding(pim_store::specs::PimTables::stored_keys))]
 fn is_source_of_store(store: &Store, address: Addr) -> bool
     ensures { result ≡ list_any (is_from address.bits) (stored_keys store.now) }
@@ -82,7 +83,7 @@ fn is_source_of_store(store: &Store, address: Addr) -> bool
         || is_source_among(store.register_rows(), address)
 }
 
-// Whether the key does.
+// Whether the key names the address as its source.
 fn is_from(key: Key, address: Addr) -> bool
     ensures { result ≡ is_from address.bits key }
 {
@@ -92,7 +93,7 @@ fn is_from(key: Key, address: Addr) -> bool
     }
 }
 
-// Whether one of these Join timers does.
+// Whether the key of one of the Join timers names the address as its source.
 fn is_source_among_timers(timers: JoinTimerRows<'_>, address: Addr) -> bool
     ensures { result ≡ list_any (is_from address.bits) (keys_in timers.entry) }
 {
@@ -104,7 +105,7 @@ fn is_source_among_timers(timers: JoinTimerRows<'_>, address: Addr) -> bool
     false
 }
 
-// Whether one of these facts does.
+// Whether the key of one of the facts names the address as its source.
 fn is_source_among<R>(facts: Iter<'_, Key, R>, address: Addr) -> bool
     ensures { result ≡ list_any (is_from address.bits) (keys_in facts.entry) }
 {
@@ -116,7 +117,7 @@ fn is_source_among<R>(facts: Iter<'_, Key, R>, address: Addr) -> bool
     false
 }
 
-// The same of facts that keep their places.
+// Whether the key of one of the facts, which keep their places, names the address as its source.
 fn is_source_among_placed<R>(facts: PlacedRows<'_, R>, address: Addr) -> bool
     ensures { result ≡ list_any (is_from address.bits) (keys_in facts.entry) }
 {
@@ -128,7 +129,7 @@ fn is_source_among_placed<R>(facts: PlacedRows<'_, R>, address: Addr) -> bool
     false
 }
 
-// Puts the sources into a set of sources.
+// Adds the sources to a set of sources.
 fn gather_all(
     sources: Sources<'_>,
     found: &mut BTreeMap<Addr, (), Global>,
@@ -141,7 +142,7 @@ fn gather_all(
     Ok(())
 }
 
-/// Puts the source of the key into a set of sources, where it is one of the group.
+/// Adds the source of the key to a set of sources, if the key is of the group.
 pub fn gather_source(
     key: Key,
     group: Addr,

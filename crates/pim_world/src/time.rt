@@ -1,5 +1,5 @@
-//! What ends first and when a Join is sent again; what goes with time: neighbours, Hello timers, and interfaces that go
-//! down.
+//! Which timer expires first, when a Join is sent again, and what time does to neighbours, Hello timers and interfaces
+//! that go down.
 ghost use Rattle.std.specs.Prelude.{◌≡◌, ◌≤◌, ◌^◌, IfOk, OnOk, option_map};
 ghost use Rattle.pim_model.specs.Firing.{fire_row};
 ghost use Rattle.pim_model.specs.Hellos.{hello_due, neighbour_due};
@@ -24,8 +24,8 @@ const HELLO_PERIOD: u64 = 30_000;
 const JOIN_PERIOD: u64 = 60_000;
 
 impl World {
-    /// Which timer ends first, and when, in ms: the least end by its moment, its kind and its key. `None` where none
-    /// ever ends.
+    /// Which timer expires first, and when, in ms: the least by timestamp, then by kind, then by key. `None` where no
+    /// timer runs.
     pub fn next(&self) -> Option<(u64, Timer)>
         ensures { result ≡ option_map due_of (next_ending self.now) }
     {
@@ -33,7 +33,7 @@ impl World {
         earlier(earlier(pim, self.membership.next()), self.interfaces.next())
     }
 
-    /// Lets the moment, in ms, be the present.
+    /// Sets the present time, in ms.
     pub fn set_present(&mut self, moment: u64)
         requires { moment ≤ 2 ^ 62 }
         ensures { self.new ≡ record self.old { present = moment } }
@@ -41,14 +41,14 @@ impl World {
         self.present = moment;
     }
 
-    /// When a Join that is sent now is sent again: in t_periodic.
+    /// When a Join that is sent at the present time is sent again, in ms: after t_periodic.
     pub fn periodic_end(&self) -> u64
         ensures { result ≡ periodic_end self.now }
     {
         self.present + JOIN_PERIOD
     }
 
-    /// Makes the interface down: all that is known on it goes. Without neighbours there the router is the DR.
+    /// Sets the interface down: all that is known on it is removed. Without neighbours there the router is the DR.
     #[tactic(auto, unfolding(pim_model::specs::Step::iface_down))]
     pub fn set_down(&mut self, iface: IfaceId, meter: &mut Meter)
         ensures down { self.new ≡ iface_down self.old iface.number }
@@ -61,7 +61,7 @@ impl World {
         self.dr = with_member(self.dr, iface, true);
     }
 
-    /// Takes the neighbour under the key away, whose holdtime is over (RFC 7761, section 4.3.2).
+    /// Removes the neighbour under the key, whose holdtime has expired (RFC 7761, section 4.3.2).
     #[tactic(auto, unfolding(pim_model::specs::Hellos::neighbour_due))]
     pub fn remove_neighbour(&mut self, key: Key)
         ensures { self.new ≡ neighbour_due self.old key }
@@ -72,8 +72,8 @@ impl World {
         self.dr = with_member(self.dr, key.iface, is_dr);
     }
 
-    /// Starts the Hello timer under the key anew, if there is one (RFC 7761, section 4.3.1), and tells whether there is.
-    /// An error is want of memory.
+    /// Restarts the Hello timer under the key, if there is one (RFC 7761, section 4.3.1). The result is whether there
+    /// is one. The error is want of memory.
     #[tactic(auto, unfolding(pim_model::specs::Firing::fire_row, pim_model::specs::Hellos::hello_due, pim_model::specs::Tables::has_row))]
     pub fn restart_hello(&mut self, key: Key) -> Result<bool, AllocError>
         ensures told { IfOk result (λ is_there. is_there ≡ has_row self.old.interfaces key) }

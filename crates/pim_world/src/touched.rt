@@ -1,7 +1,7 @@
 //! Which machines a change may concern.
 use pim_types::{Key, Series};
 
-/// The keys whose machines a change may concern: those of these keys, or all that there are.
+/// The keys whose machines a change may concern: the given keys, or all.
 #[derive(Drop)]
 pub enum Touched {
     All,

@@ -1,11 +1,11 @@
-//! What is passed from hand to hand while an event is taken in.
+//! What is handed on while an event is taken.
 ghost use Rattle.std.specs.Prelude.{◌≡◌, []};
 
 use pim_messages::{Outbox, Room};
 use std::alloc::Global;
 use std::marker::Model;
 
-/// An event's turn: its draw, and what it sends, so far, beside the room into which packets are written.
+/// The turn of an event: its draw, the messages that it has sent so far, and the memory into which packets are written.
 #[derive(Drop)]
 pub struct Turn {
     pub alloc: Global,

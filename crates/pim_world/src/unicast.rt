@@ -1,4 +1,4 @@
-//! Unicast routes and RPs, by the state as it is (RFC 7761, section 4.1.5).
+//! Unicast routes and RPs in the present state (RFC 7761, section 4.1.5).
 ghost use Rattle.std.specs.List.{list_any};
 ghost use Rattle.std.specs.Prelude.{◌≡◌, ◌==◌, ℕ, option_map};
 ghost use Rattle.pim_model.specs.Unicast.{is_rp, route, rp_of, rp_route};
@@ -42,8 +42,7 @@ impl World {
         self.mrib.route(&self.interfaces, address, meter)
     }
 
-    /// The route to RP(G), which is this one. The meter rises by the nodes of the trie of routes that are visited, 33 at
-    /// most.
+    /// The route to the given RP(G). The meter rises by the nodes of the trie of routes that are visited, 33 at most.
     #[tactic(auto, using(crate::proofs::Options::next_of_some, crate::proofs::Options::next_of_none), unfolding(pim_model::specs::Unicast::rp_route, pim_trie::specs::Meter::raised))]
     pub fn rp_route(&self, group: Addr, rp: Option<Addr>, meter: &mut Meter) -> Option<Path>
         requires { option_map (λ a. a.bits) rp ≡ rp_of self.now group.bits }
@@ -70,7 +69,7 @@ impl World {
         self.mrib.is_some_rp(address)
     }
 
-    /// The preferences of all routes have 31 bits.
+    /// For the proof: the preferences of all routes have 31 bits.
     pub fn recall_short_preferences(&self)
         ensures source { (address : ℕ) → IsShort (route self.now address) }
         ensures group { (group : ℕ) → IsShort (rp_route self.now group) }

@@ -1,4 +1,4 @@
-//! The whole state: how it begins, the tables that it lends, and the limit on facts.
+//! The whole state: how it begins, the tables in it that are borrowed, and the limit on facts.
 ghost use Rattle.std.specs.Borrow.{sem};
 ghost use Rattle.std.specs.Prelude.{◌≡◌, ◌<◌, ◌≤◌, ◌^◌, Ok, Err, OnOk, IfOk, IfErr};
 ghost use Rattle.pim_ip.specs.declared.fault.Fault.{Fault};
@@ -27,12 +27,12 @@ use std::marker::Model;
 /// The whole state of a router that works.
 pub struct World {
     pub(crate) settings: Settings,
-    // In ms.
+    // The present time, in ms.
     pub(crate) present: u64,
     pub(crate) interfaces: Interfaces,
     pub(crate) mrib: Mrib,
     pub(crate) neighbours: Neighbours,
-    // Where the router is the DR, of the interfaces below 120.
+    // The interfaces below 120 on which the router is the DR.
     pub(crate) dr: IfSet,
     pub(crate) membership: Membership,
     pub(crate) store: Store,
@@ -89,8 +89,8 @@ impl Model for World {
 }
 
 impl World {
-    /// The state at the opening with a configuration: moment 0, all interfaces down. It is refused by
-    /// the first test of a configuration that fails.
+    /// The state at the opening with a configuration: timestamp 0, all interfaces down. A configuration is refused for
+    /// the first test that fails.
     #[tactic(auto, unfolding(pim_model::specs::State::opening))]
     pub fn new(alloc: Global, config: &Config) -> Result<Result<World, Refusal>, Fault>
         ensures accepted { IfOk result (λ made. IfOk made (λ world.
@@ -116,7 +116,7 @@ impl World {
         Ok(Ok(world))
     }
 
-    // No facts at moment 0.
+    // The state without facts at timestamp 0.
     fn without_facts(
         alloc: Global,
         settings: Settings,
@@ -140,7 +140,7 @@ impl World {
         })
     }
 
-    /// The present moment, in ms.
+    /// The present time, in ms.
     pub fn present(&self) -> u64
         ensures present { result ≡ self.now.present }
         ensures within { result ≤ 2 ^ 62 }
@@ -191,7 +191,7 @@ impl World {
         &self.membership
     }
 
-    /// The same, to be changed.
+    /// The facts of IGMP, to be changed.
     pub fn membership_mut(&mut self) -> &mut Membership
         ensures* writes_back { sem 𝓛 (LendsMembership self.entry result) }
         ensures value { result.now ≡ membership_tables self.old }
@@ -206,7 +206,7 @@ impl World {
         &self.store
     }
 
-    /// The same, to be changed.
+    /// The facts of PIM, to be changed.
     pub fn store_mut(&mut self) -> &mut Store
         ensures* writes_back { sem 𝓛 (LendsStore self.entry result) }
         ensures value { result.now ≡ pim_tables self.old }
@@ -224,7 +224,7 @@ impl World {
         neighbours + self.membership.count() + self.store.count()
     }
 
-    /// Whether so many more facts would pass the limit.
+    /// Whether this many more facts would pass the limit.
     #[tactic(auto, unfolding(pim_model::specs::Full::passes_limit))]
     pub fn passes_limit(&self, more: usize) -> bool
         ensures { result ≡ passes_limit self.now more }
@@ -232,7 +232,7 @@ impl World {
         more != 0 && self.counted() + more as u128 > u128::from(self.settings.limit)
     }
 
-    /// Makes the interface up, with this row.
+    /// Sets the interface up, with this row.
     pub fn set_up(&mut self, iface: IfaceId, row: InterfaceRow) -> Result<(), AllocError>
         requires { iface.number < iface_count self.old }
         ensures { OnOk result (self.new ≡ record self.old { interfaces = put self.old.interfaces (iface_key iface.number) row }) }

@@ -8,13 +8,13 @@ describes, by ctypes.
         router.up(1)
         while True:
             send(router.run_to(now()))                          # time passes, and packets leave
-            for iface, packet in received(router.next_moment()):    # until the next timer ends
+            for iface, packet in received(router.next_moment()):    # until the next timer expires
                 router.frame(iface, packet)
                 send(router.packets())                          # each a kind, an interface or an address, and bytes
 
-Moments are milliseconds from any beginning, at most 2**62. The shared library is the one that is named by `library`, or
-by VIQESHOR_LIBRARY in the environment, or that the system finds as `viqeshor`. `viqeshor.hosts` writes packets of
-hosts.
+A moment is a timestamp, in milliseconds from any beginning, at most 2**62. The shared library is the one that `library`
+names, or VIQESHOR_LIBRARY in the environment, or the one that the system finds as `viqeshor`. `viqeshor.hosts` writes
+packets of hosts.
 """
 import ctypes
 import ctypes.util
@@ -130,7 +130,7 @@ class NoMemory(Error, MemoryError):
 
 
 class Lost(Error):
-    """The router is lost: memory was refused to it in the midst of a change, now (`Answer.LOST`) or before
+    """The router is lost: memory was refused to it amid a change, at this call (`Answer.LOST`) or at an earlier one
     (`Answer.FAILED`)."""
 
 
@@ -276,8 +276,9 @@ class Row(NamedTuple):
 
 
 class Forwarding(NamedTuple):
-    """How data of a source to a group goes: RPF_interface(S), RPF_interface(RP(G)), SPTbit(S,G), whether the register
-    tunnel is in the first two lists, and immediate_olist(S,G), inherited_olist(S,G) and inherited_olist(S,G,rpt)."""
+    """How data of a source to a group is forwarded: RPF_interface(S), RPF_interface(RP(G)), SPTbit(S,G), whether the
+    register tunnel is in the first two lists, and immediate_olist(S,G), inherited_olist(S,G) and
+    inherited_olist(S,G,rpt)."""
     rpf: int | None
     shared_rpf: int | None
     has_spt_bit: bool
@@ -288,7 +289,7 @@ class Forwarding(NamedTuple):
 
 
 class PlaneRow(NamedTuple):
-    """What a data plane may do of the packets of a source to a group: whether the source has a fact, the interface on
+    """What a data plane may do with the packets of a source to a group: whether the source has a fact, the interface on
     which packets are accepted, where copies of these leave, where a packet shows the source alive, and where it is the
     router's."""
     is_known: bool
@@ -435,12 +436,12 @@ def bytes_of(packet: Buffer) -> bytes:
 
 class Router:
     """A router. Addresses are texts. An interface is `("10.0.0.1", 24)`, or has a priority and two delays besides; a
-    route is `("10.1.0.0/24", next hop, interface, preference, metric)`, a range `("239.0.0.0/8", RP)`. What takes an
-    event answers what became of it; its draw is random unless one is given.
+    route is `("10.1.0.0/24", next hop, interface, preference, metric)`, a range `("239.0.0.0/8", RP)`. A call that
+    takes an event returns its answer; its draw is random unless one is given.
 
-    Threads may share one: each call waits for the others. A thread that wants what its own event sent holds `lock` from
-    the event on: `with router.lock: answer, sent = router.frame(0, packet), router.packets()`. It ends with its last
-    reference, if not before."""
+    Threads may share a router: each call waits for the others. A thread that wants what its own event sent holds `lock`
+    from the event on: `with router.lock: answer, sent = router.frame(0, packet), router.packets()`. A router is freed
+    by `end`, or with its last reference."""
 
     def __init__(
         self,
@@ -499,7 +500,7 @@ class Router:
         return self._answer(name, *values, Draw(random.getrandbits(32) if draw is None else number(draw, 32, "a draw")))
 
     def end(self) -> None:
-        """Gives its memory back. Each call raises `Closed` from then on, but this one."""
+        """Frees the router and its memory. From then on each call but this one raises `Closed`."""
         with self.lock:
             self._router = None
             self._finalizer()
@@ -507,12 +508,12 @@ class Router:
     # ---- events
 
     def advance(self, moment: int, draw: int | None = None) -> Answer:
-        """Time passes up to the moment, in ms."""
+        """Time passes up to the timestamp `moment`, in ms."""
         return self._event("advance", draw, number(moment, 64, "a moment"))
 
     def run_to(self, moment: int) -> list[Sent]:
-        """Time passes up to the moment, timer by timer, each with a draw of its own: what is to be sent meanwhile, in
-        its order. Raises `Refused` where the moment is before the present."""
+        """Time passes up to the timestamp `moment`, timer by timer, each with a draw of its own. Returns what is to be
+        sent, in its order. Raises `Refused` where `moment` is before the present."""
         sent = []
         with self.lock:
             while True:
@@ -546,7 +547,7 @@ class Router:
     def set_ranges(self, ranges: Iterable[tuple[str, str]], draw: int | None = None) -> Answer:
         return self._event("ranges", draw, *ranges_of(ranges))
 
-    # ---- what it tells
+    # ---- what is read
 
     def packets(self) -> list[Sent]:
         """What the last event sent, in the order in which it is to leave."""
@@ -563,7 +564,7 @@ class Router:
         return sent
 
     def next_moment(self) -> int | None:
-        """The moment at which the next timer ends, in ms."""
+        """The timestamp at which the next timer expires, in ms."""
         return there(self._call("next_moment"), NEVER)
 
     def rows(self, letter: str) -> list[Row]:
@@ -581,7 +582,7 @@ class Router:
         return (str(row) for letter in TABLES for row in self.rows(letter))
 
     def cached(self, source: str, group: str) -> Forwarding | None:
-        """How data of a source to a group goes; None where there is no fact of the source."""
+        """How data of a source to a group is forwarded; None where there is no fact of the source."""
         told = ToldForwarding()
         if not self._call("cached", address(source), address(group), byref(told)):
             return None
@@ -592,7 +593,7 @@ class Router:
     # ---- a data plane; include/viqeshor/plane.h says what one owes
 
     def offload(self, source: str, group: str) -> PlaneRow | None:
-        """What a data plane may do of the packets of a source to a group; None where all are the router's."""
+        """What a data plane may do with the packets of a source to a group; None where all are the router's."""
         told = ToldPlaneRow()
         if not self._call("offload", address(source), address(group), byref(told)):
             return None
@@ -610,18 +611,19 @@ class Router:
         return names
 
     def may_differ(self, source: str, group: str) -> bool:
-        """Whether what `offload` tells of a source, with a fact or without one, may have changed at the last event."""
+        """Whether what `offload` returns for a source, with a fact or without one, may have changed at the last
+        event."""
         return self._call("may_differ", address(source), address(group))
 
     def seen(self, iface: int, source: str, group: str, draw: int | None = None) -> Answer:
-        """An event: a data plane saw a packet of a source to a group on an interface. Its copies and its Register don't
-        leave."""
+        """An event: a data plane saw a packet of a source to a group on an interface. No copy and no Register of the
+        packet leaves."""
         return self._event("seen", draw, number(iface, 32, "an interface"), address(source), address(group))
 
     def keep(self, source: str, group: str, moment: int) -> Answer:
-        """A data plane forwarded a packet of a source to a group at a moment: the source's keepalive timer, where it
-        runs, ends 210 s after that, or when it would end later. NO_TIMER where none runs: it is started by `seen`
-        alone."""
+        """A data plane forwarded a packet of a source to a group at the timestamp `moment`. Where the source's
+        keepalive timer runs, its expiry moves to 210 s after that, unless it is later already. The answer is NO_TIMER
+        where no such timer runs: only `seen` starts one."""
         return self._answer("keep", address(source), address(group), number(moment, 64, "a moment"))
 
     # ---- costs

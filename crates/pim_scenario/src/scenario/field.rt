@@ -54,7 +54,7 @@ fn number_in(value: &Value) -> Result<u32, Wrong>
     u32::try_from(number).map_err(|_| Wrong)
 }
 
-/// The moment that a value is, in ms.
+/// The timestamp that a value is, in ms.
 fn moment_of(value: &Value) -> Result<u64, Wrong>
     ensures { result_ok result ≡ moment_of (view value.now) }
 {
@@ -113,7 +113,7 @@ pub(super) fn number_or(table: &Table, key: &str, default: u32) -> Result<u32, W
     }
 }
 
-/// The moment at a key, in ms.
+/// The timestamp at a key, in ms.
 pub(super) fn moment(table: &Table, key: &str) -> Result<u64, Wrong>
     ensures { result_ok result ≡ moment_at key.now (table_view table.now) }
 {
