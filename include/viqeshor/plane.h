@@ -75,9 +75,9 @@ struct viq_source_group {
     uint32_t group;
 };
 
-/* How many sources there are whose rows may have changed at the last event; and one of them, counted from 0. A source
- * may be listed more than once. viq_changed_source answers false, and writes nothing, where there is none of that
- * number. There is none where viq_touched is 0, and none for a lost router. */
+/* How many sources there are whose rows may have changed at the last event; and one of them, counted from 0. Each source
+ * is listed once, ascending by group and then by source. viq_changed_source answers false, and writes nothing, where
+ * there is none of that number. There is none where viq_touched is 0, and none for a lost router. */
 VIQ_READ_ANSWER
 size_t viq_changed(const struct viq_router *router);
 VIQ_NOT_NULL(3)

@@ -850,7 +850,7 @@ impl Router {
         unsafe { viq_offload(self.at(), source.into(), group.into(), &mut row) }.then_some(row)
     }
 
-    /// The sources whose rows may have changed at the last event; one may be listed more than once.
+    /// The sources whose rows may have changed at the last event, each once, ascending by group and then by source.
     pub fn changed(&self) -> Vec<SourceGroup> {
         // SAFETY: the router is there.
         let count = unsafe { viq_changed(self.at()) };

@@ -20,6 +20,7 @@ use Rattle.pim_offload.specs.Keeping.{keep}
 use Rattle.pim_offload.specs.Offered.{Offered, offered}
 use Rattle.pim_reach.specs.Named.{event_named}
 use Rattle.pim_router.specs.Costs.{IsCheap}
+use Rattle.pim_router.specs.Disturbing.{event_disturbed}
 use Rattle.pim_router.specs.Listing.{ListsSame}
 use Rattle.pim_router.specs.Staying.{OffersStay}
 use Rattle.pim_router.specs.Standing.{Standing, begun, nothing_shown, standing, with_state}
@@ -51,6 +52,7 @@ abbrev pub Taken : ShownSession → Standing → Event → ShownSession → Type
 Taken s r e left = (left.router.standing ≡ Some (standing (step r.state e)))
     × IsCheap r.state e left.router.probes left.router.touched
     × ListsSame left.router.changed (event_named r.state e)
+    × (left.router.disturbed ≡ event_disturbed r.state e)
     × OffersStay left.router.disturbed r.state (step r.state e).state
     × (left.sent ≡ (step r.state e).emissions) × (left.rows ≡ s.rows)
 

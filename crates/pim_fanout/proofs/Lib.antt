@@ -2,7 +2,8 @@ mod Alone
 pub mod Counts
 pub mod Few
 pub mod Listed
-mod Opened
+mod EachOnce
+pub mod Opened
 mod Others
 mod Refreshed
 mod Same

@@ -1,15 +1,19 @@
 //! The forwarding cache, with the count of what an event costs it.
-ghost use Rattle.std.specs.Prelude.{◌≡◌, ◌≤◌, ◌++◌, [], OnOk, if◌then◌else◌, sum_by};
+ghost use Rattle.std.specs.List.Sorted.{IsStrictlySortedBy};
+ghost use Rattle.std.specs.Prelude.{◌≡◌, ℕ, ◌≤◌, ◌++◌, [], OnOk, if◌then◌else◌, sum_by};
+ghost use Rattle.pim_cached.specs.Kept.{is_listed};
 ghost use Rattle.pim_fanout.specs.Before.{name_key};
 ghost use Rattle.pim_fanout.specs.Disturbed.{joined};
 ghost use Rattle.pim_fanout.specs.Refreshing.{Refreshes, RefreshesOne, nothing_cached, touches, touches_in, touches_of, uncounted};
 ghost use Rattle.pim_fanout.specs.Named.{keys_of};
 ghost use Rattle.pim_fanout.specs.Visits.{named_nodes};
 ghost use Rattle.pim_trie.specs.Meter.{raised};
+ghost use Rattle.pim_types.specs.Keys.{key_cmp};
 ghost use Rattle.pim_world.specs.declared.touched.Touched.{Touched as TouchedValue};
 
 use crate::before::has_fact;
 use crate::disturbed::Disturbed;
+use crate::once::each_once;
 use pim_macros::{Evaluations, row};
 use pim_mfc::Mfc;
 use pim_trie::Meter;
@@ -118,6 +122,16 @@ impl Cache {
         self.evaluated = Evaluations::none();
         self.changed.clear();
         self.disturbed.clear();
+    }
+
+    /// Lists each changed source once, ascending by group and then by source; all else stays. No memory is taken.
+    #[tactic(auto, unfolding(pim_cached::specs::Kept::is_listed))]
+    pub fn list_once(&mut self)
+        ensures kept { self.new ≡ record self.old { changed = self.new.changed } }
+        ensures same { (g src : ℕ) → is_listed self.new.changed g src ≡ is_listed self.old.changed g src }
+        ensures once { IsStrictlySortedBy key_cmp self.new.changed }
+    {
+        each_once(&mut self.changed);
     }
 
     // Evaluates the row of a source again, or takes it out where the source has no fact.

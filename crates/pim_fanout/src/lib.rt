@@ -9,6 +9,7 @@ mod compare;
 pub mod disturbed;
 pub mod laws;
 pub mod naming;
+mod once;
 
 pub use before::{Before, Gathered, KnownSource, SourceBefore};
 pub use cache::Cache;

@@ -13,7 +13,8 @@ use Rattle.pim_laws.proofs.TimerLaws.{IsNext, from_shown, is_next}
 use Rattle.pim_laws.proofs.TurnLaws.{same_when_none, unrolls_with}
 use Rattle.pim_ready.proofs.ShownEnds.{shown_is_later}
 use Rattle.pim_reach.specs.Named.{named_by}
-use Rattle.pim_reach.proofs.Advance.{same_end, told_fires}
+use Rattle.pim_reach.proofs.Advance.{same_end}
+use Rattle.pim_router.specs.Disturbing.{ended_all, ended_instant, ended_once}
 
 abbrev as_it_is : State → State
 as_it_is s = s
@@ -66,45 +67,73 @@ module _ (w m : ℕ) (s : State) (e : Ending) (ready : IsReady s.present s) (the
 
 -- ---- what is listed for firings goes on as they do
 
-module _ {X : Type 0} (told : State → State → List X) (w : ℕ) where
-  instant_fires : (s : State) (e : Ending) → (told_instant told w s e).0 ≡ (fire_instant w s e).0
-  unfolding told_instant told_once fire_instant
+module _ {X : Type 0} (told : State → Ending → List X) (w : ℕ) where
+  instant_fires : (s : State) (e : Ending) → (ended_instant told w s e).0 ≡ (fire_instant w s e).0
+  unfolding ended_instant ended_once fire_instant
   instant_fires s e =
-      same_end as_it_is (next_due e.end) (told_once told w) (fire_once w) (λ t d. refl) (length (timers s) + 1) s
+      same_end as_it_is (next_due e.end) (ended_once told w) (fire_once w) (λ t d. refl) (length (timers s) + 1) s
 
-  pub instant_told : (s : State) (e d : Ending) → IsFirable s → ends_from e.end s ≡ true → next_due e.end s ≡ Some d
-      → (told_instant told w s e).1 ≡ told s (own_firing s d) ++ (told_instant told w (fire_once w s d).0 e).1
-  unfolding told_instant told_once and_then
-  instant_told s e d firable from there =
+  all_fires : (m : ℕ) (s : State) → (ended_all told w m s).0 ≡ (fire_all w m s).0
+  unfolding ended_all fire_all
+  all_fires m s =
+      same_end as_it_is (next_due m) (ended_instant told w) (fire_instant w) instant_fires (m + 2 - s.present) s
+
+  pub instant_ended : (s : State) (e d : Ending) → IsFirable s → ends_from e.end s ≡ true → next_due e.end s ≡ Some d
+      → (ended_instant told w s e).1 ≡ told s d ++ (ended_instant told w (fire_once w s d).0 e).1
+  unfolding ended_instant ended_once and_then
+  instant_ended s e d firable from there =
       ap (λ (p : State × List X). p.1)
-      (unrolls_with (next_due e.end) (told_once told w) (length (timers s) + 1)
+      (unrolls_with (next_due e.end) (ended_once told w) (length (timers s) + 1)
       (length (timers (fire_once w s d).0) + 1) s d there
       (ap (next_due e.end) (instant_fires s e) ∙ instant_ends w s e d firable from there)
       (ap (next_due e.end) (instant_fires (fire_once w s d).0 e) ∙ later_ends w s e d firable from there))
 
-  pub instant_silent : (s : State) (e : Ending) → next_due e.end s ≡ None → (told_instant told w s e).1 ≡ []
-  unfolding told_instant
-  instant_silent s e none =
+  pub instant_ended_silently : (s : State) (e : Ending) → next_due e.end s ≡ None → (ended_instant told w s e).1 ≡ []
+  unfolding ended_instant
+  instant_ended_silently s e none =
       ap (λ (p : State × List X). p.1)
-      (same_when_none (next_due e.end) (told_once told w) (length (timers s) + 1) s none)
+      (same_when_none (next_due e.end) (ended_once told w) (length (timers s) + 1) s none)
+
+  pub all_ended : (m : ℕ) (s : State) (e : Ending) → IsReady s.present s → next_due m s ≡ Some e
+      → (ended_all told w m s).1 ≡ (ended_instant told w s e).1 ++ (ended_all told w m (fire_instant w s e).0).1
+  unfolding ended_all and_then
+  all_ended m s e ready there =
+      ap (λ (p : State × List X). p.1)
+      (unrolls_with (next_due m) (ended_instant told w) (m + 2 - s.present)
+      (m + 2 - ((ended_instant told w s e).0).present) s e there
+      (ap (next_due m) (all_fires m s) ∙ all_ends w m s e ready there)
+      (ap (next_due m) (all_fires m (ended_instant told w s e).0
+      ∙ ap (λ (t : State). (fire_all w m t).0) (instant_fires s e)) ∙ all_later_ends w m s e ready there))
+      ∙ ap (λ (t : State). (ended_instant told w s e).1 ++ (ended_all told w m t).1) (instant_fires s e)
+
+  pub all_ended_silently : (m : ℕ) (s : State) → next_due m s ≡ None → (ended_all told w m s).1 ≡ []
+  unfolding ended_all
+  all_ended_silently m s none =
+      ap (λ (p : State × List X). p.1)
+      (same_when_none (next_due m) (ended_instant told w) (m + 2 - s.present) s none)
+
+-- also what is told of their openings and their own changes
+module _ {X : Type 0} (told : State → State → List X) (w : ℕ) where
+  abbrev by_end : State → Ending → List X
+  by_end s d = told s (own_firing s d)
+
+  pub instant_told : (s : State) (e d : Ending) → IsFirable s → ends_from e.end s ≡ true → next_due e.end s ≡ Some d
+      → (told_instant told w s e).1 ≡ told s (own_firing s d) ++ (told_instant told w (fire_once w s d).0 e).1
+  unfolding told_instant told_once ended_instant ended_once
+  instant_told s e d firable from there = instant_ended by_end w s e d firable from there
+
+  pub instant_silent : (s : State) (e : Ending) → next_due e.end s ≡ None → (told_instant told w s e).1 ≡ []
+  unfolding told_instant told_once ended_instant ended_once
+  instant_silent s e none = instant_ended_silently by_end w s e none
 
   pub all_told : (m : ℕ) (s : State) (e : Ending) → IsReady s.present s → next_due m s ≡ Some e
       → (told_all told w m s).1 ≡ (told_instant told w s e).1 ++ (told_all told w m (fire_instant w s e).0).1
-  unfolding told_all and_then
-  all_told m s e ready there =
-      ap (λ (p : State × List X). p.1)
-      (unrolls_with (next_due m) (told_instant told w) (m + 2 - s.present)
-      (m + 2 - ((told_instant told w s e).0).present) s e there
-      (ap (next_due m) (told_fires told w m s) ∙ all_ends w m s e ready there)
-      (ap (next_due m) (told_fires told w m (told_instant told w s e).0
-      ∙ ap (λ (t : State). (fire_all w m t).0) (instant_fires s e)) ∙ all_later_ends w m s e ready there))
-      ∙ ap (λ (t : State). (told_instant told w s e).1 ++ (told_all told w m t).1) (instant_fires s e)
+  unfolding told_all told_instant told_once ended_all ended_instant ended_once
+  all_told m s e ready there = all_ended by_end w m s e ready there
 
   pub all_silent : (m : ℕ) (s : State) → next_due m s ≡ None → (told_all told w m s).1 ≡ []
-  unfolding told_all
-  all_silent m s none =
-      ap (λ (p : State × List X). p.1)
-      (same_when_none (next_due m) (told_instant told w) (m + 2 - s.present) s none)
+  unfolding told_all told_instant told_once ended_all ended_instant ended_once
+  all_silent m s none = all_ended_silently by_end w m s none
 
 -- ---- how far a loop has come: what was touched so far, with two for each source that is still to be named
 

@@ -4,6 +4,7 @@ mod Following
 mod Asserted
 mod Configured
 mod Costs
+mod Disturbing
 mod Firings
 mod Frames
 mod IgmpFacts

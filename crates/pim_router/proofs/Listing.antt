@@ -3,14 +3,16 @@
 use Rattle.std.proofs.Common.{◌≡◌, ◌≤◌, ◌<◌, ◌+◌, ℕ, Bool, true, false, ◌||◌, List, [], ◌∷◌, ◌++◌, Option, Some, Result, Ok, Err, OnOk, length, take, take_all, get_or, append_assoc, append-nil, add-one, refl, ap, subst, sym, ◌∙◌}
 use Rattle.std.specs.Prelude.{if◌then◌else◌}
 use Rattle.std.proofs.Math.Seq.{take-suc}
+use Rattle.std.specs.List.Sorted.{IsStrictlySortedBy}
 use Rattle.std.proofs.lemmas.List.Folds.{list_any-append}
 use Rattle.pim_ip.specs.Ipv4.{Packet}
 use Rattle.pim_types.specs.declared.config.IfaceId.{IfaceId}
 use Rattle.pim_types.specs.declared.event.Event.{Event}
 use Rattle.pim_types.specs.declared.fact.Key.{Key}
 use Rattle.pim_types.specs.declared.outcome.Stop.{Stop}
-use Rattle.pim_types.specs.Keys.{same_key, source_key}
+use Rattle.pim_types.specs.Keys.{key_cmp, same_key, source_key}
 use Rattle.pim_model.specs.Cache.{Plain}
+use Rattle.pim_model.specs.Clearing.{clear}
 use Rattle.pim_model.specs.declared.accepted.Accepted.{Accepted}
 use Rattle.pim_model.specs.Firing.{fire_instant, fire_once}
 use Rattle.pim_model.specs.Full.{is_full}
@@ -32,6 +34,7 @@ use Rattle.pim_world.specs.declared.touched.Touched.{Touched}
 use Rattle.pim_fanout.specs.Named.{keys_of}
 use Rattle.pim_types.specs.declared.name.SourceGroup.{SourceGroup}
 use Rattle.pim_fanout.proofs.Listed.{names_are_named}
+use Rattle.pim_fanout.proofs.Opened.{names_rise}
 use Rattle.pim_router.specs.Listing.{IsLastListed, ListsMore, ListsSame}
 use Rattle.pim_router.specs.Settling.{AreNames}
 use Rattle.pim_router.proofs.Costs.{state_then}
@@ -73,6 +76,18 @@ nothing_more before names none g src =
 pub listed_alone : (before names listed : List Key) → before ≡ [] → ListsMore before names listed → ListsSame listed names
 listed_alone before names listed none lists g src =
     lists g src ∙ ap (λ (ks : List Key). is_listed (ks ++ names) g src) none
+
+-- ---- each stands once
+
+pub once_alone : (listed : List Key) → listed ≡ [] → IsStrictlySortedBy key_cmp listed
+unfolding IsStrictlySortedBy
+once_alone listed none = subst (λ (ks : List Key). IsStrictlySortedBy key_cmp ks) (sym none) tt
+
+pub once_after : (o changed : State) (touched : Touched) (names : List SourceGroup) → AreNames o changed touched (keys_of names)
+    → (before listed : List Key) → before ≡ [] → listed ≡ before ++ keys_of names → IsStrictlySortedBy key_cmp listed
+once_after o changed touched names are before listed none is =
+    subst (λ (ks : List Key). IsStrictlySortedBy key_cmp ks)
+    (sym (is ∙ (ap (λ (ks : List Key). ks ++ keys_of names) none ∙ are.are))) (names_rise o (clear o changed).0 touched)
 
 -- ---- an event, and the expiry of a timer
 

@@ -1,13 +1,16 @@
 -- The forwarding cache and the state, after a part of an event and after the event.
-use Rattle.std.specs.Prelude.{List, ℕ, ◌+◌, ◌*◌, ◌≤◌, length}
+use Rattle.std.specs.List.Sorted.{IsStrictlySortedBy}
+use Rattle.std.specs.Prelude.{List, ℕ, ◌+◌, ◌*◌, ◌≤◌, ◌≡◌, length}
 use Rattle.pim_types.specs.declared.event.Event.{Event}
 use Rattle.pim_types.specs.declared.fact.Key.{Key}
+use Rattle.pim_types.specs.Keys.{key_cmp}
 use Rattle.pim_model.specs.Cache.{cached}
 use Rattle.pim_model.specs.State.{State}
 use Rattle.pim_fanout.specs.Refreshing.{CacheValue, touches}
 use Rattle.pim_mfc.specs.Laws.{ShowsRows}
 use Rattle.pim_reach.specs.Named.{event_named}
 use Rattle.pim_router.specs.Costs.{IsCheap}
+use Rattle.pim_router.specs.Disturbing.{event_disturbed}
 use Rattle.pim_router.specs.Listing.{ListsMore, ListsSame}
 use Rattle.pim_router.specs.Staying.{OffersStay, StaysBeside}
 
@@ -25,4 +28,6 @@ pub record CacheAfter (s : State) (e : Event) (t : State) (cache : CacheValue) (
   pub shown : ShowsRows cache.mfc.rows (cached t)
   pub cheap : IsCheap s e probes (touches cache)
   pub listed : ListsSame cache.changed (event_named s e)
+  pub once : IsStrictlySortedBy key_cmp cache.changed
+  pub disturbs : cache.disturbed ≡ event_disturbed s e
   pub stays : OffersStay cache.disturbed s t

@@ -1,6 +1,7 @@
 pub mod Acting
 pub mod Caching
 pub mod Listing
+pub mod Disturbing
 pub mod Staying
 pub mod Costs
 pub mod Ends

@@ -1,5 +1,7 @@
 //! One event: its tests, its change where there is room for its facts, and what follows of the change.
-ghost use Rattle.std.specs.Prelude.{◌≡◌, ◌≤◌, ◌<◌, [], IfOk, IsOk, IsOkUnless, IsTrue, Ok, OnOk, false, if◌then◌else◌, true};
+ghost use Rattle.std.specs.List.Sorted.{IsStrictlySortedBy};
+ghost use Rattle.std.specs.Prelude.{◌≡◌, ◌≤◌, ◌<◌, [], IfOk, IsOk, IsOkUnless, IsTrue, Ok, OnOk, false, if◌then◌else◌, not, true};
+ghost use Rattle.pim_fanout.specs.Disturbed.{joined};
 ghost use Rattle.pim_fanout.specs.Laws.{names_of};
 ghost use Rattle.pim_fanout.specs.Refreshing.{touches, touches_in};
 ghost use Rattle.pim_fanout.specs.Named.{keys_of};
@@ -15,9 +17,10 @@ ghost use Rattle.pim_model.specs.Sure.{needs_no_memory};
 ghost use Rattle.pim_reach.specs.Named.{named_of};
 ghost use Rattle.pim_mfc.specs.Kept.{ForwardsAs, decided};
 ghost use Rattle.pim_model.specs.Plain.{IsPlainEvent, fact_key};
-ghost use Rattle.pim_model.specs.Tables.{has_row};
+ghost use Rattle.pim_model.specs.Tables.{has_row, same_bool};
 ghost use Rattle.pim_router.specs.Acting.{control_event, act_event};
 ghost use Rattle.pim_router.specs.Costs.{IsWithinPath};
+ghost use Rattle.pim_router.specs.Disturbing.{disturbed_of, goes_by_answers, where_disturbed};
 ghost use Rattle.pim_intake.specs.Memory.{is_frame};
 ghost use Rattle.pim_ip.specs.Ipv4.{Packet};
 ghost use Rattle.pim_model.specs.Judging.{judged};
@@ -30,6 +33,7 @@ ghost use Rattle.pim_offload.specs.Staying.{is_rerouting};
 ghost use Rattle.pim_router.specs.Stops.{stop_outcome};
 ghost use Rattle.pim_router.specs.Visits.{act_nodes};
 ghost use Rattle.pim_trie.specs.Meter.{raised};
+ghost use Rattle.pim_types.specs.Keys.{key_cmp};
 ghost use Rattle.pim_world.specs.declared.touched.Touched.{Touched as TouchedValue};
 
 use crate::act::{Act, Control};
@@ -162,6 +166,7 @@ fn take_change(
     requires rest { IsAtRest world.old }
     requires shown { ShowsRows cache.old.mfc.rows (cached world.old) }
     requires begun { turn.old.messages ≡ [] }
+    requires unlisted { cache.old.changed ≡ [] }
     requires configured { IsConfigured world.old (act_event world.old plan.act) }
     requires plan { Fits world.old (act_event world.old plan.act) plan }
     ensures outcome { IfOk result (λ outcome. outcome
@@ -169,6 +174,9 @@ fn take_change(
     ensures state { OnOk result (world.new ≡ (taken world.old turn.old.draw (act_event world.old plan.entry.act)).state) }
     ensures cache { OnOk result (CacheFollows world.old world.new
         (named_of world.old turn.old.draw (act_event world.old plan.entry.act)) cache.old cache.new) }
+    ensures disturbed { OnOk result (cache.new.disturbed ≡ joined cache.old.disturbed
+        (disturbed_of world.old turn.old.draw (act_event world.old plan.entry.act))) }
+    ensures once { OnOk result (IsStrictlySortedBy key_cmp cache.new.changed) }
     ensures touched { OnOk result (touches cache.new ≡ raised (touches cache.old) (touches_in world.new
         (names_of world.old (change world.old turn.old.draw (act_event world.old plan.entry.act)).state plan.entry.touched))) }
     ensures fault { IsOkUnless result Fault.Memory }
@@ -196,12 +204,16 @@ fn take_unless_full(
     requires rest { IsAtRest world.old }
     requires shown { ShowsRows cache.old.mfc.rows (cached world.old) }
     requires begun { turn.old.messages ≡ [] }
+    requires unlisted { cache.old.changed ≡ [] }
     requires configured { IsConfigured world.old accepted }
     requires table { Brings accepted table }
     ensures outcome { IfOk result (λ outcome. outcome ≡ outcome_of (taken_unless_full world.old turn.old.draw accepted.entry)) }
     ensures state { OnOk result (world.new ≡ (taken_unless_full world.old turn.old.draw accepted.entry).state) }
     ensures cache { OnOk result (CacheFollows world.old world.new
         (where_accepted world.old (named_of world.old turn.old.draw) (Ok accepted.entry)) cache.old cache.new) }
+    ensures disturbed { OnOk result (cache.new.disturbed ≡ joined cache.old.disturbed
+        (where_disturbed world.old (disturbed_of world.old turn.old.draw) (Ok accepted.entry))) }
+    ensures once { OnOk result (IsStrictlySortedBy key_cmp cache.new.changed) }
     ensures fault { IsOkUnless result Fault.Memory }
     ensures rises { OnOk result (meter.old ≤ meter.new) }
 {
@@ -216,7 +228,7 @@ fn take_unless_full(
 // Whether there was room for one more fact and is none after the event, or the other way round: without room each
 // packet of a source that has no fact is refused.
 fn has_room_changed(was_full: bool, is_full: bool) -> bool
-    ensures { result ≡ false → was_full ≡ is_full }
+    ensures { result ≡ not (same_bool was_full is_full) }
 {
     was_full != is_full
 }
@@ -238,9 +250,11 @@ fn take_turn(
     requires table { Brings accepted table }
     requires uncounted { touches cache.old ≡ 0 }
     requires unlisted { cache.old.changed ≡ [] }
+    requires undisturbed { cache.old.disturbed ≡ TouchedValue.Keys [] }
     ensures outcome { IfOk result (λ outcome. outcome ≡ outcome_of (step world.old event.now)) }
     ensures state { OnOk result (world.new ≡ (step world.old event.now).state) }
     ensures cache { OnOk result ((IsPlainEvent world.old event.now → IsWithinPath meter.new)
+        → goes_by_answers world.old (judged world.old event.now.kind) ≡ false
         → CacheAfter world.old event.now world.new cache.new meter.new) }
     ensures fault { IsOkUnless result Fault.Memory }
     ensures rises { OnOk result (meter.old ≤ meter.new) }
@@ -290,6 +304,7 @@ fn take_data(
     requires below { iface.number < 120 }
     requires uncounted { touches cache.old ≡ 0 }
     requires unlisted { cache.old.changed ≡ [] }
+    requires undisturbed { cache.old.disturbed ≡ TouchedValue.Keys [] }
     requires unvisited { meter.old ≡ 0 }
     ensures outcome { IfOk result (λ outcome. outcome ≡ outcome_of (step world.old event.now)) }
     ensures state { OnOk result (world.new ≡ (step world.old event.now).state) }
@@ -326,6 +341,7 @@ fn take_other(
     requires other { (i : IfaceValue) (p : Packet) → ¬ (accepted ≡ Accepted.Data i p) }
     requires uncounted { touches cache.old ≡ 0 }
     requires unlisted { cache.old.changed ≡ [] }
+    requires undisturbed { cache.old.disturbed ≡ TouchedValue.Keys [] }
     ensures outcome { IfOk result (λ outcome. outcome ≡ outcome_of (step world.old event.now)) }
     ensures state { OnOk result (world.new ≡ (step world.old event.now).state) }
     ensures cache { OnOk result (CacheAfter world.old event.now world.new cache.new meter.new) }
@@ -351,6 +367,7 @@ fn take_accepted(
     requires table { Brings accepted table }
     requires uncounted { touches cache.old ≡ 0 }
     requires unlisted { cache.old.changed ≡ [] }
+    requires undisturbed { cache.old.disturbed ≡ TouchedValue.Keys [] }
     requires unvisited { is_frame event.now.kind ≡ true → meter.old ≡ 0 }
     ensures outcome { IfOk result (λ outcome. outcome ≡ outcome_of (step world.old event.now)) }
     ensures state { OnOk result (world.new ≡ (step world.old event.now).state) }
@@ -382,6 +399,7 @@ pub(crate) fn take_in(
     requires shown { ShowsRows cache.old.mfc.rows (cached world.old) }
     requires uncounted { touches cache.old ≡ 0 }
     requires unlisted { cache.old.changed ≡ [] }
+    requires undisturbed { cache.old.disturbed ≡ TouchedValue.Keys [] }
     requires unvisited { is_frame event.now.kind ≡ true → meter.old ≡ 0 }
     ensures outcome { IfOk result (λ outcome. outcome ≡ outcome_of (step world.old event.now)) }
     ensures state { OnOk result (world.new ≡ (step world.old event.now).state) }

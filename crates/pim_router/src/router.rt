@@ -1,4 +1,5 @@
 //! The router, as its users call it.
+ghost use Rattle.std.specs.List.Sorted.{IsStrictlySortedBy};
 ghost use Rattle.std.specs.Option.{option_map_or};
 ghost use Rattle.std.specs.Prelude.{◌≡◌, ◌+◌, ◌<◌, ◌++◌, ◌↔◌, [], Err, IfErr, IfOk, IfSome, IsOk, IsOkUnless, IsTrue, None, Ok, OnErr, OnOk, Some, min, option_and_then};
 ghost use Rattle.std.specs.Vec.{vec_capacity, vec_len};
@@ -6,6 +7,7 @@ ghost use Rattle.pim_fanout.specs.Refreshing.{touches};
 ghost use Rattle.pim_mfc.specs.Laws.{ShowsRows, TellsRow};
 ghost use Rattle.pim_model.specs.Cache.{cached};
 ghost use Rattle.pim_router.specs.Costs.{IsCheap, IsLastCheap};
+ghost use Rattle.pim_router.specs.Disturbing.{IsLastDisturbed, event_disturbed};
 ghost use Rattle.pim_model.specs.Judging.{last_moment};
 ghost use Rattle.pim_model.specs.Sets.{is_kept_alive};
 ghost use Rattle.pim_offload.specs.Keeping.{keep};
@@ -27,6 +29,7 @@ ghost use Rattle.pim_macros.specs.Rows.{number_of};
 ghost use Rattle.pim_model.specs.Timers.{next_moment};
 ghost use Rattle.pim_model.specs.Unicast.{rpf_interface_rp};
 ghost use Rattle.pim_router.specs.Standing.{beginning, begun, nothing_shown, last_copies, standing, standing_after, with_state};
+ghost use Rattle.pim_types.specs.Keys.{key_cmp};
 ghost use Rattle.pim_types.specs.declared.config.Config.{Config as ConfigValue};
 ghost use Rattle.pim_model.specs.Sure.{needs_no_memory};
 ghost use Rattle.pim_locality.specs.Rest.{IsAtRest};
@@ -68,12 +71,14 @@ pub struct Router {
 }
 
 impl Model for Router {
+    ghost use Rattle.std.specs.List.Sorted.{IsStrictlySortedBy};
     ghost use Rattle.std.specs.Prelude.{Some, false, if◌then◌else◌, ◌≡◌};
     ghost use Rattle.pim_fanout.specs.Refreshing.{touches};
     ghost use Rattle.pim_locality.specs.Rest.{IsAtRest};
     ghost use Rattle.pim_mfc.specs.Laws.{ShowsRows};
     ghost use Rattle.pim_model.specs.Cache.{cached};
     ghost use Rattle.pim_router.specs.Standing.{Shown, nothing_shown};
+    ghost use Rattle.pim_types.specs.Keys.{key_cmp};
 
     ghost Value = { Shown };
 
@@ -85,7 +90,8 @@ impl Model for Router {
       disturbed = r.cache.disturbed;
     } };
 
-    ghost invariant = { λ r. r.failed ≡ false → IsAtRest r.world × ShowsRows r.cache.mfc.rows (cached r.world) };
+    ghost invariant = { λ r. r.failed ≡ false → IsAtRest r.world × ShowsRows r.cache.mfc.rows (cached r.world)
+      × IsStrictlySortedBy key_cmp r.cache.changed };
 }
 
 impl Router {
@@ -191,11 +197,12 @@ impl Router {
     }
 
     /// The sources whose rows of the forwarding cache the last event may have changed: the rows of all other sources
-    /// are unchanged. After an `Advance` they are those of all timers that expired, so a source may be listed more than
-    /// once. A plain packet of data, and an event that is ignored or refused, list none. The list is empty before the
-    /// first event, and where the router has failed. Takes no memory.
+    /// are unchanged. Each source is listed once, ascending by group and then by source. After an `Advance` they are
+    /// those of all timers that expired. A plain packet of data, and an event that is ignored or refused, list none. The
+    /// list is empty before the first event, and where the router has failed. Takes no memory.
     pub fn changed(&self) -> &[SourceGroup]
         ensures names { keys_of result.now ≡ self.now.changed }
+        ensures once { IsStrictlySortedBy key_cmp self.now.changed }
         ensures none { self.now.touched ≡ 0 → result.now ≡ [] }
     {
         if self.failed {
@@ -219,11 +226,11 @@ impl Router {
     }
 
     /// Whether the answer of `offload` for (S,G) may differ from its answer before the last event, whether the source
-    /// has a fact or not. If this is false, the answer is the same. It is true for the sources that the event's change
-    /// touched, and for all sources of a group that it touched whole. It is true for all sources after new routes or RP
-    /// ranges; after an interface went up or down; after a Hello, or the expiry of a neighbour, that changes whether
-    /// the router is the DR or touches more than 256 keys; after an event that took the last room for a fact or made
-    /// room again; and where the router has failed. No clause says when it is false. Takes no memory.
+    /// has a fact or not. If this is false, the answer is the same. It is true exactly for the sources that the event's
+    /// change, or the expiry of one of its timers, touched, and for all sources of a group that it touched whole; for
+    /// all sources after new routes or RP ranges; after an interface went up or down; after a Hello, or the expiry of a
+    /// neighbour, that changes whether the router is the DR or touches more than 256 keys; after an event that took the
+    /// last room for a fact or made room again; and where the router has failed. Takes no memory.
     #[tactic(auto, unfolding(pim_fanout::specs::Disturbed::is_disturbed))]
     pub fn may_differ(&self, source: Addr, group: Addr) -> bool
         ensures { result ≡ is_disturbed self.now.disturbed group.bits source.bits }
@@ -265,6 +272,8 @@ impl Router {
             (IsCheap r.state event.now self.new.probes self.new.touched)) }
         ensures changed { IfSome self.old.standing (λ r. OnOk result
             (ListsSame self.new.changed (event_named r.state event.now))) }
+        ensures disturbed { IfSome self.old.standing (λ r. OnOk result
+            (self.new.disturbed ≡ event_disturbed r.state event.now)) }
         ensures stays { IfSome self.old.standing (λ r. OnOk result
             (OffersStay self.new.disturbed r.state (step r.state event.now).state)) }
         ensures failing { OnErr result (self.new ≡ nothing_shown) }
@@ -292,6 +301,8 @@ impl Router {
             (IsCheap r.state event.now self.new.probes self.new.touched)) }
         ensures changed { IfSome self.old.standing (λ r. OnOk result
             (ListsSame self.new.changed (event_named r.state event.now))) }
+        ensures disturbed { IfSome self.old.standing (λ r. OnOk result
+            (self.new.disturbed ≡ event_disturbed r.state event.now)) }
         ensures stays { IfSome self.old.standing (λ r. OnOk result
             (OffersStay self.new.disturbed r.state (step r.state event.now).state)) }
         ensures failing { OnErr result (self.new ≡ nothing_shown) }
@@ -339,6 +350,8 @@ impl Router {
             (seen_event draw iface group.bits source.bits) self.new.probes self.new.touched)) }
         ensures changed { IfSome self.old.standing (λ r. OnOk result (ListsSame self.new.changed
             (event_named r.state (seen_event draw iface group.bits source.bits)))) }
+        ensures disturbed { IfSome self.old.standing (λ r. OnOk result (self.new.disturbed
+            ≡ event_disturbed r.state (seen_event draw iface group.bits source.bits))) }
         ensures stays { IfSome self.old.standing (λ r. OnOk result (OffersStay self.new.disturbed r.state
             (step r.state (seen_event draw iface group.bits source.bits)).state)) }
         ensures failing { OnErr result (self.new ≡ nothing_shown) }
@@ -409,6 +422,8 @@ impl Router {
             (IsLastCheap r.state events.now self.new.probes self.new.touched)) }
         ensures changed { IfSome self.old.standing (λ r. OnOk result
             (IsLastListed r.state events.now self.new.changed)) }
+        ensures disturbed { IfSome self.old.standing (λ r. OnOk result
+            (IsLastDisturbed r.state events.now self.new.disturbed)) }
         ensures stays { IfSome self.old.standing (λ r. OnOk result
             (LastOffersStay r.state events.now self.new.disturbed)) }
         ensures failing { OnErr result (self.new ≡ nothing_shown) }
@@ -476,6 +491,8 @@ fn take_next(
     ensures shown { OnOk result (ShowsRows cache.new.mfc.rows (cached world.new)) }
     ensures cheap { OnOk result (IsCheap world.old event.now probes.new.meter (touches cache.new)) }
     ensures listed { OnOk result (ListsSame cache.new.changed (event_named world.old event.now)) }
+    ensures once { OnOk result (IsStrictlySortedBy key_cmp cache.new.changed) }
+    ensures disturbed { OnOk result (cache.new.disturbed ≡ event_disturbed world.old event.now) }
     ensures stays { OnOk result (OffersStay cache.new.disturbed world.old world.new) }
     ensures fault { IsOkUnless result Fault.Memory }
     ensures sure { IsTrue (needs_no_memory (step world.old event.now).answer) → IsOk result }
@@ -495,12 +512,15 @@ fn run_world(
 ) -> Result<Vec<Outcome>, Fault>
     requires rest { IsAtRest world.old }
     requires shown { ShowsRows cache.old.mfc.rows (cached world.old) }
+    requires once { IsStrictlySortedBy key_cmp cache.old.changed }
     ensures outcomes { IfOk result (λ outcomes. outcomes.items ≡ run world.old events.now) }
     ensures state { OnOk result (world.new ≡ state_after world.old events.now) }
     ensures rest { OnOk result (IsAtRest world.new) }
     ensures shown { OnOk result (ShowsRows cache.new.mfc.rows (cached world.new)) }
     ensures cheap { OnOk result (IsLastCheap world.old events.now probes.new.meter (touches cache.new)) }
     ensures listed { OnOk result (IsLastListed world.old events.now cache.new.changed) }
+    ensures once { OnOk result (IsStrictlySortedBy key_cmp cache.new.changed) }
+    ensures disturbed { OnOk result (IsLastDisturbed world.old events.now cache.new.disturbed) }
     ensures stays { OnOk result (LastOffersStay world.old events.now cache.new.disturbed) }
     ensures fault { IsOkUnless result Fault.Memory }
     ensures sure { events.now ≡ [] → IsOk result }

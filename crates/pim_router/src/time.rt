@@ -1,5 +1,7 @@
 //! Time that passes: timers expire one after the other, and what follows of each is settled before the next.
+ghost use Rattle.std.specs.List.Sorted.{IsStrictlySortedBy};
 ghost use Rattle.std.specs.Prelude.{◌≡◌, ◌≤◌, ◌^◌, ◌++◌, [], IfOk, IsOkUnless, OnOk, option_map, true};
+ghost use Rattle.pim_fanout.specs.Disturbed.{joined};
 ghost use Rattle.pim_fanout.specs.Laws.{names_of};
 ghost use Rattle.pim_fanout.specs.Refreshing.{touches, touches_in};
 ghost use Rattle.pim_fanout.specs.Named.{keys_of};
@@ -20,8 +22,10 @@ ghost use Rattle.pim_model.specs.Step.{advanced, outcome_of};
 ghost use Rattle.pim_model.specs.Timers.{next_due};
 ghost use Rattle.pim_ready.specs.Ready.{IsLawful};
 ghost use Rattle.pim_router.specs.Caching.{CacheFollows};
+ghost use Rattle.pim_router.specs.Disturbing.{ended_all, ended_instant, joined_all, touched_at};
 ghost use Rattle.pim_router.specs.Ends.{ending_of, has_other_sources, keeps_group, touched_by_end, touched_by_neighbour, touched_by_source};
 ghost use Rattle.pim_tables.specs.Ends.{due_of};
+ghost use Rattle.pim_types.specs.Keys.{key_cmp};
 
 use crate::few::few_or_all;
 use crate::settle::settle;
@@ -209,6 +213,8 @@ fn fire_once(
         ≡ emissions.old.items ++ (fire_once turn.old.draw world.old (ending_of due)).1) }
     ensures cache { OnOk result (CacheFollows world.old world.new
         (named_by world.old (own_firing world.old (ending_of due))) cache.old cache.new) }
+    ensures disturbed { OnOk result (cache.new.disturbed
+        ≡ joined cache.old.disturbed (touched_by_end world.old due.1.kind due.1.key)) }
     ensures touched { OnOk result (touches cache.new ≡ raised (touches cache.old) (touches_in world.new
         (names_of world.old (own_firing world.old (ending_of due)) (touched_by_end world.old due.1.kind due.1.key)))) }
     ensures draw { OnOk result (turn.new.draw ≡ turn.old.draw) }
@@ -243,6 +249,8 @@ fn fire_instant(
         ≡ emissions.old.items ++ (fire_instant turn.old.draw world.old (ending_of first)).1) }
     ensures cache { OnOk result (CacheFollows world.old world.new
         (told_instant named_by turn.old.draw world.old (ending_of first)).1 cache.old cache.new) }
+    ensures disturbed { OnOk result (cache.new.disturbed ≡ joined cache.old.disturbed
+        (joined_all (ended_instant touched_at turn.old.draw world.old (ending_of first)).1)) }
     ensures draw { OnOk result (turn.new.draw ≡ turn.old.draw) }
     ensures fault { IsOkUnless result Fault.Memory }
     ensures rises { OnOk result (meter.old ≤ meter.new) }
@@ -272,6 +280,8 @@ fn fire_all(
         ≡ emissions.old.items ++ (fire_all turn.old.draw moment world.old).1) }
     ensures cache { OnOk result (CacheFollows world.old world.new
         (told_all named_by turn.old.draw moment world.old).1 cache.old cache.new) }
+    ensures disturbed { OnOk result (cache.new.disturbed ≡ joined cache.old.disturbed
+        (joined_all (ended_all touched_at turn.old.draw moment world.old).1)) }
     ensures fault { IsOkUnless result Fault.Memory }
     ensures rises { OnOk result (meter.old ≤ meter.new) }
 {
@@ -297,11 +307,16 @@ pub(crate) fn advance(
     ensures state { OnOk result (world.new ≡ (advanced world.old turn.old.draw moment).state) }
     ensures cache { OnOk result (CacheFollows world.old world.new
         (told_all named_by turn.old.draw moment world.old).1 cache.old cache.new) }
+    ensures disturbed { OnOk result (cache.new.disturbed ≡ joined cache.old.disturbed
+        (joined_all (ended_all touched_at turn.old.draw moment world.old).1)) }
+    ensures once { OnOk result (IsStrictlySortedBy key_cmp cache.new.changed) }
     ensures fault { IsOkUnless result Fault.Memory }
     ensures rises { OnOk result (meter.old ≤ meter.new) }
 {
     let mut emissions = Vec::new(turn.alloc);
     fire_all(world, cache, turn, meter, moment, &mut emissions)?;
+    // Several of the timers may have named the same source.
+    cache.list_once();
     // For the proof: there are at most 120 interfaces.
     world.interfaces().recall_few();
     world.set_present(moment);

@@ -1,4 +1,5 @@
 //! A router in a box, with what its last calls returned.
+ghost use Rattle.std.specs.List.Sorted.{IsStrictlySortedBy};
 ghost use Rattle.std.specs.Option.{option_map_or};
 ghost use Rattle.std.specs.Prelude.{◌≡◌, ◌↔◌, [], Err, IfErr, IfOk, IfSome, IsOk, IsOkUnless, IsSome, IsTrue, None, Ok, OnErr, OnOk, Some, min, option_and_then};
 ghost use Rattle.pim_ip.specs.declared.fault.Fault.{Fault};
@@ -22,9 +23,11 @@ ghost use Rattle.pim_offload.specs.Seen.{seen_event};
 ghost use Rattle.pim_offrow.specs.Shown.{TellsOffload};
 ghost use Rattle.pim_reach.specs.Named.{event_named};
 ghost use Rattle.pim_router.specs.Costs.{IsCheap};
+ghost use Rattle.pim_router.specs.Disturbing.{event_disturbed};
 ghost use Rattle.pim_router.specs.Listing.{ListsSame};
 ghost use Rattle.pim_router.specs.Staying.{OffersStay};
 ghost use Rattle.pim_router.specs.Standing.{begun, nothing_shown, standing, with_state};
+ghost use Rattle.pim_types.specs.Keys.{key_cmp};
 
 use pim_intake::LentEvent;
 use pim_mfc::CacheRow;
@@ -117,6 +120,8 @@ impl Session {
             (IsCheap r.state event.now self.new.router.probes self.new.router.touched)) }
         ensures changed { IfSome self.old.router.standing (λ r. OnOk result
             (ListsSame self.new.router.changed (event_named r.state event.now))) }
+        ensures disturbed { IfSome self.old.router.standing (λ r. OnOk result
+            (self.new.router.disturbed ≡ event_disturbed r.state event.now)) }
         ensures stays { IfSome self.old.router.standing (λ r. OnOk result
             (OffersStay self.new.router.disturbed r.state (step r.state event.now).state)) }
         ensures failing { OnErr result (self.new.router ≡ nothing_shown) }
@@ -164,6 +169,8 @@ impl Session {
             (seen_event draw iface group.bits source.bits) self.new.router.probes self.new.router.touched)) }
         ensures changed { IfSome self.old.router.standing (λ r. OnOk result (ListsSame self.new.router.changed
             (event_named r.state (seen_event draw iface group.bits source.bits)))) }
+        ensures disturbed { IfSome self.old.router.standing (λ r. OnOk result (self.new.router.disturbed
+            ≡ event_disturbed r.state (seen_event draw iface group.bits source.bits))) }
         ensures stays { IfSome self.old.router.standing (λ r. OnOk result (OffersStay self.new.router.disturbed r.state
             (step r.state (seen_event draw iface group.bits source.bits)).state)) }
         ensures failing { OnErr result (self.new.router ≡ nothing_shown) }
@@ -311,9 +318,10 @@ impl Session {
         self.router.offload(source, group)
     }
 
-    /// The sources that the last event listed as changed, as `Router::changed` lists them; none after a fault.
+    /// The sources that the last event listed as changed, each once, as `Router::changed` lists them; none after a fault.
     pub fn changed(&self) -> &[SourceGroup]
         ensures names { keys_of result.now ≡ self.now.router.changed }
+        ensures once { IsStrictlySortedBy key_cmp self.now.router.changed }
         ensures none { self.now.router.touched ≡ 0 → result.now ≡ [] }
     {
         if self.is_lost {

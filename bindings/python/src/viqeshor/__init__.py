@@ -601,8 +601,8 @@ class Router:
         return PlaneRow(told.is_known, there(told.incoming, NO_INTERFACE), *sets)
 
     def changed(self) -> list[tuple[str, str]]:
-        """The sources whose rows may have changed at the last event, each with its group; one may be listed more than
-        once."""
+        """The sources whose rows may have changed at the last event, each with its group. Each is listed once,
+        ascending by group and then by source."""
         told, names = ToldName(), []
         with self.lock:
             for index in range(self._call("changed")):

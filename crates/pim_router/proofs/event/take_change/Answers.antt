@@ -6,7 +6,8 @@ use Rattle.pim_fanout.specs.Refreshing.{touches}
 use Rattle.pim_model.specs.Step.{change}
 use Rattle.pim_router.specs.Acting.{act_event}
 use Rattle.pim_router.proofs.Acts.{timeless}
-use Rattle.pim_router.proofs.Listing.{listed_after}
+use Rattle.pim_router.proofs.Disturbing.{disturbed_after}
+use Rattle.pim_router.proofs.Listing.{listed_after, once_after}
 use Rattle.pim_router.proofs.Staying.{stays_after}
 use Rattle.pim_router.proofs.Rows.{cost_after, rows_after, touches_named}
 use Rattle.pim_world.proofs.Visits.{rises_by, then_rises}
@@ -34,6 +35,21 @@ returns-clause-cache c = record {
       ∙ ap (λ (b : Bool). if b then Touched.All else c.args.plan.touched) (c.is_rerouting-reroutes.ensures c.args.world.now)))
       stays;
 }
+
+pub returns-clause-disturbed : goal.returns-clause-disturbed
+returns-clause-disturbed c =
+    disturbed_after c.args.world.now c.args.turn.now.draw (act_event c.args.world.now c.args.plan.act)
+    (timeless c.args.world.now c.args.plan.act) c.args.plan.touched c.args.cache.now.disturbed
+    c.refresh.new.self.disturbed c.requires.plan.touches
+    (c.in_ok-refresh.ensures.disturbed
+    ∙ ap (λ (t : Touched). joined c.args.cache.now.disturbed t) (c.disturbed_where.ensures
+    ∙ ap (λ (b : Bool). if b then Touched.All else c.args.plan.touched) (c.is_rerouting-reroutes.ensures c.args.world.now)))
+
+pub returns-clause-once : goal.returns-clause-once
+returns-clause-once c =
+    once_after c.args.world.now (change c.args.world.now c.args.turn.now.draw (act_event c.args.world.now c.args.plan.act)).state
+    c.args.plan.touched c.in_ok-outcome.field-0.names c.in_ok-outcome.ensures.names c.args.cache.now.changed
+    c.refresh.new.self.changed c.requires.unlisted c.in_ok-refresh.ensures.listed
 
 pub returns-clause-at_least : goal.returns-clause-at_least
 returns-clause-at_least c =

@@ -4,7 +4,8 @@ use Rattle.pim_router.proofs.Caching.{cache_after}
 use Rattle.pim_router.proofs.Costs.{plain_cheap, untouched}
 use Rattle.pim_router.proofs.Instants.{on_ok}
 use Rattle.pim_router.proofs.Staying.{plain_offers_stay}
-use Rattle.pim_router.proofs.Listing.{plain_event_names_none, unlisted}
+use Rattle.pim_router.proofs.Disturbing.{data_in_turn, plain_disturbs_none}
+use Rattle.pim_router.proofs.Listing.{once_alone, plain_event_names_none, unlisted}
 use Rattle.pim_router.proofs.Plainly.{answered_by_row, its_packet, not_plain, plain_outcome, plain_rows, plain_state}
 use Rattle.pim_router.proofs.event.take_data.Goals as goal
 
@@ -42,6 +43,9 @@ returns-in-Some-clause-cache c =
     (unlisted c.args.cache.now.changed c.args.world.now c.args.event.now c.requires.unlisted
     (plain_event_names_none c.args.world.now c.args.event.now c.args.iface c.args.packet answered.how
     c.requires.rest c.requires.heard answered.known answered.answered)))
+    (once_alone c.args.cache.now.changed c.requires.unlisted)
+    (plain_disturbs_none c.args.world.now c.args.event.now c.args.iface c.args.packet answered.how
+    c.args.cache.now.disturbed c.requires.heard answered.known answered.answered c.requires.undisturbed)
     (plain_offers_stay c.take_plain.result c.args.world.now c.take_plain.new.world c.args.event.now c.args.packet
     answered.how c.requires.rest
     (record {
@@ -61,5 +65,8 @@ returns-in-None-clause-cache c =
     (λ turn. turn (λ is. let packet = its_packet c.args.world.now c.args.event.now c.requires.rest c.args.iface c.args.packet
     c.requires.heard is in
     absurd (not_plain c.args.cache.now.mfc c.args.world.now c.args.iface c.args.packet c.requires.shown
-    c.requires.below c.by_row.result c.in-None.is c.by_row.ensures.decided packet.0 packet.1)))
+    c.requires.below c.by_row.result c.in-None.is c.by_row.ensures.decided packet.0 packet.1))
+    (data_in_turn c.args.world.now c.args.event.now c.args.iface c.args.packet c.requires.heard
+    (not_plain c.args.cache.now.mfc c.args.world.now c.args.iface c.args.packet c.requires.shown c.requires.below
+    c.by_row.result c.in-None.is c.by_row.ensures.decided)))
     c.take_turn.ensures.cache

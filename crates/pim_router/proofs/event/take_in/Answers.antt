@@ -8,7 +8,8 @@ use Rattle.pim_world.proofs.Visits.{at_least_itself, rises_by}
 use Rattle.pim_fanout.specs.Refreshing.{touches}
 use Rattle.pim_router.proofs.Costs.{is_cheap, untouched}
 use Rattle.pim_router.proofs.Staying.{offers_the_same}
-use Rattle.pim_router.proofs.Listing.{stopped_names_none, unlisted}
+use Rattle.pim_router.proofs.Disturbing.{stopped_disturbs_none}
+use Rattle.pim_router.proofs.Listing.{once_alone, stopped_names_none, unlisted}
 use Rattle.pim_router.proofs.Plainly.{stop_isnt_plain}
 use Rattle.pim_router.proofs.Taking.{accepted_unsurely, fails_unsurely, rests_after}
 use Rattle.pim_router.proofs.event.take_in.Goals as goal
@@ -59,5 +60,8 @@ returns-in-Err-clause-cache c = record {
   listed = unlisted c.args.cache.now.changed c.args.world.now c.args.event.now c.requires.unlisted
       (stopped_names_none c.args.world.now c.args.event.now c.in-Err.stop
       (sym c.in_ok-accepted.ensures.value ∙ ap heard_of c.in-Err.is));
+  once = once_alone c.args.cache.now.changed c.requires.unlisted;
+  disturbs = stopped_disturbs_none c.args.world.now c.args.event.now c.in-Err.stop c.args.cache.now.disturbed
+      (sym c.in_ok-accepted.ensures.value ∙ ap heard_of c.in-Err.is) c.requires.undisturbed;
   stays = offers_the_same c.args.world.now c.args.world.now c.args.cache.now.disturbed refl;
 }

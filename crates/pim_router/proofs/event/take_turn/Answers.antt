@@ -1,4 +1,6 @@
 use Rattle.std.proofs.Common.{List, ap, length, refl, subst, sym, ℕ, ◌*◌, ◌+◌, ◌≡◌, ◌≤◌, ◌∙◌}
+use Rattle.std.specs.List.Sorted.{IsStrictlySortedBy}
+use Rattle.pim_types.specs.Keys.{key_cmp}
 use Rattle.pim_types.specs.declared.fact.Key.{Key}
 use Rattle.pim_fanout.specs.Refreshing.{CacheValue, touches}
 use Rattle.pim_mfc.specs.Laws.{ShowsRows}
@@ -6,6 +8,7 @@ use Rattle.pim_model.specs.Cache.{cached}
 use Rattle.pim_model.specs.Judging.{judged}
 use Rattle.pim_reach.specs.Named.{event_named}
 use Rattle.pim_router.proofs.Costs.{is_cheap, touched_so}
+use Rattle.pim_router.proofs.Disturbing.{room_alike, turn_disturbs}
 use Rattle.pim_router.proofs.Listing.{listed_alone, named_in_turn}
 use Rattle.pim_router.proofs.Staying.{offers_with_room, stays_the_same}
 use Rattle.pim_world.specs.Turns.{Taking}
@@ -21,7 +24,7 @@ take_unless_full-requires-clause-configured c =
 
 pub returns-clause-cache : goal.returns-clause-cache
 unfolding touches
-returns-clause-cache c = λ plain.
+returns-clause-cache c = λ plain other.
     let s = c.args.world.now in
     let names = event_named s c.args.event.now in
     let before = c.args.cache.now in
@@ -39,9 +42,16 @@ returns-clause-cache c = λ plain.
           (subst (λ (n : ℕ). n ≤ touches before + 2 * length names) (sym same) follows.few) c.requires.uncounted);
       listed = subst (λ (x : CacheValue). ListsSame x.changed names) (sym after)
           (listed_alone before.changed names k.changed c.requires.unlisted follows.listed);
+      once = subst (λ (x : CacheValue). IsStrictlySortedBy key_cmp x.changed) (sym after) c.in_ok-outcome.ensures.once;
+      disturbs = turn_disturbs s c.take_unless_full.new.world c.args.event.now c.args.accepted _ before.disturbed
+          k.disturbed c.disturb_all_if.new.self.disturbed c.passes_limit-was_full.result c.passes_limit.result
+          c.has_room_changed.result c.requires.heard
+          (ap (λ (t : Taking). t.draw) c.new-turn.ensures ∙ c.draw.ensures) c.requires.undisturbed
+          c.in_ok-outcome.ensures.disturbed c.in_ok-outcome.ensures.state c.passes_limit-was_full.ensures
+          c.passes_limit.ensures c.has_room_changed.ensures (ap (λ (x : CacheValue). x.disturbed) after) other;
       stays = offers_with_room s c.take_unless_full.new.world k.disturbed
           c.disturb_all_if.new.self.disturbed c.has_room_changed.result
           (ap (λ (x : CacheValue). x.disturbed) after)
-          (λ same. sym c.passes_limit-was_full.ensures ∙ (c.has_room_changed.ensures same ∙ c.passes_limit.ensures))
+          (λ same. sym c.passes_limit-was_full.ensures ∙ (room_alike _ _ _ c.has_room_changed.ensures same ∙ c.passes_limit.ensures))
           (follows.stays s (stays_the_same s s before.disturbed refl));
     }

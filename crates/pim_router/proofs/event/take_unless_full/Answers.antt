@@ -9,7 +9,11 @@ use Rattle.pim_model.specs.Step.{Answered, outcome_of, taken, taken_unless_full}
 use Rattle.pim_world.proofs.Visits.{rises_by}
 use Rattle.pim_router.specs.Acting.{act_event}
 use Rattle.pim_router.specs.Caching.{CacheFollows}
-use Rattle.pim_router.proofs.Listing.{named_without_room, nothing_more}
+use Rattle.pim_world.specs.declared.touched.Touched.{Touched}
+use Rattle.pim_fanout.specs.Disturbed.{joined}
+use Rattle.pim_router.specs.Disturbing.{disturbed_of}
+use Rattle.pim_router.proofs.Disturbing.{disturbed_in_room, disturbed_in_time, undisturbed_when_full}
+use Rattle.pim_router.proofs.Listing.{named_without_room, nothing_more, once_alone}
 use Rattle.pim_router.specs.Naming.{IsConfigured}
 use Rattle.pim_router.specs.Planning.{Fits, IsPlanned}
 use Rattle.pim_router.specs.declared.plan.Planning.{Planning}
@@ -35,6 +39,10 @@ returns-in-Time c =
           c.advance.ensures.state;
       cache = subst (λ (ks : List Key). OnOk c.advance.result (CacheFollows c.args.world.now c.advance.new.world ks
           c.args.cache.now c.advance.new.cache)) named c.advance.ensures.cache;
+      disturbed = subst (λ (t : Touched). OnOk c.advance.result (c.advance.new.cache.disturbed ≡ joined c.args.cache.now.disturbed t))
+          (disturbed_in_time c.args.world.now c.args.turn.now.draw c.args.accepted c.in-Time.moment is)
+          c.advance.ensures.disturbed;
+      once = c.advance.ensures.once;
       fault = c.advance.ensures.fault;
       rises = on_ok_weaker c.advance.result (λ e. omega (arith, c.in_ok-planning.ensures.rises, e))
           c.advance.ensures.rises;
@@ -69,6 +77,12 @@ returns-in-Change c =
           c.take_change.ensures.state;
       cache = subst (λ (ks : List Key). OnOk c.take_change.result (CacheFollows c.args.world.now
           c.take_change.new.world ks c.args.cache.now c.take_change.new.cache)) named c.take_change.ensures.cache;
+      disturbed = subst (λ (t : Touched). OnOk c.take_change.result (c.take_change.new.cache.disturbed
+          ≡ joined c.args.cache.now.disturbed t))
+          (ap (λ (a : Accepted). disturbed_of c.args.world.now c.args.turn.now.draw a) fits.event
+          ∙ disturbed_in_room c.args.world.now c.args.turn.now.draw c.args.accepted fits.room)
+          c.take_change.ensures.disturbed;
+      once = c.take_change.ensures.once;
       fault = c.take_change.ensures.fault;
       rises = on_ok_weaker c.take_change.result
           (λ e. omega (arith, c.in_ok-planning.ensures.rises, rises_by _ _ _ e)) c.take_change.ensures.at_least;
@@ -89,6 +103,8 @@ returns-in-Full c =
             (named_without_room c.args.world.now c.args.turn.now.draw c.args.accepted full);
         stays = λ o stays. stays;
       };
+      disturbed = undisturbed_when_full c.args.world.now c.args.turn.now.draw c.args.accepted c.args.cache.now.disturbed full;
+      once = once_alone c.args.cache.now.changed c.requires.unlisted;
       fault = tt;
       rises = c.in_ok-planning.ensures.rises;
     }

@@ -1,6 +1,7 @@
 use Rattle.std.proofs.Common.{◌++◌, ◌∷◌, [], ap, ◌∙◌}
 use Rattle.pim_fanout.specs.Refreshing.{touches}
 use Rattle.pim_router.proofs.Costs.{counts_all, counts_next, counts_none}
+use Rattle.pim_router.proofs.Disturbing.{disturbs_all, disturbs_next}
 use Rattle.pim_router.proofs.Staying.{stays_all, stays_next}
 use Rattle.pim_router.proofs.Listing.{lists_all, lists_next}
 use Rattle.pim_router.proofs.Runs.{runs_begin, runs_end, runs_next}
@@ -13,6 +14,8 @@ loop-event-init c = (
   counts_none c.args.world.now c.args.events.now c.args.probes.now.meter (touches c.args.cache.now),
   tt,
   tt,
+  tt,
+  c.requires.once,
 )
 
 pub take_next-requires-clause-rest : goal.take_next-requires-clause-rest
@@ -40,6 +43,10 @@ loop-event-preserved c = (
   stays_next c.args.world.now c.args.events.now c.loop-event.event-index c.loop-event.world c.take_next.new.world
       c.event-item.result c.take_next.new.cache.disturbed c.loop-event-test.true c.event-item.is
       c.loop-event.invariant.2.state_is (rw c.of.ensures at c.in_ok-take_next.ensures.state) c.in_ok-take_next.ensures.stays,
+  disturbs_next c.args.world.now c.args.events.now c.loop-event.event-index c.loop-event.world c.event-item.result
+      c.take_next.new.cache.disturbed c.loop-event-test.true c.event-item.is c.loop-event.invariant.2.state_is
+      (rw c.of.ensures at c.in_ok-take_next.ensures.disturbed),
+  c.in_ok-take_next.ensures.once,
 )
 
 pub returns-clause-outcomes : goal.returns-clause-outcomes
@@ -67,6 +74,14 @@ pub returns-clause-cheap : goal.returns-clause-cheap
 returns-clause-cheap c =
     counts_all c.args.world.now c.args.events.now c.loop-event.event-index c.loop-event.world c.loop-event.probes.meter
     (touches c.loop-event.cache) c.loop-event-test.false c.loop-event.invariant.2
+
+pub returns-clause-once : goal.returns-clause-once
+returns-clause-once c = c.loop-event.invariant.6
+
+pub returns-clause-disturbed : goal.returns-clause-disturbed
+returns-clause-disturbed c =
+    disturbs_all c.args.world.now c.args.events.now c.loop-event.event-index c.loop-event.cache.disturbed
+    c.loop-event-test.false c.loop-event.invariant.5
 
 pub returns-clause-stays : goal.returns-clause-stays
 returns-clause-stays c =

@@ -1,9 +1,12 @@
 use Rattle.std.proofs.Common.{drop, take}
+use Rattle.std.specs.List.Sorted.{IsStrictlySortedBy}
+use Rattle.pim_types.specs.Keys.{key_cmp}
 use Rattle.pim_fanout.specs.Refreshing.{touches}
 use Rattle.pim_mfc.specs.Laws.{ShowsRows}
 use Rattle.pim_model.specs.Cache.{cached}
 use Rattle.pim_router.proofs.Costs.{Counted}
 use Rattle.pim_router.proofs.Runs.{Runs}
+use Rattle.pim_router.specs.Disturbing.{IsLastDisturbed}
 use Rattle.pim_router.specs.Listing.{IsLastListed}
 use Rattle.pim_router.specs.Staying.{LastOffersStay}
 use Rattle.pim_router.proofs.router.run_world.Given as goal
@@ -15,3 +18,5 @@ invariant-loop-event l =
     × Counted l.fn.world l.events l.event-index l.world l.probes.meter (touches l.cache)
     × IsLastListed l.fn.world (take l.event-index l.events) l.cache.changed
     × LastOffersStay l.fn.world (take l.event-index l.events) l.cache.disturbed
+    × IsLastDisturbed l.fn.world (take l.event-index l.events) l.cache.disturbed
+    × IsStrictlySortedBy key_cmp l.cache.changed

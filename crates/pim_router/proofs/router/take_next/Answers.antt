@@ -10,6 +10,9 @@ take_in-requires-clause-uncounted c = none_touched c.args.cache.now c.reset.new.
 pub take_in-requires-clause-unlisted : goal.take_in-requires-clause-unlisted
 take_in-requires-clause-unlisted c = ap (λ (k : CacheValue). k.changed) c.reset.ensures
 
+pub take_in-requires-clause-undisturbed : goal.take_in-requires-clause-undisturbed
+take_in-requires-clause-undisturbed c = ap (λ (k : CacheValue). k.disturbed) c.reset.ensures
+
 pub take_in-requires-clause-unvisited : goal.take_in-requires-clause-unvisited
 take_in-requires-clause-unvisited c = λ frame. c.begin.ensures
 
@@ -21,6 +24,12 @@ returns-clause-cheap c = on_ok_weaker c.take_in.result (λ after. after.cheap) c
 
 pub returns-clause-listed : goal.returns-clause-listed
 returns-clause-listed c = on_ok_weaker c.take_in.result (λ after. after.listed) c.take_in.ensures.cache
+
+pub returns-clause-once : goal.returns-clause-once
+returns-clause-once c = on_ok_weaker c.take_in.result (λ after. after.once) c.take_in.ensures.cache
+
+pub returns-clause-disturbed : goal.returns-clause-disturbed
+returns-clause-disturbed c = on_ok_weaker c.take_in.result (λ after. after.disturbs) c.take_in.ensures.cache
 
 pub returns-clause-stays : goal.returns-clause-stays
 returns-clause-stays c = on_ok_weaker c.take_in.result (λ after. after.stays) c.take_in.ensures.cache

@@ -4,6 +4,7 @@ use Rattle.pim_laws.proofs.FiringLaws.{instants_left}
 use Rattle.pim_mfc.specs.Laws.{ShowsRows}
 use Rattle.pim_model.specs.Cache.{cached}
 use Rattle.pim_model.specs.Timers.{next_due}
+use Rattle.pim_router.proofs.Disturbing.{AllDisturbs}
 use Rattle.pim_router.proofs.Firings.{AllCosts}
 use Rattle.pim_router.proofs.Instants.{ByMoment}
 use Rattle.pim_model.specs.State.{State}
@@ -19,6 +20,7 @@ invariant-instants l =
     × (l.fn.meter ≤ l.meter)
     × AllLists l.fn.turn.draw l.moment l.fn.world l.fn.cache.changed l.world l.cache.changed
     × ((o : State) → StaysBeside l.fn.cache.disturbed o l.fn.world → StaysBeside l.cache.disturbed o l.world)
+    × AllDisturbs l.fn.turn.draw l.moment l.fn.world l.fn.cache.disturbed l.world l.cache.disturbed
 
 abbrev pub decreases-instants : goal.decreases-instants
 decreases-instants l = instants_left l.moment (next_due l.moment l.world)

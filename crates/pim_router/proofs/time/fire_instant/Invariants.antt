@@ -3,6 +3,7 @@ use Rattle.pim_fanout.specs.Refreshing.{touches}
 use Rattle.pim_laws.proofs.FiringLaws.{still_due}
 use Rattle.pim_mfc.specs.Laws.{ShowsRows}
 use Rattle.pim_model.specs.Cache.{cached}
+use Rattle.pim_router.proofs.Disturbing.{InstantDisturbs}
 use Rattle.pim_router.proofs.Firings.{InstantCosts}
 use Rattle.pim_router.proofs.Instants.{WithinInstant}
 use Rattle.pim_model.specs.State.{State}
@@ -19,6 +20,7 @@ invariant-firings l =
     × (l.fn.meter ≤ l.meter)
     × InstantLists l.fn.turn.draw l.fn.world (ending_of l.first) l.fn.cache.changed l.world l.cache.changed
     × ((o : State) → StaysBeside l.fn.cache.disturbed o l.fn.world → StaysBeside l.cache.disturbed o l.world)
+    × InstantDisturbs l.fn.turn.draw l.fn.world (ending_of l.first) l.fn.cache.disturbed l.world l.cache.disturbed
 
 abbrev pub decreases-firings : goal.decreases-firings
 decreases-firings l = still_due l.first.0 l.fn.world l.world

@@ -41,6 +41,11 @@ returns-clause-cache c = record {
       stays;
 }
 
+pub returns-clause-disturbed : goal.returns-clause-disturbed
+returns-clause-disturbed c =
+    c.in_ok-refresh.ensures.disturbed
+    ∙ ap (λ (t : Touched). joined c.args.cache.now.disturbed t) c.in_ok-touched.ensures.touched
+
 pub returns-clause-at_least : goal.returns-clause-at_least
 returns-clause-at_least c =
     then_rises _ _ _ _ (afterwards _ _ _ _ c.in_ok-touched.ensures.rises c.in_ok-names.ensures.at_least)

@@ -1,4 +1,6 @@
 use Rattle.std.proofs.Common.{[], subst, sym}
+use Rattle.std.specs.List.Sorted.{IsStrictlySortedBy}
+use Rattle.pim_types.specs.Keys.{key_cmp}
 use Rattle.pim_fanout.specs.Refreshing.{CacheValue}
 use Rattle.pim_fanout.proofs.Shown.{opening_shows_rows}
 use Rattle.pim_mfc.specs.Laws.{ShowsRows}
@@ -9,9 +11,11 @@ use Rattle.pim_locality.specs.Rest.{IsAtRest}
 use Rattle.pim_router.proofs.router.Router.new.Goals as goal
 
 pub invariant_of-result : goal.invariant_of-result
+unfolding IsStrictlySortedBy
 invariant_of-result c = λ works.
     let opens = rw c.in-Ok.is at c.in_ok-world.ensures.accepted in (
       subst (λ (x : State). IsAtRest x) (sym opens.1) (opening_is_at_rest c.args.config opens.0),
       subst (λ (k : CacheValue). ShowsRows k.mfc.rows (cached c.in-Ok.world)) (sym c.new-in-Ok.ensures)
           (subst (λ (x : State). ShowsRows [] (cached x)) (sym opens.1) (opening_shows_rows c.args.config)),
+      subst (λ (k : CacheValue). IsStrictlySortedBy key_cmp k.changed) (sym c.new-in-Ok.ensures) tt,
     )
