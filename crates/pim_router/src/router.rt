@@ -91,7 +91,7 @@ impl Model for Router {
     } };
 
     ghost invariant = { λ r. r.failed ≡ false → IsAtRest r.world × ShowsRows r.cache.mfc.rows (cached r.world)
-      × IsStrictlySortedBy key_cmp r.cache.changed };
+        × IsStrictlySortedBy key_cmp r.cache.changed };
 }
 
 impl Router {
