@@ -1,8 +1,7 @@
-use Rattle.std.proofs.Common.{◌≤◌, ◌+◌, ◌*◌, ◌++◌, length, ap, arith, refl, subst, sym, ◌∙◌}
+use Rattle.std.proofs.Common.{◌≡◌, ◌≤◌, ◌+◌, ◌*◌, ◌++◌, length, ap, arith, refl, subst, sym, ◌∙◌}
 use Rattle.pim_fanout.specs.Refreshing.{touches}
 use Rattle.pim_model.specs.Reach.{told_instant}
 use Rattle.pim_reach.specs.Named.{named_by}
-use Rattle.std.proofs.Common.{◌≡◌}
 use Rattle.pim_fanout.specs.Disturbed.{joined}
 use Rattle.pim_router.specs.Disturbing.{ended_instant, joined_all, touched_at}
 use Rattle.pim_router.proofs.Disturbing.{all_disturbed, all_disturbs_none, instant_disturbs}
