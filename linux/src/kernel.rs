@@ -1,6 +1,6 @@
 //! What the router asks of the machine that it runs on. It is a trait, so that the router has tests without a machine.
 use crate::error::Fatal;
-use crate::mroute::{Forwarded, Key, Mroute, Upcall};
+use crate::mroute::{Carried, Forwarded, Key, Mroute, Upcall};
 use crate::netlink::{Change, Link, Netlink, Used};
 use crate::packet::{Packet, IGMP};
 use crate::plane::Cache;
@@ -64,6 +64,9 @@ pub trait Kernel: Cache {
     fn remove_vif(&mut self, vif: u16) -> io::Result<()>;
     /// What the entries of the forwarding cache have forwarded.
     fn used(&mut self) -> io::Result<Vec<Used>>;
+
+    /// What a virtual interface has carried since it was added.
+    fn carried(&self, vif: u16) -> io::Result<Carried>;
 
     /// A packet to a group leaves by an interface.
     fn send_on(&mut self, index: u32, packet: &[u8]) -> io::Result<()>;
@@ -194,6 +197,10 @@ impl Kernel for Linux {
 
     fn used(&mut self) -> io::Result<Vec<Used>> {
         self.netlink.used()
+    }
+
+    fn carried(&self, vif: u16) -> io::Result<Carried> {
+        self.mroute.carried(vif)
     }
 
     fn send_on(&mut self, index: u32, packet: &[u8]) -> io::Result<()> {

@@ -1,10 +1,13 @@
 //! A multicast router for Linux: PIM Sparse Mode and IGMPv3, with the kernel's forwarding cache as its data plane.
+mod client;
 mod control;
 mod core;
+mod counters;
 mod daemon;
 mod error;
 mod kernel;
 mod log;
+mod metrics;
 mod mroute;
 mod netlink;
 mod packed;
@@ -13,6 +16,7 @@ mod plane;
 mod policy;
 mod ports;
 mod routes;
+mod server;
 mod settings;
 mod show;
 mod split;
@@ -20,9 +24,12 @@ mod stand_in;
 mod wire;
 mod words;
 
-use clap::{Parser, Subcommand, ValueEnum};
+use clap::{Parser, Subcommand};
+use client::{Cleared, Shown};
 use error::Fatal;
 use settings::{Settings, USUAL_SOCKET};
+use show::Topic;
+use std::net::Ipv4Addr;
 use std::path::{Path, PathBuf};
 use std::process::ExitCode;
 
@@ -48,21 +55,24 @@ enum What {
     /// Ask a running router
     Show {
         topic: Topic,
+        /// The address to which `rpf` tells the way
+        address: Option<Ipv4Addr>,
         #[arg(long)]
         json: bool,
+        /// Ask again each so many seconds
+        #[arg(long, value_name = "SECONDS", num_args = 0..=1, default_missing_value = "2")]
+        watch: Option<f64>,
         #[arg(long, default_value = USUAL_SOCKET)]
         socket: PathBuf,
     },
-}
-
-#[derive(Clone, Copy, ValueEnum)]
-enum Topic {
-    Mroute,
-    Neighbors,
-    Igmp,
-    Rp,
-    Interfaces,
-    Counters,
+    /// Have a running router begin anew with something
+    Clear {
+        what: Cleared,
+        /// The interface
+        name: Option<String>,
+        #[arg(long, default_value = USUAL_SOCKET)]
+        socket: PathBuf,
+    },
 }
 
 fn read(file: &Path) -> Option<Settings> {
@@ -127,27 +137,16 @@ fn run(file: &Path, only_check: bool) -> ExitCode {
     }
 }
 
-fn show(topic: Topic, is_json: bool, socket: &Path) -> ExitCode {
-    let line = format!("show {}{}", show::TOPICS[topic as usize], if is_json { " json" } else { "" });
-    match control::ask(socket, &line) {
-        Ok(answer) if answer.starts_with("error: ") => {
-            eprint!("{answer}");
-            ExitCode::FAILURE
-        }
-        Ok(answer) => {
-            print!("{answer}");
-            ExitCode::SUCCESS
-        }
-        Err(error) => {
-            eprintln!("{}: {error}; is the router running?", socket.display());
-            ExitCode::FAILURE
-        }
-    }
-}
-
 fn main() -> ExitCode {
     match Asked::parse().what {
         What::Run { file, check } => run(&file, check),
-        What::Show { topic, json, socket } => show(topic, json, &socket),
+        What::Show { topic, address, json, watch, socket } => {
+            let shown = Shown { topic, address, is_json: json };
+            match watch {
+                Some(every) => client::watch(&shown, every, &socket),
+                None => client::show(&shown, &socket),
+            }
+        }
+        What::Clear { what, name, socket } => client::clear(what, name.as_deref(), &socket),
     }
 }

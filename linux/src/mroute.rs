@@ -19,6 +19,8 @@ const MRT_DEL_MFC: i32 = 205;
 const MRT_PIM: i32 = 208;
 const VIFF_REGISTER: u8 = 4;
 const VIFF_USE_IFINDEX: u8 = 8;
+/// Of linux/sockios.h: the first of a protocol's own.
+const SIOCGETVIFCNT: libc::c_ulong = 0x89e0;
 const IGMPMSG_NOCACHE: u8 = 1;
 const IGMPMSG_WRONGVIF: u8 = 2;
 const IGMPMSG_WHOLEPKT: u8 = 3;
@@ -65,6 +67,24 @@ struct MfcControl {
     bytes: u32,
     wrong_interface: u32,
     expire: i32,
+}
+
+/// What the kernel has forwarded by a virtual interface.
+#[derive(Clone, Copy, Debug, Default, PartialEq, Eq)]
+pub struct Carried {
+    pub packets_in: u64,
+    pub packets_out: u64,
+    pub bytes_in: u64,
+    pub bytes_out: u64,
+}
+
+#[repr(C)]
+struct VifRequest {
+    vif: u16,
+    packets_in: libc::c_ulong,
+    packets_out: libc::c_ulong,
+    bytes_in: libc::c_ulong,
+    bytes_out: libc::c_ulong,
 }
 
 /// What the kernel hands up.
@@ -139,6 +159,22 @@ impl Mroute {
         self.set(MRT_DEL_VIF, &VifControl { vif, flags: 0, threshold: 0, rate_limit: 0, index: 0, remote: 0 })
     }
 
+    /// What a virtual interface has carried since it was added.
+    pub fn carried(&self, vif: u16) -> io::Result<Carried> {
+        let mut asked = VifRequest { vif, packets_in: 0, packets_out: 0, bytes_in: 0, bytes_out: 0 };
+        let place: *mut VifRequest = &mut asked;
+        // SAFETY: the kernel reads and writes one such structure at the place.
+        match unsafe { libc::ioctl(self.socket.as_raw_fd(), SIOCGETVIFCNT, place) } {
+            0 => Ok(Carried {
+                packets_in: asked.packets_in,
+                packets_out: asked.packets_out,
+                bytes_in: asked.bytes_in,
+                bytes_out: asked.bytes_out,
+            }),
+            _ => Err(io::Error::last_os_error()),
+        }
+    }
+
     fn set_mfc(&self, option: i32, key: Key, forwarded: Forwarded) -> io::Result<()> {
         // The threshold 1 lets a packet out whose TTL is above 1: where one is 0, none leaves.
         let mut thresholds = [0; VIFS];
@@ -195,6 +231,7 @@ mod tests {
     #[test]
     fn the_structures_are_the_kernels() {
         assert_eq!((size_of::<VifControl>(), size_of::<MfcControl>()), (16, 60));
+        assert_eq!(size_of::<VifRequest>(), 5 * size_of::<libc::c_ulong>());
     }
 
     #[test]

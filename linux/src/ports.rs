@@ -1,4 +1,5 @@
 //! The interfaces of the router, and what the kernel has of them.
+use crate::counters::Passing;
 use crate::netlink::{Change, Link};
 use crate::settings::{not_a_host, InterfaceSettings, Subnet};
 use std::collections::HashMap;
@@ -92,6 +93,7 @@ pub struct Passed {
     pub sent: u64,
     pub copies: u64,
     pub not_sent: u64,
+    pub messages: Passing,
 }
 
 /// An interface of the router. Its number stays as long as the daemon runs.
@@ -109,6 +111,8 @@ pub struct Port {
     /// The file hasn't it any more.
     pub is_removed: bool,
     pub standing: Standing,
+    /// When it went up last, in ms.
+    pub since: u64,
     /// The last Hello that left.
     pub hello: Option<Vec<u8>>,
     /// When it leaves again, in ms, where the library's own come too seldom.
@@ -132,6 +136,7 @@ impl Port {
             is_loopback: false,
             is_removed: false,
             standing: Standing::Down("it hasn't come up yet".to_string()),
+            since: 0,
             hello: None,
             hello_due: None,
             passed: Passed::default(),

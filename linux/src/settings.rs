@@ -1,4 +1,5 @@
 //! The file of settings, read and checked: each problem has its line and a reason.
+use crate::control::Place;
 use crate::log::LEVELS;
 use crate::policy::lists::{
     reserve, InterfacePolicy, List, PolicySettings, Rule, UsualQuotas, MOST_NEIGHBOURS, USUAL_NEIGHBOURS, USUAL_SOURCES,
@@ -7,7 +8,7 @@ use log::LevelFilter;
 use serde::Deserialize;
 use std::collections::{BTreeMap, HashSet};
 use std::fmt;
-use std::net::Ipv4Addr;
+use std::net::{Ipv4Addr, SocketAddr};
 use std::path::PathBuf;
 use toml::Spanned;
 
@@ -156,7 +157,9 @@ pub struct Settings {
     pub policy: PolicySettings,
     pub routes: RouteSettings,
     pub level: LevelFilter,
-    pub socket: PathBuf,
+    pub control: Place,
+    /// Where Prometheus is answered.
+    pub metrics: Option<SocketAddr>,
     /// Join/Prunes to a neighbour leave together.
     pub packs: bool,
 }
@@ -173,7 +176,11 @@ struct File {
     spt: Text,
     log: Text,
     socket: Option<PathBuf>,
+    socket_group: Option<String>,
+    socket_mode: Text,
     pack: Option<bool>,
+    #[serde(default)]
+    metrics: MetricsTable,
     #[serde(default)]
     igmp: IgmpTable,
     #[serde(default)]
@@ -184,6 +191,12 @@ struct File {
     interface: Vec<InterfaceTable>,
     #[serde(default)]
     rp: Vec<RpTable>,
+}
+
+#[derive(Deserialize, Default)]
+#[serde(deny_unknown_fields)]
+struct MetricsTable {
+    listen: Text,
 }
 
 #[derive(Deserialize, Default)]
@@ -540,6 +553,31 @@ impl Check<'_> {
         RouteSettings { table: table.table.unwrap_or(254), preference, of_protocol }
     }
 
+    fn control(&mut self, file: &File) -> Place {
+        let group = file.socket_group.clone();
+        let usual = if group.is_some() { 0o660 } else { 0o600 };
+        let read = |text: &String| u32::from_str_radix(text, 8).ok().filter(|mode| *mode <= 0o777);
+        let mode = match &file.socket_mode {
+            None => usual,
+            Some(given) => read(given.get_ref()).unwrap_or_else(|| {
+                let given_mode = given.get_ref();
+                self.wrong(given.start(), format!("socket_mode is \"{given_mode}\"; it is to be as \"0660\""));
+                usual
+            }),
+        };
+        Place { path: file.socket.clone().unwrap_or_else(|| USUAL_SOCKET.into()), group, mode }
+    }
+
+    fn listen(&mut self, given: &Text) -> Option<SocketAddr> {
+        let given = given.as_ref()?;
+        let read = given.get_ref().parse().ok();
+        if read.is_none() {
+            let text = given.get_ref();
+            self.wrong(given.start(), format!("listen \"{text}\" isn't an address with a port, as 127.0.0.1:9791"));
+        }
+        read
+    }
+
     fn all(&mut self, file: &File) -> Settings {
         let igmp = &file.igmp;
         let query_interval = self.within("query_interval", &igmp.query_interval, 125, 1, 31744);
@@ -563,7 +601,8 @@ impl Check<'_> {
             policy: self.policy_of_none(&file.policy, &usual),
             routes: self.routes(&file.routes),
             level: self.one_of("log", &file.log, &LEVELS),
-            socket: file.socket.clone().unwrap_or_else(|| USUAL_SOCKET.into()),
+            control: self.control(file),
+            metrics: self.listen(&file.metrics.listen),
             packs: file.pack.unwrap_or(true),
         }
     }
@@ -658,6 +697,8 @@ mod tests {
         );
         assert_eq!((it.routes.table, it.routes.preference_of(188)), (254, 110));
         assert_eq!(eth0.hello, HelloSettings { interval: 300, holdtime: 105 });
+        assert_eq!((it.control.path, it.control.group, it.control.mode), (USUAL_SOCKET.into(), None, 0o600));
+        assert_eq!(it.metrics, None);
     }
 
     #[test]
@@ -670,16 +711,15 @@ mod tests {
 
     #[test]
     fn all_that_can_be_said_is_taken() {
-        let text = "limit = 9\nspt = \"never\"\nlog = \"debug\"\nsocket = \"/run/x\"\npack = false\n[igmp]\nrobustness = 3\n\
+        let text = "limit = 9\nspt = \"never\"\nlog = \"debug\"\nsocket = \"/run/x\"\nsocket_group = \"adm\"\npack = false\n[metrics]\nlisten = \"[::1]:9791\"\n[igmp]\nrobustness = 3\n\
             query_interval = 20\nquery_response = 1.5\nlast_member_query = 2\n\
             [routes]\ntable = 7\npreference = 5\n[routes.preferences]\nstatic = 1\n\
             [[interface]]\nname = \"a\"\naddress = \"10.0.0.1/24\"\npriority = 7\npropagation = 1\noverride = 2\nhello_interval = 0.3\nhello_holdtime = 1\n\
             [[rp]]\ngroups = \"239.0.0.0/8\"\naddress = \"10.0.0.1\"\n";
         let it = read(text).unwrap();
-        assert_eq!(
-            (it.limit, it.stays_on_shared_tree, it.level, it.socket, it.packs),
-            (9, true, LevelFilter::Debug, "/run/x".into(), false)
-        );
+        assert_eq!((it.limit, it.stays_on_shared_tree, it.level, it.packs), (9, true, LevelFilter::Debug, false));
+        let control = Place { path: "/run/x".into(), group: Some("adm".to_string()), mode: 0o660 };
+        assert_eq!((it.control, it.metrics.map(|at| at.to_string())), (control, Some("[::1]:9791".to_string())));
         assert_eq!((it.robustness, it.query_interval, it.query_response, it.last_member_query), (3, 20, 15, 20));
         let subnet = Subnet { address: Ipv4Addr::new(10, 0, 0, 1), length: 24 };
         let a = InterfaceSettings {
@@ -690,7 +730,7 @@ mod tests {
             override_interval: 2,
             hello: HelloSettings { interval: 3, holdtime: 1 },
             policy: it.interfaces[0].policy.clone(),
-            line: 17,
+            line: 20,
         };
         assert_eq!(it.interfaces, [a]);
         assert_eq!((it.routes.table, it.routes.preference_of(196), it.routes.preference_of(188)), (7, 1, 5));
@@ -717,6 +757,8 @@ mod tests {
         assert_eq!(only(&format!("{SMALL}[[rp]]\ngroups = \"239.0.0.0/8\"\naddress = \"rp\"\n")).0, 5);
         assert_eq!(only(&format!("{SMALL}[[rp]]\ngroups = \"239.0.0.0/8\"\naddress = \"224.0.0.1\"\n")).0, 5);
         assert_eq!(only(&format!("{SMALL}[routes.preferences]\nospf = 1\nospv = 2\n")).0, 5);
+        assert_eq!(only(&format!("socket_mode = \"0668\"\n{SMALL}")).0, 1);
+        assert_eq!(only(&format!("{SMALL}[metrics]\nlisten = \"9791\"\n")).0, 4);
     }
 
     #[test]

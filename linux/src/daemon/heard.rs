@@ -1,6 +1,6 @@
 //! What comes from other routers and from hosts: PIM and IGMP.
 use super::{Answer, Daemon, Event, Fatal, Ledger, Neighbour};
-use crate::packet::{as_of_nobody, fill_registered, is_pim, is_report, priority_of, Packet};
+use crate::packet::{as_of_nobody, fill_registered, is_pim, is_report, message_of, priority_of, Packet};
 use crate::policy::registered;
 use crate::{split, stand_in, words};
 use log::{debug, info};
@@ -51,7 +51,9 @@ impl Daemon {
     }
 
     fn heard_on(&mut self, number: u32, bytes: &[u8]) -> Result<(), Fatal> {
-        self.ports[number as usize].passed.heard += 1;
+        let passed = &mut self.ports[number as usize].passed;
+        passed.heard += 1;
+        passed.messages.received.count(Packet::read(bytes).and_then(message_of));
         debug!("hears on {}: {}", self.name(number), words::of(bytes));
         let Daemon { policy, core, kernel, .. } = self;
         let let_in = match policy.frame(&mut Ledger { core, kernel: kernel.as_ref() }, number, bytes) {
@@ -111,6 +113,7 @@ impl Daemon {
     pub(super) fn heard_unicast(&mut self, bytes: &[u8]) -> Result<(), Fatal> {
         self.advance()?;
         self.counters.unicasts_heard += 1;
+        self.counters.unicasts.received.count(Packet::read(bytes).and_then(message_of));
         let mut bytes = bytes.to_vec();
         self.counters.checksums_filled += u64::from(fill_registered(&mut bytes));
         debug!("takes {}", words::of(&bytes));

@@ -62,6 +62,7 @@ impl Daemon {
         }
         let name = self.ports[number].settings.name.clone();
         self.ports[number].standing = Standing::Up;
+        self.ports[number].since = self.now();
         info!("{name} goes up, with {}", self.ports[number].told_subnet());
         if self.kernel.is_filter_strict(&name) {
             warn!(
@@ -76,7 +77,7 @@ impl Daemon {
         Ok(())
     }
 
-    fn goes_down(&mut self, number: usize, why: String) -> Result<(), Fatal> {
+    pub(super) fn goes_down(&mut self, number: usize, why: String) -> Result<(), Fatal> {
         let was_up = self.ports[number].standing.is_up();
         warn!("{} is down: {why}", self.ports[number].settings.name);
         self.ports[number].standing = Standing::Down(why);

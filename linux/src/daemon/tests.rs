@@ -1,7 +1,7 @@
 //! The daemon with the library and a machine that is none: what its kernel is told, and what leaves, after some events.
 use super::*;
 use crate::kernel::{self, Source};
-use crate::mroute::{Forwarded, Upcall, REGISTER_VIF};
+use crate::mroute::{Carried, Forwarded, Upcall, REGISTER_VIF};
 use crate::netlink::{Change, Link, Used};
 use crate::packet::{put_checksum, with_content, IGMP, PIM, UDP};
 use crate::plane::Cache;
@@ -91,6 +91,10 @@ impl Kernel for Handle {
 
     fn used(&mut self) -> io::Result<Vec<Used>> {
         Ok(self.0.used.borrow().clone())
+    }
+
+    fn carried(&self, vif: u16) -> io::Result<Carried> {
+        Ok(Carried { packets_in: 10 + u64::from(vif), ..Carried::default() })
     }
 
     fn send_on(&mut self, index: u32, packet: &[u8]) -> io::Result<()> {
@@ -428,3 +432,5 @@ fn the_unknown_are_asked_for_anew_where_their_group_moves() {
     happens(&mut daemon, &fake, report(ETH1, [10, 5, 0, 77], one.group));
     assert!(fake.entry(one) != fake.entry(other));
 }
+
+mod shown;

@@ -1,13 +1,16 @@
 //! The loop: what waits at the sockets, what is due by the clock, and what signals ask for.
+use super::cleared::Lines;
 use super::{Answer, Daemon, Event, Fatal};
 use crate::control::Control;
 use crate::core::ranges_of;
 use crate::kernel::{self, Source};
 use crate::packet::with_holdtime;
-use crate::{settings, show, words};
+use crate::server::Server;
+use crate::{metrics, settings, words};
 use log::{debug, error, info, warn};
 use nix::poll::{poll, PollFd, PollFlags};
 use signal_hook::consts::{SIGHUP, SIGINT, SIGTERM};
+use std::net::SocketAddr;
 use std::os::unix::io::AsRawFd;
 use std::os::unix::net::UnixStream;
 use std::sync::atomic::{AtomicBool, Ordering};
@@ -48,6 +51,46 @@ impl Asked {
     }
 }
 
+/// Where clients ask.
+struct Servers {
+    control: Control,
+    metrics: Option<(SocketAddr, Server)>,
+}
+
+impl Servers {
+    fn open(settings: &settings::Settings) -> Result<Servers, Fatal> {
+        let path = || settings.control.path.clone();
+        let control = Control::open(&settings.control).map_err(|error| Fatal::Control { path: path(), error })?;
+        let listen = |at| metrics::listen(at).map(|server| (at, server)).map_err(|error| Fatal::Metrics { at, error });
+        Ok(Servers { control, metrics: settings.metrics.map(listen).transpose()? })
+    }
+
+    /// Listens for Prometheus where other settings say. Where it can't, nobody is answered.
+    fn take_settings(&mut self, settings: &settings::Settings) {
+        if self.metrics.as_ref().map(|(at, _)| *at) == settings.metrics {
+            return;
+        }
+        self.metrics = None;
+        if let Some(at) = settings.metrics {
+            match metrics::listen(at) {
+                Ok(server) => self.metrics = Some((at, server)),
+                Err(error) => error!("{}", Fatal::Metrics { at, error }),
+            }
+        }
+    }
+
+    fn each(&self) -> impl Iterator<Item = &Server> {
+        std::iter::once(&*self.control).chain(self.metrics.iter().map(|(_, server)| server))
+    }
+
+    fn serve(&mut self, daemon: &mut Daemon) {
+        self.control.serve(&mut Lines(daemon));
+        if let Some((_, server)) = &mut self.metrics {
+            server.serve(&mut metrics::Http(daemon));
+        }
+    }
+}
+
 impl Daemon {
     /// The settings anew. A file with a problem changes nothing.
     fn reload(&mut self) -> Result<(), Fatal> {
@@ -64,9 +107,9 @@ impl Daemon {
     }
 
     pub(super) fn take_settings(&mut self, mut new: settings::Settings) -> Result<(), Fatal> {
-        if new.socket != self.settings.socket {
-            warn!("socket differs in the file: it is taken by a restart");
-            new.socket = self.settings.socket.clone();
+        if new.control != self.settings.control {
+            warn!("socket differs in the file, or who may ask there: it is taken by a restart");
+            new.control = self.settings.control.clone();
         }
         log::set_max_level(new.level);
         let (are_rps_new, is_router_new) = (new.rps != self.settings.rps, self.settings.differs_in_router(&new));
@@ -100,8 +143,7 @@ impl Daemon {
     /// Until it is asked to end, or can't go on.
     pub fn run(&mut self) -> Result<(), Fatal> {
         let asked = Asked::new().map_err(Fatal::Signals)?;
-        let path = self.settings.socket.clone();
-        let mut control = Control::open(&path).map_err(|error| Fatal::Control { path, error })?;
+        let mut servers = Servers::open(&self.settings)?;
         info!(
             "the router begins: {} interfaces, {} RP ranges, the library {}",
             self.ports.len(),
@@ -110,14 +152,15 @@ impl Daemon {
         );
         self.begin()?;
         while !asked.end.load(Ordering::Relaxed) {
-            self.wait(&asked, &control)?;
+            self.wait(&asked, &servers)?;
             asked.forget_wakes();
             if asked.reload.swap(false, Ordering::Relaxed) {
                 self.reload()?;
+                servers.take_settings(&self.settings);
             }
             self.turn()?;
             self.house_keeping()?;
-            control.serve(&mut |line| show::answer(self, line));
+            servers.serve(self);
         }
         self.say_goodbye();
         Ok(())
@@ -133,10 +176,10 @@ impl Daemon {
         Ok(())
     }
 
-    fn wait(&mut self, asked: &Asked, control: &Control) -> Result<(), Fatal> {
+    fn wait(&mut self, asked: &Asked, servers: &Servers) -> Result<(), Fatal> {
         let own = self.kernel.waits().into_iter().chain([asked.wakes.as_raw_fd()]);
         let mut waits: Vec<_> = own.map(|fd| PollFd::new(fd, PollFlags::POLLIN)).collect();
-        waits.extend(control.waits().into_iter().map(|fd| PollFd::new(fd, PollFlags::POLLIN)));
+        waits.extend(servers.each().flat_map(Server::waits).map(|fd| PollFd::new(fd, PollFlags::POLLIN)));
         let due = &self.due;
         let times = [
             self.core.next_moment(),
@@ -145,7 +188,7 @@ impl Daemon {
             due.unset,
             due.anew,
             due.learned,
-            control.due().map(|left| self.kernel.now() + left),
+            servers.each().filter_map(Server::due).min().map(|left| self.kernel.now() + left),
             self.ports.iter().filter_map(|port| port.hello_due).min(),
         ];
         let next = times.into_iter().flatten().fold(due.look, u64::min);
