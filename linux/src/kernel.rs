@@ -7,6 +7,7 @@ use crate::plane::Cache;
 use crate::routes::KernelRoute;
 use crate::settings::Subnet;
 use crate::stand_in::fragments;
+use crate::tables::{Domain, Tables};
 use crate::wire::{Links, OwnReports, Unicasts};
 use std::collections::HashMap;
 use std::io;
@@ -56,7 +57,10 @@ pub trait Kernel: Cache {
     fn links(&mut self) -> io::Result<Vec<Link>>;
     /// Each with the kernel's number of its interface.
     fn addresses(&mut self) -> io::Result<Vec<(u32, Subnet)>>;
-    fn routes(&mut self, table: u32) -> io::Result<Vec<KernelRoute>>;
+    /// Those of a table, or of the router's own.
+    fn routes(&mut self, table: Option<u32>) -> io::Result<Vec<KernelRoute>>;
+    /// Whose entries the forwarding cache has.
+    fn multicast_table(&self) -> u32;
     /// Whether packets are dropped whose route back leads elsewhere.
     fn is_filter_strict(&self, name: &str) -> bool;
 
@@ -81,20 +85,27 @@ pub struct Linux {
     unicasts: Unicasts,
     own_reports: OwnReports,
     netlink: Netlink,
+    tables: Tables,
+    names: HashMap<u32, String>,
     /// The most bytes of a packet, by the kernel's number of an interface.
     mtus: HashMap<u32, usize>,
     room: Vec<MaybeUninit<u8>>,
 }
 
 impl Linux {
-    pub fn open() -> Result<Linux, Fatal> {
+    pub fn open(domain: &Domain) -> Result<Linux, Fatal> {
+        let mut netlink = Netlink::open().map_err(Fatal::Netlink)?;
+        let tables = Tables::of(domain, &mut netlink).map_err(Fatal::Netlink)?;
+        let scope = tables.scope();
         Ok(Linux {
             began: Instant::now(),
-            mroute: Mroute::open().map_err(Fatal::MulticastRouting)?,
+            mroute: Mroute::open(tables.asked(), &scope).map_err(Fatal::MulticastRouting)?,
             links: Links::open().map_err(Fatal::Socket)?,
-            unicasts: Unicasts::open().map_err(Fatal::Socket)?,
-            own_reports: OwnReports::open().map_err(Fatal::Socket)?,
-            netlink: Netlink::open().map_err(Fatal::Netlink)?,
+            own_reports: OwnReports::open(&scope).map_err(Fatal::Socket)?,
+            unicasts: Unicasts::open(scope).map_err(Fatal::Socket)?,
+            netlink,
+            tables,
+            names: HashMap::new(),
             mtus: HashMap::new(),
             room: vec![MaybeUninit::uninit(); ROOM],
         })
@@ -105,6 +116,7 @@ impl Linux {
         for change in changes.iter().flatten() {
             if let Change::Link(link) = change {
                 self.mtus.insert(link.index, link.mtu as usize);
+                self.names.insert(link.index, link.name.clone());
             }
         }
         Ok(changes.map(Event::Changes))
@@ -116,6 +128,12 @@ impl Linux {
             Some(parts) => parts.iter().try_for_each(|part| self.links.send(index, part)),
             None => Err(error),
         }
+    }
+}
+
+impl Drop for Linux {
+    fn drop(&mut self) {
+        self.tables.clear(&mut self.netlink);
     }
 }
 
@@ -167,6 +185,7 @@ impl Kernel for Linux {
     fn links(&mut self) -> io::Result<Vec<Link>> {
         let links = self.netlink.links()?;
         self.mtus = links.iter().map(|link| (link.index, link.mtu as usize)).collect();
+        self.names = links.iter().map(|link| (link.index, link.name.clone())).collect();
         Ok(links)
     }
 
@@ -174,8 +193,12 @@ impl Kernel for Linux {
         self.netlink.addresses()
     }
 
-    fn routes(&mut self, table: u32) -> io::Result<Vec<KernelRoute>> {
-        self.netlink.routes(table)
+    fn routes(&mut self, table: Option<u32>) -> io::Result<Vec<KernelRoute>> {
+        self.netlink.routes(table.unwrap_or(self.tables.unicast))
+    }
+
+    fn multicast_table(&self) -> u32 {
+        self.tables.multicast
     }
 
     fn is_filter_strict(&self, name: &str) -> bool {
@@ -188,15 +211,19 @@ impl Kernel for Linux {
 
     fn add_vif(&mut self, vif: u16, index: u32) -> io::Result<()> {
         self.mroute.add_vif(vif, index)?;
+        if let Some(name) = self.names.get(&index) {
+            self.tables.lead(&mut self.netlink, vif, name)?;
+        }
         self.own_reports.hear_from(index)
     }
 
     fn remove_vif(&mut self, vif: u16) -> io::Result<()> {
+        self.tables.lead_no_more(&mut self.netlink, vif);
         self.mroute.remove_vif(vif)
     }
 
     fn used(&mut self) -> io::Result<Vec<Used>> {
-        self.netlink.used()
+        self.netlink.used(self.tables.multicast)
     }
 
     fn carried(&self, vif: u16) -> io::Result<Carried> {

@@ -21,13 +21,14 @@ mod settings;
 mod show;
 mod split;
 mod stand_in;
+mod tables;
 mod wire;
 mod words;
 
-use clap::{Parser, Subcommand};
+use clap::{Args, Parser, Subcommand};
 use client::{Cleared, Shown};
 use error::Fatal;
-use settings::{Settings, USUAL_SOCKET};
+use settings::{usual_socket, Settings};
 use show::Topic;
 use std::net::Ipv4Addr;
 use std::path::{Path, PathBuf};
@@ -62,17 +63,34 @@ enum What {
         /// Ask again each so many seconds
         #[arg(long, value_name = "SECONDS", num_args = 0..=1, default_missing_value = "2")]
         watch: Option<f64>,
-        #[arg(long, default_value = USUAL_SOCKET)]
-        socket: PathBuf,
+        #[command(flatten)]
+        at: At,
     },
     /// Have a running router begin anew with something
     Clear {
         what: Cleared,
         /// The interface
         name: Option<String>,
-        #[arg(long, default_value = USUAL_SOCKET)]
-        socket: PathBuf,
+        #[command(flatten)]
+        at: At,
     },
+}
+
+/// Which router is asked.
+#[derive(Args)]
+struct At {
+    /// Its table or VRF, where it has one of its own
+    #[arg(long, value_name = "TABLE_OR_VRF")]
+    instance: Option<String>,
+    /// Its control socket, where the settings name another one
+    #[arg(long, conflicts_with = "instance")]
+    socket: Option<PathBuf>,
+}
+
+impl At {
+    fn path(self) -> PathBuf {
+        self.socket.unwrap_or_else(|| usual_socket(self.instance.as_deref()))
+    }
 }
 
 fn read(file: &Path) -> Option<Settings> {
@@ -115,7 +133,7 @@ fn absent(settings: &Settings) -> std::io::Result<Vec<&str>> {
 }
 
 fn route(file: &Path, settings: Settings) -> Result<(), Fatal> {
-    let kernel = Box::new(kernel::Linux::open()?);
+    let kernel = Box::new(kernel::Linux::open(&settings.domain)?);
     daemon::Daemon::new(file, settings, kernel)?.run()
 }
 
@@ -140,13 +158,13 @@ fn run(file: &Path, only_check: bool) -> ExitCode {
 fn main() -> ExitCode {
     match Asked::parse().what {
         What::Run { file, check } => run(&file, check),
-        What::Show { topic, address, json, watch, socket } => {
+        What::Show { topic, address, json, watch, at } => {
             let shown = Shown { topic, address, is_json: json };
             match watch {
-                Some(every) => client::watch(&shown, every, &socket),
-                None => client::show(&shown, &socket),
+                Some(every) => client::watch(&shown, every, &at.path()),
+                None => client::show(&shown, &at.path()),
             }
         }
-        What::Clear { what, name, socket } => client::clear(what, name.as_deref(), &socket),
+        What::Clear { what, name, at } => client::clear(what, name.as_deref(), &at.path()),
     }
 }

@@ -1,4 +1,5 @@
 //! The kernel's multicast forwarding: virtual interfaces, the forwarding cache, and what the kernel hands up.
+use crate::wire::Scope;
 use socket2::{Domain, Protocol, Socket, Type};
 use std::fmt;
 use std::io;
@@ -17,6 +18,7 @@ const MRT_DEL_VIF: i32 = 203;
 const MRT_ADD_MFC: i32 = 204;
 const MRT_DEL_MFC: i32 = 205;
 const MRT_PIM: i32 = 208;
+const MRT_TABLE: i32 = 209;
 const VIFF_REGISTER: u8 = 4;
 const VIFF_USE_IFINDEX: u8 = 8;
 /// Of linux/sockios.h: the first of a protocol's own.
@@ -125,7 +127,8 @@ pub struct Mroute {
 }
 
 impl Mroute {
-    pub fn open() -> io::Result<Mroute> {
+    /// Of a table, or of the usual one.
+    pub fn open(table: Option<u32>, scope: &Scope) -> io::Result<Mroute> {
         let socket = Socket::new(Domain::IPV4, Type::RAW, Some(Protocol::from(i32::from(crate::packet::IGMP))))?;
         // IGMP that the machine hears for itself comes here too; what the kernel hands up has the protocol 0.
         socket.attach_filter(&[
@@ -136,7 +139,11 @@ impl Mroute {
         ])?;
         socket.set_nonblocking(true)?;
         crate::wire::room_for_bursts(&socket);
+        scope.limit(&socket)?;
         let mroute = Mroute { socket };
+        if let Some(table) = table {
+            mroute.set(MRT_TABLE, &table)?;
+        }
         mroute.set(MRT_INIT, &1i32)?;
         mroute.set(MRT_PIM, &IGMPMSG_WRVIFWHOLE)?;
         mroute.set_vif(REGISTER_VIF, VIFF_REGISTER, 0)?;

@@ -56,10 +56,8 @@ impl Machine {
         self.addresses.get(&index).map_or(&[], Vec::as_slice)
     }
 
-    /// The interface that has an address.
-    pub fn index_of(&self, address: Ipv4Addr) -> Option<u32> {
-        let has = |subnets: &[Subnet]| subnets.iter().any(|subnet| subnet.address == address);
-        self.addresses.iter().find(|(_, subnets)| has(subnets)).map(|(index, _)| *index)
+    pub fn has(&self, index: u32, address: Ipv4Addr) -> bool {
+        self.addresses(index).iter().any(|subnet| subnet.address == address)
     }
 
     /// The first address of an interface on which the router could be.
@@ -247,7 +245,7 @@ mod tests {
     use crate::settings;
 
     fn link(index: u32, name: &str, is_running: bool) -> Link {
-        Link { index, name: name.to_string(), mtu: 1500, is_running, is_loopback: name == "lo" }
+        Link { index, name: name.to_string(), mtu: 1500, is_running, is_loopback: name == "lo", vrf_table: None }
     }
 
     fn subnet(text: &str) -> Subnet {

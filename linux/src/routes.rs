@@ -197,7 +197,7 @@ mod tests {
     }
 
     fn settings() -> RouteSettings {
-        RouteSettings { table: 254, preference: 110, of_protocol: BTreeMap::from([(4, 1)]) }
+        RouteSettings { table: None, preference: 110, of_protocol: BTreeMap::from([(4, 1)]) }
     }
 
     fn kernel(prefix: &str, hops: &[(&str, u32)]) -> KernelRoute {

@@ -4,6 +4,7 @@ use crate::log::LEVELS;
 use crate::policy::lists::{
     reserve, InterfacePolicy, List, PolicySettings, Rule, UsualQuotas, MOST_NEIGHBOURS, USUAL_NEIGHBOURS, USUAL_SOURCES,
 };
+use crate::tables::Domain;
 use log::LevelFilter;
 use serde::Deserialize;
 use std::collections::{BTreeMap, HashSet};
@@ -18,7 +19,7 @@ pub const MOST_INTERFACES: usize = 31;
 pub const LOOPBACK: &str = "lo";
 const MOST_RANGES: usize = 256;
 const ALL_GROUPS: Ipv4Addr = Ipv4Addr::new(224, 0, 0, 0);
-pub const USUAL_SOCKET: &str = "/run/viqeshord/control";
+const USUAL_SOCKET: &str = "/run/viqeshord/control";
 /// By the names of the kernel's route protocols; `static` is also FRR's.
 const PROTOCOLS: [(&str, &[u8]); 12] = [
     ("kernel", &[2]),
@@ -128,8 +129,8 @@ pub struct RpSettings {
 
 #[derive(Clone, Debug, PartialEq, Eq)]
 pub struct RouteSettings {
-    /// The kernel's table.
-    pub table: u32,
+    /// The kernel's table; else the one of the router's domain.
+    pub table: Option<u32>,
     pub preference: u32,
     /// By the kernel's number of a protocol.
     pub of_protocol: BTreeMap<u8, u32>,
@@ -157,6 +158,8 @@ pub struct Settings {
     pub policy: PolicySettings,
     pub routes: RouteSettings,
     pub level: LevelFilter,
+    /// Whose tables of the kernel the router goes by.
+    pub domain: Domain,
     pub control: Place,
     /// Where Prometheus is answered.
     pub metrics: Option<SocketAddr>,
@@ -175,6 +178,8 @@ struct File {
     limit: Whole,
     spt: Text,
     log: Text,
+    table: Whole,
+    vrf: Text,
     socket: Option<PathBuf>,
     socket_group: Option<String>,
     socket_mode: Text,
@@ -550,10 +555,36 @@ impl Check<'_> {
                 }
             }
         }
-        RouteSettings { table: table.table.unwrap_or(254), preference, of_protocol }
+        RouteSettings { table: table.table, preference, of_protocol }
     }
 
-    fn control(&mut self, file: &File) -> Place {
+    fn domain(&mut self, file: &File) -> Domain {
+        // As the register tunnel of a table is named by it; those above are the kernel's own.
+        const MOST: u32 = 999_999_999;
+        const OF_THE_KERNEL: std::ops::RangeInclusive<u32> = 253..=255;
+        const LONGEST_NAME: usize = 15;
+        match (&file.table, &file.vrf) {
+            (None, None) => Domain::Usual,
+            (Some(table), None) => {
+                let number = self.within("table", &file.table, 0, 1, MOST);
+                if OF_THE_KERNEL.contains(&number) {
+                    self.wrong(table.start(), format!("table is {number}, which is the kernel's own"));
+                }
+                Domain::Table(number)
+            }
+            (_, Some(vrf)) => {
+                let name = vrf.get_ref();
+                if file.table.is_some() {
+                    self.wrong(vrf.start(), "of table and vrf one is to be given".to_string());
+                } else if name.is_empty() || name.len() > LONGEST_NAME || name.contains('/') {
+                    self.wrong(vrf.start(), format!("vrf \"{name}\" can't be the name of an interface"));
+                }
+                Domain::Vrf(name.clone())
+            }
+        }
+    }
+
+    fn control(&mut self, file: &File, domain: &Domain) -> Place {
         let group = file.socket_group.clone();
         let usual = if group.is_some() { 0o660 } else { 0o600 };
         let read = |text: &String| u32::from_str_radix(text, 8).ok().filter(|mode| *mode <= 0o777);
@@ -565,7 +596,8 @@ impl Check<'_> {
                 usual
             }),
         };
-        Place { path: file.socket.clone().unwrap_or_else(|| USUAL_SOCKET.into()), group, mode }
+        let path = file.socket.clone().unwrap_or_else(|| usual_socket(domain.name().as_deref()));
+        Place { path, group, mode }
     }
 
     fn listen(&mut self, given: &Text) -> Option<SocketAddr> {
@@ -588,7 +620,7 @@ impl Check<'_> {
             self.wrong(at, "query_response is to be below query_interval".to_string());
         }
         let limit = self.within("limit", &file.limit, 65536, 1, 1_000_000);
-        let usual = self.usual_quotas(limit, file);
+        let (usual, domain) = (self.usual_quotas(limit, file), self.domain(file));
         Settings {
             limit,
             stays_on_shared_tree: self.one_of("spt", &file.spt, &[("always", false), ("never", true)]),
@@ -601,11 +633,18 @@ impl Check<'_> {
             policy: self.policy_of_none(&file.policy, &usual),
             routes: self.routes(&file.routes),
             level: self.one_of("log", &file.log, &LEVELS),
-            control: self.control(file),
+            control: self.control(file, &domain),
+            domain,
             metrics: self.listen(&file.metrics.listen),
             packs: file.pack.unwrap_or(true),
         }
     }
+}
+
+/// The control socket of a router that has a table or a VRF of its own, or of the usual one.
+pub fn usual_socket(instance: Option<&str>) -> PathBuf {
+    let of = |name: &str| format!("/run/viqeshord-{name}/control");
+    instance.map_or_else(|| USUAL_SOCKET.to_string(), of).into()
 }
 
 /// Why an interface of the router can't have the address.
@@ -695,10 +734,22 @@ mod tests {
             (eth0.priority, eth0.propagation, eth0.override_interval, eth0.address, eth0.line),
             (1, 500, 2500, None, 2)
         );
-        assert_eq!((it.routes.table, it.routes.preference_of(188)), (254, 110));
+        assert_eq!((it.routes.table, it.routes.preference_of(188)), (None, 110));
         assert_eq!(eth0.hello, HelloSettings { interval: 300, holdtime: 105 });
         assert_eq!((it.control.path, it.control.group, it.control.mode), (USUAL_SOCKET.into(), None, 0o600));
         assert_eq!(it.metrics, None);
+    }
+
+    #[test]
+    fn a_table_or_a_vrf_has_a_socket_of_its_own() {
+        let of = |line: &str| read(&format!("{line}\n{SMALL}")).map(|it| (it.domain, it.control.path));
+        assert_eq!(of("").unwrap(), (Domain::Usual, "/run/viqeshord/control".into()));
+        assert_eq!(of("table = 100").unwrap(), (Domain::Table(100), "/run/viqeshord-100/control".into()));
+        let red = (Domain::Vrf("red".to_string()), "/run/viqeshord-red/control".into());
+        assert_eq!(of("vrf = \"red\"").unwrap(), red);
+        for wrong in ["table = 0", "table = 254", "table = 1000000000", "vrf = \"a/b\"", "table = 7\nvrf = \"red\""] {
+            assert_eq!(of(wrong).unwrap_err().len(), 1, "{wrong}");
+        }
     }
 
     #[test]
@@ -733,7 +784,7 @@ mod tests {
             line: 20,
         };
         assert_eq!(it.interfaces, [a]);
-        assert_eq!((it.routes.table, it.routes.preference_of(196), it.routes.preference_of(188)), (7, 1, 5));
+        assert_eq!((it.routes.table, it.routes.preference_of(196), it.routes.preference_of(188)), (Some(7), 1, 5));
         assert_eq!(
             (it.rps[0].groups.to_string(), it.rps[0].address),
             ("239.0.0.0/8".to_string(), Ipv4Addr::new(10, 0, 0, 1))

@@ -444,7 +444,8 @@ fn forwarding(entry: &Entry) -> &'static str {
 fn used(daemon: &Daemon) -> HashMap<Key, Used> {
     let before = || daemon.plane.entries().filter_map(|(key, entry)| Some((*key, entry.used?))).collect();
     // A socket of its own, since the router goes on to ask by the other one.
-    let read = Netlink::open().and_then(|mut netlink| netlink.used());
+    let table = daemon.kernel.multicast_table();
+    let read = Netlink::open().and_then(|mut netlink| netlink.used(table));
     read.map_or_else(|_| before(), |used| used.into_iter().map(|it| (it.key, it)).collect())
 }
 

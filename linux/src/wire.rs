@@ -48,6 +48,26 @@ pub fn set_option<T>(socket: &Socket, level: i32, option: i32, value: &T) -> io:
     }
 }
 
+/// What a socket is limited to.
+#[derive(Clone, Debug, PartialEq, Eq)]
+pub enum Scope {
+    All,
+    /// What it sends bears a mark.
+    Mark(u32),
+    /// It is of a VRF.
+    Device(String),
+}
+
+impl Scope {
+    pub fn limit(&self, socket: &Socket) -> io::Result<()> {
+        match self {
+            Scope::All => Ok(()),
+            Scope::Mark(mark) => socket.set_mark(*mark),
+            Scope::Device(name) => socket.bind_device(Some(name.as_bytes())),
+        }
+    }
+}
+
 /// What was received, or `None` where nothing waits.
 pub fn waiting(received: io::Result<usize>, room: &[MaybeUninit<u8>]) -> io::Result<Option<&[u8]>> {
     match received {
@@ -149,8 +169,9 @@ pub struct OwnReports {
 }
 
 impl OwnReports {
-    pub fn open() -> io::Result<OwnReports> {
+    pub fn open(scope: &Scope) -> io::Result<OwnReports> {
         let socket = Socket::new(Domain::IPV4, Type::RAW, Some(Protocol::from(i32::from(IGMP))))?;
+        scope.limit(&socket)?;
         // What the machine sent itself, and no message of its multicast routing, which has the protocol 0.
         socket.attach_filter(&[
             instruction(LOAD_WORD, 0, 0, SKF_AD_PKTTYPE),
@@ -201,11 +222,13 @@ impl AsRawFd for Links {
 pub struct Unicasts {
     heard: Socket,
     sent: Socket,
+    scope: Scope,
 }
 
 impl Unicasts {
-    pub fn open() -> io::Result<Unicasts> {
+    pub fn open(scope: Scope) -> io::Result<Unicasts> {
         let heard = Socket::new(Domain::IPV4, Type::RAW, Some(Protocol::from(i32::from(PIM))))?;
+        scope.limit(&heard)?;
         heard.attach_filter(&[
             instruction(LOAD_BYTE, 0, 0, 16),
             instruction(AND, 0, 0, 0xf0),
@@ -216,8 +239,9 @@ impl Unicasts {
         heard.set_nonblocking(true)?;
         room_for_bursts(&heard);
         let sent = Socket::new(Domain::IPV4, Type::RAW, Some(Protocol::from(libc::IPPROTO_RAW)))?;
+        scope.limit(&sent)?;
         sent.set_nonblocking(true)?;
-        Ok(Unicasts { heard, sent })
+        Ok(Unicasts { heard, sent, scope })
     }
 
     pub fn hear<'a>(&self, room: &'a mut [MaybeUninit<u8>]) -> io::Result<Option<&'a [u8]>> {
@@ -230,16 +254,17 @@ impl Unicasts {
         let whole = Packet::read(packet).ok_or(io::ErrorKind::InvalidInput)?;
         let to = SockAddr::from(SocketAddrV4::new(whole.destination(), 0));
         match self.sent.send_to(packet, &to) {
-            Err(error) if error.raw_os_error() == Some(libc::EMSGSIZE) => send_in_fragments(whole, &to),
+            Err(error) if error.raw_os_error() == Some(libc::EMSGSIZE) => send_in_fragments(whole, &to, &self.scope),
             other => other.map(|_| ()),
         }
     }
 }
 
-fn send_in_fragments(packet: Packet, to: &SockAddr) -> io::Result<()> {
+fn send_in_fragments(packet: Packet, to: &SockAddr, scope: &Scope) -> io::Result<()> {
     let socket = Socket::new(Domain::IPV4, Type::RAW, Some(Protocol::from(i32::from(packet.protocol()))))?;
     // What comes to it is nobody's.
     socket.attach_filter(&[instruction(RETURN, 0, 0, 0)])?;
+    scope.limit(&socket)?;
     socket.bind(&SockAddr::from(SocketAddrV4::new(packet.source(), 0)))?;
     socket.set_ttl(u32::from(packet.ttl()))?;
     socket.set_tos(u32::from(packet.header()[1]))?;

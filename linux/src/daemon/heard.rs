@@ -42,7 +42,9 @@ impl Daemon {
     /// IGMP of a program on the machine came: its reports are heard as those of a host that has no address.
     pub(super) fn heard_own(&mut self, bytes: &[u8]) -> Result<(), Fatal> {
         let from = Packet::read(bytes).filter(|_| is_report(bytes)).map(Packet::source);
-        let index = from.and_then(|from| self.machine.index_of(from));
+        // Another router's interface may have the same address, in another VRF.
+        let indices = || self.ports.iter().filter_map(|port| port.index);
+        let index = from.and_then(|from| indices().find(|index| self.machine.has(*index, from)));
         if let Some(index) = index {
             self.counters.own_reports += 1;
             return self.heard(index, &as_of_nobody(bytes));

@@ -62,8 +62,14 @@ impl Kernel for Handle {
     }
 
     fn links(&mut self) -> io::Result<Vec<Link>> {
-        let link =
-            |index, name: &str| Link { index, name: name.to_string(), mtu: 1500, is_running: true, is_loopback: false };
+        let link = |index, name: &str| Link {
+            index,
+            name: name.to_string(),
+            mtu: 1500,
+            is_running: true,
+            is_loopback: false,
+            vrf_table: None,
+        };
         Ok(vec![link(ETH0, "eth0"), link(ETH1, "eth1")])
     }
 
@@ -71,7 +77,11 @@ impl Kernel for Handle {
         Ok(self.0.addresses.borrow().clone())
     }
 
-    fn routes(&mut self, _: u32) -> io::Result<Vec<KernelRoute>> {
+    fn multicast_table(&self) -> u32 {
+        253
+    }
+
+    fn routes(&mut self, _: Option<u32>) -> io::Result<Vec<KernelRoute>> {
         let hop = Hop { gateway: Some(Ipv4Addr::new(10, 1, 0, 2).into()), index: ETH0, is_dead: false };
         let prefix = Ipv4Addr::new(10, 9, 0, 0).into();
         Ok(vec![KernelRoute { prefix, length: 16, kind: Kind::Unicast, metric: 1, protocol: 4, hops: vec![hop] }])

@@ -111,6 +111,10 @@ impl Daemon {
             warn!("socket differs in the file, or who may ask there: it is taken by a restart");
             new.control = self.settings.control.clone();
         }
+        if new.domain != self.settings.domain {
+            warn!("table or vrf differs in the file: it is taken by a restart");
+            new.domain = self.settings.domain.clone();
+        }
         log::set_max_level(new.level);
         let (are_rps_new, is_router_new) = (new.rps != self.settings.rps, self.settings.differs_in_router(&new));
         self.settings = new;
@@ -145,7 +149,8 @@ impl Daemon {
         let asked = Asked::new().map_err(Fatal::Signals)?;
         let mut servers = Servers::open(&self.settings)?;
         info!(
-            "the router begins: {} interfaces, {} RP ranges, the library {}",
+            "the router begins in {}: {} interfaces, {} RP ranges, the library {}",
+            self.settings.domain,
             self.ports.len(),
             self.settings.rps.len(),
             viqeshor::version()
