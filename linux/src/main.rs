@@ -5,6 +5,7 @@ mod core;
 mod counters;
 mod daemon;
 mod error;
+mod import;
 mod kernel;
 mod log;
 mod metrics;
@@ -30,11 +31,13 @@ use client::{Cleared, Shown};
 use error::Fatal;
 use settings::{usual_socket, Settings};
 use show::Topic;
+use std::io::Write;
 use std::net::Ipv4Addr;
 use std::path::{Path, PathBuf};
 use std::process::ExitCode;
 
 const USUAL_FILE: &str = "/etc/viqeshord.toml";
+const FRR_FILE: &str = "/etc/frr/frr.conf";
 
 #[derive(Parser)]
 #[command(version, about)]
@@ -65,6 +68,14 @@ enum What {
         watch: Option<f64>,
         #[command(flatten)]
         at: At,
+    },
+    /// Make settings of FRR's configuration: they go to standard output, and to standard error what they leave out
+    Import {
+        #[arg(default_value = FRR_FILE)]
+        file: PathBuf,
+        /// Of a VRF
+        #[arg(long)]
+        vrf: Option<String>,
     },
     /// Have a running router begin anew with something
     Clear {
@@ -155,6 +166,24 @@ fn run(file: &Path, only_check: bool) -> ExitCode {
     }
 }
 
+fn import(file: &Path, vrf: Option<&str>) -> ExitCode {
+    let name = file.display();
+    let imported = match std::fs::read_to_string(file) {
+        Ok(text) => import::of(&text, vrf),
+        Err(error) => {
+            eprintln!("{name}: {error}");
+            return ExitCode::from(2);
+        }
+    };
+    imported.left.iter().for_each(|left| eprintln!("{name}: {left}"));
+    let problems = settings::read(&imported.settings).err().unwrap_or_default();
+    problems.iter().for_each(|problem| eprintln!("{name}: the settings that were made of it: {problem}"));
+    match std::io::stdout().write_all(imported.settings.as_bytes()) {
+        Ok(()) if problems.is_empty() => ExitCode::SUCCESS,
+        _ => ExitCode::FAILURE,
+    }
+}
+
 fn main() -> ExitCode {
     match Asked::parse().what {
         What::Run { file, check } => run(&file, check),
@@ -165,6 +194,7 @@ fn main() -> ExitCode {
                 None => client::show(&shown, &at.path()),
             }
         }
+        What::Import { file, vrf } => import(&file, vrf.as_deref()),
         What::Clear { what, name, at } => client::clear(what, name.as_deref(), &at.path()),
     }
 }

@@ -9,7 +9,7 @@ import sys
 import time
 from typing import TYPE_CHECKING
 
-from trials.network import HOST, NOBODY, SOURCE, Failed, ended, goes_on, inside, received, until
+from trials.network import AS_SERVICE, HOST, NOBODY, SOURCE, Failed, ended, goes_on, inside, received, until
 
 if TYPE_CHECKING:
     from trials.network import Network
@@ -28,7 +28,7 @@ def metrics_of(net: Network) -> dict[str, float]:
 
 
 def metrics(net: Network) -> str:
-    """with `listen` SIGHUP has the router answer Prometheus, whose counts rise as packets flow, and without it no more"""
+    """with `listen` SIGHUP has the router answer Prometheus, with counts that rise, and without it no more"""
     if metrics_of(net):
         raise Failed("it answers where the settings don't say so")
     net.reload(net.settings + f'[metrics]\nlisten = "{AT}"\n')
@@ -133,7 +133,8 @@ def socket_of_a_group(net: Network) -> None:
     if stat.S_IMODE(mode.st_mode) != 0o660 or mode.st_gid != NOBODY:
         raise Failed(f"the socket is {mode}")
     other, no_member = 4711, 4712
-    tried = [cleared(net, "show", "rp", user=other, group=NOBODY), cleared(net, "clear", "counters", user=other, group=NOBODY),
+    tried = [cleared(net, "show", "rp", user=other, group=NOBODY),
+             cleared(net, "clear", "counters", user=other, group=NOBODY),
              cleared(net, "show", "rp", user=other, group=no_member)]
     if [it.returncode for it in tried] != [0, 1, 1]:
         raise Failed(f"they were answered {tried}")
@@ -144,4 +145,38 @@ def socket_of_a_group(net: Network) -> None:
     time.sleep(1)
 
 
-TRIALS = [metrics, shown_beside_frr, watch, clear, socket_of_a_group]
+def imported(net: Network) -> str:
+    """with settings made of FRR's configuration the router takes the place of FRR's RP, and its hosts get their streams"""
+    (net.room / "second.conf").write_text(net.frr("second", "show running-config"))
+    words = [net.built / "viqeshord", "import", net.room / "second.conf"]
+    made = subprocess.run(list(map(str, words)), capture_output=True, text=True)
+    wanted = ["spt-switchover infinity-and-beyond prefix-list by-the-rp"]
+    left = made.stderr.splitlines()
+    if made.returncode or len(left) != len(wanted) or any(words not in line for words, line in zip(wanted, left)):
+        raise Failed(f"it leaves {left}")
+    own = net.room / "in-second"
+    own.mkdir()
+    os.chown(own, NOBODY, NOBODY)
+    (net.room / "second.toml").write_text(f'socket = "{own}/control"\n{made.stdout}')
+    net.pimd["second"].kill()
+    net.pimd["second"].wait()
+    with open(own / "log", "w") as log:
+        router = net.start("second", *AS_SERVICE, net.room / "viqeshord", "run", net.room / "second.toml", stderr=log)
+    try:
+        group = "239.1.12.9"
+        until("first knows it", 30, lambda: "holdTimeMax\":18" in net.frr("first", "show ip pim neighbor json").replace(" ", ""))
+        receiver = net.receive("viewer", group, VIEWER, 100, 60)
+        time.sleep(3)
+        net.send("source", group, SOURCE, 100, 10).wait()
+        came, of, twice = received(receiver)
+    finally:
+        ended(router)
+        net.start_pimd("second")
+    until("the router knows second again", 40, lambda: "10.3.0.1" in net.neighbours())
+    until("second knows the router", 40, lambda: "10.3.0.2" in net.frr("second", "show ip pim neighbor"))
+    if came < of - 3:
+        raise Failed(f"{came} of {of} came, {twice} twice")
+    return f"{came} of {of} came, {twice} twice"
+
+
+TRIALS = [metrics, shown_beside_frr, watch, clear, socket_of_a_group, imported]
