@@ -146,7 +146,7 @@ def socket_of_a_group(net: Network) -> None:
 
 
 def imported(net: Network) -> str:
-    """with settings made of FRR's configuration the router takes the place of FRR's RP, and its hosts get their streams"""
+    """with settings made of FRR's configuration the router takes the place of FRR's RP, and its host gets its stream"""
     (net.room / "second.conf").write_text(net.frr("second", "show running-config"))
     words = [net.built / "viqeshord", "import", net.room / "second.conf"]
     made = subprocess.run(list(map(str, words)), capture_output=True, text=True)
@@ -164,7 +164,8 @@ def imported(net: Network) -> str:
         router = net.start("second", *AS_SERVICE, net.room / "viqeshord", "run", net.room / "second.toml", stderr=log)
     try:
         group = "239.1.12.9"
-        until("first knows it", 30, lambda: "holdTimeMax\":18" in net.frr("first", "show ip pim neighbor json").replace(" ", ""))
+        holdtimes = lambda: net.frr("first", "show ip pim neighbor json").replace(" ", "")
+        until("first knows it", 30, lambda: 'holdTimeMax":18' in holdtimes())
         receiver = net.receive("viewer", group, VIEWER, 100, 60)
         time.sleep(3)
         net.send("source", group, SOURCE, 100, 10).wait()
