@@ -40,7 +40,7 @@ const USUAL_FILE: &str = "/etc/viqeshord.toml";
 const FRR_FILE: &str = "/etc/frr/frr.conf";
 
 #[derive(Parser)]
-#[command(version, about)]
+#[command(version = version(), about)]
 struct Asked {
     #[command(subcommand)]
     what: What,
@@ -85,6 +85,11 @@ enum What {
         #[command(flatten)]
         at: At,
     },
+}
+
+/// Of the router, and of the library in it, which says whether it is proved.
+fn version() -> &'static str {
+    Box::leak(format!("{} (library {})", env!("CARGO_PKG_VERSION"), viqeshor::version()).into_boxed_str())
 }
 
 /// Which router is asked.

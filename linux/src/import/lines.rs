@@ -16,7 +16,6 @@ pub struct Place {
 #[derive(Debug, Default)]
 pub struct Interface {
     pub name: String,
-    pub line: usize,
     pub address: Option<Subnet>,
     pub has_pim: bool,
     pub has_hosts: bool,
@@ -159,7 +158,7 @@ impl<'a> Reader<'a> {
         if !is_inside {
             self.block = Block::Top;
         }
-        if let Some(block) = self.begins(place, words) {
+        if let Some(block) = self.begins(words) {
             self.block = block;
             return;
         }
@@ -178,7 +177,7 @@ impl<'a> Reader<'a> {
     }
 
     /// What a line begins.
-    fn begins(&mut self, place: &Place, words: &[&str]) -> Option<Block> {
+    fn begins(&mut self, words: &[&str]) -> Option<Block> {
         let of_vrf = |name: Option<&str>| name.map_or_else(|| "default".to_string(), str::to_string);
         let in_vrf = |name: Option<&str>, block: Block| match name == self.vrf {
             true => block,
@@ -193,8 +192,7 @@ impl<'a> Reader<'a> {
                 let at = self.interfaces.iter().position(|it| it.name == *name).unwrap_or(self.interfaces.len());
                 let block = in_vrf(vrf, Block::Interface(at));
                 if at == self.interfaces.len() && block == Block::Interface(at) {
-                    let (name, line) = (name.to_string(), place.line);
-                    self.interfaces.push(Interface { name, line, ..Interface::default() });
+                    self.interfaces.push(Interface { name: name.to_string(), ..Interface::default() });
                 }
                 Some(block)
             }

@@ -305,7 +305,7 @@ fn clear_interface_begins_it_anew() {
         let is_hello =
             |(on, bytes): &&(u32, Vec<u8>)| *on == ETH0 && Packet::read(bytes).map_or(false, |it| is_pim(it, 0));
         let sent = fake.sent.borrow();
-        let last = sent.iter().filter(is_hello).next_back().expect("one left").1.clone();
+        let last = sent.iter().rfind(is_hello).expect("one left").1.clone();
         let at = last.windows(4).position(|four| four == [0, 20, 0, 4]).expect("it has one") + 4;
         last[at..at + 4].to_vec()
     };
