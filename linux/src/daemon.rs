@@ -1,12 +1,14 @@
 //! The router on the machine: events of its sockets and clocks go to the library one by one, and what it answers goes
 //! out.
 mod anew;
+mod bfd;
 mod cleared;
 mod forwarding;
 mod heard;
 mod machine;
 mod turns;
 
+use crate::bfd::Session;
 use crate::core::{Answer, Core, Event};
 use crate::counters::Counters;
 use crate::error::Fatal;
@@ -119,6 +121,8 @@ pub struct Daemon {
     pub routing: Routing,
     pub neighbours: Neighbours,
     pub counters: Counters,
+    /// Of BFD, with neighbours.
+    sessions: BTreeMap<Place, Session>,
     due: Due,
     stale: Stale,
     rates: Rates,
@@ -170,6 +174,7 @@ impl Daemon {
             routing: Routing { told: Vec::new(), counts: Counts::default(), due: None, settle: machine::ROUTES_SETTLE },
             neighbours: Neighbours::default(),
             counters: Counters::default(),
+            sessions: BTreeMap::new(),
             due: Due::default(),
             stale: Stale::default(),
             rates: Rates::default(),

@@ -8,10 +8,11 @@ use crate::routes::KernelRoute;
 use crate::settings::Subnet;
 use crate::stand_in::fragments;
 use crate::tables::{Domain, Tables};
-use crate::wire::{Links, OwnReports, Unicasts};
+use crate::wire::{Links, Liveness, OwnReports, Unicasts};
 use std::collections::HashMap;
 use std::io;
 use std::mem::MaybeUninit;
+use std::net::Ipv4Addr;
 use std::os::unix::io::{AsRawFd, RawFd};
 use std::time::Instant;
 
@@ -26,6 +27,7 @@ pub enum Source {
     Unicasts,
     OwnReports,
     Frames,
+    Bfd,
 }
 
 /// What happened.
@@ -40,6 +42,12 @@ pub enum Event {
     /// PIM or IGMP to a group, with the kernel's number of the interface.
     Frame {
         index: u32,
+        packet: Vec<u8>,
+    },
+    /// BFD of an address, with the kernel's number of the interface.
+    Bfd {
+        index: u32,
+        from: Ipv4Addr,
         packet: Vec<u8>,
     },
     /// What waited is nothing for the router.
@@ -75,6 +83,11 @@ pub trait Kernel: Cache {
     /// A packet to a group leaves by an interface.
     fn send_on(&mut self, index: u32, packet: &[u8]) -> io::Result<()>;
     fn send_unicast(&mut self, packet: &[u8]) -> io::Result<()>;
+
+    fn hear_bfd_on(&mut self, index: u32) -> io::Result<()>;
+    fn hear_bfd_no_more(&mut self, index: u32);
+    /// From one address to another, on an interface.
+    fn send_bfd(&mut self, index: u32, ends: (Ipv4Addr, Ipv4Addr), packet: &[u8]) -> io::Result<()>;
 }
 
 /// Linux.
@@ -84,6 +97,7 @@ pub struct Linux {
     links: Links,
     unicasts: Unicasts,
     own_reports: OwnReports,
+    liveness: Liveness,
     netlink: Netlink,
     tables: Tables,
     names: HashMap<u32, String>,
@@ -102,6 +116,7 @@ impl Linux {
             mroute: Mroute::open(tables.asked(), &scope).map_err(Fatal::MulticastRouting)?,
             links: Links::open().map_err(Fatal::Socket)?,
             own_reports: OwnReports::open(&scope).map_err(Fatal::Socket)?,
+            liveness: Liveness::default(),
             unicasts: Unicasts::open(scope).map_err(Fatal::Socket)?,
             netlink,
             tables,
@@ -166,6 +181,10 @@ impl Kernel for Linux {
             }
             Source::Unicasts => Ok(self.unicasts.hear(room)?.map(|packet| Event::Unicast(packet.to_vec()))),
             Source::OwnReports => Ok(self.own_reports.hear(room)?.map(|packet| Event::OwnReport(packet.to_vec()))),
+            Source::Bfd => {
+                let heard = self.liveness.hear(room)?;
+                Ok(heard.map(|(index, from, packet)| Event::Bfd { index, from, packet }))
+            }
             Source::Frames => {
                 Ok(self.links.hear(room)?.map(|(index, packet)| Event::Frame { index, packet: packet.to_vec() }))
             }
@@ -173,13 +192,14 @@ impl Kernel for Linux {
     }
 
     fn waits(&self) -> Vec<RawFd> {
-        vec![
+        let own = [
             self.netlink.as_raw_fd(),
             self.mroute.as_raw_fd(),
             self.unicasts.as_raw_fd(),
             self.own_reports.as_raw_fd(),
             self.links.as_raw_fd(),
-        ]
+        ];
+        own.into_iter().chain(self.liveness.waits()).collect()
     }
 
     fn links(&mut self) -> io::Result<Vec<Link>> {
@@ -241,5 +261,19 @@ impl Kernel for Linux {
 
     fn send_unicast(&mut self, packet: &[u8]) -> io::Result<()> {
         self.unicasts.send(packet)
+    }
+
+    fn hear_bfd_on(&mut self, index: u32) -> io::Result<()> {
+        let name = self.names.get(&index).ok_or(io::ErrorKind::NotFound)?;
+        self.liveness.hear_on(index, name)
+    }
+
+    fn hear_bfd_no_more(&mut self, index: u32) {
+        self.liveness.hear_no_more(index);
+    }
+
+    fn send_bfd(&mut self, index: u32, ends: (Ipv4Addr, Ipv4Addr), packet: &[u8]) -> io::Result<()> {
+        let name = self.names.get(&index).ok_or(io::ErrorKind::NotFound)?;
+        self.liveness.send((index, name), ends, packet)
     }
 }

@@ -1,4 +1,5 @@
 //! A multicast router for Linux: PIM Sparse Mode and IGMPv3, with the kernel's forwarding cache as its data plane.
+mod bfd;
 mod client;
 mod control;
 mod core;

@@ -1,4 +1,5 @@
 //! The router's counts for Prometheus, in its text format (0.0.4), by HTTP.
+use crate::bfd::State;
 use crate::counters::{Message, Passing};
 use crate::daemon::Daemon;
 use crate::error::Fatal;
@@ -241,6 +242,14 @@ fn neighbours(daemon: &Daemon, text: &mut Text) {
     for ((iface, address), known) in &daemon.neighbours.known {
         let up = daemon.now().saturating_sub(known.since) as f64 / 1e3;
         text.sample(NAME, &[("interface", daemon.name(*iface)), ("neighbor", &address.to_string())], up);
+    }
+    const SESSIONS: &str = "bfd_session_up";
+    text.family(SESSIONS, Kind::Gauge, "Whether the BFD session with a neighbour is up.");
+    for (iface, address) in daemon.neighbours.known.keys() {
+        if let Some(state) = daemon.bfd_state(&(*iface, *address)) {
+            let labels = [("interface", daemon.name(*iface)), ("neighbor", &address.to_string())];
+            text.sample(SESSIONS, &labels, u8::from(state == State::Up));
+        }
     }
 }
 

@@ -172,6 +172,16 @@ pub fn message_of(packet: Packet) -> Option<Message> {
     }
 }
 
+/// The goodbye of a router: a Hello that holds for no time.
+pub fn goodbye_of(router: Ipv4Addr) -> Vec<u8> {
+    let mut hello = [0x20, 0, 0, 0, 0, 1, 0, 2, 0, 0];
+    put_checksum(&mut hello, 2);
+    let mut header = [0x45, 0xc0, 0, 0, 0, 0, 0, 0, 1, PIM, 0, 0, 0, 0, 0, 0, 0, 0, 0, 0];
+    header[12..16].copy_from_slice(&router.octets());
+    header[16..].copy_from_slice(&ALL_PIM_ROUTERS.octets());
+    with_content(&header, &hello)
+}
+
 pub fn is_report(bytes: &[u8]) -> bool {
     const REPORT: u8 = 0x22;
     Packet::read(bytes).map_or(false, |it| it.protocol() == IGMP && it.content().first() == Some(&REPORT))

@@ -115,6 +115,8 @@ pub struct Port {
     pub hello: Option<Vec<u8>>,
     /// When it leaves again, in ms, where the library's own come too seldom.
     pub hello_due: Option<u64>,
+    /// The kernel's number of the interface on which BFD is heard for it.
+    pub bfd_index: Option<u32>,
     pub passed: Passed,
 }
 
@@ -137,6 +139,7 @@ impl Port {
             since: 0,
             hello: None,
             hello_due: None,
+            bfd_index: None,
             passed: Passed::default(),
         }
     }

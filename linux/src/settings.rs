@@ -1,4 +1,5 @@
 //! The file of settings, read and checked: each problem has its line and a reason.
+use crate::bfd::Times;
 use crate::control::Place;
 use crate::log::LEVELS;
 use crate::policy::lists::{
@@ -116,6 +117,8 @@ pub struct InterfaceSettings {
     /// In ms.
     pub override_interval: u32,
     pub hello: HelloSettings,
+    /// Sessions with the neighbours there.
+    pub bfd: Option<Times>,
     pub policy: InterfacePolicy,
     /// Where it stands in the file.
     pub line: usize,
@@ -257,6 +260,9 @@ struct InterfaceTable {
     override_interval: Whole,
     hello_interval: Option<Spanned<f64>>,
     hello_holdtime: Whole,
+    bfd: Option<bool>,
+    bfd_interval: Whole,
+    bfd_multiplier: Whole,
     passive: Option<bool>,
     neighbors: Option<Vec<Spanned<String>>>,
     join: Option<Vec<RuleTable>>,
@@ -446,6 +452,14 @@ impl Check<'_> {
         HelloSettings { interval, holdtime: holdtime as u16 }
     }
 
+    fn bfd(&mut self, table: &InterfaceTable) -> Option<Times> {
+        // Detection takes some tens of ms of a process at least, and of a machine that is busy.
+        const LEAST: u32 = 50;
+        let interval = self.within("bfd_interval", &table.bfd_interval, 300, LEAST, 60_000);
+        let multiplier = self.within("bfd_multiplier", &table.bfd_multiplier, 3, 2, 255);
+        table.bfd.unwrap_or(false).then_some(Times { interval, multiplier: multiplier as u8 })
+    }
+
     fn interface(&mut self, table: &InterfaceTable, of_all: &PolicyTable, usual: &UsualQuotas) -> InterfaceSettings {
         let address = table.address.as_ref().and_then(|given| {
             let subnet = self.subnet(given, "the address")?;
@@ -461,6 +475,7 @@ impl Check<'_> {
             propagation: self.within("propagation", &table.propagation, 500, 0, 32767),
             override_interval: self.within("override", &table.override_interval, 2500, 0, 65535),
             hello: self.hello(table),
+            bfd: self.bfd(table),
             policy: self.policy(table, of_all, usual),
             line: self.line(table.name.start()),
         }
@@ -735,7 +750,7 @@ mod tests {
             (1, 500, 2500, None, 2)
         );
         assert_eq!((it.routes.table, it.routes.preference_of(188)), (None, 110));
-        assert_eq!(eth0.hello, HelloSettings { interval: 300, holdtime: 105 });
+        assert_eq!((eth0.hello, eth0.bfd), (HelloSettings { interval: 300, holdtime: 105 }, None));
         assert_eq!((it.control.path, it.control.group, it.control.mode), (USUAL_SOCKET.into(), None, 0o600));
         assert_eq!(it.metrics, None);
     }
@@ -765,7 +780,7 @@ mod tests {
         let text = "limit = 9\nspt = \"never\"\nlog = \"debug\"\nsocket = \"/run/x\"\nsocket_group = \"adm\"\npack = false\n[metrics]\nlisten = \"[::1]:9791\"\n[igmp]\nrobustness = 3\n\
             query_interval = 20\nquery_response = 1.5\nlast_member_query = 2\n\
             [routes]\ntable = 7\npreference = 5\n[routes.preferences]\nstatic = 1\n\
-            [[interface]]\nname = \"a\"\naddress = \"10.0.0.1/24\"\npriority = 7\npropagation = 1\noverride = 2\nhello_interval = 0.3\nhello_holdtime = 1\n\
+            [[interface]]\nname = \"a\"\naddress = \"10.0.0.1/24\"\npriority = 7\npropagation = 1\noverride = 2\nhello_interval = 0.3\nhello_holdtime = 1\nbfd = true\nbfd_interval = 100\n\
             [[rp]]\ngroups = \"239.0.0.0/8\"\naddress = \"10.0.0.1\"\n";
         let it = read(text).unwrap();
         assert_eq!((it.limit, it.stays_on_shared_tree, it.level, it.packs), (9, true, LevelFilter::Debug, false));
@@ -780,6 +795,7 @@ mod tests {
             propagation: 1,
             override_interval: 2,
             hello: HelloSettings { interval: 3, holdtime: 1 },
+            bfd: Some(Times { interval: 100, multiplier: 3 }),
             policy: it.interfaces[0].policy.clone(),
             line: 20,
         };
@@ -800,6 +816,8 @@ mod tests {
         assert_eq!(only(&format!("{SMALL}address = \"10.0.0.1\"\n")).0, 3);
         assert_eq!(only(&format!("{SMALL}propagation = 32768\n")).0, 3);
         assert_eq!(only(&format!("{SMALL}hello_interval = 31\n")).0, 3);
+        assert_eq!(only(&format!("{SMALL}bfd = true\nbfd_interval = 49\n")).0, 4);
+        assert_eq!(only(&format!("{SMALL}bfd_multiplier = 1\n")).0, 3);
         assert_eq!(
             only(&format!("{SMALL}hello_interval = 2\nhello_holdtime = 2\n")),
             (4, "hello_holdtime is 2; it is to be 3 to 65535".to_string())

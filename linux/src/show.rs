@@ -224,6 +224,7 @@ fn neighbours(daemon: &mut Daemon) -> Result<Rows, Fatal> {
             ("up_seconds", known.map_or(Value::Null, |known| seconds(now.saturating_sub(known.since)))),
             ("expires_seconds", until(row.end, now)),
             ("priority", known.map_or(Value::Null, |known| json!(known.priority))),
+            ("bfd", daemon.bfd_state(&(row.iface, row.source)).map_or(Value::Null, |state| json!(state.name()))),
             ("hello", known.map_or(Value::Null, |known| json!(known.said.split(": ").nth(1)))),
         ]
     };

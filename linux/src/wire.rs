@@ -1,7 +1,9 @@
 //! The sockets by which packets come and leave.
+use crate::bfd;
 use crate::packet::{Packet, IGMP, PIM};
+use rand::Rng;
 use socket2::{Domain, Protocol, SockAddr, Socket, Type};
-use std::collections::HashMap;
+use std::collections::hash_map::{Entry, HashMap};
 use std::io;
 use std::mem::{size_of, zeroed, MaybeUninit};
 use std::net::{Ipv4Addr, SocketAddrV4};
@@ -275,6 +277,89 @@ fn send_in_fragments(packet: Packet, to: &SockAddr, scope: &Scope) -> io::Result
 impl AsRawFd for Unicasts {
     fn as_raw_fd(&self) -> RawFd {
         self.heard.as_raw_fd()
+    }
+}
+
+/// Hears and sends packets of BFD (RFC 5881).
+#[derive(Default)]
+pub struct Liveness {
+    /// By the kernel's number of an interface.
+    listeners: HashMap<u32, Socket>,
+    /// By the same, and the other side.
+    senders: HashMap<(u32, Ipv4Addr), Socket>,
+}
+
+impl Liveness {
+    /// An interface on which it is to be heard: what a router between might have sent on isn't.
+    pub fn hear_on(&mut self, index: u32, name: &str) -> io::Result<()> {
+        const SKF_NET_OFF: u32 = -0x10_0000i32 as u32;
+        const TTL_AT: u32 = 8;
+        let socket = Socket::new(Domain::IPV4, Type::DGRAM, None)?;
+        socket.bind_device(Some(name.as_bytes()))?;
+        socket.attach_filter(&[
+            instruction(LOAD_BYTE, 0, 0, SKF_NET_OFF + TTL_AT),
+            instruction(IF_EQUAL, 0, 1, u32::from(bfd::TTL)),
+            instruction(RETURN, 0, 0, u32::MAX),
+            instruction(RETURN, 0, 0, 0),
+        ])?;
+        socket.set_nonblocking(true)?;
+        socket.bind(&SockAddr::from(SocketAddrV4::new(Ipv4Addr::UNSPECIFIED, bfd::PORT)))?;
+        self.listeners.insert(index, socket);
+        Ok(())
+    }
+
+    pub fn hear_no_more(&mut self, index: u32) {
+        self.listeners.remove(&index);
+        self.senders.retain(|(of, _), _| *of != index);
+    }
+
+    pub fn waits(&self) -> impl Iterator<Item = RawFd> + '_ {
+        self.listeners.values().map(AsRawFd::as_raw_fd)
+    }
+
+    /// The next packet, with the kernel's number of its interface, and whose it is.
+    pub fn hear(&self, room: &mut [MaybeUninit<u8>]) -> io::Result<Option<(u32, Ipv4Addr, Vec<u8>)>> {
+        for (index, socket) in &self.listeners {
+            let (received, from) = match socket.recv_from(room) {
+                Ok((length, from)) => (Ok(length), from.as_socket_ipv4().map(|from| *from.ip())),
+                Err(error) => (Err(error), None),
+            };
+            if let (Some(packet), Some(from)) = (waiting(received, room)?, from) {
+                return Ok(Some((*index, from, packet.to_vec())));
+            }
+        }
+        Ok(None)
+    }
+
+    /// Each session has a socket, and so a port of its own.
+    pub fn send(&mut self, link: (u32, &str), ends: (Ipv4Addr, Ipv4Addr), packet: &[u8]) -> io::Result<()> {
+        let (from, to) = ends;
+        let socket = match self.senders.entry((link.0, to)) {
+            Entry::Occupied(found) => found.into_mut(),
+            Entry::Vacant(place) => place.insert(Liveness::sender(link.1, from)?),
+        };
+        socket.send_to(packet, &SockAddr::from(SocketAddrV4::new(to, bfd::PORT))).map(|_| ())
+    }
+
+    fn sender(name: &str, from: Ipv4Addr) -> io::Result<Socket> {
+        const TRIES: usize = 64;
+        const NETWORK_CONTROL: u32 = 0xc0;
+        let socket = Socket::new(Domain::IPV4, Type::DGRAM, None)?;
+        socket.bind_device(Some(name.as_bytes()))?;
+        socket.set_nonblocking(true)?;
+        socket.set_ttl(u32::from(bfd::TTL))?;
+        socket.set_tos(NETWORK_CONTROL)?;
+        // What comes to it is nobody's.
+        socket.attach_filter(&[instruction(RETURN, 0, 0, 0)])?;
+        let ports = (0..TRIES).map(|_| rand::thread_rng().gen_range(bfd::SOURCE_PORTS));
+        let mut last = io::Error::from(io::ErrorKind::AddrInUse);
+        for port in ports {
+            match socket.bind(&SockAddr::from(SocketAddrV4::new(from, port))) {
+                Ok(()) => return Ok(socket),
+                Err(error) => last = error,
+            }
+        }
+        Err(last)
     }
 }
 

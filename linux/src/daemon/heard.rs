@@ -72,7 +72,7 @@ impl Daemon {
     }
 
     /// A message that the library reads: one that came in fragments may be longer, and is taken in parts.
-    fn take_part(&mut self, number: u32, let_in: &[u8]) -> Result<(), Fatal> {
+    pub(super) fn take_part(&mut self, number: u32, let_in: &[u8]) -> Result<(), Fatal> {
         if let Some(packet) = Packet::read(let_in).filter(|packet| is_pim(*packet, 0)) {
             self.neighbours.hellos.insert((number, packet.source()), (words::of(let_in), priority_of(packet)));
             self.neighbours.are_stale = true;

@@ -82,6 +82,7 @@ impl Daemon {
         warn!("{} is down: {why}", self.ports[number].settings.name);
         self.ports[number].standing = Standing::Down(why);
         self.ports[number].hello_due = None;
+        self.neighbours.are_stale = true;
         if let Some(vif) = self.ports[number].vif.take() {
             // The kernel has let it go by itself where the link is gone.
             let _ = self.kernel.remove_vif(vif);

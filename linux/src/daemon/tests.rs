@@ -23,6 +23,7 @@ struct Fake {
     used: RefCell<Vec<Used>>,
     has_no_memory: Cell<bool>,
     sent: RefCell<Vec<(u32, Vec<u8>)>>,
+    bfd: RefCell<Vec<(Ipv4Addr, Vec<u8>)>>,
     unicasts: RefCell<Vec<Vec<u8>>>,
 }
 
@@ -109,6 +110,17 @@ impl Kernel for Handle {
 
     fn send_on(&mut self, index: u32, packet: &[u8]) -> io::Result<()> {
         self.0.sent.borrow_mut().push((index, packet.to_vec()));
+        Ok(())
+    }
+
+    fn hear_bfd_on(&mut self, _: u32) -> io::Result<()> {
+        Ok(())
+    }
+
+    fn hear_bfd_no_more(&mut self, _: u32) {}
+
+    fn send_bfd(&mut self, _: u32, ends: (Ipv4Addr, Ipv4Addr), packet: &[u8]) -> io::Result<()> {
+        self.0.bfd.borrow_mut().push((ends.1, packet.to_vec()));
         Ok(())
     }
 
@@ -443,4 +455,5 @@ fn the_unknown_are_asked_for_anew_where_their_group_moves() {
     assert!(fake.entry(one) != fake.entry(other));
 }
 
+mod liveness;
 mod shown;

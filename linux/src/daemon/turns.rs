@@ -1,6 +1,7 @@
 //! The loop: what waits at the sockets, what is due by the clock, and what signals ask for.
 use super::cleared::Lines;
 use super::{Answer, Daemon, Event, Fatal};
+use crate::bfd::Session;
 use crate::control::Control;
 use crate::core::ranges_of;
 use crate::kernel::{self, Source};
@@ -121,6 +122,7 @@ impl Daemon {
         crate::ports::take_settings(&mut self.ports, &self.settings.interfaces);
         self.set_policy();
         self.repeat_hellos_anew();
+        self.neighbours.are_stale = true;
         if is_router_new {
             self.make_anew("the settings differ")?;
         } else if are_rps_new {
@@ -195,6 +197,7 @@ impl Daemon {
             due.learned,
             servers.each().filter_map(Server::due).min().map(|left| self.kernel.now() + left),
             self.ports.iter().filter_map(|port| port.hello_due).min(),
+            self.sessions.values().map(Session::due).min(),
         ];
         let next = times.into_iter().flatten().fold(due.look, u64::min);
         match poll(&mut waits, next.saturating_sub(self.now()).min(LOOK_EVERY) as i32) {
@@ -207,6 +210,7 @@ impl Daemon {
     pub(super) fn turn(&mut self) -> Result<(), Fatal> {
         for (source, most) in [
             (Source::Changes, usize::MAX),
+            (Source::Bfd, TURN),
             (Source::Upcalls, TURN),
             (Source::Unicasts, TURN),
             (Source::OwnReports, TURN),
@@ -237,6 +241,7 @@ impl Daemon {
             kernel::Event::Unicast(packet) => self.heard_unicast(&packet),
             kernel::Event::OwnReport(packet) => self.heard_own(&packet),
             kernel::Event::Frame { index, packet } => self.heard(index, &packet),
+            kernel::Event::Bfd { index, from, packet } => self.heard_bfd(index, from, &packet),
             kernel::Event::Nothing => Ok(()),
         }
     }
@@ -270,8 +275,10 @@ impl Daemon {
             self.set_again();
         }
         self.repeat_hellos();
+        self.keep_sessions()?;
         if self.neighbours.are_stale {
             self.watch_neighbours()?;
+            self.watch_sessions();
         }
         Ok(())
     }
@@ -297,6 +304,8 @@ impl Daemon {
 
     /// Each neighbour is told at once that the router goes.
     fn say_goodbye(&mut self) {
+        let places: Vec<_> = self.sessions.keys().copied().collect();
+        places.into_iter().for_each(|place| self.end_session(place));
         for port in self.ports.iter().filter(|port| port.standing.is_up()) {
             if let (Some(said), Some(index)) =
                 (port.hello.as_deref().and_then(|hello| with_holdtime(hello, 0)), port.index)

@@ -23,6 +23,8 @@ pub struct Interface {
     pub priority: Option<u32>,
     /// The interval and the holdtime, in seconds.
     pub hello: Option<(u32, Option<u32>)>,
+    /// The interval, in ms, and the multiplier, where they aren't the usual ones.
+    pub bfd: Option<Option<(u32, u32)>>,
     pub boundary: Option<(Place, String)>,
     pub neighbours: Option<(Place, String)>,
     /// In seconds, in tenths of one, and in tenths of one.
@@ -95,7 +97,7 @@ const SAME: [&str; 12] = [
 const REASONS: [(&str, &str); 25] = [
     ("no ", "a line that takes something back isn't looked at"),
     ("ipv6 ", "the router is of IPv4 alone"),
-    ("ip pim bfd", "there is no BFD"),
+    ("ip pim bfd", "its times are of a profile of bfdd: `bfd_interval` and `bfd_multiplier` of the interface"),
     ("ip pim ecmp", "of several next hops the highest is taken"),
     ("ip pim join-prune-interval", "Joins are repeated every 60 s"),
     ("ip pim keep-alive-timer", "the keepalive period is 210 s"),
@@ -285,6 +287,11 @@ impl<'a> Reader<'a> {
             ["ip", "pim", "allowed-neighbors", "prefix-list", name] => {
                 it.neighbours = Some((place.clone(), name.to_string()))
             }
+            ["ip", "pim", "bfd"] => it.bfd = Some(None),
+            ["ip", "pim", "bfd", multiplier, receive, send] => {
+                it.bfd = Some(bfd(multiplier, receive, send));
+                return it.bfd != Some(None);
+            }
             ["ip", "igmp"] => it.has_hosts = true,
             ["ip", "igmp", "query-interval", number] => it.query_interval = with_number(number),
             ["ip", "igmp", "query-max-response-time", number] => it.query_response = with_number(number),
@@ -294,6 +301,13 @@ impl<'a> Reader<'a> {
         }
         true
     }
+}
+
+/// The times of BFD, of which the slower one is taken: here one is of both directions.
+fn bfd(multiplier: &str, receive: &str, send: &str) -> Option<(u32, u32)> {
+    let (receive, send): (u32, u32) = (receive.parse().ok()?, send.parse().ok()?);
+    let (interval, multiplier) = (receive.max(send), multiplier.parse().ok()?);
+    ((50..=60_000).contains(&interval) && (2..=255).contains(&multiplier)).then_some((interval, multiplier))
 }
 
 /// The times of a Hello, where our router has such.

@@ -138,6 +138,12 @@ fn interface(reader: &mut Reader, it: &Interface, text: &mut String) {
         let _ = writeln!(text, "hello_interval = {interval}.0");
         holdtime.iter().for_each(|holdtime| text.push_str(&format!("hello_holdtime = {holdtime}\n")));
     }
+    if let Some(times) = it.bfd {
+        text.push_str("bfd = true\n");
+        times.iter().for_each(|(interval, multiplier)| {
+            text.push_str(&format!("bfd_interval = {interval}\nbfd_multiplier = {multiplier}\n"))
+        });
+    }
     if let Some((place, name)) = &it.boundary {
         boundary(reader, place, name, text);
     }
