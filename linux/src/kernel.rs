@@ -111,7 +111,7 @@ impl Linux {
         let mut netlink = Netlink::open().map_err(Fatal::Netlink)?;
         let tables = Tables::of(domain, &mut netlink).map_err(Fatal::Netlink)?;
         let scope = tables.scope();
-        Ok(Linux {
+        let mut linux = Linux {
             began: Instant::now(),
             mroute: Mroute::open(tables.asked(), &scope).map_err(Fatal::MulticastRouting)?,
             links: Links::open().map_err(Fatal::Socket)?,
@@ -123,7 +123,9 @@ impl Linux {
             names: HashMap::new(),
             mtus: HashMap::new(),
             room: vec![MaybeUninit::uninit(); ROOM],
-        })
+        };
+        linux.tables.begin(&mut linux.netlink).map_err(Fatal::Netlink)?;
+        Ok(linux)
     }
 
     fn changes(&mut self) -> io::Result<Option<Event>> {

@@ -66,11 +66,15 @@ impl Tables {
                 (table, table)
             }
         };
-        let tables = Tables { domain: domain.clone(), multicast, unicast, rules: HashMap::new() };
-        if let Domain::Table(number) = domain {
-            netlink.add_rule(&Rule::of_mark(*number))?;
+        Ok(Tables { domain: domain.clone(), multicast, unicast, rules: HashMap::new() })
+    }
+
+    /// What the router itself sends goes by its table.
+    pub fn begin(&self, netlink: &mut Netlink) -> io::Result<()> {
+        match self.domain {
+            Domain::Table(number) => netlink.add_rule(&Rule::of_mark(number)),
+            Domain::Usual | Domain::Vrf(_) => Ok(()),
         }
-        Ok(tables)
     }
 
     /// What the router's sockets are limited to.

@@ -30,9 +30,10 @@ fn a_neighbour_that_falls_silent_is_gone_within_a_second() {
     passes_with(&mut daemon, &fake, &mut other, 5_000);
     assert_eq!((daemon.bfd_state(&(0, OTHER)), other.state), (Some(State::Up), State::Up));
     assert_eq!(daemon.core.neighbours().expect("it tells"), [(0, OTHER)]);
-    passes(&mut daemon, &fake, 800);
+    // Its last packet came at most 300 ms ago, and 900 ms later it is missed.
+    passes(&mut daemon, &fake, 500);
     assert_eq!(daemon.core.neighbours().expect("it tells"), [(0, OTHER)]);
-    passes(&mut daemon, &fake, 200);
+    passes(&mut daemon, &fake, 500);
     assert!(daemon.core.neighbours().expect("it tells").is_empty() && daemon.bfd_state(&(0, OTHER)).is_none());
     // Its next Hello has it known again, with a session anew.
     happens(&mut daemon, &fake, hello());
