@@ -1,90 +1,67 @@
-//! The control socket: a client writes a line, `show WHAT` or `show WHAT json`, and reads the answer to its end.
-//!
-//! An answer is worked out and written by a process of its own, which has the router's memory as it was when it was
-//! asked: the router goes on meanwhile, however long the answer is, and however slowly it is read.
-use log::debug;
+//! The control socket: a client writes a line, `show WHAT`, `show WHAT json` or `clear WHAT`, and reads the answer to
+//! its end.
+use crate::server::{Protocol, Server};
+use nix::sys::stat::{umask, Mode};
+use nix::unistd::{chown, Group};
+use socket2::{Domain, SockAddr, Socket, Type};
 use std::io::{self, Read, Write};
-use std::os::unix::io::{AsRawFd, RawFd};
-use std::os::unix::net::{UnixListener, UnixStream};
+use std::ops::{Deref, DerefMut};
+use std::os::unix::fs::PermissionsExt;
+use std::os::unix::net::UnixStream;
 use std::path::{Path, PathBuf};
-use std::time::{Duration, Instant};
 
-const LONGEST_LINE: usize = 256;
-/// So many clients may be about to ask; for another one the one goes that has said nothing for the longest time.
-const MOST_CLIENTS: usize = 32;
-/// So many answers are written at a time.
-const MOST_ANSWERS: usize = 4;
-/// A client that hasn't asked after so long is let go.
-const PATIENCE: Duration = Duration::from_secs(5);
-/// An answer that isn't read to its end after so long is let go, in seconds.
-const LONGEST_ANSWER: u32 = 30;
+const LINE: Protocol = Protocol { whole: line, longest: 256 };
 
-struct Client {
-    stream: UnixStream,
-    asked: Vec<u8>,
-    came: Instant,
+fn line(written: &[u8]) -> Option<String> {
+    let end = written.iter().position(|byte| *byte == b'\n')?;
+    Some(String::from_utf8_lossy(&written[..end]).trim().to_string())
 }
 
-/// What a client's turn came to.
-enum Turn {
-    Asked(String),
-    Waits,
-    Over,
+/// Where the control socket is, and who may ask.
+#[derive(Clone, Debug, PartialEq, Eq)]
+pub struct Place {
+    pub path: PathBuf,
+    /// The group whose socket it is; else the router's own.
+    pub group: Option<String>,
+    /// The permissions; who may write may ask.
+    pub mode: u32,
 }
 
-impl Client {
-    fn read(&mut self) -> Turn {
-        let mut room = [0; LONGEST_LINE];
-        match self.stream.read(&mut room) {
-            Ok(0) => Turn::Over,
-            Ok(length) => {
-                self.asked.extend(&room[..length]);
-                self.line()
-            }
-            Err(error) if error.kind() == io::ErrorKind::WouldBlock => self.line(),
-            Err(_) => Turn::Over,
+impl Place {
+    /// Gives the socket to its group, and opens it to those that may ask.
+    fn open_up(&self) -> io::Result<()> {
+        if let Some(name) = &self.group {
+            let missing = || io::Error::new(io::ErrorKind::NotFound, format!("there is no group {name}"));
+            let group = Group::from_name(name)?.ok_or_else(missing)?;
+            chown(&self.path, None, Some(group.gid)).map_err(|error| {
+                io::Error::new(
+                    io::Error::from(error).kind(),
+                    format!("it can't be given to the group {name}; the router has to be a member of it: {error}"),
+                )
+            })?;
         }
-    }
-
-    fn line(&self) -> Turn {
-        match self.asked.iter().position(|byte| *byte == b'\n') {
-            Some(end) => Turn::Asked(String::from_utf8_lossy(&self.asked[..end]).trim().to_string()),
-            None if self.asked.len() > LONGEST_LINE || self.came.elapsed() > PATIENCE => Turn::Over,
-            None => Turn::Waits,
-        }
+        std::fs::set_permissions(&self.path, std::fs::Permissions::from_mode(self.mode))
     }
 }
 
-/// Writes an answer in a process of its own, which answers its number.
-fn answer_elsewhere(mut stream: UnixStream, answer: impl FnOnce() -> String) -> io::Result<libc::pid_t> {
-    // SAFETY: the router has one thread, so the child has all of its memory in order. It calls nothing but what works
-    // the answer out and writes it, and ends without running what its parent is to run at its end.
-    match unsafe { libc::fork() } {
-        -1 => Err(io::Error::last_os_error()),
-        0 => {
-            unsafe {
-                libc::signal(libc::SIGTERM, libc::SIG_DFL);
-                libc::signal(libc::SIGALRM, libc::SIG_DFL);
-                libc::alarm(LONGEST_ANSWER);
-            }
-            let written = stream.set_nonblocking(false).and_then(|()| stream.write_all(answer().as_bytes()));
-            unsafe { libc::_exit(i32::from(written.is_err())) }
-        }
-        child => Ok(child),
-    }
+/// Binds to a path, so that nobody but the router's user may ask at first.
+fn bound(path: &Path) -> io::Result<Socket> {
+    let socket = Socket::new(Domain::UNIX, Type::STREAM, None)?;
+    let before = umask(Mode::from_bits_truncate(0o177));
+    let bound = socket.bind(&SockAddr::unix(path)?);
+    umask(before);
+    bound.map(|()| socket)
 }
 
 pub struct Control {
-    listener: UnixListener,
-    clients: Vec<Client>,
-    /// The processes that write answers.
-    answers: Vec<libc::pid_t>,
+    server: Server,
     path: PathBuf,
 }
 
 impl Control {
     /// A socket that a router left behind, and that nobody listens on any more, is replaced.
-    pub fn open(path: &Path) -> io::Result<Control> {
+    pub fn open(place: &Place) -> io::Result<Control> {
+        let path = &place.path;
         if UnixStream::connect(path).is_ok() {
             return Err(io::Error::new(io::ErrorKind::AddrInUse, "another router listens there"));
         }
@@ -95,63 +72,28 @@ impl Control {
             Err(error) if error.kind() != io::ErrorKind::NotFound => return Err(error),
             _ => {}
         }
-        let listener = UnixListener::bind(path)?;
-        listener.set_nonblocking(true)?;
-        Ok(Control { listener, clients: Vec::new(), answers: Vec::new(), path: path.to_path_buf() })
-    }
-
-    /// What is to be waited for.
-    pub fn waits(&self) -> Vec<RawFd> {
-        let is_free = self.answers.len() < MOST_ANSWERS;
-        let clients = self.clients.iter().filter(|_| is_free).map(|client| client.stream.as_raw_fd());
-        std::iter::once(self.listener.as_raw_fd()).chain(clients).collect()
-    }
-
-    /// In how many ms there is something to do at the latest, where a client or an answer is under way.
-    pub fn due(&self) -> Option<u64> {
-        const SOON: u64 = 200;
-        (!self.clients.is_empty() || !self.answers.is_empty()).then_some(SOON)
-    }
-
-    /// Takes clients that came, and has lines answered.
-    pub fn serve(&mut self, answer: &mut dyn FnMut(&str) -> String) {
-        self.answers.retain(|child| is_alive(*child));
-        while let Ok((stream, _)) = self.listener.accept() {
-            if self.clients.len() >= MOST_CLIENTS {
-                self.clients.remove(0);
-            }
-            if stream.set_nonblocking(true).is_ok() {
-                self.clients.push(Client { stream, asked: Vec::new(), came: Instant::now() });
-            }
-        }
-        for mut client in std::mem::take(&mut self.clients) {
-            match client.read() {
-                Turn::Asked(line) if self.answers.len() < MOST_ANSWERS => {
-                    match answer_elsewhere(client.stream, || answer(&line)) {
-                        Ok(child) => self.answers.push(child),
-                        Err(error) => debug!("\"{line}\" can't be answered: {error}"),
-                    }
-                }
-                Turn::Over => {}
-                Turn::Asked(_) | Turn::Waits => self.clients.push(client),
-            }
-        }
+        let control = Control { server: Server::new(bound(path)?, LINE)?, path: path.clone() };
+        place.open_up()?;
+        Ok(control)
     }
 }
 
-/// Whether a child runs; one that ended is forgotten by the kernel.
-fn is_alive(child: libc::pid_t) -> bool {
-    // SAFETY: no place for the status is passed.
-    unsafe { libc::waitpid(child, std::ptr::null_mut(), libc::WNOHANG) == 0 }
+impl Deref for Control {
+    type Target = Server;
+
+    fn deref(&self) -> &Server {
+        &self.server
+    }
+}
+
+impl DerefMut for Control {
+    fn deref_mut(&mut self) -> &mut Server {
+        &mut self.server
+    }
 }
 
 impl Drop for Control {
     fn drop(&mut self) {
-        // They hold the router's sockets too, which the next router wants.
-        for child in &self.answers {
-            // SAFETY: it is a child that was not waited for yet.
-            unsafe { libc::kill(*child, libc::SIGKILL) };
-        }
         let _ = std::fs::remove_file(&self.path);
     }
 }
@@ -168,17 +110,38 @@ pub fn ask(path: &Path, line: &str) -> io::Result<String> {
 #[cfg(test)]
 mod tests {
     use super::*;
+    use crate::server::{Answers, MOST_CLIENTS};
+    use std::time::Duration;
 
-    fn opened(name: &str) -> (Control, PathBuf) {
+    fn place(name: &str) -> Place {
         let path = std::env::temp_dir().join(format!("viqeshord-{name}-{}", std::process::id()));
-        (Control::open(&path).unwrap(), path)
+        Place { path, group: None, mode: 0o600 }
     }
 
-    fn asked(control: &mut Control, path: &Path, answer: &str) -> String {
-        let path = path.to_path_buf();
-        let asker = std::thread::spawn(move || ask(&path, "show rp").unwrap());
+    /// Answers each line with a text, and counts those that clear.
+    struct Always<'a> {
+        text: &'a str,
+        users: Vec<Option<u32>>,
+    }
+
+    impl Answers for Always<'_> {
+        fn act(&mut self, line: &str, user: Option<u32>) -> Option<String> {
+            line.starts_with("clear").then(|| {
+                self.users.push(user);
+                "cleared".to_string()
+            })
+        }
+
+        fn tell(&mut self, line: &str) -> String {
+            format!("{line}: {}", self.text)
+        }
+    }
+
+    fn asked(control: &mut Control, line: &'static str, by: &mut Always) -> String {
+        let path = control.path.clone();
+        let asker = std::thread::spawn(move || ask(&path, line).unwrap());
         while !asker.is_finished() {
-            control.serve(&mut |line| format!("{line}: {answer}"));
+            control.serve(by);
             std::thread::sleep(Duration::from_millis(1));
         }
         asker.join().unwrap()
@@ -186,21 +149,44 @@ mod tests {
 
     #[test]
     fn a_line_is_answered() {
-        let (mut control, path) = opened("line");
-        assert!(Control::open(&path).is_err());
-        let long = "a line of an answer\n".repeat(30_000);
-        assert_eq!(asked(&mut control, &path, &long), format!("show rp: {long}"));
+        let place = place("line");
+        let mut control = Control::open(&place).unwrap();
+        assert!(Control::open(&place).is_err());
+        let text = "a line of an answer\n".repeat(30_000);
+        let mut by = Always { text: &text, users: Vec::new() };
+        assert_eq!(asked(&mut control, "show rp", &mut by), format!("show rp: {text}"));
         drop(control);
-        assert!(!path.exists());
+        assert!(!place.path.exists());
+    }
+
+    #[test]
+    fn what_changes_the_router_is_done_by_itself_and_knows_the_user() {
+        let mut control = Control::open(&place("change")).unwrap();
+        let mut by = Always { text: "", users: Vec::new() };
+        assert_eq!(asked(&mut control, "clear counters", &mut by), "cleared");
+        assert_eq!(by.users, [Some(nix::unistd::getuid().as_raw())]);
     }
 
     #[test]
     fn silent_clients_lock_no_one_out() {
-        let (mut control, path) = opened("silent");
-        let silent: Vec<_> = (0..MOST_CLIENTS).map(|_| UnixStream::connect(&path).unwrap()).collect();
-        control.serve(&mut |_| String::new());
-        assert_eq!(control.clients.len(), MOST_CLIENTS);
-        assert_eq!(asked(&mut control, &path, "yes"), "show rp: yes");
+        let mut control = Control::open(&place("silent")).unwrap();
+        let silent: Vec<_> = (0..MOST_CLIENTS).map(|_| UnixStream::connect(&control.path).unwrap()).collect();
+        let mut by = Always { text: "yes", users: Vec::new() };
+        control.serve(&mut by);
+        assert_eq!(control.clients(), MOST_CLIENTS);
+        assert_eq!(asked(&mut control, "show rp", &mut by), "show rp: yes");
         drop(silent);
+    }
+
+    #[test]
+    fn the_socket_is_for_those_of_its_mode_and_group() {
+        let group = Group::from_gid(nix::unistd::getgid()).unwrap().unwrap().name;
+        let place = Place { group: Some(group), mode: 0o660, ..place("mode") };
+        let control = Control::open(&place).unwrap();
+        assert_eq!(std::fs::metadata(&place.path).unwrap().permissions().mode() & 0o777, 0o660);
+        drop(control);
+        let nobody = Place { group: Some("viqeshor-no-such-group".to_string()), ..place };
+        assert!(Control::open(&nobody).map(|_| ()).unwrap_err().to_string().contains("no group"));
+        assert!(!nobody.path.exists());
     }
 }

@@ -36,6 +36,8 @@ pub enum Answer {
 pub struct Core {
     router: Router,
     draws: StdRng,
+    /// How often memory was refused for a table that was to be read.
+    pub refused_memory: u64,
 }
 
 pub fn ranges_of(rps: &[RpSettings]) -> Vec<Range> {
@@ -57,7 +59,7 @@ impl Core {
     /// A router without routes, at moment 0 and with every interface down.
     pub fn new(settings: &Settings, interfaces: &[viqeshor::Interface]) -> Result<Core, Fatal> {
         let router = Router::new(&settings_of(settings), interfaces, &[], &ranges_of(&settings.rps));
-        Ok(Core { router: router.map_err(Fatal::Settings)?, draws: StdRng::from_rng(OsRng)? })
+        Ok(Core { router: router.map_err(Fatal::Settings)?, draws: StdRng::from_rng(OsRng)?, refused_memory: 0 })
     }
 
     /// An event, by a number of its own.
@@ -119,7 +121,9 @@ impl Core {
     }
 
     pub fn rows(&mut self, table: Table) -> Result<Vec<viqeshor::Row>, Fatal> {
-        Ok(self.router.rows(table)?)
+        let read = self.router.rows(table);
+        self.refused_memory += u64::from(matches!(read, Err(Error::Memory)));
+        Ok(read?)
     }
 
     /// Each neighbour with its interface.

@@ -1,17 +1,21 @@
 //! The router on the machine: events of its sockets and clocks go to the library one by one, and what it answers goes
 //! out.
 mod anew;
+mod bfd;
+mod cleared;
 mod forwarding;
 mod heard;
 mod machine;
 mod turns;
 
+use crate::bfd::Session;
 use crate::core::{Answer, Core, Event};
+use crate::counters::Counters;
 use crate::error::Fatal;
 use crate::kernel::Kernel;
 use crate::mroute::Key;
 use crate::packed::Packing;
-use crate::packet::{is_pim, with_holdtime, Packet};
+use crate::packet::{is_pim, message_of, with_holdtime, Packet};
 use crate::plane::{Placed, Plane, Row, Ways};
 use crate::policy::{Books, Gate, Policy};
 use crate::ports::{self, Machine, Port};
@@ -22,42 +26,13 @@ use log::{debug, info, warn};
 use std::collections::{BTreeMap, BTreeSet};
 use std::net::Ipv4Addr;
 use std::path::{Path, PathBuf};
+use std::time::Instant;
 use viqeshor::{Route, Table};
 
 /// The most bytes of Join/Prunes that leave together: the library of another router reads no more.
 const MOST_PACKED: usize = 1_500;
 /// A line of a kind that may come often, at most so often, in ms.
 const SAY_EVERY: u64 = 10_000;
-
-/// What the router did since it began.
-#[derive(Clone, Debug, Default)]
-pub struct Counters {
-    pub events: u64,
-    pub ignored: u64,
-    pub refused: BTreeMap<u32, u64>,
-    /// Refused messages that were offered again in parts, the parts, and those of them that were taken.
-    pub split: u64,
-    pub parts: u64,
-    pub parts_taken: u64,
-    pub own_reports: u64,
-    pub unicasts_heard: u64,
-    pub unicasts_sent: u64,
-    pub unicasts_not_sent: u64,
-    pub no_cache: u64,
-    pub strays: u64,
-    pub whole: u64,
-    /// Fragments, and packets of more than 1,500 bytes.
-    pub stood_in: u64,
-    pub checksums_filled: u64,
-    /// Join/Prunes that left in a packet with one before them.
-    pub packed: u64,
-    pub entries_written: u64,
-    pub entries_removed: u64,
-    pub entries_refused: u64,
-    pub kept: u64,
-    pub seen: u64,
-    pub made_anew: u64,
-}
 
 /// A neighbour as its last Hello has it.
 #[derive(Clone, Debug)]
@@ -133,6 +108,8 @@ struct Rates {
 }
 
 pub struct Daemon {
+    /// The process of the router; what answers clients is another one.
+    pub process: u32,
     pub settings: Settings,
     file: PathBuf,
     pub kernel: Box<dyn Kernel>,
@@ -144,6 +121,8 @@ pub struct Daemon {
     pub routing: Routing,
     pub neighbours: Neighbours,
     pub counters: Counters,
+    /// Of BFD, with neighbours.
+    sessions: BTreeMap<Place, Session>,
     due: Due,
     stale: Stale,
     rates: Rates,
@@ -184,6 +163,7 @@ impl Daemon {
         }
         let told: Vec<_> = ports.iter().map(Port::told).collect();
         let mut daemon = Daemon {
+            process: std::process::id(),
             file: file.to_path_buf(),
             core: Core::new(&settings, &told)?,
             kernel,
@@ -194,6 +174,7 @@ impl Daemon {
             routing: Routing { told: Vec::new(), counts: Counts::default(), due: None, settle: machine::ROUTES_SETTLE },
             neighbours: Neighbours::default(),
             counters: Counters::default(),
+            sessions: BTreeMap::new(),
             due: Due::default(),
             stale: Stale::default(),
             rates: Rates::default(),
@@ -245,6 +226,7 @@ impl Daemon {
 
     /// The same; where the event has a stand-in for a packet, that leaves itself.
     fn take_for(&mut self, event: Event, packet: Option<&[u8]>) -> Result<Answer, Fatal> {
+        let began = Instant::now();
         self.counters.events += 1;
         let answer = self.core.take(event)?;
         match answer {
@@ -258,6 +240,7 @@ impl Daemon {
             Answer::Ignored => self.counters.ignored += 1,
             Answer::Refused(refusal) => *self.counters.refused.entry(refusal as u32).or_default() += 1,
         }
+        self.counters.took.note(began.elapsed());
         Ok(answer)
     }
 
@@ -390,7 +373,10 @@ fn with_ways<T>(ports: &[Port], policy: &Policy, act: impl FnOnce(&Ways) -> T) -
 fn send_unicast(kernel: &mut dyn Kernel, counters: &mut Counters, bytes: &[u8]) {
     debug!("sends {}", words::of(bytes));
     match kernel.send_unicast(bytes) {
-        Ok(()) => counters.unicasts_sent += 1,
+        Ok(()) => {
+            counters.unicasts_sent += 1;
+            counters.unicasts.sent.count(Packet::read(bytes).and_then(message_of));
+        }
         Err(error) => {
             counters.unicasts_not_sent += 1;
             debug!("it can't be sent: {error}");
@@ -417,7 +403,10 @@ fn send_on(kernel: &mut dyn Kernel, port: Option<&mut Port>, is_passive: bool, b
     }
     match kernel.send_on(index, bytes) {
         Ok(()) if packet.map_or(false, Packet::is_data) => port.passed.copies += 1,
-        Ok(()) => port.passed.sent += 1,
+        Ok(()) => {
+            port.passed.sent += 1;
+            port.passed.messages.sent.count(packet.and_then(message_of));
+        }
         Err(error) => {
             port.passed.not_sent += 1;
             debug!("it can't be sent on {}: {error}", port.settings.name);

@@ -1,16 +1,18 @@
 //! What the router asks of the machine that it runs on. It is a trait, so that the router has tests without a machine.
 use crate::error::Fatal;
-use crate::mroute::{Forwarded, Key, Mroute, Upcall};
+use crate::mroute::{Carried, Forwarded, Key, Mroute, Upcall};
 use crate::netlink::{Change, Link, Netlink, Used};
 use crate::packet::{Packet, IGMP};
 use crate::plane::Cache;
 use crate::routes::KernelRoute;
 use crate::settings::Subnet;
 use crate::stand_in::fragments;
-use crate::wire::{Links, OwnReports, Unicasts};
+use crate::tables::{Domain, Tables};
+use crate::wire::{Links, Liveness, OwnReports, Unicasts};
 use std::collections::HashMap;
 use std::io;
 use std::mem::MaybeUninit;
+use std::net::Ipv4Addr;
 use std::os::unix::io::{AsRawFd, RawFd};
 use std::time::Instant;
 
@@ -25,6 +27,7 @@ pub enum Source {
     Unicasts,
     OwnReports,
     Frames,
+    Bfd,
 }
 
 /// What happened.
@@ -39,6 +42,12 @@ pub enum Event {
     /// PIM or IGMP to a group, with the kernel's number of the interface.
     Frame {
         index: u32,
+        packet: Vec<u8>,
+    },
+    /// BFD of an address, with the kernel's number of the interface.
+    Bfd {
+        index: u32,
+        from: Ipv4Addr,
         packet: Vec<u8>,
     },
     /// What waited is nothing for the router.
@@ -56,7 +65,10 @@ pub trait Kernel: Cache {
     fn links(&mut self) -> io::Result<Vec<Link>>;
     /// Each with the kernel's number of its interface.
     fn addresses(&mut self) -> io::Result<Vec<(u32, Subnet)>>;
-    fn routes(&mut self, table: u32) -> io::Result<Vec<KernelRoute>>;
+    /// Those of a table, or of the router's own.
+    fn routes(&mut self, table: Option<u32>) -> io::Result<Vec<KernelRoute>>;
+    /// Whose entries the forwarding cache has.
+    fn multicast_table(&self) -> u32;
     /// Whether packets are dropped whose route back leads elsewhere.
     fn is_filter_strict(&self, name: &str) -> bool;
 
@@ -65,9 +77,17 @@ pub trait Kernel: Cache {
     /// What the entries of the forwarding cache have forwarded.
     fn used(&mut self) -> io::Result<Vec<Used>>;
 
+    /// What a virtual interface has carried since it was added.
+    fn carried(&self, vif: u16) -> io::Result<Carried>;
+
     /// A packet to a group leaves by an interface.
     fn send_on(&mut self, index: u32, packet: &[u8]) -> io::Result<()>;
     fn send_unicast(&mut self, packet: &[u8]) -> io::Result<()>;
+
+    fn hear_bfd_on(&mut self, index: u32) -> io::Result<()>;
+    fn hear_bfd_no_more(&mut self, index: u32);
+    /// From one address to another, on an interface.
+    fn send_bfd(&mut self, index: u32, ends: (Ipv4Addr, Ipv4Addr), packet: &[u8]) -> io::Result<()>;
 }
 
 /// Linux.
@@ -77,24 +97,35 @@ pub struct Linux {
     links: Links,
     unicasts: Unicasts,
     own_reports: OwnReports,
+    liveness: Liveness,
     netlink: Netlink,
+    tables: Tables,
+    names: HashMap<u32, String>,
     /// The most bytes of a packet, by the kernel's number of an interface.
     mtus: HashMap<u32, usize>,
     room: Vec<MaybeUninit<u8>>,
 }
 
 impl Linux {
-    pub fn open() -> Result<Linux, Fatal> {
-        Ok(Linux {
+    pub fn open(domain: &Domain) -> Result<Linux, Fatal> {
+        let mut netlink = Netlink::open().map_err(Fatal::Netlink)?;
+        let tables = Tables::of(domain, &mut netlink).map_err(Fatal::Netlink)?;
+        let scope = tables.scope();
+        let mut linux = Linux {
             began: Instant::now(),
-            mroute: Mroute::open().map_err(Fatal::MulticastRouting)?,
+            mroute: Mroute::open(tables.asked(), &scope).map_err(Fatal::MulticastRouting)?,
             links: Links::open().map_err(Fatal::Socket)?,
-            unicasts: Unicasts::open().map_err(Fatal::Socket)?,
-            own_reports: OwnReports::open().map_err(Fatal::Socket)?,
-            netlink: Netlink::open().map_err(Fatal::Netlink)?,
+            own_reports: OwnReports::open(&scope).map_err(Fatal::Socket)?,
+            liveness: Liveness::default(),
+            unicasts: Unicasts::open(scope).map_err(Fatal::Socket)?,
+            netlink,
+            tables,
+            names: HashMap::new(),
             mtus: HashMap::new(),
             room: vec![MaybeUninit::uninit(); ROOM],
-        })
+        };
+        linux.tables.begin(&mut linux.netlink).map_err(Fatal::Netlink)?;
+        Ok(linux)
     }
 
     fn changes(&mut self) -> io::Result<Option<Event>> {
@@ -102,6 +133,7 @@ impl Linux {
         for change in changes.iter().flatten() {
             if let Change::Link(link) = change {
                 self.mtus.insert(link.index, link.mtu as usize);
+                self.names.insert(link.index, link.name.clone());
             }
         }
         Ok(changes.map(Event::Changes))
@@ -113,6 +145,12 @@ impl Linux {
             Some(parts) => parts.iter().try_for_each(|part| self.links.send(index, part)),
             None => Err(error),
         }
+    }
+}
+
+impl Drop for Linux {
+    fn drop(&mut self) {
+        self.tables.clear(&mut self.netlink);
     }
 }
 
@@ -145,6 +183,10 @@ impl Kernel for Linux {
             }
             Source::Unicasts => Ok(self.unicasts.hear(room)?.map(|packet| Event::Unicast(packet.to_vec()))),
             Source::OwnReports => Ok(self.own_reports.hear(room)?.map(|packet| Event::OwnReport(packet.to_vec()))),
+            Source::Bfd => {
+                let heard = self.liveness.hear(room)?;
+                Ok(heard.map(|(index, from, packet)| Event::Bfd { index, from, packet }))
+            }
             Source::Frames => {
                 Ok(self.links.hear(room)?.map(|(index, packet)| Event::Frame { index, packet: packet.to_vec() }))
             }
@@ -152,18 +194,20 @@ impl Kernel for Linux {
     }
 
     fn waits(&self) -> Vec<RawFd> {
-        vec![
+        let own = [
             self.netlink.as_raw_fd(),
             self.mroute.as_raw_fd(),
             self.unicasts.as_raw_fd(),
             self.own_reports.as_raw_fd(),
             self.links.as_raw_fd(),
-        ]
+        ];
+        own.into_iter().chain(self.liveness.waits()).collect()
     }
 
     fn links(&mut self) -> io::Result<Vec<Link>> {
         let links = self.netlink.links()?;
         self.mtus = links.iter().map(|link| (link.index, link.mtu as usize)).collect();
+        self.names = links.iter().map(|link| (link.index, link.name.clone())).collect();
         Ok(links)
     }
 
@@ -171,8 +215,12 @@ impl Kernel for Linux {
         self.netlink.addresses()
     }
 
-    fn routes(&mut self, table: u32) -> io::Result<Vec<KernelRoute>> {
-        self.netlink.routes(table)
+    fn routes(&mut self, table: Option<u32>) -> io::Result<Vec<KernelRoute>> {
+        self.netlink.routes(table.unwrap_or(self.tables.unicast))
+    }
+
+    fn multicast_table(&self) -> u32 {
+        self.tables.multicast
     }
 
     fn is_filter_strict(&self, name: &str) -> bool {
@@ -185,15 +233,23 @@ impl Kernel for Linux {
 
     fn add_vif(&mut self, vif: u16, index: u32) -> io::Result<()> {
         self.mroute.add_vif(vif, index)?;
+        if let Some(name) = self.names.get(&index) {
+            self.tables.lead(&mut self.netlink, vif, name)?;
+        }
         self.own_reports.hear_from(index)
     }
 
     fn remove_vif(&mut self, vif: u16) -> io::Result<()> {
+        self.tables.lead_no_more(&mut self.netlink, vif);
         self.mroute.remove_vif(vif)
     }
 
     fn used(&mut self) -> io::Result<Vec<Used>> {
-        self.netlink.used()
+        self.netlink.used(self.tables.multicast)
+    }
+
+    fn carried(&self, vif: u16) -> io::Result<Carried> {
+        self.mroute.carried(vif)
     }
 
     fn send_on(&mut self, index: u32, packet: &[u8]) -> io::Result<()> {
@@ -207,5 +263,19 @@ impl Kernel for Linux {
 
     fn send_unicast(&mut self, packet: &[u8]) -> io::Result<()> {
         self.unicasts.send(packet)
+    }
+
+    fn hear_bfd_on(&mut self, index: u32) -> io::Result<()> {
+        let name = self.names.get(&index).ok_or(io::ErrorKind::NotFound)?;
+        self.liveness.hear_on(index, name)
+    }
+
+    fn hear_bfd_no_more(&mut self, index: u32) {
+        self.liveness.hear_no_more(index);
+    }
+
+    fn send_bfd(&mut self, index: u32, ends: (Ipv4Addr, Ipv4Addr), packet: &[u8]) -> io::Result<()> {
+        let name = self.names.get(&index).ok_or(io::ErrorKind::NotFound)?;
+        self.liveness.send((index, name), ends, packet)
     }
 }

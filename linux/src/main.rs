@@ -1,10 +1,15 @@
 //! A multicast router for Linux: PIM Sparse Mode and IGMPv3, with the kernel's forwarding cache as its data plane.
+mod bfd;
+mod client;
 mod control;
 mod core;
+mod counters;
 mod daemon;
 mod error;
+mod import;
 mod kernel;
 mod log;
+mod metrics;
 mod mroute;
 mod netlink;
 mod packed;
@@ -13,23 +18,30 @@ mod plane;
 mod policy;
 mod ports;
 mod routes;
+mod server;
 mod settings;
 mod show;
 mod split;
 mod stand_in;
+mod tables;
 mod wire;
 mod words;
 
-use clap::{Parser, Subcommand, ValueEnum};
+use clap::{Args, Parser, Subcommand};
+use client::{Cleared, Shown};
 use error::Fatal;
-use settings::{Settings, USUAL_SOCKET};
+use settings::{usual_socket, Settings};
+use show::Topic;
+use std::io::Write;
+use std::net::Ipv4Addr;
 use std::path::{Path, PathBuf};
 use std::process::ExitCode;
 
 const USUAL_FILE: &str = "/etc/viqeshord.toml";
+const FRR_FILE: &str = "/etc/frr/frr.conf";
 
 #[derive(Parser)]
-#[command(version, about)]
+#[command(version = version(), about)]
 struct Asked {
     #[command(subcommand)]
     what: What,
@@ -49,23 +61,56 @@ enum What {
     /// Print what a running router knows
     Show {
         topic: Topic,
+        /// The address whose route `rpf` prints
+        address: Option<Ipv4Addr>,
         /// Print JSON
         #[arg(long)]
         json: bool,
-        /// The router's control socket
-        #[arg(long, default_value = USUAL_SOCKET)]
-        socket: PathBuf,
+        /// Print it again at this interval (by default 2 s)
+        #[arg(long, value_name = "SECONDS", num_args = 0..=1, default_missing_value = "2")]
+        watch: Option<f64>,
+        #[command(flatten)]
+        at: At,
+    },
+    /// Print settings that are made from FRR's configuration; standard error has the lines that they leave out
+    Import {
+        /// FRR's configuration
+        #[arg(default_value = FRR_FILE)]
+        file: PathBuf,
+        /// Read the part of this VRF
+        #[arg(long, value_name = "NAME")]
+        vrf: Option<String>,
+    },
+    /// Start counters, the kernel's entries or an interface of a running router again
+    Clear {
+        what: Cleared,
+        /// The interface
+        name: Option<String>,
+        #[command(flatten)]
+        at: At,
     },
 }
 
-#[derive(Clone, Copy, ValueEnum)]
-enum Topic {
-    Mroute,
-    Neighbors,
-    Igmp,
-    Rp,
-    Interfaces,
-    Counters,
+/// Of the router, and of the library in it, which says whether it is proved.
+fn version() -> &'static str {
+    Box::leak(format!("{} (library {})", env!("CARGO_PKG_VERSION"), viqeshor::version()).into_boxed_str())
+}
+
+/// Which router is asked.
+#[derive(Args)]
+struct At {
+    /// The router's table or VRF, where the settings name one
+    #[arg(long, value_name = "TABLE_OR_VRF")]
+    instance: Option<String>,
+    /// The router's control socket, where the settings name one
+    #[arg(long, conflicts_with = "instance")]
+    socket: Option<PathBuf>,
+}
+
+impl At {
+    fn path(self) -> PathBuf {
+        self.socket.unwrap_or_else(|| usual_socket(self.instance.as_deref()))
+    }
 }
 
 fn read(file: &Path) -> Option<Settings> {
@@ -108,7 +153,7 @@ fn absent(settings: &Settings) -> std::io::Result<Vec<&str>> {
 }
 
 fn route(file: &Path, settings: Settings) -> Result<(), Fatal> {
-    let kernel = Box::new(kernel::Linux::open()?);
+    let kernel = Box::new(kernel::Linux::open(&settings.domain)?);
     daemon::Daemon::new(file, settings, kernel)?.run()
 }
 
@@ -130,27 +175,35 @@ fn run(file: &Path, only_check: bool) -> ExitCode {
     }
 }
 
-fn show(topic: Topic, is_json: bool, socket: &Path) -> ExitCode {
-    let line = format!("show {}{}", show::TOPICS[topic as usize], if is_json { " json" } else { "" });
-    match control::ask(socket, &line) {
-        Ok(answer) if answer.starts_with("error: ") => {
-            eprint!("{answer}");
-            ExitCode::FAILURE
-        }
-        Ok(answer) => {
-            print!("{answer}");
-            ExitCode::SUCCESS
-        }
+fn import(file: &Path, vrf: Option<&str>) -> ExitCode {
+    let name = file.display();
+    let imported = match std::fs::read_to_string(file) {
+        Ok(text) => import::of(&text, vrf),
         Err(error) => {
-            eprintln!("{}: {error}; is the router running?", socket.display());
-            ExitCode::FAILURE
+            eprintln!("{name}: {error}");
+            return ExitCode::from(2);
         }
+    };
+    imported.left.iter().for_each(|left| eprintln!("{name}: {left}"));
+    let problems = settings::read(&imported.settings).err().unwrap_or_default();
+    problems.iter().for_each(|problem| eprintln!("{name}: the settings that were made of it: {problem}"));
+    match std::io::stdout().write_all(imported.settings.as_bytes()) {
+        Ok(()) if problems.is_empty() => ExitCode::SUCCESS,
+        _ => ExitCode::FAILURE,
     }
 }
 
 fn main() -> ExitCode {
     match Asked::parse().what {
         What::Run { file, check } => run(&file, check),
-        What::Show { topic, json, socket } => show(topic, json, &socket),
+        What::Show { topic, address, json, watch, at } => {
+            let shown = Shown { topic, address, is_json: json };
+            match watch {
+                Some(every) => client::watch(&shown, every, &at.path()),
+                None => client::show(&shown, &at.path()),
+            }
+        }
+        What::Import { file, vrf } => import(&file, vrf.as_deref()),
+        What::Clear { what, name, at } => client::clear(what, name.as_deref(), &at.path()),
     }
 }

@@ -1,4 +1,5 @@
 //! The kernel's multicast forwarding: virtual interfaces, the forwarding cache, and what the kernel hands up.
+use crate::wire::Scope;
 use socket2::{Domain, Protocol, Socket, Type};
 use std::fmt;
 use std::io;
@@ -17,8 +18,11 @@ const MRT_DEL_VIF: i32 = 203;
 const MRT_ADD_MFC: i32 = 204;
 const MRT_DEL_MFC: i32 = 205;
 const MRT_PIM: i32 = 208;
+const MRT_TABLE: i32 = 209;
 const VIFF_REGISTER: u8 = 4;
 const VIFF_USE_IFINDEX: u8 = 8;
+/// Of linux/sockios.h: the first of a protocol's own.
+const SIOCGETVIFCNT: libc::c_ulong = 0x89e0;
 const IGMPMSG_NOCACHE: u8 = 1;
 const IGMPMSG_WRONGVIF: u8 = 2;
 const IGMPMSG_WHOLEPKT: u8 = 3;
@@ -67,6 +71,24 @@ struct MfcControl {
     expire: i32,
 }
 
+/// What the kernel has forwarded by a virtual interface.
+#[derive(Clone, Copy, Debug, Default, PartialEq, Eq)]
+pub struct Carried {
+    pub packets_in: u64,
+    pub packets_out: u64,
+    pub bytes_in: u64,
+    pub bytes_out: u64,
+}
+
+#[repr(C)]
+struct VifRequest {
+    vif: u16,
+    packets_in: libc::c_ulong,
+    packets_out: libc::c_ulong,
+    bytes_in: libc::c_ulong,
+    bytes_out: libc::c_ulong,
+}
+
 /// What the kernel hands up.
 #[derive(Clone, Debug, PartialEq, Eq)]
 pub enum Upcall {
@@ -105,7 +127,8 @@ pub struct Mroute {
 }
 
 impl Mroute {
-    pub fn open() -> io::Result<Mroute> {
+    /// Of a table, or of the usual one.
+    pub fn open(table: Option<u32>, scope: &Scope) -> io::Result<Mroute> {
         let socket = Socket::new(Domain::IPV4, Type::RAW, Some(Protocol::from(i32::from(crate::packet::IGMP))))?;
         // IGMP that the machine hears for itself comes here too; what the kernel hands up has the protocol 0.
         socket.attach_filter(&[
@@ -116,7 +139,11 @@ impl Mroute {
         ])?;
         socket.set_nonblocking(true)?;
         crate::wire::room_for_bursts(&socket);
+        scope.limit(&socket)?;
         let mroute = Mroute { socket };
+        if let Some(table) = table {
+            mroute.set(MRT_TABLE, &table)?;
+        }
         mroute.set(MRT_INIT, &1i32)?;
         mroute.set(MRT_PIM, &IGMPMSG_WRVIFWHOLE)?;
         mroute.set_vif(REGISTER_VIF, VIFF_REGISTER, 0)?;
@@ -137,6 +164,22 @@ impl Mroute {
 
     pub fn remove_vif(&self, vif: u16) -> io::Result<()> {
         self.set(MRT_DEL_VIF, &VifControl { vif, flags: 0, threshold: 0, rate_limit: 0, index: 0, remote: 0 })
+    }
+
+    /// What a virtual interface has carried since it was added.
+    pub fn carried(&self, vif: u16) -> io::Result<Carried> {
+        let mut asked = VifRequest { vif, packets_in: 0, packets_out: 0, bytes_in: 0, bytes_out: 0 };
+        let place: *mut VifRequest = &mut asked;
+        // SAFETY: the kernel reads and writes one such structure at the place.
+        match unsafe { libc::ioctl(self.socket.as_raw_fd(), SIOCGETVIFCNT, place) } {
+            0 => Ok(Carried {
+                packets_in: asked.packets_in,
+                packets_out: asked.packets_out,
+                bytes_in: asked.bytes_in,
+                bytes_out: asked.bytes_out,
+            }),
+            _ => Err(io::Error::last_os_error()),
+        }
     }
 
     fn set_mfc(&self, option: i32, key: Key, forwarded: Forwarded) -> io::Result<()> {
@@ -195,6 +238,7 @@ mod tests {
     #[test]
     fn the_structures_are_the_kernels() {
         assert_eq!((size_of::<VifControl>(), size_of::<MfcControl>()), (16, 60));
+        assert_eq!(size_of::<VifRequest>(), 5 * size_of::<libc::c_ulong>());
     }
 
     #[test]

@@ -8,13 +8,14 @@ use netlink_packet_route::nlas::{address as address_nlas, route as route_nlas};
 use netlink_packet_route::nlas::{DefaultNla, Nla};
 use netlink_packet_route::traits::Parseable;
 use netlink_packet_route::{
-    AddressMessage, NetlinkHeader, NetlinkMessage, NetlinkPayload, RouteMessage, RtnlMessage, AF_INET, NLM_F_DUMP,
-    NLM_F_REQUEST, RTNH_F_DEAD, RTNLGRP_IPV4_IFADDR, RTNLGRP_IPV4_ROUTE, RTNLGRP_LINK, RTN_BLACKHOLE, RTN_THROW,
-    RTN_UNICAST,
+    AddressMessage, NetlinkHeader, NetlinkMessage, NetlinkPayload, RouteMessage, RtnlMessage, AF_INET, NLM_F_ACK,
+    NLM_F_CREATE, NLM_F_DUMP, NLM_F_EXCL, NLM_F_REQUEST, RTNH_F_DEAD, RTNLGRP_IPV4_IFADDR, RTNLGRP_IPV4_ROUTE,
+    RTNLGRP_LINK, RTN_BLACKHOLE, RTN_THROW, RTN_UNICAST,
 };
 use netlink_sys::protocols::NETLINK_ROUTE;
 use netlink_sys::{Socket, SocketAddr};
 use std::collections::HashMap;
+use std::fmt;
 use std::io;
 use std::os::unix::io::{AsRawFd, RawFd};
 
@@ -30,11 +31,27 @@ const MS_PER_TICK: u64 = 10;
 const RTM_NEWLINK: u16 = 16;
 const RTM_DELLINK: u16 = 17;
 const RTM_GETLINK: u16 = 18;
+const RTM_NEWRULE: u16 = 32;
+const RTM_DELRULE: u16 = 33;
 const RTM_NEWNEXTHOP: u16 = 104;
 const RTM_DELNEXTHOP: u16 = 105;
 const RTM_GETNEXTHOP: u16 = 106;
 const IFLA_IFNAME: u16 = 3;
 const IFLA_MTU: u16 = 4;
+const IFLA_LINKINFO: u16 = 18;
+const IFLA_INFO_KIND: u16 = 1;
+const IFLA_INFO_DATA: u16 = 2;
+const IFLA_VRF_TABLE: u16 = 1;
+/// Of linux/fib_rules.h.
+const FR_ACT_TO_TBL: u8 = 1;
+const FRA_IIFNAME: u16 = 3;
+const FRA_PRIORITY: u16 = 6;
+const FRA_FWMARK: u16 = 10;
+const FRA_TABLE: u16 = 15;
+const FRA_PROTOCOL: u16 = 21;
+const RTPROT_MROUTED: u8 = 17;
+/// Before the rules that are there without one of somebody.
+const RULE_PRIORITY: u32 = 1_000;
 const NHA_ID: u16 = 1;
 const NHA_GROUP: u16 = 2;
 const NHA_BLACKHOLE: u16 = 4;
@@ -60,6 +77,69 @@ pub struct Link {
     /// It is up, and has a carrier.
     pub is_running: bool,
     pub is_loopback: bool,
+    /// Of a VRF its table.
+    pub vrf_table: Option<u32>,
+}
+
+/// A rule by which packets go by a table (ip rule, ip mrule).
+#[derive(Clone, Debug, PartialEq, Eq)]
+pub struct Rule {
+    table: u32,
+    which: Which,
+}
+
+/// Which packets.
+#[derive(Clone, Debug, PartialEq, Eq)]
+enum Which {
+    /// Multicast that comes on an interface.
+    Interface(String),
+    /// Unicast with the table's number as its mark.
+    Mark,
+}
+
+impl fmt::Display for Rule {
+    fn fmt(&self, to: &mut fmt::Formatter) -> fmt::Result {
+        match &self.which {
+            Which::Interface(name) => write!(to, "the rule of {name} for the table {}", self.table),
+            Which::Mark => write!(to, "the rule of the mark {}", self.table),
+        }
+    }
+}
+
+impl Rule {
+    pub fn of_interface(table: u32, name: &str) -> Rule {
+        Rule { table, which: Which::Interface(name.to_string()) }
+    }
+
+    pub fn of_mark(table: u32) -> Rule {
+        Rule { table, which: Which::Mark }
+    }
+
+    fn message(&self, kind: u16, flags: u16, sequence: u32) -> Vec<u8> {
+        const RULE_HEAD: usize = 12;
+        let (family, which) = match &self.which {
+            Which::Interface(name) => (RTNL_FAMILY_IPMR, (FRA_IIFNAME, [name.as_bytes(), &[0]].concat())),
+            Which::Mark => (AF_INET as u8, (FRA_FWMARK, self.table.to_ne_bytes().to_vec())),
+        };
+        let mut bytes = request(kind, RULE_HEAD, sequence);
+        bytes[6..8].copy_from_slice(&flags.to_ne_bytes());
+        (bytes[HEADER], bytes[HEADER + 7]) = (family, FR_ACT_TO_TBL);
+        put_attribute(&mut bytes, which.0, &which.1);
+        put_attribute(&mut bytes, FRA_TABLE, &self.table.to_ne_bytes());
+        put_attribute(&mut bytes, FRA_PRIORITY, &RULE_PRIORITY.to_ne_bytes());
+        put_attribute(&mut bytes, FRA_PROTOCOL, &[RTPROT_MROUTED]);
+        let length = bytes.len() as u32;
+        bytes[..4].copy_from_slice(&length.to_ne_bytes());
+        bytes
+    }
+}
+
+/// Appends an attribute.
+fn put_attribute(bytes: &mut Vec<u8>, kind: u16, value: &[u8]) {
+    bytes.extend(((4 + value.len()) as u16).to_ne_bytes());
+    bytes.extend(kind.to_ne_bytes());
+    bytes.extend(value);
+    bytes.resize((bytes.len() + 3) & !3, 0);
 }
 
 /// What changed.
@@ -199,7 +279,21 @@ fn link_of(content: &[u8]) -> Option<Link> {
     let (index, flags) = (word(content, 4), word(content, 8));
     let is_running = flags & (IFF_UP | IFF_RUNNING) == IFF_UP | IFF_RUNNING;
     let mtu = value(IFLA_MTU).map_or(0, |value| word(value, 0));
-    (content[0] == AF_UNSPEC).then_some(Link { index, name, mtu, is_running, is_loopback: flags & IFF_LOOPBACK != 0 })
+    let is_loopback = flags & IFF_LOOPBACK != 0;
+    let vrf_table = value(IFLA_LINKINFO).and_then(vrf_table);
+    (content[0] == AF_UNSPEC).then_some(Link { index, name, mtu, is_running, is_loopback, vrf_table })
+}
+
+/// Of what a link says of its kind.
+fn vrf_table(information: &[u8]) -> Option<u32> {
+    let value = |within: &'_ [u8], wanted| {
+        let found = attributes(within).into_iter().find(|(kind, _)| *kind == wanted);
+        found.map(|(_, value)| value.to_vec())
+    };
+    let kind = value(information, IFLA_INFO_KIND).filter(|kind| kind.starts_with(b"vrf"))?;
+    let is_vrf = kind.iter().skip(3).all(|byte| *byte == 0);
+    let table = value(&value(information, IFLA_INFO_DATA)?, IFLA_VRF_TABLE)?;
+    is_vrf.then(|| word(&table, 0))
 }
 
 /// A next hop object with its number.
@@ -303,13 +397,27 @@ impl Netlink {
         Ok(routes.into_iter().map(|(route, _)| route).collect())
     }
 
-    /// What the entries of the forwarding cache have forwarded.
-    pub fn used(&mut self) -> io::Result<Vec<Used>> {
+    /// Adds a rule, where there is none like it.
+    pub fn add_rule(&mut self, rule: &Rule) -> io::Result<()> {
+        const FLAGS: u16 = NLM_F_REQUEST | NLM_F_ACK | NLM_F_CREATE | NLM_F_EXCL;
+        match self.dump(|sequence| rule.message(RTM_NEWRULE, FLAGS, sequence)) {
+            Err(error) if error.raw_os_error() == Some(libc::EEXIST) => Ok(()),
+            other => other.map(|_| ()),
+        }
+    }
+
+    pub fn remove_rule(&mut self, rule: &Rule) -> io::Result<()> {
+        const FLAGS: u16 = NLM_F_REQUEST | NLM_F_ACK;
+        self.dump(|sequence| rule.message(RTM_DELRULE, FLAGS, sequence)).map(|_| ())
+    }
+
+    /// What the entries of the forwarding cache of a table have forwarded.
+    pub fn used(&mut self, table: u32) -> io::Result<Vec<Used>> {
         let mut asked = RouteMessage::default();
         asked.header.address_family = RTNL_FAMILY_IPMR;
         let found = self.dump(|sequence| serialized(RtnlMessage::GetRoute(asked), sequence))?;
         let used = |it: &Message| match it {
-            Message::Other(RtnlMessage::NewRoute(it)) => used_of(it),
+            Message::Other(RtnlMessage::NewRoute(it)) => used_of(it, table),
             _ => None,
         };
         Ok(found.iter().filter_map(used).collect())
@@ -447,10 +555,12 @@ fn hops_of(bytes: &[u8]) -> Vec<Hop> {
     found
 }
 
-fn used_of(message: &RouteMessage) -> Option<Used> {
+fn used_of(message: &RouteMessage, table: u32) -> Option<Used> {
     let (mut source, mut group, mut counts, mut idle) = (None, None, None, 0);
+    let mut in_table = u32::from(message.header.table);
     for nla in &message.nlas {
         match nla {
+            route_nlas::Nla::Table(number) => in_table = *number,
             route_nlas::Nla::Source(bytes) => source = four(bytes),
             route_nlas::Nla::Destination(bytes) => group = four(bytes),
             route_nlas::Nla::MfcStats(bytes) if bytes.len() >= 24 => {
@@ -460,7 +570,7 @@ fn used_of(message: &RouteMessage) -> Option<Used> {
             _ => {}
         }
     }
-    let (packets, bytes, stray) = counts?;
+    let (packets, bytes, stray) = counts.filter(|_| in_table == table)?;
     Some(Used { key: Key { source: source?.into(), group: group?.into() }, packets, bytes, stray, idle })
 }
 
@@ -516,15 +626,34 @@ mod tests {
             route_nlas::Nla::Expires(30u64.to_ne_bytes().to_vec()),
         ];
         let key = Key { source: Ipv4Addr::new(10, 1, 0, 50), group: Ipv4Addr::new(239, 1, 1, 1) };
-        assert_eq!(used_of(&route(RTN_UNICAST, nlas)), Some(Used { key, packets: 5, bytes: 600, stray: 2, idle: 300 }));
+        let used = Used { key, packets: 5, bytes: 600, stray: 2, idle: 300 };
+        assert_eq!(used_of(&route(RTN_UNICAST, nlas.clone()), 254), Some(used));
+        assert_eq!(used_of(&route(RTN_UNICAST, nlas), 253), None);
     }
 
     fn attribute(kind: u16, value: &[u8]) -> Vec<u8> {
-        let mut bytes = ((4 + value.len()) as u16).to_ne_bytes().to_vec();
-        bytes.extend(kind.to_ne_bytes());
-        bytes.extend(value);
-        bytes.resize((bytes.len() + 3) & !3, 0);
+        let mut bytes = Vec::new();
+        put_attribute(&mut bytes, kind, value);
         bytes
+    }
+
+    #[test]
+    fn a_vrf_tells_its_table() {
+        let data = attribute(IFLA_VRF_TABLE, &100u32.to_ne_bytes());
+        let information = |kind: &[u8]| [attribute(IFLA_INFO_KIND, kind), attribute(IFLA_INFO_DATA, &data)].concat();
+        assert_eq!(vrf_table(&information(b"vrf\0")), Some(100));
+        assert_eq!((vrf_table(&information(b"vrfs\0")), vrf_table(&attribute(IFLA_INFO_KIND, b"vrf\0"))), (None, None));
+    }
+
+    #[test]
+    fn a_rule_is_as_the_kernel_reads_it() {
+        let bytes = Rule::of_interface(300, "eth0").message(RTM_NEWRULE, NLM_F_REQUEST, 7);
+        assert_eq!((word(&bytes, 0) as usize, word(&bytes, 8)), (bytes.len(), 7));
+        // struct fib_rule_hdr: the family first, the action as its eighth byte.
+        assert_eq!(bytes[HEADER..HEADER + 12], [128, 0, 0, 0, 0, 0, 0, 1, 0, 0, 0, 0]);
+        let told = attributes(&bytes[HEADER + 12..]);
+        assert_eq!(told[0], (3, &b"eth0\0"[..]));
+        assert_eq!((told[1].0, word(told[1].1, 0)), (15, 300));
     }
 
     fn as_message(kind: u16, content: &[u8]) -> Vec<u8> {
@@ -543,7 +672,14 @@ mod tests {
             .extend([attribute(18, &[1, 2, 3]), attribute(999, &[4; 9]), attribute(IFLA_IFNAME, b"vxlan7\0")].concat());
         content.extend(attribute(IFLA_MTU, &1450u32.to_ne_bytes()));
         let found = messages(&as_message(RTM_NEWLINK, &content));
-        let wanted = Link { index: 5, name: "vxlan7".to_string(), mtu: 1450, is_running: true, is_loopback: false };
+        let wanted = Link {
+            index: 5,
+            name: "vxlan7".to_string(),
+            mtu: 1450,
+            is_running: true,
+            is_loopback: false,
+            vrf_table: None,
+        };
         assert!(matches!(&found[..], [(7, Message::Link { is_gone: false, link })] if *link == wanted));
         // What a bridge says of its port.
         content[0] = 7;

@@ -1,4 +1,5 @@
 //! IPv4 packets as bytes: the fields that the router's machine asks for, and checksums.
+use crate::counters::Message;
 use std::net::Ipv4Addr;
 use std::ops::Range;
 
@@ -150,6 +151,37 @@ pub fn is_pim(packet: Packet, kind: u8) -> bool {
 }
 
 /// Whether a packet is a report of IGMPv3.
+/// What message of PIM or IGMP a packet is; `None` for data.
+pub fn message_of(packet: Packet) -> Option<Message> {
+    const NULL_REGISTER: u8 = 0x40;
+    let content = packet.content();
+    let kind = content.first().copied().unwrap_or(u8::MAX);
+    match (packet.protocol(), kind) {
+        (PIM, 0x20) => Some(Message::Hello),
+        (PIM, 0x21) if content.get(4).map_or(false, |flags| flags & NULL_REGISTER != 0) => Some(Message::NullRegister),
+        (PIM, 0x21) => Some(Message::Register),
+        (PIM, 0x22) => Some(Message::RegisterStop),
+        (PIM, 0x23) => Some(Message::JoinPrune),
+        (PIM, 0x25) => Some(Message::Assert),
+        (PIM, _) => Some(Message::OtherPim),
+        (IGMP, 0x11) => Some(Message::Query),
+        (IGMP, 0x22) => Some(Message::Report),
+        (IGMP, 0x12 | 0x16 | 0x17) => Some(Message::OldReport),
+        (IGMP, _) => Some(Message::OtherIgmp),
+        _ => None,
+    }
+}
+
+/// The goodbye of a router: a Hello that holds for no time.
+pub fn goodbye_of(router: Ipv4Addr) -> Vec<u8> {
+    let mut hello = [0x20, 0, 0, 0, 0, 1, 0, 2, 0, 0];
+    put_checksum(&mut hello, 2);
+    let mut header = [0x45, 0xc0, 0, 0, 0, 0, 0, 0, 1, PIM, 0, 0, 0, 0, 0, 0, 0, 0, 0, 0];
+    header[12..16].copy_from_slice(&router.octets());
+    header[16..].copy_from_slice(&ALL_PIM_ROUTERS.octets());
+    with_content(&header, &hello)
+}
+
 pub fn is_report(bytes: &[u8]) -> bool {
     const REPORT: u8 = 0x22;
     Packet::read(bytes).map_or(false, |it| it.protocol() == IGMP && it.content().first() == Some(&REPORT))

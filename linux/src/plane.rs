@@ -110,6 +110,8 @@ pub struct Entry {
     pub is_unset: bool,
     /// It stands as it did in a router that was made anew since, which learns again what it needs.
     pub is_kept: bool,
+    /// When it was made, in ms.
+    pub since: u64,
     /// As the kernel counted last.
     pub used: Option<Used>,
     /// The moment of the last packet of which the router was told, in ms.
@@ -228,6 +230,7 @@ impl Plane {
             way: NOWHERE,
             is_unset: true,
             is_kept: false,
+            since: now,
             used: None,
             told: now,
             came_whole: false,
@@ -282,6 +285,21 @@ impl Plane {
                 entry.is_unset = put.is_err();
                 answer = answer.and(put);
             }
+        }
+        answer
+    }
+
+    /// Takes each entry out of the kernel and puts it there again, so that the kernel counts from 0. The first error is
+    /// answered.
+    pub fn write_anew<C: Cache + ?Sized>(&mut self, cache: &C) -> io::Result<()> {
+        let mut answer = Ok(());
+        for (key, entry) in &mut self.entries {
+            // The kernel has none where its interface went.
+            let _ = cache.remove(*key);
+            let put = cache.put(*key, entry.way.forwarded);
+            entry.is_unset = put.is_err();
+            entry.used = None;
+            answer = answer.and(put);
         }
         answer
     }

@@ -1,4 +1,5 @@
 //! The interfaces of the router, and what the kernel has of them.
+use crate::counters::Passing;
 use crate::netlink::{Change, Link};
 use crate::settings::{not_a_host, InterfaceSettings, Subnet};
 use std::collections::HashMap;
@@ -55,10 +56,8 @@ impl Machine {
         self.addresses.get(&index).map_or(&[], Vec::as_slice)
     }
 
-    /// The interface that has an address.
-    pub fn index_of(&self, address: Ipv4Addr) -> Option<u32> {
-        let has = |subnets: &[Subnet]| subnets.iter().any(|subnet| subnet.address == address);
-        self.addresses.iter().find(|(_, subnets)| has(subnets)).map(|(index, _)| *index)
+    pub fn has(&self, index: u32, address: Ipv4Addr) -> bool {
+        self.addresses(index).iter().any(|subnet| subnet.address == address)
     }
 
     /// The first address of an interface on which the router could be.
@@ -92,6 +91,7 @@ pub struct Passed {
     pub sent: u64,
     pub copies: u64,
     pub not_sent: u64,
+    pub messages: Passing,
 }
 
 /// An interface of the router. Its number stays as long as the daemon runs.
@@ -109,10 +109,14 @@ pub struct Port {
     /// The file hasn't it any more.
     pub is_removed: bool,
     pub standing: Standing,
+    /// When it went up last, in ms.
+    pub since: u64,
     /// The last Hello that left.
     pub hello: Option<Vec<u8>>,
     /// When it leaves again, in ms, where the library's own come too seldom.
     pub hello_due: Option<u64>,
+    /// The kernel's number of the interface on which BFD is heard for it.
+    pub bfd_index: Option<u32>,
     pub passed: Passed,
 }
 
@@ -132,8 +136,10 @@ impl Port {
             is_loopback: false,
             is_removed: false,
             standing: Standing::Down("it hasn't come up yet".to_string()),
+            since: 0,
             hello: None,
             hello_due: None,
+            bfd_index: None,
             passed: Passed::default(),
         }
     }
@@ -242,7 +248,7 @@ mod tests {
     use crate::settings;
 
     fn link(index: u32, name: &str, is_running: bool) -> Link {
-        Link { index, name: name.to_string(), mtu: 1500, is_running, is_loopback: name == "lo" }
+        Link { index, name: name.to_string(), mtu: 1500, is_running, is_loopback: name == "lo", vrf_table: None }
     }
 
     fn subnet(text: &str) -> Subnet {

@@ -167,10 +167,15 @@ fn each_alone(entries: &[Entry], told: &mut Vec<Route>) {
     }
 }
 
-/// The longest match among told routes, as (next hop, interface).
-pub fn longest(routes: &[Route], address: u32) -> Option<(u32, u32)> {
+/// The longest match among told routes.
+pub fn longest_route(routes: &[Route], address: u32) -> Option<&Route> {
     let fits = |route: &&Route| address & mask(route.length as u8) == u32::from(route.prefix);
-    routes.iter().filter(fits).max_by_key(|route| route.length).map(|route| (u32::from(route.next_hop), route.iface))
+    routes.iter().filter(fits).max_by_key(|route| route.length)
+}
+
+/// The same, as (next hop, interface).
+pub fn longest(routes: &[Route], address: u32) -> Option<(u32, u32)> {
+    longest_route(routes, address).map(|route| (u32::from(route.next_hop), route.iface))
 }
 
 #[cfg(test)]
@@ -192,7 +197,7 @@ mod tests {
     }
 
     fn settings() -> RouteSettings {
-        RouteSettings { table: 254, preference: 110, of_protocol: BTreeMap::from([(4, 1)]) }
+        RouteSettings { table: None, preference: 110, of_protocol: BTreeMap::from([(4, 1)]) }
     }
 
     fn kernel(prefix: &str, hops: &[(&str, u32)]) -> KernelRoute {

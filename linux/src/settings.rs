@@ -1,13 +1,16 @@
 //! The file of settings, read and checked: each problem has its line and a reason.
+use crate::bfd::Times;
+use crate::control::Place;
 use crate::log::LEVELS;
 use crate::policy::lists::{
     reserve, InterfacePolicy, List, PolicySettings, Rule, UsualQuotas, MOST_NEIGHBOURS, USUAL_NEIGHBOURS, USUAL_SOURCES,
 };
+use crate::tables::Domain;
 use log::LevelFilter;
 use serde::Deserialize;
 use std::collections::{BTreeMap, HashSet};
 use std::fmt;
-use std::net::Ipv4Addr;
+use std::net::{Ipv4Addr, SocketAddr};
 use std::path::PathBuf;
 use toml::Spanned;
 
@@ -17,7 +20,7 @@ pub const MOST_INTERFACES: usize = 31;
 pub const LOOPBACK: &str = "lo";
 const MOST_RANGES: usize = 256;
 const ALL_GROUPS: Ipv4Addr = Ipv4Addr::new(224, 0, 0, 0);
-pub const USUAL_SOCKET: &str = "/run/viqeshord/control";
+const USUAL_SOCKET: &str = "/run/viqeshord/control";
 /// By the names of the kernel's route protocols; `static` is also FRR's.
 const PROTOCOLS: [(&str, &[u8]); 12] = [
     ("kernel", &[2]),
@@ -114,6 +117,8 @@ pub struct InterfaceSettings {
     /// In ms.
     pub override_interval: u32,
     pub hello: HelloSettings,
+    /// Sessions with the neighbours there.
+    pub bfd: Option<Times>,
     pub policy: InterfacePolicy,
     /// Where it stands in the file.
     pub line: usize,
@@ -127,8 +132,8 @@ pub struct RpSettings {
 
 #[derive(Clone, Debug, PartialEq, Eq)]
 pub struct RouteSettings {
-    /// The kernel's table.
-    pub table: u32,
+    /// The kernel's table; else the one of the router's domain.
+    pub table: Option<u32>,
     pub preference: u32,
     /// By the kernel's number of a protocol.
     pub of_protocol: BTreeMap<u8, u32>,
@@ -156,7 +161,11 @@ pub struct Settings {
     pub policy: PolicySettings,
     pub routes: RouteSettings,
     pub level: LevelFilter,
-    pub socket: PathBuf,
+    /// Whose tables of the kernel the router goes by.
+    pub domain: Domain,
+    pub control: Place,
+    /// Where Prometheus is answered.
+    pub metrics: Option<SocketAddr>,
     /// Join/Prunes to a neighbour leave together.
     pub packs: bool,
 }
@@ -172,8 +181,14 @@ struct File {
     limit: Whole,
     spt: Text,
     log: Text,
+    table: Whole,
+    vrf: Text,
     socket: Option<PathBuf>,
+    socket_group: Option<String>,
+    socket_mode: Text,
     pack: Option<bool>,
+    #[serde(default)]
+    metrics: MetricsTable,
     #[serde(default)]
     igmp: IgmpTable,
     #[serde(default)]
@@ -184,6 +199,12 @@ struct File {
     interface: Vec<InterfaceTable>,
     #[serde(default)]
     rp: Vec<RpTable>,
+}
+
+#[derive(Deserialize, Default)]
+#[serde(deny_unknown_fields)]
+struct MetricsTable {
+    listen: Text,
 }
 
 #[derive(Deserialize, Default)]
@@ -239,6 +260,9 @@ struct InterfaceTable {
     override_interval: Whole,
     hello_interval: Option<Spanned<f64>>,
     hello_holdtime: Whole,
+    bfd: Option<bool>,
+    bfd_interval: Whole,
+    bfd_multiplier: Whole,
     passive: Option<bool>,
     neighbors: Option<Vec<Spanned<String>>>,
     join: Option<Vec<RuleTable>>,
@@ -428,6 +452,14 @@ impl Check<'_> {
         HelloSettings { interval, holdtime: holdtime as u16 }
     }
 
+    fn bfd(&mut self, table: &InterfaceTable) -> Option<Times> {
+        // Detection takes some tens of ms of a process at least, and of a machine that is busy.
+        const LEAST: u32 = 50;
+        let interval = self.within("bfd_interval", &table.bfd_interval, 300, LEAST, 60_000);
+        let multiplier = self.within("bfd_multiplier", &table.bfd_multiplier, 3, 2, 255);
+        table.bfd.unwrap_or(false).then_some(Times { interval, multiplier: multiplier as u8 })
+    }
+
     fn interface(&mut self, table: &InterfaceTable, of_all: &PolicyTable, usual: &UsualQuotas) -> InterfaceSettings {
         let address = table.address.as_ref().and_then(|given| {
             let subnet = self.subnet(given, "the address")?;
@@ -443,6 +475,7 @@ impl Check<'_> {
             propagation: self.within("propagation", &table.propagation, 500, 0, 32767),
             override_interval: self.within("override", &table.override_interval, 2500, 0, 65535),
             hello: self.hello(table),
+            bfd: self.bfd(table),
             policy: self.policy(table, of_all, usual),
             line: self.line(table.name.start()),
         }
@@ -537,7 +570,59 @@ impl Check<'_> {
                 }
             }
         }
-        RouteSettings { table: table.table.unwrap_or(254), preference, of_protocol }
+        RouteSettings { table: table.table, preference, of_protocol }
+    }
+
+    fn domain(&mut self, file: &File) -> Domain {
+        // As the register tunnel of a table is named by it; those above are the kernel's own.
+        const MOST: u32 = 999_999_999;
+        const OF_THE_KERNEL: std::ops::RangeInclusive<u32> = 253..=255;
+        const LONGEST_NAME: usize = 15;
+        match (&file.table, &file.vrf) {
+            (None, None) => Domain::Usual,
+            (Some(table), None) => {
+                let number = self.within("table", &file.table, 0, 1, MOST);
+                if OF_THE_KERNEL.contains(&number) {
+                    self.wrong(table.start(), format!("table is {number}, which is the kernel's own"));
+                }
+                Domain::Table(number)
+            }
+            (_, Some(vrf)) => {
+                let name = vrf.get_ref();
+                if file.table.is_some() {
+                    self.wrong(vrf.start(), "table and vrf can't both be given".to_string());
+                } else if name.is_empty() || name.len() > LONGEST_NAME || name.contains('/') {
+                    self.wrong(vrf.start(), format!("vrf \"{name}\" can't be the name of an interface"));
+                }
+                Domain::Vrf(name.clone())
+            }
+        }
+    }
+
+    fn control(&mut self, file: &File, domain: &Domain) -> Place {
+        let group = file.socket_group.clone();
+        let usual = if group.is_some() { 0o660 } else { 0o600 };
+        let read = |text: &String| u32::from_str_radix(text, 8).ok().filter(|mode| *mode <= 0o777);
+        let mode = match &file.socket_mode {
+            None => usual,
+            Some(given) => read(given.get_ref()).unwrap_or_else(|| {
+                let given_mode = given.get_ref();
+                self.wrong(given.start(), format!("socket_mode is \"{given_mode}\"; it is to be permissions in octal, for example \"0660\""));
+                usual
+            }),
+        };
+        let path = file.socket.clone().unwrap_or_else(|| usual_socket(domain.name().as_deref()));
+        Place { path, group, mode }
+    }
+
+    fn listen(&mut self, given: &Text) -> Option<SocketAddr> {
+        let given = given.as_ref()?;
+        let read = given.get_ref().parse().ok();
+        if read.is_none() {
+            let text = given.get_ref();
+            self.wrong(given.start(), format!("listen \"{text}\" isn't an address with a port, for example 127.0.0.1:9791"));
+        }
+        read
     }
 
     fn all(&mut self, file: &File) -> Settings {
@@ -550,7 +635,7 @@ impl Check<'_> {
             self.wrong(at, "query_response is to be below query_interval".to_string());
         }
         let limit = self.within("limit", &file.limit, 65536, 1, 1_000_000);
-        let usual = self.usual_quotas(limit, file);
+        let (usual, domain) = (self.usual_quotas(limit, file), self.domain(file));
         Settings {
             limit,
             stays_on_shared_tree: self.one_of("spt", &file.spt, &[("always", false), ("never", true)]),
@@ -563,10 +648,18 @@ impl Check<'_> {
             policy: self.policy_of_none(&file.policy, &usual),
             routes: self.routes(&file.routes),
             level: self.one_of("log", &file.log, &LEVELS),
-            socket: file.socket.clone().unwrap_or_else(|| USUAL_SOCKET.into()),
+            control: self.control(file, &domain),
+            domain,
+            metrics: self.listen(&file.metrics.listen),
             packs: file.pack.unwrap_or(true),
         }
     }
+}
+
+/// The control socket of a router that has a table or a VRF of its own, or of the usual one.
+pub fn usual_socket(instance: Option<&str>) -> PathBuf {
+    let of = |name: &str| format!("/run/viqeshord-{name}/control");
+    instance.map_or_else(|| USUAL_SOCKET.to_string(), of).into()
 }
 
 /// Why an interface of the router can't have the address.
@@ -656,8 +749,22 @@ mod tests {
             (eth0.priority, eth0.propagation, eth0.override_interval, eth0.address, eth0.line),
             (1, 500, 2500, None, 2)
         );
-        assert_eq!((it.routes.table, it.routes.preference_of(188)), (254, 110));
-        assert_eq!(eth0.hello, HelloSettings { interval: 300, holdtime: 105 });
+        assert_eq!((it.routes.table, it.routes.preference_of(188)), (None, 110));
+        assert_eq!((eth0.hello, eth0.bfd), (HelloSettings { interval: 300, holdtime: 105 }, None));
+        assert_eq!((it.control.path, it.control.group, it.control.mode), (USUAL_SOCKET.into(), None, 0o600));
+        assert_eq!(it.metrics, None);
+    }
+
+    #[test]
+    fn a_table_or_a_vrf_has_a_socket_of_its_own() {
+        let of = |line: &str| read(&format!("{line}\n{SMALL}")).map(|it| (it.domain, it.control.path));
+        assert_eq!(of("").unwrap(), (Domain::Usual, "/run/viqeshord/control".into()));
+        assert_eq!(of("table = 100").unwrap(), (Domain::Table(100), "/run/viqeshord-100/control".into()));
+        let red = (Domain::Vrf("red".to_string()), "/run/viqeshord-red/control".into());
+        assert_eq!(of("vrf = \"red\"").unwrap(), red);
+        for wrong in ["table = 0", "table = 254", "table = 1000000000", "vrf = \"a/b\"", "table = 7\nvrf = \"red\""] {
+            assert_eq!(of(wrong).unwrap_err().len(), 1, "{wrong}");
+        }
     }
 
     #[test]
@@ -670,16 +777,15 @@ mod tests {
 
     #[test]
     fn all_that_can_be_said_is_taken() {
-        let text = "limit = 9\nspt = \"never\"\nlog = \"debug\"\nsocket = \"/run/x\"\npack = false\n[igmp]\nrobustness = 3\n\
+        let text = "limit = 9\nspt = \"never\"\nlog = \"debug\"\nsocket = \"/run/x\"\nsocket_group = \"adm\"\npack = false\n[metrics]\nlisten = \"[::1]:9791\"\n[igmp]\nrobustness = 3\n\
             query_interval = 20\nquery_response = 1.5\nlast_member_query = 2\n\
             [routes]\ntable = 7\npreference = 5\n[routes.preferences]\nstatic = 1\n\
-            [[interface]]\nname = \"a\"\naddress = \"10.0.0.1/24\"\npriority = 7\npropagation = 1\noverride = 2\nhello_interval = 0.3\nhello_holdtime = 1\n\
+            [[interface]]\nname = \"a\"\naddress = \"10.0.0.1/24\"\npriority = 7\npropagation = 1\noverride = 2\nhello_interval = 0.3\nhello_holdtime = 1\nbfd = true\nbfd_interval = 100\n\
             [[rp]]\ngroups = \"239.0.0.0/8\"\naddress = \"10.0.0.1\"\n";
         let it = read(text).unwrap();
-        assert_eq!(
-            (it.limit, it.stays_on_shared_tree, it.level, it.socket, it.packs),
-            (9, true, LevelFilter::Debug, "/run/x".into(), false)
-        );
+        assert_eq!((it.limit, it.stays_on_shared_tree, it.level, it.packs), (9, true, LevelFilter::Debug, false));
+        let control = Place { path: "/run/x".into(), group: Some("adm".to_string()), mode: 0o660 };
+        assert_eq!((it.control, it.metrics.map(|at| at.to_string())), (control, Some("[::1]:9791".to_string())));
         assert_eq!((it.robustness, it.query_interval, it.query_response, it.last_member_query), (3, 20, 15, 20));
         let subnet = Subnet { address: Ipv4Addr::new(10, 0, 0, 1), length: 24 };
         let a = InterfaceSettings {
@@ -689,11 +795,12 @@ mod tests {
             propagation: 1,
             override_interval: 2,
             hello: HelloSettings { interval: 3, holdtime: 1 },
+            bfd: Some(Times { interval: 100, multiplier: 3 }),
             policy: it.interfaces[0].policy.clone(),
-            line: 17,
+            line: 20,
         };
         assert_eq!(it.interfaces, [a]);
-        assert_eq!((it.routes.table, it.routes.preference_of(196), it.routes.preference_of(188)), (7, 1, 5));
+        assert_eq!((it.routes.table, it.routes.preference_of(196), it.routes.preference_of(188)), (Some(7), 1, 5));
         assert_eq!(
             (it.rps[0].groups.to_string(), it.rps[0].address),
             ("239.0.0.0/8".to_string(), Ipv4Addr::new(10, 0, 0, 1))
@@ -709,6 +816,8 @@ mod tests {
         assert_eq!(only(&format!("{SMALL}address = \"10.0.0.1\"\n")).0, 3);
         assert_eq!(only(&format!("{SMALL}propagation = 32768\n")).0, 3);
         assert_eq!(only(&format!("{SMALL}hello_interval = 31\n")).0, 3);
+        assert_eq!(only(&format!("{SMALL}bfd = true\nbfd_interval = 49\n")).0, 4);
+        assert_eq!(only(&format!("{SMALL}bfd_multiplier = 1\n")).0, 3);
         assert_eq!(
             only(&format!("{SMALL}hello_interval = 2\nhello_holdtime = 2\n")),
             (4, "hello_holdtime is 2; it is to be 3 to 65535".to_string())
@@ -717,6 +826,8 @@ mod tests {
         assert_eq!(only(&format!("{SMALL}[[rp]]\ngroups = \"239.0.0.0/8\"\naddress = \"rp\"\n")).0, 5);
         assert_eq!(only(&format!("{SMALL}[[rp]]\ngroups = \"239.0.0.0/8\"\naddress = \"224.0.0.1\"\n")).0, 5);
         assert_eq!(only(&format!("{SMALL}[routes.preferences]\nospf = 1\nospv = 2\n")).0, 5);
+        assert_eq!(only(&format!("socket_mode = \"0668\"\n{SMALL}")).0, 1);
+        assert_eq!(only(&format!("{SMALL}[metrics]\nlisten = \"9791\"\n")).0, 4);
     }
 
     #[test]

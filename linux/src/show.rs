@@ -1,18 +1,66 @@
 //! What the router says of itself over the control socket, as tables of text and as JSON.
+pub mod joins;
+
 use crate::daemon::Daemon;
 use crate::error::Fatal;
+use crate::metrics::Kind;
 use crate::mroute::{Key, REGISTER_VIF};
 use crate::netlink::{Netlink, Used};
 use crate::plane::Entry;
 use crate::ports::{Port, Standing};
 use crate::routes::{longest, Counts};
 use crate::settings::{mask, RpSettings};
+use clap::ValueEnum;
 use serde_json::{json, Map, Value};
 use std::collections::{BTreeMap, BTreeSet, HashMap};
 use std::net::Ipv4Addr;
 use viqeshor::{Interfaces, Row, Table};
 
-pub const TOPICS: [&str; 6] = ["mroute", "neighbors", "igmp", "rp", "interfaces", "counters"];
+/// What can be shown.
+#[derive(Clone, Copy, Debug, PartialEq, Eq, ValueEnum)]
+pub enum Topic {
+    /// The kernel's forwarding cache, and who asks for what
+    Mroute,
+    /// PIM neighbours
+    Neighbors,
+    /// Groups and sources that hosts asked for
+    Igmp,
+    /// RPs, and the routes to them
+    Rp,
+    /// Interfaces, and why one is down
+    Interfaces,
+    /// What neighbours have joined
+    Joins,
+    /// What the router has joined, and where it sends Joins
+    Upstream,
+    /// Asserts, and who won
+    Asserts,
+    /// The routes to RPs and sources, or to one address
+    Rpf,
+    /// How often each counted thing happened
+    Counters,
+}
+
+impl Topic {
+    pub fn name(self) -> &'static str {
+        match self {
+            Topic::Mroute => "mroute",
+            Topic::Neighbors => "neighbors",
+            Topic::Igmp => "igmp",
+            Topic::Rp => "rp",
+            Topic::Interfaces => "interfaces",
+            Topic::Joins => "joins",
+            Topic::Upstream => "upstream",
+            Topic::Asserts => "asserts",
+            Topic::Rpf => "rpf",
+            Topic::Counters => "counters",
+        }
+    }
+
+    fn of(name: &str) -> Option<Topic> {
+        Topic::value_variants().iter().find(|topic| topic.name() == name).copied()
+    }
+}
 const SSM: (u32, u8) = (0xe800_0000, 8);
 /// States of `Table::Downstream`.
 const PRUNED: u32 = 3;
@@ -25,26 +73,43 @@ type Rows = Vec<Cells>;
 
 /// The answer to a line of a client.
 pub fn answer(daemon: &mut Daemon, line: &str) -> String {
-    let words: Vec<_> = line.split_whitespace().collect();
-    let (topic, is_json) = match words[..] {
-        ["show", topic] => (topic, false),
-        ["show", topic, "json"] => (topic, true),
+    let mut words: Vec<_> = line.split_whitespace().collect();
+    let is_json = words.last() == Some(&"json");
+    words.truncate(words.len() - usize::from(is_json));
+    let (name, about) = match words[..] {
+        ["show", name] => (name, None),
+        ["show", name @ "rpf", about] => (name, Some(about)),
         _ => return format!("error: \"{line}\" is nothing that can be asked\n"),
     };
-    let rows = match topic {
-        "mroute" => mroute(daemon),
-        "neighbors" => neighbours(daemon),
-        "igmp" => igmp(daemon),
-        "rp" => rp(daemon),
-        "interfaces" => interfaces(daemon),
-        "counters" => counters(daemon),
-        _ => return format!("error: there is no \"{topic}\" to show, but {}\n", TOPICS.join(", ")),
+    let topic = match Topic::of(name) {
+        Some(topic) => topic,
+        None => {
+            let names: Vec<_> = Topic::value_variants().iter().map(|topic| topic.name()).collect();
+            return format!("error: there is no \"{name}\" to show, but {}\n", names.join(", "));
+        }
     };
-    match rows {
+    match rows(daemon, topic, about) {
         Err(error) => format!("error: {error}\n"),
-        Ok(rows) if is_json => as_json(topic, rows),
+        Ok(rows) if is_json => as_json(name, rows),
         Ok(rows) => as_text(&rows),
     }
+}
+
+fn rows(daemon: &mut Daemon, topic: Topic, about: Option<&str>) -> Result<Rows, String> {
+    let to = about.map(|text| text.parse().map_err(|_| format!("\"{text}\" isn't an IPv4 address"))).transpose()?;
+    let rows = match topic {
+        Topic::Mroute => mroute(daemon),
+        Topic::Neighbors => neighbours(daemon),
+        Topic::Igmp => igmp(daemon),
+        Topic::Rp => rp(daemon),
+        Topic::Interfaces => interfaces(daemon),
+        Topic::Joins => joins::joins(daemon),
+        Topic::Upstream => joins::upstream(daemon),
+        Topic::Asserts => joins::asserts(daemon),
+        Topic::Rpf => joins::rpf(daemon, to),
+        Topic::Counters => counters(daemon),
+    };
+    rows.map_err(|error| error.to_string())
 }
 
 fn as_json(topic: &str, rows: Rows) -> String {
@@ -159,6 +224,7 @@ fn neighbours(daemon: &mut Daemon) -> Result<Rows, Fatal> {
             ("up_seconds", known.map_or(Value::Null, |known| seconds(now.saturating_sub(known.since)))),
             ("expires_seconds", until(row.end, now)),
             ("priority", known.map_or(Value::Null, |known| json!(known.priority))),
+            ("bfd", daemon.bfd_state(&(row.iface, row.source)).map_or(Value::Null, |state| json!(state.name()))),
             ("hello", known.map_or(Value::Null, |known| json!(known.said.split(": ").nth(1)))),
         ]
     };
@@ -166,7 +232,7 @@ fn neighbours(daemon: &mut Daemon) -> Result<Rows, Fatal> {
 }
 
 /// By RFC 7761, 4.3.2: the priorities count where all announce one.
-fn designated(daemon: &Daemon, port: &Port) -> Ipv4Addr {
+pub fn designated(daemon: &Daemon, port: &Port) -> Ipv4Addr {
     let here = daemon.neighbours.known.iter().filter(|((iface, _), _)| *iface == port.number);
     let others: Vec<_> = here.map(|((_, address), known)| (known.priority, *address)).collect();
     let all_announce = others.iter().all(|(priority, _)| priority.is_some());
@@ -187,6 +253,7 @@ fn interfaces(daemon: &mut Daemon) -> Result<Rows, Fatal> {
             ("address", port.subnet.map_or(Value::Null, |subnet| json!(subnet.to_string()))),
             ("vif", json!(port.vif)),
             ("is_up", json!(is_up)),
+            ("up_seconds", if is_up { seconds(daemon.now().saturating_sub(port.since)) } else { Value::Null }),
             ("dr", if is_up { json!(designated(daemon, port).to_string()) } else { Value::Null }),
             ("neighbors", json!(neighbours)),
             ("heard", json!(port.passed.heard)),
@@ -350,6 +417,7 @@ fn shared_trees(daemon: &Daemon, askers: &Askers) -> BTreeMap<(u32, u32), Cells>
             ("incoming", way.map_or(Value::Null, |iface| json!(daemon.name(iface)))),
             ("outgoing", json!(leaves)),
             ("forwarding", json!(if is_here { "this is the RP" } else { "by each source's entry" })),
+            ("up_seconds", Value::Null),
             ("packets", Value::Null),
             ("bytes", Value::Null),
             ("stray", Value::Null),
@@ -377,12 +445,13 @@ fn forwarding(entry: &Entry) -> &'static str {
 fn used(daemon: &Daemon) -> HashMap<Key, Used> {
     let before = || daemon.plane.entries().filter_map(|(key, entry)| Some((*key, entry.used?))).collect();
     // A socket of its own, since the router goes on to ask by the other one.
-    let read = Netlink::open().and_then(|mut netlink| netlink.used());
+    let table = daemon.kernel.multicast_table();
+    let read = Netlink::open().and_then(|mut netlink| netlink.used(table));
     read.map_or_else(|_| before(), |used| used.into_iter().map(|it| (it.key, it)).collect())
 }
 
 fn mroute(daemon: &mut Daemon) -> Result<Rows, Fatal> {
-    let used = used(daemon);
+    let (used, now) = (used(daemon), daemon.now());
     let active = rows_of(daemon, Table::Active)?;
     let states: BTreeMap<_, _> =
         active.iter().map(|row| ((u32::from(row.group), u32::from(row.source)), row)).collect();
@@ -412,6 +481,7 @@ fn mroute(daemon: &mut Daemon) -> Result<Rows, Fatal> {
             ("incoming", entry.way.accepted.map_or(Value::Null, |iface| json!(daemon.name(iface)))),
             ("outgoing", json!(outgoing)),
             ("forwarding", json!(forwarding(entry))),
+            ("up_seconds", seconds(now.saturating_sub(entry.since))),
             ("packets", used.map_or(Value::Null, |used| json!(used.packets))),
             ("bytes", used.map_or(Value::Null, |used| json!(used.bytes))),
             ("stray", used.map_or(Value::Null, |used| json!(used.stray))),
@@ -423,52 +493,79 @@ fn mroute(daemon: &mut Daemon) -> Result<Rows, Fatal> {
 
 // ---- counters
 
+/// A count of the router, with what it is for people and for Prometheus.
+pub struct Count {
+    pub words: &'static str,
+    pub metric: &'static str,
+    pub kind: Kind,
+    pub value: u64,
+}
+
+fn rises(words: &'static str, metric: &'static str, value: u64) -> Count {
+    Count { words, metric, kind: Kind::Counter, value }
+}
+
+fn stands(words: &'static str, metric: &'static str, value: usize) -> Count {
+    Count { words, metric, kind: Kind::Gauge, value: value as u64 }
+}
+
+/// All of them but those of interfaces and of reasons.
+pub fn counts(daemon: &Daemon) -> Vec<Count> {
+    let mut all = counts_of_events(daemon);
+    all.extend(counts_of_the_kernel(daemon));
+    all
+}
+
+fn counts_of_events(daemon: &Daemon) -> Vec<Count> {
+    let it = &daemon.counters;
+    let refused = it.refused.values().sum();
+    let memory = daemon.core.refused_memory;
+    vec![
+        rises("events given to the router", "events_total", it.events),
+        rises("events that it ignored", "events_ignored_total", it.ignored),
+        rises("events that it refused", "events_all_refused_total", refused),
+        rises("times that memory was refused to the library for a table", "library_memory_refusals_total", memory),
+        rises("messages that a full router was offered in parts", "messages_split_total", it.split),
+        rises("parts offered", "parts_offered_total", it.parts),
+        rises("parts taken", "parts_taken_total", it.parts_taken),
+        rises("reports of programs on the router", "own_reports_total", it.own_reports),
+        rises("unicasts heard", "unicasts_received_total", it.unicasts_heard),
+        rises("unicasts sent", "unicasts_sent_total", it.unicasts_sent),
+        rises("unicasts that couldn't be sent", "unicasts_not_sent_total", it.unicasts_not_sent),
+        rises("packets for which the kernel had no entry", "kernel_no_cache_total", it.no_cache),
+        rises("strays that the kernel told", "kernel_strays_total", it.strays),
+        rises("packets that the kernel handed up whole", "kernel_whole_packets_total", it.whole),
+        rises("fragments and long packets that a short one stood for", "long_packets_total", it.stood_in),
+        rises("checksums filled in", "checksums_filled_total", it.checksums_filled),
+        rises("Join/Prunes that left in a packet with others", "join_prunes_packed_total", it.packed),
+        rises("times that the router was made anew", "router_made_anew_total", it.made_anew),
+        rises("sources of which the kernel's counts told", "sources_kept_total", it.kept),
+        rises("packets of which the router was told that they were seen", "packets_seen_total", it.seen),
+    ]
+}
+
+fn counts_of_the_kernel(daemon: &Daemon) -> Vec<Count> {
+    let (it, routes) = (&daemon.counters, &daemon.routing.counts);
+    vec![
+        stands("entries in the kernel's forwarding cache", "mroute_entries", daemon.plane.len()),
+        rises("rows told to the kernel", "kernel_entries_written_total", it.entries_written),
+        rises("rows withdrawn from the kernel", "kernel_entries_removed_total", it.entries_removed),
+        rises("rows that the kernel refused", "kernel_entries_refused_total", it.entries_refused),
+        stands("routes told to the router", "routes", daemon.routing.told.len()),
+        stands("kernel routes taken by their next hop", "kernel_routes_taken", routes.by_next_hop),
+        stands("kernel routes taken that have several next hops", "kernel_routes_multipath", routes.multipath),
+        stands("kernel routes left out for a lower metric", "kernel_routes_higher_metric", routes.higher_metric),
+        stands("kernel routes that refuse packets", "kernel_routes_refusing", routes.refusing),
+        stands("kernel routes elsewhere", "kernel_routes_elsewhere", routes.elsewhere),
+    ]
+}
+
 fn counters(daemon: &mut Daemon) -> Result<Rows, Fatal> {
-    let it = daemon.counters.clone();
-    let refused: u64 = it.refused.values().sum();
-    let routes = daemon.routing.counts;
-    let mut found = vec![
-        ("seconds since the router began", daemon.now() / 1000),
-        ("events given to the router", it.events),
-        ("events that it ignored", it.ignored),
-        ("events that it refused", refused),
-    ];
-    let reasons: Vec<_> = it
-        .refused
-        .iter()
-        .map(|(number, count)| (format!("  of these: {}", viqeshor::answer_text(*number)), *count))
-        .collect();
-    let more = [
-        ("messages that a full router was offered in parts", it.split),
-        ("parts offered", it.parts),
-        ("parts taken", it.parts_taken),
-        ("reports of programs on the router", it.own_reports),
-        ("unicasts heard", it.unicasts_heard),
-        ("unicasts sent", it.unicasts_sent),
-        ("unicasts that couldn't be sent", it.unicasts_not_sent),
-        ("packets for which the kernel had no entry", it.no_cache),
-        ("strays that the kernel told", it.strays),
-        ("packets that the kernel handed up whole", it.whole),
-        ("fragments and long packets that a short one stood for", it.stood_in),
-        ("checksums filled in", it.checksums_filled),
-        ("Join/Prunes that left in a packet with others", it.packed),
-        ("entries in the kernel's forwarding cache", daemon.plane.len() as u64),
-        ("rows told to the kernel", it.entries_written),
-        ("rows withdrawn from the kernel", it.entries_removed),
-        ("rows that the kernel refused", it.entries_refused),
-        ("times that the router was made anew", it.made_anew),
-        ("sources of which the kernel's counts told", it.kept),
-        ("packets of which the router was told that they were seen", it.seen),
-        ("routes told to the router", daemon.routing.told.len() as u64),
-        ("kernel routes taken by their next hop", routes.by_next_hop as u64),
-        ("  of these with several next hops", routes.multipath as u64),
-        ("kernel routes left out for a lower metric", routes.higher_metric as u64),
-        ("kernel routes that refuse packets", routes.refusing as u64),
-        ("kernel routes elsewhere", routes.elsewhere as u64),
-    ];
-    let first = found.drain(..).map(|(name, count)| (name.to_string(), count));
-    let more = more.into_iter().map(|(name, count)| (name.to_string(), count));
-    let all = first.chain(reasons).chain(more).chain(daemon.policy.refusals.counts());
+    let began = [("seconds since the router began".to_string(), daemon.now() / 1000)].into_iter();
+    let counts = counts(daemon).into_iter().map(|it| (it.words.to_string(), it.value));
+    let refused = daemon.counters.refused.iter();
+    let reasons = refused.map(|(number, count)| (format!("refused: {}", viqeshor::answer_text(*number)), *count));
+    let all = began.chain(counts).chain(reasons).chain(daemon.policy.refusals.counts());
     Ok(all.map(|(name, count)| vec![("counter", json!(name)), ("count", json!(count))]).collect())
 }
 

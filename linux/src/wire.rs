@@ -1,7 +1,9 @@
 //! The sockets by which packets come and leave.
+use crate::bfd;
 use crate::packet::{Packet, IGMP, PIM};
+use rand::Rng;
 use socket2::{Domain, Protocol, SockAddr, Socket, Type};
-use std::collections::HashMap;
+use std::collections::hash_map::{Entry, HashMap};
 use std::io;
 use std::mem::{size_of, zeroed, MaybeUninit};
 use std::net::{Ipv4Addr, SocketAddrV4};
@@ -45,6 +47,26 @@ pub fn set_option<T>(socket: &Socket, level: i32, option: i32, value: &T) -> io:
     match unsafe { libc::setsockopt(socket.as_raw_fd(), level, option, place.cast(), length) } {
         0 => Ok(()),
         _ => Err(io::Error::last_os_error()),
+    }
+}
+
+/// What a socket is limited to.
+#[derive(Clone, Debug, PartialEq, Eq)]
+pub enum Scope {
+    All,
+    /// What it sends bears a mark.
+    Mark(u32),
+    /// It is of a VRF.
+    Device(String),
+}
+
+impl Scope {
+    pub fn limit(&self, socket: &Socket) -> io::Result<()> {
+        match self {
+            Scope::All => Ok(()),
+            Scope::Mark(mark) => socket.set_mark(*mark),
+            Scope::Device(name) => socket.bind_device(Some(name.as_bytes())),
+        }
     }
 }
 
@@ -149,8 +171,9 @@ pub struct OwnReports {
 }
 
 impl OwnReports {
-    pub fn open() -> io::Result<OwnReports> {
+    pub fn open(scope: &Scope) -> io::Result<OwnReports> {
         let socket = Socket::new(Domain::IPV4, Type::RAW, Some(Protocol::from(i32::from(IGMP))))?;
+        scope.limit(&socket)?;
         // What the machine sent itself, and no message of its multicast routing, which has the protocol 0.
         socket.attach_filter(&[
             instruction(LOAD_WORD, 0, 0, SKF_AD_PKTTYPE),
@@ -201,11 +224,13 @@ impl AsRawFd for Links {
 pub struct Unicasts {
     heard: Socket,
     sent: Socket,
+    scope: Scope,
 }
 
 impl Unicasts {
-    pub fn open() -> io::Result<Unicasts> {
+    pub fn open(scope: Scope) -> io::Result<Unicasts> {
         let heard = Socket::new(Domain::IPV4, Type::RAW, Some(Protocol::from(i32::from(PIM))))?;
+        scope.limit(&heard)?;
         heard.attach_filter(&[
             instruction(LOAD_BYTE, 0, 0, 16),
             instruction(AND, 0, 0, 0xf0),
@@ -216,8 +241,9 @@ impl Unicasts {
         heard.set_nonblocking(true)?;
         room_for_bursts(&heard);
         let sent = Socket::new(Domain::IPV4, Type::RAW, Some(Protocol::from(libc::IPPROTO_RAW)))?;
+        scope.limit(&sent)?;
         sent.set_nonblocking(true)?;
-        Ok(Unicasts { heard, sent })
+        Ok(Unicasts { heard, sent, scope })
     }
 
     pub fn hear<'a>(&self, room: &'a mut [MaybeUninit<u8>]) -> io::Result<Option<&'a [u8]>> {
@@ -230,16 +256,17 @@ impl Unicasts {
         let whole = Packet::read(packet).ok_or(io::ErrorKind::InvalidInput)?;
         let to = SockAddr::from(SocketAddrV4::new(whole.destination(), 0));
         match self.sent.send_to(packet, &to) {
-            Err(error) if error.raw_os_error() == Some(libc::EMSGSIZE) => send_in_fragments(whole, &to),
+            Err(error) if error.raw_os_error() == Some(libc::EMSGSIZE) => send_in_fragments(whole, &to, &self.scope),
             other => other.map(|_| ()),
         }
     }
 }
 
-fn send_in_fragments(packet: Packet, to: &SockAddr) -> io::Result<()> {
+fn send_in_fragments(packet: Packet, to: &SockAddr, scope: &Scope) -> io::Result<()> {
     let socket = Socket::new(Domain::IPV4, Type::RAW, Some(Protocol::from(i32::from(packet.protocol()))))?;
     // What comes to it is nobody's.
     socket.attach_filter(&[instruction(RETURN, 0, 0, 0)])?;
+    scope.limit(&socket)?;
     socket.bind(&SockAddr::from(SocketAddrV4::new(packet.source(), 0)))?;
     socket.set_ttl(u32::from(packet.ttl()))?;
     socket.set_tos(u32::from(packet.header()[1]))?;
@@ -250,6 +277,89 @@ fn send_in_fragments(packet: Packet, to: &SockAddr) -> io::Result<()> {
 impl AsRawFd for Unicasts {
     fn as_raw_fd(&self) -> RawFd {
         self.heard.as_raw_fd()
+    }
+}
+
+/// Hears and sends packets of BFD (RFC 5881).
+#[derive(Default)]
+pub struct Liveness {
+    /// By the kernel's number of an interface.
+    listeners: HashMap<u32, Socket>,
+    /// By the same, and the other side.
+    senders: HashMap<(u32, Ipv4Addr), Socket>,
+}
+
+impl Liveness {
+    /// An interface on which it is to be heard: what a router between might have sent on isn't.
+    pub fn hear_on(&mut self, index: u32, name: &str) -> io::Result<()> {
+        const SKF_NET_OFF: u32 = -0x10_0000i32 as u32;
+        const TTL_AT: u32 = 8;
+        let socket = Socket::new(Domain::IPV4, Type::DGRAM, None)?;
+        socket.bind_device(Some(name.as_bytes()))?;
+        socket.attach_filter(&[
+            instruction(LOAD_BYTE, 0, 0, SKF_NET_OFF + TTL_AT),
+            instruction(IF_EQUAL, 0, 1, u32::from(bfd::TTL)),
+            instruction(RETURN, 0, 0, u32::MAX),
+            instruction(RETURN, 0, 0, 0),
+        ])?;
+        socket.set_nonblocking(true)?;
+        socket.bind(&SockAddr::from(SocketAddrV4::new(Ipv4Addr::UNSPECIFIED, bfd::PORT)))?;
+        self.listeners.insert(index, socket);
+        Ok(())
+    }
+
+    pub fn hear_no_more(&mut self, index: u32) {
+        self.listeners.remove(&index);
+        self.senders.retain(|(of, _), _| *of != index);
+    }
+
+    pub fn waits(&self) -> impl Iterator<Item = RawFd> + '_ {
+        self.listeners.values().map(AsRawFd::as_raw_fd)
+    }
+
+    /// The next packet, with the kernel's number of its interface, and whose it is.
+    pub fn hear(&self, room: &mut [MaybeUninit<u8>]) -> io::Result<Option<(u32, Ipv4Addr, Vec<u8>)>> {
+        for (index, socket) in &self.listeners {
+            let (received, from) = match socket.recv_from(room) {
+                Ok((length, from)) => (Ok(length), from.as_socket_ipv4().map(|from| *from.ip())),
+                Err(error) => (Err(error), None),
+            };
+            if let (Some(packet), Some(from)) = (waiting(received, room)?, from) {
+                return Ok(Some((*index, from, packet.to_vec())));
+            }
+        }
+        Ok(None)
+    }
+
+    /// Each session has a socket, and so a port of its own.
+    pub fn send(&mut self, link: (u32, &str), ends: (Ipv4Addr, Ipv4Addr), packet: &[u8]) -> io::Result<()> {
+        let (from, to) = ends;
+        let socket = match self.senders.entry((link.0, to)) {
+            Entry::Occupied(found) => found.into_mut(),
+            Entry::Vacant(place) => place.insert(Liveness::sender(link.1, from)?),
+        };
+        socket.send_to(packet, &SockAddr::from(SocketAddrV4::new(to, bfd::PORT))).map(|_| ())
+    }
+
+    fn sender(name: &str, from: Ipv4Addr) -> io::Result<Socket> {
+        const TRIES: usize = 64;
+        const NETWORK_CONTROL: u32 = 0xc0;
+        let socket = Socket::new(Domain::IPV4, Type::DGRAM, None)?;
+        socket.bind_device(Some(name.as_bytes()))?;
+        socket.set_nonblocking(true)?;
+        socket.set_ttl(u32::from(bfd::TTL))?;
+        socket.set_tos(NETWORK_CONTROL)?;
+        // What comes to it is nobody's.
+        socket.attach_filter(&[instruction(RETURN, 0, 0, 0)])?;
+        let ports = (0..TRIES).map(|_| rand::thread_rng().gen_range(bfd::SOURCE_PORTS));
+        let mut last = io::Error::from(io::ErrorKind::AddrInUse);
+        for port in ports {
+            match socket.bind(&SockAddr::from(SocketAddrV4::new(from, port))) {
+                Ok(()) => return Ok(socket),
+                Err(error) => last = error,
+            }
+        }
+        Err(last)
     }
 }
 

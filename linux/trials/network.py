@@ -12,7 +12,9 @@ from typing import Any
 HERE = Path(__file__).resolve().parent.parent
 FRR = Path("/usr/lib/frr")
 PLACES = ("source", "first", "second", "router", "hosts", "viewer", "lan", "asker")
-NAMES = {place: f"vq-{place}-{os.getpid()}" for place in PLACES}
+# Of a trial of its own.
+MORE_PLACES = ("red-source", "red-host", "blue-source", "blue-host")
+NAMES = {place: f"vq-{place}-{os.getpid()}" for place in (*PLACES, *MORE_PLACES)}
 LINKS = [
     ("source", "10.1.0.50/24", "first", "10.1.0.1/24"),
     ("first", "10.2.0.1/24", "router", "10.2.0.2/24"),
@@ -118,7 +120,7 @@ class Network:
             ip(place, "link", "set", port, "up")
 
     def lay_out(self) -> None:
-        for name in NAMES.values():
+        for name in map(NAMES.get, PLACES):
             run("ip", "netns", "add", name)
             run("ip", "-n", name, "link", "set", "lo", "up")
         ip("lan", "link", "add", "bridge", "type", "bridge", "mcast_snooping", "0")

@@ -139,8 +139,8 @@ def archive(router: Path, how: str) -> Path:
     """The archive, of a router's, that says how it was built. The kit's few lines of C around malloc are in it, or are
     put there."""
     made, tool = ROOM / "libviqeshor.a", archiver()
-    made.unlink(missing_ok=True)
-    shutil.copyfile(router, made)
+    # The router's archive may be the one that is made.
+    put(made, router.read_bytes())
     if HEAP not in ran([tool, "t", made]).decode().split():
         with tempfile.TemporaryDirectory(dir=ROOM) as room:
             ran([tool, "x", kit.kit() / "c" / "liblibc_c.a", HEAP], cwd=room)

@@ -1,6 +1,6 @@
 //! What comes from other routers and from hosts: PIM and IGMP.
 use super::{Answer, Daemon, Event, Fatal, Ledger, Neighbour};
-use crate::packet::{as_of_nobody, fill_registered, is_pim, is_report, priority_of, Packet};
+use crate::packet::{as_of_nobody, fill_registered, is_pim, is_report, message_of, priority_of, Packet};
 use crate::policy::registered;
 use crate::{split, stand_in, words};
 use log::{debug, info};
@@ -42,7 +42,9 @@ impl Daemon {
     /// IGMP of a program on the machine came: its reports are heard as those of a host that has no address.
     pub(super) fn heard_own(&mut self, bytes: &[u8]) -> Result<(), Fatal> {
         let from = Packet::read(bytes).filter(|_| is_report(bytes)).map(Packet::source);
-        let index = from.and_then(|from| self.machine.index_of(from));
+        // Another router's interface may have the same address, in another VRF.
+        let indices = || self.ports.iter().filter_map(|port| port.index);
+        let index = from.and_then(|from| indices().find(|index| self.machine.has(*index, from)));
         if let Some(index) = index {
             self.counters.own_reports += 1;
             return self.heard(index, &as_of_nobody(bytes));
@@ -51,7 +53,9 @@ impl Daemon {
     }
 
     fn heard_on(&mut self, number: u32, bytes: &[u8]) -> Result<(), Fatal> {
-        self.ports[number as usize].passed.heard += 1;
+        let passed = &mut self.ports[number as usize].passed;
+        passed.heard += 1;
+        passed.messages.received.count(Packet::read(bytes).and_then(message_of));
         debug!("hears on {}: {}", self.name(number), words::of(bytes));
         let Daemon { policy, core, kernel, .. } = self;
         let let_in = match policy.frame(&mut Ledger { core, kernel: kernel.as_ref() }, number, bytes) {
@@ -68,7 +72,7 @@ impl Daemon {
     }
 
     /// A message that the library reads: one that came in fragments may be longer, and is taken in parts.
-    fn take_part(&mut self, number: u32, let_in: &[u8]) -> Result<(), Fatal> {
+    pub(super) fn take_part(&mut self, number: u32, let_in: &[u8]) -> Result<(), Fatal> {
         if let Some(packet) = Packet::read(let_in).filter(|packet| is_pim(*packet, 0)) {
             self.neighbours.hellos.insert((number, packet.source()), (words::of(let_in), priority_of(packet)));
             self.neighbours.are_stale = true;
@@ -111,6 +115,7 @@ impl Daemon {
     pub(super) fn heard_unicast(&mut self, bytes: &[u8]) -> Result<(), Fatal> {
         self.advance()?;
         self.counters.unicasts_heard += 1;
+        self.counters.unicasts.received.count(Packet::read(bytes).and_then(message_of));
         let mut bytes = bytes.to_vec();
         self.counters.checksums_filled += u64::from(fill_registered(&mut bytes));
         debug!("takes {}", words::of(&bytes));

@@ -62,6 +62,7 @@ impl Daemon {
         }
         let name = self.ports[number].settings.name.clone();
         self.ports[number].standing = Standing::Up;
+        self.ports[number].since = self.now();
         info!("{name} goes up, with {}", self.ports[number].told_subnet());
         if self.kernel.is_filter_strict(&name) {
             warn!(
@@ -76,11 +77,12 @@ impl Daemon {
         Ok(())
     }
 
-    fn goes_down(&mut self, number: usize, why: String) -> Result<(), Fatal> {
+    pub(super) fn goes_down(&mut self, number: usize, why: String) -> Result<(), Fatal> {
         let was_up = self.ports[number].standing.is_up();
         warn!("{} is down: {why}", self.ports[number].settings.name);
         self.ports[number].standing = Standing::Down(why);
         self.ports[number].hello_due = None;
+        self.neighbours.are_stale = true;
         if let Some(vif) = self.ports[number].vif.take() {
             // The kernel has let it go by itself where the link is gone.
             let _ = self.kernel.remove_vif(vif);

@@ -1,7 +1,7 @@
 //! The daemon with the library and a machine that is none: what its kernel is told, and what leaves, after some events.
 use super::*;
 use crate::kernel::{self, Source};
-use crate::mroute::{Forwarded, Upcall, REGISTER_VIF};
+use crate::mroute::{Carried, Forwarded, Upcall, REGISTER_VIF};
 use crate::netlink::{Change, Link, Used};
 use crate::packet::{put_checksum, with_content, IGMP, PIM, UDP};
 use crate::plane::Cache;
@@ -23,6 +23,7 @@ struct Fake {
     used: RefCell<Vec<Used>>,
     has_no_memory: Cell<bool>,
     sent: RefCell<Vec<(u32, Vec<u8>)>>,
+    bfd: RefCell<Vec<(Ipv4Addr, Vec<u8>)>>,
     unicasts: RefCell<Vec<Vec<u8>>>,
 }
 
@@ -62,8 +63,14 @@ impl Kernel for Handle {
     }
 
     fn links(&mut self) -> io::Result<Vec<Link>> {
-        let link =
-            |index, name: &str| Link { index, name: name.to_string(), mtu: 1500, is_running: true, is_loopback: false };
+        let link = |index, name: &str| Link {
+            index,
+            name: name.to_string(),
+            mtu: 1500,
+            is_running: true,
+            is_loopback: false,
+            vrf_table: None,
+        };
         Ok(vec![link(ETH0, "eth0"), link(ETH1, "eth1")])
     }
 
@@ -71,7 +78,11 @@ impl Kernel for Handle {
         Ok(self.0.addresses.borrow().clone())
     }
 
-    fn routes(&mut self, _: u32) -> io::Result<Vec<KernelRoute>> {
+    fn multicast_table(&self) -> u32 {
+        253
+    }
+
+    fn routes(&mut self, _: Option<u32>) -> io::Result<Vec<KernelRoute>> {
         let hop = Hop { gateway: Some(Ipv4Addr::new(10, 1, 0, 2).into()), index: ETH0, is_dead: false };
         let prefix = Ipv4Addr::new(10, 9, 0, 0).into();
         Ok(vec![KernelRoute { prefix, length: 16, kind: Kind::Unicast, metric: 1, protocol: 4, hops: vec![hop] }])
@@ -93,8 +104,23 @@ impl Kernel for Handle {
         Ok(self.0.used.borrow().clone())
     }
 
+    fn carried(&self, vif: u16) -> io::Result<Carried> {
+        Ok(Carried { packets_in: 10 + u64::from(vif), ..Carried::default() })
+    }
+
     fn send_on(&mut self, index: u32, packet: &[u8]) -> io::Result<()> {
         self.0.sent.borrow_mut().push((index, packet.to_vec()));
+        Ok(())
+    }
+
+    fn hear_bfd_on(&mut self, _: u32) -> io::Result<()> {
+        Ok(())
+    }
+
+    fn hear_bfd_no_more(&mut self, _: u32) {}
+
+    fn send_bfd(&mut self, _: u32, ends: (Ipv4Addr, Ipv4Addr), packet: &[u8]) -> io::Result<()> {
+        self.0.bfd.borrow_mut().push((ends.1, packet.to_vec()));
         Ok(())
     }
 
@@ -428,3 +454,6 @@ fn the_unknown_are_asked_for_anew_where_their_group_moves() {
     happens(&mut daemon, &fake, report(ETH1, [10, 5, 0, 77], one.group));
     assert!(fake.entry(one) != fake.entry(other));
 }
+
+mod liveness;
+mod shown;

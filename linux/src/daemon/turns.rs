@@ -1,13 +1,17 @@
 //! The loop: what waits at the sockets, what is due by the clock, and what signals ask for.
+use super::cleared::Lines;
 use super::{Answer, Daemon, Event, Fatal};
+use crate::bfd::Session;
 use crate::control::Control;
 use crate::core::ranges_of;
 use crate::kernel::{self, Source};
 use crate::packet::with_holdtime;
-use crate::{settings, show, words};
+use crate::server::Server;
+use crate::{metrics, settings, words};
 use log::{debug, error, info, warn};
 use nix::poll::{poll, PollFd, PollFlags};
 use signal_hook::consts::{SIGHUP, SIGINT, SIGTERM};
+use std::net::SocketAddr;
 use std::os::unix::io::AsRawFd;
 use std::os::unix::net::UnixStream;
 use std::sync::atomic::{AtomicBool, Ordering};
@@ -48,6 +52,46 @@ impl Asked {
     }
 }
 
+/// Where clients ask.
+struct Servers {
+    control: Control,
+    metrics: Option<(SocketAddr, Server)>,
+}
+
+impl Servers {
+    fn open(settings: &settings::Settings) -> Result<Servers, Fatal> {
+        let path = || settings.control.path.clone();
+        let control = Control::open(&settings.control).map_err(|error| Fatal::Control { path: path(), error })?;
+        let listen = |at| metrics::listen(at).map(|server| (at, server)).map_err(|error| Fatal::Metrics { at, error });
+        Ok(Servers { control, metrics: settings.metrics.map(listen).transpose()? })
+    }
+
+    /// Listens for Prometheus where other settings say. Where it can't, nobody is answered.
+    fn take_settings(&mut self, settings: &settings::Settings) {
+        if self.metrics.as_ref().map(|(at, _)| *at) == settings.metrics {
+            return;
+        }
+        self.metrics = None;
+        if let Some(at) = settings.metrics {
+            match metrics::listen(at) {
+                Ok(server) => self.metrics = Some((at, server)),
+                Err(error) => error!("{}", Fatal::Metrics { at, error }),
+            }
+        }
+    }
+
+    fn each(&self) -> impl Iterator<Item = &Server> {
+        std::iter::once(&*self.control).chain(self.metrics.iter().map(|(_, server)| server))
+    }
+
+    fn serve(&mut self, daemon: &mut Daemon) {
+        self.control.serve(&mut Lines(daemon));
+        if let Some((_, server)) = &mut self.metrics {
+            server.serve(&mut metrics::Http(daemon));
+        }
+    }
+}
+
 impl Daemon {
     /// The settings anew. A file with a problem changes nothing.
     fn reload(&mut self) -> Result<(), Fatal> {
@@ -64,9 +108,13 @@ impl Daemon {
     }
 
     pub(super) fn take_settings(&mut self, mut new: settings::Settings) -> Result<(), Fatal> {
-        if new.socket != self.settings.socket {
-            warn!("socket differs in the file: it is taken by a restart");
-            new.socket = self.settings.socket.clone();
+        if new.control != self.settings.control {
+            warn!("socket differs in the file, or socket_group or socket_mode: it is taken by a restart");
+            new.control = self.settings.control.clone();
+        }
+        if new.domain != self.settings.domain {
+            warn!("table or vrf differs in the file: it is taken by a restart");
+            new.domain = self.settings.domain.clone();
         }
         log::set_max_level(new.level);
         let (are_rps_new, is_router_new) = (new.rps != self.settings.rps, self.settings.differs_in_router(&new));
@@ -74,6 +122,7 @@ impl Daemon {
         crate::ports::take_settings(&mut self.ports, &self.settings.interfaces);
         self.set_policy();
         self.repeat_hellos_anew();
+        self.neighbours.are_stale = true;
         if is_router_new {
             self.make_anew("the settings differ")?;
         } else if are_rps_new {
@@ -100,24 +149,25 @@ impl Daemon {
     /// Until it is asked to end, or can't go on.
     pub fn run(&mut self) -> Result<(), Fatal> {
         let asked = Asked::new().map_err(Fatal::Signals)?;
-        let path = self.settings.socket.clone();
-        let mut control = Control::open(&path).map_err(|error| Fatal::Control { path, error })?;
+        let mut servers = Servers::open(&self.settings)?;
         info!(
-            "the router begins: {} interfaces, {} RP ranges, the library {}",
+            "the router begins in {}: {} interfaces, {} RP ranges, the library {}",
+            self.settings.domain,
             self.ports.len(),
             self.settings.rps.len(),
             viqeshor::version()
         );
         self.begin()?;
         while !asked.end.load(Ordering::Relaxed) {
-            self.wait(&asked, &control)?;
+            self.wait(&asked, &servers)?;
             asked.forget_wakes();
             if asked.reload.swap(false, Ordering::Relaxed) {
                 self.reload()?;
+                servers.take_settings(&self.settings);
             }
             self.turn()?;
             self.house_keeping()?;
-            control.serve(&mut |line| show::answer(self, line));
+            servers.serve(self);
         }
         self.say_goodbye();
         Ok(())
@@ -133,10 +183,10 @@ impl Daemon {
         Ok(())
     }
 
-    fn wait(&mut self, asked: &Asked, control: &Control) -> Result<(), Fatal> {
+    fn wait(&mut self, asked: &Asked, servers: &Servers) -> Result<(), Fatal> {
         let own = self.kernel.waits().into_iter().chain([asked.wakes.as_raw_fd()]);
         let mut waits: Vec<_> = own.map(|fd| PollFd::new(fd, PollFlags::POLLIN)).collect();
-        waits.extend(control.waits().into_iter().map(|fd| PollFd::new(fd, PollFlags::POLLIN)));
+        waits.extend(servers.each().flat_map(Server::waits).map(|fd| PollFd::new(fd, PollFlags::POLLIN)));
         let due = &self.due;
         let times = [
             self.core.next_moment(),
@@ -145,8 +195,9 @@ impl Daemon {
             due.unset,
             due.anew,
             due.learned,
-            control.due().map(|left| self.kernel.now() + left),
+            servers.each().filter_map(Server::due).min().map(|left| self.kernel.now() + left),
             self.ports.iter().filter_map(|port| port.hello_due).min(),
+            self.sessions.values().map(Session::due).min(),
         ];
         let next = times.into_iter().flatten().fold(due.look, u64::min);
         match poll(&mut waits, next.saturating_sub(self.now()).min(LOOK_EVERY) as i32) {
@@ -159,6 +210,7 @@ impl Daemon {
     pub(super) fn turn(&mut self) -> Result<(), Fatal> {
         for (source, most) in [
             (Source::Changes, usize::MAX),
+            (Source::Bfd, TURN),
             (Source::Upcalls, TURN),
             (Source::Unicasts, TURN),
             (Source::OwnReports, TURN),
@@ -189,6 +241,7 @@ impl Daemon {
             kernel::Event::Unicast(packet) => self.heard_unicast(&packet),
             kernel::Event::OwnReport(packet) => self.heard_own(&packet),
             kernel::Event::Frame { index, packet } => self.heard(index, &packet),
+            kernel::Event::Bfd { index, from, packet } => self.heard_bfd(index, from, &packet),
             kernel::Event::Nothing => Ok(()),
         }
     }
@@ -222,8 +275,10 @@ impl Daemon {
             self.set_again();
         }
         self.repeat_hellos();
+        self.keep_sessions()?;
         if self.neighbours.are_stale {
             self.watch_neighbours()?;
+            self.watch_sessions();
         }
         Ok(())
     }
@@ -249,6 +304,8 @@ impl Daemon {
 
     /// Each neighbour is told at once that the router goes.
     fn say_goodbye(&mut self) {
+        let places: Vec<_> = self.sessions.keys().copied().collect();
+        places.into_iter().for_each(|place| self.end_session(place));
         for port in self.ports.iter().filter(|port| port.standing.is_up()) {
             if let (Some(said), Some(index)) =
                 (port.hello.as_deref().and_then(|hello| with_holdtime(hello, 0)), port.index)

@@ -24,6 +24,27 @@ pub enum Cause {
     OldHost,
 }
 
+impl Cause {
+    /// Its name among the labels of metrics.
+    pub fn name(self) -> &'static str {
+        match self {
+            Cause::Passive => "passive",
+            Cause::NotBelieved => "neighbors",
+            Cause::Neighbours => "max_neighbors",
+            Cause::JoinList => "join",
+            Cause::Groups => "max_groups",
+            Cause::Sources => "max_sources",
+            Cause::Joins => "max_joins",
+            Cause::SendList => "send",
+            Cause::Streams => "max_streams",
+            Cause::RegisterList => "register",
+            Cause::Registered => "max_registered",
+            Cause::Reserve => "limit",
+            Cause::OldHost => "old_host",
+        }
+    }
+}
+
 impl fmt::Display for Cause {
     fn fmt(&self, to: &mut fmt::Formatter) -> fmt::Result {
         to.write_str(match self {
@@ -80,6 +101,16 @@ impl Refusals {
     /// Each with what it is called, and its count.
     pub fn counts(&self) -> impl Iterator<Item = (String, u64)> + '_ {
         self.0.iter().map(|((cause, place), it)| (format!("refused on {place}: {cause}"), it.count))
+    }
+
+    /// Each with its interface, or where else it was.
+    pub fn by_cause(&self) -> impl Iterator<Item = (Cause, &str, u64)> + '_ {
+        self.0.iter().map(|((cause, place), it)| (*cause, place.as_str(), it.count))
+    }
+
+    /// Counts from 0 again.
+    pub fn clear(&mut self) {
+        self.0.clear();
     }
 
     #[cfg(test)]
