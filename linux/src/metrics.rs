@@ -189,13 +189,21 @@ fn interfaces(daemon: &Daemon, text: &mut Text) {
     }
     let carried = |port: &Port| daemon.kernel.carried(port.vif?).ok();
     let carried: Vec<_> = ports().filter_map(|port| Some((port.settings.name.as_str(), carried(port)?))).collect();
-    text.family("forwarded_packets_total", Kind::Counter, "Packets of data that the kernel received and sent by the interface.");
+    text.family(
+        "forwarded_packets_total",
+        Kind::Counter,
+        "Packets of data that the kernel received and sent by the interface.",
+    );
     for (name, it) in &carried {
         for (direction, count) in [("received", it.packets_in), ("sent", it.packets_out)] {
             text.sample("forwarded_packets_total", &[("interface", name), ("direction", direction)], count);
         }
     }
-    text.family("forwarded_bytes_total", Kind::Counter, "Bytes of data that the kernel received and sent by the interface.");
+    text.family(
+        "forwarded_bytes_total",
+        Kind::Counter,
+        "Bytes of data that the kernel received and sent by the interface.",
+    );
     for (name, it) in &carried {
         for (direction, count) in [("received", it.bytes_in), ("sent", it.bytes_out)] {
             text.sample("forwarded_bytes_total", &[("interface", name), ("direction", direction)], count);

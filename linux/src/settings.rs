@@ -607,7 +607,10 @@ impl Check<'_> {
             None => usual,
             Some(given) => read(given.get_ref()).unwrap_or_else(|| {
                 let given_mode = given.get_ref();
-                self.wrong(given.start(), format!("socket_mode is \"{given_mode}\"; it is to be permissions in octal, for example \"0660\""));
+                self.wrong(
+                    given.start(),
+                    format!("socket_mode is \"{given_mode}\"; it is to be permissions in octal, for example \"0660\""),
+                );
                 usual
             }),
         };
@@ -620,7 +623,10 @@ impl Check<'_> {
         let read = given.get_ref().parse().ok();
         if read.is_none() {
             let text = given.get_ref();
-            self.wrong(given.start(), format!("listen \"{text}\" isn't an address with a port, for example 127.0.0.1:9791"));
+            self.wrong(
+                given.start(),
+                format!("listen \"{text}\" isn't an address with a port, for example 127.0.0.1:9791"),
+            );
         }
         read
     }

@@ -31,7 +31,8 @@ pub fn written(mut reader: Reader) -> (String, Vec<Left>) {
     for it in &others {
         without_pim(&mut reader, it);
     }
-    let mut text = String::from("# Made from FRR's configuration by viqeshord import, which reported what it left out.\n");
+    let mut text =
+        String::from("# Made from FRR's configuration by viqeshord import, which reported what it left out.\n");
     if let Some(vrf) = reader.vrf {
         let _ = writeln!(text, "vrf = \"{vrf}\"");
     }
@@ -71,7 +72,10 @@ fn igmp(reader: &mut Reader, interfaces: &[Interface], text: &mut String) {
         let is_of_all = hosts.iter().all(|it| of(it) == taken);
         for (place, number) in interfaces.iter().filter_map(|it| value(it).as_ref()) {
             if !is_of_all && *number != taken {
-                reader.leave(place, &format!("{name} is one setting for all interfaces: that of another interface is taken"));
+                reader.leave(
+                    place,
+                    &format!("{name} is one setting for all interfaces: that of another interface is taken"),
+                );
             } else if !is_of_all {
                 reader.leave(
                     place,
