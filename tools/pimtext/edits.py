@@ -52,7 +52,8 @@ class Reason:
         """Whether the clause is this. Where the kit's line cuts its name, what is left of it has to be of no other
         clause."""
         if self.is_whole:
-            return clause_of(self.goal) == clause
+            told = clause_of(self.goal)
+            return told == clause or (clause == "loop" and told in self.found.labels)
         _, named, begun = self.goal.rpartition("-clause-")
         alike = {it for it in clauses(self.found) if it.startswith(begun)} if named and begun else set()
         return alike == {clause}

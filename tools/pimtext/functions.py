@@ -6,6 +6,8 @@ from dataclasses import dataclass, field
 HEAD = re.compile(r"\s*(?:pub(?:\([a-z]+\))? )?(?:const )?(?:unsafe )?(?:extern \"C\" )?fn (\w+)")
 BLOCK = re.compile(r"(?:pub(?:\([a-z]+\))? )?(?:unsafe )?(impl|trait)\b(.*)")
 CLAUSE = re.compile(r"\s*(requires|ensures|decreases|follows\w*)\*?(?: (\w+))? \{")
+# The label of a loop, by which the prover names its goals.
+LABEL = re.compile(r"\s*'(\w+): (?:for|while|loop)\b")
 NOTES = re.compile(r"\s*(?:#!?\[tactic|ghost\b)")
 
 
@@ -32,11 +34,13 @@ class Function:
 
 @dataclass
 class Found:
-    """A function in a text, with its first line, its contract and its notes for the prover."""
+    """A function in a text, with its first line, its contract and its notes for the prover, and the labels of its
+    loops."""
 
     function: Function
     line: int
     contract: list = field(default_factory=list)
+    labels: set = field(default_factory=set)
 
 
 def without_bounds(text: str) -> str:
@@ -87,6 +91,8 @@ def functions(path: str, text: str) -> list[Found]:
             notes = [*notes, line.strip()]
         elif found and CLAUSE.match(line):
             found[-1].contract.append(braced(lines, at))
+        elif found and (label := LABEL.match(line)):
+            found[-1].labels.add(label[1])
     return found
 
 

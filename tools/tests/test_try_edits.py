@@ -161,6 +161,16 @@ class Tried(unittest.TestCase):
         self.assertEqual((1, COUNTS.format(1, 1, 0, 1, 0)), (status, lines[-1]), lines)
         self.assertEqual(["2 at once", "1 at once"], asked)
 
+    def test_a_loop_by_its_label(self):
+        code = ("pub fn sum(n: u32) -> u32\n    ensures same { result ≡ n }\n{\n"
+                "    'all: for i in 0..n {\n    }\n    n\n}\n")
+        edit = "refused: sum {}\nfile: src/lib.rt\nold: 0..n\nnew: 1..n\n"
+        goal = "note: src/lib.rt:4:5: it is not proved that the loop goes on (`all-preserved`)"
+        for clause, meets in (("loop", True), ("same", False)):
+            with repository({"crates/low/src/lib.rt": code, "crates/low/edits/weak.edit": edit.format(clause)}) as room:
+                crate = try_edits.Crate(room / "crates" / "low")
+                self.assertEqual(meets, try_edits.Edit(room / "crates/low/edits/weak.edit", crate).meets(goal))
+
     def test_edits_that_are_not_judged_yet(self):
         status, lines, asked, _ = tried(REFUSES, "--unnamed", "low",
             files={**FILES, "crates/low/edits/weak.edit": "file: src/lib.rt\n"})
