@@ -29,7 +29,7 @@ prunes_source s t g src down (Some (Accepted.Advance moment)) = takes_effect s (
 prunes_source s t g src down (Some (Accepted.JoinPruneToMe j m)) = (j.number == down) && prunes t g src down
 prunes_source s t g src down o = false
 
--- that matters to who joins the group
+-- A Prune of the source ends the stream to a router that joined the group, and not to one that joined the source.
 abbrev pub is_pruned_off : Join → State → State → ℕ → ℕ → ℕ → Option Accepted → Bool
 is_pruned_off (Star rp) s t g src down o = prunes_source s t g src down o
 is_pruned_off (Source joined) s t g src down o = false

@@ -1,5 +1,5 @@
--- Which sources an event disturbs, exactly: those whose keys, or whose group, its change touches, or the ends of its timers do,
--- one after the other.
+-- Which sources an event disturbs, exactly: those that its change touches, by their key or by their group, and those that
+-- a timer of an Advance touches when it expires.
 use Rattle.std.specs.Prelude.{Bool, Err, List, Ok, [], false, if◌then◌else◌, is_some, length, ℕ, ◌&&◌, ◌+◌, ◌-◌, ◌∷◌, ◌≡◌}
 use Rattle.pim_types.specs.declared.event.Event.{Event}
 use Rattle.pim_model.specs.declared.accepted.Accepted.{Accepted}
@@ -21,7 +21,8 @@ use Rattle.pim_router.specs.Staying.{disturbed_by}
 
 -- ---- an Advance
 
--- what is told of each firing, by its opening and the timer that ends: the firings are those of `fire_all`, in its order
+-- What `told` says of each firing of an Advance, by the state before it and the timer that expires. The firings are those
+-- of `fire_all`, in its order.
 module _ {X : Type 0} (told : State → Ending → List X) (w : ℕ) where
   unfoldable pub ended_once : State → Ending → State × List X
   ended_once s e = ((fire_once w s e).0, told s e)
@@ -32,44 +33,46 @@ module _ {X : Type 0} (told : State → Ending → List X) (w : ℕ) where
   unfoldable pub ended_all : ℕ → State → State × List X
   ended_all moment s = until_none (next_due moment) ended_instant (moment + 2 - s.present) s
 
--- what each touches
+-- What one firing touches, as a list of one.
 abbrev pub touched_at : State → Ending → List Touched
 touched_at s e = touched_by_end s e.timer.kind e.timer.key ∷ []
 
--- together
+-- What several firings touch together.
 unfoldable pub joined_all : List Touched → Touched
 joined_all [] = Touched.Keys []
 joined_all (touched ∷ later) = joined touched (joined_all later)
 
 -- ---- an event
 
--- of what was accepted
+-- What an accepted event disturbs, if there is room for it.
 unfoldable pub disturbed_of : State → ℕ → Accepted → Touched
 disturbed_of s w (Accepted.Advance moment) = joined_all (ended_all touched_at w moment s).1
 disturbed_of s w a = disturbed_by a (touched_of s a)
 
--- nothing where it is refused or ignored, or there is no room
+-- An event that is refused or ignored, or for which there is no room, disturbs nothing.
 abbrev pub where_disturbed : State → (Accepted → Touched) → Judged → Touched
 where_disturbed s told (Err stop) = Touched.Keys []
 where_disturbed s told (Ok a) = if is_full s a then Touched.Keys [] else told a
 
--- there was room for one more fact and is none, or the other way: each source without a fact is answered otherwise
+-- Where the event takes the room for one more fact, or makes such room, it disturbs all sources, since each source without
+-- a fact is then answered otherwise.
 unfoldable pub disturbed_with_room : State → Event → Touched
 disturbed_with_room s e =
     if same_bool (passes_limit s 1) (passes_limit (step s e).state 1)
     then where_disturbed s (disturbed_of s e.draw) (judged s e.kind) else Touched.All
 
--- a packet that the answers of its source decide, which has a fact
+-- The event is a packet of data of a source with a fact, and the answers of the source decide it.
 abbrev pub goes_by_answers : State → Judged → Bool
 goes_by_answers s (Ok (Accepted.Data i p)) = has_row s.sources (fact_key p) && is_some (decided_by_answers s i p)
 goes_by_answers s _ = false
 
--- that moves a keepalive timer at most
+-- What an event disturbs. A packet that the answers of its source decide disturbs nothing: it moves a keepalive timer at
+-- most.
 unfoldable pub event_disturbed : State → Event → Touched
 event_disturbed s e =
     if goes_by_answers s (judged s e.kind) then Touched.Keys [] else disturbed_with_room s e
 
--- by the last of some events
+-- What the last of a list of events disturbs.
 abbrev pub IsLastDisturbed : State → List Event → Touched → Type 0
 IsLastDisturbed s [] disturbed = Unit {0}
 IsLastDisturbed s (e ∷ []) disturbed = disturbed ≡ event_disturbed s e

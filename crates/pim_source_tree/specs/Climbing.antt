@@ -44,8 +44,8 @@ pub record CanGoOnToSource (g src : ℕ) (p : Place) : Type 0 where
   pub unlost : is_loser (assert_source (state_of p) g src (up_iface p)) ≡ false
   pub linked : slice_get (p.station).links (up_iface p) ≡ Some p.next_link
 
--- each router can take the Join when it comes, and each but the last goes on to the next; the last, which has the source
--- on a link or wants it already, need only take it
+-- Each router can take the Join when it comes, and each except the last sends its own to the next. The last router, which
+-- has the source on a link or wants it already, need only take it.
 abbrev pub IsSourceWayOver : (g src from to link : ℕ) → Network → List Stop → Type 0
 IsSourceWayOver g src from to link n [] = Unit {0}
 IsSourceWayOver g src from to link n (w ∷ []) =
