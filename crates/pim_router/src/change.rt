@@ -56,8 +56,6 @@ fn forward(
     requires sight { IsSightOf world.old packet.now.destination packet.now.source sight }
     ensures sends { IfOk result (λ leaving. Sends leaving world.new turn.old turn.new (packet_forwarded packet.now
         (forwarded world.old packet.now.destination packet.now.source iface.number))) }
-    ensures at_least { OnOk result (raised meter.old
-        (arrived_nodes world.old packet.now.destination packet.now.source iface.number) ≤ meter.new) }
 {
     let list = arrived(world, turn, meter, iface, sight)?;
     leave(world, turn, meter, packet, list)
@@ -74,7 +72,6 @@ fn decapsulate(
     ensures sends { IfOk result (λ leaving. Sends leaving world.new turn.old turn.new (decapsulated register.now
         (register_received world.old packet.now (registered_group register.now) (registered_source register.now)
         (is_null register.now)))) }
-    ensures at_least { OnOk result (raised meter.old (register_nodes world.old packet.now register.now) ≤ meter.new) }
 {
     let list = register_seen(world, turn, meter, packet, register)?;
     match register.inner() {
@@ -101,7 +98,6 @@ fn take_ranges(
 ) -> Result<(), AllocError>
     ensures state { OnOk result (world.new ≡ rps_replaced world.old (ranges_by world.old next)) }
     ensures silent { turn.new ≡ turn.old }
-    ensures at_least { OnOk result (raised meter.old (ranges_nodes world.old next) ≤ meter.new) }
 {
     match next {
         Some(next) => pim_register::rps_replaced(world, turn, meter, next),
@@ -121,7 +117,6 @@ pub(crate) fn apply(
     requires read { HasRead world.old act }
     ensures sends { IfOk result (λ leaving. Sends leaving world.new turn.old turn.new
         (change world.old turn.old.draw (act_event world.old act.entry))) }
-    ensures at_least { OnOk result (raised meter.old (change_nodes world.old act.entry) ≤ meter.new) }
 {
     match act {
         Act::Data {
@@ -155,7 +150,6 @@ fn apply_control(
         ≡ (change world.old turn.old.draw (control_event world.old control.entry)).state) }
     ensures messages { OnOk result (turn.new
         ≡ saying turn.old (change world.old turn.old.draw (control_event world.old control.entry)).messages) }
-    ensures at_least { OnOk result (raised meter.old (control_nodes world.old control.entry) ≤ meter.new) }
 {
     match control {
         Control::Up { iface } => go_up(world, turn, iface),

@@ -95,7 +95,6 @@ fn change_world(
     ensures names { IfOk result (λ changed. AreNames world.old (change world.old turn.old.draw (act_event world.old act.entry)).state
         touched.now (keys_of changed.names)) }
     ensures fault { IsOkUnless result Fault.Memory }
-    ensures at_least { OnOk result (raised meter.old (act_nodes world.old touched.now act.entry) ≤ meter.new) }
 {
     let gathered = Gathered::of(world, turn.alloc, touched, meter)?;
     let Leaving {
@@ -180,7 +179,6 @@ fn take_change(
     ensures touched { OnOk result (touches cache.new ≡ raised (touches cache.old) (touches_in world.new
         (names_of world.old (change world.old turn.old.draw (act_event world.old plan.entry.act)).state plan.entry.touched))) }
     ensures fault { IsOkUnless result Fault.Memory }
-    ensures at_least { OnOk result (raised meter.old (act_nodes world.old plan.entry.touched plan.entry.act) ≤ meter.new) }
 {
     // For the proof: there are at most 120 interfaces.
     world.interfaces().recall_few();
@@ -215,7 +213,6 @@ fn take_unless_full(
         (where_disturbed world.old (disturbed_of world.old turn.old.draw) (Ok accepted.entry))) }
     ensures once { OnOk result (IsStrictlySortedBy key_cmp cache.new.changed) }
     ensures fault { IsOkUnless result Fault.Memory }
-    ensures rises { OnOk result (meter.old ≤ meter.new) }
 {
     let planning = planned(world, turn, meter, accepted, table)?;
     match planning {
@@ -257,7 +254,6 @@ fn take_turn(
         → goes_by_answers world.old (judged world.old event.now.kind) ≡ false
         → CacheAfter world.old event.now world.new cache.new meter.new) }
     ensures fault { IsOkUnless result Fault.Memory }
-    ensures rises { OnOk result (meter.old ≤ meter.new) }
 {
     let mut turn = Turn::new(room.taken(), event.draw());
     let was_full = world.passes_limit(1);
@@ -277,7 +273,6 @@ fn by_row(
     ensures decided { ForwardsAs result (decided cache.now.mfc packet.now.destination packet.now.source iface.number
         packet.now.time_to_live) }
     ensures visited { meter.old ≡ 0 → has_row cache.now.mfc.rows (fact_key packet.now) ≡ true → IsWithinPath meter.new }
-    ensures rises { meter.old ≤ meter.new }
 {
     let name = SourceGroup {
         source: packet.source(),
@@ -310,7 +305,6 @@ fn take_data(
     ensures state { OnOk result (world.new ≡ (step world.old event.now).state) }
     ensures cache { OnOk result (CacheAfter world.old event.now world.new cache.new meter.new) }
     ensures fault { IsOkUnless result Fault.Memory }
-    ensures rises { OnOk result (meter.old ≤ meter.new) }
 {
     match by_row(cache, iface, &packet, meter) {
         Some(forward) => take_plain(room, world, &packet, forward, meter),
@@ -346,7 +340,6 @@ fn take_other(
     ensures state { OnOk result (world.new ≡ (step world.old event.now).state) }
     ensures cache { OnOk result (CacheAfter world.old event.now world.new cache.new meter.new) }
     ensures fault { IsOkUnless result Fault.Memory }
-    ensures rises { OnOk result (meter.old ≤ meter.new) }
 {
     take_turn(room, world, cache, event, accepted, table, meter)
 }
@@ -373,7 +366,6 @@ fn take_accepted(
     ensures state { OnOk result (world.new ≡ (step world.old event.now).state) }
     ensures cache { OnOk result (CacheAfter world.old event.now world.new cache.new meter.new) }
     ensures fault { IsOkUnless result Fault.Memory }
-    ensures rises { OnOk result (meter.old ≤ meter.new) }
 {
     match accepted {
         Accepted::Data { iface, packet } => {
@@ -407,7 +399,6 @@ pub(crate) fn take_in(
     ensures cache { OnOk result (CacheAfter world.old event.now world.new cache.new meter.new) }
     ensures fault { IsOkUnless result Fault.Memory }
     ensures sure { IsTrue (needs_no_memory (step world.old event.now).answer) → IsOk result }
-    ensures rises { OnOk result (meter.old ≤ meter.new) }
 {
     match judge(room.alloc, world, event, meter)? {
         Ok(Admitted { accepted, table }) => {

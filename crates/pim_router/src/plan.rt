@@ -117,7 +117,6 @@ fn plan_hello<'a>(
 ) -> Result<Planning<'a>, AllocError>
     requires { IsAtRest world.now }
     ensures plan { IfOk result (λ planning. IsPlanned world.now (AcceptedValue.Hello iface from hello) planning) }
-    ensures rises { OnOk result (meter.old ≤ meter.new) }
 {
     if pim_hello::is_full(world, iface, from, &hello) {
         return Ok(Planning::Full);
@@ -144,7 +143,6 @@ fn plan_join_prune<'a>(
 ) -> Result<Planning<'a>, AllocError>
     requires { IsAtRest world.now }
     ensures plan { IfOk result (λ planning. IsPlanned world.now (AcceptedValue.JoinPruneToMe iface message.entry) planning) }
-    ensures at_least { OnOk result (raised meter.old (message_named_nodes world.now message.entry) ≤ meter.new) }
 {
     let named = Named::of(world, turn, meter, iface, &message)?;
     let holdtime = message.holdtime();
@@ -171,7 +169,6 @@ fn plan_seen<'a>(
     message: JoinPruneView<'a>,
 ) -> Result<Planning<'a>, AllocError>
     ensures plan { IfOk result (λ planning. IsPlanned world.now (AcceptedValue.JoinPruneSeen iface message.entry) planning) }
-    ensures at_least { OnOk result (raised meter.old (message_named_nodes world.now message.entry) ≤ meter.new) }
 {
     let named = Named::of(world, turn, meter, iface, &message)?;
     let keys = of_sources(turn.alloc, &named.pruned)?;
@@ -318,7 +315,6 @@ fn plan_data<'a>(
     requires rest { IsAtRest world.now }
     requires configured { iface.number < iface_count world.now }
     ensures plan { IfOk result (λ planning. IsPlanned world.now (AcceptedValue.Data iface packet.entry) planning) }
-    ensures at_least { OnOk result (raised meter.old (data_plan_nodes world.now packet.entry) ≤ meter.new) }
 {
     let (group, source) = (packet.destination(), packet.source());
     if source_is_full(world, SourceGroup { source, group }) {
@@ -358,7 +354,6 @@ fn plan_register<'a>(
 ) -> Result<Planning<'a>, AllocError>
     requires { IsAtRest world.now }
     ensures plan { IfOk result (λ planning. IsPlanned world.now (AcceptedValue.Register packet.entry register.entry) planning) }
-    ensures at_least { OnOk result (raised meter.old (rp_nodes world.now.ranges (registered_group register.entry)) ≤ meter.new) }
 {
     if pim_register::is_full(world, meter, &packet, &register) {
         return Ok(Planning::Full);
@@ -400,9 +395,6 @@ fn plan_routes<'a>(
     requires { next.routes ≡ routes.now }
     ensures plan { IfOk result (λ planning. IsPlanned world.now (AcceptedValue.Routes routes.now) planning) }
     ensures same { world.now.routes ≡ routes.now → meter.new ≡ meter.old }
-    ensures at_least { OnOk result (¬ (world.now.routes ≡ routes.now)
-        → raised meter.old (routes_nodes world.now routes.now) ≤ meter.new) }
-    ensures rises { OnOk result (meter.old ≤ meter.new) }
 {
     if world.has_routes(routes) {
         let act = Act::Control(Control::Routes { table: None });
@@ -425,9 +417,6 @@ fn plan_rps<'a>(
     requires { next.ranges ≡ ranges.now }
     ensures plan { IfOk result (λ planning. IsPlanned world.now (AcceptedValue.Rps ranges.now) planning) }
     ensures same { world.now.ranges ≡ ranges.now → meter.new ≡ meter.old }
-    ensures visited { OnOk result (¬ (world.now.ranges ≡ ranges.now)
-        → meter.new ≡ raised meter.old (new_rps_nodes world.now ranges.now)) }
-    ensures rises { OnOk result (meter.old ≤ meter.new) }
 {
     if world.has_ranges(ranges) {
         let act = Act::Control(Control::Ranges { table: None });
@@ -451,7 +440,6 @@ pub(crate) fn planned<'a>(
     requires configured { IsConfigured world.now accepted }
     requires table { Brings accepted table }
     ensures plan { IfOk result (λ planning. IsPlanned world.now accepted.entry planning) }
-    ensures rises { OnOk result (meter.old ≤ meter.new) }
 {
     match accepted {
         Accepted::Advance { moment } => Ok(Planning::Time { moment }),

@@ -26,7 +26,6 @@ use std::collections::BTreeMap;
 #[tactic(auto, unfolding(pim_model::specs::Unicast::route))]
 fn has_other_route(world: &World, meter: &mut Meter, next: &Mrib, address: Addr) -> bool
     ensures moved { result ≡ has_other_route world.now (with_routes world.now next.now.routes) address.bits }
-    ensures visited { meter.new ≡ raised meter.old (both_routes_nodes world.now next.now.routes address.bits) }
 {
     let before = world.route(address, meter);
     let after = next.route(world.interfaces(), address, meter);
@@ -36,7 +35,6 @@ fn has_other_route(world: &World, meter: &mut Meter, next: &Mrib, address: Addr)
 // Whether the RP of the group has another route in the new table.
 fn is_group_moved(world: &World, meter: &mut Meter, next: &Mrib, group: Addr) -> bool
     ensures moved { result ≡ not (has_same_rp group.bits world.now (with_routes world.now next.now.routes)) }
-    ensures visited { meter.new ≡ raised meter.old (moved_group_nodes world.now next.now.routes group.bits) }
 {
     match world.rp(group, meter) {
         Some(rp) => has_other_route(world, meter, next, rp),
@@ -48,7 +46,6 @@ fn is_group_moved(world: &World, meter: &mut Meter, next: &Mrib, group: Addr) ->
 #[tactic(auto, unfolding(pim_model::specs::Unicast::rp_of, pim_model::specs::Step::rps_replaced))]
 fn group_has_other_rp(world: &World, meter: &mut Meter, next: &Mrib, group: Addr) -> bool
     ensures moved { result ≡ group_has_other_rp world.now (rps_replaced world.now next.now.ranges) group.bits }
-    ensures visited { meter.new ≡ raised meter.old (both_rps_nodes world.now next.now.ranges group.bits) }
 {
     let before = world.rp(group, meter);
     let after = next.rp(group, meter);
@@ -66,8 +63,6 @@ fn put_sources(
 ) -> Result<(), AllocError>
     ensures keys { OnOk result (keys.new.items ≡ keys.old.items ++ map (source_key 0 group.bits)
         (filter (has_other_route world.now (with_routes world.now next.now.routes)) (numbers_of sources.now.entries))) }
-    ensures visited { OnOk result (meter.new ≡ raised meter.old
-        (sum_by (both_routes_nodes world.now next.now.routes) (numbers_of sources.now.entries))) }
 {
     for (source, ()) in sources.iter() {
         if has_other_route(world, meter, next, *source) {
@@ -93,7 +88,6 @@ fn put_group(
 ) -> Result<(), AllocError>
     ensures keys { OnOk result (keys.new.items ≡ keys.old.items
         ++ moved_of_group world.now (with_routes world.now next.now.routes) group.bits) }
-    ensures at_least { OnOk result (raised meter.old (moved_nodes world.now next.now.routes group.bits) ≤ meter.new) }
 {
     if is_group_moved(world, meter, next, group) {
         keys.push(Key::group(group))?;
@@ -113,8 +107,6 @@ fn keys_of_groups(
 ) -> Result<Series<Key>, AllocError>
     ensures keys { IfOk result (λ keys. keys
         ≡ flat_map (moved_of_group world.now (with_routes world.now next.now.routes)) (numbers_of groups.now.entries)) }
-    ensures at_least { OnOk result (raised meter.old
-        (sum_by (moved_nodes world.now next.now.routes) (numbers_of groups.now.entries)) ≤ meter.new) }
 {
     let mut keys = Vec::new(alloc);
     for (group, ()) in groups.iter() {
@@ -133,8 +125,6 @@ fn keys_with_other_rp(
 ) -> Result<Series<Key>, AllocError>
     ensures keys { IfOk result (λ keys. keys ≡ map (star_key 0)
         (filter (group_has_other_rp world.now (rps_replaced world.now next.now.ranges)) (numbers_of groups.now.entries))) }
-    ensures visited { OnOk result (meter.new ≡ raised meter.old
-        (sum_by (both_rps_nodes world.now next.now.ranges) (numbers_of groups.now.entries))) }
 {
     let mut keys = Vec::new(alloc);
     for (group, ()) in groups.iter() {
@@ -156,9 +146,8 @@ pub(crate) fn touched_by_routes(
 ) -> Result<Touched, AllocError>
     ensures touched { IfOk result (λ touched. touched
         ≡ TouchedValue.Keys (keys_by_routes world.now (with_routes world.now next.now.routes))) }
-    ensures at_least { OnOk result (raised meter.old (routes_nodes world.now next.now.routes) ≤ meter.new) }
 {
-    let groups = world.groups(alloc)?;
+    let groups = world.groups(alloc, meter)?;
     Ok(Touched::Keys(keys_of_groups(world, alloc, meter, next, &groups)?))
 }
 
@@ -172,8 +161,7 @@ pub(crate) fn touched_by_rps(
 ) -> Result<Touched, AllocError>
     ensures touched { IfOk result (λ touched. touched
         ≡ TouchedValue.Keys (keys_by_rps world.now (rps_replaced world.now next.now.ranges))) }
-    ensures visited { OnOk result (meter.new ≡ raised meter.old (new_rps_nodes world.now next.now.ranges)) }
 {
-    let groups = world.groups(alloc)?;
+    let groups = world.groups(alloc, meter)?;
     Ok(Touched::Keys(keys_with_other_rp(world, alloc, meter, next, &groups)?))
 }

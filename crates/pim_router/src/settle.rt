@@ -26,7 +26,6 @@ fn clear(
 ) -> Result<(), AllocError>
     ensures state { OnOk result (world.new ≡ (cleared_by opening.now world.old).0) }
     ensures messages { OnOk result (turn.new ≡ saying turn.old (cleared_by opening.now world.old).1) }
-    ensures at_least { OnOk result (raised meter.old (cleared_nodes opening.now world.old) ≤ meter.new) }
 {
     pim_register::changed(world, meter, opening)?;
     pim_asserts::clear(world, turn, meter, opening)
@@ -45,7 +44,6 @@ fn follow_all(
     ensures state { OnOk result (world.new ≡ (followed_by opening.now world.old turn.old.draw).0) }
     ensures messages { OnOk result (turn.new ≡ saying turn.old (followed_by opening.now world.old turn.old.draw).1) }
     ensures named { IfOk result (λ names. AreNamed before.now (cleared_by opening.now world.old).0 (keys_of names)) }
-    ensures at_least { OnOk result (raised meter.old (followed_nodes opening.now before.now world.old) ≤ meter.new) }
 {
     clear(world, turn, meter, opening)?;
     let names = named(world, turn.alloc, meter, before)?;
@@ -79,7 +77,6 @@ fn follow_source(
     ensures messages { OnOk result (turn.new
         ≡ saying turn.old (followed_by (group.now ∷ []) world.old turn.old.draw).1) }
     ensures named { IfOk result (λ names. AreNamed before.now (cleared_by (group.now ∷ []) world.old).0 (keys_of names)) }
-    ensures at_least { OnOk result (raised meter.old (followed_alone_nodes group.now opened world.old) ≤ meter.new) }
 {
     let star = StarSight::of(world, group.group, meter);
     let mut sight = SourceSight::of(world, star, opened.source, meter);
@@ -117,7 +114,6 @@ fn clear_group(
     ensures messages { OnOk result (turn.new ≡ saying turn.old (cleared_by opened.now world.old).1) }
     ensures opening { IfOk result (λ seen. opening_in seen ≡ group.now) }
     ensures seen { IfOk result (λ seen. IsAfter world.new seen) }
-    ensures at_least { OnOk result (raised meter.old (group_after_nodes world.new group.now) ≤ meter.new) }
 {
     let seen = GroupAfter::of(world, turn.alloc, group, meter)?;
     if stays(world, &seen) {
@@ -142,7 +138,6 @@ fn follow_group(
     ensures state { OnOk result (world.new ≡ (followed_by opening.now world.old turn.old.draw).0) }
     ensures messages { OnOk result (turn.new ≡ saying turn.old (followed_by opening.now world.old turn.old.draw).1) }
     ensures named { IfOk result (λ names. AreNamed before.now (cleared_by opening.now world.old).0 (keys_of names)) }
-    ensures at_least { OnOk result (raised meter.old (group_after_nodes (cleared_by opening.now world.old).0 group.now) ≤ meter.new) }
 {
     let seen = clear_group(world, turn, meter, opening, group)?;
     let sources = seen.sources.as_slice();
@@ -163,7 +158,6 @@ fn follow(
     ensures state { OnOk result (world.new ≡ (followed_by opening.now world.old turn.old.draw).0) }
     ensures messages { OnOk result (turn.new ≡ saying turn.old (followed_by opening.now world.old turn.old.draw).1) }
     ensures named { IfOk result (λ names. AreNamed before.now (cleared_by opening.now world.old).0 (keys_of names)) }
-    ensures rises { OnOk result (meter.old ≤ meter.new) }
 {
     if let Some((group, opened)) = opening.only_source() {
         return follow_source(world, turn, meter, group, opened, before);
@@ -190,7 +184,6 @@ pub(crate) fn settle(
     ensures named { IfOk result (λ names. AreNamed gathered.now.before (cleared_by gathered.now.opening world.old).0 (keys_of names)) }
     ensures draw { OnOk result (turn.new.draw ≡ turn.old.draw) }
     ensures fault { IsOkUnless result Fault.Memory }
-    ensures rises { OnOk result (meter.old ≤ meter.new) }
 {
     let names = follow(world, turn, meter, &gathered.opening, &gathered.before)?;
     world.write(&mut turn.room, &turn.out, emissions)?;

@@ -90,7 +90,6 @@ fn touched_by_neighbour(
     key: Key,
 ) -> Result<Touched, AllocError>
     ensures touched { IfOk result (λ touched. touched ≡ touched_by_neighbour world.now key) }
-    ensures rises { OnOk result (meter.old ≤ meter.new) }
 {
     if end_keeps_dr(world, key) {
         let keys = keys_towards(world, turn, meter, key.hop())?;
@@ -107,7 +106,6 @@ fn touched_by_end(
     timer: Timer,
 ) -> Result<Touched, AllocError>
     ensures touched { IfOk result (λ touched. touched ≡ touched_by_end world.now timer.kind timer.key) }
-    ensures rises { OnOk result (meter.old ≤ meter.new) }
 {
     let key = match timer.kind {
         TimerKind::Neighbour => return touched_by_neighbour(world, turn, meter, timer.key),
@@ -140,7 +138,6 @@ fn fired(
 ) -> Result<(), AllocError>
     ensures state { OnOk result (world.new ≡ (fired world.old timer.kind timer.key).0) }
     ensures messages { OnOk result (turn.new ≡ saying turn.old (fired world.old timer.kind timer.key).1) }
-    ensures at_least { OnOk result (raised meter.old (end_nodes world.old timer.kind timer.key) ≤ meter.new) }
 {
     let Timer { kind, key } = timer;
     match kind {
@@ -184,7 +181,6 @@ fn fire_world(
         (touched_by_end world.old due.1.kind due.1.key) (keys_of names)) }
     ensures draw { OnOk result (turn.new.draw ≡ turn.old.draw) }
     ensures fault { IsOkUnless result Fault.Memory }
-    ensures at_least { OnOk result (raised meter.old (firing_nodes world.old due) ≤ meter.new) }
 {
     let gathered = Gathered::of(world, turn.alloc, touched, meter)?;
     world.set_present(due.0);
@@ -219,7 +215,6 @@ fn fire_once(
         (names_of world.old (own_firing world.old (ending_of due)) (touched_by_end world.old due.1.kind due.1.key)))) }
     ensures draw { OnOk result (turn.new.draw ≡ turn.old.draw) }
     ensures fault { IsOkUnless result Fault.Memory }
-    ensures at_least { OnOk result (raised meter.old (firing_nodes world.old due) ≤ meter.new) }
 {
     // For the proof: there are at most 120 interfaces.
     world.interfaces().recall_few();
@@ -253,7 +248,6 @@ fn fire_instant(
         (joined_all (ended_instant touched_at turn.old.draw world.old (ending_of first)).1)) }
     ensures draw { OnOk result (turn.new.draw ≡ turn.old.draw) }
     ensures fault { IsOkUnless result Fault.Memory }
-    ensures rises { OnOk result (meter.old ≤ meter.new) }
 {
     'firings: while let Some(due) = next_due(world, first.0) {
         fire_once(world, cache, turn, meter, due, emissions)?;
@@ -283,7 +277,6 @@ fn fire_all(
     ensures disturbed { OnOk result (cache.new.disturbed ≡ joined cache.old.disturbed
         (joined_all (ended_all touched_at turn.old.draw moment world.old).1)) }
     ensures fault { IsOkUnless result Fault.Memory }
-    ensures rises { OnOk result (meter.old ≤ meter.new) }
 {
     'instants: while let Some(first) = next_due(world, moment) {
         fire_instant(world, cache, turn, meter, first, emissions)?;
@@ -311,7 +304,6 @@ pub(crate) fn advance(
         (joined_all (ended_all touched_at turn.old.draw moment world.old).1)) }
     ensures once { OnOk result (IsStrictlySortedBy key_cmp cache.new.changed) }
     ensures fault { IsOkUnless result Fault.Memory }
-    ensures rises { OnOk result (meter.old ≤ meter.new) }
 {
     let mut emissions = Vec::new(turn.alloc);
     fire_all(world, cache, turn, meter, moment, &mut emissions)?;

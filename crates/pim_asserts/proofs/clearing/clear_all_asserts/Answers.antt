@@ -19,8 +19,3 @@ pub returns-clause-messages : goal.returns-clause-messages
 returns-clause-messages c =
     (all_gone clear_asserts clear_asserts_nodes c.args.groups.now _ _ _ _ _ _ c.loop-opened.opened-index c.loop-opened-test.false
     c.loop-opened.invariant).messages
-
-pub returns-clause-at_least : goal.returns-clause-at_least
-returns-clause-at_least c =
-    (all_gone clear_asserts clear_asserts_nodes c.args.groups.now _ _ _ _ _ _ c.loop-opened.opened-index c.loop-opened-test.false
-    c.loop-opened.invariant).at_least

@@ -46,10 +46,3 @@ returns-clause-messages c =
     ∙ sym (ap (λ (p : State × List Message). saying t p.1)
     (cleared_alone s c.args.group.now x c.requires.whole c.requires.alone)))
     c.clear_bit_by_sight.ensures.messages
-
-pub returns-clause-at_least : goal.returns-clause-at_least
-unfolding alone_nodes
-returns-clause-at_least c =
-    on_ok_weaker c.clear_bit_by_sight.result (two_in_turn _ _ _ _ _ c.in_ok-clear_source_by_sight.ensures.at_least)
-    (rw (c.in_ok-clear_source_by_sight.ensures.group, c.in_ok-clear_source_by_sight.ensures.state) at
-    c.clear_bit_by_sight.ensures.at_least)

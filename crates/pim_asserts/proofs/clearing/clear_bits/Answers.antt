@@ -33,13 +33,3 @@ returns-clause-messages c =
     c.args.meter.now c.loop-source.meter) c.as_slice-source-items.ensures
     (all_gone step nodes c.as_slice-source-items.result.now _ _ _ _ _ _ c.loop-source.source-index c.loop-source-test.false
     c.loop-source.invariant)).messages
-
-pub returns-clause-at_least : goal.returns-clause-at_least
-unfolding clear_bits_nodes
-returns-clause-at_least c =
-    let step = clear_bit c.args.opened.now.group.bits in
-    let nodes = clear_bit_nodes c.args.opened.now.group in
-    (subst (λ (xs : List SourceOpening). Gone step nodes xs c.args.world.now c.loop-source.world c.args.turn.now c.loop-source.turn
-    c.args.meter.now c.loop-source.meter) c.as_slice-source-items.ensures
-    (all_gone step nodes c.as_slice-source-items.result.now _ _ _ _ _ _ c.loop-source.source-index c.loop-source-test.false
-    c.loop-source.invariant)).at_least

@@ -39,14 +39,3 @@ returns-in_default-clause-messages c =
     ∙ ap (λ (p : State × List Message). saying c.args.turn.now p.1)
     (sym (nothing_goes c.args.world.now c.args.sight.now.star.group.bits c.args.sight.now.source c.args.opened
     c.recall_keyed.ensures c.requires.source (sym c.in_default.ensures)))
-
-pub returns-in_default-clause-at_least : goal.returns-in_default-clause-at_least
-returns-in_default-clause-at_least c =
-    none_asked _ _ _ _
-    (nothing_is_next c.args.world.now c.args.sight.now.star.group.bits c.args.sight.now.source c.args.opened
-    c.recall_keyed.ensures c.requires.source (sym c.in_default.ensures)) refl
-
-pub returns-clause-at_least : goal.returns-clause-at_least
-returns-clause-at_least c =
-    whether_or_not _ _ _ _ (two_in_turn _ _ _ _ _ c.in_ok-clear_source.ensures.at_least
-    (rw (c.in_ok-clear_source.ensures.state, c.requires.source) at c.gathered_again.ensures.at_least))

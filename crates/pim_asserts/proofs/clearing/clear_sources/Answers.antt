@@ -22,8 +22,3 @@ pub returns-clause-messages : goal.returns-clause-messages
 returns-clause-messages c =
     (all_gone (clear_source c.args.group.bits) (clear_source_nodes c.args.group) c.args.sources.now _ _ _ _ _ _
     c.loop-opened.opened-index c.loop-opened-test.false c.loop-opened.invariant).messages
-
-pub returns-clause-at_least : goal.returns-clause-at_least
-returns-clause-at_least c =
-    (all_gone (clear_source c.args.group.bits) (clear_source_nodes c.args.group) c.args.sources.now _ _ _ _ _ _
-    c.loop-opened.opened-index c.loop-opened-test.false c.loop-opened.invariant).at_least

@@ -56,9 +56,3 @@ returns-clause-messages c =
     (goes_further c.args.world.now t c.args.iface.number c.args.from.bits c.args.assert.now c.in_ok-goes_on.goes_on
     c.in_ok-goes_on.ensures.state c.in_ok-goes_on.ensures.further c.if-not-goes_on.false)))
     c.run_machine.ensures.messages
-
-pub returns-clause-at_least : goal.returns-clause-at_least
-returns-clause-at_least c =
-    on_ok_weaker c.run_machine.result
-    (λ e. two_in_turn _ _ _ _ _ c.in_ok-goes_on.ensures.at_least (whether_or_not _ _ _ _ e))
-    (rw (c.star-star.ensures, c.metric_of.ensures, c.in_ok-goes_on.ensures.state) at c.run_machine.ensures.at_least)

@@ -56,11 +56,3 @@ returns-clause-messages c =
     c.asserts_by_data.ensures
     ∙ ap (λ (b : Bool). if b then won else (s, [])) c.if-not-asserts_by_data.false)))
     c.win_with.ensures.messages
-
-pub returns-then-not-asserts_by_data-clause-at_least :
-    goal.returns-then-not-asserts_by_data-clause-at_least
-returns-then-not-asserts_by_data-clause-at_least c =
-    none_asked _ _ _ _
-    (sym (c.asserts_by_data.ensures
-    ∙ ap (λ (st : Stance). st.could_assert && not (has_row c.args.world.now.asserts c.args.key)) c.requires.stance)
-    ∙ c.if-not-asserts_by_data.true) refl

@@ -59,25 +59,3 @@ returns-clause-sight c =
     c.store_mut-2.ensures.value (rw c.name-name.ensures at c.in_ok-set_register-2.ensures.set)))
     (c.with_tunnel-2.ensures.sight s (put s.registers k (record { state = RegisterState.Join })) c.requires
     (joined_tunnel s g src))
-
-pub returns-then-not-could_register-clause-at_least : goal.returns-then-not-could_register-clause-at_least
-returns-then-not-could_register-clause-at_least c =
-    register_gone c.args.world.now _ _ _ _ _ c.store_mut.ensures.value
-    (sym (c.could_register.ensures c.args.world.now c.requires) ∙ c.if-not-could_register.true)
-    (rw c.name-name.ensures at c.in_ok-set_register.ensures.gone refl)
-
-pub returns-then-is_some-clause-at_least : goal.returns-then-is_some-clause-at_least
-returns-then-is_some-clause-at_least c =
-    register_there c.args.world.now _ _ _ _ c.register.result
-    (sym (c.could_register.ensures c.args.world.now c.requires) ∙ c.if-not-could_register.false)
-    (c.register.ensures ∙ ap (λ (f : PimTables). row_at f.registers c.key.result) c.store.ensures
-    ∙ ap (row_at c.args.world.now.registers) (rw c.name-name.ensures at c.key.ensures))
-    (sym c.is_some.ensures ∙ c.if-is_some.true) refl
-
-pub returns-clause-at_least : goal.returns-clause-at_least
-returns-clause-at_least c =
-    register_new c.args.world.now _ _ _ _ _ c.register.result c.store_mut-2.ensures.value
-    (sym (c.could_register.ensures c.args.world.now c.requires) ∙ c.if-not-could_register.false)
-    (c.register.ensures ∙ ap (λ (f : PimTables). row_at f.registers c.key.result) c.store.ensures
-    ∙ ap (row_at c.args.world.now.registers) (rw c.name-name.ensures at c.key.ensures))
-    (sym c.is_some.ensures ∙ c.if-is_some.false) (rw c.name-name.ensures at c.in_ok-set_register-2.ensures.new)

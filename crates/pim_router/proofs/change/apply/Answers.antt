@@ -8,13 +8,13 @@ use Rattle.pim_router.proofs.change.apply.Goals as goal
 pub returns-in-Data-clause-sends : goal.returns-in-Data-clause-sends
 returns-in-Data-clause-sends c =
     data_sends c.args.world.now c.args.turn.now.draw c.args.act c.in-Data.iface c.in-Data.packet c.in-Data.sight
-    c.in-Data.is c.forward.new.world c.args.turn.now c.forward.new.turn c.forward.result c.forward.ensures.sends
+    c.in-Data.is c.forward.new.world c.args.turn.now c.forward.new.turn c.forward.result c.forward.ensures
 
 pub returns-in-Register-clause-sends : goal.returns-in-Register-clause-sends
 returns-in-Register-clause-sends c =
     register_sends c.args.world.now c.args.turn.now.draw c.args.act c.in-Register.packet c.in-Register.register
     c.in-Register.is c.decapsulate.new.world c.args.turn.now c.decapsulate.new.turn c.decapsulate.result
-    c.decapsulate.ensures.sends
+    c.decapsulate.ensures
 
 pub returns-in_ok-apply_control-in-Control-clause-sends : goal.returns-in_ok-apply_control-in-Control-clause-sends
 returns-in_ok-apply_control-in-Control-clause-sends c =

@@ -38,16 +38,6 @@ pub seen-requires-clause-pruned : goal.seen-requires-clause-pruned
 seen-requires-clause-pruned c =
     (seen_heard c.args.world.now c.args.control _ _ _ c.in-JoinPruneSeen.is c.requires.heard).prunes
 
-pub returns-in-Up-clause-at_least : goal.returns-in-Up-clause-at_least
-returns-in-Up-clause-at_least c =
-    subst (λ (x : Control). OnOk c.go_up.result (raised c.args.meter.now (control_nodes c.args.world.now x) ≤ c.args.meter.now))
-    (sym c.in-Up.is) (on_ok c.go_up.result (none_visited _ _ refl))
-
-pub returns-in-Down-clause-at_least : goal.returns-in-Down-clause-at_least
-returns-in-Down-clause-at_least c =
-    subst (λ (x : Control). raised c.args.meter.now (control_nodes c.args.world.now x) ≤ c.set_down.new.meter)
-    (sym c.in-Down.is) (then_rises _ _ _ _ (none_visited _ _ refl) c.set_down.ensures.rises)
-
 pub returns-in-Routes-clause-state : goal.returns-in-Routes-clause-state
 unfolding change
 returns-in-Routes-clause-state c =
@@ -55,31 +45,9 @@ returns-in-Routes-clause-state c =
     ≡ (change c.args.world.now c.args.turn.now.draw (control_event c.args.world.now x)).state)
     (sym c.in-Routes.is) c.take_routes.ensures
 
-pub returns-in-Routes-clause-at_least : goal.returns-in-Routes-clause-at_least
-returns-in-Routes-clause-at_least c =
-    subst (λ (x : Control). raised c.args.meter.now (control_nodes c.args.world.now x) ≤ c.args.meter.now)
-    (sym c.in-Routes.is) (none_visited _ _ refl)
-
 pub returns-in-Ranges-clause-state : goal.returns-in-Ranges-clause-state
 unfolding change
 returns-in-Ranges-clause-state c =
     subst (λ (x : Control). OnOk c.take_ranges.result (c.take_ranges.new.world
     ≡ (change c.args.world.now c.args.turn.now.draw (control_event c.args.world.now x)).state))
     (sym c.in-Ranges.is) c.take_ranges.ensures.state
-
-pub returns-in-Ranges-clause-at_least : goal.returns-in-Ranges-clause-at_least
-returns-in-Ranges-clause-at_least c =
-    subst (λ (x : Control). OnOk c.take_ranges.result
-    (raised c.args.meter.now (control_nodes c.args.world.now x) ≤ c.take_ranges.new.meter))
-    (sym c.in-Ranges.is) c.take_ranges.ensures.at_least
-
-pub returns-in-Query-clause-at_least : goal.returns-in-Query-clause-at_least
-returns-in-Query-clause-at_least c =
-    subst (λ (x : Control). OnOk c.query_seen.result (raised c.args.meter.now (control_nodes c.args.world.now x) ≤ c.query_seen.new.meter))
-    (sym c.in-Query.is) (on_ok_weaker c.query_seen.result (λ e. none_visited _ _ e) c.query_seen.ensures.kept)
-
-pub returns-in-RegisterStop-clause-at_least : goal.returns-in-RegisterStop-clause-at_least
-returns-in-RegisterStop-clause-at_least c =
-    subst (λ (x : Control). OnOk c.stop_seen.result (raised c.args.meter.now (control_nodes c.args.world.now x) ≤ c.stop_seen.new.meter))
-    (sym c.in-RegisterStop.is) (on_ok_weaker c.stop_seen.result (λ e. then_rises _ _ _ _ (none_visited _ _ refl) e)
-    c.stop_seen.ensures.rises)

@@ -13,19 +13,8 @@ returns-in-None-clause-state c =
     subst (λ (next : Option RouteTable). c.args.world.now ≡ rps_replaced c.args.world.now (ranges_by c.args.world.now next))
     (sym c.in-None.is) (same_rps_replaced c.args.world.now)
 
-pub returns-in-None-clause-at_least : goal.returns-in-None-clause-at_least
-returns-in-None-clause-at_least c =
-    subst (λ (next : Option RouteTable). raised c.args.meter.now (ranges_nodes c.args.world.now next) ≤ c.args.meter.now)
-    (sym c.in-None.is) (none_visited _ _ refl)
-
 pub returns-in-Some-clause-state : goal.returns-in-Some-clause-state
 returns-in-Some-clause-state c =
     subst (λ (next : Option RouteTable). OnOk c.rps_replaced.result
     (c.rps_replaced.new.world ≡ rps_replaced c.args.world.now (ranges_by c.args.world.now next)))
     (sym c.in-Some.is) c.rps_replaced.ensures.state
-
-pub returns-in-Some-clause-at_least : goal.returns-in-Some-clause-at_least
-returns-in-Some-clause-at_least c =
-    subst (λ (next : Option RouteTable). OnOk c.rps_replaced.result
-    (raised c.args.meter.now (ranges_nodes c.args.world.now next) ≤ c.rps_replaced.new.meter))
-    (sym c.in-Some.is) c.rps_replaced.ensures.at_least

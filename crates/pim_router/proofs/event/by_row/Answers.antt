@@ -9,6 +9,3 @@ returns-clause-visited c = λ none row.
     (row_lent c.args.cache.now.mfc c.mfc.result.now c.args.packet.now.destination c.destination.result.bits
     c.args.packet.now.source c.source.result.bits c.mfc.ensures c.destination.ensures c.source.ensures.value row))
     c.forward.ensures.at_most
-
-pub returns-clause-rises : goal.returns-clause-rises
-returns-clause-rises c = rises_by _ _ _ (at_least_itself _ _ _ c.forward.ensures.visited)

@@ -47,10 +47,3 @@ returns-clause-names c =
     c.args.turn.now c.apply.new.turn
     refl c.in_ok-copies.ensures.sends)
     c.in_ok-gathered.ensures.opening c.in_ok-gathered.ensures.before c.in_ok-names.ensures.named
-
-pub returns-clause-at_least : goal.returns-clause-at_least
-unfolding act_nodes
-returns-clause-at_least c =
-    then_rises _ _ _ _
-    (two_in_turn _ _ _ _ _ c.in_ok-gathered.ensures.at_least c.in_ok-copies.ensures.at_least)
-    c.in_ok-names.ensures.rises

@@ -51,10 +51,6 @@ returns-clause-once c =
     c.args.plan.touched c.in_ok-outcome.field-0.names c.in_ok-outcome.ensures.names c.args.cache.now.changed
     c.refresh.new.self.changed c.requires.unlisted c.in_ok-refresh.ensures.listed
 
-pub returns-clause-at_least : goal.returns-clause-at_least
-returns-clause-at_least c =
-    then_rises _ _ _ _ c.in_ok-outcome.ensures.at_least (rises_by _ _ _ c.in_ok-refresh.ensures.at_least)
-
 pub returns-clause-touched : goal.returns-clause-touched
 returns-clause-touched c =
     touches_named c.args.world.now (change c.args.world.now c.args.turn.now.draw (act_event c.args.world.now c.args.plan.act)).state

@@ -32,14 +32,6 @@ returns-in-Ok-clause-sure c =
     accepted_unsurely c.args.world.now c.args.event.now (heard_of c.in_ok-accepted.field-0) c.in-Ok.field-0.accepted
     c.take_accepted.result c.in_ok-accepted.ensures.value (ap heard_of c.in-Ok.is)
 
-pub returns-in-Ok-clause-rises : goal.returns-in-Ok-clause-rises
-returns-in-Ok-clause-rises c =
-    on_ok_weaker c.take_accepted.result
-    (λ e. omega (arith, rises_by _ _ _ (at_least_itself _ _ _ c.judge.ensures.visited), e)) c.take_accepted.ensures.rises
-
-pub returns-in-Err-clause-rises : goal.returns-in-Err-clause-rises
-returns-in-Err-clause-rises c = rises_by _ _ _ (at_least_itself _ _ _ c.judge.ensures.visited)
-
 pub take_accepted-requires-clause-heard : goal.take_accepted-requires-clause-heard
 take_accepted-requires-clause-heard c = sym c.in_ok-accepted.ensures.value ∙ ap heard_of c.in-Ok.is
 

@@ -20,14 +20,3 @@ returns-clause-plan c =
     (source_room c.args.world.now c.args.iface c.args.packet _ _ _ _ c.destination-group.ensures c.source-source.ensures.value
     c.source_is_full.ensures c.if-source_is_full.false)
     c.in_ok-keys.ensures
-
-pub returns-then-source_is_full-clause-at_least : goal.returns-then-source_is_full-clause-at_least
-returns-then-source_is_full-clause-at_least c =
-    unplanned c.args.world.now c.args.packet _ _ _ c.destination-group.ensures c.source-source.ensures.value
-    c.source_is_full.ensures c.args.meter.now c.if-source_is_full.true
-
-pub returns-clause-at_least : goal.returns-clause-at_least
-returns-clause-at_least c =
-    planned c.args.world.now c.args.packet _ _ _ c.destination-group.ensures c.source-source.ensures.value
-    c.source_is_full.ensures c.args.meter.now _ _ c.if-source_is_full.false c.of-star.ensures.at_least
-    (rw c.of-star.ensures.group at c.of-sight.ensures.at_least)

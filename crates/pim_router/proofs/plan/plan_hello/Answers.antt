@@ -43,13 +43,10 @@ returns-then-hello_keeps_dr-clause-plan c =
     let s = c.args.world.now in
     let keys = keys_of_hello s c.args.iface.number c.args.from.bits c.args.hello in
     adjoins_fit s (Act.Control (Control.Hello c.args.iface c.args.from c.args.hello)) keys c.few_or_all-touched.result tt
-    (c.few_or_all-touched.ensures ∙ ap (λ (ks : List Key). few_or_all ks) c.in_ok-keys_of_hello.ensures.keys)
+    (c.few_or_all-touched.ensures ∙ ap (λ (ks : List Key). few_or_all ks) c.in_ok-keys_of_hello.ensures)
     (touched_where _ _ (few_or_all keys) _ (Touched.Keys []) (sym tested ∙ c.if-is_refreshed.false) keeps refl)
     (sym c.is_full.ensures ∙ c.if-is_full.false)
     (hello_moves s c.args.iface c.args.from c.args.hello keeps)
-
-pub returns-then-hello_keeps_dr-clause-rises : goal.returns-then-hello_keeps_dr-clause-rises
-returns-then-hello_keeps_dr-clause-rises c = rises_by _ _ _ c.in_ok-keys_of_hello.ensures.at_least
 
 pub returns-clause-plan : goal.returns-clause-plan
 unfolding is_full touched_of

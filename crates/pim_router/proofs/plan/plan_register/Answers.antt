@@ -14,7 +14,7 @@ use Rattle.pim_router.proofs.plan.plan_register.Goals as goal
 
 pub returns-then-is_full-clause-plan : goal.returns-then-is_full-clause-plan
 unfolding is_full
-returns-then-is_full-clause-plan c = sym c.is_full.ensures.full ∙ c.if-is_full.true
+returns-then-is_full-clause-plan c = sym c.is_full.ensures ∙ c.if-is_full.true
 
 pub returns-clause-plan : goal.returns-clause-plan
 unfolding is_full touched_of
@@ -27,7 +27,7 @@ returns-clause-plan c =
     ≡ is_kept_alive s (registered_group c.args.register) (registered_source c.args.register) =
     λ j. is_kept_alive s (name.group j) (name.source j) in
     keys_fit c.args.world.now (Accepted.Register c.args.packet c.args.register) c.of_keys.result
-    (Act.Register c.args.packet c.args.register) refl tt (sym c.is_full.ensures.full ∙ c.if-is_full.false)
+    (Act.Register c.args.packet c.args.register) refl tt (sym c.is_full.ensures ∙ c.if-is_full.false)
     c.in_ok-keys.keys c.of_keys.ensures
     (those_where _ c.in_ok-keys.keys [] _ (sym alive ∙ sym c.is_kept_alive.ensures ∙ c.if-is_kept_alive.false) those)
     (register_covered c.args.world.now c.args.packet c.args.register c.in_ok-keys.keys those)
@@ -42,15 +42,6 @@ returns-then-is_kept_alive-clause-plan c =
     λ j. is_kept_alive s (name.group j) (name.source j) in
     let kept = sym alive ∙ sym c.is_kept_alive.ensures ∙ c.if-is_kept_alive.true in
     keys_fit c.args.world.now (Accepted.Register c.args.packet c.args.register) c.of_nothing.result
-    (Act.Register c.args.packet c.args.register) refl tt (sym c.is_full.ensures.full ∙ c.if-is_full.false)
+    (Act.Register c.args.packet c.args.register) refl tt (sym c.is_full.ensures ∙ c.if-is_full.false)
     [] c.of_nothing.ensures (these_where _ [] [] _ kept refl)
     (register_known c.args.world.now c.requires c.args.packet c.args.register [] kept refl)
-
-pub returns-then-is_kept_alive-clause-at_least : goal.returns-then-is_kept_alive-clause-at_least
-returns-then-is_kept_alive-clause-at_least c = at_least_itself _ _ _ c.is_full.ensures.visited
-
-pub returns-then-is_full-clause-at_least : goal.returns-then-is_full-clause-at_least
-returns-then-is_full-clause-at_least c = at_least_itself _ _ _ c.is_full.ensures.visited
-
-pub returns-clause-at_least : goal.returns-clause-at_least
-returns-clause-at_least c = at_least_itself _ _ _ c.is_full.ensures.visited

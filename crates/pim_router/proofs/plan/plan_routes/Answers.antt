@@ -28,11 +28,3 @@ returns-clause-plan c =
     (c.in_ok-touched.ensures.touched
     ∙ ap (λ (rs : List Route). Touched.Keys (keys_by_routes s (with_routes s rs))) c.requires)
     c.requires
-
-pub returns-clause-at_least : goal.returns-clause-at_least
-returns-clause-at_least c = λ other.
-    subst (λ (rs : List Route). raised c.args.meter.now (routes_nodes c.args.world.now rs) ≤ c.touched_by_routes.new.meter)
-    c.requires c.in_ok-touched.ensures.at_least
-
-pub returns-clause-rises : goal.returns-clause-rises
-returns-clause-rises c = rises_by _ _ _ c.in_ok-touched.ensures.at_least

@@ -28,11 +28,3 @@ returns-clause-plan c =
     (c.in_ok-touched.ensures.touched
     ∙ ap (λ (rs : List RpRange). Touched.Keys (keys_by_rps s (rps_replaced s rs))) c.requires)
     c.requires
-
-pub returns-clause-visited : goal.returns-clause-visited
-returns-clause-visited c = λ other.
-    subst (λ (rs : List RpRange). c.touched_by_rps.new.meter ≡ raised c.args.meter.now (new_rps_nodes c.args.world.now rs))
-    c.requires c.in_ok-touched.ensures.visited
-
-pub returns-clause-rises : goal.returns-clause-rises
-returns-clause-rises c = rises_by _ _ _ (at_least_itself _ _ _ c.in_ok-touched.ensures.visited)

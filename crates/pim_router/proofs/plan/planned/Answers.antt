@@ -26,22 +26,6 @@ returns-in-Down-clause-plan c =
     (all_fit c.args.world.now a c.of_all-in-Down.result (Act.Control (Control.Down c.in-Down.iface)) refl tt refl
     c.of_all-in-Down.ensures refl tt)
 
-pub returns-in-JoinPruneToMe-clause-rises : goal.returns-in-JoinPruneToMe-clause-rises
-returns-in-JoinPruneToMe-clause-rises c =
-    on_ok_weaker c.plan_join_prune.result (λ e. rises_by _ _ _ e) c.plan_join_prune.ensures.at_least
-
-pub returns-in-JoinPruneSeen-clause-rises : goal.returns-in-JoinPruneSeen-clause-rises
-returns-in-JoinPruneSeen-clause-rises c =
-    on_ok_weaker c.plan_seen.result (λ e. rises_by _ _ _ e) c.plan_seen.ensures.at_least
-
-pub returns-in-Data-clause-rises : goal.returns-in-Data-clause-rises
-returns-in-Data-clause-rises c =
-    on_ok_weaker c.plan_data.result (λ e. rises_by _ _ _ e) c.plan_data.ensures.at_least
-
-pub returns-in-Register-clause-rises : goal.returns-in-Register-clause-rises
-returns-in-Register-clause-rises c =
-    on_ok_weaker c.plan_register.result (λ e. rises_by _ _ _ e) c.plan_register.ensures.at_least
-
 pub plan_routes-requires : goal.plan_routes-requires
 plan_routes-requires c =
     subst (λ (a : Accepted). Brings a c.args.table) c.in-Routes.is c.requires.table ∙ sym c.as_slice.ensures

@@ -20,8 +20,3 @@ loop-group-preserved c = record {
       (numbers_of c.loop-group.group-iterator) (numbers_of c.next.new.self) c.loop-group.invariant.visited
       (ap (λ es. numbers_of es) c.in-Some.ensures.steps) c.group_has_other_rp.ensures.visited;
 }
-
-pub returns-clause-visited : goal.returns-clause-visited
-returns-clause-visited c =
-    all_visited (both_rps_nodes c.args.world.now c.args.next.now.ranges) _ _ (numbers_of c.args.groups.now.entries) (numbers_of c.loop-group.group-iterator)
-    c.loop-group.invariant.visited (ap (λ es. numbers_of es) c.in-None.ensures.steps.0)

@@ -20,8 +20,3 @@ loop-source-preserved c = record {
       (numbers_of c.loop-source.source-iterator) (numbers_of c.next.new.self) c.loop-source.invariant.visited
       (ap (λ es. numbers_of es) c.in-Some.ensures.steps) c.has_other_route.ensures.visited;
 }
-
-pub returns-clause-visited : goal.returns-clause-visited
-returns-clause-visited c =
-    all_visited (both_routes_nodes c.args.world.now c.args.next.now.routes) _ _ (numbers_of c.args.sources.now.entries) (numbers_of c.loop-source.source-iterator)
-    c.loop-source.invariant.visited (ap (λ es. numbers_of es) c.in-None.ensures.steps.0)

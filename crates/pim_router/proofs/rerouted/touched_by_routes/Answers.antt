@@ -11,12 +11,5 @@ pub returns-clause-touched : goal.returns-clause-touched
 unfolding keys_by_routes
 returns-clause-touched c =
     let s = c.args.world.now in
-    ap Touched.Keys (c.in_ok-keys_of_groups.ensures.keys
+    ap Touched.Keys (c.in_ok-keys_of_groups.ensures
     ∙ ap (λ (gs : List ℕ). flat_map (moved_of_group s (with_routes s c.args.next.now.routes)) gs) c.in_ok-groups.ensures)
-
-pub returns-clause-at_least : goal.returns-clause-at_least
-unfolding routes_nodes
-returns-clause-at_least c =
-    subst (λ (gs : List ℕ). raised c.args.meter.now (sum_by (moved_nodes c.args.world.now c.args.next.now.routes) gs)
-    ≤ c.keys_of_groups.new.meter)
-    c.in_ok-groups.ensures c.in_ok-keys_of_groups.ensures.at_least

@@ -13,13 +13,6 @@ pub returns-clause-touched : goal.returns-clause-touched
 unfolding keys_by_rps
 returns-clause-touched c =
     let s = c.args.world.now in
-    ap Touched.Keys (c.in_ok-keys_with_other_rp.ensures.keys
+    ap Touched.Keys (c.in_ok-keys_with_other_rp.ensures
     ∙ ap (λ (gs : List ℕ). map (star_key 0) (filter (group_has_other_rp s (rps_replaced s c.args.next.now.ranges)) gs))
     c.in_ok-groups.ensures)
-
-pub returns-clause-visited : goal.returns-clause-visited
-unfolding new_rps_nodes
-returns-clause-visited c =
-    c.in_ok-keys_with_other_rp.ensures.visited
-    ∙ ap (λ (gs : List ℕ). raised c.args.meter.now (sum_by (both_rps_nodes c.args.world.now c.args.next.now.ranges) gs))
-    c.in_ok-groups.ensures

@@ -27,8 +27,3 @@ returns-then-stays-clause-messages c =
     ∙ ap (λ (p : State × List Message). saying c.args.turn.now p.1)
     (sym (nothing_goes c.args.opened.now c.args.group.now _ c.args.world.now c.requires c.in_ok-seen.ensures.opening
     (c.stays.ensures c.if-stays.true)))
-
-pub returns-clause-at_least : goal.returns-clause-at_least
-returns-clause-at_least c =
-    afterwards _ _ _ _ (rises_by _ _ _ c.in_ok-seen.ensures.at_least)
-    (afterwards _ _ _ _ (rises_by _ _ _ c.in_ok-clear.ensures.at_least) c.in_ok-anew.ensures.at_least)

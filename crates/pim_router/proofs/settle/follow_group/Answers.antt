@@ -28,12 +28,3 @@ returns-clause-named c =
     seen_named c.args.opening.now c.args.world.now c.clear_group.new.world c.args.turn.now c.clear_group.new.turn
     c.in_ok-seen.ensures.state c.in_ok-seen.ensures.messages c.args.before.now (keys_of c.in_ok-names.names)
     c.in_ok-names.ensures.named
-
-pub returns-clause-at_least : goal.returns-clause-at_least
-returns-clause-at_least c =
-    then_rises _ _ _ _
-    (then_rises _ _ _ _
-    (subst (λ (s : State). raised c.args.meter.now (group_after_nodes s c.args.group.now) ≤ c.clear_group.new.meter)
-    c.in_ok-seen.ensures.state c.in_ok-seen.ensures.at_least)
-    c.in_ok-names.ensures.rises)
-    (rises_by _ _ _ c.in_ok-changed_group.ensures.at_least)

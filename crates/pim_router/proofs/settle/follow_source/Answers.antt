@@ -50,35 +50,3 @@ returns-clause-named c =
     c.clear_alone.new.turn registered c.in_ok-clear_alone.ensures.state
     c.in_ok-clear_alone.ensures.messages
     c.args.before.now (keys_of c.in_ok-names.names) c.in_ok-names.ensures.named
-
-pub returns-clause-at_least : goal.returns-clause-at_least
-unfolding followed_alone_nodes cleared_by
-returns-clause-at_least c =
-    let s = c.args.world.now in
-    let x = c.args.group.now in
-    let o = c.args.opened in
-    let here : c.of-sight.result.star.group ≡ x.group =
-    ap (λ (t : StarSight). t.group) c.of-sight.ensures.star ∙ c.of-star.ensures.group in
-    let later : c.settle_register.new.sight.star.group ≡ x.group =
-    ap (λ (t : StarSight). t.group) c.in_ok-settle_register.ensures.star ∙ here in
-    let registered : c.settle_register.new.world ≡ registers_by (x ∷ []) s =
-    registered_alone s c.settle_register.new.world x o _ _ c.requires.alone
-    (ap (λ (t : StarSight). t.group.bits) c.of-sight.ensures.star ∙ ap (λ (a : Addr). a.bits) c.of-star.ensures.group)
-    (ap (λ (a : Addr). a.bits) c.of-sight.ensures.source) c.in_ok-settle_register.ensures.state in
-    let cleared : c.clear_alone.new.world ≡ (clear_by (x ∷ []) (registers_by (x ∷ []) s)).0 =
-    c.in_ok-clear_alone.ensures.state ∙ ap (λ (t : State). (clear_by (x ∷ []) t).0) registered in
-    two_in_turn _ _ _ _ _
-    (then_rises _ _ _ _
-    (two_in_turn _ _ _ _ _
-    (two_in_turn _ _ _ _ _
-    (two_in_turn _ _ _ _ _ c.of-star.ensures.at_least (rw c.of-star.ensures.group at c.of-sight.ensures.at_least))
-    (subst (λ (g : Addr). raised c.of-sight.new.meter (register_mark_nodes s g o.source) ≤ c.settle_register.new.meter) here
-    (subst (λ (a : Addr). raised c.of-sight.new.meter (register_mark_nodes s c.of-sight.result.star.group a)
-    ≤ c.settle_register.new.meter) c.of-sight.ensures.source c.in_ok-settle_register.ensures.at_least)))
-    (subst (λ (t : State). raised c.settle_register.new.meter (alone_nodes x.group t o) ≤ c.clear_alone.new.meter) registered
-    (subst (λ (g : Addr). raised c.settle_register.new.meter (alone_nodes g c.settle_register.new.world o)
-    ≤ c.clear_alone.new.meter) later c.in_ok-clear_alone.ensures.at_least)))
-    c.in_ok-names.ensures.rises)
-    (subst (λ (t : State). raised c.named_by_sights.new.meter (told_alone_nodes t x o) ≤ c.changed_alone.new.meter)
-    cleared
-    c.in_ok-changed_alone.ensures.at_least)

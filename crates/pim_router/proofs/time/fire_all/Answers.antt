@@ -103,9 +103,6 @@ returns-clause-disturbed c =
     (none_told (next_due c.args.moment c.instants.world) (sym c.next_due.ensures ∙ c.in_default.is)))
     c.instants.invariant.7
 
-pub returns-clause-rises : goal.returns-clause-rises
-returns-clause-rises c = c.instants.invariant.4
-
 pub returns-clause-cache : goal.returns-clause-cache
 returns-clause-cache c = record {
   shown = c.instants.invariant.2;

@@ -94,9 +94,6 @@ returns-clause-disturbed c =
     (none_told (next_due c.args.first.0 c.firings.world) (sym c.next_due.ensures ∙ c.in_default.is)))
     c.firings.invariant.7
 
-pub returns-clause-rises : goal.returns-clause-rises
-returns-clause-rises c = c.firings.invariant.4
-
 pub returns-clause-cache : goal.returns-clause-cache
 returns-clause-cache c = record {
   shown = c.firings.invariant.2;

@@ -46,11 +46,6 @@ returns-clause-disturbed c =
     c.in_ok-refresh.ensures.disturbed
     ∙ ap (λ (t : Touched). joined c.args.cache.now.disturbed t) c.in_ok-touched.ensures.touched
 
-pub returns-clause-at_least : goal.returns-clause-at_least
-returns-clause-at_least c =
-    then_rises _ _ _ _ (afterwards _ _ _ _ c.in_ok-touched.ensures.rises c.in_ok-names.ensures.at_least)
-    (rises_by _ _ _ c.in_ok-refresh.ensures.at_least)
-
 pub returns-clause-touched : goal.returns-clause-touched
 returns-clause-touched c =
     touches_named c.args.world.now (own_firing c.args.world.now (ending_of c.args.due)) c.fire_world.new.world

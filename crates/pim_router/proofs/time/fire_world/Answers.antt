@@ -48,18 +48,3 @@ returns-clause-names c =
     c.in_ok-fired.ensures.state)
     c.in_ok-gathered.ensures.opening c.in_ok-gathered.ensures.before named))
     c.settle.ensures.named
-
-pub returns-clause-at_least : goal.returns-clause-at_least
-unfolding firing_nodes
-returns-clause-at_least c =
-    let s = c.args.world.now in
-    let touched = c.requires.touched in
-    on_ok_weaker c.settle.result
-    (λ e. then_rises _ _ _ _
-    (two_in_turn _ _ _ _ _
-    (subst (λ (t : Touched). raised c.args.meter.now (opening_nodes s t) ≤ c.of.new.meter) touched
-    c.in_ok-gathered.ensures.at_least)
-    (subst (λ (t : State). raised c.of.new.meter (end_nodes t c.args.due.1.kind c.args.due.1.key) ≤ c.fired.new.meter)
-    c.set_present.ensures c.in_ok-fired.ensures.at_least))
-    e)
-    c.settle.ensures.rises

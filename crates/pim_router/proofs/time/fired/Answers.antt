@@ -15,14 +15,3 @@ returns-in-Keepalive-clause-messages c =
     (subst (λ (kind : TimerKind). c.args.turn.now
     ≡ saying c.args.turn.now (fired c.args.world.now kind c.args.timer.key).1) (sym c.in-Keepalive.is)
     (says_nothing c.args.world.now c.args.timer.key c.args.turn.now))
-
-pub returns-in-Neighbour-clause-at_least : goal.returns-in-Neighbour-clause-at_least
-returns-in-Neighbour-clause-at_least c =
-    let m = c.args.meter.now in
-    ⊎_elim
-    (λ is. subst (λ (kind : TimerKind). OnOk c.fired.result
-    (raised m (end_nodes c.args.world.now kind c.args.timer.key) ≤ m)) (sym is)
-    (on_ok c.fired.result (none_visited m m refl)))
-    (λ is. subst (λ (kind : TimerKind). OnOk c.fired.result
-    (raised m (end_nodes c.args.world.now kind c.args.timer.key) ≤ m)) (sym is)
-    (on_ok c.fired.result (none_visited m m refl))) c.in-Neighbour.is

@@ -18,6 +18,3 @@ returns-then-end_keeps_dr-clause-touched c =
     ∙ (λ j. keys_towards s (ap (λ (i : IfaceId). i.number) c.hop.ensures.iface j) (c.hop.ensures.address j)))
     ∙ sym (ap (λ (keeps : Bool). if keeps then few_or_all (keys_towards s (iface_in k) (source_in k)) else Touched.All)
     (sym c.end_keeps_dr.ensures ∙ c.if-end_keeps_dr.true))
-
-pub returns-then-end_keeps_dr-clause-rises : goal.returns-then-end_keeps_dr-clause-rises
-returns-then-end_keeps_dr-clause-rises c = rises_by _ _ _ c.in_ok-keys.ensures.at_least
