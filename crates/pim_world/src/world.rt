@@ -19,6 +19,7 @@ use pim_membership::Membership;
 use pim_mrib::Mrib;
 use pim_neighbours::Neighbours;
 use pim_store::Store;
+use pim_trie::Meter;
 use pim_types::fact::InterfaceRow;
 use pim_types::{Addr, Config, Fault, IfaceId, Refusal, Settings};
 use std::alloc::{AllocError, Global};
