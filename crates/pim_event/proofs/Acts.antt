@@ -1,5 +1,5 @@
 -- What an event is to do: of which event it is, and what was read for it.
-use Rattle.std.proofs.Common.{◌≡◌, ℕ, refl, subst, sym, ◌∙◌}
+use Rattle.std.proofs.Common.{◌≡◌, ℕ, subst, sym, ◌∙◌}
 use Rattle.pim_types.specs.declared.config.IfaceId.{IfaceId}
 use Rattle.pim_wire.specs.Values.{JoinPrune}
 use Rattle.pim_model.specs.declared.accepted.Accepted.{Accepted}

@@ -1,8 +1,7 @@
 -- Time that passes: how far a loop over timers has come.
-use Rattle.std.proofs.Common.{◌≡◌, ◌≤◌, ◌<◌, ℕ, nat_le, Bool, true, false, cond, List, [], ◌++◌, Ok, Err, Result, OnOk, option_and_then, append_assoc, append-nil, le-leb, Option, Some, None, option_map, refl, ap, subst, sym, ◌∙◌, arith}
+use Rattle.std.proofs.Common.{◌≡◌, ◌≤◌, ◌<◌, ℕ, nat_le, Bool, true, false, cond, List, [], ◌++◌, Ok, Err, Result, OnOk, append_assoc, append-nil, le-leb, Option, Some, None, option_map, refl, ap, subst, sym, ◌∙◌, arith}
 use Rattle.std.proofs.lemmas.Bool.Decides.{nat_tests}
 use Rattle.std.specs.Option.{option_map_or}
-use Rattle.std.specs.Prelude.{if◌then◌else◌}
 use Rattle.pim_types.specs.declared.fact.Key.{Key}
 use Rattle.pim_types.specs.declared.fact.SourceRow.{SourceRow}
 use Rattle.pim_types.specs.declared.outcome.Emission.{Emission}
@@ -14,7 +13,7 @@ use Rattle.pim_model.specs.Reach.{own_firing}
 use Rattle.pim_model.specs.Repeat.{and_then}
 use Rattle.pim_model.specs.State.{State}
 use Rattle.pim_model.specs.Tables.{row_at}
-use Rattle.pim_model.specs.Timers.{Ending, next_due, next_ending, next_moment}
+use Rattle.pim_model.specs.Timers.{Ending, next_due, next_ending}
 use Rattle.pim_laws.specs.Laws.{IsReady, due_by, ends_from}
 use Rattle.pim_laws.proofs.FiringLaws.{InInstant, ahead_is_ready, begins, fewer_due, fewer_instants, firing_goes_on, firing_stops, instant_goes_on, instant_is_complete, instant_stops, instants_left, ready_at_present, sound_of, still_due, still_inside}
 use Rattle.pim_laws.proofs.TimerLaws.{from_shown, next_due_is_next, shown_from}

@@ -29,4 +29,3 @@ mod Repeats
 mod Direct
 mod Touching
 mod Tunnelled
-mod Visited

@@ -1,6 +1,6 @@
 -- Which sources are listed as changed: after an event, after the expiry of a timer, and over firings and events in
 -- turn.
-use Rattle.std.proofs.Common.{◌≡◌, ◌≤◌, ◌<◌, ◌+◌, ℕ, Bool, true, false, ◌||◌, List, [], ◌∷◌, ◌++◌, Option, Some, Result, Ok, Err, OnOk, length, take, take_all, get_or, append_assoc, append-nil, add-one, refl, ap, subst, sym, ◌∙◌}
+use Rattle.std.proofs.Common.{◌≡◌, ◌≤◌, ◌<◌, ◌+◌, ℕ, Bool, true, false, ◌||◌, List, [], ◌∷◌, ◌++◌, Some, Ok, Err, length, take, take_all, get_or, append_assoc, append-nil, add-one, refl, ap, subst, sym, ◌∙◌}
 use Rattle.std.specs.Prelude.{if◌then◌else◌}
 use Rattle.std.proofs.Math.Seq.{take-suc}
 use Rattle.std.specs.List.Sorted.{IsStrictlySortedBy}
@@ -37,7 +37,6 @@ use Rattle.pim_fanout.proofs.Listed.{names_are_named}
 use Rattle.pim_fanout.proofs.Opened.{names_rise}
 use Rattle.pim_event.specs.Listing.{IsLastListed, ListsMore, ListsSame}
 use Rattle.pim_event.specs.Settling.{AreNames}
-use Rattle.pim_event.proofs.Costs.{state_then}
 use Rattle.pim_event.proofs.Firings.{all_told, instant_told}
 use Rattle.pim_event.proofs.Rows.{named_timeless}
 

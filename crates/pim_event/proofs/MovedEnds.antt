@@ -1,28 +1,24 @@
 -- A record of a report whose group keeps its mode: what it writes is as it was, but for the sources that it moves and
 -- the moments at which timers end.
-use Rattle.std.proofs.Common.{◌≡◌, ℕ, ◌==◌, ◌&&◌, ◌||◌, Bool, true, false, not, cond, List, [], ◌∷◌, fold, map, Option, Some, None, is_none, is_some, option_map, refl, ap, sym, subst, ◌∙◌, eq-eqb}
-use Rattle.std.proofs.lemmas.Bool.{or_left, or_right}
-use Rattle.std.specs.Cmp.{first_so, second_so}
-use Rattle.std.specs.List.{AllByRecursion, cons_option, filter, filter_map, list_any}
+use Rattle.std.proofs.Common.{◌≡◌, ℕ, ◌&&◌, ◌||◌, Bool, true, false, not, cond, List, [], ◌∷◌, fold, map, Option, Some, None, is_none, is_some, option_map, refl, ap, sym, subst, ◌∙◌, eq-eqb}
+use Rattle.std.specs.List.{cons_option, filter, filter_map, list_any}
 use Rattle.std.specs.List.Sorted.{IsStrictlySortedBy}
 use Rattle.igmp_wire.specs.declared.report.RecordType.{RecordType}
-use Rattle.pim_types.specs.declared.fact.GroupRecordRow.{GroupRecordRow}
 use Rattle.pim_types.specs.declared.fact.Key.{Key}
 use Rattle.pim_types.specs.declared.fact.SourceRecordRow.{SourceRecordRow}
 use Rattle.pim_types.specs.Keys.{key_cmp, same_key, source_in, source_key}
 use Rattle.pim_types.proofs.Keys.{equal_keys, same_key_same}
 use Rattle.pim_model.specs.Records.{Fate, Gone, Excluded, Until, GroupRecord, Member, apply_record, from_exclude, from_include, fate_in, is_at_group, is_no_record, kept_or_until, members_of, put_member, record_with}
-use Rattle.pim_model.specs.Tables.{Table, drop_where, has_row, is_among, is_empty_list, keys_in, put, row_at, rows_where}
+use Rattle.pim_model.specs.Tables.{Table, drop_where, has_row, is_among, keys_in, put, row_at}
 use Rattle.pim_laws.proofs.ListLaws.{either}
 use Rattle.pim_laws.proofs.RowLaws.{row_put, row_put_away}
 use Rattle.pim_laws.proofs.TableLaws.{row_is_there}
 use Rattle.pim_cached.proofs.KeptAlive.{with_its_row}
 use Rattle.pim_filters.proofs.Applying.{all_of}
 use Rattle.pim_filters.proofs.Merging.{fate_among}
-use Rattle.pim_locality.specs.Scopes.{only_mode, only_running, only_side}
+use Rattle.pim_locality.specs.Scopes.{only_running}
 use Rattle.pim_locality.proofs.Rows.{cut_entry, row_at_cut}
 use Rattle.pim_locality.proofs.SourceMacros.{cut_source}
-use Rattle.pim_locality.proofs.StarMacros.{cut_group}
 use Rattle.pim_querier.specs.Reports.{keeps_others, stays}
 use Rattle.pim_model.specs.Cause.{is_including}
 use Rattle.pim_querier.proofs.NamedRecords.{all_among, gone_of, is_member, neither, none_written}

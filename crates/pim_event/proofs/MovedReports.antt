@@ -1,7 +1,7 @@
 -- A report whose groups keep their modes: no machine sees it but those of the sources that it moves.
 use Rattle.std.specs.Option.{option_map_or}
 use Rattle.std.specs.Prelude.{◌⊎◌}
-use Rattle.std.proofs.Common.{inl, inr, ◌≡◌, ℕ, ◌==◌, ◌&&◌, ◌||◌, ◌++◌, Bool, true, false, not, cond, List, [], ◌∷◌, fold, map, filter, Option, Some, None, is_none, is_some, option_and_then, option_map, refl, ap, sym, subst, ◌∙◌, ◌+◌, eqb-true}
+use Rattle.std.proofs.Common.{inl, inr, ◌≡◌, ℕ, ◌==◌, ◌&&◌, ◌||◌, Bool, true, false, not, cond, List, [], ◌∷◌, fold, map, filter, Option, Some, None, is_some, option_and_then, option_map, refl, ap, sym, subst, ◌∙◌, ◌+◌, eqb-true}
 use Rattle.std.proofs.lemmas.Bool.{or_left, or_right}
 use Rattle.std.proofs.lemmas.List.Folds.{list_any-append}
 use Rattle.std.specs.Cmp.{first_so, second_so}
@@ -45,7 +45,7 @@ use Rattle.pim_model.specs.Cause.{is_including}
 use Rattle.pim_querier.proofs.OneSource.{AreSources}
 use Rattle.pim_tables.proofs.RisingRows.{Above, Up, same_rows, sorted_of_up, up_filtered, up_of_sorted, up_put}
 use Rattle.pim_event.proofs.Growing.{any_left, any_right, row_among}
-use Rattle.pim_event.proofs.MovedEnds.{Fares, IsMoved, any_kept, applied_moved, is_left, keys_alike, own_here, row_alike, side, up_cut, written}
+use Rattle.pim_event.proofs.MovedEnds.{Fares, IsMoved, any_kept, applied_moved, is_left, keys_alike, own_here, row_alike, side, up_cut}
 
 -- ---- tables that are alike, of the rows of some keys and changed in their places
 

@@ -1,8 +1,7 @@
 -- What is heard again touches nothing: a packet of data, or a Register, that moves the expiry of a keepalive timer, and
 -- an Assert of the known winner.
 use Rattle.std.proofs.Common.{◌≡◌, ◌==◌, ◌&&◌, ◌||◌, ◌++◌, ◌∙◌, ◌∷◌, Bool, List, [], None, Option, Some, ap, cond, false, is_some, not, refl, subst, sym, true, ℕ}
-use Rattle.std.proofs.lemmas.Bool.{or_left, or_right}
-use Rattle.std.proofs.lemmas.List.Folds.{list_any-append}
+use Rattle.std.proofs.lemmas.Bool.{or_left}
 use Rattle.std.specs.Cmp.{first_so, second_so}
 use Rattle.std.specs.List.{list_any}
 use Rattle.std.specs.Option.{option_map_or}
@@ -19,7 +18,7 @@ use Rattle.pim_types.specs.declared.fact.SourceRow.{SourceRow}
 use Rattle.pim_types.specs.Keys.{iface_in, names_source, source_key, star_key}
 use Rattle.pim_wire.specs.declared.assert.Assert.{Assert as AssertMessage}
 use Rattle.pim_model.specs.AssertMacros.{is_infinite}
-use Rattle.pim_model.specs.Asserts.{assert_as_loser, assert_as_winner, assert_at, assert_forgotten, assert_in_no_info, assert_received, could_assert_at, data_seen, is_acceptable, is_from_winner, is_inferior, is_of_tree, is_tracking_at, loses, my_metric_at, theirs_of, wins, with_spt_bit}
+use Rattle.pim_model.specs.Asserts.{assert_as_loser, assert_as_winner, assert_at, assert_forgotten, assert_in_no_info, assert_received, could_assert_at, data_seen, is_from_winner, is_tracking_at, loses, my_metric_at, theirs_of, wins, with_spt_bit}
 use Rattle.pim_model.specs.Cache.{answers, may_register, opens_tunnel, sets_spt}
 use Rattle.pim_model.specs.Clearing.{assert_must_go, is_rpf_at}
 use Rattle.pim_model.specs.Desires.{join_desired}
@@ -31,7 +30,7 @@ use Rattle.pim_model.specs.Registers.{could_register, has_other_rp, is_dr_of_pat
 use Rattle.pim_model.specs.Rows.{same_metric}
 use Rattle.pim_model.specs.Sets.{Set, inherited_olist, inherited_olist_rpt, is_better, is_kept_alive, is_loser, is_winner, spt_bit}
 use Rattle.pim_model.specs.State.{State}
-use Rattle.pim_model.specs.Tables.{Table, has_row, keys_in, row_at}
+use Rattle.pim_model.specs.Tables.{has_row, keys_in, row_at}
 use Rattle.pim_model.specs.Unicast.{is_connected, is_rp, is_rpf_interface, is_rpf_interface_rp, route}
 use Rattle.pim_model.specs.Upstream.{fact_keys}
 use Rattle.pim_locality.proofs.EndsAgain.{keepalive_again, loses_again}

@@ -1,6 +1,5 @@
 -- Which rows of the cache are made anew after a change, and that all rows are those of the state then.
-use Rattle.std.specs.Prelude.{if◌then◌else◌}
-use Rattle.std.proofs.Common.{◌≡◌, ◌≤◌, ◌+◌, ◌*◌, ℕ, Bool, false, List, Option, Some, IfSome, Result, Ok, Err, IfOk, length, refl, ap, subst, sym, ◌∙◌, arith}
+use Rattle.std.proofs.Common.{◌≡◌, ◌≤◌, ◌+◌, ◌*◌, ℕ, false, List, Result, Ok, Err, IfOk, length, refl, ap, subst, sym, ◌∙◌, arith}
 use Rattle.std.proofs.lemmas.List.{length-map}
 use Rattle.pim_types.specs.declared.fact.Key.{Key}
 use Rattle.pim_trie.specs.Meter.{raised}
@@ -18,8 +17,7 @@ use Rattle.pim_locality.specs.Locality.{IsQuiet}
 use Rattle.pim_reach.specs.Named.{named_by, named_of}
 use Rattle.pim_cached.specs.Kept.{refreshed}
 use Rattle.pim_macros.specs.declared.rows.SourceAnswers.{SourceAnswers}
-use Rattle.pim_mfc.specs.declared.cache_row.CacheRow.{CacheRow}
-use Rattle.pim_mfc.specs.Laws.{ShowsRows, TellsRow}
+use Rattle.pim_mfc.specs.Laws.{ShowsRows}
 use Rattle.pim_opening.specs.Openings.{opening_of}
 use Rattle.pim_opening.specs.declared.opening.GroupOpening.{GroupOpening}
 use Rattle.pim_store.specs.PimTables.{AreKeyed, pim_tables}

@@ -12,5 +12,4 @@ pub mod Planning
 pub mod Sending
 pub mod Settling
 pub mod Stops
-pub mod Visits
 pub mod Repeats

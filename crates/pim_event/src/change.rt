@@ -1,14 +1,10 @@
 //! The change that an event makes by itself, before anything follows of it.
-ghost use Rattle.std.specs.Prelude.{◌≡◌, ◌≤◌, ◌<◌, IfOk, OnOk};
-ghost use Rattle.pim_data.specs.Visits.{arrived_nodes};
-ghost use Rattle.pim_register.specs.Visits.{register_nodes};
-ghost use Rattle.pim_event.specs.Visits.{change_nodes, control_nodes, ranges_nodes};
-ghost use Rattle.pim_trie.specs.Meter.{raised};
+ghost use Rattle.std.specs.Prelude.{◌≡◌, ◌<◌, IfOk, OnOk};
 ghost use Rattle.pim_world.specs.Turns.{saying};
 ghost use Rattle.pim_wire.specs.RegisterParts.{is_null, registered_group, registered_source};
 ghost use Rattle.pim_model.specs.Forwarding.{forwarded, register_received};
 ghost use Rattle.pim_model.specs.State.{iface_count};
-ghost use Rattle.pim_model.specs.Step.{Change, change, decapsulated, iface_up, packet_forwarded, rps_replaced};
+ghost use Rattle.pim_model.specs.Step.{change, decapsulated, iface_up, packet_forwarded, rps_replaced};
 ghost use Rattle.pim_event.specs.Acting.{HasHeard, HasRead, IsSightOf, control_event, act_event, ranges_by, routes_by};
 ghost use Rattle.pim_event.specs.Naming.{IsConfigured};
 ghost use Rattle.pim_event.specs.Sending.{Sends};
@@ -54,7 +50,7 @@ fn forward(
 ) -> Result<Leaving, AllocError>
     requires below { iface.number < 120 }
     requires sight { IsSightOf world.old packet.now.destination packet.now.source sight }
-    ensures sends { IfOk result (λ leaving. Sends leaving world.new turn.old turn.new (packet_forwarded packet.now
+    ensures { IfOk result (λ leaving. Sends leaving world.new turn.old turn.new (packet_forwarded packet.now
         (forwarded world.old packet.now.destination packet.now.source iface.number))) }
 {
     let list = arrived(world, turn, meter, iface, sight)?;
@@ -69,7 +65,7 @@ fn decapsulate(
     packet: &Ipv4View<'_>,
     register: &RegisterView<'_>,
 ) -> Result<Leaving, AllocError>
-    ensures sends { IfOk result (λ leaving. Sends leaving world.new turn.old turn.new (decapsulated register.now
+    ensures { IfOk result (λ leaving. Sends leaving world.new turn.old turn.new (decapsulated register.now
         (register_received world.old packet.now (registered_group register.now) (registered_source register.now)
         (is_null register.now)))) }
 {
@@ -115,7 +111,7 @@ pub(crate) fn apply(
 ) -> Result<Leaving, AllocError>
     requires configured { IsConfigured world.old (act_event world.old act) }
     requires read { HasRead world.old act }
-    ensures sends { IfOk result (λ leaving. Sends leaving world.new turn.old turn.new
+    ensures { IfOk result (λ leaving. Sends leaving world.new turn.old turn.new
         (change world.old turn.old.draw (act_event world.old act.entry))) }
 {
     match act {

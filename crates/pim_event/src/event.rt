@@ -1,6 +1,6 @@
 //! One event: its tests, its change where there is room for its facts, and what follows of the change.
 ghost use Rattle.std.specs.List.Sorted.{IsStrictlySortedBy};
-ghost use Rattle.std.specs.Prelude.{◌≡◌, ◌≤◌, ◌<◌, [], IfOk, IsOk, IsOkUnless, IsTrue, Ok, OnOk, false, if◌then◌else◌, not, true};
+ghost use Rattle.std.specs.Prelude.{◌≡◌, ◌<◌, [], IfOk, IsOk, IsOkUnless, IsTrue, Ok, OnOk, false, if◌then◌else◌, not, true};
 ghost use Rattle.pim_fanout.specs.Disturbed.{joined};
 ghost use Rattle.pim_fanout.specs.Laws.{names_of};
 ghost use Rattle.pim_fanout.specs.Refreshing.{touches, touches_in};
@@ -31,7 +31,6 @@ ghost use Rattle.pim_event.specs.Planning.{Fits};
 ghost use Rattle.pim_event.specs.Settling.{AreNames};
 ghost use Rattle.pim_offload.specs.Staying.{is_rerouting};
 ghost use Rattle.pim_event.specs.Stops.{stop_outcome};
-ghost use Rattle.pim_event.specs.Visits.{act_nodes};
 ghost use Rattle.pim_trie.specs.Meter.{raised};
 ghost use Rattle.pim_types.specs.Keys.{key_cmp};
 ghost use Rattle.pim_world.specs.declared.touched.Touched.{Touched as TouchedValue};

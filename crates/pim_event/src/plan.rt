@@ -1,6 +1,6 @@
 //! The plan of an event, made before its change: whether there is room for the facts that it names, what its change
 //! touches, and what it is to do. Each kind of event says all three in one place.
-ghost use Rattle.std.specs.Prelude.{◌≡◌, ◌<◌, ◌≤◌, ◌∷◌, [], IfOk, OnOk, filter, not};
+ghost use Rattle.std.specs.Prelude.{◌≡◌, ◌<◌, ◌∷◌, [], IfOk, filter, not};
 ghost use Rattle.pim_types.specs.Keys.{is_star};
 ghost use Rattle.pim_wire.specs.RegisterParts.{registered_group, registered_source};
 ghost use Rattle.pim_model.specs.State.{iface_count};
@@ -8,17 +8,13 @@ ghost use Rattle.pim_model.specs.declared.accepted.Accepted.{Accepted as Accepte
 ghost use Rattle.pim_locality.specs.Rest.{IsAtRest};
 ghost use Rattle.pim_locality.specs.Touches.{packet_keys};
 ghost use Rattle.pim_macros.specs.Sights.{IsSourceSight};
-ghost use Rattle.pim_downstream.specs.Visits.{message_named_nodes};
-ghost use Rattle.pim_mrib.specs.Routes.{rp_nodes};
 ghost use Rattle.pim_event.specs.Repeats.{keys_of_packet};
 ghost use Rattle.pim_event.specs.Naming.{Brings, IsConfigured};
 ghost use Rattle.pim_event.specs.Planning.{IsPlanned};
-ghost use Rattle.pim_event.specs.Visits.{data_plan_nodes, routes_nodes, new_rps_nodes};
 ghost use Rattle.pim_event.specs.declared.act.Act.{Act as ActValue};
 ghost use Rattle.pim_event.specs.declared.act.Control.{Control as ControlValue};
 ghost use Rattle.pim_event.specs.declared.plan.Planning.{Planning as PlanningValue};
 ghost use Rattle.pim_world.specs.declared.touched.Touched.{Touched as TouchedValue};
-ghost use Rattle.pim_trie.specs.Meter.{raised};
 
 use crate::act::{Act, Control};
 use crate::again::{is_assert_known, is_direct, is_kept_alive, packet_moves_end};
@@ -116,7 +112,7 @@ fn plan_hello<'a>(
     hello: Hello,
 ) -> Result<Planning<'a>, AllocError>
     requires { IsAtRest world.now }
-    ensures plan { IfOk result (λ planning. IsPlanned world.now (AcceptedValue.Hello iface from hello) planning) }
+    ensures { IfOk result (λ planning. IsPlanned world.now (AcceptedValue.Hello iface from hello) planning) }
 {
     if pim_hello::is_full(world, iface, from, &hello) {
         return Ok(Planning::Full);
@@ -142,7 +138,7 @@ fn plan_join_prune<'a>(
     message: JoinPruneView<'a>,
 ) -> Result<Planning<'a>, AllocError>
     requires { IsAtRest world.now }
-    ensures plan { IfOk result (λ planning. IsPlanned world.now (AcceptedValue.JoinPruneToMe iface message.entry) planning) }
+    ensures { IfOk result (λ planning. IsPlanned world.now (AcceptedValue.JoinPruneToMe iface message.entry) planning) }
 {
     let named = Named::of(world, turn, meter, iface, &message)?;
     let holdtime = message.holdtime();
@@ -168,7 +164,7 @@ fn plan_seen<'a>(
     iface: IfaceId,
     message: JoinPruneView<'a>,
 ) -> Result<Planning<'a>, AllocError>
-    ensures plan { IfOk result (λ planning. IsPlanned world.now (AcceptedValue.JoinPruneSeen iface message.entry) planning) }
+    ensures { IfOk result (λ planning. IsPlanned world.now (AcceptedValue.JoinPruneSeen iface message.entry) planning) }
 {
     let named = Named::of(world, turn, meter, iface, &message)?;
     let keys = of_sources(turn.alloc, &named.pruned)?;
@@ -314,7 +310,7 @@ fn plan_data<'a>(
 ) -> Result<Planning<'a>, AllocError>
     requires rest { IsAtRest world.now }
     requires configured { iface.number < iface_count world.now }
-    ensures plan { IfOk result (λ planning. IsPlanned world.now (AcceptedValue.Data iface packet.entry) planning) }
+    ensures { IfOk result (λ planning. IsPlanned world.now (AcceptedValue.Data iface packet.entry) planning) }
 {
     let (group, source) = (packet.destination(), packet.source());
     if source_is_full(world, SourceGroup { source, group }) {
@@ -353,7 +349,7 @@ fn plan_register<'a>(
     register: RegisterView<'a>,
 ) -> Result<Planning<'a>, AllocError>
     requires { IsAtRest world.now }
-    ensures plan { IfOk result (λ planning. IsPlanned world.now (AcceptedValue.Register packet.entry register.entry) planning) }
+    ensures { IfOk result (λ planning. IsPlanned world.now (AcceptedValue.Register packet.entry register.entry) planning) }
 {
     if pim_register::is_full(world, meter, &packet, &register) {
         return Ok(Planning::Full);
@@ -439,7 +435,7 @@ pub(crate) fn planned<'a>(
     requires rest { IsAtRest world.now }
     requires configured { IsConfigured world.now accepted }
     requires table { Brings accepted table }
-    ensures plan { IfOk result (λ planning. IsPlanned world.now accepted.entry planning) }
+    ensures { IfOk result (λ planning. IsPlanned world.now accepted.entry planning) }
 {
     match accepted {
         Accepted::Advance { moment } => Ok(Planning::Time { moment }),

@@ -2,18 +2,15 @@
 //! routes or ranges stand in the table that was made to test them, and each address is looked up once in the present
 //! table and once in the new one.
 ghost use Rattle.std.specs.List.{flat_map};
-ghost use Rattle.std.specs.Prelude.{◌≡◌, ◌≤◌, ◌++◌, IfOk, OnOk, filter, map, not, sum_by};
+ghost use Rattle.std.specs.Prelude.{◌≡◌, ◌++◌, IfOk, OnOk, filter, map, not};
 ghost use Rattle.pim_types.specs.Keys.{source_key, star_key};
-ghost use Rattle.pim_model.specs.Rows.{same_both, same_path};
 ghost use Rattle.pim_model.specs.Step.{rps_replaced};
 ghost use Rattle.pim_model.specs.Unicast.{route};
 ghost use Rattle.pim_reach.specs.Moved.{keys_by_routes, keys_by_rps, moved_of_group};
 ghost use Rattle.pim_reach.specs.Named.{has_same_rp};
-ghost use Rattle.pim_trie.specs.Meter.{raised};
 ghost use Rattle.pim_world.specs.Groups.{numbers_of};
 ghost use Rattle.pim_world.specs.declared.touched.Touched.{Touched as TouchedValue};
 ghost use Rattle.pim_event.specs.OtherRoutes.{has_other_route, group_has_other_rp, with_routes};
-ghost use Rattle.pim_event.specs.Visits.{both_routes_nodes, both_rps_nodes, moved_group_nodes, moved_nodes, routes_nodes, new_rps_nodes};
 
 use pim_fanout::{is_same_address, is_same_path};
 use pim_mrib::Mrib;
@@ -25,7 +22,7 @@ use std::collections::BTreeMap;
 // Whether the address has another route in the new table.
 #[tactic(auto, unfolding(pim_model::specs::Unicast::route))]
 fn has_other_route(world: &World, meter: &mut Meter, next: &Mrib, address: Addr) -> bool
-    ensures moved { result ≡ has_other_route world.now (with_routes world.now next.now.routes) address.bits }
+    ensures { result ≡ has_other_route world.now (with_routes world.now next.now.routes) address.bits }
 {
     let before = world.route(address, meter);
     let after = next.route(world.interfaces(), address, meter);
@@ -34,7 +31,7 @@ fn has_other_route(world: &World, meter: &mut Meter, next: &Mrib, address: Addr)
 
 // Whether the RP of the group has another route in the new table.
 fn is_group_moved(world: &World, meter: &mut Meter, next: &Mrib, group: Addr) -> bool
-    ensures moved { result ≡ not (has_same_rp group.bits world.now (with_routes world.now next.now.routes)) }
+    ensures { result ≡ not (has_same_rp group.bits world.now (with_routes world.now next.now.routes)) }
 {
     match world.rp(group, meter) {
         Some(rp) => has_other_route(world, meter, next, rp),
@@ -45,7 +42,7 @@ fn is_group_moved(world: &World, meter: &mut Meter, next: &Mrib, group: Addr) ->
 // Whether the group has another RP by the new ranges.
 #[tactic(auto, unfolding(pim_model::specs::Unicast::rp_of, pim_model::specs::Step::rps_replaced))]
 fn group_has_other_rp(world: &World, meter: &mut Meter, next: &Mrib, group: Addr) -> bool
-    ensures moved { result ≡ group_has_other_rp world.now (rps_replaced world.now next.now.ranges) group.bits }
+    ensures { result ≡ group_has_other_rp world.now (rps_replaced world.now next.now.ranges) group.bits }
 {
     let before = world.rp(group, meter);
     let after = next.rp(group, meter);
@@ -61,7 +58,7 @@ fn put_sources(
     sources: &BTreeMap<Addr, (), Global>,
     keys: &mut Vec<Key>,
 ) -> Result<(), AllocError>
-    ensures keys { OnOk result (keys.new.items ≡ keys.old.items ++ map (source_key 0 group.bits)
+    ensures { OnOk result (keys.new.items ≡ keys.old.items ++ map (source_key 0 group.bits)
         (filter (has_other_route world.now (with_routes world.now next.now.routes)) (numbers_of sources.now.entries))) }
 {
     for (source, ()) in sources.iter() {
@@ -86,7 +83,7 @@ fn put_group(
     group: Addr,
     keys: &mut Vec<Key>,
 ) -> Result<(), AllocError>
-    ensures keys { OnOk result (keys.new.items ≡ keys.old.items
+    ensures { OnOk result (keys.new.items ≡ keys.old.items
         ++ moved_of_group world.now (with_routes world.now next.now.routes) group.bits) }
 {
     if is_group_moved(world, meter, next, group) {
@@ -105,7 +102,7 @@ fn keys_of_groups(
     next: &Mrib,
     groups: &BTreeMap<Addr, (), Global>,
 ) -> Result<Series<Key>, AllocError>
-    ensures keys { IfOk result (λ keys. keys
+    ensures { IfOk result (λ keys. keys
         ≡ flat_map (moved_of_group world.now (with_routes world.now next.now.routes)) (numbers_of groups.now.entries)) }
 {
     let mut keys = Vec::new(alloc);
@@ -123,7 +120,7 @@ fn keys_with_other_rp(
     next: &Mrib,
     groups: &BTreeMap<Addr, (), Global>,
 ) -> Result<Series<Key>, AllocError>
-    ensures keys { IfOk result (λ keys. keys ≡ map (star_key 0)
+    ensures { IfOk result (λ keys. keys ≡ map (star_key 0)
         (filter (group_has_other_rp world.now (rps_replaced world.now next.now.ranges)) (numbers_of groups.now.entries))) }
 {
     let mut keys = Vec::new(alloc);
@@ -144,7 +141,7 @@ pub(crate) fn touched_by_routes(
     meter: &mut Meter,
     next: &Mrib,
 ) -> Result<Touched, AllocError>
-    ensures touched { IfOk result (λ touched. touched
+    ensures { IfOk result (λ touched. touched
         ≡ TouchedValue.Keys (keys_by_routes world.now (with_routes world.now next.now.routes))) }
 {
     let groups = world.groups(alloc, meter)?;
@@ -159,7 +156,7 @@ pub(crate) fn touched_by_rps(
     meter: &mut Meter,
     next: &Mrib,
 ) -> Result<Touched, AllocError>
-    ensures touched { IfOk result (λ touched. touched
+    ensures { IfOk result (λ touched. touched
         ≡ TouchedValue.Keys (keys_by_rps world.now (rps_replaced world.now next.now.ranges))) }
 {
     let groups = world.groups(alloc, meter)?;

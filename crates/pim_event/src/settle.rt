@@ -1,12 +1,9 @@
 //! What follows of an event's own change: registers, asserts and SPTbits that must go, and messages upstream.
-ghost use Rattle.std.specs.Prelude.{◌≡◌, ◌≤◌, ◌++◌, ◌∷◌, [], IfOk, IsOkUnless, IsTrue, OnOk, false};
+ghost use Rattle.std.specs.Prelude.{◌≡◌, ◌++◌, ◌∷◌, [], IfOk, IsOkUnless, IsTrue, OnOk, false};
 ghost use Rattle.pim_fanout.specs.Named.{keys_of};
 ghost use Rattle.pim_ip.specs.declared.fault.Fault.{Fault};
 ghost use Rattle.pim_opening.specs.After.{IsAfter, opening_in};
-ghost use Rattle.pim_opening.specs.Visits.{group_after_nodes};
 ghost use Rattle.pim_event.specs.Settling.{AreNamed, cleared_by, followed_by, settled_by};
-ghost use Rattle.pim_event.specs.Visits.{cleared_nodes, followed_alone_nodes, followed_nodes};
-ghost use Rattle.pim_trie.specs.Meter.{raised};
 ghost use Rattle.pim_world.specs.Turns.{saying};
 
 use pim_fanout::{Before, Gathered, named, named_by_sights};

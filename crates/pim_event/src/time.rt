@@ -14,7 +14,6 @@ ghost use Rattle.pim_reach.specs.Named.{named_by};
 ghost use Rattle.pim_event.specs.Settling.{AreNames};
 ghost use Rattle.pim_locality.specs.Locality.{IsQuiet};
 ghost use Rattle.pim_locality.specs.Rest.{IsAtRest};
-ghost use Rattle.pim_event.specs.Visits.{end_nodes, firing_nodes};
 ghost use Rattle.pim_trie.specs.Meter.{raised};
 ghost use Rattle.pim_world.specs.Turns.{saying};
 ghost use Rattle.pim_model.specs.Firing.{fire_all, fire_instant, fire_once, fired};
@@ -89,7 +88,7 @@ fn touched_by_neighbour(
     meter: &mut Meter,
     key: Key,
 ) -> Result<Touched, AllocError>
-    ensures touched { IfOk result (λ touched. touched ≡ touched_by_neighbour world.now key) }
+    ensures { IfOk result (λ touched. touched ≡ touched_by_neighbour world.now key) }
 {
     if end_keeps_dr(world, key) {
         let keys = keys_towards(world, turn, meter, key.hop())?;
@@ -105,7 +104,7 @@ fn touched_by_end(
     meter: &mut Meter,
     timer: Timer,
 ) -> Result<Touched, AllocError>
-    ensures touched { IfOk result (λ touched. touched ≡ touched_by_end world.now timer.kind timer.key) }
+    ensures { IfOk result (λ touched. touched ≡ touched_by_end world.now timer.kind timer.key) }
 {
     let key = match timer.kind {
         TimerKind::Neighbour => return touched_by_neighbour(world, turn, meter, timer.key),

@@ -159,8 +159,9 @@ impl Router {
             return None;
         }
         let mut outside = self.probes.outside();
-        let name = SourceGroup { source, group };
-        self.cache.mfc().cached(name, &mut outside.meter)
+        self.cache
+            .mfc()
+            .cached(SourceGroup { source, group }, &mut outside.meter)
     }
 
     /// RPF_interface(RP(G)) of any group, evaluated anew in the present state. `None` where the group has no RP, where

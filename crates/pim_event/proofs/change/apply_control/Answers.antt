@@ -1,15 +1,10 @@
-use Rattle.std.proofs.Common.{OnOk, refl, subst, sym, true, ◌≡◌, ◌≤◌, ◌∙◌}
-use Rattle.std.proofs.lemmas.Result.{on_ok_weaker}
+use Rattle.std.proofs.Common.{OnOk, subst, sym, true, ◌≡◌, ◌∙◌}
 use Rattle.pim_downstream.proofs.OnInterface.{joined_on, pruned_on}
 use Rattle.pim_downstream.specs.Naming.{are_on}
 use Rattle.pim_model.specs.Step.{change}
-use Rattle.pim_trie.specs.Meter.{raised}
-use Rattle.pim_world.proofs.Visits.{none_visited, then_rises}
 use Rattle.pim_event.specs.Acting.{control_event}
-use Rattle.pim_event.specs.Visits.{control_nodes}
 use Rattle.pim_event.specs.declared.act.Control.{Control}
 use Rattle.pim_event.proofs.Acts.{seen_heard, to_me_changes, to_me_heard}
-use Rattle.pim_event.proofs.Instants.{on_ok}
 use Rattle.pim_event.proofs.change.apply_control.Goals as goal
 
 pub take_changes-requires-clause-joined : goal.take_changes-requires-clause-joined

@@ -1,10 +1,7 @@
-use Rattle.std.proofs.Common.{OnOk, Option, refl, subst, sym, ◌≡◌, ◌≤◌}
+use Rattle.std.proofs.Common.{OnOk, Option, subst, sym, ◌≡◌}
 use Rattle.pim_model.specs.Step.{rps_replaced}
 use Rattle.pim_mrib.specs.Routes.{RouteTable}
-use Rattle.pim_trie.specs.Meter.{raised}
-use Rattle.pim_world.proofs.Visits.{none_visited}
 use Rattle.pim_event.specs.Acting.{ranges_by}
-use Rattle.pim_event.specs.Visits.{ranges_nodes}
 use Rattle.pim_event.proofs.OtherRoutes.{same_rps_replaced}
 use Rattle.pim_event.proofs.change.take_ranges.Goals as goal
 

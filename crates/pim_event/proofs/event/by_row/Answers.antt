@@ -1,5 +1,4 @@
 use Rattle.pim_event.proofs.Costs.{row_lent, visited_within}
-use Rattle.pim_world.proofs.Visits.{at_least_itself, rises_by}
 use Rattle.pim_event.proofs.event.by_row.Goals as goal
 
 pub returns-clause-visited : goal.returns-clause-visited

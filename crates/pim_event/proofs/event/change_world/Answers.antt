@@ -6,8 +6,6 @@ use Rattle.pim_event.proofs.Acts.{timeless}
 use Rattle.pim_event.proofs.Rows.{names_opened}
 use Rattle.pim_event.proofs.Taking.{changed_in_turn, outcome_told, taken_in_turn}
 use Rattle.pim_event.specs.Settling.{settled_by}
-use Rattle.pim_world.proofs.Visits.{then_rises, two_in_turn}
-use Rattle.pim_event.specs.Visits.{act_nodes}
 use Rattle.pim_event.proofs.event.change_world.Goals as goal
 
 pub returns-clause-outcome : goal.returns-clause-outcome
@@ -26,7 +24,7 @@ returns-clause-outcome c =
     c.in_ok-gathered.gathered.opening c.in_ok-copies.field-0 c.args.turn.now c.args.turn.now c.apply.new.turn
     c.requires.rest.quiet c.recall_keyed.ensures (timeless c.args.world.now c.args.act) c.requires.plan.covers
     c.in_ok-gathered.ensures.opening c.requires.begun
-    refl c.in_ok-copies.ensures.sends)
+    refl c.in_ok-copies.ensures)
 
 pub returns-clause-state : goal.returns-clause-state
 returns-clause-state c =
@@ -36,7 +34,7 @@ returns-clause-state c =
     c.in_ok-gathered.gathered.opening c.in_ok-copies.field-0 c.args.turn.now c.args.turn.now c.apply.new.turn
     c.requires.rest.quiet c.recall_keyed.ensures (timeless c.args.world.now c.args.act) c.requires.plan.covers
     c.in_ok-gathered.ensures.opening c.requires.begun
-    refl c.in_ok-copies.ensures.sends)
+    refl c.in_ok-copies.ensures)
 
 pub returns-clause-names : goal.returns-clause-names
 returns-clause-names c =
@@ -45,5 +43,5 @@ returns-clause-names c =
     c.recall_keyed.ensures (c.requires.plan.covers c.args.turn.now.draw)
     (changed_in_turn c.args.world.now c.apply.new.world (act_event c.args.world.now c.args.act) c.in_ok-copies.field-0 c.args.turn.now
     c.args.turn.now c.apply.new.turn
-    refl c.in_ok-copies.ensures.sends)
+    refl c.in_ok-copies.ensures)
     c.in_ok-gathered.ensures.opening c.in_ok-gathered.ensures.before c.in_ok-names.ensures.named

@@ -10,7 +10,6 @@ use Rattle.pim_event.proofs.Disturbing.{disturbed_after}
 use Rattle.pim_event.proofs.Listing.{listed_after, once_after}
 use Rattle.pim_event.proofs.Staying.{stays_after}
 use Rattle.pim_event.proofs.Rows.{cost_after, rows_after, touches_named}
-use Rattle.pim_world.proofs.Visits.{rises_by, then_rises}
 use Rattle.pim_event.proofs.event.take_change.Goals as goal
 
 pub returns-clause-cache : goal.returns-clause-cache

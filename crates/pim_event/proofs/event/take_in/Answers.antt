@@ -1,10 +1,8 @@
-use Rattle.std.proofs.Common.{IfOk, Result, ap, arith, refl, subst, sym, ◌∙◌}
+use Rattle.std.proofs.Common.{IfOk, Result, ap, refl, subst, sym, ◌∙◌}
 use Rattle.pim_types.specs.declared.outcome.Stop.{Stop}
 use Rattle.pim_intake.specs.Admitted.{IsTableOf, heard_of}
 use Rattle.pim_intake.specs.declared.event.Admitted.{Admitted}
 use Rattle.pim_event.proofs.Configured.{brings}
-use Rattle.std.proofs.lemmas.Result.{on_ok_weaker}
-use Rattle.pim_world.proofs.Visits.{at_least_itself, rises_by}
 use Rattle.pim_fanout.specs.Refreshing.{touches}
 use Rattle.pim_event.proofs.Costs.{is_cheap, untouched}
 use Rattle.pim_event.proofs.Staying.{offers_the_same}

@@ -6,7 +6,6 @@ use Rattle.pim_reach.specs.Named.{named_of}
 use Rattle.pim_event.proofs.Rows.{named_in_time, named_with_room}
 use Rattle.pim_model.specs.Full.{is_full}
 use Rattle.pim_model.specs.Step.{Answered, outcome_of, taken, taken_unless_full}
-use Rattle.pim_world.proofs.Visits.{rises_by}
 use Rattle.pim_event.specs.Acting.{act_event}
 use Rattle.pim_event.specs.Caching.{CacheFollows}
 use Rattle.pim_world.specs.declared.touched.Touched.{Touched}
@@ -23,13 +22,13 @@ use Rattle.pim_event.proofs.event.take_unless_full.Goals as goal
 pub advance-requires-clause-within : goal.advance-requires-clause-within
 advance-requires-clause-within c =
     subst (λ (a : Accepted). IsConfigured c.args.world.now a)
-    (subst (λ (p : Planning). IsPlanned c.args.world.now c.args.accepted p) c.in-Time.is c.in_ok-planning.ensures.plan)
+    (subst (λ (p : Planning). IsPlanned c.args.world.now c.args.accepted p) c.in-Time.is c.in_ok-planning.ensures)
     c.requires.configured
 
 pub returns-in-Time : goal.returns-in-Time
 returns-in-Time c =
     let is : c.args.accepted ≡ Accepted.Advance c.in-Time.moment =
-    subst (λ (p : Planning). IsPlanned c.args.world.now c.args.accepted p) c.in-Time.is c.in_ok-planning.ensures.plan in
+    subst (λ (p : Planning). IsPlanned c.args.world.now c.args.accepted p) c.in-Time.is c.in_ok-planning.ensures in
     let same = time_is_taken c.args.world.now c.args.turn.now.draw c.args.accepted c.in-Time.moment is in
     let named = named_in_time c.args.world.now c.args.turn.now.draw c.args.accepted c.in-Time.moment is in
     record {
@@ -51,19 +50,19 @@ returns-in-Time c =
 pub take_change-requires-clause-configured : goal.take_change-requires-clause-configured
 take_change-requires-clause-configured c =
     let fits : Fits c.args.world.now c.args.accepted c.in-Change.plan =
-    subst (λ (p : Planning). IsPlanned c.args.world.now c.args.accepted p) c.in-Change.is c.in_ok-planning.ensures.plan in
+    subst (λ (p : Planning). IsPlanned c.args.world.now c.args.accepted p) c.in-Change.is c.in_ok-planning.ensures in
     subst (λ (a : Accepted). IsConfigured c.args.world.now a) (sym fits.event) c.requires.configured
 
 pub take_change-requires-clause-plan : goal.take_change-requires-clause-plan
 take_change-requires-clause-plan c =
     let fits : Fits c.args.world.now c.args.accepted c.in-Change.plan =
-    subst (λ (p : Planning). IsPlanned c.args.world.now c.args.accepted p) c.in-Change.is c.in_ok-planning.ensures.plan in
+    subst (λ (p : Planning). IsPlanned c.args.world.now c.args.accepted p) c.in-Change.is c.in_ok-planning.ensures in
     subst (λ (a : Accepted). Fits c.args.world.now a c.in-Change.plan) (sym fits.event) fits
 
 pub returns-in-Change : goal.returns-in-Change
 returns-in-Change c =
     let fits : Fits c.args.world.now c.args.accepted c.in-Change.plan =
-    subst (λ (p : Planning). IsPlanned c.args.world.now c.args.accepted p) c.in-Change.is c.in_ok-planning.ensures.plan in
+    subst (λ (p : Planning). IsPlanned c.args.world.now c.args.accepted p) c.in-Change.is c.in_ok-planning.ensures in
     let same : taken c.args.world.now c.args.turn.now.draw (act_event c.args.world.now c.in-Change.plan.act)
     ≡ taken_unless_full c.args.world.now c.args.turn.now.draw c.args.accepted =
     ap (λ (a : Accepted). taken c.args.world.now c.args.turn.now.draw a) fits.event
@@ -91,7 +90,7 @@ returns-in-Change c =
 pub returns-in-Full : goal.returns-in-Full
 returns-in-Full c =
     let full : is_full c.args.world.now c.args.accepted ≡ true =
-    subst (λ (p : Planning). IsPlanned c.args.world.now c.args.accepted p) c.in-Full.is c.in_ok-planning.ensures.plan in
+    subst (λ (p : Planning). IsPlanned c.args.world.now c.args.accepted p) c.in-Full.is c.in_ok-planning.ensures in
     let refused = sym (without_room c.args.world.now c.args.turn.now.draw c.args.accepted full) in
     record {
       outcome = c.stopped.ensures ∙ ap outcome_of refused;

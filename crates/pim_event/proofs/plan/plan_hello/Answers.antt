@@ -13,16 +13,15 @@ use Rattle.pim_event.specs.declared.act.Act.{Act}
 use Rattle.pim_event.specs.declared.act.Control.{Control}
 use Rattle.pim_event.proofs.Plans.{adjoins_fit, all_fit, all_where, keys_fit, keys_where, touched_where}
 use Rattle.pim_event.proofs.Touching.{hello_moves, refreshed_covered}
-use Rattle.pim_world.proofs.Visits.{rises_by}
 use Rattle.pim_event.proofs.plan.plan_hello.Goals as goal
 
-pub returns-then-is_full-clause-plan : goal.returns-then-is_full-clause-plan
+pub returns-then-is_full : goal.returns-then-is_full
 unfolding is_full
-returns-then-is_full-clause-plan c = sym c.is_full.ensures ∙ c.if-is_full.true
+returns-then-is_full c = sym c.is_full.ensures ∙ c.if-is_full.true
 
-pub returns-then-is_refreshed-clause-plan : goal.returns-then-is_refreshed-clause-plan
+pub returns-then-is_refreshed : goal.returns-then-is_refreshed
 unfolding is_full touched_of
-returns-then-is_refreshed-clause-plan c =
+returns-then-is_refreshed c =
     let tested = c.is_refreshed.ensures
     ∙ ap (λ (t : Table NeighbourRow). is_refreshed t c.args.iface.number c.args.from.bits c.args.hello)
     c.neighbours.ensures in
@@ -33,9 +32,9 @@ returns-then-is_refreshed-clause-plan c =
     (refreshed_covered c.args.world.now c.args.iface c.args.from c.args.hello [] c.is_refreshed.result
     c.requires.settled.ordered.neighbours tested c.if-is_refreshed.true refl)
 
-pub returns-then-hello_keeps_dr-clause-plan : goal.returns-then-hello_keeps_dr-clause-plan
+pub returns-then-hello_keeps_dr : goal.returns-then-hello_keeps_dr
 unfolding is_full touched_of
-returns-then-hello_keeps_dr-clause-plan c =
+returns-then-hello_keeps_dr c =
     let tested = c.is_refreshed.ensures
     ∙ ap (λ (t : Table NeighbourRow). is_refreshed t c.args.iface.number c.args.from.bits c.args.hello)
     c.neighbours.ensures in
@@ -48,9 +47,9 @@ returns-then-hello_keeps_dr-clause-plan c =
     (sym c.is_full.ensures ∙ c.if-is_full.false)
     (hello_moves s c.args.iface c.args.from c.args.hello keeps)
 
-pub returns-clause-plan : goal.returns-clause-plan
+pub returns : goal.returns
 unfolding is_full touched_of
-returns-clause-plan c =
+returns c =
     let tested = c.is_refreshed.ensures
     ∙ ap (λ (t : Table NeighbourRow). is_refreshed t c.args.iface.number c.args.from.bits c.args.hello)
     c.neighbours.ensures in

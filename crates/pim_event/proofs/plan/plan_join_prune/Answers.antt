@@ -9,14 +9,14 @@ use Rattle.pim_event.proofs.Plans.{join_prune_room, keys_fit}
 use Rattle.pim_event.proofs.Touching.{named_covered, named_keys}
 use Rattle.pim_event.proofs.plan.plan_join_prune.Goals as goal
 
-pub returns-then-branch-clause-plan : goal.returns-then-branch-clause-plan
-returns-then-branch-clause-plan c =
+pub returns-then-branch : goal.returns-then-branch
+returns-then-branch c =
     join_prune_room c.args.world.now c.args.iface c.args.message _ _ _ _ _ c.holdtime-holdtime.ensures c.in_ok-named.ensures.joined
     c.in_ok-named.ensures.pruned c.in_ok-is_full.ensures c.if-branch.true
 
-pub returns-clause-plan : goal.returns-clause-plan
+pub returns : goal.returns
 unfolding touched_of
-returns-clause-plan c =
+returns c =
     let lasts = c.holdtime-holdtime.ensures in
     let joins = c.in_ok-named.ensures.joined in
     let prunes = c.in_ok-named.ensures.pruned in

@@ -9,16 +9,15 @@ use Rattle.pim_event.specs.Planning.{touched_of}
 use Rattle.pim_event.specs.declared.act.Act.{Act}
 use Rattle.pim_event.proofs.Plans.{keys_fit, these_where, those_where}
 use Rattle.pim_event.proofs.Touching.{register_covered, register_known}
-use Rattle.pim_world.proofs.Visits.{at_least_itself}
 use Rattle.pim_event.proofs.plan.plan_register.Goals as goal
 
-pub returns-then-is_full-clause-plan : goal.returns-then-is_full-clause-plan
+pub returns-then-is_full : goal.returns-then-is_full
 unfolding is_full
-returns-then-is_full-clause-plan c = sym c.is_full.ensures ∙ c.if-is_full.true
+returns-then-is_full c = sym c.is_full.ensures ∙ c.if-is_full.true
 
-pub returns-clause-plan : goal.returns-clause-plan
+pub returns : goal.returns
 unfolding is_full touched_of
-returns-clause-plan c =
+returns c =
     let name = c.registered_name-name.ensures in
     let those = c.in_ok-keys.ensures ∙ ap (λ (k : Key). k ∷ []) (c.key.ensures
     ∙ (λ j. source_key 0 (name.group j) (name.source j))) in
@@ -32,9 +31,9 @@ returns-clause-plan c =
     (those_where _ c.in_ok-keys.keys [] _ (sym alive ∙ sym c.is_kept_alive.ensures ∙ c.if-is_kept_alive.false) those)
     (register_covered c.args.world.now c.args.packet c.args.register c.in_ok-keys.keys those)
 
-pub returns-then-is_kept_alive-clause-plan : goal.returns-then-is_kept_alive-clause-plan
+pub returns-then-is_kept_alive : goal.returns-then-is_kept_alive
 unfolding is_full touched_of
-returns-then-is_kept_alive-clause-plan c =
+returns-then-is_kept_alive c =
     let name = c.registered_name-name.ensures in
     let s = c.args.world.now in
     let alive : is_kept_alive s c.registered_name-name.result.group.bits c.registered_name-name.result.source.bits

@@ -1,13 +1,10 @@
-use Rattle.std.proofs.Common.{List, None, Some, ap, subst, sym, ◌≡◌, ◌≤◌, ◌∙◌}
+use Rattle.std.proofs.Common.{List, None, Some, ap, subst, sym, ◌≡◌, ◌∙◌}
 use Rattle.pim_types.specs.declared.config.Route.{Route}
 use Rattle.pim_world.specs.declared.touched.Touched.{Touched}
 use Rattle.pim_model.specs.declared.accepted.Accepted.{Accepted}
 use Rattle.pim_reach.specs.Moved.{keys_by_routes}
-use Rattle.pim_trie.specs.Meter.{raised}
-use Rattle.pim_world.proofs.Visits.{rises_by}
 use Rattle.pim_event.specs.OtherRoutes.{with_routes}
 use Rattle.pim_event.specs.Planning.{IsPlanned}
-use Rattle.pim_event.specs.Visits.{routes_nodes}
 use Rattle.pim_event.specs.declared.plan.Planning.{Planning}
 use Rattle.pim_event.proofs.OtherRoutes.{none_by_same_routes}
 use Rattle.pim_event.proofs.Plans.{routes_fit}
@@ -25,6 +22,6 @@ pub returns-clause-plan : goal.returns-clause-plan
 returns-clause-plan c =
     let s = c.args.world.now in
     routes_fit s c.args.routes.now c.in_ok-touched.touched (Some c.args.next)
-    (c.in_ok-touched.ensures.touched
+    (c.in_ok-touched.ensures
     ∙ ap (λ (rs : List Route). Touched.Keys (keys_by_routes s (with_routes s rs))) c.requires)
     c.requires

@@ -4,10 +4,7 @@ use Rattle.pim_world.specs.declared.touched.Touched.{Touched}
 use Rattle.pim_model.specs.declared.accepted.Accepted.{Accepted}
 use Rattle.pim_model.specs.Step.{rps_replaced}
 use Rattle.pim_reach.specs.Moved.{keys_by_rps}
-use Rattle.pim_trie.specs.Meter.{raised}
-use Rattle.pim_world.proofs.Visits.{at_least_itself, rises_by}
 use Rattle.pim_event.specs.Planning.{IsPlanned}
-use Rattle.pim_event.specs.Visits.{new_rps_nodes}
 use Rattle.pim_event.specs.declared.plan.Planning.{Planning}
 use Rattle.pim_event.proofs.OtherRoutes.{none_by_same_rps}
 use Rattle.pim_event.proofs.Plans.{rps_fit}
@@ -25,6 +22,6 @@ pub returns-clause-plan : goal.returns-clause-plan
 returns-clause-plan c =
     let s = c.args.world.now in
     rps_fit s c.args.ranges.now c.in_ok-touched.touched (Some c.args.next)
-    (c.in_ok-touched.ensures.touched
+    (c.in_ok-touched.ensures
     ∙ ap (λ (rs : List RpRange). Touched.Keys (keys_by_rps s (rps_replaced s rs))) c.requires)
     c.requires

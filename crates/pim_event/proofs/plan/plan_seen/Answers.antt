@@ -11,9 +11,9 @@ use Rattle.pim_event.proofs.Plans.{keys_fit}
 use Rattle.pim_event.proofs.Touching.{seen_covered}
 use Rattle.pim_event.proofs.plan.plan_seen.Goals as goal
 
-pub returns-clause-plan : goal.returns-clause-plan
+pub returns : goal.returns
 unfolding is_full touched_of
-returns-clause-plan c =
+returns c =
     let those = c.in_ok-keys.ensures ∙ ap (λ (ks : List Key). filter (λ k. not (is_star k)) ks) c.deref.ensures.value in
     keys_fit c.args.world.now (Accepted.JoinPruneSeen c.args.iface c.args.message) c.of_keys.result
     (Act.Control (Control.JoinPruneSeen c.args.iface c.args.message c.in_ok-named.named)) refl

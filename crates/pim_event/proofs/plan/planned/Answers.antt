@@ -6,21 +6,19 @@ use Rattle.pim_event.specs.Planning.{touched_of}
 use Rattle.pim_event.specs.declared.act.Act.{Act}
 use Rattle.pim_event.specs.declared.act.Control.{Control}
 use Rattle.pim_event.proofs.Plans.{all_fit, planned_of}
-use Rattle.std.proofs.lemmas.Result.{on_ok_weaker}
-use Rattle.pim_world.proofs.Visits.{rises_by}
 use Rattle.pim_event.proofs.plan.planned.Goals as goal
 
-pub returns-in-Up-clause-plan : goal.returns-in-Up-clause-plan
+pub returns-in-Up : goal.returns-in-Up
 unfolding is_full touched_of
-returns-in-Up-clause-plan c =
+returns-in-Up c =
     let a : Accepted = Accepted.Up c.in-Up.iface in
     planned_of c.args.world.now c.args.accepted a c.of_all.result c.in-Up.is
     (all_fit c.args.world.now a c.of_all.result (Act.Control (Control.Up c.in-Up.iface)) refl tt refl c.of_all.ensures
     refl tt)
 
-pub returns-in-Down-clause-plan : goal.returns-in-Down-clause-plan
+pub returns-in-Down : goal.returns-in-Down
 unfolding is_full touched_of
-returns-in-Down-clause-plan c =
+returns-in-Down c =
     let a : Accepted = Accepted.Down c.in-Down.iface in
     planned_of c.args.world.now c.args.accepted a c.of_all-in-Down.result c.in-Down.is
     (all_fit c.args.world.now a c.of_all-in-Down.result (Act.Control (Control.Down c.in-Down.iface)) refl tt refl

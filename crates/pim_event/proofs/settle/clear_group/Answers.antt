@@ -1,12 +1,10 @@
-use Rattle.std.proofs.Common.{◌≡◌, ◌≤◌, ◌∷◌, [], List, ap, sym, subst, ◌∙◌}
+use Rattle.std.proofs.Common.{◌≡◌, ◌∷◌, [], List, ap, sym, ◌∙◌}
 use Rattle.pim_model.specs.Messages.{Message}
 use Rattle.pim_model.specs.State.{State}
 use Rattle.pim_opening.specs.declared.opening.GroupOpening.{GroupOpening}
 use Rattle.pim_world.specs.Turns.{saying}
 use Rattle.pim_world.proofs.Said.{said_nothing}
-use Rattle.pim_world.proofs.Visits.{rises_by}
 use Rattle.pim_event.specs.Settling.{cleared_by}
-use Rattle.pim_event.proofs.Visited.{afterwards}
 use Rattle.pim_event.proofs.settle.clear_group.Goals as goal
 
 nothing_goes : (opening : List GroupOpening) (x y : GroupOpening) (s : State) → opening ≡ x ∷ [] → y ≡ x

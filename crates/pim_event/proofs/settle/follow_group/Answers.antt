@@ -1,11 +1,6 @@
-use Rattle.std.proofs.Common.{◌≡◌, ◌≤◌, ◌∷◌, [], List, ap, subst, sym, ◌∙◌}
+use Rattle.std.proofs.Common.{◌∷◌, [], ap, sym, ◌∙◌}
 use Rattle.pim_fanout.specs.Named.{keys_of}
-use Rattle.pim_model.specs.State.{State}
 use Rattle.pim_opening.specs.declared.opening.GroupOpening.{GroupOpening}
-use Rattle.pim_opening.specs.After.{opening_in}
-use Rattle.pim_opening.specs.Visits.{group_after_nodes}
-use Rattle.pim_trie.specs.Meter.{raised}
-use Rattle.pim_world.proofs.Visits.{rises_by, then_rises}
 use Rattle.pim_event.proofs.Following.{seen_messages, seen_named, seen_state}
 use Rattle.pim_event.proofs.settle.follow_group.Goals as goal
 

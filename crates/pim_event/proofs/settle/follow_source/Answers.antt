@@ -1,16 +1,7 @@
-use Rattle.std.proofs.Common.{◌≡◌, ◌≤◌, ◌∷◌, [], ap, subst, ◌∙◌}
+use Rattle.std.proofs.Common.{◌≡◌, ◌∷◌, [], ap, ◌∙◌}
 use Rattle.pim_ip.specs.declared.addr.Addr.{Addr}
 use Rattle.pim_macros.specs.declared.sight.StarSight.{StarSight}
-use Rattle.pim_model.specs.State.{State}
-use Rattle.pim_asserts.specs.Opened.{clear_by}
-use Rattle.pim_asserts.specs.Visits.{alone_nodes}
 use Rattle.pim_register.specs.Settling.{registers_by}
-use Rattle.pim_register.specs.Visits.{register_mark_nodes}
-use Rattle.pim_trie.specs.Meter.{raised}
-use Rattle.pim_upstream.specs.Visits.{told_alone_nodes}
-use Rattle.pim_world.proofs.Visits.{then_rises, two_in_turn}
-use Rattle.pim_event.specs.Settling.{cleared_by}
-use Rattle.pim_event.specs.Visits.{followed_alone_nodes}
 use Rattle.pim_fanout.specs.Named.{keys_of}
 use Rattle.pim_event.proofs.Following.{followed_messages, followed_state, named_there, registered_alone}
 use Rattle.pim_event.proofs.settle.follow_source.Goals as goal

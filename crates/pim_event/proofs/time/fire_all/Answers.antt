@@ -16,7 +16,7 @@ use Rattle.pim_event.proofs.time.fire_all.Goals as goal
 use Rattle.pim_event.specs.Ends.{ending_of}
 
 pub instants-init : goal.instants-init
-instants-init c = (firing_begins c.args.turn.now.draw c.args.moment c.args.world.now c.args.emissions.now.items c.requires.lawful c.requires.quiet c.requires.ready, refl, c.requires.shown, all_costs_none c.args.turn.now.draw c.args.moment c.args.world.now (touches c.args.cache.now), omega arith, all_lists_none c.args.turn.now.draw c.args.moment c.args.world.now c.args.cache.now.changed, λ o stays. stays, all_disturbs_none c.args.turn.now.draw c.args.moment c.args.world.now c.args.cache.now.disturbed)
+instants-init c = (firing_begins c.args.turn.now.draw c.args.moment c.args.world.now c.args.emissions.now.items c.requires.lawful c.requires.quiet c.requires.ready, refl, c.requires.shown, all_costs_none c.args.turn.now.draw c.args.moment c.args.world.now (touches c.args.cache.now), all_lists_none c.args.turn.now.draw c.args.moment c.args.world.now c.args.cache.now.changed, λ o stays. stays, all_disturbs_none c.args.turn.now.draw c.args.moment c.args.world.now c.args.cache.now.disturbed)
 
 pub fire_instant-requires-clause-from : goal.fire_instant-requires-clause-from
 fire_instant-requires-clause-from c =
@@ -61,7 +61,6 @@ instants-preserved c = (
       (subst (λ w. touches c.fire_instant.new.cache ≤ touches c.instants.cache
       + 2 * length (told_instant named_by w c.instants.world (ending_of c.in-Some.first)).1) c.instants.invariant.1
       c.in_ok-fire_instant.ensures.cache.few) c.instants.invariant.3,
-  omega (arith, c.instants.invariant.4, c.in_ok-fire_instant.ensures.rises),
   instant_lists c.args.turn.now.draw c.args.moment c.args.world.now c.args.cache.now.changed c.instants.world
       c.instants.cache.changed (ending_of c.in-Some.first) c.instants.invariant.0.ready
       (ending_told (next_due c.args.moment c.instants.world) c.in-Some.first (sym c.next_due.ensures ∙ c.in-Some.is))
@@ -70,8 +69,8 @@ instants-preserved c = (
       ∙ ap (λ w. (fire_instant w c.instants.world (ending_of c.in-Some.first)).0) c.instants.invariant.1)
       (subst (λ w. ListsMore c.instants.cache.changed
       (told_instant named_by w c.instants.world (ending_of c.in-Some.first)).1 c.fire_instant.new.cache.changed)
-      c.instants.invariant.1 c.in_ok-fire_instant.ensures.cache.listed) c.instants.invariant.5,
-  λ o stays. c.in_ok-fire_instant.ensures.cache.stays o (c.instants.invariant.6 o stays),
+      c.instants.invariant.1 c.in_ok-fire_instant.ensures.cache.listed) c.instants.invariant.4,
+  λ o stays. c.in_ok-fire_instant.ensures.cache.stays o (c.instants.invariant.5 o stays),
   instant_disturbs c.args.turn.now.draw c.args.moment c.args.world.now c.args.cache.now.disturbed c.instants.world
       c.instants.cache.disturbed (ending_of c.in-Some.first) c.instants.invariant.0.ready
       (ending_told (next_due c.args.moment c.instants.world) c.in-Some.first (sym c.next_due.ensures ∙ c.in-Some.is))
@@ -80,7 +79,7 @@ instants-preserved c = (
       ∙ ap (λ w. (fire_instant w c.instants.world (ending_of c.in-Some.first)).0) c.instants.invariant.1)
       (subst (λ w. c.fire_instant.new.cache.disturbed ≡ joined c.instants.cache.disturbed
       (joined_all (ended_instant touched_at w c.instants.world (ending_of c.in-Some.first)).1))
-      c.instants.invariant.1 c.in_ok-fire_instant.ensures.disturbed) c.instants.invariant.7,
+      c.instants.invariant.1 c.in_ok-fire_instant.ensures.disturbed) c.instants.invariant.6,
 )
 
 pub returns-clause-state : goal.returns-clause-state
@@ -101,7 +100,7 @@ returns-clause-disturbed c =
     c.instants.cache.disturbed
     (all_ended_silently touched_at c.args.turn.now.draw c.args.moment c.instants.world
     (none_told (next_due c.args.moment c.instants.world) (sym c.next_due.ensures ∙ c.in_default.is)))
-    c.instants.invariant.7
+    c.instants.invariant.6
 
 pub returns-clause-cache : goal.returns-clause-cache
 returns-clause-cache c = record {
@@ -112,6 +111,6 @@ returns-clause-cache c = record {
       c.instants.cache.changed
       (all_silent named_by c.args.turn.now.draw c.args.moment c.instants.world
       (none_told (next_due c.args.moment c.instants.world) (sym c.next_due.ensures ∙ c.in_default.is)))
-      c.instants.invariant.5;
-  stays = c.instants.invariant.6;
+      c.instants.invariant.4;
+  stays = c.instants.invariant.5;
 }

@@ -9,13 +9,12 @@ use Rattle.pim_event.proofs.Listing.{firing_lists, instant_listed, instant_lists
 use Rattle.pim_model.specs.Firing.{fire_once}
 use Rattle.pim_model.specs.Timers.{next_due}
 use Rattle.pim_event.proofs.Instants.{ending_told, fewer_after, firing_follows, instant_begins, instant_ends, none_told}
-use Rattle.pim_world.proofs.Visits.{rises_by}
 use Rattle.pim_event.proofs.time.fire_instant.Goals as goal
 use Rattle.pim_event.specs.Disturbing.{touched_at}
 use Rattle.pim_event.specs.Ends.{ending_of}
 
 pub firings-init : goal.firings-init
-firings-init c = (instant_begins c.args.turn.now.draw c.args.world.now (ending_of c.args.first) c.args.emissions.now.items c.requires.lawful c.requires.quiet c.requires.from, refl, c.requires.shown, instant_costs_none c.args.turn.now.draw c.args.world.now (ending_of c.args.first) (touches c.args.cache.now), omega arith, instant_lists_none c.args.turn.now.draw c.args.world.now (ending_of c.args.first) c.args.cache.now.changed, λ o stays. stays, instant_disturbs_none c.args.turn.now.draw c.args.world.now (ending_of c.args.first) c.args.cache.now.disturbed)
+firings-init c = (instant_begins c.args.turn.now.draw c.args.world.now (ending_of c.args.first) c.args.emissions.now.items c.requires.lawful c.requires.quiet c.requires.from, refl, c.requires.shown, instant_costs_none c.args.turn.now.draw c.args.world.now (ending_of c.args.first) (touches c.args.cache.now), instant_lists_none c.args.turn.now.draw c.args.world.now (ending_of c.args.first) c.args.cache.now.changed, λ o stays. stays, instant_disturbs_none c.args.turn.now.draw c.args.world.now (ending_of c.args.first) c.args.cache.now.disturbed)
 
 pub fire_once-requires-clause-within : goal.fire_once-requires-clause-within
 fire_once-requires-clause-within c =
@@ -54,7 +53,6 @@ firings-preserved c = (
       (c.in_ok-fire_once.ensures.state
       ∙ ap (λ w. (fire_once w c.firings.world (ending_of c.in-Some.due)).0) c.firings.invariant.1)
       c.in_ok-fire_once.ensures.cache.few c.firings.invariant.3,
-  omega (arith, c.firings.invariant.4, rises_by _ _ _ c.in_ok-fire_once.ensures.at_least),
   firing_lists c.args.turn.now.draw c.args.world.now (ending_of c.args.first) c.args.cache.now.changed
       c.firings.world c.firings.cache.changed (ending_of c.in-Some.due) c.firings.invariant.0.lawful.firable
       (shown_from c.args.first.0 c.firings.world c.firings.invariant.0.inside.from)
@@ -62,8 +60,8 @@ firings-preserved c = (
       c.fire_once.new.world c.fire_once.new.cache.changed
       (c.in_ok-fire_once.ensures.state
       ∙ ap (λ w. (fire_once w c.firings.world (ending_of c.in-Some.due)).0) c.firings.invariant.1)
-      c.in_ok-fire_once.ensures.cache.listed c.firings.invariant.5,
-  λ o stays. c.in_ok-fire_once.ensures.cache.stays o (c.firings.invariant.6 o stays),
+      c.in_ok-fire_once.ensures.cache.listed c.firings.invariant.4,
+  λ o stays. c.in_ok-fire_once.ensures.cache.stays o (c.firings.invariant.5 o stays),
   firing_disturbs c.args.turn.now.draw c.args.world.now (ending_of c.args.first) c.args.cache.now.disturbed
       c.firings.world c.firings.cache.disturbed (ending_of c.in-Some.due) c.firings.invariant.0.lawful.firable
       (shown_from c.args.first.0 c.firings.world c.firings.invariant.0.inside.from)
@@ -71,7 +69,7 @@ firings-preserved c = (
       c.fire_once.new.world c.fire_once.new.cache.disturbed
       (c.in_ok-fire_once.ensures.state
       ∙ ap (λ w. (fire_once w c.firings.world (ending_of c.in-Some.due)).0) c.firings.invariant.1)
-      c.in_ok-fire_once.ensures.disturbed c.firings.invariant.7,
+      c.in_ok-fire_once.ensures.disturbed c.firings.invariant.6,
 )
 
 pub returns-clause-state : goal.returns-clause-state
@@ -92,7 +90,7 @@ returns-clause-disturbed c =
     c.firings.world c.firings.cache.disturbed
     (instant_ended_silently touched_at c.args.turn.now.draw c.firings.world (ending_of c.args.first)
     (none_told (next_due c.args.first.0 c.firings.world) (sym c.next_due.ensures ∙ c.in_default.is)))
-    c.firings.invariant.7
+    c.firings.invariant.6
 
 pub returns-clause-cache : goal.returns-clause-cache
 returns-clause-cache c = record {
@@ -105,6 +103,6 @@ returns-clause-cache c = record {
       c.firings.world c.firings.cache.changed
       (instant_silent named_by c.args.turn.now.draw c.firings.world (ending_of c.args.first)
       (none_told (next_due c.args.first.0 c.firings.world) (sym c.next_due.ensures ∙ c.in_default.is)))
-      c.firings.invariant.5;
-  stays = c.firings.invariant.6;
+      c.firings.invariant.4;
+  stays = c.firings.invariant.5;
 }

@@ -1,4 +1,4 @@
-use Rattle.std.specs.Prelude.{◌≡◌, ◌≤◌}
+use Rattle.std.specs.Prelude.{◌≡◌}
 use Rattle.pim_fanout.specs.Refreshing.{touches}
 use Rattle.pim_laws.proofs.FiringLaws.{still_due}
 use Rattle.pim_mfc.specs.Laws.{ShowsRows}
@@ -17,7 +17,6 @@ invariant-firings l =
     WithinInstant l.fn.turn.draw l.fn.world (ending_of l.first) l.fn.emissions.items l.world l.emissions.items
     × (l.turn.draw ≡ l.fn.turn.draw) × ShowsRows l.cache.mfc.rows (cached l.world)
     × InstantCosts l.fn.turn.draw l.fn.world (ending_of l.first) (touches l.fn.cache) l.world (touches l.cache)
-    × (l.fn.meter ≤ l.meter)
     × InstantLists l.fn.turn.draw l.fn.world (ending_of l.first) l.fn.cache.changed l.world l.cache.changed
     × ((o : State) → StaysBeside l.fn.cache.disturbed o l.fn.world → StaysBeside l.cache.disturbed o l.world)
     × InstantDisturbs l.fn.turn.draw l.fn.world (ending_of l.first) l.fn.cache.disturbed l.world l.cache.disturbed

@@ -9,8 +9,6 @@ use Rattle.pim_fanout.specs.Disturbed.{joined}
 use Rattle.pim_event.proofs.Staying.{stays_fired}
 use Rattle.pim_event.proofs.Rows.{cost_fired, rows_fired, touches_named}
 use Rattle.pim_event.specs.Ends.{ending_of, touched_by_end}
-use Rattle.pim_world.proofs.Visits.{rises_by, then_rises}
-use Rattle.pim_event.proofs.Visited.{afterwards}
 use Rattle.pim_event.proofs.time.fire_once.Goals as goal
 
 pub returns-clause-cache : goal.returns-clause-cache
@@ -37,14 +35,14 @@ returns-clause-cache c = record {
       (c.in_ok-names.ensures.state ∙ ap (λ w. (fire_once w c.args.world.now (ending_of c.args.due)).0)
       (ap (λ (t : Taking). t.draw) c.turn.view_is))
       c.args.cache.now.disturbed c.refresh.new.self.disturbed
-      (c.in_ok-refresh.ensures.disturbed ∙ ap (λ (t : Touched). joined c.args.cache.now.disturbed t) c.in_ok-touched.ensures.touched)
+      (c.in_ok-refresh.ensures.disturbed ∙ ap (λ (t : Touched). joined c.args.cache.now.disturbed t) c.in_ok-touched.ensures)
       stays;
 }
 
 pub returns-clause-disturbed : goal.returns-clause-disturbed
 returns-clause-disturbed c =
     c.in_ok-refresh.ensures.disturbed
-    ∙ ap (λ (t : Touched). joined c.args.cache.now.disturbed t) c.in_ok-touched.ensures.touched
+    ∙ ap (λ (t : Touched). joined c.args.cache.now.disturbed t) c.in_ok-touched.ensures
 
 pub returns-clause-touched : goal.returns-clause-touched
 returns-clause-touched c =

@@ -1,4 +1,4 @@
-use Rattle.std.proofs.Common.{◌≡◌, ◌++◌, List, OnOk, subst, ◌∙◌, refl}
+use Rattle.std.proofs.Common.{◌≡◌, ◌++◌, List, OnOk, subst, refl}
 use Rattle.pim_fanout.specs.Named.{keys_of}
 use Rattle.pim_model.specs.Reach.{own_firing}
 use Rattle.pim_model.specs.State.{State}
@@ -6,14 +6,8 @@ use Rattle.pim_event.specs.Ends.{ending_of}
 use Rattle.pim_event.proofs.Rows.{each_ok, names_opened}
 use Rattle.pim_types.specs.declared.outcome.Emission.{Emission}
 use Rattle.pim_event.proofs.Instants.{end_fired, end_touched, fired_in_turn}
-use Rattle.std.proofs.Common.{◌≤◌}
-use Rattle.std.proofs.lemmas.Result.{on_ok_weaker}
-use Rattle.pim_opening.specs.Visits.{opening_nodes}
-use Rattle.pim_trie.specs.Meter.{raised}
-use Rattle.pim_world.proofs.Visits.{then_rises, two_in_turn}
 use Rattle.pim_world.specs.declared.touched.Touched.{Touched}
 use Rattle.pim_event.specs.Settling.{AreNames}
-use Rattle.pim_event.specs.Visits.{end_nodes, firing_nodes}
 use Rattle.pim_event.proofs.time.fire_world.Goals as goal
 
 pub returns-clause-state : goal.returns-clause-state

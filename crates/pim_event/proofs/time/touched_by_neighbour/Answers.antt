@@ -6,11 +6,10 @@ use Rattle.std.specs.Prelude.{if◌then◌else◌}
 use Rattle.pim_types.specs.Keys.{iface_in, source_in}
 use Rattle.pim_adjacent.specs.Adjacent.{keys_towards}
 use Rattle.pim_world.specs.declared.touched.Touched.{Touched}
-use Rattle.pim_world.proofs.Visits.{rises_by}
 use Rattle.pim_event.proofs.time.touched_by_neighbour.Goals as goal
 
-pub returns-then-end_keeps_dr-clause-touched : goal.returns-then-end_keeps_dr-clause-touched
-returns-then-end_keeps_dr-clause-touched c =
+pub returns-then-end_keeps_dr : goal.returns-then-end_keeps_dr
+returns-then-end_keeps_dr c =
     let s = c.args.world.now in
     let k = c.args.key in
     c.few_or_all.ensures
