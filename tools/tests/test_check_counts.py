@@ -137,15 +137,19 @@ class Spoilt(unittest.TestCase):
         self.refused("a count of rows is made in take_change")
 
     def test_a_count_of_rows_under_another_name(self):
-        self.spoil("pim_fanout/src/naming.rt", "use pim_macros::", "use pim_macros::Evaluations as Count;\nuse pim_macros::")
+        self.spoil("pim_fanout/src/naming.rt", "use pim_macros::",
+            "use pim_macros::Evaluations as Count;\nuse pim_macros::")
         self.refused("a count has another name")
 
     def test_a_row_evaluated_when_asked(self):
         self.spoil(
             "pim_router/src/router.rt",
-            "        self.cache\n            .mfc()\n            .cached(SourceGroup { source, group }, &mut outside.meter)\n",
+            "        self.cache\n"
+            "            .mfc()\n"
+            "            .cached(SourceGroup { source, group }, &mut outside.meter)\n",
             "        let mut count = Evaluations::none();\n"
-            "        let made = pim_macros::row(&self.world, SourceGroup { source, group }, &mut outside.meter, &mut count);\n"
+            "        let name = SourceGroup { source, group };\n"
+            "        let made = pim_macros::row(&self.world, name, &mut outside.meter, &mut count);\n"
             "        Some(CacheRow::of(&made.answers()))\n",
         )
         self.refused(

@@ -77,7 +77,7 @@ idle = 0
     "crates/low/specs/Laws.antt": "use Rattle.low.specs.Other.{far}\nabbrev pub NeverFar : Type 0\nNeverFar = "
                                   "far\n\nabbrev pub Lemma : Type 0\nLemma = far\n",
     "crates/pim_router/src/lib.rt": "//! The router.\npub mod router;\nmod own;\n\npub use router::Router;\n",
-    "crates/pim_router/src/own.rt": "ghost use Rattle.pim_event.specs.Own.{own};\npub fn step(n: u32) -> u32\n    "
+    "crates/pim_router/src/own.rt": "ghost use Rattle.pim_router.specs.Own.{own};\npub fn step(n: u32) -> u32\n    "
                                     "ensures { result ≡ own n }\n{\n    n\n}\n",
     "crates/pim_router/src/router.rt": """ghost use Rattle.pim_router.specs.Standing.{standing};
 use low::Bits;
