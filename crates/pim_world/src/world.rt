@@ -91,7 +91,7 @@ impl Model for World {
 
 impl World {
     /// The state at the opening with a configuration: timestamp 0, all interfaces down. A configuration is refused for
-    /// the first test that fails.
+    /// the first test that fails. The meter rises by the nodes visited.
     #[tactic(auto, unfolding(pim_model::specs::State::opening))]
     pub fn new(
         alloc: Global,
