@@ -38,6 +38,7 @@ impl Index {
     }
 
     // The interfaces listed for (*,G), where `source` is `None`, or for a source of the group.
+    #[tactic(auto, unfolding(pim_trie::specs::Meter::raised))]
     pub(crate) fn get(&self, group: Addr, source: Option<Addr>, meter: &mut Meter) -> Listed
         ensures sides { (x : Side) (i : ℕ) → in_side x result i ≡ listed self.now x i group.bits (option_map address_bits source) }
         ensures at_most { meter.new ≤ meter.old + 66 }

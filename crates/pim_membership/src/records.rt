@@ -1,5 +1,5 @@
 //! The records of one kind, of groups or of their sources, with the interfaces that have them.
-ghost use Rattle.std.specs.Prelude.{◌≡◌, ◌<◌, ◌≤◌, ◌+◌, ◌∷◌, [], refl, length, ℕ, Bool, None, Option, Some, IfOk, IfSome, IsTrue, OnErr, OnOk, false, true, filter, is_some, nat_lt, option_map};
+ghost use Rattle.std.specs.Prelude.{◌≡◌, ◌<◌, ◌≤◌, ◌+◌, [], refl, length, ℕ, Bool, None, Option, Some, IfOk, IfSome, IsTrue, OnErr, OnOk, false, true, filter, is_some, nat_lt, option_map};
 ghost use Rattle.std.specs.List.{AllByRecursion, list_all, list_any};
 ghost use Rattle.std.specs.List.Sorted.{IsStrictlySortedBy};
 ghost use Rattle.std.specs.Option.{option_map_or};
@@ -312,10 +312,6 @@ impl<R: Record> Records<R> {
     // The key of the first record of the group on the interface.
     fn first_of_group(&self, iface: IfaceId, group: Addr) -> Option<Key>
         ensures first { result ≡ first_key (filter (λ e. is_at_group iface.number group.bits e.0) self.now) }
-
-        // The key is listed once, so without its record the others are left.
-        ensures others { IfSome result (λ key. keys_in (filter (λ e. is_at_group iface.number group.bits e.0) self.now)
-            ≡ key ∷ keys_in (filter (λ e. is_at_group iface.number group.bits e.0) (drop_at self.now key))) }
         ensures kind { IfSome result (λ key. IsTrue (is_record_key key)) }
     {
         self.rows.recall_rising();
@@ -326,10 +322,6 @@ impl<R: Record> Records<R> {
     // The key of the interface's first record.
     fn first_on(&self, iface: IfaceId) -> Option<Key>
         ensures first { result ≡ first_key (rows_on iface.number self.now) }
-
-        // The key is listed once, so without its record the others are left.
-        ensures others { IfSome result (λ key. keys_in (rows_on iface.number self.now)
-            ≡ key ∷ keys_in (rows_on iface.number (drop_at self.now key))) }
         ensures kind { IfSome result (λ key. IsTrue (is_record_key key)) }
     {
         self.rows.recall_rising();

@@ -187,6 +187,7 @@ impl Index {
     }
 
     // The marks of (*,G), where `source` is `None`, or of a source of the group.
+    #[tactic(auto, unfolding(pim_trie::specs::Meter::raised))]
     pub(crate) fn get(&self, group: Addr, source: Option<Addr>, meter: &mut Meter) -> Marks
         ensures marks { (x : MarkValue) (i : ℕ) → seen x result i ≡ said self.now x i group.bits (source_bits source) }
         ensures bare { (x : MarkValue) → tunnel_in x result ≡ false }
@@ -208,7 +209,7 @@ impl Index {
     }
 
     // Whether there are marks of the source of the group.
-    #[tactic(auto, unfolding(pim_model::specs::Tables::has_row))]
+    #[tactic(auto, unfolding(pim_model::specs::Tables::has_row, pim_trie::specs::Meter::raised))]
     pub(crate) fn contains(&self, group: Addr, source: Addr, meter: &mut Meter) -> bool
         ensures found { result ≡ has_row self.now (entry_key group (Some source)) }
         ensures at_most { meter.new ≤ meter.old + 66 }

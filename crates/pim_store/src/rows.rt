@@ -49,7 +49,6 @@ pub(crate) fn update_row<R: TellsMarks, K: Keeping<R>, C: Change<R>>(
     ensures timers { timers_in index.new ≡ timers_in index.old }
     ensures alike { OnOk result ((before : R) → row_at rows.old key ≡ Some before
         → SaysAlike R.tells R.says (C.after change before) before → meter.new ≡ meter.old) }
-    ensures index { IfOk result (λ there. there ≡ false → index.new ≡ index.old) }
 {
     // For the proof: a key is listed once.
     rows.recall_rising();
