@@ -7,9 +7,9 @@ pub returns-in-Some : goal.returns-in-Some
 returns-in-Some c =
     c.has_other_route.ensures
     ∙ moved_with_rp c.args.world.now c.args.next.now.routes c.args.group.bits c.in-Some.rp.bits
-    (sym c.rp.ensures ∙ ap (option_map (λ (a : Addr). a.bits)) c.in-Some.is)
+    (sym c.rp.ensures.value ∙ ap (option_map (λ (a : Addr). a.bits)) c.in-Some.is)
 
 pub returns-in-None : goal.returns-in-None
 returns-in-None c =
     unmoved_without_rp c.args.world.now c.args.next.now.routes c.args.group.bits
-    (sym c.rp.ensures ∙ ap (option_map (λ (a : Addr). a.bits)) c.in-None.is)
+    (sym c.rp.ensures.value ∙ ap (option_map (λ (a : Addr). a.bits)) c.in-None.is)
