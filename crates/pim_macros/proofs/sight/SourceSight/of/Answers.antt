@@ -1,4 +1,4 @@
-use Rattle.std.proofs.Common.{Some, ap, arith, rules, sym, ◌∙◌}
+use Rattle.std.proofs.Common.{ap, arith, rules, sym, ◌∙◌}
 use Rattle.std.proofs.lemmas.Grind.{common_steps}
 use Rattle.pim_model.specs.Sets.{assert_source, is_kept_alive, is_loser, is_winner, joins, prunes, spt_bit, tunnel}
 use Rattle.pim_model.specs.Tables.{has_row, row_at}
