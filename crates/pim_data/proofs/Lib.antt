@@ -1,3 +1,2 @@
 mod Few
 mod Lists
-mod Visited

@@ -1,11 +1,9 @@
 //! A data packet that came.
-ghost use Rattle.std.specs.Prelude.{◌≡◌, ◌<◌, ◌≤◌, IfOk, OnOk};
+ghost use Rattle.std.specs.Prelude.{◌≡◌, ◌<◌, IfOk, OnOk};
 ghost use Rattle.pim_macros.specs.Sights.{IsSourceSight};
 ghost use Rattle.pim_world.specs.Turns.{saying};
 ghost use Rattle.pim_model.specs.Forwarding.{forwarded};
 ghost use Rattle.pim_register.specs.Outgoing.{LeavesOn};
-ghost use Rattle.pim_data.specs.Visits.{arrived_nodes};
-ghost use Rattle.pim_world.specs.Visits.{raised};
 
 use crate::list::choose_list;
 use crate::source::{source_here, source_joined, update_spt_bit};
@@ -19,8 +17,7 @@ use std::alloc::AllocError;
 /// read, and is kept up to date by what the packet changes. A directly connected source is kept alive and registered,
 /// one that is joined is kept alive, the SPTbit is set where the shortest path tree is reached, and a packet that came
 /// on no tree's interface calls for an assert. The result is the interfaces on which the packet leaves, without the one
-/// on which it came. The meter rises by the nodes that the look-ups visit, at least those that lead to facts that are
-/// added or removed. The error is want of memory.
+/// on which it came. The meter rises by the nodes visited. The error is want of memory.
 #[tactic(auto, unfolding(pim_model::specs::Forwarding::forwarded))]
 pub fn arrived(
     world: &mut World,

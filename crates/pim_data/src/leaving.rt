@@ -7,8 +7,6 @@ ghost use Rattle.pim_model.specs.Forwarding.{Forwarded};
 ghost use Rattle.pim_model.specs.Writing.{copies_of, leaves, on_link, register_of_packet, tunnel_of};
 ghost use Rattle.pim_model.specs.Unicast.{rp_of};
 ghost use Rattle.pim_register.specs.Outgoing.{LeavesOn};
-ghost use Rattle.pim_data.specs.Visits.{leave_nodes, registered_nodes};
-ghost use Rattle.pim_world.specs.Visits.{raised};
 ghost use Rattle.pim_types.specs.declared.config.IfaceId.{IfaceId as IfaceValue};
 
 use pim_ifset::{IfSet, Iter};
@@ -109,8 +107,7 @@ fn registered(
 }
 
 /// What leaves of a packet whose list of outgoing interfaces this is: nothing where its TTL has run out. The meter
-/// rises by the nodes that the look-ups visit, at least those that lead to the RP and to the route to the source where
-/// the packet goes through the tunnel. An error is want of memory.
+/// rises by the nodes visited. An error is want of memory.
 #[tactic(auto, unfolding(pim_model::specs::Writing::tunnel_of))]
 pub fn leave(
     world: &World,

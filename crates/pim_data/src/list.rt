@@ -1,12 +1,10 @@
 //! Which list of outgoing interfaces a packet takes (RFC 7761, section 4.2), by the sight of its source.
-ghost use Rattle.std.specs.Prelude.{◌≡◌, ◌<◌, ◌≤◌, IfOk, OnOk, if◌then◌else◌};
+ghost use Rattle.std.specs.Prelude.{◌≡◌, ◌<◌, IfOk, OnOk, if◌then◌else◌};
 ghost use Rattle.pim_model.specs.Sets.{inherited_olist, inherited_olist_rpt, spt_bit};
 ghost use Rattle.pim_macros.specs.Sights.{InSource, IsSourceSight};
 ghost use Rattle.pim_world.specs.Turns.{saying};
 ghost use Rattle.pim_model.specs.Forwarding.{list_chosen, stray, watched};
 ghost use Rattle.pim_register.specs.Outgoing.{LeavesOn};
-ghost use Rattle.pim_data.specs.Visits.{chosen_nodes, stray_nodes, watched_nodes};
-ghost use Rattle.pim_world.specs.Visits.{raised};
 
 use pim_asserts::data_seen;
 use pim_ifset::IfSet;
@@ -19,7 +17,7 @@ use std::alloc::AllocError;
 #[tactic(auto, unfolding(pim_model::specs::Forwarding::watched))]
 fn watch(world: &mut World, meter: &mut Meter, sight: &SourceSight) -> Result<(), AllocError>
     requires { IsSourceSight world.old sight.now }
-    ensures state { OnOk result (world.new ≡ watched world.old sight.now.star.group.bits sight.now.source.bits) }
+    ensures { OnOk result (world.new ≡ watched world.old sight.now.star.group.bits sight.now.source.bits) }
 {
     if !(sight.has_local_receivers() && sight.is_spt_wanted) {
         return Ok(());

@@ -1,11 +1,9 @@
 //! What a packet changes of its source (RFC 7761, sections 4.2 and 4.2.2). Each step takes the sight of the source,
 //! which is true of the state before it, and then of the state after it.
-ghost use Rattle.std.specs.Prelude.{◌≡◌, ◌<◌, ◌≤◌, OnOk};
+ghost use Rattle.std.specs.Prelude.{◌≡◌, ◌<◌, OnOk};
 ghost use Rattle.pim_macros.specs.Sights.{IsSourceSight};
 ghost use Rattle.pim_model.specs.Forwarding.{source_here, source_joined, spt_updated};
 ghost use Rattle.pim_model.specs.Registers.{with_keepalive};
-ghost use Rattle.pim_data.specs.Visits.{here_nodes, kept_nodes, reached_nodes, source_joined_nodes};
-ghost use Rattle.pim_world.specs.Visits.{raised};
 
 use pim_macros::SourceSight;
 use pim_register::settle_register;

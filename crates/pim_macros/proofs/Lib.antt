@@ -1,6 +1,5 @@
 mod Asserted
 mod ConfiguredMembers
-mod Counted
 mod Emptiness
 mod NextInterface
 mod OtherRp

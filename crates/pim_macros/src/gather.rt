@@ -1,6 +1,6 @@
 //! Sights, gathered from the present state.
 ghost use Rattle.std.specs.Option.{option_map_or};
-ghost use Rattle.std.specs.Prelude.{◌≡◌, ◌≤◌, ◌+◌, ℕ, false, option_map};
+ghost use Rattle.std.specs.Prelude.{◌≡◌, ℕ, false, option_map};
 ghost use Rattle.pim_ifset.specs.Members.{has};
 ghost use Rattle.pim_macros.specs.Sights.{IsSourceSight, IsStarSight};
 ghost use Rattle.pim_model.specs.Desires.{winner_hop};
@@ -14,9 +14,7 @@ ghost use Rattle.pim_model.specs.Tables.{has_row, row_at};
 ghost use Rattle.pim_model.specs.Unicast.{route};
 ghost use Rattle.pim_types.specs.Keys.{source_key};
 ghost use Rattle.pim_types.specs.declared.path.Path.{Path as PathValue};
-ghost use Rattle.pim_trie.specs.Meter.{raised};
 ghost use Rattle.pim_world.specs.Shown.{Shows};
-ghost use Rattle.pim_world.specs.Visits.{group_record_nodes, sight_nodes, source_nodes, source_record_nodes, star_nodes};
 
 use crate::asserts::{is_better, route_metric};
 use crate::interfaces::interfaces_where;
@@ -53,7 +51,7 @@ fn nbr(world: &World, path: Option<Path>) -> Option<Hop>
 
 // local_receiver_include(*,G).
 fn receivers(world: &World, group: Addr, meter: &mut Meter) -> IfSet
-    ensures shows { Shows result (is_exclude world.now group.bits) }
+    ensures { Shows result (is_exclude world.now group.bits) }
 {
     world
         .membership()
@@ -63,7 +61,7 @@ fn receivers(world: &World, group: Addr, meter: &mut Meter) -> IfSet
 
 // local_receiver_include(S,G).
 fn included(world: &World, name: SourceGroup, meter: &mut Meter) -> IfSet
-    ensures shows { Shows result (local_receiver_include world.now name.group.bits name.source.bits) }
+    ensures { Shows result (local_receiver_include world.now name.group.bits name.source.bits) }
 {
     world
         .membership()
@@ -73,7 +71,7 @@ fn included(world: &World, name: SourceGroup, meter: &mut Meter) -> IfSet
 
 // local_receiver_exclude(S,G).
 fn excluded(world: &World, name: SourceGroup, meter: &mut Meter) -> IfSet
-    ensures shows { Shows result (local_receiver_exclude world.now name.group.bits name.source.bits) }
+    ensures { Shows result (local_receiver_exclude world.now name.group.bits name.source.bits) }
 {
     world
         .membership()
@@ -128,8 +126,7 @@ fn is_dr_of_path(world: &World, path: Option<Path>) -> bool
 }
 
 impl StarSight {
-    /// What the macros of (*,G) read. The meter rises by the nodes that the look-ups visit, at least those that lead to
-    /// the RP, to its route and to the facts of the group.
+    /// What the macros of (*,G) read. The meter rises by the nodes visited.
     pub fn of(world: &World, group: Addr, meter: &mut Meter) -> StarSight
         ensures sight { IsStarSight world.now result }
         ensures group { result.group ≡ group }
@@ -158,7 +155,7 @@ impl StarSight {
 
 impl SourceSight {
     /// What the macros of (S,G) and of (S,G,rpt) read, with what those of (*,G) read, which is given. The meter rises
-    /// by the nodes that the look-ups visit, at least those that lead to the route and to the facts of the source.
+    /// by the nodes visited.
     #[tactic(auto, unfolding(pim_model::specs::Sets::spt_bit, pim_model::specs::Sets::is_kept_alive, pim_model::specs::Sets::tunnel))]
     pub fn of(world: &World, star: StarSight, source: Addr, meter: &mut Meter) -> SourceSight
         requires { IsStarSight world.now star }
@@ -204,7 +201,7 @@ impl SourceSight {
 
 impl SourceSight {
     /// What the macros of a source of a group read, with what those of the group read, gathered together. The meter
-    /// rises by the nodes that the look-ups visit, at least those of both.
+    /// rises by the nodes visited.
     pub fn with_star(world: &World, name: SourceGroup, meter: &mut Meter) -> SourceSight
         ensures sight { IsSourceSight world.now result }
         ensures group { result.star.group ≡ name.group }
@@ -214,7 +211,8 @@ impl SourceSight {
         SourceSight::of(world, star, name.source, meter)
     }
 
-    /// What the macros of the same source read, gathered again from the present state.
+    /// What the macros of the same source read, gathered again from the present state. The meter rises by the nodes
+    /// visited.
     pub fn gathered_again(&self, world: &World, meter: &mut Meter) -> SourceSight
         ensures sight { IsSourceSight world.now result }
         ensures group { result.star.group ≡ self.now.star.group }
@@ -224,11 +222,10 @@ impl SourceSight {
     }
 }
 
-/// The upstream neighbour of the key's Join timer: RPF'(*,G), or RPF'(S,G). The meter rises by the nodes that the
-/// look-ups visit, at least those of the sight of the group and, where the key has one, of the source.
+/// The upstream neighbour of the key's Join timer: RPF'(*,G), or RPF'(S,G). The meter rises by the nodes visited.
 #[tactic(auto, unfolding(pim_model::specs::Hellos::upstream_of))]
 pub fn upstream_of(world: &World, key: Key, meter: &mut Meter) -> Option<Hop>
-    ensures upstream { result ≡ upstream_of world.now key }
+    ensures { result ≡ upstream_of world.now key }
 {
     let star = StarSight::of(world, key.group, meter);
     match key.source {

@@ -1,7 +1,7 @@
 //! Rows of the forwarding cache: all that is read of a source of a group when its data comes (RFC 7761, section 4.2),
 //! evaluated from one sight.
 ghost use Rattle.std.specs.Option.{option_map_or};
-ghost use Rattle.std.specs.Prelude.{◌≡◌, ◌≤◌, ◌+◌, ◌&&◌, Some, false, nat_lt, not, true, ℕ};
+ghost use Rattle.std.specs.Prelude.{◌≡◌, ◌&&◌, Some, false, nat_lt, not, true, ℕ};
 ghost use Rattle.pim_macros.specs.Rows.{ShowsAnswers, number_of};
 ghost use Rattle.pim_macros.specs.Sights.{InSource, InStar, IsSourceSight};
 ghost use Rattle.pim_model.specs.AssertMacros.{could_assert, could_assert_star};
@@ -14,7 +14,6 @@ ghost use Rattle.pim_model.specs.Tables.{has_row};
 ghost use Rattle.pim_model.specs.Unicast.{rpf_interface, rpf_interface_rp};
 ghost use Rattle.pim_trie.specs.Meter.{raised};
 ghost use Rattle.pim_world.specs.Shown.{Shows};
-ghost use Rattle.pim_world.specs.Visits.{source_nodes, star_nodes};
 ghost use Rattle.pim_types.specs.Keys.{source_key, star_key};
 
 use crate::sight::{SourceSight, StarSight};
@@ -273,7 +272,7 @@ fn is_registered(world: &World, name: SourceGroup) -> bool
 }
 
 /// A row of the forwarding cache: the answers of a source of a group in the present state, evaluated from one sight.
-/// The meter rises by the nodes that its look-ups visit. The number of evaluated rows rises by one.
+/// The meter rises by the nodes visited. The number of evaluated rows rises by one.
 pub fn row(world: &World, name: SourceGroup, meter: &mut Meter, evaluated: &mut Evaluations) -> Made
     ensures group { result.group ≡ name.group }
     ensures source { result.source ≡ name.source }

@@ -66,7 +66,7 @@ impl Mfc {
     }
 
     /// Puts what was evaluated of a source in the place of its row, or as its first. It fails only where there was no
-    /// row and there is no memory, and then nothing has changed.
+    /// row and there is no memory, and then the cache is unchanged. The meter rises by the nodes visited.
     #[tactic(auto, unfolding(crate::specs::Kept::with_source_row, pim_trie::specs::Meter::raised))]
     pub fn put(&mut self, made: Made, meter: &mut Meter) -> Result<(), AllocError>
         ensures ok { OnOk result (self.new ≡ with_source_row self.old made) }
@@ -79,7 +79,8 @@ impl Mfc {
         Ok(())
     }
 
-    /// Takes the row of a source out; that counts, whether there was one or not. It takes no memory.
+    /// Takes the row of a source out; that counts as a change, whether there was one or not. It takes no memory. The
+    /// meter rises by the nodes visited.
     #[tactic(auto, unfolding(crate::specs::Kept::without_source_row, pim_trie::specs::Meter::raised))]
     pub fn remove(&mut self, name: SourceGroup, meter: &mut Meter)
         ensures { self.new ≡ without_source_row self.old name.group.bits name.source.bits }
@@ -88,15 +89,15 @@ impl Mfc {
         self.changes = self.changes.saturating_add(1);
     }
 
-    /// The forwarding row of a source. The meter rises by the nodes that it visits.
+    /// The forwarding row of a source. The meter rises by the nodes visited.
     pub fn cached(&self, name: SourceGroup, meter: &mut Meter) -> Option<CacheRow>
         ensures { result ≡ option_map cache_row (kept_row self.now name.group.bits name.source.bits) }
     {
-        let row = self.rows.get(name.group, Some(name.source), meter)?;
-        Some(CacheRow::of(row))
+        let row = self.kept(name, meter)?;
+        Some(CacheRow::of(&row))
     }
 
-    /// What was evaluated of a source and is kept. The meter rises by the nodes that it visits.
+    /// What was evaluated of a source and is kept. The meter rises by the nodes visited.
     pub fn kept(&self, name: SourceGroup, meter: &mut Meter) -> Option<SourceAnswers>
         ensures { result ≡ kept_row self.now name.group.bits name.source.bits }
     {

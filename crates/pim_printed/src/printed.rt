@@ -9,8 +9,7 @@ use pim_types::{Row, Table};
 use pim_world::World;
 use std::alloc::{AllocError, Global};
 
-/// The rows of a table, ascending by their keys. The meter rises by the trie nodes that are visited. An error is want of
-/// memory.
+/// The rows of a table, ascending by their keys. The meter rises by the nodes visited. An error is want of memory.
 #[tactic(auto, unfolding(pim_model::specs::Printed::rows))]
 pub fn rows(
     world: &World,

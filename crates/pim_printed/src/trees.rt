@@ -11,7 +11,7 @@ use pim_types::{Addr, Row, TreeState};
 use pim_world::World;
 use std::alloc::{AllocError, Global};
 
-/// The (S,G,rpt) states of the sources with a fact, where their group is joined.
+/// The (S,G,rpt) states of the sources with a fact, where their group is joined. The meter rises by the nodes visited.
 #[tactic(auto, unfolding(pim_model::specs::Printed::tree_lines, crate::specs::Trees::lines_of_group))]
 pub fn trees(world: &World, alloc: Global, meter: &mut Meter) -> Result<Vec<Row>, AllocError>
     ensures { IfOk result (λ rows. rows.items ≡ tree_lines world.now) }

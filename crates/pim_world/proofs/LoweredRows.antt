@@ -1,9 +1,7 @@
 -- The row at a key, lowered by a change of that row.
-use Rattle.std.proofs.Common.{◌≡◌, ℕ, Bool, true, false, List, [], ◌∷◌, is_some, map, not, None, Ok, Err, OnOk, Option, Result, Some, refl, ap, subst, sym, ◌∙◌}
-use Rattle.std.specs.Bool.{beq}
+use Rattle.std.proofs.Common.{◌≡◌, ℕ, Bool, true, false, [], ◌∷◌, map, None, Ok, Err, OnOk, Option, Result, Some, refl, ap, subst, sym, ◌∙◌}
 use Rattle.std.specs.Option.{IfSome}
 use Rattle.std.specs.Prelude.{if◌then◌else◌}
-use Rattle.pim_ip.specs.declared.addr.Addr.{Addr}
 use Rattle.pim_types.specs.declared.fact.GroupRecordRow.{GroupRecordRow}
 use Rattle.pim_types.specs.declared.fact.Key.{Key}
 use Rattle.pim_types.specs.Keys.{same_key, star_key}
@@ -12,7 +10,6 @@ use Rattle.pim_model.specs.State.{State}
 use Rattle.pim_model.specs.Tables.{Table, change_row, changed_entry, row_at}
 use Rattle.pim_tables.proofs.Rows.{absent_is_unchanged}
 use Rattle.pim_membership.specs.MembershipTables.{MembershipTables}
-use Rattle.pim_membership.specs.Visits.{IsLookedUpWhere, changes_listed}
 
 module _ {R : Type 0} (change : R → R) (k : Key) where
   abbrev pub changed : Table R → Table R
@@ -77,18 +74,3 @@ module _ (i g end : ℕ) where
       (changed_is_mapped low (star_key i g) before.group_records))
       ∙ ap (λ (t : State). lower_group t i g end) same
   one_lowered (Err e) s before after old row same changes found is = tt
-
--- a timer that is lowered runs as before, so that nothing is looked up
-pub still_listed : {T E : Type 0} (r : Result T E) (end : ℕ) (keys : List Key) (group : Addr) (old row : GroupRecordRow)
-    (o : Option GroupRecordRow) (source : Option Addr) (before after : ℕ) → o ≡ Some old → row.end ≡ lowered end old.end
-    → OnOk r (IsLookedUpWhere (changes_listed (λ (x : GroupRecordRow). is_some x.end) row o) keys group source before after)
-    → OnOk r (after ≡ before)
-still_listed (Err e) end keys group old row o source before after found is visited = tt
-still_listed (Ok x) end keys group old row o source before after found is visited =
-    subst (λ (b : Bool). IsLookedUpWhere b keys group source before after)
-    (ap (λ (o : Option GroupRecordRow). changes_listed (λ (x : GroupRecordRow). is_some x.end) row o) found
-    ∙ ap (λ (n : Option ℕ). not (beq (is_some old.end) (is_some n))) is ∙ runs_still old.end) visited
-  where
-    runs_still : (n : Option ℕ) → not (beq (is_some n) (is_some (lowered end n))) ≡ false
-    runs_still None = refl
-    runs_still (Some n) = refl

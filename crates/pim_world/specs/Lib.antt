@@ -6,4 +6,3 @@ pub mod Short
 pub mod Sources
 pub mod Touches
 pub mod Turns
-pub mod Visits

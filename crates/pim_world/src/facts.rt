@@ -1,13 +1,11 @@
 //! What the machines change of sources: the keepalive timer, and the SPTbit.
-ghost use Rattle.std.specs.Prelude.{◌≡◌, ◌≤◌, IsTrue, None, OnOk, Some, option_and_then};
+ghost use Rattle.std.specs.Prelude.{◌≡◌, IsTrue, OnOk, option_and_then};
 ghost use Rattle.pim_model.specs.Asserts.{with_spt_bit};
 ghost use Rattle.pim_model.specs.Registers.{with_keepalive};
 ghost use Rattle.pim_model.specs.Tables.{has_row, row_at};
 ghost use Rattle.pim_store.specs.PimTables.{AreKeyed, pim_tables};
 ghost use Rattle.pim_types.specs.Keys.{source_key};
 ghost use Rattle.pim_types.specs.declared.fact.SourceRow.{SourceRow as Row};
-ghost use Rattle.pim_trie.specs.Meter.{raised};
-ghost use Rattle.pim_world.specs.Visits.{mark_nodes};
 
 use crate::world::World;
 use pim_trie::Meter;
@@ -27,8 +25,8 @@ impl World {
     }
 
     /// KAT(S,G) is started for its whole period. The meter is unchanged where the source has a row, and rises by the
-    /// nodes that lead to its PIM facts where it gets one. If the hint is the place of the source's row (`source_place`
-    /// of `Store`), no key is looked up for it. The result doesn't depend on the hint.
+    /// nodes visited where it gets one. If the hint is the place of the source's row (`source_place` of `Store`), no key
+    /// is looked up for it. The result doesn't depend on the hint. The error is want of memory.
     #[tactic(auto, unfolding(pim_model::specs::Registers::with_keepalive, pim_model::specs::Sets::spt_bit))]
     pub fn keep_alive(
         &mut self,
@@ -52,13 +50,10 @@ impl World {
         self.store.source(name.key())?.keepalive
     }
 
-    /// Sets SPTbit(S,G). The meter is unchanged where the source has a row, and rises by the nodes that lead to its PIM
-    /// facts where it gets one. The error is want of memory.
+    /// Sets SPTbit(S,G). The meter rises by the nodes visited. The error is want of memory.
     #[tactic(auto, unfolding(pim_model::specs::Asserts::with_spt_bit, pim_model::specs::Tables::set_row))]
     pub fn set_spt_bit(&mut self, name: SourceGroup, meter: &mut Meter) -> Result<(), AllocError>
-        ensures state { OnOk result (self.new ≡ with_spt_bit self.old name.group.bits name.source.bits) }
-        ensures kept { OnOk result (IsTrue (has_row self.old.sources (source_key 0 name.group.bits name.source.bits))
-            → meter.new ≡ meter.old) }
+        ensures { OnOk result (self.new ≡ with_spt_bit self.old name.group.bits name.source.bits) }
     {
         let row = SourceRow {
             keepalive: self.keepalive_end(name),

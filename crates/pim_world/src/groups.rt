@@ -19,7 +19,7 @@ use std::collections::BTreeMap;
 use std::collections::btree_map::Iter;
 
 impl World {
-    /// The groups that have any fact, ascending.
+    /// The groups that have any fact, ascending. The meter rises by the nodes visited.
     #[tactic(auto, unfolding(pim_model::specs::Upstream::groups_of, pim_model::specs::Tables::ascending, crate::specs::Groups::gathered))]
     pub fn groups(&self, alloc: Global, meter: &mut Meter) -> Result<BTreeMap<Addr, (), Global>, AllocError>
         ensures { IfOk result (λ found. numbers_of found.entries ≡ groups_of (fact_keys self.now)) }
@@ -29,7 +29,7 @@ impl World {
         Ok(found)
     }
 
-    /// Adds the touched groups to a set of groups.
+    /// Adds the touched groups to a set of groups. The meter rises by the nodes visited.
     pub fn gather_touched(
         &self,
         touched: &Touched,

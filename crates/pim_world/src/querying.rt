@@ -109,8 +109,8 @@ impl World {
         self.membership.group_record(iface, group).is_some()
     }
 
-    /// Lowers the group timer on the interface to this timestamp, in ms, if it runs and expires later. The meter is
-    /// unchanged.
+    /// Lowers the group timer on the interface to this timestamp, in ms, if it runs and expires later. The meter rises by
+    /// the nodes visited.
     #[tactic(auto, unfolding(pim_model::specs::Querier::lower_group))]
     pub fn lower_group(
         &mut self,
@@ -119,8 +119,7 @@ impl World {
         end: u64,
         meter: &mut Meter,
     ) -> Result<(), AllocError>
-        ensures state { OnOk result (self.new ≡ lower_group self.old iface.number group.bits end) }
-        ensures kept { OnOk result (meter.new ≡ meter.old) }
+        ensures { OnOk result (self.new ≡ lower_group self.old iface.number group.bits end) }
     {
         let Some(row) = self.membership.group_record(iface, group) else {
             return Ok(());

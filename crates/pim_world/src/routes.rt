@@ -13,7 +13,7 @@ use std::alloc::Global;
 
 impl World {
     /// A table of the routes that are to replace the present ones, if they pass their test: each is over a configured
-    /// interface, and no prefix is listed twice.
+    /// interface, and no prefix is listed twice. The meter rises by the nodes visited.
     pub fn table_of_routes(
         &self,
         alloc: Global,
@@ -63,7 +63,7 @@ impl World {
 }
 
 /// A table of the RP ranges that are to replace the present ones, if they pass their test: each has an RP, and no
-/// prefix is listed twice.
+/// prefix is listed twice. The meter rises by the nodes visited.
 pub fn table_of_ranges(
     alloc: Global,
     ranges: &[RpRange],

@@ -1,6 +1,6 @@
 //! The sources of a group that have any fact.
 ghost use Rattle.std.specs.List.{list_any};
-ghost use Rattle.std.specs.Prelude.{◌≡◌, ◌≤◌, [], ◌∷◌, IfOk, OnOk};
+ghost use Rattle.std.specs.Prelude.{◌≡◌, [], ◌∷◌, IfOk, OnOk};
 ghost use Rattle.pim_types.specs.Keys.{is_of_group, names_source};
 ghost use Rattle.pim_model.specs.Upstream.{fact_keys, sources_of};
 ghost use Rattle.pim_world.specs.Groups.{gathered, numbers_of};
@@ -8,8 +8,6 @@ ghost use Rattle.pim_membership.specs.MembershipTables.{membership_keys};
 ghost use Rattle.pim_model.specs.Tables.{keys_in};
 ghost use Rattle.pim_store.specs.PimTables.{stored_keys};
 ghost use Rattle.pim_world.specs.Sources.{is_from, sources_among};
-ghost use Rattle.pim_world.specs.Visits.{fact_nodes, sources_nodes};
-ghost use Rattle.pim_trie.specs.Meter.{raised};
 
 use crate::world::World;
 use pim_membership::Membership;
@@ -22,32 +20,30 @@ use std::collections::BTreeMap;
 use std::collections::btree_map::Iter;
 
 impl World {
-    /// The sources of the group that have any fact, ascending. The meter rises by the nodes that are visited, at least
-    /// those that lead to the group and to each of its sources among the source records, and to the group among the PIM
-    /// facts.
+    /// The sources of the group that have any fact, ascending. The meter rises by the nodes visited.
     pub fn sources(
         &self,
         alloc: Global,
         group: Addr,
         meter: &mut Meter,
     ) -> Result<BTreeMap<Addr, (), Global>, AllocError>
-        ensures sources { IfOk result (λ found. numbers_of found.entries ≡ sources_of group.bits (fact_keys self.now)) }
+        ensures { IfOk result (λ found. numbers_of found.entries ≡ sources_of group.bits (fact_keys self.now)) }
     {
         let mut found = self.membership.sources_of(alloc, group, meter)?;
         gather_all(self.store.sources_of(group, meter), &mut found)?;
         Ok(found)
     }
 
-    /// Whether there is a fact of the source of the group. The meter rises by the nodes that are visited, at least
-    /// those that lead to its source records and, where membership has no fact of it, to its PIM facts.
+    /// Whether there is a fact of the source of the group. The meter rises by the nodes visited.
     #[tactic(auto, using(crate::proofs::GatheredSources::any_fact), unfolding(pim_membership::specs::MembershipTables::membership_keys, pim_store::specs::PimTables::stored_keys))]
     pub fn has_facts(&self, name: SourceGroup, meter: &mut Meter) -> bool
-        ensures value { result ≡ list_any (names_source name.group.bits name.source.bits) (fact_keys self.now) }
+        ensures { result ≡ list_any (names_source name.group.bits name.source.bits) (fact_keys self.now) }
     {
         self.membership.has_facts(name, meter) || self.store.has_facts(name, meter)
     }
 
-    /// Whether a fact of any group names the address as its source. The keys of all facts are gone through.
+    /// Whether a fact of any group names the address as its source. The keys of all facts are gone through. The meter
+    /// rises by the nodes visited.
     #[tactic(auto, using(crate::proofs::Named::any_from), unfolding(pim_membership::specs::MembershipTables::membership_keys, pim_store::specs::PimTables::stored_keys))]
     pub fn is_source(&self, address: Addr, meter: &mut Meter) -> bool
         ensures { result ≡ list_any (is_from address.bits) (fact_keys self.now) }

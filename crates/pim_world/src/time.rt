@@ -48,10 +48,11 @@ impl World {
         self.present + JOIN_PERIOD
     }
 
-    /// Sets the interface down: all that is known on it is removed. Without neighbours there the router is the DR.
+    /// Sets the interface down: all that is known on it is removed. Without neighbours there the router is the DR. The
+    /// meter rises by the nodes visited.
     #[tactic(auto, unfolding(pim_model::specs::Step::iface_down))]
     pub fn set_down(&mut self, iface: IfaceId, meter: &mut Meter)
-        ensures down { self.new ≡ iface_down self.old iface.number }
+        ensures { self.new ≡ iface_down self.old iface.number }
     {
         self.interfaces.set_down(iface);
         self.neighbours.drop_on(iface);

@@ -2,27 +2,27 @@
 ghost use Rattle.std.specs.List.{list_any};
 ghost use Rattle.std.specs.Prelude.{◌≡◌, ◌==◌, ℕ, option_map};
 ghost use Rattle.pim_model.specs.Unicast.{is_rp, route, rp_of, rp_route};
-ghost use Rattle.pim_mrib.specs.Routes.{route_nodes, rp_nodes};
+ghost use Rattle.pim_mrib.specs.Routes.{rp_nodes};
 ghost use Rattle.pim_trie.specs.Meter.{raised};
 ghost use Rattle.pim_world.specs.Short.{IsShort};
-ghost use Rattle.pim_world.specs.Visits.{path_nodes};
 
 use crate::world::World;
 use pim_trie::Meter;
 use pim_types::{Addr, Path};
 
 impl World {
-    /// RP(G): none of a source-specific group. The meter rises by the nodes that are visited, 33 at most.
+    /// RP(G): none of a source-specific group. The meter rises by the nodes visited, 33 at most.
     #[tactic(auto, unfolding(pim_model::specs::Unicast::rp_of))]
     pub fn rp(&self, group: Addr, meter: &mut Meter) -> Option<Addr>
         ensures value { option_map (λ a. a.bits) result ≡ rp_of self.now group.bits }
+        ensures visited { meter.new ≡ raised meter.old (rp_nodes self.now.ranges group.bits) }
     {
         self.mrib.rp(group, meter)
     }
 
-    /// Whether the address is RP(G). The meter rises by the nodes that are visited, 33 at most.
+    /// Whether the address is RP(G). The meter rises by the nodes visited, 33 at most.
     pub fn is_rp(&self, group: Addr, address: Addr, meter: &mut Meter) -> bool
-        ensures value { result ≡ is_rp self.now group.bits address.bits }
+        ensures { result ≡ is_rp self.now group.bits address.bits }
     {
         match self.rp(group, meter) {
             Some(rp) => rp == address,
@@ -30,19 +30,19 @@ impl World {
         }
     }
 
-    /// The route to the address. The meter rises by the nodes of the trie of routes that are visited, 33 at most.
+    /// The route to the address. The meter rises by the nodes visited, 33 at most.
     #[tactic(auto, unfolding(pim_model::specs::Unicast::route))]
     pub fn route(&self, address: Addr, meter: &mut Meter) -> Option<Path>
-        ensures value { result ≡ route self.now address.bits }
+        ensures { result ≡ route self.now address.bits }
     {
         self.mrib.route(&self.interfaces, address, meter)
     }
 
-    /// The route to the given RP(G). The meter rises by the nodes of the trie of routes that are visited, 33 at most.
-    #[tactic(auto, using(crate::proofs::Options::next_of_some, crate::proofs::Options::next_of_none), unfolding(pim_model::specs::Unicast::rp_route, pim_trie::specs::Meter::raised))]
+    /// The route to the given RP(G). The meter rises by the nodes visited, 33 at most.
+    #[tactic(auto, using(crate::proofs::Options::next_of_some, crate::proofs::Options::next_of_none), unfolding(pim_model::specs::Unicast::rp_route))]
     pub fn rp_route(&self, group: Addr, rp: Option<Addr>, meter: &mut Meter) -> Option<Path>
         requires { option_map (λ a. a.bits) rp ≡ rp_of self.now group.bits }
-        ensures value { result ≡ rp_route self.now group.bits }
+        ensures { result ≡ rp_route self.now group.bits }
     {
         match rp {
             Some(rp) => self.route(rp, meter),

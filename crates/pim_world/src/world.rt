@@ -19,6 +19,7 @@ use pim_membership::Membership;
 use pim_mrib::Mrib;
 use pim_neighbours::Neighbours;
 use pim_store::Store;
+use pim_trie::Meter;
 use pim_types::fact::InterfaceRow;
 use pim_types::{Addr, Config, Fault, IfaceId, Refusal, Settings};
 use std::alloc::{AllocError, Global};
@@ -90,7 +91,7 @@ impl Model for World {
 
 impl World {
     /// The state at the opening with a configuration: timestamp 0, all interfaces down. A configuration is refused for
-    /// the first test that fails.
+    /// the first test that fails. The meter rises by the nodes visited.
     #[tactic(auto, unfolding(pim_model::specs::State::opening))]
     pub fn new(
         alloc: Global,

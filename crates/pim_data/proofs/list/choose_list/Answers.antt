@@ -1,10 +1,6 @@
-use Rattle.std.proofs.Common.{ap, false, not, refl, sym, ◌&&◌, ◌≡◌, ◌∙◌}
-use Rattle.pim_model.specs.Sets.{spt_bit}
-use Rattle.pim_model.specs.Unicast.{is_rpf_interface, is_rpf_interface_rp}
+use Rattle.std.proofs.Common.{sym, ◌∙◌}
 use Rattle.pim_data.proofs.Lists.{on_shared_tree, on_source_tree}
-use Rattle.pim_data.proofs.Visited.{chosen_nowhere, chosen_on_shared_tree, chosen_on_source_tree, first_off, second_off}
 use Rattle.pim_data.proofs.list.choose_list.Goals as goal
-use Rattle.pim_data.proofs.list.choose_list.Goals.{else-is_rpf_interface-via-then-is_rpf_interface+else-sight, else-is_rpf_interface-via-else-is_rpf_interface, else-is_rpf_interface-2-via-then-is_rpf_interface-2+else-not-sight, else-is_rpf_interface-2-via-else-is_rpf_interface-2}
 
 pub returns-then-sight-clause-list : goal.returns-then-sight-clause-list
 returns-then-sight-clause-list c =

@@ -13,7 +13,7 @@ loop-key-preserved-in-Continue-1 c =
           found (λ e. is_towards c.args.world.now c.args.neighbour e.0) _ l.keys.items c.push.new.self.items
           (c.in-Some.key, c.in-Some.field-0-1)
           l.key-iterator c.next.new.self c.is_same_hop.result c.in-Some.ensures.steps c.in_ok-push.ensures.items
-          (c.is_same_hop.ensures ∙ ap (λ h. same_hop h (Some c.args.neighbour)) c.upstream_of-upstream.ensures.upstream)
+          (c.is_same_hop.ensures ∙ ap (λ h. same_hop h (Some c.args.neighbour)) c.upstream_of-upstream.ensures)
           c.if-is_same_hop.true l.invariant.keys;
       visited =
           next_gathered (timer_sight_nodes c.args.world.now) _ _ _ (c.in-Some.key, c.in-Some.field-0-1)
@@ -28,7 +28,7 @@ loop-key-preserved c =
           passed (λ e. is_towards c.args.world.now c.args.neighbour e.0) _ l.keys.items
           (c.in-Some.key, c.in-Some.field-0-1) l.key-iterator c.next.new.self c.is_same_hop.result
           c.in-Some.ensures.steps
-          (c.is_same_hop.ensures ∙ ap (λ h. same_hop h (Some c.args.neighbour)) c.upstream_of-upstream.ensures.upstream)
+          (c.is_same_hop.ensures ∙ ap (λ h. same_hop h (Some c.args.neighbour)) c.upstream_of-upstream.ensures)
           c.if-is_same_hop.false l.invariant.keys;
       visited =
           next_gathered (timer_sight_nodes c.args.world.now) _ _ _ (c.in-Some.key, c.in-Some.field-0-1)

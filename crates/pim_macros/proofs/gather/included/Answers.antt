@@ -4,9 +4,9 @@ use Rattle.pim_membership.specs.MembershipTables.{MembershipTables}
 use Rattle.pim_macros.proofs.Asserted.{shown_of_all}
 use Rattle.pim_macros.proofs.gather.included.Goals as goal
 
-pub returns-clause-shows : goal.returns-clause-shows
+pub returns : goal.returns
 unfolding local_receiver_include
-returns-clause-shows c =
+returns c =
     let s = c.args.world.now in
     let g = c.args.name.group.bits in
     shown_of_all _ _ (local_receiver_include s g c.args.name.source.bits) (λ i. c.receivers_include.ensures.interfaces i

@@ -4,9 +4,9 @@ use Rattle.pim_membership.specs.MembershipTables.{MembershipTables}
 use Rattle.pim_macros.proofs.Asserted.{shown_of_all}
 use Rattle.pim_macros.proofs.gather.receivers.Goals as goal
 
-pub returns-clause-shows : goal.returns-clause-shows
+pub returns : goal.returns
 unfolding is_exclude
-returns-clause-shows c =
+returns c =
     let s = c.args.world.now in
     let g = c.args.group.bits in
     shown_of_all _ _ (is_exclude s g) (λ i. c.receivers_star.ensures.interfaces i

@@ -11,7 +11,7 @@ use Rattle.pim_opening.proofs.sources.touched_sources.Goals as goal
 pub returns-in_ok-found-in-All : goal.returns-in_ok-found-in-All
 unfolding touched_sources
 returns-in_ok-found-in-All c =
-    c.in_ok-found-in-All.ensures.sources
+    c.in_ok-found-in-All.ensures
     ∙ ap (λ (t : Touched). touched_sources c.args.world.now t c.args.group.bits) (sym c.in-All.is)
 
 pub returns-in_ok-gather_named-in-Keys : goal.returns-in_ok-gather_named-in-Keys

@@ -1,18 +1,14 @@
-use Rattle.std.proofs.Common.{None, ◌≡◌, ◌≤◌, ap, arith, false, length, nat_lt, rules, sym, ◌∙◌}
+use Rattle.std.proofs.Common.{◌≡◌, ◌≤◌, ap, arith, false, length, nat_lt, rules, sym, ◌∙◌}
 use Rattle.std.specs.Option.{option_map_or}
 use Rattle.std.proofs.lemmas.Grind.{common_steps}
 use Rattle.pim_model.specs.Sets.{assert_star, is_loser, is_winner, joins_star}
 use Rattle.pim_model.specs.State.{InterfaceTable, iface_count, is_own}
 use Rattle.pim_model.specs.Tables.{has_row, row_at}
 use Rattle.pim_model.specs.Unicast.{rpf_interface_rp}
-use Rattle.pim_store.specs.PimTables.{PimTables, stored_keys}
-use Rattle.pim_store.specs.Visits.{nodes_visited}
-use Rattle.pim_world.specs.Visits.{path_nodes, star_nodes}
+use Rattle.pim_store.specs.PimTables.{PimTables}
 use Rattle.pim_types.specs.Keys.{star_key}
 use Rattle.pim_macros.proofs.Asserted.{shown_of_all}
 use Rattle.pim_macros.proofs.Emptiness.{below_limit}
-use Rattle.pim_macros.proofs.Counted.{at_least_as}
-use Rattle.pim_world.proofs.Visits.{at_least_itself, four_in_turn}
 use Rattle.pim_macros.proofs.sight.StarSight.of.Goals as goal
 
 pub returns-clause-sight : goal.returns-clause-sight
@@ -43,6 +39,6 @@ returns-clause-sight c =
           c.below.ensures.interfaces i ∙ ap (nat_lt i) count ∙ below_limit i (iface_count s) few;
       bare = c.below.ensures.tunnel;
       few = few;
-      is_own_rp = c.is_own.ensures ∙ ap (λ o. option_map_or (is_own s) o false) c.rp-rp.ensures;
-      short = rw (sym c.rp_route-rp_path.ensures.value) at (c.recall_short_preferences.ensures.group g);
+      is_own_rp = c.is_own.ensures ∙ ap (λ o. option_map_or (is_own s) o false) c.rp-rp.ensures.value;
+      short = rw (sym c.rp_route-rp_path.ensures) at (c.recall_short_preferences.ensures.group g);
     }

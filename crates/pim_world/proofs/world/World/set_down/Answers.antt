@@ -1,6 +1,4 @@
-use Rattle.std.proofs.Common.{arith}
 use Rattle.pim_world.proofs.Elected.{elected_after_down}
-use Rattle.pim_world.proofs.Visits.{rises_by}
 use Rattle.pim_world.proofs.world.World.set_down.Goals as goal
 
 pub invariant_of-self : goal.invariant_of-self

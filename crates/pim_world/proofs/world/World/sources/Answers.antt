@@ -3,13 +3,11 @@ use Rattle.pim_membership.specs.MembershipTables.{membership_keys}
 use Rattle.pim_store.specs.PimTables.{stored_keys}
 use Rattle.pim_world.specs.Groups.{gathered, numbers_of}
 use Rattle.pim_world.proofs.GatheredSources.{facts_in_order}
-use Rattle.pim_world.proofs.Visits.{at_least_itself, two_in_turn}
-use Rattle.pim_world.specs.Visits.{sources_nodes}
 use Rattle.pim_world.proofs.world.World.sources.Goals as goal
 
-pub returns-clause-sources : goal.returns-clause-sources
+pub returns : goal.returns
 unfolding membership_keys stored_keys
-returns-clause-sources c = rw (← c.self.view_is)
+returns c = rw (← c.self.view_is)
     (facts_in_order _ c.args.group.bits (numbers_of c.in_ok-found.found.entries) _ c.in_ok-found.ensures.sources
     (c.in_ok-gather_all.ensures
     ∙ ap (λ ns. gathered ns (numbers_of c.in_ok-found.found.entries)) c.sources_of-2.ensures))
