@@ -35,9 +35,8 @@ use std::collections::btree_map::Iter;
 use std::marker::Model;
 
 /// The IGMP membership facts of the router (RFC 3376, sections 4 and 6). After want of memory in a call that changes
-/// them, nothing is promised of their values, but all that is stated of every membership still holds. A call that
-/// changes records raises the meter by the nodes that lead to the interfaces listed for a group or a source, wherever a
-/// record is added or removed there, or its timer starts or stops.
+/// them, nothing is promised of their values, but all that is stated of every membership still holds. A call that is
+/// lent a meter raises it by the trie nodes that it visits.
 pub struct Membership {
     queriers: Timed<QuerierRow>,
     group_records: Records<GroupRecordRow>,
@@ -573,8 +572,7 @@ impl Membership {
         self.source_repeats.recall_no_source();
     }
 
-    /// Whether there is any fact of the source of the group. The meter rises by the nodes that are
-    /// visited: 66 at most, and at least those that lead to the source among those with a record.
+    /// Whether there is any fact of the source of the group. The meter rises by 66 nodes at most.
     pub fn has_facts(&self, name: SourceGroup, meter: &mut Meter) -> bool
         ensures any { result ≡ list_any (names_source name.group.bits name.source.bits) (membership_keys self.now) }
         ensures at_most { meter.new ≤ meter.old + 66 }
@@ -607,8 +605,7 @@ impl Membership {
     }
 
     /// The interfaces on which the group is in EXCLUDE mode: it has receivers of all its sources but the excluded ones.
-    /// The meter rises by the nodes that are visited: 33 at most, and at least those that lead to the group among those
-    /// with a record.
+    /// The meter rises by 33 nodes at most.
     pub fn receivers_star(&self, group: Addr, meter: &mut Meter) -> IfSet
         ensures interfaces { (i : ℕ) → has result i ≡ is_exclude_among self.now.group_records group.bits i }
         ensures tunnel { result.tunnel ≡ false }
@@ -621,7 +618,7 @@ impl Membership {
     }
 
     /// The interfaces with receivers of this source of the group: the group is in INCLUDE mode there, and lists the
-    /// source. The meter rises by the nodes that are visited, 99 at most.
+    /// source. The meter rises by 99 nodes at most.
     pub fn receivers_include(&self, name: SourceGroup, meter: &mut Meter) -> IfSet
         ensures interfaces { (i : ℕ) → has result i ≡ local_receiver_include_among self.now.group_records
             self.now.source_records name.group.bits name.source.bits i }
@@ -637,7 +634,7 @@ impl Membership {
     }
 
     /// The interfaces with receivers of the group that exclude this source: the group is in EXCLUDE mode there, and the
-    /// source is excluded. The meter rises by the nodes that are visited, 99 at most.
+    /// source is excluded. The meter rises by 99 nodes at most.
     pub fn receivers_exclude(&self, name: SourceGroup, meter: &mut Meter) -> IfSet
         ensures interfaces { (i : ℕ) → has result i ≡ local_receiver_exclude_among self.now.group_records
             self.now.source_records name.group.bits name.source.bits i }

@@ -389,7 +389,7 @@ impl Index {
     }
 
     // Sets or removes the Join timer of the key's group, or of its source. The error is want of memory, and then no
-    // timer has changed. The meter rises by the nodes that lead there.
+    // timer has changed.
     pub(crate) fn set_timer(
         &mut self,
         key: Key,
@@ -405,7 +405,7 @@ impl Index {
     }
 
     // Changes the Join timer under the key, if there is one. The error is want of memory, and then no timer has
-    // changed. The meter rises by the nodes that lead to the key's group, or to its source.
+    // changed.
     pub(crate) fn change_timer<C: Change<JoinTimerRow>>(
         &mut self,
         key: Key,

@@ -31,7 +31,7 @@ fn says_alike<R: TellsMarks>(key: Key, before: R, row: R) -> bool
 
 // Changes the row under the key in its place, if there is one. The result is whether there is one. The row is looked up
 // once, or not at all where the hint is its place; the result doesn't depend on the hint. The error is want of memory.
-// The meter rises by the nodes that lead to the marks, if the new row sets other marks than the old one.
+// The marks are looked up only if the new row sets other marks than the old one.
 pub(crate) fn update_row<R: TellsMarks, K: Keeping<R>, C: Change<R>>(
     rows: &mut Timed<R, K>,
     index: &mut Index,

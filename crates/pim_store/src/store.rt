@@ -35,11 +35,8 @@ use std::collections::btree_map::Iter;
 use std::marker::Model;
 
 /// The PIM facts of the router. After want of memory in a call that changes them, nothing is promised of their values,
-/// but all that is stated of every store still holds. A call that changes facts raises the meter by the nodes that lead
-/// to the marks of a group or a source, wherever a row is added or removed there, or a new row sets other marks than
-/// the old one. A Join timer is in the entry with those marks, so each call that reads or changes one raises the meter
-/// in this way, whether there is a timer or not. Not counted are the look-ups of Join timers that the timer queue does
-/// when one is set or removed.
+/// but all that is stated of every store still holds. A call that is lent a meter raises it by the trie nodes that it
+/// visits. The marks of a group, or of a source, are in a trie, and the Join timer with them.
 pub struct Store {
     downstream: Timed<DownstreamRow>,
     asserts: Timed<AssertRow>,
@@ -167,7 +164,7 @@ impl Store {
         self.asserts.get(key)
     }
 
-    /// The Join timer of (*,G), where `source` is `None`, or of (S,G). The meter rises by the nodes that lead there.
+    /// The Join timer of (*,G), where `source` is `None`, or of (S,G). The meter rises by 66 nodes at most.
     pub fn join_timer(
         &self,
         group: Addr,
@@ -276,8 +273,7 @@ impl Store {
         set_row(&mut self.override_timers, &mut self.index, key, row, meter)
     }
 
-    /// Sets the row of the source of the group, or removes it. The error is want of memory. The meter is unchanged
-    /// where a row replaces another.
+    /// Sets the row of the source of the group, or removes it. The error is want of memory.
     pub fn set_source(
         &mut self,
         name: SourceGroup,
@@ -293,8 +289,8 @@ impl Store {
     }
 
     /// Sets when the keepalive timer of the source of the group expires, in ms, and gives the source a row if it has
-    /// none. A row that is there is looked up once, or not at all where the hint is its place (`source_place`), and
-    /// then the meter is unchanged. The result doesn't depend on the hint. The error is want of memory.
+    /// none. A row that is there is looked up once, or not at all where the hint is its place (`source_place`); either
+    /// way the meter is unchanged. The result doesn't depend on the hint. The error is want of memory.
     pub fn keep_alive(
         &mut self,
         name: SourceGroup,
@@ -404,8 +400,7 @@ impl Store {
         change_row(&mut self.registers, &mut self.index, key, Some(row), meter)
     }
 
-    /// If there is a Join timer under the key, replaces it. The error is want of memory. The meter rises by the nodes
-    /// that lead to its group, or to its source.
+    /// If there is a Join timer under the key, replaces it. The error is want of memory.
     pub fn change_join_timer(
         &mut self,
         key: Key,
@@ -425,8 +420,7 @@ impl Store {
         drop_row(&mut self.override_timers, &mut self.index, key, meter);
     }
 
-    /// Lowers the Join timer under the key, if there is one, to this timestamp, in ms. The error is want of memory. The
-    /// meter rises by the nodes that lead to its group, or to its source.
+    /// Lowers the Join timer under the key, if there is one, to this timestamp, in ms. The error is want of memory.
     pub fn lower_join_timer(
         &mut self,
         key: Key,
@@ -481,7 +475,8 @@ impl Store {
         self.index.groups(meter)
     }
 
-    /// The sources of the group with any fact, ascending. The meter rises by the nodes that lead to the group.
+    /// The sources of the group with any fact, ascending. The meter rises by the nodes that lead to the group, and by
+    /// all that lead on to its sources.
     pub fn sources_of(&self, group: Addr, meter: &mut Meter) -> Sources<'_>
         ensures { result ≡ sources_of group.bits (stored_keys self.now) }
     {
@@ -504,7 +499,7 @@ impl Store {
     }
 
     /// The Join timers of the group, by rising key: that of (*,G), then those of its sources. All its sources are gone
-    /// through. The meter rises by the nodes that lead to the group.
+    /// through. The meter rises by the nodes that lead to the group, and by all that lead on to its sources.
     pub fn join_timers_of(&self, group: Addr, meter: &mut Meter) -> GroupJoinTimers<'_>
         ensures { result ≡ filter (λ e. is_of_group group.bits e.0) self.now.join_timers }
     {
@@ -518,7 +513,7 @@ impl Store {
         self.registers.rows().rows_at(IfaceId::NONE, group)
     }
 
-    /// Whether there is a fact of the source of the group. The meter rises by the nodes that it visits.
+    /// Whether there is a fact of the source of the group. The meter rises by 66 nodes at most.
     pub fn has_facts(&self, name: SourceGroup, meter: &mut Meter) -> bool
         ensures has { result ≡ list_any (names_source name.group.bits name.source.bits) (stored_keys self.now) }
         ensures at_most { meter.new ≤ meter.old + 66 }
@@ -592,8 +587,8 @@ impl Store {
     }
 
     /// The marks of (*,G), where `source` is `None`, or of (S,G) with its (S,G,rpt): the interfaces that have
-    /// downstream states and asserts, and which other facts there are. The meter rises by the nodes that it visits: as
-    /// many as lead to the group, and to the source, where a trie has those of all facts.
+    /// downstream states and asserts, and which other facts there are. The meter rises by 33 nodes at most for (*,G),
+    /// and by 66 for (S,G).
     pub fn marks(&self, group: Addr, source: Option<Addr>, meter: &mut Meter) -> Marks
         ensures joined { (i : ℕ) → has result.joined i ≡ has_row self.now.downstream (fact_key i group source false) }
         ensures branched { (i : ℕ)

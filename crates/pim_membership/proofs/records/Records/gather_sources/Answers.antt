@@ -9,9 +9,9 @@ loop-key-init g c =
     let listed =
     subst (λ t. IsListed g.R.Record.runs g.R.Record.of_sources c.self.inside.index t) c.self.view_is c.self.invariant in
     λ n.
-        ap (λ b. has_number n c.args.found.now.entries || b)
-        (all_listed c.args.group.bits n c.args.self.now g.R.Record.runs g.R.Record.of_sources c.self.inside.index listed
-        c.recall_rising.ensures _ (c.into_iter-key-iterator.ensures.into_iter_gives ∙ c.walk-key-items.ensures))
+    ap (λ b. has_number n c.args.found.now.entries || b)
+    (all_listed c.args.group.bits n c.args.self.now g.R.Record.runs g.R.Record.of_sources c.self.inside.index listed
+    c.recall_rising.ensures _ (c.into_iter-key-iterator.ensures.into_iter_gives ∙ c.walk-key-items.ensures))
 
 pub loop-key-preserved-in_ok-insert : goal.loop-key-preserved-in_ok-insert
 loop-key-preserved-in_ok-insert g c = λ n.

@@ -6,4 +6,4 @@ use Rattle.pim_store.proofs.store.Store.join_timers_of.Goals as goal
 
 pub returns : goal.returns
 returns c = rw (← c.self.view_is)
-    (c.among.ensures ∙ ap timers_in c.walk.ensures ∙ timers_filtered (is_of_group c.args.group.bits) _)
+    (c.among.ensures ∙ ap timers_in c.walk.ensures.entries ∙ timers_filtered (is_of_group c.args.group.bits) _)

@@ -6,4 +6,4 @@ pub returns : goal.returns
 returns c = rw (← c.self.view_is)
     (c.among.ensures
     ∙ same_sources c.args.group.bits _ _ c.walk.ensures.all c.self.invariant c.walk.ensures.ascending _
-    c.walk.ensures)
+    c.walk.ensures.entries)
