@@ -21,4 +21,4 @@ returns c =
     ∙ bit_forgotten key s.sources c.args.row c.is_some.result c.recall_keyed.ensures.sources_rise c.requires c.is_some.ensures))
     (stored_on_ok s c.set_source.result _ _ (λ (f : PimTables). record f {
       sources = set_row f.sources key c.then_some-left.result;
-    }) c.store_mut.ensures.value c.set_source.ensures.set)
+    }) c.store_mut.ensures.value c.set_source.ensures)

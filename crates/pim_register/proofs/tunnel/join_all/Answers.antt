@@ -21,7 +21,7 @@ loop-key-preserved c =
     let i = c.loop-key.key-index in
     let changed = stored c.loop-key.world _ _ (λ (f : PimTables). record f {
       registers = change_row (λ before. Some joined_row) (get_or keys i (star_key 0 0)) f.registers;
-    }) c.store_mut.ensures.value c.in_ok-change_register.ensures.changed in
+    }) c.store_mut.ensures.value c.in_ok-change_register.ensures in
     let registers = ap (λ (s : State). s.registers) changed in record {
       registers = ap (λ (t : Table RegisterRow). all_changed joining t (drop (i + 1) keys)) registers
           ∙ one_more_changed joining keys i (star_key 0 0) c.loop-key.world.registers c.loop-key-test.true

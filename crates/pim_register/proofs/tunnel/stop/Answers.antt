@@ -26,4 +26,4 @@ returns c =
     (ap Some (sym c.stopped.ensures))))
     (stored_on_ok s c.change_register.result _ _ (λ (f : PimTables). record f {
       registers = change_row (λ before. Some c.stopped.result) c.args.key f.registers;
-    }) c.store_mut.ensures.value c.change_register.ensures.changed)
+    }) c.store_mut.ensures.value c.change_register.ensures)
