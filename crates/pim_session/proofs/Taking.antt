@@ -1,29 +1,43 @@
 -- What a router and what stands before it make of an event.
 use Rattle.std.specs.Option.{option_map_or}
-use Rattle.std.proofs.Common.{◌≡◌, ◌∙◌, ◌++◌, ◌&&◌, ◌+◌, ap, refl, sym, subst, absurd, ℕ, Bool, true, false, is_none, List, [], map, Option, Some, None, option_map, Result, Ok, Err, IfSome, IsTrue, IsOk, if◌then◌else◌}
+use Rattle.std.proofs.Common.{◌≡◌, ◌∙◌, ◌++◌, ◌&&◌, ◌+◌, ap, refl, sym, subst, ℕ, Bool, true, false, is_none, List, [], map, Option, Some, None, option_map, Result, Ok, Err, IfOk, IfSome, IsTrue, IsOk, if◌then◌else◌}
+use Rattle.pim_ip.specs.declared.fault.Fault.{Fault}
 use Rattle.pim_ip.specs.declared.refusal.Refusal.{Refusal}
 use Rattle.pim_types.specs.declared.config.IfaceId.{IfaceId}
 use Rattle.pim_types.specs.declared.event.Event.{Event}
 use Rattle.pim_types.specs.declared.event.EventKind.{EventKind}
+use Rattle.pim_types.specs.declared.fact.Key.{Key}
 use Rattle.pim_types.specs.declared.outcome.Emission.{Emission}
 use Rattle.pim_types.specs.declared.outcome.Verdict.{Verdict}
 use Rattle.pim_model.specs.Querier.{group_membership_interval}
 use Rattle.pim_model.specs.State.{State}
 use Rattle.pim_model.specs.Step.{Answered, step}
+use Rattle.pim_model.specs.Sure.{needs_no_memory}
+use Rattle.pim_model.specs.Tables.{has_row, row_at}
+use Rattle.pim_laws.proofs.UnchangedLaws.{ignored_unchanged, refused_unchanged}
 use Rattle.pim_reach.specs.Named.{event_named}
 use Rattle.pim_router.specs.Costs.{IsCheap}
 use Rattle.pim_router.specs.Disturbing.{event_disturbed}
 use Rattle.pim_router.specs.Listing.{ListsSame}
 use Rattle.pim_router.specs.Standing.{Shown as RouterShown, Standing, standing}
 use Rattle.pim_router.specs.Staying.{OffersStay}
-use Rattle.igmp_older.specs.Joined.{bytes_given, event_given, joined_step, kind_given, known_after, known_if, noted_answered, noted_if, older_in, older_of, present_end}
+use Rattle.igmp_older.specs.Joined.{bytes_given, event_given, joined_step, kind_given, known_after, known_if, noted_answered, noted_if, older_in, older_of, present_end, rows_of}
 use Rattle.igmp_older.specs.Presence.{Present, forgotten, hosts_on, left, live_rows}
 use Rattle.igmp_older.specs.Routers.{OlderQueried, Wrote, queried, query_packet}
 use Rattle.igmp_older.specs.Translation.{Gives, Translation, packet_given, translation}
 use Rattle.igmp_older.specs.declared.front.Given.{Given}
 use Rattle.igmp_older.specs.declared.older.Older.{Older}
-use Rattle.pim_session.specs.Behind.{Gave, Took, frame_event, is_done, is_plain, packet_of}
-use Rattle.pim_session.specs.Front.{Front, both, bytes_queried, event_queried, hears_queries, kind_queried}
+use Rattle.pim_session.specs.Behind.{Gave, Stepped, Took, frame_event, is_done, is_plain, packet_of}
+use Rattle.pim_session.specs.Front.{Front, both, bytes_queried, emission_left, emissions_left, event_queried, front_after, given, hears_queries, is_query_passed, is_sure, kind_queried}
+use Rattle.pim_session.proofs.FrontLaws.{emissions_same}
+
+-- ---- the router is asked
+
+pub has_record_of : (o : Option Standing) (k : Key)
+    → option_map_or (λ r. has_row r.state.group_records k) o false ≡ has_row (option_map_or (λ r. r.state.group_records) o []) k
+unfolding has_row row_at
+has_record_of None k = refl
+has_record_of (Some r) k = refl
 
 -- ---- the router took an event
 
@@ -74,7 +88,7 @@ known_so f s after iface bytes end older (Ok Verdict.Done) late is =
 known_so f s after iface bytes end older (Ok (Verdict.Ignored reason)) late is = refl
 known_so f s after iface bytes end older (Err refusal) late is = refl
 
-with_present : Front → Present → Front
+abbrev with_present : Front → Present → Front
 with_present f p = record f { present = p }
 
 -- what is known after an answered event
@@ -125,21 +139,21 @@ pub query_written : (f : Front) (i : ℕ) (written : Bool) (bytes out : List ℕ
 unfolding bytes_queried
 query_written f i written bytes out e h = rw e (sym (wrote_so written (queried bytes) bytes out h))
 
-pub frame_took : (o : Option Standing) (f : Front) (draw : ℕ) (iface : IfaceId) (bytes packet : List ℕ) (before : List Emission) (answered : Result Verdict Refusal) (shown : RouterShown) (after : List Emission) (known : Front)
+pub frame_took : (o : Option Standing) (f : Front) (draw : ℕ) (iface : IfaceId) (bytes packet : List ℕ) (before : List Emission) (result : Result (Result Verdict Refusal) Fault) (shown : RouterShown) (after : List Emission) (known : Front)
     → packet ≡ bytes_queried f iface.number bytes
-    → IfSome o (λ r. Took f r.state (frame_event draw iface packet) before answered shown after known)
-    → IfSome o (λ r. Took f r.state (event_queried f (frame_event draw iface bytes)) before answered shown after known)
+    → IfSome o (λ r. IfOk result (λ answered. Took f r.state (frame_event draw iface packet) before answered shown after known))
+    → IfSome o (λ r. IfOk result (λ answered. Took f r.state (event_queried f (frame_event draw iface bytes)) before answered shown after known))
 unfolding kind_queried
-frame_took None f draw iface bytes packet before answered shown after known is took = tt
-frame_took (Some r) f draw iface bytes packet before answered shown after known is took =
-    subst (λ (xs : List ℕ). Took f r.state (frame_event draw iface xs) before answered shown after known) is took
+frame_took None f draw iface bytes packet before result shown after known is took = tt
+frame_took (Some r) f draw iface bytes packet before result shown after known is took =
+    subst (λ (xs : List ℕ). IfOk result (λ answered. Took f r.state (frame_event draw iface xs) before answered shown after known)) is took
 
 -- ---- any other event
 
 abbrev event_of : ℕ → EventKind → Event
 event_of draw kind = record { draw = draw; kind = kind }
 
-abbrev is_frame : EventKind → Bool
+abbrev pub is_frame : EventKind → Bool
 is_frame (EventKind.Frame i bytes) = true
 is_frame (EventKind.Advance moment) = false
 is_frame (EventKind.Unicast bytes) = false
@@ -170,21 +184,21 @@ kind_same f (EventKind.Down i) e = refl
 kind_same f (EventKind.Routes routes) e = refl
 kind_same f (EventKind.Rps rps) e = refl
 
-other_took : (o : Option Standing) (f : Front) (e : Event) (before : List Emission) (answered : Result Verdict Refusal) (shown : RouterShown) (after : List Emission) (p : Present)
-    → is_frame e.kind ≡ false → IfSome o (λ r. Gave r.state e before answered shown after)
+other_took : (o : Option Standing) (f : Front) (e : Event) (before : List Emission) (answered : Result Verdict Refusal) (shown : RouterShown) (after : List Emission) (p : Present) (known : Front)
+    → known ≡ with_present f p → is_frame e.kind ≡ false → IfSome o (λ r. Gave r.state e before answered shown after)
     → ((s : State) → shown.standing ≡ Some (standing (step s e)) → p ≡ known_if (both f s) (step s e).state e.kind answered)
-    → IfSome o (λ r. Took f r.state (event_queried f e) before answered shown after (with_present f p))
-other_took None f e before answered shown after p is gave k = tt
-other_took (Some r) f e before answered shown after p is gave k =
+    → IfSome o (λ r. Took f r.state (event_queried f e) before answered shown after known)
+other_took None f e before answered shown after p known so is gave k = tt
+other_took (Some r) f e before answered shown after p known so is gave k =
     let same = given_same f r.state e.draw e.kind is in
     let went = subst (λ (x : Event). Gave r.state x before answered shown after) same gave in
-    let known = subst (λ (x : Event). p ≡ known_if (both f r.state) (step r.state x).state e.kind answered) same
+    let told = subst (λ (x : Event). p ≡ known_if (both f r.state) (step r.state x).state e.kind answered) same
       (k r.state gave.state) in
     record {
       gave = went;
-      knows = known_step f r.state (event_queried f e) answered p went.is_answer
+      knows = so ∙ known_step f r.state (event_queried f e) answered p went.is_answer
         (subst (λ (x : EventKind). p ≡ known_if (both f r.state) (step r.state (event_given (both f r.state) (event_queried f e))).state x answered)
-        (kind_same f e.kind is) known);
+        (kind_same f e.kind is) told);
     }
 
 -- time passed
@@ -198,12 +212,12 @@ advance_knows f moment (Ok Verdict.Done) shown p e s a is =
 advance_knows f moment (Ok (Verdict.Ignored reason)) shown p e s a is = e
 advance_knows f moment (Err refusal) shown p e s a is = e
 
-pub advance_took : (o : Option Standing) (f : Front) (e : Event) (moment : ℕ) (before : List Emission) (answered : Result Verdict Refusal) (shown : RouterShown) (after : List Emission) (p : Present)
-    → e.kind ≡ EventKind.Advance moment → IfSome o (λ r. Gave r.state e before answered shown after)
+pub advance_took : (o : Option Standing) (f : Front) (e : Event) (moment : ℕ) (before : List Emission) (answered : Result Verdict Refusal) (shown : RouterShown) (after : List Emission) (p : Present) (known : Front)
+    → known ≡ with_present f p → e.kind ≡ EventKind.Advance moment → IfSome o (λ r. Gave r.state e before answered shown after)
     → p ≡ (if is_done answered then forgotten (option_map_or (λ r. r.state.group_records) shown.standing []) moment f.present else f.present)
-    → IfSome o (λ r. Took f r.state (event_queried f e) before answered shown after (with_present f p))
-advance_took o f e moment before answered shown after p is gave k =
-    other_took o f e before answered shown after p (ap is_frame is) gave
+    → IfSome o (λ r. Took f r.state (event_queried f e) before answered shown after known)
+advance_took o f e moment before answered shown after p known so is gave k =
+    other_took o f e before answered shown after p known so (ap is_frame is) gave
     (λ s there. subst (λ (x : EventKind). p ≡ known_if (both f s) (step s e).state x answered) (sym is)
     (advance_knows f moment answered shown p k s (step s e) there))
 
@@ -216,12 +230,12 @@ down_knows f iface (Ok Verdict.Done) p e s after = e
 down_knows f iface (Ok (Verdict.Ignored reason)) p e s after = e
 down_knows f iface (Err refusal) p e s after = e
 
-pub down_took : (o : Option Standing) (f : Front) (e : Event) (iface : IfaceId) (before : List Emission) (answered : Result Verdict Refusal) (shown : RouterShown) (after : List Emission) (p : Present)
-    → e.kind ≡ EventKind.Down iface → IfSome o (λ r. Gave r.state e before answered shown after)
+pub down_took : (o : Option Standing) (f : Front) (e : Event) (iface : IfaceId) (before : List Emission) (answered : Result Verdict Refusal) (shown : RouterShown) (after : List Emission) (p : Present) (known : Front)
+    → known ≡ with_present f p → e.kind ≡ EventKind.Down iface → IfSome o (λ r. Gave r.state e before answered shown after)
     → p ≡ (if is_done answered then left iface.number f.present else f.present)
-    → IfSome o (λ r. Took f r.state (event_queried f e) before answered shown after (with_present f p))
-down_took o f e iface before answered shown after p is gave k =
-    other_took o f e before answered shown after p (ap is_frame is) gave
+    → IfSome o (λ r. Took f r.state (event_queried f e) before answered shown after known)
+down_took o f e iface before answered shown after p known so is gave k =
+    other_took o f e before answered shown after p known so (ap is_frame is) gave
     (λ s there. subst (λ (x : EventKind). p ≡ known_if (both f s) (step s e).state x answered) (sym is)
     (down_knows f iface answered p k s _))
 
@@ -252,7 +266,7 @@ pub plain_took : (o : Option Standing) (f : Front) (e : Event) (before : List Em
     → is_plain e.kind ≡ true → IfSome o (λ r. Gave r.state e before answered shown after)
     → IfSome o (λ r. Took f r.state (event_queried f e) before answered shown after f)
 plain_took o f e before answered shown after is gave =
-    other_took o f e before answered shown after f.present (plain_frame e.kind is) gave
+    other_took o f e before answered shown after f.present f refl (plain_frame e.kind is) gave
     (λ s there. plain_knows f s _ e.kind answered is)
 
 -- ---- events for which no memory is taken
@@ -260,6 +274,10 @@ plain_took o f e before answered shown after is gave =
 pub always : (o : Option Standing) (P : Standing → Type 0) → ((r : Standing) → P r) → IfSome o P
 always None P h = tt
 always (Some r) P h = h r
+
+pub fails : (o : Option Standing) (P : Standing → Type 0) (B : Type 0) → IfSome o (λ r. P r → false ≡ true) → IfSome o (λ r. P r → B)
+fails None P B h = tt
+fails (Some r) P B h = λ p. let no : false ≡ true = h p in cc
 
 pub each_of : (o : Option Standing) (P Q : Standing → Type 0) → ((r : Standing) → P r → Q r) → IfSome o P → IfSome o Q
 each_of None P Q h p = tt
@@ -277,10 +295,10 @@ and_right : (a b : Bool) → (a && b) ≡ true → b ≡ true
 and_right true b e = e
 and_right false b e = cc
 
-abbrev IsGivenSame : Front → State → IfaceId → List ℕ → Type 0
+abbrev pub IsGivenSame : Front → State → IfaceId → List ℕ → Type 0
 IsGivenSame f s iface bytes = translation (rows_of (both f s)) s.present iface.number (hosts_on f.present iface.number) bytes ≡ None
 
-abbrev NeedsNone : State → Event → Type 0
+abbrev pub NeedsNone : State → Event → Type 0
 NeedsNone s e = IsTrue (needs_no_memory (step s e).answer)
 
 pub translate_surely : (o : Option Standing) (f : Front) (draw : ℕ) (iface : IfaceId) (bytes : List ℕ) (B : Type 0)
@@ -288,10 +306,141 @@ pub translate_surely : (o : Option Standing) (f : Front) (draw : ℕ) (iface : I
       (option_map_or (λ r. r.state.present) o 0) iface.number (hosts_on f.present iface.number) bytes ≡ None → false ≡ true)
     → IfSome o (λ r. IsGivenSame f r.state iface bytes → NeedsNone r.state (frame_event draw iface bytes) → B)
 translate_surely None f draw iface bytes B h = tt
-translate_surely (Some r) f draw iface bytes B h = λ none sure. absurd (cc {h none})
+translate_surely (Some r) f draw iface bytes B h = λ none sure. (let no : false ≡ true = h none in cc)
 
 same_packet : (given : Given) (o : Option Translation) (bytes written : List ℕ) → Gives given o [] written → o ≡ None
     → packet_of given bytes written ≡ bytes
 same_packet Given.Same o bytes written h e = refl
 same_packet (Given.Rewritten older) None bytes written h e = absurd h
 same_packet (Given.Rewritten older) (Some t) bytes written h e = cc
+
+pub give_surely : (o : Option Standing) (f : Front) (draw : ℕ) (iface : IfaceId) (bytes written : List ℕ) (given : Given) (event : Event) (B : Type 0)
+    → Gives given (translation (live_rows (option_map_or (λ r. r.state.group_records) o []) f.present.rows)
+      (option_map_or (λ r. r.state.present) o 0) iface.number (hosts_on f.present iface.number) bytes) [] written
+    → event ≡ frame_event draw iface (packet_of given bytes written)
+    → IfSome o (λ r. NeedsNone r.state event → B)
+    → IfSome o (λ r. IsGivenSame f r.state iface bytes → NeedsNone r.state (frame_event draw iface bytes) → B)
+give_surely None f draw iface bytes written given event B gives is h = tt
+give_surely (Some r) f draw iface bytes written given event B gives is h = λ none sure.
+    h (subst (λ (x : Event). NeedsNone r.state x)
+    (sym (is ∙ ap (λ (xs : List ℕ). frame_event draw iface xs) (same_packet given _ bytes written gives none))) sure)
+
+pub note_surely : (o : Option Standing) (f : Front) (draw : ℕ) (iface : IfaceId) (bytes written : List ℕ) (given : Given) (event : Event) (before : List Emission) (answered : Result Verdict Refusal) (shown : RouterShown) (after : List Emission) (B : Type 0)
+    → Gives given (translation (live_rows (option_map_or (λ r. r.state.group_records) o []) f.present.rows)
+      (option_map_or (λ r. r.state.present) o 0) iface.number (hosts_on f.present iface.number) bytes) [] written
+    → event ≡ frame_event draw iface (packet_of given bytes written)
+    → IfSome o (λ r. Gave r.state event before answered shown after)
+    → (IsTrue (needs_no_memory answered) → B)
+    → IfSome o (λ r. IsGivenSame f r.state iface bytes → NeedsNone r.state (frame_event draw iface bytes) → B)
+note_surely None f draw iface bytes written given event before answered shown after B gives is gave h = tt
+note_surely (Some r) f draw iface bytes written given event before answered shown after B gives is gave h = λ none sure.
+    let same = is ∙ ap (λ (xs : List ℕ). frame_event draw iface xs) (same_packet given _ bytes written gives none) in
+    h (ap needs_no_memory gave.is_answer ∙ subst (λ (x : Event). NeedsNone r.state x) (sym same) sure)
+
+-- a packet that is given as it came
+query_passed : (heard : Bool) (bytes : List ℕ) → is_query_passed heard bytes ≡ true
+    → (if heard then option_map_or query_packet (queried bytes) bytes else bytes) ≡ bytes
+query_passed false bytes e = refl
+query_passed true bytes e = ap (λ (o : Option OlderQueried). option_map_or query_packet o bytes) (none_so (queried bytes) e)
+
+passed_given : (f : Front) (s : State) (draw : ℕ) (iface : IfaceId) (bytes : List ℕ)
+    → is_query_passed (hears_queries f iface.number) bytes ≡ true → IsGivenSame f s iface bytes
+    → given (Some f) s (frame_event draw iface bytes) ≡ frame_event draw iface bytes
+unfolding given event_given kind_given bytes_given kind_queried bytes_queried
+passed_given f s draw iface bytes query none =
+    ap (λ (xs : List ℕ). frame_event draw iface (bytes_given (rows_of (both f s)) s.present iface.number (hosts_on f.present iface.number) xs))
+    (query_passed (hears_queries f iface.number) bytes query)
+    ∙ ap (λ (o : Option Translation). frame_event draw iface (option_map_or packet_given o bytes)) none
+
+pub frame_surely : (o : Option Standing) (f : Front) (draw : ℕ) (iface : IfaceId) (bytes : List ℕ) (B : Type 0)
+    → IfSome o (λ r. IsGivenSame f r.state iface bytes → NeedsNone r.state (frame_event draw iface bytes) → B)
+    → IfSome o (λ r. IsTrue (is_sure (Some f) r.state (frame_event draw iface bytes)) → B)
+unfolding is_sure
+frame_surely None f draw iface bytes B h = tt
+frame_surely (Some r) f draw iface bytes B h = λ sure.
+    let passed = and_left _ _ sure in
+    let query = and_left _ _ passed in
+    let none = none_so _ (and_right _ _ passed) in
+    h none (subst (λ (x : Event). NeedsNone r.state x) (passed_given f r.state draw iface bytes query none) (and_right _ _ sure))
+
+-- no older query is heard of such a packet
+no_query : (heard : Bool) (bytes : List ℕ) → heard ≡ true → is_query_passed heard bytes ≡ true → queried bytes ≡ None
+no_query true bytes h e = none_so (queried bytes) e
+no_query false bytes h e = cc
+
+pub query_surely : (o : Option Standing) (f : Front) (draw : ℕ) (iface : IfaceId) (bytes : List ℕ) (B : Type 0)
+    → hears_queries f iface.number ≡ true → (queried bytes ≡ None → B)
+    → IfSome o (λ r. IsTrue (is_sure (Some f) r.state (frame_event draw iface bytes)) → B)
+unfolding is_sure
+query_surely None f draw iface bytes B heard h = tt
+query_surely (Some r) f draw iface bytes B heard h = λ sure.
+    h (no_query (hears_queries f iface.number) bytes heard (and_left _ _ (and_left _ _ sure)))
+
+pub wrote_surely : (o : Option OlderQueried) (out : List ℕ) (B : Type 0) → Wrote true (option_map query_packet o) [] out → o ≡ None → B
+wrote_surely None out B h e = absurd h
+wrote_surely (Some q) out B h e = cc
+
+pub other_surely : (o : Option Standing) (f : Front) (e : Event) (B : Type 0) → is_frame e.kind ≡ false
+    → IfSome o (λ r. NeedsNone r.state e → B) → IfSome o (λ r. IsTrue (is_sure (Some f) r.state e) → B)
+unfolding is_sure given
+other_surely None f e B is h = tt
+other_surely (Some r) f e B is h = λ sure.
+    h (subst (λ (x : Event). NeedsNone r.state x) (sym (given_same f r.state e.draw e.kind is)) (and_right _ _ sure))
+
+pub plain_surely : (o : Option Standing) (f : Front) (e : Event) (B : Type 0) → is_plain e.kind ≡ true
+    → IfSome o (λ r. NeedsNone r.state e → B) → IfSome o (λ r. IsTrue (is_sure (Some f) r.state e) → B)
+plain_surely o f e B is h = other_surely o f e B (plain_frame e.kind is) h
+
+-- what is answered surely sends nothing
+silent_by : (s : State) (e : Event) (x : Result Verdict Refusal) → (step s e).answer ≡ x → needs_no_memory x ≡ true → (step s e).emissions ≡ []
+silent_by s e (Ok Verdict.Done) is sure = cc
+silent_by s e (Ok (Verdict.Ignored reason)) is sure = (ignored_unchanged s e reason is).1
+silent_by s e (Err refusal) is sure = (refused_unchanged s e refusal is).1
+
+-- ---- with what leaves
+
+pub left_surely : (o : Option Standing) (f : Front) (e : Event) (answered : Result Verdict Refusal) (shown : RouterShown) (sent : List Emission) (known : Front) (B : Type 0)
+    → IfSome o (λ r. Took f r.state (event_queried f e) [] answered shown sent known)
+    → (sent ≡ [] → B) → IfSome o (λ r. IsTrue (is_sure (Some f) r.state e) → B)
+unfolding is_sure given
+left_surely None f e answered shown sent known B took h = tt
+left_surely (Some r) f e answered shown sent known B took h = λ sure.
+    h (took.gave.sent ∙ silent_by r.state (event_given (both f r.state) (event_queried f e)) _ refl (and_right _ _ sure))
+
+pub all_stepped : (o : Option Standing) (f : Front) (e : Event) (answered : Result Verdict Refusal) (shown : RouterShown) (sent leaving : List Emission) (known : Front)
+    → IfSome o (λ r. Took f r.state (event_queried f e) [] answered shown sent known)
+    → leaving ≡ map (emission_left known) sent
+    → IfSome o (λ r. Stepped (Some f) r.state e answered shown leaving (Some known))
+unfolding given front_after emissions_left
+all_stepped None f e answered shown sent leaving known took is = tt
+all_stepped (Some r) f e answered shown sent leaving known took is =
+    let gave = took.gave in
+    record {
+      is_answer = gave.is_answer;
+      state = gave.state;
+      cheap = gave.cheap;
+      changed = gave.changed;
+      disturbed = gave.disturbed;
+      stays = gave.stays;
+      sent = is ∙ ap (λ (g : Front). map (emission_left g) sent) took.knows
+        ∙ emissions_same f (joined_step (both f r.state) (event_queried f e)).1.present sent
+        ∙ ap (λ (xs : List Emission). map (emission_left f) xs) gave.sent;
+      known = ap (λ (g : Front). Some g) took.knows;
+    }
+
+pub all_alone : (o : Option Standing) (front : Option Front) (e : Event) (answered : Result Verdict Refusal) (shown : RouterShown) (sent : List Emission) (known : Option Front)
+    → front ≡ None → known ≡ None → IfSome o (λ r. Gave r.state e [] answered shown sent)
+    → IfSome o (λ r. Stepped front r.state e answered shown sent known)
+unfolding given front_after emissions_left
+all_alone None front e answered shown sent known is none gave = tt
+all_alone (Some r) (Some f) e answered shown sent known is none gave = cc
+all_alone (Some r) None e answered shown sent known is none gave = record {
+  is_answer = gave.is_answer;
+  state = gave.state;
+  cheap = gave.cheap;
+  changed = gave.changed;
+  disturbed = gave.disturbed;
+  stays = gave.stays;
+  sent = gave.sent;
+  known = none;
+}

@@ -1,7 +1,7 @@
 -- What stands before a router for hosts and routers of older versions of IGMP (RFC 3376, section 7.3), and what an event
 -- is behind it.
 use Rattle.std.specs.Option.{option_map_or}
-use Rattle.std.specs.Prelude.{ℕ, Bool, true, false, ◌&&◌, is_none, nat_lt, if◌then◌else◌, List, map, replicate, slice_get, slice_set, Option, Some, None, Result, Ok, Err, unwrap_or}
+use Rattle.std.specs.Prelude.{ℕ, Bool, true, false, ◌&&◌, is_none, nat_lt, if◌then◌else◌, List, [], map, replicate, slice_get, slice_set, Option, Some, None, Result, Ok, Err, unwrap_or}
 use Rattle.pim_ip.specs.declared.refusal.Refusal.{Refusal}
 use Rattle.pim_types.specs.declared.event.Event.{Event}
 use Rattle.pim_types.specs.declared.event.EventKind.{EventKind}
@@ -10,7 +10,6 @@ use Rattle.pim_model.specs.State.{State, iface_count}
 use Rattle.pim_model.specs.Step.{step}
 use Rattle.pim_model.specs.Sure.{needs_no_memory}
 use Rattle.igmp_older.specs.Joined.{Both, event_given, joined_step, rows_of}
-use Rattle.igmp_older.specs.Modes.{hears_nobody, is_two}
 use Rattle.igmp_older.specs.Presence.{Present, hosts_on, rows_told, with_hosts}
 use Rattle.igmp_older.specs.Routers.{cut, queried, query_packet}
 use Rattle.igmp_older.specs.Translation.{translation}
