@@ -16,11 +16,11 @@ use Rattle.pim_model.specs.Sure.{needs_no_memory}
 use Rattle.pim_model.specs.Tables.{has_row, row_at}
 use Rattle.pim_laws.proofs.UnchangedLaws.{ignored_unchanged, refused_unchanged}
 use Rattle.pim_reach.specs.Named.{event_named}
-use Rattle.pim_router.specs.Costs.{IsCheap}
-use Rattle.pim_router.specs.Disturbing.{event_disturbed}
-use Rattle.pim_router.specs.Listing.{ListsSame}
+use Rattle.pim_event.specs.Costs.{IsCheap}
+use Rattle.pim_event.specs.Disturbing.{event_disturbed}
+use Rattle.pim_event.specs.Listing.{ListsSame}
 use Rattle.pim_router.specs.Standing.{Shown as RouterShown, Standing, standing}
-use Rattle.pim_router.specs.Staying.{OffersStay}
+use Rattle.pim_event.specs.Staying.{OffersStay}
 use Rattle.igmp_older.specs.Joined.{bytes_given, event_given, joined_step, kind_given, known_after, known_if, noted_answered, noted_if, older_in, older_of, present_end, rows_of}
 use Rattle.igmp_older.specs.Presence.{Present, forgotten, hosts_on, left, live_rows}
 use Rattle.igmp_older.specs.Routers.{OlderQueried, Wrote, queried, query_packet}

@@ -9,11 +9,11 @@ use Rattle.pim_types.specs.declared.outcome.Verdict.{Verdict}
 use Rattle.pim_model.specs.State.{State}
 use Rattle.pim_model.specs.Step.{step}
 use Rattle.pim_reach.specs.Named.{event_named}
-use Rattle.pim_router.specs.Costs.{IsCheap}
-use Rattle.pim_router.specs.Disturbing.{event_disturbed}
-use Rattle.pim_router.specs.Listing.{ListsSame}
+use Rattle.pim_event.specs.Costs.{IsCheap}
+use Rattle.pim_event.specs.Disturbing.{event_disturbed}
+use Rattle.pim_event.specs.Listing.{ListsSame}
 use Rattle.pim_router.specs.Standing.{Shown as RouterShown, standing}
-use Rattle.pim_router.specs.Staying.{OffersStay}
+use Rattle.pim_event.specs.Staying.{OffersStay}
 use Rattle.igmp_older.specs.Joined.{event_given, joined_step}
 use Rattle.igmp_older.specs.declared.front.Given.{Given}
 use Rattle.pim_session.specs.Front.{Front, both, emissions_left, front_after, given}
