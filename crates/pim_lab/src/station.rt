@@ -1,8 +1,8 @@
 //! The routers of a scenario, as they are printed and found.
-ghost use Rattle.std.specs.Prelude.{◌≡◌, ◌∷◌, [], IfOk, IfSome, OnErr, OnOk, map};
+ghost use Rattle.std.specs.Prelude.{◌≡◌, ◌∷◌, [], IfOk, OnOk, Some, map};
 ghost use Rattle.pim_net.specs.Showing.{node_of};
 ghost use Rattle.igmp_older.specs.Joined.{event_given, joined_step};
-ghost use Rattle.pim_model.specs.Network.{moved_at, station_at};
+ghost use Rattle.pim_model.specs.Network.{Network, Station as StationValue, moved_at, station_at};
 ghost use Rattle.pim_lab.specs.Fronts.{behind, nobody_behind};
 ghost use Rattle.pim_lab.specs.Statuses.{router_node};
 
@@ -69,12 +69,13 @@ impl Station {
         place: usize,
         event: Event,
     ) -> Result<NetLog, Fault>
-        ensures outcome { IfSome net.old.network (λ n. IfSome (station_at n place) (λ st. IfOk result (λ log.
-            log.items ≡ (joined_step (behind self.old.presence st.state) event).0 ∷ []))) }
-        ensures network { IfSome net.old.network (λ n. IfSome (station_at n place) (λ st. OnOk result (net.new.network
-            ≡ Some (moved_at n (place, event_given (behind self.old.presence st.state) event)).1))) }
-        ensures presence { IfSome net.old.network (λ n. IfSome (station_at n place) (λ st. OnOk result
-            (self.new.presence ≡ (joined_step (behind self.old.presence st.state) event).1.present))) }
+        ensures outcome { (n : Network) (st : StationValue) → net.old.network ≡ Some n → station_at n place ≡ Some st
+            → IfOk result (λ log. log.items ≡ (joined_step (behind self.old.presence st.state) event).0 ∷ []) }
+        ensures network { (n : Network) (st : StationValue) → net.old.network ≡ Some n → station_at n place ≡ Some st
+            → OnOk result (net.new.network
+            ≡ Some (moved_at n (place, event_given (behind self.old.presence st.state) event)).1) }
+        ensures presence { (n : Network) (st : StationValue) → net.old.network ≡ Some n → station_at n place ≡ Some st
+            → OnOk result (self.new.presence ≡ (joined_step (behind self.old.presence st.state) event).1.present) }
     {
         run_behind(alloc, net, place, &mut self.presence, event)
     }
