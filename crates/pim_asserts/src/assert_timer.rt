@@ -20,7 +20,6 @@ pub(crate) const WINNER_TIME: u64 = 177_000;
 pub(crate) fn asserted_metric(world: &World, meter: &mut Meter, key: Key) -> AssertMetric
     ensures metric { result ≡ asserted_metric world.now key }
     ensures within { result.preference < 2 ^ 31 }
-    ensures at_least { raised meter.old (key_nodes world.now key) ≤ meter.new }
 {
     let star = StarSight::of(world, key.group, meter);
     match key.source {
@@ -43,7 +42,6 @@ pub(crate) fn win_again(
 ) -> Result<(), AllocError>
     ensures state { OnOk result (world.new ≡ (wins_again world.old key row).0) }
     ensures messages { OnOk result (turn.new ≡ saying turn.old (wins_again world.old key row).1) }
-    ensures at_least { OnOk result (raised meter.old (key_nodes world.old key) ≤ meter.new) }
 {
     let metric = asserted_metric(world, meter, key);
     turn.out.assert(key.iface, key.group, key.source, metric)?;
@@ -65,7 +63,6 @@ pub fn fired(
 ) -> Result<(), AllocError>
     ensures state { OnOk result (world.new ≡ (fired world.old TimerKind.Assert key).0) }
     ensures messages { OnOk result (turn.new ≡ saying turn.old (fired world.old TimerKind.Assert key).1) }
-    ensures at_least { OnOk result (raised meter.old (assert_end_nodes world.old key) ≤ meter.new) }
 {
     let Some(row) = world.store().assert_at(key) else {
         return Ok(());

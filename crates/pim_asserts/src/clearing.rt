@@ -32,7 +32,6 @@ fn clear_star(
 ) -> Result<(), AllocError>
     ensures state { OnOk result (world.new ≡ (clear_star world.old opened.now).0) }
     ensures messages { OnOk result (turn.new ≡ saying turn.old (clear_star world.old opened.now).1) }
-    ensures at_least { OnOk result (raised meter.old (clear_star_nodes world.old opened.now) ≤ meter.new) }
 {
     if !opened.is_whole {
         return Ok(());
@@ -56,7 +55,6 @@ fn clear_source(
 ) -> Result<(), AllocError>
     ensures state { OnOk result (world.new ≡ (clear_source group.bits world.old opened).0) }
     ensures messages { OnOk result (turn.new ≡ saying turn.old (clear_source group.bits world.old opened).1) }
-    ensures at_least { OnOk result (raised meter.old (clear_source_nodes group world.old opened) ≤ meter.new) }
 {
     let part = Part {
         group,
@@ -77,7 +75,6 @@ fn clear_sources(
     ensures state { OnOk result (world.new ≡ (each_in_turn (clear_source group.bits) world.old sources.now).0) }
     ensures messages { OnOk result (turn.new ≡ saying turn.old
         (each_in_turn (clear_source group.bits) world.old sources.now).1) }
-    ensures at_least { OnOk result (raised meter.old (clear_sources_nodes group world.old sources.now) ≤ meter.new) }
 {
     for opened in sources {
         clear_source(world, turn, meter, group, *opened)?;
@@ -95,7 +92,6 @@ fn clear_asserts(
 ) -> Result<(), AllocError>
     ensures state { OnOk result (world.new ≡ (clear_asserts world.old opened.now).0) }
     ensures messages { OnOk result (turn.new ≡ saying turn.old (clear_asserts world.old opened.now).1) }
-    ensures at_least { OnOk result (raised meter.old (clear_asserts_nodes world.old opened.now) ≤ meter.new) }
 {
     clear_star(world, turn, meter, opened)?;
     clear_sources(world, turn, meter, opened.group, opened.sources.as_slice())
@@ -110,7 +106,6 @@ fn clear_all_asserts(
 ) -> Result<(), AllocError>
     ensures state { OnOk result (world.new ≡ (each_in_turn clear_asserts world.old groups.now).0) }
     ensures messages { OnOk result (turn.new ≡ saying turn.old (each_in_turn clear_asserts world.old groups.now).1) }
-    ensures at_least { OnOk result (raised meter.old (clear_all_asserts_nodes world.old groups.now) ≤ meter.new) }
 {
     for opened in groups {
         clear_asserts(world, turn, meter, opened)?;
@@ -128,7 +123,6 @@ fn forget_spt_bit(
     requires { row_at world.old.sources (source_key 0 name.group.bits name.source.bits) ≡ Some row }
     ensures state { OnOk result (world.new
         ≡ without_spt_bit world.old (source_key 0 name.group.bits name.source.bits)) }
-    ensures at_least { OnOk result (raised meter.old (gone_bit_nodes world.old name.group name.source) ≤ meter.new) }
 {
     // For the proof: a key is listed once.
     world.recall_keyed();
@@ -150,7 +144,6 @@ fn clear_bit(
 ) -> Result<(), AllocError>
     ensures state { OnOk result (world.new ≡ (clear_bit group.bits world.old opened).0) }
     ensures messages { OnOk result (turn.new ≡ saying turn.old (clear_bit group.bits world.old opened).1) }
-    ensures at_least { OnOk result (raised meter.old (clear_bit_nodes group world.old opened) ≤ meter.new) }
 {
     let name = SourceGroup {
         source: opened.source,
@@ -169,7 +162,6 @@ fn clear_bit(
 // JoinDesired(S,G).
 fn is_joined(world: &World, meter: &mut Meter, name: SourceGroup) -> bool
     ensures desired { result ≡ join_desired world.now name.group.bits name.source.bits }
-    ensures at_least { raised meter.old (sight_nodes world.now name.group (Some name.source)) ≤ meter.new }
 {
     SourceSight::with_star(world, name, meter).join_desired()
 }
@@ -184,7 +176,6 @@ fn clear_bits(
 ) -> Result<(), AllocError>
     ensures state { OnOk result (world.new ≡ (clear_bits world.old opened.now).0) }
     ensures messages { OnOk result (turn.new ≡ saying turn.old (clear_bits world.old opened.now).1) }
-    ensures at_least { OnOk result (raised meter.old (clear_bits_nodes world.old opened.now) ≤ meter.new) }
 {
     for source in opened.sources.as_slice() {
         clear_bit(world, turn, meter, opened.group, *source)?;
@@ -201,7 +192,6 @@ fn clear_all_bits(
 ) -> Result<(), AllocError>
     ensures state { OnOk result (world.new ≡ (each_in_turn clear_bits world.old groups.now).0) }
     ensures messages { OnOk result (turn.new ≡ saying turn.old (each_in_turn clear_bits world.old groups.now).1) }
-    ensures at_least { OnOk result (raised meter.old (clear_all_bits_nodes world.old groups.now) ≤ meter.new) }
 {
     for opened in groups {
         clear_bits(world, turn, meter, opened)?;
@@ -222,7 +212,6 @@ pub fn clear(
 ) -> Result<(), AllocError>
     ensures state { OnOk result (world.new ≡ (clear_by opening.now world.old).0) }
     ensures messages { OnOk result (turn.new ≡ saying turn.old (clear_by opening.now world.old).1) }
-    ensures at_least { OnOk result (raised meter.old (clear_nodes opening.now world.old) ≤ meter.new) }
 {
     clear_all_asserts(world, turn, meter, opening.groups())?;
     clear_all_bits(world, turn, meter, opening.groups())
@@ -245,7 +234,6 @@ fn clear_source_by_sight(
     ensures sight { OnOk result (IsSourceSight world.new sight.new) }
     ensures group { OnOk result (sight.new.star.group ≡ sight.old.star.group) }
     ensures source { OnOk result (sight.new.source ≡ sight.old.source) }
-    ensures at_least { OnOk result (raised meter.old (alone_asserts_nodes sight.old.star.group world.old opened) ≤ meter.new) }
 {
     // For the proof: asserts are under keys of their kind, each of which is listed once.
     world.recall_keyed();
@@ -274,7 +262,6 @@ fn clear_bit_by_sight(
     ensures sight { OnOk result (IsSourceSight world.new sight.new) }
     ensures group { OnOk result (sight.new.star.group ≡ sight.old.star.group) }
     ensures source { OnOk result (sight.new.source ≡ sight.old.source) }
-    ensures at_least { OnOk result (raised meter.old (alone_bit_nodes sight.old.star.group world.old opened) ≤ meter.new) }
 {
     if !sight.spt || sight.join_desired() {
         return Ok(());
@@ -306,7 +293,6 @@ pub fn clear_alone(
     ensures sight { OnOk result (IsSourceSight world.new sight.new) }
     ensures group { OnOk result (sight.new.star.group ≡ sight.old.star.group) }
     ensures source { OnOk result (sight.new.source ≡ sight.old.source) }
-    ensures at_least { OnOk result (raised meter.old (alone_nodes sight.old.star.group world.old opened) ≤ meter.new) }
 {
     clear_source_by_sight(world, turn, meter, opened, sight)?;
     clear_bit_by_sight(world, turn, meter, opened, sight)

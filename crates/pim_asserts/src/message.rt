@@ -38,7 +38,6 @@ fn win_with(
     requires within { asserted.preference < 2 ^ 31 }
     ensures state { OnOk result (world.new ≡ (wins_with world.old key mine).0) }
     ensures messages { OnOk result (turn.new ≡ saying turn.old (wins_with world.old key mine).1) }
-    ensures at_least { OnOk result (raised meter.old (new_assert_nodes world.old key) ≤ meter.new) }
 {
     turn.out.assert(key.iface, key.group, key.source, asserted)?;
     let row = AssertRow {
@@ -63,7 +62,6 @@ fn win(
     requires below { key.iface.number < 120 }
     ensures state { OnOk result (world.new ≡ (wins_with world.old key mine).0) }
     ensures messages { OnOk result (turn.new ≡ saying turn.old (wins_with world.old key mine).1) }
-    ensures at_least { OnOk result (raised meter.old (key_nodes world.old key + new_assert_nodes world.old key) ≤ meter.new) }
 {
     let asserted = asserted_metric(world, meter, key);
     win_with(world, turn, meter, key, mine, asserted)
@@ -80,7 +78,6 @@ fn lose(
     requires plain { key.rpt ≡ false }
     requires below { key.iface.number < 120 }
     ensures state { OnOk result (world.new ≡ loses world.old key theirs) }
-    ensures at_least { OnOk result (raised meter.old (new_assert_nodes world.old key) ≤ meter.new) }
 {
     let row = AssertRow {
         role: AssertRole::Loser,
@@ -106,7 +103,6 @@ fn carry_out(
     requires below { key.iface.number < 120 }
     ensures state { OnOk result (world.new ≡ (after_action world.old key theirs action).0) }
     ensures messages { OnOk result (turn.new ≡ saying turn.old (after_action world.old key theirs action).1) }
-    ensures at_least { OnOk result (raised meter.old (action_nodes world.old key theirs action) ≤ meter.new) }
 {
     match action {
         Action::Stay => Ok(()),
@@ -144,7 +140,6 @@ fn run_machine(
     requires below { key.iface.number < 120 }
     ensures state { OnOk result (world.new ≡ (assert_at world.old key theirs).0) }
     ensures messages { OnOk result (turn.new ≡ saying turn.old (assert_at world.old key theirs).1) }
-    ensures at_least { OnOk result (raised meter.old (machine_nodes world.old key theirs) ≤ meter.new) }
 {
     let stance = stance_of(world, meter, key);
     let action = action_of(stance, world.store().assert_at(key), theirs);
@@ -167,8 +162,6 @@ fn run_source_machine(
         ≡ (source_asserted world.old iface.number from.bits assert.now).0) }
     ensures messages { IfOk result (λ goes_on. turn.new
         ≡ saying turn.old (source_asserted world.old iface.number from.bits assert.now).1) }
-    ensures at_least { OnOk result (raised meter.old
-        (source_asserted_nodes world.old iface.number from.bits assert.now) ≤ meter.new) }
 {
     if assert.source == Addr::NONE {
         return Ok(assert.rpt);
@@ -207,8 +200,6 @@ pub fn received(
     ensures state { OnOk result (world.new ≡ (assert_received world.old iface.number from.bits assert.now).0) }
     ensures messages { OnOk result (turn.new
         ≡ saying turn.old (assert_received world.old iface.number from.bits assert.now).1) }
-    ensures at_least { OnOk result (raised meter.old
-        (asserted_nodes world.old iface.number from.bits assert.now) ≤ meter.new) }
 {
     let goes_on = run_source_machine(world, turn, meter, iface, from, assert)?;
     if !goes_on {
@@ -242,7 +233,6 @@ fn win_by_data(
     requires within { asserted.preference < 2 ^ 31 }
     ensures state { OnOk result (world.new ≡ (data_seen world.old key).0) }
     ensures messages { OnOk result (turn.new ≡ saying turn.old (data_seen world.old key).1) }
-    ensures at_least { OnOk result (raised meter.old (data_nodes world.old key) ≤ meter.new) }
 {
     if !asserts_by_data(world, key, stance) {
         return Ok(());
@@ -263,8 +253,6 @@ fn data_seen_of_group(
     ensures state { OnOk result (world.new ≡ (data_seen world.old (star_key iface.number star.now.group.bits)).0) }
     ensures messages { OnOk result (turn.new
         ≡ saying turn.old (data_seen world.old (star_key iface.number star.now.group.bits)).1) }
-    ensures at_least { OnOk result (raised meter.old
-        (data_nodes world.old (star_key iface.number star.now.group.bits)) ≤ meter.new) }
 {
     let stance = star_stance(world, star, iface);
     let asserted = star.metric(world.address(iface));
@@ -286,8 +274,6 @@ fn data_seen_of_source(
         ≡ (data_seen world.old (source_key iface.number sight.now.star.group.bits sight.now.source.bits)).0) }
     ensures messages { OnOk result (turn.new ≡ saying turn.old
         (data_seen world.old (source_key iface.number sight.now.star.group.bits sight.now.source.bits)).1) }
-    ensures at_least { OnOk result (raised meter.old
-        (data_nodes world.old (source_key iface.number sight.now.star.group.bits sight.now.source.bits)) ≤ meter.new) }
 {
     let stance = source_stance(world, sight, iface);
     let asserted = sight.metric(world.address(iface));
@@ -309,7 +295,6 @@ pub fn data_seen(
     requires below { iface.number < 120 }
     ensures state { OnOk result (world.new ≡ (data_seen world.old (data_key sight.now iface.number)).0) }
     ensures messages { OnOk result (turn.new ≡ saying turn.old (data_seen world.old (data_key sight.now iface.number)).1) }
-    ensures at_least { OnOk result (raised meter.old (data_nodes world.old (data_key sight.now iface.number)) ≤ meter.new) }
 {
     if sight.spt {
         data_seen_of_source(world, turn, meter, sight, iface)

@@ -31,7 +31,6 @@ pub(crate) struct Part {
 fn first_to_go(world: &World, meter: &mut Meter, part: Part) -> Option<IfaceId>
     ensures first { number_of result
         ≡ first_below (goes_at part.was part.group.bits (source_bits part.source) world.now) }
-    ensures at_least { raised meter.old (sight_nodes world.now part.group part.source) ≤ meter.new }
 {
     let star = StarSight::of(world, part.group, meter);
     match part.source {
@@ -58,7 +57,6 @@ fn forget(
     ensures messages { OnOk result (turn.new ≡ saying turn.old
         (if is_winner (row_at world.old.asserts (part_key part.group.bits (source_bits part.source) iface.number))
         then assert_cancel (part_key part.group.bits (source_bits part.source) iface.number) ∷ [] else [])) }
-    ensures at_least { OnOk result (raised meter.old (mark_nodes world.old part.group part.source) ≤ meter.new) }
 {
     let row = world.store().assert_at(Key {
         iface,
@@ -89,7 +87,6 @@ fn clear_next(
         ≡ (clear_once part.was part.group.bits (source_bits part.source) world.old).0) }
     ensures messages { IfOk result (λ more. turn.new ≡ saying turn.old
         (clear_once part.was part.group.bits (source_bits part.source) world.old).1) }
-    ensures at_least { OnOk result (raised meter.old (turn_nodes part.was part.group part.source world.old) ≤ meter.new) }
 {
     // For the proof: asserts are under keys of their kind, each of which is listed once.
     world.recall_keyed();
@@ -111,7 +108,6 @@ pub(crate) fn clear_part(
         ≡ (clear_part part.was part.group.bits (source_bits part.source) world.old).0) }
     ensures messages { OnOk result (turn.new ≡ saying turn.old
         (clear_part part.was part.group.bits (source_bits part.source) world.old).1) }
-    ensures at_least { OnOk result (raised meter.old (part_nodes part.was part.group part.source world.old) ≤ meter.new) }
 {
     while clear_next(world, turn, meter, part)? {}
     Ok(())

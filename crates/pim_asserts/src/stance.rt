@@ -60,7 +60,6 @@ pub(crate) fn stance_of(world: &World, meter: &mut Meter, key: Key) -> Stance
     requires plain { key.rpt ≡ false }
     requires below { key.iface.number < 120 }
     ensures stance { result ≡ stance_at world.now key }
-    ensures at_least { raised meter.old (key_nodes world.now key) ≤ meter.new }
 {
     let star = StarSight::of(world, key.group, meter);
     match key.source {

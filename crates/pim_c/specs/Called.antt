@@ -19,10 +19,10 @@ use Rattle.pim_model.specs.Unicast.{rpf_interface_rp}
 use Rattle.pim_offload.specs.Keeping.{keep}
 use Rattle.pim_offload.specs.Offered.{Offered, offered}
 use Rattle.pim_reach.specs.Named.{event_named}
-use Rattle.pim_router.specs.Costs.{IsCheap}
-use Rattle.pim_router.specs.Disturbing.{event_disturbed}
-use Rattle.pim_router.specs.Listing.{ListsSame}
-use Rattle.pim_router.specs.Staying.{OffersStay}
+use Rattle.pim_event.specs.Costs.{IsCheap}
+use Rattle.pim_event.specs.Disturbing.{event_disturbed}
+use Rattle.pim_event.specs.Listing.{ListsSame}
+use Rattle.pim_event.specs.Staying.{OffersStay}
 use Rattle.pim_router.specs.Standing.{Standing, begun, nothing_shown, standing, with_state}
 use Rattle.pim_session.specs.Session.{ShownSession}
 use Rattle.pim_types.specs.declared.config.Config.{Config}

@@ -37,8 +37,6 @@ pub fn arrived(
         ≡ (forwarded world.old sight.star.group.bits sight.source.bits iface.number).state) }
     ensures messages { OnOk result (turn.new
         ≡ saying turn.old (forwarded world.old sight.star.group.bits sight.source.bits iface.number).messages) }
-    ensures at_least { OnOk result (raised meter.old
-        (arrived_nodes world.old sight.star.group.bits sight.source.bits iface.number) ≤ meter.new) }
 {
     let mut sight = sight;
     source_here(world, meter, &mut sight, iface)?;

@@ -99,7 +99,6 @@ fn registered(
     ensures registered { IfOk result (λ sent. sent.items
         ≡ option_map_or (register_of_packet world.now packet.now) (rp_of world.now packet.now.destination) []) }
     ensures silent { turn.new ≡ turn.old }
-    ensures at_least { OnOk result (raised meter.old (registered_nodes world.now packet.now) ≤ meter.new) }
 {
     let mut sent = turn.room.list();
     if let Some(rp) = world.rp(packet.destination(), meter) {
@@ -126,7 +125,6 @@ pub fn leave(
         → sent.registered.items ≡ tunnel_of world.now packet.now f.to_tunnel) }
     ensures limit { IfOk result (λ sent. length sent.copies.items ≤ 120) }
     ensures silent { turn.new ≡ turn.old }
-    ensures at_least { OnOk result (raised meter.old (leave_nodes world.now packet.now list.tunnel) ≤ meter.new) }
 {
     let copies = copies(world, &mut turn.room, packet, list)?;
     if !(list.has_tunnel() && leaves(packet)) {

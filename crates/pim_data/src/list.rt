@@ -20,8 +20,6 @@ use std::alloc::AllocError;
 fn watch(world: &mut World, meter: &mut Meter, sight: &SourceSight) -> Result<(), AllocError>
     requires { IsSourceSight world.old sight.now }
     ensures state { OnOk result (world.new ≡ watched world.old sight.now.star.group.bits sight.now.source.bits) }
-    ensures at_least { OnOk result (raised meter.old
-        (watched_nodes world.old sight.now.star.group.bits sight.now.source.bits) ≤ meter.new) }
 {
     if !(sight.has_local_receivers() && sight.is_spt_wanted) {
         return Ok(());
@@ -58,8 +56,6 @@ fn take_stray(
         ≡ (stray world.old sight.now.star.group.bits sight.now.source.bits iface.number).state) }
     ensures messages { OnOk result (turn.new
         ≡ saying turn.old (stray world.old sight.now.star.group.bits sight.now.source.bits iface.number).messages) }
-    ensures at_least { OnOk result (raised meter.old
-        (stray_nodes world.old sight.now.star.group.bits sight.now.source.bits iface.number) ≤ meter.new) }
 {
     if !is_on_list(sight, iface) {
         return Ok(());
@@ -84,8 +80,6 @@ pub(crate) fn choose_list(
         ≡ (list_chosen world.old sight.now.star.group.bits sight.now.source.bits iface.number).state) }
     ensures messages { OnOk result (turn.new ≡ saying turn.old
         (list_chosen world.old sight.now.star.group.bits sight.now.source.bits iface.number).messages) }
-    ensures at_least { OnOk result (raised meter.old
-        (chosen_nodes world.old sight.now.star.group.bits sight.now.source.bits iface.number) ≤ meter.new) }
 {
     if sight.is_rpf_interface(iface) && sight.spt {
         return Ok(sight.inherited_olist());

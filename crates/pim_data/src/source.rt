@@ -25,8 +25,6 @@ fn keep_alive(
     ensures sight { OnOk result (IsSourceSight world.new sight.new) }
     ensures group { OnOk result (sight.new.star.group ≡ sight.old.star.group) }
     ensures source { OnOk result (sight.new.source ≡ sight.old.source) }
-    ensures at_least { OnOk result (raised meter.old
-        (kept_nodes world.old sight.old.star.group.bits sight.old.source.bits) ≤ meter.new) }
 {
     world.keep_alive(sight.name(), None, meter)?;
     *sight = sight.kept_alive();
@@ -47,8 +45,6 @@ pub(crate) fn source_here(
     ensures sight { OnOk result (IsSourceSight world.new sight.new) }
     ensures group { OnOk result (sight.new.star.group ≡ sight.old.star.group) }
     ensures source { OnOk result (sight.new.source ≡ sight.old.source) }
-    ensures at_least { OnOk result (raised meter.old
-        (here_nodes world.old sight.old.star.group.bits sight.old.source.bits iface.number) ≤ meter.new) }
 {
     if !(sight.is_connected() && sight.is_rpf_interface(iface)) {
         return Ok(());
@@ -71,8 +67,6 @@ pub(crate) fn source_joined(
     ensures sight { OnOk result (IsSourceSight world.new sight.new) }
     ensures group { OnOk result (sight.new.star.group ≡ sight.old.star.group) }
     ensures source { OnOk result (sight.new.source ≡ sight.old.source) }
-    ensures at_least { OnOk result (raised meter.old
-        (source_joined_nodes world.old sight.old.star.group.bits sight.old.source.bits iface.number) ≤ meter.new) }
 {
     let is_forwarded = sight.is_rpf_interface(iface)
         && sight.join_desired()
@@ -98,8 +92,6 @@ pub(crate) fn update_spt_bit(
     ensures sight { OnOk result (IsSourceSight world.new sight.new) }
     ensures group { OnOk result (sight.new.star.group ≡ sight.old.star.group) }
     ensures source { OnOk result (sight.new.source ≡ sight.old.source) }
-    ensures at_least { OnOk result (raised meter.old
-        (reached_nodes world.old sight.old.star.group.bits sight.old.source.bits iface.number) ≤ meter.new) }
 {
     if !sight.is_spt_reached(iface) {
         return Ok(());

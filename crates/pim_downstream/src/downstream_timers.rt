@@ -52,7 +52,6 @@ fn echo_of(world: &World, turn: &mut Turn, key: Key, address: Addr) -> Result<()
 #[tactic(auto, using(pim_world::proofs::Visits::raised_by_none), unfolding(pim_model::specs::Downstream::prune_echo))]
 fn echo(world: &World, turn: &mut Turn, meter: &mut Meter, key: Key) -> Result<(), AllocError>
     ensures said { OnOk result (turn.new ≡ saying turn.old (prune_echo world.now key)) }
-    ensures visited { meter.new ≡ raised meter.old (echo_nodes world.now key) }
 {
     let address = match key.source {
         Some(source) => Some(source),
@@ -74,7 +73,6 @@ fn prune_pending_due(
 ) -> Result<(), AllocError>
     ensures state { OnOk result (world.new ≡ (fired world.old TimerKind.PrunePending key).0) }
     ensures messages { OnOk result (turn.new ≡ saying turn.old (fired world.old TimerKind.PrunePending key).1) }
-    ensures at_least { OnOk result (raised meter.old (prune_pending_due_nodes world.old key) ≤ meter.new) }
 {
     let Some(row) = world.store().downstream(key) else {
         return Ok(());
@@ -95,7 +93,6 @@ fn prune_pending_due(
 #[tactic(auto, unfolding(pim_model::specs::Firing::fired, pim_model::specs::Downstream::downstream_expired))]
 fn expired(world: &mut World, meter: &mut Meter, key: Key)
     ensures state { world.new ≡ (fired world.old TimerKind.DownstreamExpiry key).0 }
-    ensures visited { meter.new ≡ raised meter.old (expired_nodes world.old key) }
 {
     world.store_mut().drop_downstream(key, meter);
 }
@@ -116,7 +113,6 @@ pub fn fired(
     requires { is_downstream_kind kind ≡ true }
     ensures state { OnOk result (world.new ≡ (fired world.old kind key).0) }
     ensures messages { OnOk result (turn.new ≡ saying turn.old (fired world.old kind key).1) }
-    ensures at_least { OnOk result (raised meter.old (downstream_end_nodes world.old kind key) ≤ meter.new) }
 {
     match kind {
         TimerKind::PrunePending => prune_pending_due(world, turn, meter, key),

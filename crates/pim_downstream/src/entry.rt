@@ -25,7 +25,6 @@ pub fn is_used(group: Addr, entry: Entry) -> bool
 #[tactic(auto, using(pim_world::proofs::Visits::raised_by_none), unfolding(pim_model::specs::Downstream::is_accepted))]
 pub fn is_accepted(world: &World, group: Addr, join: Entry, meter: &mut Meter) -> bool
     ensures accepted { result ≡ is_accepted world.now (group.bits, join) }
-    ensures visited { meter.new ≡ raised meter.old (accepted_nodes world.now (group.bits, join)) }
 {
     !matches!(join.kind, EntryKind::Star) || world.is_rp(group, join.address, meter)
 }
@@ -35,7 +34,6 @@ pub fn is_accepted(world: &World, group: Addr, join: Entry, meter: &mut Meter) -
 #[tactic(auto, using(pim_world::proofs::Visits::raised_by_none))]
 pub fn is_counted(world: &World, group: Addr, join: Entry, meter: &mut Meter) -> bool
     ensures counted { result ≡ is_counted world.now (group.bits, join) }
-    ensures visited { meter.new ≡ raised meter.old (counted_nodes world.now (group.bits, join)) }
 {
     is_used(group, join) && is_accepted(world, group, join, meter)
 }

@@ -25,7 +25,6 @@ fn set_rows(
     requires within { iface.number < 120 }
     requires on { list_all (λ change. is_on iface.number change.key) changes.now ≡ true }
     ensures set { OnOk result (world.new ≡ rows_set world.old changes.now) }
-    ensures at_least { OnOk result (raised meter.old (rows_set_nodes world.old changes.now) ≤ meter.new) }
 {
     for change in changes {
         world
@@ -52,8 +51,6 @@ pub fn to_me(
     requires pruned { are_on iface.number named.now.pruned.items ≡ true }
     ensures state { OnOk result (world.new
         ≡ keys_taken world.old iface.number holdtime named.now.joined.items named.now.pruned.items) }
-    ensures at_least { OnOk result (raised meter.old
-        (to_me_nodes world.old iface.number holdtime named.now.joined.items named.now.pruned.items) ≤ meter.new) }
 {
     let Effect { changes, .. } = Effect::of(world, turn, iface, holdtime, named)?;
     take_changes(world, meter, iface, holdtime, named, changes.as_slice())
@@ -75,8 +72,6 @@ pub fn take_changes(
         ≡ changes_after world.old iface.number holdtime named.now.joined.items named.now.pruned.items }
     ensures state { OnOk result (world.new
         ≡ keys_taken world.old iface.number holdtime named.now.joined.items named.now.pruned.items) }
-    ensures at_least { OnOk result (raised meter.old
-        (to_me_nodes world.old iface.number holdtime named.now.joined.items named.now.pruned.items) ≤ meter.new) }
 {
     set_rows(world, meter, iface, changes)?;
     world.store_mut().end_losses(&named.joined, meter);

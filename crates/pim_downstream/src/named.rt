@@ -40,7 +40,6 @@ fn push_joined(
 ) -> Result<(), AllocError>
     ensures keys { OnOk result (keys.new.items
         ≡ keys.old.items ++ entry_keys (is_counted world.now) iface.number group.now.group group.now.joins) }
-    ensures at_least { OnOk result (raised meter.old (joins_nodes world.now group.now) ≤ meter.new) }
 {
     let address = group.group();
     for join in group.joins() {
@@ -77,7 +76,6 @@ impl Named {
     ) -> Result<Named, AllocError>
         ensures joined { IfOk result (λ named. named.joined.items ≡ joined_keys world.now iface.number message.now) }
         ensures pruned { IfOk result (λ named. named.pruned.items ≡ pruned_keys iface.number message.now) }
-        ensures at_least { OnOk result (raised meter.old (message_named_nodes world.now message.now) ≤ meter.new) }
     {
         let mut joined = Vec::new(turn.alloc);
         let mut pruned = Vec::new(turn.alloc);

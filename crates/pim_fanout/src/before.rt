@@ -112,7 +112,6 @@ impl Gathered {
     ) -> Result<Gathered, AllocError>
         ensures opening { IfOk result (λ gathered. gathered.opening ≡ opening_of world.now touched.now) }
         ensures before { IfOk result (λ gathered. IsBefore world.now touched.now gathered.before) }
-        ensures at_least { OnOk result (raised meter.old (opening_nodes world.now touched.now) ≤ meter.new) }
     {
         match only_source(touched) {
             Some(name) => {
@@ -168,7 +167,6 @@ fn gather_source(
     ensures opening { IfOk result (λ gathered. gathered.opening ≡ opening_alone world.now name ∷ []) }
     ensures keys { IfOk result (λ gathered. map key_before gathered.before ≡ name_key name ∷ []) }
     ensures each { IfOk result (λ gathered. AreBefore world.now gathered.before) }
-    ensures at_least { OnOk result (raised meter.old (alone_nodes world.now name) ≤ meter.new) }
 {
     let star = StarSight::of(world, name.group, meter);
     let sight = SourceSight::of(world, star, name.source, meter);
@@ -196,10 +194,9 @@ fn gather_groups(
 ) -> Result<Gathered, AllocError>
     ensures opening { IfOk result (λ gathered. gathered.opening ≡ opening_of world.now touched.now) }
     ensures before { IfOk result (λ gathered. IsBefore world.now touched.now gathered.before) }
-    ensures at_least { OnOk result (raised meter.old (opening_nodes world.now touched.now) ≤ meter.new) }
 {
     let mut groups = BTreeMap::new(alloc);
-    world.gather_touched(touched, &mut groups)?;
+    world.gather_touched(touched, &mut groups, meter)?;
     let mut before = Vec::new(alloc);
     let groups = open_groups(world, alloc, touched, &groups, meter, &mut before)?;
     Ok(Gathered {
@@ -226,8 +223,6 @@ fn open_groups(
         ++ flat_map (λ g. map (source_key 0 g) (touched_sources world.now touched.now g))
         (numbers_of groups.now.entries)) }
     ensures each { OnOk result (AreBefore world.now before.new.items) }
-    ensures at_least { OnOk result (raised meter.old
-        (sum_by (group_opening_nodes world.now touched.now) (numbers_of groups.now.entries)) ≤ meter.new) }
 {
     let mut opened = Vec::new(alloc);
     for (group, ()) in groups.iter() {
@@ -250,7 +245,6 @@ fn open_group(
     ensures keys { OnOk result (map key_before before.new.items ≡ map key_before before.old.items
         ++ map (source_key 0 group.bits) (touched_sources world.now touched.now group.bits)) }
     ensures each { OnOk result (AreBefore world.now before.new.items) }
-    ensures at_least { OnOk result (raised meter.old (group_opening_nodes world.now touched.now group.bits) ≤ meter.new) }
 {
     let star = StarSight::of(world, group, meter);
     let sources = touched_sources(alloc, world, touched, group, meter)?;
@@ -279,8 +273,6 @@ fn open_sources(
     ensures keys { OnOk result (map key_before before.new.items ≡ map key_before before.old.items
         ++ map (source_key 0 star.now.group.bits) (numbers_of sources.now.entries)) }
     ensures each { OnOk result (AreBefore world.now before.new.items) }
-    ensures at_least { OnOk result (raised meter.old
-        (sum_by (source_opening_nodes world.now star.now.group.bits) (numbers_of sources.now.entries)) ≤ meter.new) }
 {
     let mut opened = Vec::new(alloc);
     for (source, ()) in sources.iter() {
@@ -303,8 +295,6 @@ fn open_source(
     ensures keys { OnOk result (map key_before before.new.items ≡ map key_before before.old.items
         ++ source_key 0 star.now.group.bits source.bits ∷ []) }
     ensures each { OnOk result (AreBefore world.now before.new.items) }
-    ensures at_least { OnOk result
-        (raised meter.old (source_opening_nodes world.now star.now.group.bits source.bits) ≤ meter.new) }
 {
     let sight = SourceSight::of(world, *star, source, meter);
     before.push(compared_by_sight(world, &sight))?;
@@ -315,7 +305,6 @@ fn open_source(
 fn opened_by_sight(world: &World, sight: &SourceSight, meter: &mut Meter) -> SourceOpening
     requires { IsSourceSight world.now sight.now }
     ensures opened { result ≡ source_opening world.now sight.now.star.group.bits sight.now.source.bits }
-    ensures at_least { raised meter.old (fact_nodes world.now sight.now.star.group sight.now.source) ≤ meter.new }
 {
     let name = SourceGroup {
         source: sight.source,
@@ -364,7 +353,6 @@ fn known(world: &World, meter: &mut Meter, star: &StarSight, source: Addr) -> Kn
     ensures known { IsKnown world.now result }
     ensures star { result.sight.star ≡ star.now }
     ensures source { result.sight.source ≡ source }
-    ensures at_least { raised meter.old (source_nodes world.now star.now.group source) ≤ meter.new }
 {
     known_by(world, &SourceSight::of(world, *star, source, meter))
 }
@@ -382,7 +370,6 @@ pub(crate) fn compared(
     ensures before { IsSourceBefore world.now result }
     ensures last { IfSome last.new (IsStarSight world.now) }
     ensures group { last_group last.new ≡ next_last world.now (last_group last.old) name }
-    ensures at_least { raised meter.old (seen_nodes world.now (last_group last.old) name) ≤ meter.new }
 {
     if !has_fact(world, name) {
         return SourceBefore::Unknown(name);
@@ -413,7 +400,6 @@ fn star_of(world: &World, meter: &mut Meter, last: &Option<StarSight>, group: Ad
     requires { IfSome last.now (IsStarSight world.now) }
     ensures sight { IsStarSight world.now result }
     ensures group { result.group ≡ group }
-    ensures at_least { raised meter.old (last_star_nodes world.now (last_group last.now) group) ≤ meter.new }
 {
     match last {
         Some(star) if star.group == group => *star,

@@ -144,14 +144,13 @@ impl Cache {
         ensures shown { OnOk result (RefreshesOne (name_key name) world.now self.old.mfc.rows self.new.mfc.rows) }
         ensures few { OnOk result (touches self.new ≡ raised (touches self.old) (touches_of world.now (name_key name))) }
         ensures listed { OnOk result ((self.new.changed ≡ self.old.changed) × (self.new.disturbed ≡ self.old.disturbed)) }
-        ensures at_least { raised meter.old (named_nodes world.now name) ≤ meter.new }
     {
         if !has_fact(world, name) {
-            self.mfc.remove(name);
+            self.mfc.remove(name, meter);
             return Ok(());
         }
         let made = row(world, name, meter, &mut self.evaluated);
-        self.mfc.put(made)?;
+        self.mfc.put(made, meter)?;
         Ok(())
     }
 
@@ -165,7 +164,6 @@ impl Cache {
         ensures shown { OnOk result (Refreshes (keys_of names.now) world.now self.old.mfc.rows self.new.mfc.rows) }
         ensures few { OnOk result (touches self.new ≡ raised (touches self.old) (touches_in world.now (keys_of names.now))) }
         ensures listed { OnOk result ((self.new.changed ≡ self.old.changed) × (self.new.disturbed ≡ self.old.disturbed)) }
-        ensures at_least { OnOk result (raised meter.old (sum_by (named_nodes world.now) names.now) ≤ meter.new) }
     {
         for name in names {
             self.refresh_one(world, meter, *name)?;
@@ -204,7 +202,6 @@ impl Cache {
         ensures few { OnOk result (touches self.new ≡ raised (touches self.old) (touches_in world.now (keys_of names))) }
         ensures listed { OnOk result (self.new.changed ≡ self.old.changed ++ keys_of names) }
         ensures disturbed { OnOk result (self.new.disturbed ≡ joined self.old.disturbed touched) }
-        ensures at_least { OnOk result (raised meter.old (sum_by (named_nodes world.now) names) ≤ meter.new) }
     {
         self.refresh_rows(world, meter, names.as_slice())?;
         self.list(names.into_vec(), touched)

@@ -40,7 +40,6 @@ fn has_changed(
     ensures changed { (o : State) → IsKnown o known.now → result ≡ is_changed o world.now (seen_key known.now.sight) }
     ensures last { IfSome last.new (IsStarSight world.now) }
     ensures group { last_group last.new ≡ next_last world.now (last_group last.old) (known_name known.now) }
-    ensures at_least { raised meter.old (seen_nodes world.now (last_group last.old) (known_name known.now)) ≤ meter.new }
 {
     differs(known, &compared(world, meter, last, known.name()))
 }
@@ -58,7 +57,6 @@ fn is_outdated(
         → result ≡ is_changed o world.now (key_before before.now) }
     ensures last { IfSome last.new (IsStarSight world.now) }
     ensures group { last_group last.new ≡ next_asked world.now (last_group last.old) before.now }
-    ensures at_least { raised meter.old (asked_nodes world.now (last_group last.old) before.now) ≤ meter.new }
 {
     match before {
         SourceBefore::Unknown(name) => has_fact(world, *name),
@@ -75,7 +73,6 @@ fn outdated_among(
 ) -> Result<Vec<SourceGroup>, AllocError>
     ensures named { IfOk result (λ names. (o : State) → AreBefore o sources.now
         → keys_of names.items ≡ filter (is_changed o world.now) (map key_before sources.now)) }
-    ensures at_least { OnOk result (raised meter.old (naming_nodes world.now sources.now) ≤ meter.new) }
 {
     let mut names = Vec::new(alloc);
     let mut last = None;
@@ -101,7 +98,6 @@ pub fn named(
 ) -> Result<Series<SourceGroup>, AllocError>
     ensures named { IfOk result (λ names. (o : State) (touched : Touched) → IsBefore o touched before.now
         → keys_of names ≡ named_among o world.now touched) }
-    ensures at_least { OnOk result (raised meter.old (naming_nodes world.now before.now) ≤ meter.new) }
 {
     let names = outdated_among(world, alloc, meter, before.sources())?;
     Ok(Series::from_vec(names))
@@ -123,7 +119,6 @@ fn has_changed_at_hand(
 ) -> bool
     requires { IfSome sight (IsSourceSight world.now) }
     ensures changed { (o : State) → IsKnown o known.now → result ≡ is_changed o world.now (seen_key known.now.sight) }
-    ensures rises { meter.old ≤ meter.new }
 {
     match sight {
         Some(sight) if is_sight_of(&sight, known.name()) => {
@@ -143,7 +138,6 @@ fn is_outdated_at_hand(
     requires { IfSome sight (IsSourceSight world.now) }
     ensures changed { (o : State) → IsSourceBefore o before.now
         → result ≡ is_changed o world.now (key_before before.now) }
-    ensures rises { meter.old ≤ meter.new }
 {
     match before {
         SourceBefore::Unknown(new) => has_fact(world, *new),
@@ -180,7 +174,6 @@ fn outdated_among_by_sights(
     requires { AreAfter world.now star.now after.now }
     ensures named { IfOk result (λ names. (o : State) → AreBefore o sources.now
         → keys_of names.items ≡ filter (is_changed o world.now) (map key_before sources.now)) }
-    ensures rises { OnOk result (meter.old ≤ meter.new) }
 {
     let mut names = Vec::new(alloc);
     for (at, source) in sources.iter().enumerate() {
@@ -206,7 +199,6 @@ pub fn named_by_sights(
     requires { AreAfter world.now star.now after.now }
     ensures named { IfOk result (λ names. (o : State) (touched : Touched) → IsBefore o touched before.now
         → keys_of names ≡ named_among o world.now touched) }
-    ensures rises { OnOk result (meter.old ≤ meter.new) }
 {
     let names = outdated_among_by_sights(world, alloc, meter, before.sources(), star, after)?;
     Ok(Series::from_vec(names))

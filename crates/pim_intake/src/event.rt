@@ -76,12 +76,13 @@ fn judge_routes<'a>(
     alloc: Global,
     world: &World,
     routes: &'a [Route],
+    meter: &mut Meter,
 ) -> Result<Result<Admitted<'a>, Stop>, Fault>
     ensures value { IfOk result (λ judgement. heard_of judgement ≡ routes_judged world.now routes.now) }
     ensures table { IfOk result (λ judgement. IfOk judgement (λ admitted. admitted.table.routes ≡ routes.now)) }
     ensures memory { IfErr result (λ fault. fault ≡ Fault.Memory) }
 {
-    match world.table_of_routes(alloc, routes)? {
+    match world.table_of_routes(alloc, routes, meter)? {
         Ok(table) => Ok(Ok(Admitted {
             accepted: Accepted::Routes {
                 routes: Lent::of(routes),
@@ -94,12 +95,16 @@ fn judge_routes<'a>(
 
 // RP ranges that are to replace those there are.
 #[tactic(auto, unfolding(pim_model::specs::Judging::rps_judged))]
-fn judge_rps<'a>(alloc: Global, ranges: &'a [RpRange]) -> Result<Result<Admitted<'a>, Stop>, Fault>
+fn judge_rps<'a>(
+    alloc: Global,
+    ranges: &'a [RpRange],
+    meter: &mut Meter,
+) -> Result<Result<Admitted<'a>, Stop>, Fault>
     ensures value { IfOk result (λ judgement. heard_of judgement ≡ rps_judged ranges.now) }
     ensures table { IfOk result (λ judgement. IfOk judgement (λ admitted. admitted.table.ranges ≡ ranges.now)) }
     ensures memory { IfErr result (λ fault. fault ≡ Fault.Memory) }
 {
-    match table_of_ranges(alloc, ranges)? {
+    match table_of_ranges(alloc, ranges, meter)? {
         Ok(table) => Ok(Ok(Admitted {
             accepted: Accepted::Rps {
                 ranges: Lent::of(ranges),
@@ -127,8 +132,9 @@ fn without_table<'a>(
 }
 
 /// Judges an event: what the router is to act on, or the first test that fails. Only routes and RP ranges are
-/// tested in memory: a table is made of them, which comes with the answer. The meter rises by the nodes that lead to
-/// the RP of the group of a Register-Stop to the router; for a packet that came on a link nothing is looked up.
+/// tested in memory: a table is made of them, which comes with the answer, and its nodes are counted. Else the meter
+/// rises by the nodes that lead to the RP of the group of a Register-Stop to the router; for a packet that came on a
+/// link nothing is looked up.
 #[tactic(auto, using(pim_world::proofs::Visits::raised_by_none), unfolding(pim_model::specs::Judging::judged, crate::specs::Lent::event_kind))]
 pub fn judge<'a>(
     alloc: Global,
@@ -141,7 +147,8 @@ pub fn judge<'a>(
     ensures memory { IfErr result (λ fault. fault ≡ Fault.Memory) }
     ensures sure { is_tested_in_memory event.now.kind ≡ false → IsOk result }
     ensures uncounted { is_frame event.now.kind ≡ true → meter.new ≡ meter.old }
-    ensures visited { meter.new ≡ raised meter.old (judged_nodes world.now event.now.kind) }
+    ensures visited { is_tested_in_memory event.now.kind ≡ false
+        → meter.new ≡ raised meter.old (judged_nodes world.now event.now.kind) }
 {
     match &event.kind {
         LentKind::Advance { moment } => Ok(without_table(alloc, judge_advance(world, *moment))),
@@ -155,7 +162,7 @@ pub fn judge<'a>(
         )),
         LentKind::Up { iface } => Ok(without_table(alloc, judge_up(world, *iface))),
         LentKind::Down { iface } => Ok(without_table(alloc, judge_down(world, *iface))),
-        LentKind::Routes { routes } => judge_routes(alloc, world, routes.as_slice()),
-        LentKind::Rps { rps } => judge_rps(alloc, rps.as_slice()),
+        LentKind::Routes { routes } => judge_routes(alloc, world, routes.as_slice(), meter),
+        LentKind::Rps { rps } => judge_rps(alloc, rps.as_slice(), meter),
     }
 }

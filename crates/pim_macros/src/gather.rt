@@ -54,7 +54,6 @@ fn nbr(world: &World, path: Option<Path>) -> Option<Hop>
 // local_receiver_include(*,G).
 fn receivers(world: &World, group: Addr, meter: &mut Meter) -> IfSet
     ensures shows { Shows result (is_exclude world.now group.bits) }
-    ensures at_least { raised meter.old (group_record_nodes world.now group) ≤ meter.new }
 {
     world
         .membership()
@@ -65,8 +64,6 @@ fn receivers(world: &World, group: Addr, meter: &mut Meter) -> IfSet
 // local_receiver_include(S,G).
 fn included(world: &World, name: SourceGroup, meter: &mut Meter) -> IfSet
     ensures shows { Shows result (local_receiver_include world.now name.group.bits name.source.bits) }
-    ensures at_least { raised meter.old
-        (group_record_nodes world.now name.group + source_record_nodes world.now name.group name.source) ≤ meter.new }
 {
     world
         .membership()
@@ -77,8 +74,6 @@ fn included(world: &World, name: SourceGroup, meter: &mut Meter) -> IfSet
 // local_receiver_exclude(S,G).
 fn excluded(world: &World, name: SourceGroup, meter: &mut Meter) -> IfSet
     ensures shows { Shows result (local_receiver_exclude world.now name.group.bits name.source.bits) }
-    ensures at_least { raised meter.old
-        (group_record_nodes world.now name.group + source_record_nodes world.now name.group name.source) ≤ meter.new }
 {
     world
         .membership()
@@ -138,7 +133,6 @@ impl StarSight {
     pub fn of(world: &World, group: Addr, meter: &mut Meter) -> StarSight
         ensures sight { IsStarSight world.now result }
         ensures group { result.group ≡ group }
-        ensures at_least { raised meter.old (star_nodes world.now group) ≤ meter.new }
     {
         // For the proof: preferences have 31 bits.
         world.recall_short_preferences();
@@ -171,7 +165,6 @@ impl SourceSight {
         ensures sight { IsSourceSight world.now result }
         ensures star { result.star ≡ star }
         ensures source { result.source ≡ source }
-        ensures at_least { raised meter.old (source_nodes world.now star.group source) ≤ meter.new }
     {
         // For the proof: preferences have 31 bits.
         world.recall_short_preferences();
@@ -216,8 +209,6 @@ impl SourceSight {
         ensures sight { IsSourceSight world.now result }
         ensures group { result.star.group ≡ name.group }
         ensures source { result.source ≡ name.source }
-        ensures at_least { raised meter.old
-            (star_nodes world.now name.group + source_nodes world.now name.group name.source) ≤ meter.new }
     {
         let star = StarSight::of(world, name.group, meter);
         SourceSight::of(world, star, name.source, meter)
@@ -228,8 +219,6 @@ impl SourceSight {
         ensures sight { IsSourceSight world.now result }
         ensures group { result.star.group ≡ self.now.star.group }
         ensures source { result.source ≡ self.now.source }
-        ensures at_least { raised meter.old (star_nodes world.now self.now.star.group
-            + source_nodes world.now self.now.star.group self.now.source) ≤ meter.new }
     {
         SourceSight::with_star(world, self.name(), meter)
     }
@@ -240,7 +229,6 @@ impl SourceSight {
 #[tactic(auto, unfolding(pim_model::specs::Hellos::upstream_of))]
 pub fn upstream_of(world: &World, key: Key, meter: &mut Meter) -> Option<Hop>
     ensures upstream { result ≡ upstream_of world.now key }
-    ensures at_least { raised meter.old (sight_nodes world.now key.group key.source) ≤ meter.new }
 {
     let star = StarSight::of(world, key.group, meter);
     match key.source {

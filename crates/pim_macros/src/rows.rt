@@ -279,8 +279,6 @@ pub fn row(world: &World, name: SourceGroup, meter: &mut Meter, evaluated: &mut 
     ensures source { result.source ≡ name.source }
     ensures answers { ShowsAnswers result.answers (answers world.now name.group.bits name.source.bits) }
     ensures counted { evaluated.new ≡ raised evaluated.old 1 }
-    ensures at_least { raised meter.old (star_nodes world.now name.group + source_nodes world.now name.group name.source)
-        ≤ meter.new }
 {
     evaluated.raise();
     let sight = SourceSight::with_star(world, name, meter);

@@ -40,7 +40,6 @@ impl Index {
     // The interfaces listed for (*,G), where `source` is `None`, or for a source of the group.
     pub(crate) fn get(&self, group: Addr, source: Option<Addr>, meter: &mut Meter) -> Listed
         ensures sides { (x : Side) (i : ℕ) → in_side x result i ≡ listed self.now x i group.bits (option_map address_bits source) }
-        ensures visited { meter.new ≡ raised meter.old (nodes_visited (keys_in self.now) group source) }
     {
         match self.entries.get(group, source, meter) {
             Some(listed) => *listed,
@@ -51,23 +50,28 @@ impl Index {
     // The interfaces listed for the group and for its sources.
     pub(crate) fn walk(&self, group: Addr, meter: &mut Meter) -> Entries<'_, Listed>
         ensures entries { result ≡ filter (λ e. is_of_group group.bits e.0) self.now }
-        ensures visited { meter.new ≡ raised meter.old (nodes_visited (keys_in self.now) group None) }
     {
         self.entries.walk(group, meter)
     }
 
     // Lists the given interfaces for a group, or for a source. If there are some and none was listed before, it may
     // fail for want of memory, and then nothing has changed.
-    fn write(&mut self, group: Addr, source: Option<Addr>, listed: Listed) -> Result<(), AllocError>
+    fn write(
+        &mut self,
+        group: Addr,
+        source: Option<Addr>,
+        listed: Listed,
+        meter: &mut Meter,
+    ) -> Result<(), AllocError>
         ensures ok { OnOk result (ListsAt self.old self.new (entry_key group source) listed) }
         ensures err { OnErr result (self.new ≡ self.old) }
         ensures absent { OnErr result (row_at self.old (entry_key group source) ≡ None) }
     {
         if listed.is_empty() {
-            self.entries.remove(group, source);
+            self.entries.remove(group, source, meter);
             return Ok(());
         }
-        self.entries.put(group, source, listed)
+        self.entries.put(group, source, listed, meter)
     }
 
     // Lists the interface, with or without a running record timer. The error is want of memory, and then nothing has
@@ -83,10 +87,9 @@ impl Index {
         requires { iface.number < 120 }
         ensures ok { OnOk result (Lists self.old self.new (record_key iface.number group source) (Some is_running)) }
         ensures err { OnErr result (self.new ≡ self.old) }
-        ensures visited { meter.new ≡ raised meter.old (nodes_visited (keys_in self.old) group source) }
     {
         let listed = self.get(group, source, meter);
-        self.write(group, source, listed.with(iface, is_running))
+        self.write(group, source, listed.with(iface, is_running), meter)
     }
 
     // Removes the interface from the list. Takes no memory.
@@ -98,10 +101,9 @@ impl Index {
         meter: &mut Meter,
     )
         ensures listed { Lists self.old self.new (record_key iface.number group source) None }
-        ensures visited { meter.new ≡ raised meter.old (nodes_visited (keys_in self.old) group source) }
     {
         let listed = self.get(group, source, meter);
         // Where this fails, nothing was listed.
-        let _ = self.write(group, source, listed.without(iface));
+        let _ = self.write(group, source, listed.without(iface), meter);
     }
 }

@@ -344,8 +344,6 @@ impl Membership {
         ensures dropped { self.new ≡ record self.old {
           source_records = drop_where (is_at_group iface.number group.bits) self.old.source_records;
         } }
-        ensures at_least { raised meter.old (nodes_to_each self.old.source_records (keys_in
-            (filter (λ e. is_at_group iface.number group.bits e.0) self.old.source_records))) ≤ meter.new }
     {
         self.source_records.drop_group(iface, group, meter);
         self.unrecorded = self.unrecorded.with_group(iface, group);
@@ -535,10 +533,6 @@ impl Membership {
           source_repeats = drop_where (is_on iface.number) self.old.source_repeats;
           sendings = drop_where (is_on iface.number) self.old.sendings;
         } }
-        ensures at_least { raised meter.old
-            (nodes_to_each self.old.group_records (keys_in (rows_on iface.number self.old.group_records))
-            + nodes_to_each self.old.source_records (keys_in (rows_on iface.number self.old.source_records)))
-            ≤ meter.new }
     {
         self.queriers.drop_on(iface);
         self.group_records.drop_on(iface, meter);
@@ -573,8 +567,6 @@ impl Membership {
     ) -> Result<BTreeMap<Addr, (), Global>, AllocError>
         ensures sources { IfOk result (λ found. map (λ e. (e.0).bits) found.entries
             ≡ sources_of group.bits (membership_keys self.now)) }
-        ensures at_least { OnOk result (raised meter.old
-            (nodes_to_sources (keys_in self.now.source_records) group) ≤ meter.new) }
     {
         // For the proof: no other fact is of a source.
         self.recall_keyed();
@@ -602,8 +594,6 @@ impl Membership {
     /// visited: 66 at most, and at least those that lead to the source among those with a record.
     pub fn has_facts(&self, name: SourceGroup, meter: &mut Meter) -> bool
         ensures any { result ≡ list_any (names_source name.group.bits name.source.bits) (membership_keys self.now) }
-        ensures at_least { raised meter.old
-            (nodes_visited (keys_in self.now.source_records) name.group (Some name.source)) ≤ meter.new }
         ensures at_most { meter.new ≤ meter.old + 66 }
     {
         // For the proof: no other fact is of a source.
@@ -639,7 +629,6 @@ impl Membership {
     pub fn receivers_star(&self, group: Addr, meter: &mut Meter) -> IfSet
         ensures interfaces { (i : ℕ) → has result i ≡ is_exclude_among self.now.group_records group.bits i }
         ensures tunnel { result.tunnel ≡ false }
-        ensures at_least { raised meter.old (nodes_visited (keys_in self.now.group_records) group None) ≤ meter.new }
         ensures at_most { meter.new ≤ meter.old + 33 }
     {
         self.group_records
@@ -654,8 +643,6 @@ impl Membership {
         ensures interfaces { (i : ℕ) → has result i ≡ local_receiver_include_among self.now.group_records
             self.now.source_records name.group.bits name.source.bits i }
         ensures tunnel { result.tunnel ≡ false }
-        ensures at_least { raised meter.old (nodes_visited (keys_in self.now.group_records) name.group None
-            + nodes_visited (keys_in self.now.source_records) name.group (Some name.source)) ≤ meter.new }
         ensures at_most { meter.new ≤ meter.old + 99 }
     {
         let groups = self.group_records.listed(name.group, None, meter);
@@ -672,8 +659,6 @@ impl Membership {
         ensures interfaces { (i : ℕ) → has result i ≡ local_receiver_exclude_among self.now.group_records
             self.now.source_records name.group.bits name.source.bits i }
         ensures tunnel { result.tunnel ≡ false }
-        ensures at_least { raised meter.old (nodes_visited (keys_in self.now.group_records) name.group None
-            + nodes_visited (keys_in self.now.source_records) name.group (Some name.source)) ≤ meter.new }
         ensures at_most { meter.new ≤ meter.old + 99 }
     {
         let groups = self.group_records.listed(name.group, None, meter);

@@ -169,7 +169,6 @@ impl<R: Record> Records<R> {
         ensures there { (i : ℕ) → has result.there i ≡ has_row self.now (record_key i group source) }
         ensures running { (i : ℕ)
             → has result.running i ≡ option_map_or R.runs (row_at self.now (record_key i group source)) false }
-        ensures at_least { raised meter.old (nodes_visited (keys_in self.now) group source) ≤ meter.new }
         ensures at_most { meter.new ≤ meter.old + 66 }
         ensures star_at_most { source ≡ None → meter.new ≤ meter.old + 33 }
     {
@@ -179,8 +178,6 @@ impl<R: Record> Records<R> {
     // Whether the source of the group has a record, on any interface.
     pub(crate) fn has_source(&self, name: SourceGroup, meter: &mut Meter) -> bool
         ensures any { result ≡ list_any (names_source name.group.bits name.source.bits) (keys_in self.now) }
-        ensures at_least { raised meter.old
-            (nodes_visited (keys_in self.now) name.group (Some name.source)) ≤ meter.new }
         ensures at_most { meter.new ≤ meter.old + 66 }
     {
         // For the proof: the keys rise, and what form they have.
@@ -198,7 +195,6 @@ impl<R: Record> Records<R> {
         meter: &mut Meter,
     ) -> Result<(), AllocError>
         ensures gathered { OnOk result (Gathers found.old.entries found.new.entries group.bits self.now) }
-        ensures at_least { OnOk result (raised meter.old (nodes_to_sources (keys_in self.now) group) ≤ meter.new) }
     {
         // For the proof: the keys rise, and what form they have.
         self.recall_rising();
@@ -358,8 +354,6 @@ impl<R: Record> Records<R> {
     // Removes the group's records on the interface.
     pub(crate) fn drop_group(&mut self, iface: IfaceId, group: Addr, meter: &mut Meter)
         ensures dropped { self.new ≡ drop_where (is_at_group iface.number group.bits) self.old }
-        ensures at_least { raised meter.old (nodes_to_each self.old
-            (keys_in (filter (λ e. is_at_group iface.number group.bits e.0) self.old))) ≤ meter.new }
     {
         while let Some(key) = self.first_of_group(iface, group) {
             self.remove(key.iface, key.group, key.source, meter);
@@ -369,8 +363,6 @@ impl<R: Record> Records<R> {
     // Removes the interface's records.
     pub(crate) fn drop_on(&mut self, iface: IfaceId, meter: &mut Meter)
         ensures dropped { self.new ≡ drop_where (is_on iface.number) self.old }
-        ensures at_least { raised meter.old
-            (nodes_to_each self.old (keys_in (rows_on iface.number self.old))) ≤ meter.new }
     {
         while let Some(key) = self.first_on(iface) {
             self.remove(key.iface, key.group, key.source, meter);
@@ -408,7 +400,6 @@ fn list_record<R: Record>(
     requires { IsTrue (is_record_key key) }
     ensures ok { OnOk result (Lists index.old index.new key (Some (R.runs row))) }
     ensures err { OnErr result (index.new ≡ index.old) }
-    ensures visited { meter.new ≡ raised meter.old (nodes_visited (keys_in index.old) key.group key.source) }
 {
     index.list(key.iface, key.group, key.source, row.is_running(), meter)
 }
@@ -418,7 +409,6 @@ fn drop_listed<R: Record>(rows: &mut Timed<R>, index: &mut Index, key: Key, mete
     requires { IsTrue (is_record_key key) }
     ensures removed { rows.new ≡ drop_at rows.old key }
     ensures unlisted { Lists index.old index.new key None }
-    ensures visited { meter.new ≡ raised meter.old (nodes_visited (keys_in index.old) key.group key.source) }
 {
     rows.remove(key);
     index.unlist(key.iface, key.group, key.source, meter);

@@ -68,44 +68,40 @@ impl Mfc {
     /// Puts what was evaluated of a source in the place of its row, or as its first. It fails only where there was no
     /// row and there is no memory, and then nothing has changed.
     #[tactic(auto, unfolding(crate::specs::Kept::with_source_row, pim_trie::specs::Meter::raised))]
-    pub fn put(&mut self, made: Made) -> Result<(), AllocError>
+    pub fn put(&mut self, made: Made, meter: &mut Meter) -> Result<(), AllocError>
         ensures ok { OnOk result (self.new ≡ with_source_row self.old made) }
         ensures overwrites { IsTrue (has_row self.old.rows (source_key 0 made.group.bits made.source.bits)) → IsOk result }
         ensures err { OnErr result (self.new ≡ self.old) }
     {
         self.rows
-            .put(made.group(), Some(made.source()), made.answers())?;
+            .put(made.group(), Some(made.source()), made.answers(), meter)?;
         self.changes = self.changes.saturating_add(1);
         Ok(())
     }
 
     /// Takes the row of a source out; that counts, whether there was one or not. It takes no memory.
     #[tactic(auto, unfolding(crate::specs::Kept::without_source_row, pim_trie::specs::Meter::raised))]
-    pub fn remove(&mut self, name: SourceGroup)
+    pub fn remove(&mut self, name: SourceGroup, meter: &mut Meter)
         ensures { self.new ≡ without_source_row self.old name.group.bits name.source.bits }
     {
-        self.rows.remove(name.group, Some(name.source));
+        self.rows.remove(name.group, Some(name.source), meter);
         self.changes = self.changes.saturating_add(1);
     }
 
-    /// The forwarding row of a source. No event looks it up.
-    pub fn cached(&self, name: SourceGroup) -> Option<CacheRow>
+    /// The forwarding row of a source. The meter rises by the nodes that it visits.
+    pub fn cached(&self, name: SourceGroup, meter: &mut Meter) -> Option<CacheRow>
         ensures { result ≡ option_map cache_row (kept_row self.now name.group.bits name.source.bits) }
     {
-        let mut uncounted = Meter::outside_events();
-        let row = self
-            .rows
-            .get(name.group, Some(name.source), &mut uncounted)?;
+        let row = self.rows.get(name.group, Some(name.source), meter)?;
         Some(CacheRow::of(row))
     }
 
-    /// What was evaluated of a source and is kept. No event looks it up.
-    pub fn kept(&self, name: SourceGroup) -> Option<SourceAnswers>
+    /// What was evaluated of a source and is kept. The meter rises by the nodes that it visits.
+    pub fn kept(&self, name: SourceGroup, meter: &mut Meter) -> Option<SourceAnswers>
         ensures { result ≡ kept_row self.now name.group.bits name.source.bits }
     {
-        let mut uncounted = Meter::outside_events();
         self.rows
-            .get(name.group, Some(name.source), &mut uncounted)
+            .get(name.group, Some(name.source), meter)
             .copied()
     }
 

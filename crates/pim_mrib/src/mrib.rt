@@ -104,6 +104,7 @@ impl Mrib {
         &mut self,
         interfaces: &Interfaces,
         routes: &[Route],
+        meter: &mut Meter,
     ) -> Result<Result<(), Refusal>, Fault>
         ensures answer { IfOk result (λ answer. answer ≡ (if are_routes interfaces.now.configured routes.now then Ok tt else Err Refusal.BadRoutes)) }
         ensures new { IfOk result (λ _. self.new ≡ (if are_routes interfaces.now.configured routes.now then record self.old { routes = routes.now } else self.old)) }
@@ -114,7 +115,7 @@ impl Mrib {
             return Ok(Err(Refusal::BadRoutes));
         }
         let hops = next_hops(self.alloc, routes)?;
-        if !self.routes.replace(routes)? {
+        if !self.routes.replace(routes, meter)? {
             return Ok(Err(Refusal::BadRoutes));
         }
         self.hops = hops;
@@ -125,7 +126,11 @@ impl Mrib {
     /// changed: there are at most 256, their prefixes are distinct, inside 224.0.0.0/4 with no host
     /// bit set, and each RP is a unicast address.
     #[tactic(auto, using(crate::proofs::Accepted::accepted))]
-    pub fn replace_rps(&mut self, ranges: &[RpRange]) -> Result<Result<(), Refusal>, Fault>
+    pub fn replace_rps(
+        &mut self,
+        ranges: &[RpRange],
+        meter: &mut Meter,
+    ) -> Result<Result<(), Refusal>, Fault>
         ensures answer { IfOk result (λ answer. answer ≡ (if are_rps ranges.now then Ok tt else Err Refusal.BadRps)) }
         ensures new { IfOk result (λ _. self.new ≡ (if are_rps ranges.now then record self.old { ranges = ranges.now } else self.old)) }
         ensures err { OnErr result (self.new ≡ self.old) }
@@ -134,7 +139,7 @@ impl Mrib {
         if !each_is_rp_range(ranges) {
             return Ok(Err(Refusal::BadRps));
         }
-        if !self.ranges.replace(ranges)? {
+        if !self.ranges.replace(ranges, meter)? {
             return Ok(Err(Refusal::BadRps));
         }
         Ok(Ok(()))

@@ -92,14 +92,14 @@ impl<T: Prefixed> PrefixList<T> {
 
     // Puts these values in the place of the others, and says whether their prefixes are distinct.
     // Where they are not, or memory was refused, nothing has changed.
-    pub(crate) fn replace(&mut self, values: &[T]) -> Result<bool, AllocError>
+    pub(crate) fn replace(&mut self, values: &[T], meter: &mut Meter) -> Result<bool, AllocError>
         requires { list_all (λ v. is_canonical (T.prefix_of v)) values.now ≡ true }
         ensures distinct { IfOk result (λ distinct. distinct ≡ are_distinct (map T.prefix_of values.now)) }
         ensures new { IfOk result (λ distinct. self.new ≡ (if distinct then values.now else self.old)) }
         ensures err { OnErr result (self.new ≡ self.old) }
     {
         let mut index = Trie::new(self.alloc);
-        if !fill(&mut index, values)? {
+        if !fill(&mut index, values, meter)? {
             return Ok(false);
         }
         let values = Vec::from_slice(self.alloc, values)?;
@@ -126,7 +126,11 @@ fn are_same<T: Prefixed>(first: &[T], second: &[T]) -> bool
 
 // Puts the values into the empty trie, and says whether their prefixes are distinct. Where they
 // are not, only some values are in.
-fn fill<T: Prefixed>(index: &mut Trie<T>, values: &[T]) -> Result<bool, AllocError>
+fn fill<T: Prefixed>(
+    index: &mut Trie<T>,
+    values: &[T],
+    meter: &mut Meter,
+) -> Result<bool, AllocError>
     requires empty { index.old ≡ [] }
     requires canonical { list_all (λ v. is_canonical (T.prefix_of v)) values.now ≡ true }
     ensures distinct { IfOk result (λ distinct. distinct ≡ are_distinct (map T.prefix_of values.now)) }
@@ -136,7 +140,7 @@ fn fill<T: Prefixed>(index: &mut Trie<T>, values: &[T]) -> Result<bool, AllocErr
     while left > 0 {
         left -= 1;
         let value = values[left];
-        if index.insert(value.prefix(), value)?.is_some() {
+        if index.insert(value.prefix(), value, meter)?.is_some() {
             return Ok(false);
         }
     }

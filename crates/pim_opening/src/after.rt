@@ -41,7 +41,6 @@ impl GroupAfter {
     ) -> Result<GroupAfter, AllocError>
         ensures opening { IfOk result (λ after. opening_in after ≡ opened.now) }
         ensures after { IfOk result (λ after. IsAfter world.now after) }
-        ensures at_least { OnOk result (raised meter.old (group_after_nodes world.now opened.now) ≤ meter.new) }
     {
         let star = StarSight::of(world, opened.group, meter);
         let sources = sources_after(world, alloc, &star, opened.sources.as_slice(), meter)?;
@@ -65,7 +64,6 @@ fn sources_after(
     requires { IsStarSight world.now star.now }
     ensures opened { IfOk result (λ after. map opened_in after.items ≡ sources.now) }
     ensures after { IfOk result (λ after. AreAfter world.now star.now after.items) }
-    ensures at_least { OnOk result (raised meter.old (sources_after_nodes world.now star.now.group sources.now) ≤ meter.new) }
 {
     let mut after = Vec::new(alloc);
     for opened in sources {
@@ -84,7 +82,6 @@ fn source_after(
     requires { IsStarSight world.now star.now }
     ensures opened { result.opened ≡ opened }
     ensures after { IsSourceAfter world.now star.now result }
-    ensures at_least { raised meter.old (source_nodes world.now star.now.group opened.source) ≤ meter.new }
 {
     let sight = SourceSight::of(world, *star, opened.source, meter);
     SourceAfter { opened, sight }

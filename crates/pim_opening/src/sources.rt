@@ -60,7 +60,6 @@ fn sources_of_whole(
 ) -> Result<BTreeMap<Addr, (), Global>, AllocError>
     ensures sources { IfOk result (λ found. numbers_of found.entries
         ≡ sources_of group.bits (facts_of_whole world.now keys.now group.bits)) }
-    ensures at_least { OnOk result (raised meter.old (touched_nodes world.now (TouchedKeys.Keys keys.now) group.bits) ≤ meter.new) }
 {
     if is_whole(keys, group) {
         return world.sources(alloc, group, meter);
@@ -78,7 +77,6 @@ pub fn touched_sources(
     meter: &mut Meter,
 ) -> Result<BTreeMap<Addr, (), Global>, AllocError>
     ensures sources { IfOk result (λ found. numbers_of found.entries ≡ touched_sources world.now touched.now group.bits) }
-    ensures at_least { OnOk result (raised meter.old (touched_nodes world.now touched.now group.bits) ≤ meter.new) }
 {
     match touched {
         Touched::All => {

@@ -4,13 +4,20 @@ ghost use Rattle.pim_model.specs.Printed.{rows};
 
 use crate::facts::{active, lines, timer_lines};
 use crate::trees::trees;
+use pim_trie::Meter;
 use pim_types::{Row, Table};
 use pim_world::World;
 use std::alloc::{AllocError, Global};
 
-/// The rows of a table, ascending by their keys. An error is want of memory.
+/// The rows of a table, ascending by their keys. The meter rises by the trie nodes that are visited. An error is want of
+/// memory.
 #[tactic(auto, unfolding(pim_model::specs::Printed::rows))]
-pub fn rows(world: &World, alloc: Global, table: Table) -> Result<Vec<Row>, AllocError>
+pub fn rows(
+    world: &World,
+    alloc: Global,
+    table: Table,
+    meter: &mut Meter,
+) -> Result<Vec<Row>, AllocError>
     ensures { IfOk result (λ found. found.items ≡ rows world.now table) }
 {
     match table {
@@ -19,8 +26,8 @@ pub fn rows(world: &World, alloc: Global, table: Table) -> Result<Vec<Row>, Allo
         Table::Sources => lines(world.membership().source_record_rows(), alloc),
         Table::Downstream => lines(world.store().downstream_rows(), alloc),
         Table::Asserts => lines(world.store().assert_rows(), alloc),
-        Table::Upstream => timer_lines(world.store().join_timer_rows(), alloc),
-        Table::Trees => trees(world, alloc),
+        Table::Upstream => timer_lines(world.store().join_timer_rows(meter), alloc),
+        Table::Trees => trees(world, alloc, meter),
         Table::Active => active(world, alloc),
     }
 }

@@ -13,12 +13,12 @@ use std::alloc::{AllocError, Global};
 
 /// The (S,G,rpt) states of the sources with a fact, where their group is joined.
 #[tactic(auto, unfolding(pim_model::specs::Printed::tree_lines, crate::specs::Trees::lines_of_group))]
-pub fn trees(world: &World, alloc: Global) -> Result<Vec<Row>, AllocError>
+pub fn trees(world: &World, alloc: Global, meter: &mut Meter) -> Result<Vec<Row>, AllocError>
     ensures { IfOk result (λ rows. rows.items ≡ tree_lines world.now) }
 {
     let mut rows = Vec::new(alloc);
-    for (group, ()) in world.groups(alloc)?.iter() {
-        push_group(world, alloc, *group, &mut rows)?;
+    for (group, ()) in world.groups(alloc, meter)?.iter() {
+        push_group(world, alloc, *group, meter, &mut rows)?;
     }
     Ok(rows)
 }
@@ -29,14 +29,14 @@ fn push_group(
     world: &World,
     alloc: Global,
     group: Addr,
+    meter: &mut Meter,
     rows: &mut Vec<Row>,
 ) -> Result<(), AllocError>
     ensures { OnOk result (rows.new.items ≡ rows.old.items ++ lines_of_group world.now group.bits) }
 {
-    let mut uncounted = Meter::outside_events();
-    let star = StarSight::of(world, group, &mut uncounted);
-    for (source, ()) in world.sources(alloc, group, &mut uncounted)?.iter() {
-        push_source(world, &star, *source, rows)?;
+    let star = StarSight::of(world, group, meter);
+    for (source, ()) in world.sources(alloc, group, meter)?.iter() {
+        push_source(world, &star, *source, meter, rows)?;
     }
     Ok(())
 }
@@ -46,14 +46,14 @@ fn push_source(
     world: &World,
     star: &StarSight,
     source: Addr,
+    meter: &mut Meter,
     rows: &mut Vec<Row>,
 ) -> Result<(), AllocError>
     requires { IsStarSight world.now star.now }
     ensures { OnOk result (rows.new.items ≡ rows.old.items
         ++ tree_line star.now.group.bits source.bits (tree_state world.now star.now.group.bits source.bits)) }
 {
-    let mut uncounted = Meter::outside_events();
-    let sight = SourceSight::of(world, *star, source, &mut uncounted);
+    let sight = SourceSight::of(world, *star, source, meter);
     let is_pruned = match sight.tree_state() {
         TreeState::NotJoined => return Ok(()),
         TreeState::Pruned => true,

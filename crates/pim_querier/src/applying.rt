@@ -124,8 +124,6 @@ fn write_beside(
 ) -> Result<(), AllocError>
     requires { place.iface.number < 120 }
     ensures beside { OnOk result (world.new ≡ beside place.iface.number place.group.bits world.old known.now) }
-    ensures at_least { OnOk result (raised meter.old
-        (write_beside_nodes place.iface.number place.group.bits world.old known.now) ≤ meter.new) }
 {
     let end = known.timer();
     let row = GroupRecordRow { end };
@@ -155,9 +153,6 @@ fn apply_to_named(
     ensures asked { asks_named seen.record_type ≡ true → IfOk result (λ asked. asked
         ≡ (apply_record seen.full (record_of world.old seen.place.iface.number seen.place.group.bits) seen.record_type
         (bits_of sources.now)).1) }
-    ensures at_least { OnOk result (raised meter.old
-        (apply_to_named_nodes seen.full seen.place.iface.number seen.place.group.bits world.old seen.record_type
-        (bits_of sources.now)) ≤ meter.new) }
 {
     // For the proof: each source has one record, under its own key, and the sources rise.
     world.membership().recall_rising_source_records();
@@ -204,9 +199,6 @@ fn apply_to_all(
     ensures asked { IfOk result (λ asked. asked
         ≡ (apply_record seen.full (record_of world.old seen.place.iface.number seen.place.group.bits) seen.record_type
         (bits_of sources.now)).1) }
-    ensures at_least { OnOk result (raised meter.old
-        (apply_to_all_nodes seen.full seen.place.iface.number seen.place.group.bits world.old seen.record_type
-        (bits_of sources.now)) ≤ meter.new) }
 {
     let mut known = record_of(world, alloc, seen.place)?;
     let mut asked = Asking::new();
@@ -250,9 +242,6 @@ pub fn apply(
     ensures asked { IfOk result (λ asked. asked
         ≡ (apply_record seen.full (record_of world.old seen.place.iface.number seen.place.group.bits) seen.record_type
         (bits_of sources.now)).1) }
-    ensures at_least { OnOk result (raised meter.old
-        (apply_nodes seen.full seen.place.iface.number seen.place.group.bits world.old seen.record_type
-        (bits_of sources.now)) ≤ meter.new) }
 {
     if !keeps_others(seen.record_type) {
         return apply_to_all(world, meter, alloc, seen, sources);

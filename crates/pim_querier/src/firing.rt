@@ -69,7 +69,6 @@ pub fn fired(
     requires { is_igmp_kind kind ≡ true }
     ensures state { OnOk result (world.new ≡ (fired world.old kind key).0) }
     ensures messages { OnOk result (turn.new ≡ saying turn.old (fired world.old kind key).1) }
-    ensures at_least { OnOk result (raised meter.old (membership_end_nodes world.old kind key) ≤ meter.new) }
 {
     let place = IfaceGroup {
         iface: key.iface,

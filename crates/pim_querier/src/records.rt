@@ -50,8 +50,6 @@ pub(crate) fn put_members(
 ) -> Result<(), AllocError>
     requires { 0 < length members.now → place.iface.number < 120 }
     ensures put { OnOk result (world.new ≡ members_put place.iface.number place.group.bits world.old members.now) }
-    ensures at_least { OnOk result (raised meter.old
-        (members_nodes place.iface.number place.group.bits world.old (member_entries members.now)) ≤ meter.new) }
 {
     for member in members {
         let row = SourceRecordRow { end: member.end };
@@ -66,7 +64,6 @@ pub(crate) fn put_members(
 #[tactic(auto, using(pim_world::proofs::Visits::raised_by_none))]
 pub(crate) fn drop_empty(world: &mut World, meter: &mut Meter, place: IfaceGroup, is_none: bool)
     ensures dropped { world.new ≡ without_empty is_none place.iface.number place.group.bits world.old }
-    ensures at_least { raised meter.old (empty_nodes is_none place.group.bits world.old) ≤ meter.new }
 {
     if is_none {
         world
@@ -125,8 +122,6 @@ fn set_members(
 ) -> Result<(), AllocError>
     requires { 0 < length known.now.members → place.iface.number < 120 }
     ensures set { OnOk result (world.new ≡ with_members world.old place.iface.number place.group.bits known.now) }
-    ensures at_least { OnOk result (raised meter.old
-        (set_members_nodes place.iface.number place.group.bits world.old known.now) ≤ meter.new) }
 {
     drop_empty(world, meter, place, known.is_no_record());
     world
@@ -159,8 +154,6 @@ pub fn set_record(
 ) -> Result<(), AllocError>
     requires { place.iface.number < 120 }
     ensures set { OnOk result (world.new ≡ with_record world.old place.iface.number place.group.bits known.now) }
-    ensures at_least { OnOk result (raised meter.old
-        (set_record_nodes place.iface.number place.group.bits world.old known.now) ≤ meter.new) }
 {
     let row = GroupRecordRow { end: known.timer() };
     world
@@ -182,8 +175,6 @@ pub fn group_record_due(
     place: IfaceGroup,
 ) -> Result<(), AllocError>
     ensures state { OnOk result (world.new ≡ group_record_due world.old place.iface.number place.group.bits) }
-    ensures at_least { OnOk result (raised meter.old
-        (group_record_due_nodes place.iface.number place.group.bits world.old) ≤ meter.new) }
 {
     let mut known = record_of(world, alloc, place)?;
     known.group_expired(world.present());
@@ -210,8 +201,6 @@ pub(crate) fn has_sources(world: &World, place: IfaceGroup) -> bool
 // Takes the source's record away, and that of the group with the last of them.
 fn drop_source(world: &mut World, meter: &mut Meter, place: IfaceGroup, source: Addr)
     ensures dropped { world.new ≡ without_source_record place.iface.number place.group.bits source.bits world.old }
-    ensures at_least { raised meter.old
-        (drop_source_nodes place.iface.number place.group.bits source.bits world.old) ≤ meter.new }
 {
     world
         .membership_mut()
@@ -230,8 +219,6 @@ fn exclude_source(
 ) -> Result<(), AllocError>
     ensures excluded { OnOk result (world.new
         ≡ with_excluded place.iface.number place.group.bits source.bits world.old) }
-    ensures at_least { OnOk result (raised meter.old
-        (exclude_source_nodes place.iface.number place.group.bits source.bits world.old) ≤ meter.new) }
 {
     let key = Key::source(place.iface, place.group, source);
     world
@@ -248,8 +235,6 @@ fn end_source(
 ) -> Result<(), AllocError>
     ensures ended { OnOk result (with_repeats_of_rows world.new place.iface.number place.group.bits
         ≡ source_record_due world.old place.iface.number place.group.bits source.bits) }
-    ensures at_least { OnOk result (raised meter.old
-        (source_record_due_nodes place.iface.number place.group.bits source.bits world.old) ≤ meter.new) }
 {
     // For the proof: each source has one record, under its own key.
     world.membership().recall_rising_source_records();
@@ -274,8 +259,6 @@ pub fn source_record_due(
 ) -> Result<(), AllocError>
     ensures state { OnOk result (world.new
         ≡ source_record_due world.old place.iface.number place.group.bits source.bits) }
-    ensures at_least { OnOk result (raised meter.old
-        (source_record_due_nodes place.iface.number place.group.bits source.bits world.old) ≤ meter.new) }
 {
     end_source(world, meter, place, source)?;
     drop_repeats(world, alloc, place)

@@ -43,8 +43,6 @@ fn apply_record(
     ensures state { OnOk result (world.new ≡ with_record world.old iface.number group_record.now.group
         (applied world.old iface.number group_record.now).0) }
     ensures asked { IfOk result (λ asked. asked ≡ (applied world.old iface.number group_record.now).1) }
-    ensures at_least { OnOk result (raised meter.old
-        (record_seen_nodes iface.number world.old group_record.now) ≤ meter.new) }
 {
     let full = world.present() + group_membership_interval(world, iface);
     let sources = sources_of(alloc, group_record)?;
@@ -71,8 +69,6 @@ fn record_seen(
     ensures state { OnOk result (world.new ≡ (record_seen iface.number world.old group_record.now).0) }
     ensures messages { OnOk result (turn.new
         ≡ saying turn.old (record_seen iface.number world.old group_record.now).1) }
-    ensures at_least { OnOk result (raised meter.old
-        (record_seen_nodes iface.number world.old group_record.now) ≤ meter.new) }
 {
     let queries = is_querier(world, iface);
     let asked = apply_record(world, meter, turn.alloc, iface, group_record)?;
@@ -113,8 +109,6 @@ pub fn report_seen(
     requires { iface.number < 120 }
     ensures state { OnOk result (world.new ≡ (report_seen world.old iface.number report.now).0) }
     ensures messages { OnOk result (turn.new ≡ saying turn.old (report_seen world.old iface.number report.now).1) }
-    ensures at_least { OnOk result (raised meter.old
-        (report_seen_nodes world.old iface.number report.now) ≤ meter.new) }
 {
     for group_record in report.records() {
         if !is_skipped(&group_record) {

@@ -39,7 +39,6 @@ pub fn is_full(
 ) -> bool
     ensures full { result ≡ (is_rp world.now (registered_group register.now) packet.now.destination
         && source_is_full world.now (registered_group register.now) (registered_source register.now)) }
-    ensures visited { meter.new ≡ raised meter.old (rp_nodes world.now.ranges (registered_group register.now)) }
 {
     let name = registered(register);
     world.is_rp(name.group, packet.destination(), meter) && source_is_full(world, name)

@@ -80,7 +80,6 @@ fn register_at_rp(
         (registered_group register.now) (registered_source register.now) (is_null register.now)).state) }
     ensures messages { OnOk result (turn.new ≡ saying turn.old (register_at_rp world.old packet.now
         (registered_group register.now) (registered_source register.now) (is_null register.now)).messages) }
-    ensures at_least { OnOk result (raised meter.old (at_rp_nodes world.old register.now) ≤ meter.new) }
 {
     let name = registered(register);
     let sight = SourceSight::with_star(world, name, meter);
@@ -114,7 +113,6 @@ pub fn register_seen(
         (registered_group register.now) (registered_source register.now) (is_null register.now)).state) }
     ensures messages { OnOk result (turn.new ≡ saying turn.old (register_received world.old packet.now
         (registered_group register.now) (registered_source register.now) (is_null register.now)).messages) }
-    ensures at_least { OnOk result (raised meter.old (register_nodes world.old packet.now register.now) ≤ meter.new) }
 {
     let name = registered(register);
     if world.is_rp(name.group, packet.destination(), meter) {

@@ -30,8 +30,6 @@ pub fn settle_register(
     ensures sight { OnOk result (IsSourceSight world.new sight.new) }
     ensures star { OnOk result (sight.new.star ≡ sight.old.star) }
     ensures source { OnOk result (sight.new.source ≡ sight.old.source) }
-    ensures at_least { OnOk result (raised meter.old
-        (register_mark_nodes world.old sight.old.star.group sight.old.source) ≤ meter.new) }
 {
     let name = sight.name();
     if !sight.could_register() {
@@ -60,8 +58,6 @@ fn settle_source(
     requires { IsStarSight world.old star.now }
     ensures state { OnOk result (world.new
         ≡ settle_register world.old (source_key 0 star.now.group.bits source.bits)) }
-    ensures at_least { OnOk result (raised meter.old (source_nodes world.old star.now.group source
-        + register_mark_nodes world.old star.now.group source) ≤ meter.new) }
 {
     let mut sight = SourceSight::of(world, *star, source, meter);
     settle_register(world, meter, &mut sight)
@@ -77,8 +73,6 @@ fn settle_sources(
     requires { IsStarSight world.old star.now }
     ensures state { OnOk result (world.new
         ≡ fold settle_register world.old (source_keys star.now.group.bits sources.now)) }
-    ensures at_least { OnOk result (raised meter.old (nodes_in_turn (source_settled star.now.group)
-        (settled_source_nodes star.now.group) world.old sources.now) ≤ meter.new) }
 {
     for opened in sources {
         settle_source(world, meter, star, opened.source)?;
@@ -94,7 +88,6 @@ fn settle_group(
 ) -> Result<(), AllocError>
     ensures state { OnOk result (world.new
         ≡ fold settle_register world.old (source_keys opened.now.group.bits opened.now.sources)) }
-    ensures at_least { OnOk result (raised meter.old (settled_group_nodes world.old opened.now) ≤ meter.new) }
 {
     let star = StarSight::of(world, opened.group, meter);
     settle_sources(world, meter, &star, opened.sources.as_slice())
@@ -105,7 +98,6 @@ fn settle_group(
 /// each opened group and source. An error is want of memory.
 pub fn changed(world: &mut World, meter: &mut Meter, opening: &Opening) -> Result<(), AllocError>
     ensures state { OnOk result (world.new ≡ registers_by opening.now world.old) }
-    ensures at_least { OnOk result (raised meter.old (settled_nodes world.old opening.now) ≤ meter.new) }
 {
     for opened in opening.groups() {
         settle_group(world, meter, opened)?;

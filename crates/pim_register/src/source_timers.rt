@@ -25,7 +25,6 @@ const REGISTER_PROBE_TIME: u64 = 5_000;
 #[tactic(auto, unfolding(pim_model::specs::Unicast::rpf_interface))]
 pub fn registering_address(world: &World, meter: &mut Meter, source: Addr) -> Addr
     ensures address { result.bits ≡ registering_address world.now source.bits }
-    ensures visited { meter.new ≡ raised meter.old (path_nodes world.now (Some source.bits)) }
 {
     match world.route(source, meter) {
         Some(path) => world.address(path.iface),
@@ -36,7 +35,6 @@ pub fn registering_address(world: &World, meter: &mut Meter, source: Addr) -> Ad
 // RP(G), or 0.0.0.0.
 fn rp_or_none(world: &World, meter: &mut Meter, group: Addr) -> Addr
     ensures address { result.bits ≡ unwrap_or (rp_of world.now group.bits) 0 }
-    ensures visited { meter.new ≡ raised meter.old (rp_nodes world.now.ranges group.bits) }
 {
     world.rp(group, meter).unwrap_or(Addr::NONE)
 }
@@ -46,7 +44,6 @@ fn probe(world: &World, turn: &mut Turn, meter: &mut Meter, key: Key) -> Result<
     ensures sent { OnOk result (turn.new ≡ saying turn.old (Message.NullRegister
         (registering_address world.now (source_in key)) (unwrap_or (rp_of world.now (group_in key)) 0)
         (source_in key) (group_in key) ∷ [])) }
-    ensures at_least { OnOk result (raised meter.old (probe_nodes world.now key) ≤ meter.new) }
 {
     let name = key.name();
     let from = registering_address(world, meter, name.source);
@@ -66,7 +63,6 @@ pub fn fired(
 ) -> Result<(), AllocError>
     ensures state { OnOk result (world.new ≡ (fired world.old TimerKind.Register key).0) }
     ensures messages { OnOk result (turn.new ≡ saying turn.old (fired world.old TimerKind.Register key).1) }
-    ensures at_least { OnOk result (raised meter.old (register_end_nodes world.old key) ≤ meter.new) }
 {
     let Some(row) = world.store().register(key) else {
         return Ok(());
@@ -90,7 +86,6 @@ pub fn fired(
 #[tactic(auto, unfolding(pim_model::specs::Firing::fired, pim_model::specs::Firing::fire_row, pim_model::specs::Firing::keepalive_due))]
 pub fn keepalive_due(world: &mut World, meter: &mut Meter, key: Key) -> Result<(), AllocError>
     ensures state { OnOk result (world.new ≡ (fired world.old TimerKind.Keepalive key).0) }
-    ensures at_least { OnOk result (raised meter.old (ended_nodes world.old key) ≤ meter.new) }
 {
     let Some(row) = world.store().source(key) else {
         return Ok(());

@@ -48,7 +48,6 @@ fn stopped(row: RegisterRow, end: u64) -> RegisterRow
 fn stop(world: &mut World, meter: &mut Meter, key: Key, end: u64) -> Result<(), AllocError>
     ensures state { OnOk result (world.new
         ≡ record world.old { registers = change_row (stopping end) key world.old.registers }) }
-    ensures rises { OnOk result (meter.old ≤ meter.new) }
 {
     // For the proof: their keys rise, so that the key is listed once.
     world.recall_keyed();
@@ -64,7 +63,6 @@ fn stop(world: &mut World, meter: &mut Meter, key: Key, end: u64) -> Result<(), 
 fn stop_all(world: &mut World, meter: &mut Meter, keys: &[Key], end: u64) -> Result<(), AllocError>
     ensures state { OnOk result (world.new
         ≡ record world.old { registers = all_changed (stopping end) world.old.registers keys.now }) }
-    ensures rises { OnOk result (meter.old ≤ meter.new) }
 {
     for key in keys {
         stop(world, meter, *key, end)?;
@@ -90,7 +88,6 @@ pub fn stop_seen(
 ) -> Result<(), AllocError>
     ensures state { OnOk result (world.new ≡ register_stop_seen world.old turn.old.draw name.group.bits name.source.bits) }
     ensures silent { turn.new ≡ turn.old }
-    ensures rises { OnOk result (meter.old ≤ meter.new) }
 {
     // For the proof: each register is under the key of its source.
     world.recall_keyed();
@@ -123,8 +120,6 @@ fn keys_with_new_rp(
     ensures keys { IfOk result (λ keys. keys.items
         ≡ keys_in (filter (λ e. is_rp_changed world.now next.now.ranges e.0) world.now.registers)) }
     ensures silent { turn.new ≡ turn.old }
-    ensures at_least { OnOk result (raised meter.old
-        (sum_by (register_rps_nodes world.now next.now.ranges) world.now.registers) ≤ meter.new) }
 {
     let mut keys = Vec::new(turn.alloc);
     for (key, _) in world.store().register_rows() {
@@ -141,7 +136,6 @@ fn keys_with_new_rp(
 fn join_all(world: &mut World, meter: &mut Meter, keys: &[Key]) -> Result<(), AllocError>
     ensures state { OnOk result (world.new
         ≡ record world.old { registers = all_changed joining world.old.registers keys.now }) }
-    ensures rises { OnOk result (meter.old ≤ meter.new) }
 {
     for key in keys {
         let row = RegisterRow {
@@ -163,7 +157,6 @@ pub fn rps_replaced(
 ) -> Result<(), AllocError>
     ensures state { OnOk result (world.new ≡ rps_replaced world.old next.ranges) }
     ensures silent { turn.new ≡ turn.old }
-    ensures at_least { OnOk result (raised meter.old (replaced_nodes world.old next.ranges) ≤ meter.new) }
 {
     let keys = keys_with_new_rp(world, turn, meter, &next)?;
     world.take_ranges(next);

@@ -17,7 +17,6 @@ use std::alloc::AllocError;
 // RPF'(S,G,rpt).
 fn rpf_rpt(world: &World, meter: &mut Meter, name: SourceGroup) -> Option<Hop>
     ensures upstream { result ≡ rpf_rpt world.now name.group.bits name.source.bits }
-    ensures at_least { raised meter.old (sight_nodes world.now name.group (Some name.source)) ≤ meter.new }
 {
     let sight = SourceSight::with_star(world, name, meter);
     sight.rpf_neighbour_rpt()
@@ -35,7 +34,6 @@ pub fn fired(
 ) -> Result<(), AllocError>
     ensures state { OnOk result (world.new ≡ (fired world.old TimerKind.Override key).0) }
     ensures messages { OnOk result (turn.new ≡ saying turn.old (fired world.old TimerKind.Override key).1) }
-    ensures at_least { OnOk result (raised meter.old (override_nodes world.old key) ≤ meter.new) }
 {
     let name = key.name();
     let upstream = rpf_rpt(world, meter, name);

@@ -22,10 +22,10 @@ ghost use Rattle.pim_offload.specs.Offered.{offered};
 ghost use Rattle.pim_offload.specs.Seen.{seen_event};
 ghost use Rattle.pim_offrow.specs.Shown.{TellsOffload};
 ghost use Rattle.pim_reach.specs.Named.{event_named};
-ghost use Rattle.pim_router.specs.Costs.{IsCheap};
-ghost use Rattle.pim_router.specs.Disturbing.{event_disturbed};
-ghost use Rattle.pim_router.specs.Listing.{ListsSame};
-ghost use Rattle.pim_router.specs.Staying.{OffersStay};
+ghost use Rattle.pim_event.specs.Costs.{IsCheap};
+ghost use Rattle.pim_event.specs.Disturbing.{event_disturbed};
+ghost use Rattle.pim_event.specs.Listing.{ListsSame};
+ghost use Rattle.pim_event.specs.Staying.{OffersStay};
 ghost use Rattle.pim_router.specs.Standing.{begun, nothing_shown, standing, with_state};
 ghost use Rattle.pim_types.specs.Keys.{key_cmp};
 

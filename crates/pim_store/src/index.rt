@@ -81,6 +81,7 @@ fn write(
     group: Addr,
     source: Option<Addr>,
     marks: Marks,
+    meter: &mut Meter,
 ) -> Result<(), AllocError>
     requires bare { (x : MarkValue) → tunnel_in x marks ≡ false }
     requires entries { AreEntries entries.old }
@@ -90,11 +91,11 @@ fn write(
     ensures entries { AreEntries entries.new }
 {
     if marks.is_empty() {
-        entries.remove(group, source);
+        entries.remove(group, source, meter);
         return Ok(());
     }
     let entry = Entry::of(alloc, marks)?;
-    entries.put(group, source, entry)
+    entries.put(group, source, entry, meter)
 }
 
 // Arms the timer queue for the Join timer that is to run under the key, if one is; the earlier timer's entry is kept.
@@ -126,6 +127,7 @@ fn write_armed(
     key: Key,
     before: Option<JoinTimerRow>,
     marks: Marks,
+    meter: &mut Meter,
 ) -> Result<(), AllocError>
     requires bare { (x : MarkValue) → tunnel_in x marks ≡ false }
     requires entries { AreEntries entries.old }
@@ -142,7 +144,7 @@ fn write_armed(
     // For the proof: the keys rise.
     let _ = entries.is_empty();
     arm_timer(ends, key, before, marks.join_timer)?;
-    let written = write(alloc, entries, key.group, key.source, marks);
+    let written = write(alloc, entries, key.group, key.source, marks, meter);
     // For the proof: the keys still rise.
     let _ = entries.is_empty();
     written
@@ -162,19 +164,18 @@ impl Index {
     }
 
     // The groups that have marks, or a source with some, ascending.
-    pub(crate) fn groups(&self) -> Groups<'_, Entry>
+    pub(crate) fn groups(&self, meter: &mut Meter) -> Groups<'_, Entry>
         ensures groups { result ≡ ascending (map group_in (keys_in self.now)) }
 
         // This holds of every index.
         ensures entries { AreEntries self.now }
     {
-        self.entries.groups()
+        self.entries.groups(meter)
     }
 
     // The entries of a group, by rising key.
     pub(crate) fn walk(&self, group: Addr, meter: &mut Meter) -> Entries<'_, Entry>
         ensures entries { result ≡ filter (λ e. is_of_group group.bits e.0) self.now }
-        ensures visited { meter.new ≡ raised meter.old (nodes_visited (keys_in self.now) group None) }
 
         // This holds of every index.
         ensures ascending { IsStrictlySortedBy key_cmp (keys_in self.now) }
@@ -191,7 +192,6 @@ impl Index {
         ensures bare { (x : MarkValue) → tunnel_in x result ≡ false }
         ensures timer { result.join_timer ≡ timer_in (row_at self.now (entry_key group source)) }
         ensures row { result.join_timer ≡ row_at (timers_in self.now) (entry_key group source) }
-        ensures visited { meter.new ≡ raised meter.old (nodes_visited (keys_in self.now) group source) }
 
         // This holds of every index.
         ensures ascending { IsStrictlySortedBy key_cmp (keys_in self.now) }
@@ -210,7 +210,6 @@ impl Index {
     pub(crate) fn contains(&self, group: Addr, source: Addr, meter: &mut Meter) -> bool
         ensures found { result ≡ has_row self.now (entry_key group (Some source)) }
 
-        ensures visited { meter.new ≡ raised meter.old (nodes_visited (keys_in self.now) group (Some source)) }
 
         // This holds of every index.
         ensures entries { AreEntries self.now }
@@ -223,7 +222,7 @@ impl Index {
 
     // Replaces the entry of the key's group, or of its source, whose Join timer is unchanged. The error is want of
     // memory, and then nothing has changed.
-    fn keep(&mut self, key: Key, marks: Marks) -> Result<(), AllocError>
+    fn keep(&mut self, key: Key, marks: Marks, meter: &mut Meter) -> Result<(), AllocError>
         requires bare { (x : MarkValue) → tunnel_in x marks ≡ false }
         requires timer { marks.join_timer ≡ timer_in (row_at self.old (entry_key key.group key.source)) }
         ensures ok { OnOk result (Writes self.old self.new (entry_key key.group key.source) marks) }
@@ -232,7 +231,14 @@ impl Index {
     {
         // For the proof: the keys rise.
         let _ = self.entries.is_empty();
-        let written = write(self.alloc, &mut self.entries, key.group, key.source, marks);
+        let written = write(
+            self.alloc,
+            &mut self.entries,
+            key.group,
+            key.source,
+            marks,
+            meter,
+        );
         // For the proof: the keys still rise.
         let _ = self.entries.is_empty();
         written
@@ -271,18 +277,17 @@ impl Index {
         ensures timers { timers_in self.new ≡ timers_in self.old }
         ensures err { OnErr result (self.new ≡ self.old) }
         ensures visited { AreLookedUp self.old key meter.old meter.new }
-        ensures rises { meter.old ≤ meter.new }
     {
         let (first, second) = R::told(key);
         if second.is_some() || !first.is_plain() {
             let marks = self.get(key.group, key.source, meter);
-            return self.keep(key, marked(marks, key, Some(row)));
+            return self.keep(key, marked(marks, key, Some(row)), meter);
         }
         if self.set_plain(key, first, row.says(first), meter) {
             return Ok(());
         }
         let marks = marked(Marks::none(), key, Some(row));
-        self.keep(key, marks)
+        self.keep(key, marks, meter)
     }
 
     // Clears the marks that a row under the key set. Takes no memory.
@@ -291,7 +296,6 @@ impl Index {
         ensures marks { SetsMarks R.tells R.says self.old self.new key None }
         ensures timers { timers_in self.new ≡ timers_in self.old }
         ensures visited { AreLookedUp self.old key meter.old meter.new }
-        ensures rises { meter.old ≤ meter.new }
     {
         let (first, second) = R::told(key);
         // For the proof: the keys rise.
@@ -324,10 +328,10 @@ impl Index {
     }
 
     // All Join timers, by rising key.
-    pub(crate) fn timers(&self) -> JoinTimerRows<'_>
+    pub(crate) fn timers<'a>(&'a self, meter: &'a mut Meter) -> JoinTimerRows<'a>
         ensures { result ≡ timers_in self.now }
     {
-        JoinTimerRows::among(self.entries.iter())
+        JoinTimerRows::among(self.entries.iter(meter))
     }
 
     // How many Join timers there are.
@@ -353,6 +357,7 @@ impl Index {
         key: Key,
         marks: Marks,
         row: Option<JoinTimerRow>,
+        meter: &mut Meter,
     ) -> Result<(), AllocError>
         requires { IsThere self.old key marks }
         ensures set { OnOk result (timers_in self.new
@@ -375,9 +380,11 @@ impl Index {
             key,
             marks.join_timer,
             marks_after,
+            meter,
         );
         self.timers = count_after(&set, count, self.timers);
-        self.ends.settle(&Lent::of(&self.entries, self.timers), key);
+        self.ends
+            .settle(&Lent::of(&self.entries, self.timers), key, meter);
         set
     }
 
@@ -395,7 +402,7 @@ impl Index {
         ensures visited { AreLookedUp self.old key meter.old meter.new }
     {
         let marks = self.get(key.group, key.source, meter);
-        self.set_known(key, marks, row)
+        self.set_known(key, marks, row, meter)
     }
 
     // Changes the Join timer under the key, if there is one. The error is want of memory, and then no timer has
@@ -418,6 +425,6 @@ impl Index {
         if !is_placed(key) {
             return Ok(());
         }
-        self.set_known(key, marks, Some(change.after(before)))
+        self.set_known(key, marks, Some(change.after(before)), meter)
     }
 }

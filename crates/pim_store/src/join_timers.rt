@@ -131,8 +131,7 @@ pub(crate) fn is_placed(key: Key) -> bool
     key == timer_key(key)
 }
 
-// The Join timers in the entries, as the queue of their expiries looks them up. Look-ups that the queue does to drop
-// outdated entries of its own aren't counted.
+// The Join timers in the entries, as the queue of their expiries looks them up.
 pub(crate) struct Lent<'a> {
     entries: &'a SourceTrie<Entry>,
     count: usize,
@@ -172,6 +171,8 @@ impl<'a> Lent<'a> {
 }
 
 impl<'a> Holding<JoinTimerRow> for Lent<'a> {
+    type Count = Meter;
+
     ghost table = { λ l. l };
 
     fn count(&self) -> usize {
@@ -183,25 +184,24 @@ impl<'a> Holding<JoinTimerRow> for Lent<'a> {
         let _ = self.entries.is_empty();
     }
 
-    fn has(&self, key: Key) -> bool {
-        Holding::<JoinTimerRow>::at(self, key).is_some()
+    fn has(&self, key: Key, meter: &mut Meter) -> bool {
+        Holding::<JoinTimerRow>::at(self, key, meter).is_some()
     }
 
-    fn at(&self, key: Key) -> Option<JoinTimerRow> {
+    fn at(&self, key: Key, meter: &mut Meter) -> Option<JoinTimerRow> {
         // For the proof: the keys rise.
         let _ = self.entries.is_empty();
         if !is_placed(key) {
             return None;
         }
-        let mut uncounted = Meter::outside_events();
-        match self.entries.get(key.group, key.source, &mut uncounted) {
+        match self.entries.get(key.group, key.source, meter) {
             Some(entry) => entry.join_timer(),
             None => None,
         }
     }
 
-    fn arm_all(&self, queue: &mut Queue) {
-        for (key, row) in JoinTimerRows::among(self.entries.iter()) {
+    fn arm_all(&self, queue: &mut Queue, meter: &mut Meter) {
+        for (key, row) in JoinTimerRows::among(self.entries.iter(meter)) {
             arm_row(queue, key, row);
         }
     }

@@ -51,7 +51,6 @@ pub(crate) fn update_row<R: TellsMarks, K: Keeping<R>, C: Change<R>>(
         → SaysAlike R.tells R.says (C.after change before) before → meter.new ≡ meter.old) }
     ensures index { IfOk result (λ there. there ≡ false → index.new ≡ index.old) }
     ensures meter { IfOk result (λ there. there ≡ false → meter.new ≡ meter.old) }
-    ensures rises { OnOk result (meter.old ≤ meter.new) }
 {
     // For the proof: a key is listed once.
     rows.recall_rising();
@@ -93,7 +92,6 @@ pub(crate) fn put_row<R: TellsMarks, K: Keeping<R>>(
     ensures alike { OnOk result ((before : R) → row_at rows.old key ≡ Some before → SaysAlike R.tells R.says row before
         → meter.new ≡ meter.old) }
     ensures new { OnOk result (row_at rows.old key ≡ None → AreLookedUp index.old key meter.old meter.new) }
-    ensures rises { OnOk result (meter.old ≤ meter.new) }
 {
     // For the proof: what is put under a key with a row takes the place of that row.
     rows.recall_rising();
@@ -119,7 +117,6 @@ pub(crate) fn add_row<R: TellsMarks, K: Keeping<R>>(
     ensures others { KeepsOtherMarks R.tells index.old index.new }
     ensures timers { timers_in index.new ≡ timers_in index.old }
     ensures visited { OnOk result (AreLookedUp index.old key meter.old meter.new) }
-    ensures rises { OnOk result (meter.old ≤ meter.new) }
 {
     index.mark(key, row, meter)?;
     if let Err(refused) = rows.add(key, row) {
@@ -141,7 +138,6 @@ fn drop_marked<R: TellsMarks, K: Keeping<R>>(
     ensures unmarked { SetsMarks R.tells R.says index.old index.new key None }
     ensures timers { timers_in index.new ≡ timers_in index.old }
     ensures visited { AreLookedUp index.old key meter.old meter.new }
-    ensures rises { meter.old ≤ meter.new }
 {
     rows.remove(key);
     index.unmark::<R>(key, meter);
@@ -161,7 +157,6 @@ pub(crate) fn remove_row<R: TellsMarks, K: Keeping<R>>(
     ensures others { KeepsOtherMarks R.tells index.old index.new }
     ensures timers { timers_in index.new ≡ timers_in index.old }
     ensures visited { AreLookedUp index.old key meter.old meter.new }
-    ensures rises { meter.old ≤ meter.new }
 {
     drop_marked(rows, index, key, meter);
 }
@@ -185,7 +180,6 @@ pub(crate) fn set_row<R: TellsMarks, K: Keeping<R>>(
         → SaysAlike R.tells R.says after before → meter.new ≡ meter.old) }
     ensures new { OnOk result (row_at rows.old key ≡ None → AreLookedUp index.old key meter.old meter.new) }
     ensures gone { row ≡ None → AreLookedUp index.old key meter.old meter.new }
-    ensures rises { OnOk result (meter.old ≤ meter.new) }
 {
     match row {
         Some(row) => put_row(rows, index, key, row, meter),
@@ -213,7 +207,6 @@ pub(crate) fn change_row<R: TellsMarks, K: Keeping<R>>(
     ensures alike { OnOk result ((after before : R) → row ≡ Some after → row_at rows.old key ≡ Some before
         → SaysAlike R.tells R.says after before → meter.new ≡ meter.old) }
     ensures gone { row ≡ None → has_row rows.old key ≡ true → AreLookedUp index.old key meter.old meter.new }
-    ensures rises { OnOk result (meter.old ≤ meter.new) }
 {
     // For the proof: what is put under a key with a row takes the place of that row.
     rows.recall_rising();
@@ -237,7 +230,6 @@ pub(crate) fn drop_row<R: TellsMarks, K: Keeping<R>>(
     ensures timers { timers_in index.new ≡ timers_in index.old }
     ensures absent { has_row rows.old key ≡ false → meter.new ≡ meter.old }
     ensures there { has_row rows.old key ≡ true → AreLookedUp index.old key meter.old meter.new }
-    ensures rises { meter.old ≤ meter.new }
 {
     if rows.contains(key) {
         remove_row(rows, index, key, meter);
@@ -250,7 +242,6 @@ fn unmark_on<R: TellsMarks>(rows: &Timed<R>, index: &mut Index, iface: IfaceId, 
     ensures told { IsTold R.tells R.says R.fits index.new (drop_where (is_on iface.number) rows.now) }
     ensures others { KeepsOtherMarks R.tells index.old index.new }
     ensures timers { timers_in index.new ≡ timers_in index.old }
-    ensures rises { meter.old ≤ meter.new }
 {
     for (key, _) in rows.rows().iter() {
         if key.iface == iface {
@@ -271,7 +262,6 @@ pub(crate) fn drop_rows_on<R: TellsMarks>(
     ensures told { IsTold R.tells R.says R.fits index.new rows.new }
     ensures others { KeepsOtherMarks R.tells index.old index.new }
     ensures timers { timers_in index.new ≡ timers_in index.old }
-    ensures rises { meter.old ≤ meter.new }
 {
     unmark_on(rows, index, iface, meter);
     rows.drop_on(iface);

@@ -121,10 +121,10 @@ impl Store {
     }
 
     /// The Join timers, by rising key.
-    pub fn join_timer_rows(&self) -> JoinTimerRows<'_>
+    pub fn join_timer_rows<'a>(&'a self, meter: &'a mut Meter) -> JoinTimerRows<'a>
         ensures { result ≡ self.now.join_timers }
     {
-        self.index.timers()
+        self.index.timers(meter)
     }
 
     /// The override timers, by rising key.
@@ -223,7 +223,6 @@ impl Store {
         ensures new { OnOk result (row_at self.old.downstream key ≡ None
             → Visits self.old key.group key.source meter.old meter.new) }
         ensures gone { row ≡ None → Visits self.old key.group key.source meter.old meter.new }
-        ensures rises { OnOk result (meter.old ≤ meter.new) }
     {
         set_row(&mut self.downstream, &mut self.index, key, row, meter)
     }
@@ -245,7 +244,6 @@ impl Store {
         ensures new { OnOk result (row_at self.old.asserts (fact_key iface.number group source false) ≡ None
             → Visits self.old group source meter.old meter.new) }
         ensures gone { row ≡ None → Visits self.old group source meter.old meter.new }
-        ensures rises { OnOk result (meter.old ≤ meter.new) }
     {
         let key = Key {
             iface,
@@ -285,7 +283,6 @@ impl Store {
         ensures new { OnOk result (row_at self.old.override_timers (rpt_key 0 name.group.bits name.source.bits) ≡ None
             → Visits self.old name.group (Some name.source) meter.old meter.new) }
         ensures gone { row ≡ None → Visits self.old name.group (Some name.source) meter.old meter.new }
-        ensures rises { OnOk result (meter.old ≤ meter.new) }
     {
         let key = name.rpt_key();
         set_row(&mut self.override_timers, &mut self.index, key, row, meter)
@@ -307,7 +304,6 @@ impl Store {
         ensures new { OnOk result (row_at self.old.sources (source_key 0 name.group.bits name.source.bits) ≡ None
             → Visits self.old name.group (Some name.source) meter.old meter.new) }
         ensures gone { row ≡ None → Visits self.old name.group (Some name.source) meter.old meter.new }
-        ensures rises { OnOk result (meter.old ≤ meter.new) }
     {
         let key = name.key();
         set_row(&mut self.sources, &mut self.index, key, row, meter)
@@ -331,7 +327,6 @@ impl Store {
             → meter.new ≡ meter.old) }
         ensures new { OnOk result (row_at self.old.sources (source_key 0 name.group.bits name.source.bits) ≡ None
             → Visits self.old name.group (Some name.source) meter.old meter.new) }
-        ensures rises { OnOk result (meter.old ≤ meter.new) }
     {
         // For the proof: a key is listed once.
         self.sources.recall_rising();
@@ -360,7 +355,6 @@ impl Store {
         ensures new { OnOk result (row_at self.old.registers (source_key 0 name.group.bits name.source.bits) ≡ None
             → Visits self.old name.group (Some name.source) meter.old meter.new) }
         ensures gone { row ≡ None → Visits self.old name.group (Some name.source) meter.old meter.new }
-        ensures rises { OnOk result (meter.old ≤ meter.new) }
     {
         let key = name.key();
         set_row(&mut self.registers, &mut self.index, key, row, meter)
@@ -376,7 +370,6 @@ impl Store {
         ensures changed { OnOk result (self.new
             ≡ record self.old { downstream = change_row (λ before. Some row) key self.old.downstream }) }
         ensures absent { has_row self.old.downstream key ≡ false → meter.new ≡ meter.old }
-        ensures rises { OnOk result (meter.old ≤ meter.new) }
     {
         change_row(&mut self.downstream, &mut self.index, key, Some(row), meter)
     }
@@ -386,7 +379,6 @@ impl Store {
         ensures dropped { self.new ≡ record self.old { downstream = drop_at self.old.downstream key } }
         ensures absent { has_row self.old.downstream key ≡ false → meter.new ≡ meter.old }
         ensures there { has_row self.old.downstream key ≡ true → Visits self.old key.group key.source meter.old meter.new }
-        ensures rises { meter.old ≤ meter.new }
     {
         drop_row(&mut self.downstream, &mut self.index, key, meter);
     }
@@ -401,7 +393,6 @@ impl Store {
         ensures changed { OnOk result (self.new
             ≡ record self.old { asserts = change_row (λ before. Some row) key self.old.asserts }) }
         ensures absent { has_row self.old.asserts key ≡ false → meter.new ≡ meter.old }
-        ensures rises { OnOk result (meter.old ≤ meter.new) }
     {
         change_row(&mut self.asserts, &mut self.index, key, Some(row), meter)
     }
@@ -411,7 +402,6 @@ impl Store {
         ensures dropped { self.new ≡ record self.old { asserts = drop_at self.old.asserts key } }
         ensures absent { has_row self.old.asserts key ≡ false → meter.new ≡ meter.old }
         ensures there { has_row self.old.asserts key ≡ true → Visits self.old key.group key.source meter.old meter.new }
-        ensures rises { meter.old ≤ meter.new }
     {
         drop_row(&mut self.asserts, &mut self.index, key, meter);
     }
@@ -428,7 +418,6 @@ impl Store {
         ensures kept { OnOk result (IsSome row → meter.new ≡ meter.old) }
         ensures absent { has_row self.old.sources key ≡ false → meter.new ≡ meter.old }
         ensures gone { row ≡ None → has_row self.old.sources key ≡ true → Visits self.old key.group key.source meter.old meter.new }
-        ensures rises { OnOk result (meter.old ≤ meter.new) }
     {
         change_row(&mut self.sources, &mut self.index, key, row, meter)
     }
@@ -467,7 +456,6 @@ impl Store {
         ensures dropped { self.new ≡ record self.old { override_timers = drop_at self.old.override_timers key } }
         ensures absent { has_row self.old.override_timers key ≡ false → meter.new ≡ meter.old }
         ensures there { has_row self.old.override_timers key ≡ true → Visits self.old key.group key.source meter.old meter.new }
-        ensures rises { meter.old ≤ meter.new }
     {
         drop_row(&mut self.override_timers, &mut self.index, key, meter);
     }
@@ -492,7 +480,6 @@ impl Store {
         ensures ended { self.new ≡ record self.old {
           asserts = filter (λ e. not (is_loser (Some e.1) && is_named keys.now e.0)) self.old.asserts;
         } }
-        ensures rises { meter.old ≤ meter.new }
     {
         for key in keys {
             self.end_loss(*key, meter);
@@ -504,7 +491,6 @@ impl Store {
         ensures ended { self.new ≡ record self.old {
           asserts = filter (λ e. not (is_loser (Some e.1) && same_key e.0 key)) self.old.asserts;
         } }
-        ensures rises { meter.old ≤ meter.new }
     {
         // For the proof: the key is listed once.
         self.asserts.recall_rising();
@@ -519,23 +505,21 @@ impl Store {
           downstream = drop_where (is_on iface.number) self.old.downstream;
           asserts = drop_where (is_on iface.number) self.old.asserts;
         } }
-        ensures rises { meter.old ≤ meter.new }
     {
         drop_rows_on(&mut self.downstream, &mut self.index, iface, meter);
         drop_rows_on(&mut self.asserts, &mut self.index, iface, meter);
     }
 
     /// The groups with any fact, ascending.
-    pub fn groups(&self) -> Groups<'_, Entry>
+    pub fn groups(&self, meter: &mut Meter) -> Groups<'_, Entry>
         ensures { result ≡ groups_of (stored_keys self.now) }
     {
-        self.index.groups()
+        self.index.groups(meter)
     }
 
     /// The sources of the group with any fact, ascending. The meter rises by the nodes that lead to the group.
     pub fn sources_of(&self, group: Addr, meter: &mut Meter) -> Sources<'_>
         ensures sources { result ≡ sources_of group.bits (stored_keys self.now) }
-        ensures visited { meter.new ≡ raised meter.old (nodes_visited (stored_keys self.now) group None) }
     {
         Sources::among(self.index.walk(group, meter))
     }
@@ -575,7 +559,6 @@ impl Store {
     #[tactic(auto, using(pim_source_trie::proofs::Visited::visited_at_most))]
     pub fn has_facts(&self, name: SourceGroup, meter: &mut Meter) -> bool
         ensures has { result ≡ list_any (names_source name.group.bits name.source.bits) (stored_keys self.now) }
-        ensures visited { meter.new ≡ raised meter.old (nodes_visited (stored_keys self.now) name.group (Some name.source)) }
         ensures at_most { nodes_visited (stored_keys self.now) name.group (Some name.source) ≤ 66 }
     {
         self.index.contains(name.group, name.source, meter)
@@ -666,7 +649,6 @@ impl Store {
         ensures source { result.has_source ≡ has_row self.now.sources (fact_key 0 group source false) }
         ensures register { result.has_register ≡ has_row self.now.registers (fact_key 0 group source false) }
         ensures tunnels { IsWithoutTunnel result }
-        ensures visited { meter.new ≡ raised meter.old (nodes_visited (stored_keys self.now) group source) }
         ensures at_most { nodes_visited (stored_keys self.now) group source ≤ 66 }
         ensures star_at_most { nodes_visited (stored_keys self.now) group None ≤ 33 }
     {

@@ -118,19 +118,19 @@ impl<R: Ends> EndQueue<R> {
 
     /// Settles the queue after the row under the key was added, changed or removed, with the rows as they are
     /// afterwards.
-    pub fn settle<K: Holding<R>>(&mut self, rows: &K, key: Key)
+    pub fn settle<K: Holding<R>>(&mut self, rows: &K, key: Key, count: &mut K::Count)
         requires { InStepBeside R.kinds R.ends self.old (K.table rows.now) key }
         ensures { InStep R.kinds R.ends self.new (K.table rows.now) }
     {
         let is_own = is_of(self.queue.first(), key);
-        settle_ended(rows, &mut self.queue, !is_own);
+        settle_ended(rows, &mut self.queue, !is_own, count);
     }
 
     /// Settles the queue after rows were removed, with the rows as they are afterwards.
-    pub fn settle_all<K: Holding<R>>(&mut self, rows: &K)
+    pub fn settle_all<K: Holding<R>>(&mut self, rows: &K, count: &mut K::Count)
         requires { AreArmed (ends_in R.kinds R.ends (K.table rows.now)) (holds self.old) }
         ensures { InStep R.kinds R.ends self.new (K.table rows.now) }
     {
-        settle_ended(rows, &mut self.queue, false);
+        settle_ended(rows, &mut self.queue, false, count);
     }
 }

@@ -48,12 +48,14 @@ fn end_of_row<R: Ends>(row: R, kind: TimerKind) -> Option<u64>
 }
 
 impl<'a, R: Ends, K: Holding<R>> Schedule for Ended<'a, R, K> {
+    type Count = K::Count;
+
     ghost end_of = { λ s. ends_in R.kinds R.ends (K.table s.rows.now) };
 
     ghost most = { λ s. most_ends R.kinds.1 (length (K.table s.rows.now)) };
 
-    fn end_of(&self, timer: Timer) -> Option<u64> {
-        match self.rows.at(timer.key) {
+    fn end_of(&self, timer: Timer, count: &mut K::Count) -> Option<u64> {
+        match self.rows.at(timer.key, count) {
             Some(row) => end_of_row(row, timer.kind),
             None => None,
         }
@@ -68,8 +70,8 @@ impl<'a, R: Ends, K: Holding<R>> Schedule for Ended<'a, R, K> {
         }
     }
 
-    fn arm_all(&self, queue: &mut Queue) {
-        self.rows.arm_all(queue);
+    fn arm_all(&self, queue: &mut Queue, count: &mut K::Count) {
+        self.rows.arm_all(queue, count);
     }
 }
 
@@ -103,7 +105,12 @@ pub fn arm_row<R: Ends>(queue: &mut Queue, key: Key, row: R)
 }
 
 // Settles the queue after rows changed. `is_right` says whether its first entry is known to be right.
-pub(crate) fn settle_ended<R: Ends, K: Holding<R>>(rows: &K, queue: &mut Queue, is_right: bool)
+pub(crate) fn settle_ended<R: Ends, K: Holding<R>>(
+    rows: &K,
+    queue: &mut Queue,
+    is_right: bool,
+    count: &mut K::Count,
+)
     requires armed { AreArmed (ends_in R.kinds R.ends (K.table rows.now)) (holds queue.old) }
     requires right { is_right ≡ true → IsReal (ends_in R.kinds R.ends (K.table rows.now)) (holds queue.old) }
     ensures { InStep R.kinds R.ends queue.new (K.table rows.now) }
@@ -112,5 +119,5 @@ pub(crate) fn settle_ended<R: Ends, K: Holding<R>>(rows: &K, queue: &mut Queue, 
         rows,
         row: PhantomData,
     };
-    queue.settle(&ended, is_right);
+    queue.settle(&ended, is_right, count);
 }

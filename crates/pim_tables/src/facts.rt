@@ -231,6 +231,8 @@ impl<R: Copy> Facts<R> {
 }
 
 impl<R: Ends> Holding<R> for Facts<R> {
+    type Count = ();
+
     ghost table = { λ f. f };
 
     fn count(&self) -> usize {
@@ -241,15 +243,15 @@ impl<R: Ends> Holding<R> for Facts<R> {
         self.recall_rising();
     }
 
-    fn has(&self, key: Key) -> bool {
+    fn has(&self, key: Key, _count: &mut ()) -> bool {
         self.contains(key)
     }
 
-    fn at(&self, key: Key) -> Option<R> {
+    fn at(&self, key: Key, _count: &mut ()) -> Option<R> {
         self.get(key)
     }
 
-    fn arm_all(&self, queue: &mut Queue) {
+    fn arm_all(&self, queue: &mut Queue, _count: &mut ()) {
         for (key, row) in self.rows.iter() {
             arm_row(queue, *key, *row);
         }

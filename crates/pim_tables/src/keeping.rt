@@ -14,6 +14,9 @@ use std::alloc::{AllocError, Global};
 
 /// A table that can be read: rows, each under its key.
 pub trait Holding<R: Ends> {
+    /// What counts the look-ups; `()` where they aren't counted.
+    type Count;
+
     /// The rows, by rising key.
     ghost table: { Self → Table R };
 
@@ -26,15 +29,15 @@ pub trait Holding<R: Ends> {
         ensures { IsStrictlySortedBy key_cmp (keys_in (table self.now)) };
 
     /// Whether there is a row under the key.
-    fn has(&self, key: Key) -> bool
+    fn has(&self, key: Key, count: &mut Self::Count) -> bool
         ensures { result ≡ has_row (table self.now) key };
 
     /// The row under the key.
-    fn at(&self, key: Key) -> Option<R>
+    fn at(&self, key: Key, count: &mut Self::Count) -> Option<R>
         ensures { result ≡ row_at (table self.now) key };
 
     /// Puts the timers of all rows into a queue that has room for them.
-    fn arm_all(&self, queue: &mut Queue)
+    fn arm_all(&self, queue: &mut Queue, count: &mut Self::Count)
         requires { most_ends R.kinds.1 (length (table self.now)) ≤ queue.old.room }
         ensures armed { AreArmed (ends_in R.kinds R.ends (table self.now)) (holds queue.new) }
         ensures few { length queue.new.dues
@@ -42,7 +45,7 @@ pub trait Holding<R: Ends> {
 }
 
 /// A table that can be changed.
-pub trait Keeping<R: Ends>: Holding<R> {
+pub trait Keeping<R: Ends>: Holding<R, Count = ()> {
     /// A table without rows. Takes no memory.
     fn none(alloc: Global) -> Self
         ensures { Self.table result ≡ [] };

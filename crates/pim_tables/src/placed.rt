@@ -170,6 +170,8 @@ impl<R> Placed<R> {
 }
 
 impl<R: Ends> Holding<R> for Placed<R> {
+    type Count = ();
+
     ghost table = { λ p. p };
 
     fn count(&self) -> usize {
@@ -180,17 +182,17 @@ impl<R: Ends> Holding<R> for Placed<R> {
         let _ = &self.places;
     }
 
-    fn has(&self, key: Key) -> bool {
+    fn has(&self, key: Key, _count: &mut ()) -> bool {
         self.places.contains(key)
     }
 
-    fn at(&self, key: Key) -> Option<R> {
+    fn at(&self, key: Key, _count: &mut ()) -> Option<R> {
         let place = self.places.get(key)?;
         let (_, row) = self.rows.get(place)?;
         Some(*row)
     }
 
-    fn arm_all(&self, queue: &mut Queue) {
+    fn arm_all(&self, queue: &mut Queue, _count: &mut ()) {
         for (key, row) in self.iter() {
             arm_row(queue, *key, *row);
         }

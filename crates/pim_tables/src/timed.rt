@@ -80,10 +80,10 @@ fn update_in_step<R: Ends, K: Keeping<R>, C: Change<R>>(
     let row = change.after(before);
     if let Err(refused) = queue.arm(key, Some(before), row) {
         put_back(rows, hint, key, before);
-        queue.settle(rows, key);
+        queue.settle(rows, key, &mut ());
         return Err(refused);
     }
-    queue.settle(rows, key);
+    queue.settle(rows, key, &mut ());
     Ok(Some(before))
 }
 
@@ -119,7 +119,7 @@ fn add_in_step<R: Ends, K: Keeping<R>>(
     ensures in_step { InStep R.kinds R.ends queue.new (K.table rows.new) }
 {
     let added = insert_armed(rows, queue, key, row);
-    queue.settle(rows, key);
+    queue.settle(rows, key, &mut ());
     added
 }
 
@@ -183,14 +183,14 @@ impl<R: Ends, K: Keeping<R>> Timed<R, K> {
     pub fn contains(&self, key: Key) -> bool
         ensures { result ≡ has_row self.now key }
     {
-        self.rows.has(key)
+        self.rows.has(key, &mut ())
     }
 
     /// The fact under the key.
     pub fn get(&self, key: Key) -> Option<R>
         ensures { result ≡ row_at self.now key }
     {
-        self.rows.at(key)
+        self.rows.at(key, &mut ())
     }
 
     /// Which timer expires first, and when, in ms: the least by timestamp, then by kind, then by key. `None` where no
@@ -243,7 +243,7 @@ impl<R: Ends, K: Keeping<R>> Timed<R, K> {
         ensures { self.new ≡ drop_at self.old key }
     {
         self.rows.take(key);
-        self.queue.settle(&self.rows, key);
+        self.queue.settle(&self.rows, key, &mut ());
     }
 
     /// Puts the fact under the key, or removes the one that is there. The error is want of memory, and leaves what an
@@ -285,6 +285,6 @@ impl<R: Ends> Timed<R> {
     {
         self.rows.drop_on(iface);
         // The fact whose timer expires first may be among the removed ones.
-        self.queue.settle_all(&self.rows);
+        self.queue.settle_all(&self.rows, &mut ());
     }
 }

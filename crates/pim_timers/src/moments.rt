@@ -88,11 +88,13 @@ impl Moments {
 }
 
 impl Schedule for Moments {
+    type Count = ();
+
     ghost end_of = { λ s. map.get s };
 
     ghost most = { λ s. map.len s };
 
-    fn end_of(&self, timer: Timer) -> Option<u64> {
+    fn end_of(&self, timer: Timer, _count: &mut ()) -> Option<u64> {
         self.get(timer)
     }
 
@@ -100,7 +102,7 @@ impl Schedule for Moments {
         entries.saturating_sub(self.len())
     }
 
-    fn arm_all(&self, queue: &mut Queue) {
+    fn arm_all(&self, queue: &mut Queue, _count: &mut ()) {
         // For the proof: each timer is listed once.
         let _ = self.moments.len();
         for (timer, moment) in self.moments.iter() {

@@ -153,14 +153,14 @@ impl Queue {
     }
 
     // Makes the first entry up to date: outdated ones are removed, or moved to when their timers expire.
-    fn put_right<S: Schedule>(&mut self, schedule: &S)
+    fn put_right<S: Schedule>(&mut self, schedule: &S, count: &mut S::Count)
         requires { AreArmed (S.end_of schedule.now) (holds self.old) }
         ensures armed { AreArmed (S.end_of schedule.now) (holds self.new) }
         ensures real { IsReal (S.end_of schedule.now) (holds self.new) }
         ensures few { length self.new.dues ≤ length self.old.dues }
     {
         while let Some(first) = self.first() {
-            let end = schedule.end_of(first.1);
+            let end = schedule.end_of(first.1, count);
             if end == Some(first.0) {
                 return;
             }
@@ -177,28 +177,28 @@ impl Queue {
     }
 
     // Fills the queue with the entries of the timers that run, and no others.
-    fn rebuild<S: Schedule>(&mut self, schedule: &S)
+    fn rebuild<S: Schedule>(&mut self, schedule: &S, count: &mut S::Count)
         requires { S.most schedule.now ≤ length self.old.dues }
         ensures armed { AreArmed (S.end_of schedule.now) (holds self.new) }
         ensures few { length self.new.dues ≤ S.most schedule.now }
     {
         self.clear();
-        schedule.arm_all(self);
+        schedule.arm_all(self, count);
     }
 
     /// Makes the first entry up to date, after timers were set and armed; `is_right` says that it is known to be. If
-    /// there are far more entries than timers, the queue is filled anew, which takes no memory.
-    pub fn settle<S: Schedule>(&mut self, schedule: &S, is_right: bool)
+    /// there are far more entries than timers, the queue is filled anew, which takes no memory. Each look-up is counted.
+    pub fn settle<S: Schedule>(&mut self, schedule: &S, is_right: bool, count: &mut S::Count)
         requires armed { AreArmed (S.end_of schedule.now) (holds self.old) }
         requires right { is_right ≡ true → IsReal (S.end_of schedule.now) (holds self.old) }
         ensures { IsSettled (S.end_of schedule.now) (S.most schedule.now) self.new }
     {
         let entries = self.heap.len();
         if schedule.excess(entries) > entries / 2 + SPARE {
-            self.rebuild(schedule);
-            self.put_right(schedule);
+            self.rebuild(schedule, count);
+            self.put_right(schedule, count);
         } else if !is_right {
-            self.put_right(schedule);
+            self.put_right(schedule, count);
         }
     }
 }

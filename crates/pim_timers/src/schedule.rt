@@ -8,6 +8,9 @@ use pim_types::Timer;
 
 /// What knows when each timer expires (ms), for a queue of these timestamps.
 pub trait Schedule {
+    /// What counts the look-ups; `()` where they aren't counted.
+    type Count;
+
     /// When each timer expires, if it runs.
     ghost end_of: { Self → TimerValue → Option ℕ };
 
@@ -15,7 +18,7 @@ pub trait Schedule {
     ghost most: { Self → ℕ };
 
     /// When the timer expires, in ms, if it runs.
-    fn end_of(&self, timer: Timer) -> Option<u64>
+    fn end_of(&self, timer: Timer, count: &mut Self::Count) -> Option<u64>
         ensures { result ≡ end_of self.now timer };
 
     /// By how much the number of entries is greater than that of the timers that may run.
@@ -23,7 +26,7 @@ pub trait Schedule {
         ensures { result ≡ entries - most self.now };
 
     /// Puts all timers that run into a queue that has room for them.
-    fn arm_all(&self, queue: &mut Queue)
+    fn arm_all(&self, queue: &mut Queue, count: &mut Self::Count)
         requires { most self.now ≤ queue.old.room }
         ensures armed { AreArmed (end_of self.now) (holds queue.new) }
         ensures few { length queue.new.dues ≤ most self.now + length queue.old.dues };

@@ -64,7 +64,7 @@ fn settle(queue: &mut Queue, moments: &Moments, timer: Timer)
     ensures { IsSettled (map.get moments.now) (map.len moments.now) queue.new }
 {
     let is_own = is_of(queue.first(), timer);
-    queue.settle(moments, !is_own);
+    queue.settle(moments, !is_own, &mut ());
 }
 
 impl Timers for Wheel {

@@ -18,7 +18,6 @@ const MOST_PRUNED: usize = 160;
 fn is_pruned(world: &World, meter: &mut Meter, star: &StarSight, source: Addr) -> bool
     requires { IsStarSight world.now star.now }
     ensures pruned { result ≡ is_pruned_with_star world.now star.now.group.bits source.bits }
-    ensures at_least { raised meter.old (source_nodes world.now star.now.group source) ≤ meter.new }
 {
     let sight = SourceSight::of(world, *star, source, meter);
     sight.is_pruned_with_star()
@@ -34,7 +33,6 @@ pub(crate) fn pruned_with_star(
     requires { IsStarSight world.now star.now }
     ensures pruned { IfOk result (λ pruned. pruned.items ≡ pruned_with_star world.now star.now.group.bits) }
     ensures most { IfOk result (λ pruned. length pruned.items ≤ 160) }
-    ensures at_least { OnOk result (raised meter.old (pruned_nodes world.now star.now.group) ≤ meter.new) }
 {
     let sources = world.sources(alloc, star.group, meter)?;
     let mut pruned = Vec::new(alloc);

@@ -17,7 +17,6 @@ use std::alloc::AllocError;
 #[tactic(auto, unfolding(pim_model::specs::Firing::fired, pim_model::specs::Upstream::join_timer_due))]
 fn join_again(world: &World, turn: &mut Turn, meter: &mut Meter, key: Key) -> Result<(), AllocError>
     ensures messages { OnOk result (turn.new ≡ saying turn.old (fired world.now TimerKind.Join key).1) }
-    ensures at_least { OnOk result (raised meter.old (join_again_nodes world.now key.group key.source) ≤ meter.new) }
 {
     let star = StarSight::of(world, key.group, meter);
     match key.source {
@@ -45,7 +44,6 @@ pub fn fired(
 ) -> Result<(), AllocError>
     ensures state { OnOk result (world.new ≡ (fired world.old TimerKind.Join key).0) }
     ensures messages { OnOk result (turn.new ≡ saying turn.old (fired world.old TimerKind.Join key).1) }
-    ensures at_least { OnOk result (raised meter.old (join_again_nodes world.old key.group key.source) ≤ meter.new) }
 {
     join_again(world, turn, meter, key)?;
     let end = world.periodic_end();

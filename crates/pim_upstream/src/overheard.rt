@@ -26,7 +26,6 @@ use std::collections::BTreeSet;
 // Whether RPF'(*,G) is the neighbour.
 fn is_star_towards(world: &World, meter: &mut Meter, hop: Hop, group: Addr) -> bool
     ensures towards { result ≡ is_star_towards world.now hop group.bits }
-    ensures at_least { raised meter.old (star_nodes world.now group) ≤ meter.new }
 {
     let star = StarSight::of(world, group, meter);
     is_same_hop(star.rpf_neighbour(), Some(hop))
@@ -65,7 +64,6 @@ fn hear_join(
 ) -> Result<(), AllocError>
     ensures heard { OnOk result (moves.new.items
         ≡ moves.old.items ++ heard_of_join world.now hop end key.group key.source key.rpt) }
-    ensures at_least { OnOk result (raised meter.old (sight_nodes world.now key.group key.source) ≤ meter.new) }
 {
     let group = key.group;
     match (key.source, key.rpt) {
@@ -104,7 +102,6 @@ fn hear_joins(
 ) -> Result<(), AllocError>
     ensures heard { OnOk result (moves.new.items
         ≡ moves.old.items ++ heard_in_joins world.now hop end is_star keys.now) }
-    ensures at_least { OnOk result (raised meter.old (joined_keys_nodes world.now is_star keys.now) ≤ meter.new) }
 {
     for key in keys {
         if key.source.is_none() == is_star {
@@ -128,7 +125,6 @@ fn hear_source(
     requires { IsStarSight world.now star.now }
     ensures heard { OnOk result (moves.new.items
         ≡ moves.old.items ++ heard_of_source world.now hop end star.now.group source) }
-    ensures at_least { OnOk result (raised meter.old (source_nodes world.now star.now.group source) ≤ meter.new) }
 {
     let sight = SourceSight::of(world, *star, source, meter);
     let is_heard = is_source_towards(world, &sight, hop);
@@ -153,8 +149,6 @@ fn hear_timer(
     requires { IsStarSight world.now star.now }
     ensures heard { OnOk result (moves.new.items
         ≡ moves.old.items ++ heard_of_timer world.now hop end star.now.group key) }
-    ensures at_least { OnOk result
-        (raised meter.old (option_map_or (source_nodes world.now star.now.group) key.source 0) ≤ meter.new) }
 {
     match key.source {
         Some(source) => hear_source(world, meter, star, hop, end, source, moves),
@@ -174,7 +168,6 @@ fn hear_timers(
 ) -> Result<(), AllocError>
     ensures heard { OnOk result (moves.new.items
         ≡ moves.old.items ++ heard_of_timers world.now hop end group (timers_of world.now group.bits)) }
-    ensures at_least { OnOk result (raised meter.old (timers_nodes world.now group) ≤ meter.new) }
 {
     let star = StarSight::of(world, group, meter);
     for (key, _) in world.store().join_timers_of(group, meter) {
@@ -195,7 +188,6 @@ fn hear_prune(
 ) -> Result<(), AllocError>
     ensures heard { OnOk result (moves.new.items
         ≡ moves.old.items ++ heard_of_prune world.now hop end key.group key.source) }
-    ensures at_least { OnOk result (raised meter.old (pruned_key_nodes world.now key.group key.source) ≤ meter.new) }
 {
     let group = key.group;
     match key.source {
@@ -236,7 +228,6 @@ fn hear_prunes(
     ensures heard { OnOk result (after_moves world.now moves.new.items
         ≡ after_moves world.now (moves.old.items ++ heard_in_prunes world.now hop end keys.now)) }
     ensures silent { turn.new ≡ turn.old }
-    ensures at_least { OnOk result (raised meter.old (pruned_keys_nodes world.now [] keys.now) ≤ meter.new) }
 {
     let mut heard = BTreeSet::new(turn.alloc);
     for key in keys {
@@ -281,7 +272,6 @@ pub fn seen(
     requires pruned { named.now.pruned.items ≡ pruned_keys iface.number message.now }
     ensures state { OnOk result (world.new ≡ seen world.old turn.old.draw iface.number message.now) }
     ensures silent { turn.new ≡ turn.old }
-    ensures at_least { OnOk result (raised meter.old (overheard_nodes world.old iface.number message.now) ≤ meter.new) }
 {
     let hop = Hop {
         iface,

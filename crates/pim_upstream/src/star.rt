@@ -40,7 +40,6 @@ pub(crate) fn join(
     requires { IsStarSight world.now star.now }
     ensures messages { OnOk result (turn.new ≡ saying turn.old
         (join_star_to world.now rp upstream star.now.group.bits)) }
-    ensures at_least { OnOk result (raised meter.old (join_star_nodes world.now star.now.group rp upstream) ≤ meter.new) }
 {
     match (rp, upstream) {
         (Some(rp), Some(_)) => {
@@ -89,7 +88,6 @@ fn stay(
         ≡ (star_stays world.now turn.old.draw star.now.group.bits old new).timer) }
     ensures messages { OnOk result (turn.new ≡ saying turn.old
         (star_stays world.now turn.old.draw star.now.group.bits old new).messages) }
-    ensures at_least { OnOk result (raised meter.old (star_stays_nodes world.now star.now.group old new) ≤ meter.new) }
 {
     if !is_same_hop(old.upstream, new.upstream) {
         if is_due_to_assert(old.iface, new.iface, old.next_hop, new.next_hop) {
@@ -138,7 +136,6 @@ pub(crate) fn tell(
         ≡ (star_told world.now turn.old.draw star.now.group.bits old new).timer) }
     ensures messages { OnOk result (turn.new ≡ saying turn.old
         (star_told world.now turn.old.draw star.now.group.bits old new).messages) }
-    ensures at_least { OnOk result (raised meter.old (star_told_nodes world.now star.now.group old new) ≤ meter.new) }
 {
     match (old.is_desired, new.is_desired) {
         (false, false) => Ok(Change::Keep),

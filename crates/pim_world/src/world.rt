@@ -19,6 +19,7 @@ use pim_membership::Membership;
 use pim_mrib::Mrib;
 use pim_neighbours::Neighbours;
 use pim_store::Store;
+use pim_trie::Meter;
 use pim_types::fact::InterfaceRow;
 use pim_types::{Addr, Config, Fault, IfaceId, Refusal, Settings};
 use std::alloc::{AllocError, Global};
@@ -92,7 +93,11 @@ impl World {
     /// The state at the opening with a configuration: timestamp 0, all interfaces down. A configuration is refused for
     /// the first test that fails.
     #[tactic(auto, unfolding(pim_model::specs::State::opening))]
-    pub fn new(alloc: Global, config: &Config) -> Result<Result<World, Refusal>, Fault>
+    pub fn new(
+        alloc: Global,
+        config: &Config,
+        meter: &mut Meter,
+    ) -> Result<Result<World, Refusal>, Fault>
         ensures accepted { IfOk result (λ made. IfOk made (λ world.
             (config_test config.now ≡ Ok tt) × (world ≡ opening config.now))) }
         ensures refused { IfOk result (λ made. IfErr made (λ refusal. config_test config.now ≡ Err refusal)) }
@@ -104,12 +109,15 @@ impl World {
         let interfaces = Interfaces::new(alloc, config.interfaces.as_slice());
         let mut mrib = Mrib::new(alloc);
         if mrib
-            .replace(&interfaces, config.routes.as_slice())?
+            .replace(&interfaces, config.routes.as_slice(), meter)?
             .is_err()
         {
             return Ok(Err(Refusal::ConfiguredRoutes));
         }
-        if mrib.replace_rps(config.rps.as_slice())?.is_err() {
+        if mrib
+            .replace_rps(config.rps.as_slice(), meter)?
+            .is_err()
+        {
             return Ok(Err(Refusal::ConfiguredRps));
         }
         let world = World::without_facts(alloc, settings_of(config), interfaces, mrib)?;

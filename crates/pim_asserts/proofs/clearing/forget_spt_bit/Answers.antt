@@ -24,10 +24,3 @@ returns-clause-state c =
     (stored_on_ok s c.set_source.result _ _ (λ (f : PimTables). record f {
       sources = set_row f.sources key c.then_some-left.result;
     }) c.store_mut.ensures.value c.set_source.ensures.set)
-
-pub returns-clause-at_least : goal.returns-clause-at_least
-unfolding is_kept_alive
-returns-clause-at_least c =
-    rw (c.requires, ← c.is_some.ensures)
-    (kept_or_gone c.set_source.result _ _ _ c.is_some.result _ c.then_some-left.result c.then_some-left.ensures
-    (rw c.store_mut.ensures.value at c.set_source.ensures.gone) c.set_source.ensures.rises)

@@ -28,17 +28,3 @@ returns-clause-messages c =
     c.action_of-action.result c.stance_of-stance.ensures.stance
     (c.assert_at.ensures ∙ ap (λ (f : PimTables). row_at f.asserts c.args.key) c.store.ensures) c.action_of-action.ensures)
     c.carry_out.ensures.messages
-
-pub returns-clause-at_least : goal.returns-clause-at_least
-unfolding machine_nodes
-returns-clause-at_least c =
-    let s = c.args.world.now in
-    let k = c.args.key in
-    on_ok_weaker c.carry_out.result
-    (λ e. two_in_turn _ _ _ _ _ c.stance_of-stance.ensures.at_least
-    (subst (λ (a : Action). raised c.stance_of-stance.new.meter
-    (action_nodes s k c.args.theirs a) ≤ c.carry_out.new.meter)
-    (acts_so s k c.args.theirs c.stance_of-stance.result c.assert_at.result c.action_of-action.result
-    c.stance_of-stance.ensures.stance
-    (c.assert_at.ensures ∙ ap (λ (f : PimTables). row_at f.asserts k) c.store.ensures) c.action_of-action.ensures) e))
-    c.carry_out.ensures.at_least

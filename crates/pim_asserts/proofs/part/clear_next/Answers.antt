@@ -31,13 +31,6 @@ returns-in_default-clause-messages c =
     (sym (nothing_next c.args.part.group.bits (source_bits c.args.part.source) c.args.part.was s
     c.recall_keyed.ensures c.recall_keyed.ensures.asserts_rise (sym c.in_default.ensures.first)))
 
-pub returns-in_default-clause-at_least : goal.returns-in_default-clause-at_least
-returns-in_default-clause-at_least c =
-    two_in_turn _ _ _ _ _ c.first_to_go.ensures.at_least
-    (none_asked _ _ _ _
-    (ap is_some (nothing_next c.args.part.group.bits (source_bits c.args.part.source) c.args.part.was c.args.world.now
-    c.recall_keyed.ensures c.recall_keyed.ensures.asserts_rise (sym c.in_default.ensures.first))) refl)
-
 pub forget-requires : goal.forget-requires
 forget-requires c =
     (forgets c.args.part.group.bits (source_bits c.args.part.source) c.args.part.was c.args.world.now c.recall_keyed.ensures
@@ -61,7 +54,3 @@ returns-clause-messages c =
     ∙ ap (saying c.args.turn.now)
     (forgets c.args.part.group.bits (source_bits c.args.part.source) c.args.part.was c.args.world.now c.recall_keyed.ensures
     c.recall_keyed.ensures.asserts_rise c.in-Some.iface.number (sym c.in-Some.ensures.first)).messages
-
-pub returns-clause-at_least : goal.returns-clause-at_least
-returns-clause-at_least c =
-    two_in_turn _ _ _ _ _ c.first_to_go.ensures.at_least (whether_or_not _ _ _ _ c.in_ok-forget.ensures.at_least)

@@ -67,8 +67,3 @@ returns-clause-messages c =
     ∙ said_nothing c.loop.turn
     ∙ (stands_last s (clear_part was g source s) (clear_part was g source c.args.world.now) c.loop.turn c.args.turn.now
     (no_turn was g source s none) c.loop.invariant.stands).1
-
-pub returns-clause-at_least : goal.returns-clause-at_least
-returns-clause-at_least c =
-    turns_last c.args.part.was c.args.part.group c.args.part.source c.loop.world _ _ _ _
-    (sym c.in_ok-clear_next.ensures.more ∙ c.if-branch.false) c.in_ok-clear_next.ensures.at_least c.loop.invariant.turning

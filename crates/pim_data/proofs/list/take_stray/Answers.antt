@@ -28,17 +28,3 @@ returns-clause-messages c =
     let is = stray_is c.args.world.now c.args.sight.now.star.group.bits c.args.sight.now.source.bits c.args.iface.number
     c.is_on_list.result c.args.sight.now.spt c.requires.sight.spt (c.is_on_list.ensures c.args.world.now c.requires.sight) in
     rw (is, c.if-not-is_on_list.false) c.data_seen.ensures.messages
-
-pub returns-then-not-is_on_list-clause-at_least : goal.returns-then-not-is_on_list-clause-at_least
-returns-then-not-is_on_list-clause-at_least c =
-    none_stray c.args.world.now c.args.sight.now.star.group.bits c.args.sight.now.source.bits c.args.iface.number _ _
-    c.is_on_list.result c.args.sight.now.spt c.requires.sight.spt (c.is_on_list.ensures c.args.world.now c.requires.sight)
-    c.if-not-is_on_list.true refl
-
-pub returns-clause-at_least : goal.returns-clause-at_least
-returns-clause-at_least c =
-    on_ok_weaker c.data_seen.result
-    (one_stray c.args.world.now c.args.sight.now.star.group.bits c.args.sight.now.source.bits c.args.iface.number _ _
-    c.is_on_list.result c.args.sight.now.spt c.requires.sight.spt
-    (c.is_on_list.ensures c.args.world.now c.requires.sight) c.if-not-is_on_list.false)
-    c.data_seen.ensures.at_least

@@ -31,9 +31,3 @@ loop-change-preserved c =
           (visited_where_set change.row (row_at l.world.downstream change.key) _ _ _
           (rw c.store_mut.ensures.value at set.new) (rw c.store_mut.ensures.value at set.gone) set.rises);
     }
-
-pub returns-clause-at_least : goal.returns-clause-at_least
-unfolding rows_set_nodes
-returns-clause-at_least c =
-    all_in_turn row_set row_set_nodes _ _ _ c.loop-change.change-index c.args.changes.now c.loop-change.world
-    c.loop-change.invariant.visited c.loop-change-test.false

@@ -20,19 +20,11 @@ returns-clause-state c =
     let later = c.set_rows.new.world in
     let losses_ended : List Key → State = λ ks. record later { asserts = asserts_after_joins later ks } in
     taken c.args.world.now c.args.iface.number c.args.holdtime named.joined.items named.pruned.items
-    c.args.changes.now later _ c.requires.changes c.in_ok-set_rows.ensures.set
+    c.args.changes.now later _ c.requires.changes c.in_ok-set_rows.ensures
     (stored later _ _ (λ (f : PimTables). record f {
       asserts = filter (λ e. not (is_loser (Some e.1) && is_named c.deref.result.now e.0)) f.asserts;
-    }) c.store_mut.ensures.value c.end_losses.ensures.ended
+    }) c.store_mut.ensures.value c.end_losses.ensures
     ∙ ap losses_ended c.deref.ensures.value)
-
-pub returns-clause-at_least : goal.returns-clause-at_least
-unfolding to_me_nodes
-returns-clause-at_least c =
-    then_rises _ _ _ _
-    (subst (λ (changes : List Change). raised c.args.meter.now (rows_set_nodes c.args.world.now changes) ≤ c.set_rows.new.meter)
-    c.requires.changes c.in_ok-set_rows.ensures.at_least)
-    c.end_losses.ensures.rises
 
 pub set_rows-requires-clause-on : goal.set_rows-requires-clause-on
 set_rows-requires-clause-on c =

@@ -16,7 +16,7 @@ loop-join-preserved-in-Continue-1 c =
           entry_pushed (is_counted s) c.args.iface.number c.args.group.now.group
           l.keys.items c.push.new.self.items _ join l.join-iterator c.next.new.self
           c.group-address.result.bits c.key_by.result c.in-Some.ensures.steps c.group-address.ensures
-          (sym c.is_counted.ensures.counted ∙ c.if-is_counted.true) c.key_by.ensures c.in_ok-push.ensures.items
+          (sym c.is_counted.ensures ∙ c.if-is_counted.true) c.key_by.ensures c.in_ok-push.ensures.items
           l.invariant.keys;
       visited =
           next_gathered (λ e. counted_nodes s (c.args.group.now.group, e)) _ _ _ join c.args.group.now.joins l.join-iterator
@@ -34,7 +34,7 @@ loop-join-preserved c =
       keys =
           entry_passed (is_counted s) c.args.iface.number c.args.group.now.group
           l.keys.items _ join l.join-iterator c.next.new.self c.group-address.result.bits
-          c.in-Some.ensures.steps c.group-address.ensures (sym c.is_counted.ensures.counted ∙ c.if-is_counted.false)
+          c.in-Some.ensures.steps c.group-address.ensures (sym c.is_counted.ensures ∙ c.if-is_counted.false)
           l.invariant.keys;
       visited =
           next_gathered (λ e. counted_nodes s (c.args.group.now.group, e)) _ _ _ join c.args.group.now.joins l.join-iterator
@@ -48,8 +48,3 @@ returns-clause-keys c =
     let l = c.loop-join in
     entries_made (is_counted c.args.world.now) c.args.iface.number c.args.group.now.group l.keys.items _
     l.join-iterator c.in-None.ensures.steps.0 l.invariant.keys
-
-pub returns-clause-at_least : goal.returns-clause-at_least
-returns-clause-at_least c =
-    all_gathered (λ e. counted_nodes c.args.world.now (c.args.group.now.group, e)) _ _ c.args.group.now.joins
-    c.loop-join.join-iterator c.loop-join.invariant.visited c.in-None.ensures.steps.0

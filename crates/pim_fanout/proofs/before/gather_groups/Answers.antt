@@ -35,13 +35,3 @@ returns-clause-before c =
           ∙ ap (λ es. gathered (map group_in (concerned_keys s touched)) (numbers_of es)) c.new-groups.ensures.empty);
       each = c.in_ok-groups.ensures.each;
     })
-
-pub returns-clause-at_least : goal.returns-clause-at_least
-unfolding opening_nodes gathered groups_of ascending
-returns-clause-at_least c =
-    let s = c.args.world.now in
-    subst (λ (ns : List ℕ).
-    raised c.args.meter.now (sum_by (group_opening_nodes s c.args.touched.now) ns) ≤ c.open_groups.new.meter)
-    (c.in_ok-gather_touched.ensures
-    ∙ ap (λ es. gathered (map group_in (concerned_keys s c.args.touched.now)) (numbers_of es)) c.new-groups.ensures.empty)
-    c.in_ok-groups.ensures.at_least

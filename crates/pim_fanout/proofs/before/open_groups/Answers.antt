@@ -23,9 +23,3 @@ loop-group-preserved c =
           (numbers_of c.args.groups.now.entries) (numbers_of c.loop-group.group-iterator) (numbers_of c.next.new.self) c.loop-group.invariant.visited
           (ap (λ es. numbers_of es) c.in-Some.ensures.steps) c.in_ok-open_group.ensures.at_least;
     }
-
-pub returns-clause-at_least : goal.returns-clause-at_least
-returns-clause-at_least c =
-    all_gathered (group_opening_nodes c.args.world.now c.args.touched.now) _ _ (numbers_of c.args.groups.now.entries)
-    (numbers_of c.loop-group.group-iterator) c.loop-group.invariant.visited
-    (ap (λ es. numbers_of es) c.in-None.ensures.steps.0)

@@ -23,9 +23,3 @@ loop-source-preserved c =
           (numbers_of c.args.sources.now.entries) (numbers_of c.loop-source.source-iterator) (numbers_of c.next.new.self) c.loop-source.invariant.visited
           (ap (λ es. numbers_of es) c.in-Some.ensures.steps) c.in_ok-open_source.ensures.at_least;
     }
-
-pub returns-clause-at_least : goal.returns-clause-at_least
-returns-clause-at_least c =
-    all_gathered (source_opening_nodes c.args.world.now c.args.star.now.group.bits) _ _ (numbers_of c.args.sources.now.entries)
-    (numbers_of c.loop-source.source-iterator) c.loop-source.invariant.visited
-    (ap (λ es. numbers_of es) c.in-None.ensures.steps.0)

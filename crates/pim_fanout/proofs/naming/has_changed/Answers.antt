@@ -11,8 +11,3 @@ pub returns-clause-group : goal.returns-clause-group
 returns-clause-group c =
     next_as c.args.world.now (last_group c.args.last.now) _ c.name.result (known_name c.args.known.now) c.name.ensures
     c.compared.ensures.group
-
-pub returns-clause-at_least : goal.returns-clause-at_least
-returns-clause-at_least c =
-    counted_as c.args.world.now (last_group c.args.last.now) _ _ c.name.result (known_name c.args.known.now) c.name.ensures
-    c.compared.ensures.at_least

@@ -11,6 +11,3 @@ returns-in-Unknown-clause-changed c o =
     let name = c.in-Unknown.name in
     subst (λ b. IsSourceBefore o b → c.has_fact.result ≡ is_changed o a (key_before b)) (sym c.in-Unknown.is)
     (λ none. c.has_fact.ensures ∙ sym (new_is_changed o a name.group.bits name.source.bits none))
-
-pub returns-in-Unknown-clause-at_least : goal.returns-in-Unknown-clause-at_least
-returns-in-Unknown-clause-at_least c = rw c.in-Unknown.is (none_visited _ _ refl)

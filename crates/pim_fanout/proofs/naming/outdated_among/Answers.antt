@@ -20,9 +20,3 @@ loop-source-preserved c =
           ∙ ap (λ x. x ∷ drop (i + 1) sources) (sym c.source-item.is)) c.is_outdated.ensures.group
           c.is_outdated.ensures.at_least;
     }
-
-pub returns-clause-at_least : goal.returns-clause-at_least
-returns-clause-at_least c =
-    let s = c.args.world.now in
-    none_in_turn (next_asked s) (asked_nodes s) _ _ _ (drop c.loop-source.source-index c.args.sources.now) _
-    c.loop-source.invariant.visited (drop_all c.loop-source.source-index c.args.sources.now c.loop-source-test.false)

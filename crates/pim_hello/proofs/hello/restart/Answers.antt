@@ -19,21 +19,16 @@ returns-clause-state c =
     c.in_ok-replace_neighbour.ensures
     ∙ ap (λ (x : State). neighbour_replaced x c.args.iface.number c.args.from.bits c.args.hello.now)
     c.in_ok-trigger.ensures in
-    c.in_ok-lower_timers.ensures.lowered
+    c.in_ok-lower_timers.ensures
     ∙ restarted s c.args.iface.number c.args.from.bits w c.args.hello.now c.replace_neighbour.new.self
     _ (c.present.result + c.override_delay.result) c.deref-2.result.now c.deref.result.now is
     c.recall_keyed.ensures.asserts_rise (c.deref.ensures.value ∙ c.in_ok-lost.ensures)
     (stored c.replace_neighbour.new.self _ _ (λ (f : PimTables). record f {
       asserts = filter (λ e. not (is_loser (Some e.1) && is_named c.deref.result.now e.0)) f.asserts;
-    }) c.store_mut.ensures.value c.end_losses.ensures.ended)
+    }) c.store_mut.ensures.value c.end_losses.ensures)
     (ap (λ n. n + c.override_delay.result) c.present.ensures.present
     ∙ ap (λ (n : ℕ). c.replace_neighbour.new.self.present + n) c.override_delay.ensures.delay)
     (c.deref-2.ensures.value ∙ c.in_ok-towards.ensures.keys)
     ∙ ap (λ (d : ℕ). neighbour_restarted s c.args.iface.number c.args.from.bits d
     (replaced s c.args.iface.number c.args.from.bits d c.args.hello.now))
     (ap (λ (t : Taking). t.draw) c.turn.view_is)
-
-pub returns-clause-at_least : goal.returns-clause-at_least
-returns-clause-at_least c =
-    then_rises _ _ _ _ (then_rises _ _ _ _ c.in_ok-towards.ensures.at_least c.end_losses.ensures.rises)
-    c.in_ok-lower_timers.ensures.rises

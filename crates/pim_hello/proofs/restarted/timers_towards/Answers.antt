@@ -40,8 +40,3 @@ pub returns-clause-keys : goal.returns-clause-keys
 returns-clause-keys c =
     all_found (λ e. is_towards c.args.world.now c.args.neighbour e.0) _ c.loop-key.keys.items c.loop-key.key-iterator
     c.in-None.ensures.steps.0 c.loop-key.invariant.keys
-
-pub returns-clause-at_least : goal.returns-clause-at_least
-returns-clause-at_least c =
-    all_gathered (timer_sight_nodes c.args.world.now) _ _ c.args.world.now.join_timers c.loop-key.key-iterator
-    c.loop-key.invariant.visited c.in-None.ensures.steps.0

@@ -12,8 +12,3 @@ loop-group-preserved c = record {
       (numbers_of c.loop-group.group-iterator) (numbers_of c.next.new.self) c.loop-group.invariant.visited
       (ap (λ es. numbers_of es) c.in-Some.ensures.steps) c.in_ok-put_group.ensures.at_least;
 }
-
-pub returns-clause-at_least : goal.returns-clause-at_least
-returns-clause-at_least c =
-    all_gathered (led_nodes c.args.world.now c.args.neighbour.iface.number c.args.neighbour.address.bits) _ _ (numbers_of c.args.groups.now.entries) (numbers_of c.loop-group.group-iterator)
-    c.loop-group.invariant.visited (ap (λ es. numbers_of es) c.in-None.ensures.steps.0)

@@ -15,22 +15,11 @@ returns-then-is_group_led-clause-keys c =
     ∙ ap (λ (k : Key). c.args.keys.now.items ++ k ∷ []) c.group.ensures
     ∙ ap (λ (ks : List Key). c.args.keys.now.items ++ ks)
     (all_led c.args.world.now n.iface.number n.address.bits c.args.group.bits c.is_group_led.result
-    c.is_group_led.ensures.led c.if-is_group_led.true)
+    c.is_group_led.ensures c.if-is_group_led.true)
 
 pub returns-clause-keys : goal.returns-clause-keys
 returns-clause-keys c =
     let n = c.args.neighbour in
     subst (λ (ks : List Key). OnOk c.put_sources.result (c.put_sources.new.keys.items ≡ c.args.keys.now.items ++ ks))
     (some_led c.args.world.now n.iface.number n.address.bits c.args.group.bits c.is_group_led.result
-    c.is_group_led.ensures.led c.if-is_group_led.false _ c.in_ok-sources.ensures.sources) c.put_sources.ensures.keys
-
-pub returns-clause-at_least : goal.returns-clause-at_least
-returns-clause-at_least c =
-    let f = source_path_nodes c.args.world.now in
-    on_ok_weaker c.put_sources.result
-    (λ e. two_in_turn _ _ _ _ _ c.is_group_led.ensures.at_least
-    (one_asked _ _ _ _ (ap not (sym c.is_group_led.ensures.led ∙ c.if-is_group_led.false))
-    (two_in_turn _ _ _ _ _ c.in_ok-sources.ensures.at_least
-    (subst (λ (ns : List ℕ). raised c.sources.new.meter (sum_by f ns) ≤ c.put_sources.new.meter)
-    c.in_ok-sources.ensures.sources e))))
-    c.put_sources.ensures.at_least
+    c.is_group_led.ensures c.if-is_group_led.false _ c.in_ok-sources.ensures) c.put_sources.ensures

@@ -20,8 +20,3 @@ loop-source-preserved c = record {
       (numbers_of c.loop-source.source-iterator) (numbers_of c.next.new.self) c.loop-source.invariant.visited
       (ap (λ es. numbers_of es) c.in-Some.ensures.steps) c.is_source_led.ensures.at_least;
 }
-
-pub returns-clause-at_least : goal.returns-clause-at_least
-returns-clause-at_least c =
-    all_gathered (source_path_nodes c.args.world.now) _ _ (numbers_of c.args.sources.now.entries) (numbers_of c.loop-source.source-iterator)
-    c.loop-source.invariant.visited (ap (λ es. numbers_of es) c.in-None.ensures.steps.0)

@@ -12,6 +12,3 @@ returns-clause-shows c =
     shown_of_all _ _ (local_receiver_include s g c.args.name.source.bits) (λ i. c.receivers_include.ensures.interfaces i
     ∙ ap (λ (w : MembershipTables). local_receiver_include_among w.group_records w.source_records g c.args.name.source.bits i) c.membership.ensures)
     c.without_tunnel.ensures.limit
-
-pub returns-clause-at_least : goal.returns-clause-at_least
-returns-clause-at_least c = rw c.membership.ensures at c.receivers_include.ensures.at_least

@@ -12,6 +12,3 @@ returns-clause-shows c =
     shown_of_all _ _ (is_exclude s g) (λ i. c.receivers_star.ensures.interfaces i
     ∙ ap (λ (w : MembershipTables). is_exclude_among w.group_records g i) c.membership.ensures)
     c.without_tunnel.ensures.limit
-
-pub returns-clause-at_least : goal.returns-clause-at_least
-returns-clause-at_least c = rw c.membership.ensures at c.receivers_star.ensures.at_least

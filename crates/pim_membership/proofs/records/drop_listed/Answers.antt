@@ -7,4 +7,4 @@ use Rattle.pim_membership.proofs.records.drop_listed.Goals as goal
 pub returns-clause-unlisted : goal.returns-clause-unlisted
 returns-clause-unlisted g c =
     subst (λ (k : Key). Lists c.args.index.now c.unlist.new.self k None) (key_again c.args.key c.requires)
-    c.unlist.ensures.listed
+    c.unlist.ensures

@@ -9,12 +9,3 @@ pub returns-clause-sources : goal.returns-clause-sources
 returns-clause-sources c =
     none_of_part c.args.group.bits c.args.world.now c.args.keys.now _
     (sym c.is_whole.ensures ∙ c.if-is_whole.false) (ap (λ es. numbers_of es) c.new.ensures.empty)
-
-pub returns-clause-at_least : goal.returns-clause-at_least
-unfolding is_whole
-returns-clause-at_least c = none_asked _ _ _ _ (sym c.is_whole.ensures ∙ c.if-is_whole.false) refl
-
-pub returns-then-is_whole-clause-at_least : goal.returns-then-is_whole-clause-at_least
-unfolding is_whole
-returns-then-is_whole-clause-at_least c =
-    one_asked_on_ok c.sources.result _ _ _ _ (sym c.is_whole.ensures ∙ c.if-is_whole.true) c.sources.ensures.at_least

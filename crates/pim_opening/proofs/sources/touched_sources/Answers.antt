@@ -26,11 +26,3 @@ returns-in_ok-gather_named-in-Keys-clause-sources c =
     ∙ ap (λ (ks : List Key). gathered (sources_among g ks) (numbers_of c.in_ok-found-in-Keys.found.entries))
     c.as_slice-in-Keys.ensures)
     ∙ ap (λ (t : Touched). touched_sources s t g) (sym c.in-Keys.is)
-
-pub returns-in_ok-found-in-All-clause-at_least : goal.returns-in_ok-found-in-All-clause-at_least
-unfolding is_whole
-returns-in_ok-found-in-All-clause-at_least c = rw c.in-All.is c.in_ok-found-in-All.ensures.at_least
-
-pub returns-in_ok-gather_named-in-Keys-clause-at_least : goal.returns-in_ok-gather_named-in-Keys-clause-at_least
-returns-in_ok-gather_named-in-Keys-clause-at_least c = rw c.in-Keys.is
-    (rw c.as_slice.ensures at c.in_ok-found-in-Keys.ensures.at_least)

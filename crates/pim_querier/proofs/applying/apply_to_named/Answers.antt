@@ -14,7 +14,7 @@ returns-clause-state c =
     (rw c.membership-2.ensures at c.recall_keyed_source_records.ensures)
     (rw (rw c.membership-3.ensures at c.source_records_at.ensures.rows) at c.source_records_at.ensures.rising)
     c.in_ok-known.ensures.timer c.in_ok-known.ensures.ascending c.in_ok-known.ensures.fates c.apply.new.self
-    c.write_beside.new.world c.requires.keeps c.in_ok-apply.ensures.record_after c.in_ok-write_beside.ensures.beside
+    c.write_beside.new.world c.requires.keeps c.in_ok-apply.ensures.record_after c.in_ok-write_beside.ensures
 
 pub returns-clause-asked : goal.returns-clause-asked
 returns-clause-asked c = λ asks.
@@ -25,13 +25,3 @@ returns-clause-asked c = λ asks.
     (rw (rw c.membership-3.ensures at c.source_records_at.ensures.rows) at c.source_records_at.ensures.rising)
     c.in_ok-known.ensures.timer c.in_ok-known.ensures.ascending c.in_ok-known.ensures.fates c.apply.new.asked asks
     c.in_ok-apply.ensures.asked_after
-
-pub returns-clause-at_least : goal.returns-clause-at_least
-returns-clause-at_least c =
-    let i = c.args.seen.place.iface.number in
-    let g = c.args.seen.place.group.bits in
-    subst (λ (r : GroupRecord). raised c.args.meter.now (write_beside_nodes i g c.args.world.now r) ≤ c.write_beside.new.meter)
-    (c.in_ok-apply.ensures.record_after
-    ∙ ap (λ (r : GroupRecord). (apply_record c.args.seen.full r c.args.seen.record_type (bits_of c.args.sources.now)).0)
-    c.in_ok-known.ensures.named)
-    c.in_ok-write_beside.ensures.at_least

@@ -9,12 +9,4 @@ returns-clause-dropped c =
     source_dropped c.args.place.iface.number c.args.place.group.bits c.args.source.bits c.args.world.now _ c.drop_empty.new.world
     c.has_sources-is_none.result
     (ap (with_membership c.args.world.now) (rw c.membership_mut.ensures.value at c.remove_source_record.ensures.removed))
-    c.has_sources-is_none.ensures c.drop_empty.ensures.dropped
-
-pub returns-clause-at_least : goal.returns-clause-at_least
-returns-clause-at_least c =
-    source_dropped_visited c.args.place.iface.number c.args.place.group.bits c.args.source.bits c.args.world.now _
-    (not c.has_sources-is_none.result) _ _ _
-    (ap (with_membership c.args.world.now) (rw c.membership_mut.ensures.value at c.remove_source_record.ensures.removed))
-    (ap not c.has_sources-is_none.ensures)
-    (rw c.membership_mut.ensures.value at c.remove_source_record.ensures.visited).at_least c.drop_empty.ensures.at_least
+    c.has_sources-is_none.ensures c.drop_empty.ensures

@@ -13,24 +13,11 @@ returns-then-is_some-clause-ended c =
     ∙ end_excludes c.args.place.iface.number c.args.place.group.bits c.args.source.bits c.args.world.now
     (rw c.membership.ensures at c.recall_rising_source_records.ensures) (rw c.membership-2.ensures at c.recall_keyed_source_records.ensures)
     (ap (λ o. is_some o) (sym c.group_end.ensures) ∙ sym c.is_some.ensures ∙ c.if-is_some.true))
-    c.exclude_source.ensures.excluded
+    c.exclude_source.ensures
 
 pub returns-clause-ended : goal.returns-clause-ended
 returns-clause-ended c =
-    ap (λ t. with_repeats_of_rows t c.args.place.iface.number c.args.place.group.bits) c.drop_source.ensures.dropped
+    ap (λ t. with_repeats_of_rows t c.args.place.iface.number c.args.place.group.bits) c.drop_source.ensures
     ∙ end_includes c.args.place.iface.number c.args.place.group.bits c.args.source.bits c.args.world.now
     (rw c.membership.ensures at c.recall_rising_source_records.ensures) (rw c.membership-2.ensures at c.recall_keyed_source_records.ensures)
     (ap (λ o. is_some o) (sym c.group_end.ensures) ∙ sym c.is_some.ensures ∙ c.if-is_some.false)
-
-pub returns-then-is_some-clause-at_least : goal.returns-then-is_some-clause-at_least
-unfolding source_record_due_nodes
-returns-then-is_some-clause-at_least c =
-    then_ok c.exclude_source.result
-    (at_true _ _ _ _ _ (ap (λ o. is_some o) (sym c.group_end.ensures) ∙ sym c.is_some.ensures ∙ c.if-is_some.true))
-    c.exclude_source.ensures.at_least
-
-pub returns-clause-at_least : goal.returns-clause-at_least
-unfolding source_record_due_nodes
-returns-clause-at_least c =
-    at_false _ _ _ _ _ (ap (λ o. is_some o) (sym c.group_end.ensures) ∙ sym c.is_some.ensures ∙ c.if-is_some.false)
-    c.drop_source.ensures.at_least

@@ -34,11 +34,3 @@ loop-member-preserved c =
           next_member i g _ _ _ _ k member none members l.world _ l.invariant.visited c.loop-member-test.true refl moved
           (source_listed l.world c.args.place.group _ _ _ member.source (rw c.membership_mut.ensures.value at set.visited));
     }
-
-pub returns-clause-at_least : goal.returns-clause-at_least
-unfolding members_nodes
-returns-clause-at_least c =
-    none_in_turn (with_member c.args.place.iface.number c.args.place.group.bits) (member_nodes c.args.place.iface.number c.args.place.group.bits)
-    _ _ _ (member_entries (drop c.loop-member.member-index c.args.members.now)) c.loop-member.world
-    c.loop-member.invariant.visited
-    (ap (λ ms. member_entries ms) (drop_all c.loop-member.member-index c.args.members.now c.loop-member-test.false))

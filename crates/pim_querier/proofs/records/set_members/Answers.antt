@@ -15,17 +15,7 @@ returns-clause-set c =
     then_ok c.drop_repeats.result
     (members_set c.args.place.iface.number c.args.place.group.bits c.args.world.now c.drop_empty.new.world _ c.put_members.new.world
     c.drop_repeats.new.world c.args.known.now c.is_no_record.result c.members.result.now c.members.ensures.members
-    c.is_no_record.ensures c.drop_empty.ensures.dropped
-    (ap (with_membership c.drop_empty.new.world) (rw c.membership_mut.ensures.value at c.drop_source_records.ensures.dropped))
-    c.in_ok-put_members.ensures.put)
+    c.is_no_record.ensures c.drop_empty.ensures
+    (ap (with_membership c.drop_empty.new.world) (rw c.membership_mut.ensures.value at c.drop_source_records.ensures))
+    c.in_ok-put_members.ensures)
     c.drop_repeats.ensures
-
-pub returns-clause-at_least : goal.returns-clause-at_least
-returns-clause-at_least c =
-    on_ok c.drop_repeats.result
-    (members_set_visited c.args.place.iface.number c.args.place.group.bits c.args.world.now c.drop_empty.new.world _ c.args.known.now
-    c.is_no_record.result c.members.result.now _ _ _ _ c.members.ensures.members c.is_no_record.ensures
-    c.drop_empty.ensures.dropped
-    (ap (with_membership c.drop_empty.new.world) (rw c.membership_mut.ensures.value at c.drop_source_records.ensures.dropped))
-    c.drop_empty.ensures.at_least (rw c.membership_mut.ensures.value at c.drop_source_records.ensures.at_least)
-    c.in_ok-put_members.ensures.at_least)

@@ -3,7 +3,4 @@ use Rattle.pim_querier.proofs.Starting.{on_ok, then_ok}
 use Rattle.pim_querier.proofs.records.source_record_due.Goals as goal
 
 pub returns-clause-state : goal.returns-clause-state
-returns-clause-state c = then_ok c.drop_repeats.result (λ e. e ∙ c.in_ok-end_source.ensures.ended) c.drop_repeats.ensures
-
-pub returns-clause-at_least : goal.returns-clause-at_least
-returns-clause-at_least c = on_ok c.drop_repeats.result c.in_ok-end_source.ensures.at_least
+returns-clause-state c = then_ok c.drop_repeats.result (λ e. e ∙ c.in_ok-end_source.ensures) c.drop_repeats.ensures

@@ -66,10 +66,3 @@ returns-clause-messages c =
     (filter (λ r. not (is_skipped r)) c.args.report.now) c.loop-group_record.world c.loop-group_record.turn
     (filter (λ r. not (is_skipped r)) c.loop-group_record.group_record-iterator)
     (ap (λ rs. filter (λ r. not (is_skipped r)) rs) c.in-None.ensures.steps.0) c.loop-group_record.invariant.seen).1
-
-pub returns-clause-at_least : goal.returns-clause-at_least
-unfolding report_seen_nodes
-returns-clause-at_least c =
-    none_in_turn (λ s r. (record_seen c.args.iface.number s r).0) (record_seen_nodes c.args.iface.number) _ _ _
-    (filter (λ r. not (is_skipped r)) c.loop-group_record.group_record-iterator) c.loop-group_record.world
-    c.loop-group_record.invariant.visited (ap (λ rs. filter (λ r. not (is_skipped r)) rs) c.in-None.ensures.steps.0)

@@ -15,10 +15,10 @@ loop-opened-preserved c =
     let left = next_item groups i c.opened-item.result c.loop-opened-test.true c.opened-item.is in
     record {
       state =
-          next_group c.opened-item.result _ _ _ _ left c.in_ok-settle_group.ensures.state ∙ c.loop-opened.invariant.state;
+          next_group c.opened-item.result _ _ _ _ left c.in_ok-settle_group.ensures ∙ c.loop-opened.invariant.state;
       visited =
           next_in_turn group_settled settled_group_nodes _ _ _ _ c.opened-item.result (drop i groups) (drop (i + 1) groups) _ _
-          c.loop-opened.invariant.visited left c.in_ok-settle_group.ensures.state c.in_ok-settle_group.ensures.at_least;
+          c.loop-opened.invariant.visited left c.in_ok-settle_group.ensures c.in_ok-settle_group.ensures.at_least;
     }
 
 pub returns-clause-state : goal.returns-clause-state
@@ -30,13 +30,3 @@ returns-clause-state c =
     (sym (drop_all c.loop-opened.opened-index groups c.loop-opened-test.false))
     ∙ c.loop-opened.invariant.state
     ∙ ap (λ (xs : List GroupOpening). registers_by xs c.args.world.now) c.groups-opened-items.ensures
-
-pub returns-clause-at_least : goal.returns-clause-at_least
-unfolding settled_nodes
-returns-clause-at_least c =
-    let groups = c.groups-opened-items.result.now in
-    subst (λ (xs : List GroupOpening).
-    raised c.args.meter.now (nodes_in_turn group_settled settled_group_nodes c.args.world.now xs) ≤ c.loop-opened.meter)
-    c.groups-opened-items.ensures
-    (all_in_turn group_settled settled_group_nodes _ _ _ c.loop-opened.opened-index groups _ c.loop-opened.invariant.visited
-    c.loop-opened-test.false)

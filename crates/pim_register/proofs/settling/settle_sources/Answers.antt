@@ -15,10 +15,10 @@ loop-opened-preserved c =
       state =
           next_source star.group.bits opened _ _ _ _
           (drop_more c.args.sources.now c.loop-opened.opened-index no_source c.loop-opened-test.true)
-          c.in_ok-settle_source.ensures.state
+          c.in_ok-settle_source.ensures
           ∙ c.loop-opened.invariant.state;
       sight =
-          subst (λ s. IsStarSight s star) (sym c.in_ok-settle_source.ensures.state)
+          subst (λ s. IsStarSight s star) (sym c.in_ok-settle_source.ensures)
           (star_stays c.loop-opened.world (source_key 0 star.group.bits opened.source.bits) star
           c.loop-opened.invariant.sight);
       visited =
@@ -26,11 +26,5 @@ loop-opened-preserved c =
           (drop c.loop-opened.opened-index c.args.sources.now) (drop (c.loop-opened.opened-index + 1) c.args.sources.now) _ _
           c.loop-opened.invariant.visited
           (drop_more c.args.sources.now c.loop-opened.opened-index no_source c.loop-opened-test.true)
-          c.in_ok-settle_source.ensures.state c.in_ok-settle_source.ensures.at_least;
+          c.in_ok-settle_source.ensures c.in_ok-settle_source.ensures.at_least;
     }
-
-pub returns-clause-at_least : goal.returns-clause-at_least
-returns-clause-at_least c =
-    let group = c.args.star.now.group in
-    all_in_turn (source_settled group) (settled_source_nodes group) _ _ _ c.loop-opened.opened-index c.args.sources.now _
-    c.loop-opened.invariant.visited c.loop-opened-test.false

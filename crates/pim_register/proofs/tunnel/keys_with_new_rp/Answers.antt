@@ -38,8 +38,3 @@ pub returns-clause-keys : goal.returns-clause-keys
 returns-clause-keys c =
     all_found (λ e. is_rp_changed c.args.world.now c.args.next.now.ranges e.0) _ c.loop-key.keys.items
     c.loop-key.key-iterator c.in-None.ensures.steps.0 c.loop-key.invariant.kept
-
-pub returns-clause-at_least : goal.returns-clause-at_least
-returns-clause-at_least c =
-    all_gathered (register_rps_nodes c.args.world.now c.args.next.now.ranges) _ _ c.args.world.now.registers c.loop-key.key-iterator
-    c.loop-key.invariant.visited c.in-None.ensures.steps.0

@@ -9,8 +9,4 @@ returns-clause-state c =
     same_on_ok c.join_all.result c.join_all.new.world _ _
     (ranges_taken c.args.world.now c.take_ranges.new.self c.args.next.ranges c.deref.result.now c.take_ranges.ensures
     (c.deref.ensures.value ∙ c.in_ok-keys.ensures.keys))
-    c.join_all.ensures.state
-
-pub returns-clause-at_least : goal.returns-clause-at_least
-returns-clause-at_least c =
-    on_ok_weaker c.join_all.result (then_rises _ _ _ _ c.in_ok-keys.ensures.at_least) c.join_all.ensures.rises
+    c.join_all.ensures

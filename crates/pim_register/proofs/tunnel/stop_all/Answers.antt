@@ -13,12 +13,12 @@ pub loop-key-preserved : goal.loop-key-preserved
 loop-key-preserved c =
     let keys = c.args.keys.now in
     let i = c.loop-key.key-index in
-    let registers = ap (λ (s : State). s.registers) c.in_ok-stop.ensures.state in record {
+    let registers = ap (λ (s : State). s.registers) c.in_ok-stop.ensures in record {
       registers = ap (λ (t : Table RegisterRow). all_changed (stopping c.args.end) t (drop (i + 1) keys)) registers
           ∙ one_more_changed (stopping c.args.end) keys i (star_key 0 0) c.loop-key.world.registers c.loop-key-test.true
           ∙ c.loop-key.invariant.registers;
       rest = kept c.args.world.now c.loop-key.world c.stop.new.world _ c.loop-key.invariant.rest
-          c.in_ok-stop.ensures.state;
+          c.in_ok-stop.ensures;
       rises = omega (arith, c.loop-key.invariant.rises, c.in_ok-stop.ensures.rises);
     }
 

@@ -44,7 +44,7 @@ loop-source-preserved-then-is_pruned c =
     record {
       pruned = ap (λ es. es ++ first (room - 1) left) c.in_ok-push.ensures.items
           ∙ taken (entry EntryKind.SourceRpt) (is_pruned_with_star a g) (room - 1) ns left c.in-Some.source.now.bits
-          (ap numbers_of c.in-Some.ensures.steps) (sym c.if-is_pruned.ensures.pruned) found
+          (ap numbers_of c.in-Some.ensures.steps) (sym c.if-is_pruned.ensures) found
           ∙ ap (λ r. found ++ first r ns) one
           ∙ c.loop-source.invariant.pruned;
       counted = omega (
@@ -56,7 +56,7 @@ loop-source-preserved-then-is_pruned c =
       );
       visited = subst (λ (r : ℕ). raised c.args.meter.now (pruned_nodes a c.args.star.now.group)
           ≤ raised c.is_pruned.new.meter (looked_at_nodes a c.args.star.now.group left r))
-          (ap (λ (b : Bool). if b then room - 1 else room) (sym c.if-is_pruned.ensures.pruned))
+          (ap (λ (b : Bool). if b then room - 1 else room) (sym c.if-is_pruned.ensures))
           (next_looked_at a c.args.star.now.group _ _ _ _ c.in-Some.source.now.bits ns left room (room - 1)
           (ap numbers_of c.in-Some.ensures.steps) one c.loop-source.invariant.visited c.is_pruned.ensures.at_least);
     }
@@ -72,22 +72,12 @@ loop-source-preserved c =
     record {
       pruned = ap (λ es. c.loop-source.pruned.items ++ es)
           (passed_over (entry EntryKind.SourceRpt) (is_pruned_with_star a g) room ns left c.in-Some.source.now.bits
-          (ap numbers_of c.in-Some.ensures.steps) (sym c.if-is_pruned.ensures.pruned))
+          (ap numbers_of c.in-Some.ensures.steps) (sym c.if-is_pruned.ensures))
           ∙ c.loop-source.invariant.pruned;
       counted = c.loop-source.invariant.counted;
       visited = subst (λ (r : ℕ). raised c.args.meter.now (pruned_nodes a c.args.star.now.group)
           ≤ raised c.is_pruned.new.meter (looked_at_nodes a c.args.star.now.group left r))
-          (ap (λ (b : Bool). if b then room - 1 else room) (sym c.if-is_pruned.ensures.pruned))
+          (ap (λ (b : Bool). if b then room - 1 else room) (sym c.if-is_pruned.ensures))
           (next_looked_at a c.args.star.now.group _ _ _ _ c.in-Some.source.now.bits ns left room (room - 1)
           (ap numbers_of c.in-Some.ensures.steps) one c.loop-source.invariant.visited c.is_pruned.ensures.at_least);
     }
-
-pub returns-then-room-eq0-clause-at_least : goal.returns-then-room-eq0-clause-at_least
-returns-then-room-eq0-clause-at_least c =
-    looked_at_while_room c.args.world.now c.args.star.now.group _ _ _ (numbers_of c.loop-source.source-iterator)
-    c.loop-source.room c.loop-source.invariant.visited c.if-room-eq0.true
-
-pub returns-clause-at_least : goal.returns-clause-at_least
-returns-clause-at_least c =
-    all_looked_at c.args.world.now c.args.star.now.group _ _ _ (numbers_of c.loop-source.source-iterator) c.loop-source.room
-    c.loop-source.invariant.visited (ap numbers_of c.in-None.ensures.steps.0)

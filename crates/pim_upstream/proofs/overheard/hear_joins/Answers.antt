@@ -38,7 +38,7 @@ loop-key-preserved c =
           record {
             heard = next_in_joins s c.args.hop c.args.end star keys n none k c.loop-key-test.true refl _ before _
                 c.loop-key.invariant.heard
-                (ap (λ m. m.items) w.moves-is ∙ w.in_ok-hear_join.ensures.heard ∙ ap heard (sym asked));
+                (ap (λ m. m.items) w.moves-is ∙ w.in_ok-hear_join.ensures ∙ ap heard (sym asked));
             visited = next_made (joined_key_nodes s star) keys n _ _ _ none c.loop-key-test.true c.loop-key.invariant.visited
                 (one_asked _ _ _ _ asked
                 (subst (λ m. raised c.loop-key.meter (sight_nodes s k.group k.source) ≤ m) (sym w.meter-is)
@@ -55,9 +55,3 @@ loop-key-preserved c =
                 (none_asked _ _ _ _ other w.meter-is);
           }
     ]
-
-pub returns-clause-at_least : goal.returns-clause-at_least
-unfolding joined_keys_nodes
-returns-clause-at_least c =
-    subst (λ ks. raised c.args.meter.now (sum_by (joined_key_nodes c.args.world.now c.args.is_star) ks) ≤ c.loop-key.meter)
-    (take_all c.loop-key.key-index c.args.keys.now c.loop-key-test.false) c.loop-key.invariant.visited

@@ -40,7 +40,7 @@ loop-key-preserved c =
             heard_first o c.args.hop c.args.end o c.args.moves.now.items keys c.loop-key.heard.keys
             c.insert.new.self.keys c.loop-key.moves.items n _ _ c.loop-key-test.true refl c.loop-key.invariant.heard
             c.in_ok-insert.ensures.updates.0 c.if-branch.moves.items
-            (ap (λ m. m.items) w.moves-is ∙ w.in_ok-hear_prune.ensures.heard);
+            (ap (λ m. m.items) w.moves-is ∙ w.in_ok-hear_prune.ensures);
         named = next_named keys c.loop-key.heard.keys c.insert.new.self.keys n _ _ c.loop-key-test.true refl
             c.in_ok-insert.ensures.updates.0 c.loop-key.invariant.named;
         visited = next_pruned o _ _ _ keys n _ _ _ c.loop-key-test.true refl c.loop-key.invariant.visited
@@ -67,7 +67,3 @@ returns-clause-heard c =
     c.loop-key.invariant.heard.same
     ∙ ap (λ keys. after_moves c.args.world.now (c.args.moves.now.items ++ heard_in_prunes c.args.world.now c.args.hop c.args.end keys))
     (take_all c.loop-key.key-index c.args.keys.now c.loop-key-test.false)
-
-pub returns-clause-at_least : goal.returns-clause-at_least
-returns-clause-at_least c =
-    all_pruned c.args.world.now _ _ _ c.args.keys.now c.loop-key.key-index c.loop-key-test.false c.loop-key.invariant.visited

@@ -26,17 +26,10 @@ loop-key-preserved c =
     let group = c.args.group in
     record {
       heard = next_heard_of s c.args.hop c.args.end group _ _ _ _ _ _ c.in-Some.ensures.steps
-          (c.in_ok-hear_timer.ensures.heard
+          (c.in_ok-hear_timer.ensures
           ∙ ap (λ (g : Addr). c.loop-key.moves.items ++ heard_of_timer s c.args.hop c.args.end g c.in-Some.key) c.of-star.ensures.group)
           ∙ c.loop-key.invariant.heard;
       visited = next_gathered (join_timer_nodes s group) _ _ _ (c.in-Some.key, c.in-Some.field-0-1) (timers_of s group.bits)
           c.loop-key.key-iterator c.next.new.self c.loop-key.invariant.visited c.in-Some.ensures.steps
           (rw c.of-star.ensures.group at c.in_ok-hear_timer.ensures.at_least);
     }
-
-pub returns-clause-at_least : goal.returns-clause-at_least
-unfolding timers_nodes
-returns-clause-at_least c =
-    two_in_turn _ _ _ _ _ (then_rises _ _ _ _ c.of-star.ensures.at_least (rises_exactly _ _ _ c.join_timers_of-key-items.ensures.visited))
-    (all_gathered (join_timer_nodes c.args.world.now c.args.group) _ _ (timers_of c.args.world.now c.args.group.bits)
-    c.loop-key.key-iterator c.loop-key.invariant.visited c.in-None.ensures.steps.0)

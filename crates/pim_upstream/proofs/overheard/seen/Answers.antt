@@ -17,15 +17,6 @@ returns-clause-state c =
     c.suppressed_end-suppressed.ensures c.overriding_end-overriding.ensures
     (c.deref.ensures.value ∙ c.requires.joined) (c.deref-2.ensures.value ∙ c.requires.joined)
     (c.deref-3.ensures.value ∙ c.requires.pruned) c.new-moves.ensures.items
-    c.in_ok-hear_joins.ensures.heard c.in_ok-hear_joins-2.ensures.heard c.in_ok-hear_prunes.ensures.heard
+    c.in_ok-hear_joins.ensures c.in_ok-hear_joins-2.ensures c.in_ok-hear_prunes.ensures.heard
     c.deref-4.ensures.value)
-    c.move_timers.ensures.moved
-
-pub returns-clause-at_least : goal.returns-clause-at_least
-returns-clause-at_least c =
-    on_ok_weaker c.move_timers.result
-    (λ rises. all_seen c.args.world.now c.args.iface.number c.args.message.now _ _ _ _ _ _ _ _
-    (c.deref.ensures.value ∙ c.requires.joined) (c.deref-2.ensures.value ∙ c.requires.joined)
-    (c.deref-3.ensures.value ∙ c.requires.pruned) c.in_ok-hear_joins.ensures.at_least
-    c.in_ok-hear_joins-2.ensures.at_least c.in_ok-hear_prunes.ensures.at_least rises)
-    c.move_timers.ensures.rises
+    c.move_timers.ensures

@@ -35,7 +35,7 @@ returns-clause-state c =
     ∙ ap (λ (u : State). (source_step a w g u o).0) moved
     ∙ ap (λ (z : Addr). (both a w z.bits x.star o a).0) c.requires.group
     ∙ sym (ap (λ (p : State × List Message). p.0) (told_alone a w x o c.requires.alone)))
-    c.move_timers.ensures.moved
+    c.move_timers.ensures
 
 pub returns-clause-messages : goal.returns-clause-messages
 unfolding after_moves
@@ -60,11 +60,4 @@ returns-clause-messages c =
     ∙ said_both t star.messages (source_step a w g first o).1
     ∙ ap (λ (z : Addr). saying t (both a w z.bits x.star o a).1) c.requires.group
     ∙ sym (ap (λ (p : State × List Message). saying t p.1) (told_alone a w x o c.requires.alone)))
-    c.move_timers.ensures.moved
-
-pub returns-clause-at_least : goal.returns-clause-at_least
-returns-clause-at_least c =
-    on_ok_weaker c.move_timers.result
-    (λ rises. alone_told c.args.world.now c.args.group.now c.args.opened _ _ _ _ _ c.requires.group
-    c.in_ok-tell_star.ensures.at_least c.in_ok-tell_source_by_sight.ensures.at_least rises)
-    c.move_timers.ensures.rises
+    c.move_timers.ensures

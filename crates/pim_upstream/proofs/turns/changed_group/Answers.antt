@@ -40,7 +40,7 @@ returns-clause-state c =
     ∙ ap (λ d. (each_in_turn (source_step a d g) (after_moves a c.tell_star.new.moves.items) (map opened_in x.sources)).0) draw
     ∙ ap (λ (u : State). (each_in_turn (source_step a w g) u (map opened_in x.sources)).0) moved
     ∙ sym (ap (λ (p : State × List Message). p.0) (group_alone a w (opening_in x))))
-    c.move_timers.ensures.moved
+    c.move_timers.ensures
 
 pub returns-clause-messages : goal.returns-clause-messages
 unfolding after_moves group_step
@@ -69,17 +69,4 @@ returns-clause-messages c =
     ∙ ap (λ (z : Taking). saying z later.1) c.in_ok-tell_star.ensures.messages
     ∙ said_both t star.messages later.1
     ∙ sym (ap (λ (p : State × List Message). saying t p.1) (group_alone a w (opening_in x))))
-    c.move_timers.ensures.moved
-
-pub returns-clause-at_least : goal.returns-clause-at_least
-unfolding told_seen_nodes
-returns-clause-at_least c =
-    let a = c.args.world.now in
-    let x = c.args.after.now in
-    on_ok_weaker c.move_timers.result
-    (λ rises. then_rises _ _ _ _
-    (two_in_turn _ _ _ _ _ c.in_ok-tell_star.ensures.at_least
-    (subst (λ (xs : List SourceAfter). raised c.tell_star.new.meter (sum_by (seen_told_nodes a x.star.group) xs)
-    ≤ c.tell_sources_by_sights.new.meter) c.as_slice-sources.ensures c.in_ok-tell_sources_by_sights.ensures.at_least))
-    rises)
-    c.move_timers.ensures.rises
+    c.move_timers.ensures

@@ -42,8 +42,3 @@ returns-clause-messages c =
     (stands_last (λ w. group_step c.args.world.now w) c.args.turn.now c.args.groups.now
     (λ s. after_moves s c.args.moves.now.items) c.loop-before.turn (λ s. after_moves s c.loop-before.moves.items)
     c.args.groups.now c.loop-before.before-index c.loop-before-test.false c.loop-before.invariant.stands).1
-
-pub returns-clause-at_least : goal.returns-clause-at_least
-returns-clause-at_least c =
-    subst (λ xs. raised c.args.meter.now (sum_by (group_told_nodes c.args.world.now) xs) ≤ c.loop-before.meter)
-    (take_all c.loop-before.before-index c.args.groups.now c.loop-before-test.false) c.loop-before.invariant.visited

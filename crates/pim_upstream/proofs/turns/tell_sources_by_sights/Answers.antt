@@ -85,9 +85,3 @@ returns-clause-messages c s =
     c.args.sources.now c.loop-after.after-index c.loop-after-test.false c.loop-after.invariant.stands).1 s
     ∙ ap (λ (p : State × List Message). saying c.args.turn.now p.1)
     (each_opened (source_step a w g) c.args.sources.now (after_moves s c.args.moves.now.items))
-
-pub returns-clause-at_least : goal.returns-clause-at_least
-returns-clause-at_least c =
-    subst (λ xs. raised c.args.meter.now (sum_by (seen_told_nodes c.args.world.now c.args.star.now.group) xs)
-    ≤ c.loop-after.meter)
-    (take_all c.loop-after.after-index c.args.sources.now c.loop-after-test.false) c.loop-after.invariant.visited

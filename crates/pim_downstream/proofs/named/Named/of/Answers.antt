@@ -11,7 +11,7 @@ loop-group-preserved c =
       joined =
           group_added (is_counted c.args.world.now) (λ g. g.joins) c.args.iface.number
           l.joined.items c.push_joined.new.keys.items _ c.in-Some.group l.group-iterator c.next.new.self
-          c.in-Some.ensures.steps c.in_ok-push_joined.ensures.keys l.invariant.joined;
+          c.in-Some.ensures.steps c.in_ok-push_joined.ensures l.invariant.joined;
       pruned =
           group_added is_used (λ g. g.prunes) c.args.iface.number
           l.pruned.items c.push_pruned.new.keys.items _ c.in-Some.group l.group-iterator c.next.new.self
@@ -34,9 +34,3 @@ returns-clause-pruned c =
     let l = c.loop-group in
     groups_made is_used (λ g. g.prunes) c.args.iface.number l.pruned.items _ l.group-iterator
     c.in-None.ensures.steps.0 l.invariant.pruned
-
-pub returns-clause-at_least : goal.returns-clause-at_least
-unfolding message_named_nodes
-returns-clause-at_least c =
-    all_gathered (joins_nodes c.args.world.now) _ _ c.args.message.now.groups c.loop-group.group-iterator
-    c.loop-group.invariant.visited c.in-None.ensures.steps.0

@@ -13,7 +13,3 @@ returns-in_ok-gathered-in-Some-clause-before c = record {
       ∙ sym (sources_alone c.args.world.now c.args.touched.now c.in-Some.name c.in-Some.ensures);
   each = c.in_ok-gathered-in-Some.ensures.each;
 }
-
-pub returns-in_ok-gathered-in-Some-clause-at_least : goal.returns-in_ok-gathered-in-Some-clause-at_least
-returns-in_ok-gathered-in-Some-clause-at_least c =
-    nodes_alone c.args.world.now c.args.touched.now c.in-Some.name c.in-Some.ensures _ _ c.in_ok-gathered-in-Some.ensures.at_least

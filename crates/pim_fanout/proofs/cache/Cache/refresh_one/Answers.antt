@@ -34,18 +34,6 @@ returns-clause-few c =
     (one_put (c.self.inside.mfc).changes c.self.inside.evaluated _
     (sym c.has_fact.ensures ∙ c.if-not-has_fact.false))
 
-pub returns-then-not-has_fact-clause-at_least : goal.returns-then-not-has_fact-clause-at_least
-returns-then-not-has_fact-clause-at_least c =
-    none_asked _ _ _ _ (sym c.has_fact.ensures ∙ c.if-not-has_fact.true) refl
-
-pub returns-clause-at_least : goal.returns-clause-at_least
-returns-clause-at_least c =
-    one_asked _ _ _ _ (sym c.has_fact.ensures ∙ c.if-not-has_fact.false) c.row-made.ensures.at_least
-
-pub returns-in_err-put-clause-at_least : goal.returns-in_err-put-clause-at_least
-returns-in_err-put-clause-at_least c =
-    one_asked _ _ _ _ (sym c.has_fact.ensures ∙ c.if-not-has_fact.false) c.row-made.ensures.at_least
-
 pub invariant_of-self : goal.invariant_of-self
 unfolding without_source_row
 invariant_of-self c = λ none.

@@ -47,11 +47,6 @@ loop-name-preserved c =
           c.in_ok-refresh_one.ensures.at_least;
     }
 
-pub returns-clause-at_least : goal.returns-clause-at_least
-returns-clause-at_least c =
-    subst (λ ns. raised c.args.meter.now (sum_by (named_nodes c.args.world.now) ns) ≤ c.loop-name.meter)
-    (take_all c.loop-name.name-index c.args.names.now c.loop-name-test.false) c.loop-name.invariant.visited
-
 pub returns-clause-few : goal.returns-clause-few
 returns-clause-few c =
     subst (λ ns. touches c.loop-name.self ≡ raised (touches c.args.self.now) (touches_in c.args.world.now (keys_of ns)))

@@ -49,8 +49,8 @@ returns-clause-sight c =
           (λ i. marks.won i ∙ ap (λ t. is_winner (row_at t (source_key i g src))) asserts)
           c.without_tunnel-4.ensures.limit;
       beaten = c.beaten.ensures;
-      included = c.included.ensures.shows;
-      excluded = c.excluded.ensures.shows;
+      included = c.included.ensures;
+      excluded = c.excluded.ensures;
       spt = grind (arith, common_steps);
       is_kept_alive = grind (arith, common_steps);
       tunnel = grind (arith, common_steps);
@@ -59,11 +59,3 @@ returns-clause-sight c =
       is_spt_wanted = search rules;
       short = rw (sym c.route-path.ensures.value) at (c.recall_short_preferences.ensures.source src);
     }
-
-pub returns-clause-at_least : goal.returns-clause-at_least
-unfolding source_nodes
-returns-clause-at_least c =
-    let marked = at_least_as _ _ _ _ c.marks-marks.ensures.visited
-    (ap (λ (f : PimTables). nodes_visited (stored_keys f) c.args.star.group (Some c.args.source)) c.store.ensures) in
-    four_in_turn _ _ _ _ _ _ _ _ _ (at_least_itself _ _ _ c.route-path.ensures.visited) marked
-    c.included.ensures.at_least c.excluded.ensures.at_least

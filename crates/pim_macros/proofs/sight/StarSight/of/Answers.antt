@@ -37,20 +37,12 @@ returns-clause-sight c =
           (λ i. marks.lost i ∙ ap (λ t. is_loser (row_at t (star_key i g))) asserts) c.without_tunnel-2.ensures.limit;
       won = shown_of_all _ _ (λ i. is_winner (assert_star s g i))
           (λ i. marks.won i ∙ ap (λ t. is_winner (row_at t (star_key i g))) asserts) c.without_tunnel-3.ensures.limit;
-      receivers = c.receivers.ensures.shows;
+      receivers = c.receivers.ensures;
       dr = c.dr.ensures;
       configured = λ i.
           c.below.ensures.interfaces i ∙ ap (nat_lt i) count ∙ below_limit i (iface_count s) few;
       bare = c.below.ensures.tunnel;
       few = few;
-      is_own_rp = c.is_own.ensures ∙ ap (λ o. option_map_or (is_own s) o false) c.rp-rp.ensures.value;
+      is_own_rp = c.is_own.ensures ∙ ap (λ o. option_map_or (is_own s) o false) c.rp-rp.ensures;
       short = rw (sym c.rp_route-rp_path.ensures.value) at (c.recall_short_preferences.ensures.group g);
     }
-
-pub returns-clause-at_least : goal.returns-clause-at_least
-unfolding star_nodes
-returns-clause-at_least c =
-    let routed = at_least_as _ _ _ _ c.rp_route-rp_path.ensures.visited (ap (path_nodes c.args.world.now) c.rp-rp.ensures.value) in
-    let marked = at_least_as _ _ _ _ c.marks-marks.ensures.visited
-    (ap (λ (f : PimTables). nodes_visited (stored_keys f) c.args.group None) c.store.ensures) in
-    four_in_turn _ _ _ _ _ _ _ _ _ (at_least_itself _ _ _ c.rp-rp.ensures.visited) routed marked c.receivers.ensures.at_least

@@ -11,12 +11,8 @@ pub invariant_of-self : goal.invariant_of-self
 invariant_of-self c = (
   subst AreRobust (sym c.drop_on.ensures)
       (robust_dropped (is_on c.args.iface.number) c.self.inside.queriers c.self.invariant.0),
-  subst (λ r. HaveRecords c.self.inside.unrecorded r c.drop_on-6.new.self) (sym c.drop_on-3.ensures.dropped)
+  subst (λ r. HaveRecords c.self.inside.unrecorded r c.drop_on-6.new.self) (sym c.drop_on-3.ensures)
       (subst (HaveRecords c.self.inside.unrecorded _) (sym c.drop_on-6.ensures)
       (both_dropped (is_on c.args.iface.number) c.self.inside.unrecorded c.self.inside.source_records c.self.inside.sendings
       c.self.invariant.1)),
 )
-
-pub returns-clause-at_least : goal.returns-clause-at_least
-returns-clause-at_least c = rw (← c.self.view_is)
-    (raised_in_turn _ _ _ _ _ c.drop_on-2.ensures.at_least c.drop_on-3.ensures.at_least)

@@ -7,7 +7,7 @@ use Rattle.pim_membership.proofs.membership.Membership.drop_source_records.Goals
 pub invariant_of-self : goal.invariant_of-self
 invariant_of-self c = (
   c.self.invariant.0,
-  subst (λ t. HaveRecords c.with_group-self-inside.result t c.self.inside.sendings) (sym c.drop_group.ensures.dropped)
+  subst (λ t. HaveRecords c.with_group-self-inside.result t c.self.inside.sendings) (sym c.drop_group.ensures)
       (records_gone c.self.inside.unrecorded _ c.self.inside.source_records c.self.inside.sendings c.self.invariant.1
       (is_at_group c.args.iface.number c.args.group.bits) c.with_group-self-inside.ensures),
 )

@@ -11,7 +11,3 @@ returns-clause-interfaces c = rw (← c.self.view_is) (λ i.
     ∙ (λ j. group_runs c.self.inside.group_records c.self.inside.source_records c.args.name.group.bits c.args.name.source.bits i
     && (c.listed-sources.ensures.there i j && not (c.listed-sources.ensures.running i j)))
     ∙ excluded_is c.self.inside.group_records c.self.inside.source_records c.args.name.group.bits c.args.name.source.bits i)
-
-pub returns-clause-at_least : goal.returns-clause-at_least
-returns-clause-at_least c = rw (← c.self.view_is)
-    (raised_in_turn _ _ _ _ _ c.listed-groups.ensures.at_least c.listed-sources.ensures.at_least)

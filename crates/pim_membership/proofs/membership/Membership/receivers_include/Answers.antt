@@ -13,7 +13,3 @@ returns-clause-interfaces c = rw (← c.self.view_is) (λ i.
     ∙ (λ j. (c.listed-groups.ensures.there i j && not (c.listed-groups.ensures.running i j))
     && has_row c.self.inside.source_records (source_key i c.args.name.group.bits c.args.name.source.bits))
     ∙ included_is c.self.inside.group_records c.self.inside.source_records c.args.name.group.bits c.args.name.source.bits i)
-
-pub returns-clause-at_least : goal.returns-clause-at_least
-returns-clause-at_least c = rw (← c.self.view_is)
-    (raised_in_turn _ _ _ _ _ c.listed-groups.ensures.at_least c.listed-sources.ensures.at_least)

@@ -36,9 +36,3 @@ pub returns-clause-dropped : goal.returns-clause-dropped
 returns-clause-dropped g c =
     sym (none_goes (is_at_group c.args.iface.number c.args.group.bits) c.loop-key.self (sym c.in_default.ensures.first))
     ∙ c.loop-key.invariant.0
-
-pub returns-clause-at_least : goal.returns-clause-at_least
-returns-clause-at_least g c =
-    subst (λ n. raised c.args.meter.now (nodes_to_each c.args.self.now (keys_in (filter (λ e. is_at_group c.args.iface.number c.args.group.bits e.0) c.args.self.now))) ≤ n)
-    (none_of_each (is_at_group c.args.iface.number c.args.group.bits) c.loop-key.self c.loop-key.meter (sym c.in_default.ensures.first))
-    c.loop-key.invariant.1

@@ -38,10 +38,3 @@ unfolding rows_on
 returns-clause-dropped g c =
     sym (none_goes (is_on c.args.iface.number) c.loop-key.self (sym c.in_default.ensures.first))
     ∙ c.loop-key.invariant.0
-
-pub returns-clause-at_least : goal.returns-clause-at_least
-unfolding rows_on
-returns-clause-at_least g c =
-    subst (λ n. raised c.args.meter.now (nodes_to_each c.args.self.now (keys_in (rows_on c.args.iface.number c.args.self.now))) ≤ n)
-    (none_of_each (is_on c.args.iface.number) c.loop-key.self c.loop-key.meter (sym c.in_default.ensures.first))
-    c.loop-key.invariant.1

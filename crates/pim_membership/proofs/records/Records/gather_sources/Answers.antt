@@ -68,9 +68,3 @@ loop-key-preserved-in_default g c = (
         (c.in-Some.key, c.in-Some.field-0-1.now) c.in-Some.ensures.steps c.loop-key.meter c.in_default.is,
   ),
 )
-
-pub returns-clause-at_least : goal.returns-clause-at_least
-returns-clause-at_least g c =
-    subst (λ n. raised c.args.meter.now (nodes_to_sources (keys_in c.args.self.now) c.args.group) ≤ n)
-    (all_passed (keys_in c.args.self.now) c.args.group c.loop-key.key-iterator c.loop-key.meter c.in-None.ensures.steps.0)
-    c.loop-key.invariant.1

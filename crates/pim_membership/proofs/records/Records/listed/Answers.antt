@@ -20,11 +20,6 @@ returns-clause-running g c = rw (← c.self.view_is) (λ i.
     ∙ c.self.invariant.told Running i c.args.group.bits (option_map address_bits c.args.source)
     ∙ running_told g.R.Record.runs (row_at c.self.inside.rows (record_key i c.args.group c.args.source)))
 
-pub returns-clause-at_least : goal.returns-clause-at_least
-returns-clause-at_least g c = rw (← c.self.view_is)
-    (records_visited g.R.Record.runs g.R.Record.of_sources c.self.inside.index c.self.inside.rows c.self.invariant
-    c.args.group c.args.source _ _ c.get.ensures.visited)
-
 pub returns-clause-at_most : goal.returns-clause-at_most
 returns-clause-at_most g c =
     raised_at_most _ _ _ 66 c.get.ensures.visited

@@ -9,7 +9,7 @@ pub invariant_of-self : goal.invariant_of-self
 invariant_of-self g c =
     listed_dropped g.R.Record.runs g.R.Record.of_sources _ c.self.inside.rows c.self.invariant
     (record_key c.args.iface.number c.args.group c.args.source) _ _
-    (c.remove.ensures ∙ ap (drop_at c.self.inside.rows) c.record_key.ensures) c.unlist.ensures.listed
+    (c.remove.ensures ∙ ap (drop_at c.self.inside.rows) c.record_key.ensures) c.unlist.ensures
 
 pub returns-clause-visited : goal.returns-clause-visited
 returns-clause-visited g c = rw (← c.self.view_is)

@@ -12,9 +12,6 @@ returns-then-is_some-clause-ok g c =
     marks_set g.R.TellsMarks.tells g.R.TellsMarks.says c.args.key (Some c.args.row) _ _ _ _ c.get-marks.ensures.marks
     c.marked.ensures.marks _ c.keep.ensures.ok
 
-pub returns-then-is_some-clause-rises : goal.returns-then-is_some-clause-rises
-returns-then-is_some-clause-rises g c = raised_rises _ _ _ c.get-marks.ensures.visited
-
 pub returns-then-set_plain-clause-ok : goal.returns-then-set_plain-clause-ok
 returns-then-set_plain-clause-ok g c =
     plain_set g.R.TellsMarks.tells g.R.TellsMarks.says c.args.key _ _ c.args.key.iface.number c.told-first.ensures.near
@@ -22,9 +19,6 @@ returns-then-set_plain-clause-ok g c =
     (not_some c.told-first.result.1 _ c.is_some.ensures c.if-is_some.false)
     (sym c.is_plain.ensures ∙ c.if-not-is_plain.false) c.says.ensures
     (sym c.set_plain.ensures.there ∙ c.if-set_plain.true) c.set_plain.ensures.marks
-
-pub returns-then-set_plain-clause-rises : goal.returns-then-set_plain-clause-rises
-returns-then-set_plain-clause-rises g c = raised_rises _ _ _ c.set_plain.ensures.visited.visited
 
 pub returns-clause-ok : goal.returns-clause-ok
 returns-clause-ok g c =
@@ -36,9 +30,6 @@ returns-clause-ok g c =
     (subst
     (λ t. OnOk c.keep-2.result (Writes t c.keep-2.new.self (entry_key c.args.key.group c.args.key.source) c.marked-marks.result))
     (c.set_plain.ensures.absent c.if-set_plain.false) c.keep-2.ensures.ok)
-
-pub returns-clause-rises : goal.returns-clause-rises
-returns-clause-rises g c = raised_rises _ _ _ c.set_plain.ensures.visited.visited
 
 pub keep-requires-clause-timer : goal.keep-requires-clause-timer
 keep-requires-clause-timer g c = c.marked.ensures.timer ∙ c.get-marks.ensures.timer

@@ -35,6 +35,3 @@ returns-clause-marks g c = rw (← c.self.view_is)
     (marks_cleared g.R.TellsMarks.tells g.R.TellsMarks.says c.args.key _ _ c.args.key.iface.number
     c.told-first.ensures.near c.told-first.result c.told-first.ensures.marks c.is_empty.ensures.ascending
     c.alter.ensures.changed)
-
-pub returns-clause-rises : goal.returns-clause-rises
-returns-clause-rises g c = raised_rises _ _ _ c.alter.ensures.visited

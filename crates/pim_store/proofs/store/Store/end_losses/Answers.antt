@@ -11,7 +11,7 @@ pub loop-key-preserved : goal.loop-key-preserved
 loop-key-preserved c = record {
   ended =
       ap (λ (f : PimTables).
-      record f { asserts = staying is_loser (drop (c.loop-key.key-index + 1) c.args.keys.now) f.asserts }) c.end_loss.ensures.ended
+      record f { asserts = staying is_loser (drop (c.loop-key.key-index + 1) c.args.keys.now) f.asserts }) c.end_loss.ensures
       ∙ ap (λ (t : Table AssertRow). record c.loop-key.self { asserts = t })
       (one_further is_loser c.args.keys.now c.loop-key.key-index _ _ (c.loop-key.self).asserts _
       c.loop-key-test.true refl refl)

@@ -8,7 +8,7 @@ use Rattle.pim_store.proofs.store.Store.join_timers_of.Goals as goal
 
 pub returns-clause-timers : goal.returns-clause-timers
 returns-clause-timers c = rw (← c.self.view_is)
-    (c.among.ensures ∙ ap timers_in c.walk.ensures.entries ∙ timers_filtered (is_of_group c.args.group.bits) _)
+    (c.among.ensures ∙ ap timers_in c.walk.ensures ∙ timers_filtered (is_of_group c.args.group.bits) _)
 
 pub returns-clause-visited : goal.returns-clause-visited
 returns-clause-visited c =

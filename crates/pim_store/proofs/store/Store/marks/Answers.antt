@@ -50,9 +50,3 @@ returns-clause-tunnels c = record {
   lost = c.get.ensures.bare Lost;
   won = c.get.ensures.bare Won;
 }
-
-pub returns-clause-visited : goal.returns-clause-visited
-returns-clause-visited c =
-    rw (← c.self.view_is)
-    (raised_alike _ _ _ _ c.get.ensures.visited
-    (marks_visited _ _ c.get.ensures.entries c.self.invariant c.args.group c.args.source))

@@ -7,10 +7,4 @@ pub returns-clause-sources : goal.returns-clause-sources
 returns-clause-sources c = rw (← c.self.view_is)
     (c.among.ensures
     ∙ same_sources c.args.group.bits _ _ c.walk.ensures.all c.self.invariant c.walk.ensures.ascending _
-    c.walk.ensures.entries)
-
-pub returns-clause-visited : goal.returns-clause-visited
-returns-clause-visited c =
-    rw (← c.self.view_is)
-    (raised_alike _ _ _ _ c.walk.ensures.visited
-    (marks_visited _ _ c.walk.ensures.all c.self.invariant c.args.group None))
+    c.walk.ensures)

@@ -14,7 +14,3 @@ invariant_of-self c =
           w.neighbours c.drop_on.new.self c.drop_on.ensures c.self.invariant.3 c.with_member-self-inside.ensures),
       c.self.invariant.4,
     )
-
-pub returns-clause-rises : goal.returns-clause-rises
-returns-clause-rises c =
-    omega (arith, rises_by _ _ _ c.drop_on-2.ensures.at_least, c.drop_on-3.ensures.rises)

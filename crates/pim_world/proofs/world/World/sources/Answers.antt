@@ -12,9 +12,4 @@ unfolding membership_keys stored_keys
 returns-clause-sources c = rw (← c.self.view_is)
     (facts_in_order _ c.args.group.bits (numbers_of c.in_ok-found.found.entries) _ c.in_ok-found.ensures.sources
     (c.in_ok-gather_all.ensures
-    ∙ ap (λ ns. gathered ns (numbers_of c.in_ok-found.found.entries)) c.sources_of-2.ensures.sources))
-
-pub returns-clause-at_least : goal.returns-clause-at_least
-unfolding sources_nodes
-returns-clause-at_least c = rw (← c.self.view_is)
-    (two_in_turn _ _ _ _ _ c.in_ok-found.ensures.at_least (at_least_itself _ _ _ c.sources_of-2.ensures.visited))
+    ∙ ap (λ ns. gathered ns (numbers_of c.in_ok-found.found.entries)) c.sources_of-2.ensures))
