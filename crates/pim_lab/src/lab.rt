@@ -228,7 +228,7 @@ impl<W: Wire> Lab<W> {
         match self.net.router(place) {
             Some(router) => {
                 print_router(router, lines)?;
-                print_older(router, &station.presence, lines)
+                print_older(self.alloc, router, &station.presence, lines)
             }
             None => Ok(()),
         }
@@ -254,13 +254,16 @@ fn print_table(router: &Router, table: Table, lines: &mut Lines) -> Result<(), T
 }
 
 // Prints what the router's front knows of older hosts.
-fn print_older(router: &Router, presence: &Presence, lines: &mut Lines) -> Result<(), Trouble>
+fn print_older(
+    alloc: Global,
+    router: &Router,
+    presence: &Presence,
+    lines: &mut Lines,
+) -> Result<(), Trouble>
     ensures { IfErr result (λ t. IsFault t) }
 {
-    let present = router.present();
-    for (key, row) in presence.rows() {
-        let mode = presence.mode(&Asked { router }, key.iface, key.group);
-        lines.push(OlderLine::at(present, *key, mode, *row))?;
+    for row in presence.older_rows(alloc, &Asked { router })? {
+        lines.push(OlderLine { row })?;
     }
     Ok(())
 }

@@ -1,5 +1,5 @@
 //! The lines of printed tables.
-use igmp_older::{Mode, PresentRow};
+use igmp_older::{Mode, OlderRow};
 use pim_types::fact::AssertRole;
 use pim_types::table::{DownstreamState, RegisterName};
 use pim_types::{Addr, IfaceId, Key, Row};
@@ -65,41 +65,21 @@ impl fmt::Display for RowLine {
     }
 }
 
-/// A row of older hosts of a group on an interface.
+/// A group in an older mode.
 #[derive(Clone, Copy)]
 pub(crate) struct OlderLine {
-    key: Key,
-    mode: Mode,
-    one_end: Option<u64>,
-    two_end: Option<u64>,
-}
-
-impl OlderLine {
-    /// The row at a timestamp in ms, in the mode of its group.
-    pub(crate) fn at(moment: u64, key: Key, mode: Mode, row: PresentRow) -> OlderLine {
-        OlderLine {
-            key,
-            mode,
-            one_end: running(moment, row.one_end),
-            two_end: running(moment, row.two_end),
-        }
-    }
+    pub(crate) row: OlderRow,
 }
 
 impl fmt::Display for OlderLine {
     fn fmt<W: fmt::Write>(&self, f: &mut fmt::Formatter<W>) -> fmt::Result {
-        let iface = self.key.iface.number;
-        let group = self.key.group;
-        let mode = mode_name(self.mode);
-        let one_end = Absent(self.one_end);
-        let two_end = Absent(self.two_end);
+        let iface = self.row.iface.number;
+        let group = self.row.group;
+        let mode = mode_name(self.row.mode);
+        let one_end = Absent(self.row.one_end);
+        let two_end = Absent(self.row.two_end);
         write!(f, "O {iface} {group} {mode} {one_end} {two_end}")
     }
-}
-
-// When a timer expires, if it runs at a timestamp. Both are in ms.
-fn running(moment: u64, end: u64) -> Option<u64> {
-    if moment < end { Some(end) } else { None }
 }
 
 fn mode_name(mode: Mode) -> &'static str {
