@@ -14,6 +14,7 @@ use crate::counters::Counters;
 use crate::error::Fatal;
 use crate::kernel::Kernel;
 use crate::mroute::Key;
+use crate::older::Version;
 use crate::packed::Packing;
 use crate::packet::{is_pim, message_of, with_holdtime, Packet};
 use crate::plane::{Placed, Plane, Row, Ways};
@@ -105,6 +106,7 @@ impl Rate {
 struct Rates {
     unset: Rate,
     hearing: Rate,
+    older_queries: Rate,
 }
 
 pub struct Daemon {
@@ -121,6 +123,8 @@ pub struct Daemon {
     pub routing: Routing,
     pub neighbours: Neighbours,
     pub counters: Counters,
+    /// Which older versions were heard on which interfaces, for lines.
+    older_heard: BTreeSet<(u32, Version)>,
     /// Of BFD, with neighbours.
     sessions: BTreeMap<Place, Session>,
     due: Due,
@@ -174,6 +178,7 @@ impl Daemon {
             routing: Routing { told: Vec::new(), counts: Counts::default(), due: None, settle: machine::ROUTES_SETTLE },
             neighbours: Neighbours::default(),
             counters: Counters::default(),
+            older_heard: BTreeSet::new(),
             sessions: BTreeMap::new(),
             due: Due::default(),
             stale: Stale::default(),
@@ -182,7 +187,13 @@ impl Daemon {
             settings,
         };
         daemon.set_policy();
+        daemon.speak()?;
         Ok(daemon)
+    }
+
+    /// The library's router speaks IGMP as the settings say.
+    fn speak(&mut self) -> Result<(), Fatal> {
+        self.ports.iter().try_for_each(|port| self.core.speak(port.number, port.settings.speech))
     }
 
     /// The policy goes by the settings and the addresses.
@@ -190,6 +201,7 @@ impl Daemon {
         let gate = |port: &Port| Gate {
             name: port.settings.name.clone(),
             address: port.told_subnet().address,
+            speech: port.settings.speech,
             policy: port.settings.policy.clone(),
         };
         let gates = self.ports.iter().map(|port| (port.number, gate(port))).collect();

@@ -67,7 +67,7 @@ fn busy() -> (Daemon, Rc<Fake>) {
     (daemon, fake)
 }
 
-fn shown(daemon: &mut Daemon, line: &str) -> Vec<Value> {
+pub(super) fn shown(daemon: &mut Daemon, line: &str) -> Vec<Value> {
     let said = answer(daemon, &format!("show {line} json"));
     let mut whole: Value = serde_json::from_str(&said).unwrap_or_else(|_| panic!("{said}"));
     let name = line.split(' ').next().unwrap_or_default();
