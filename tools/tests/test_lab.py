@@ -366,7 +366,7 @@ WRONG = [
     ('camera.send("239.1.1.1", bytes(1473))', "a payload of 1473 bytes is too long: a packet takes 1472"),
     ('camera.send("239.1.1.1", b"one", ttl=256)', "256 is no TTL: it is a whole number from 0 to 255"),
     ('camera.stream("239.1.1.1", every=-1)', "-1 is no number of seconds"),
-    ('net.host("x", "west", igmp=4)', "4 is no version of IGMP: it is a whole number from 2 to 3"),
+    ('net.host("x", "west", igmp=4)', "4 is no version of IGMP: it is a whole number from 1 to 3"),
     ('net.host("x", "west", igmp=2).join("239.1.1.1", camera)', "x speaks IGMPv2, by which no source can be named"),
     ('net.links["west-hub"].lose(2)', "2 is no share of the packets that are lost: it is a number from 0 to 1"),
     ('net.links["west-hub"].lose(1, "Hello")', "'Hello' is no kind of packet: it is the class of this name"),
