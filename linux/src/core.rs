@@ -72,16 +72,21 @@ impl Core {
     }
 
     /// How an interface speaks IGMP from here on. Where it is to hear other older hosts, those are forgotten that were
-    /// heard there.
+    /// heard there. One that the router doesn't have, since it refused to be made anew, is left out.
     pub fn speak(&mut self, iface: u32, wanted: Speech) -> Result<(), Fatal> {
         let told = self.speech.entry(iface).or_insert(Speech::NEW);
+        let mut answer = Ok(());
         if told.older_hosts != wanted.older_hosts {
-            self.router.set_older_hosts(iface, wanted.older_hosts)?;
+            answer = self.router.set_older_hosts(iface, wanted.older_hosts);
         }
         if told.queries != wanted.queries {
-            self.router.set_query_version(iface, wanted.queries)?;
+            answer = answer.and_then(|()| self.router.set_query_version(iface, wanted.queries));
         }
-        *told = wanted;
+        match answer {
+            Ok(()) => *told = wanted,
+            Err(Error::Refused(Refusal::BadInterface)) => {}
+            Err(error) => return Err(Fatal::Router(error)),
+        }
         Ok(())
     }
 
