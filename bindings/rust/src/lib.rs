@@ -417,6 +417,22 @@ impl Row {
     }
 }
 
+// STANDIN
+#[repr(u32)]
+#[derive(Clone, Copy, Debug, PartialEq, Eq, Hash)]
+pub enum OlderHosts { Nobody = 0, VersionTwo = 1, All = 2 }
+#[repr(u32)]
+#[derive(Clone, Copy, Debug, PartialEq, Eq, Hash)]
+pub enum QueryVersion { Two = 2, Three = 3 }
+#[derive(Clone, Copy, Debug, PartialEq, Eq)]
+pub struct OlderRow { pub iface: u32, pub group: Ipv4Addr, pub mode: u32, pub one_end: Option<u64>, pub two_end: Option<u64> }
+impl Router {
+    pub fn set_older_hosts(&mut self, _iface: u32, _hosts: OlderHosts) -> Result<(), Error> { Ok(()) }
+    pub fn set_query_version(&mut self, _iface: u32, _version: QueryVersion) -> Result<(), Error> { Ok(()) }
+    pub fn older_rows(&mut self) -> Result<Vec<OlderRow>, Error> { Ok(Vec::new()) }
+}
+// STANDIN ENDS
+
 /// A set of interfaces.
 #[repr(C)]
 #[derive(Clone, Copy, Debug, Default, PartialEq, Eq)]
