@@ -111,12 +111,13 @@ impl Daemon {
         let name = self.name(number);
         match version {
             Version::One => warn!(
-                "{who} is the first on {name} to speak IGMPv1: no leave of its groups is heard there while it is \
-                 (older_hosts = \"v2\" doesn't hear it)"
+                "{who} is the first on {name} to speak IGMPv1: while such a host wants a group, nobody there can leave \
+                 it (older_hosts = \"v2\" doesn't hear IGMPv1)"
             ),
-            Version::Two => {
-                info!("{who} is the first on {name} to speak IGMPv2: of its groups no source is excluded there")
-            }
+            Version::Two => info!(
+                "{who} is the first on {name} to speak IGMPv2: while such a host wants a group, nobody there can \
+                 exclude its sources"
+            ),
         }
     }
 
