@@ -53,6 +53,7 @@ fn a_host_of_version_two_is_served_until_it_leaves() {
     happens(&mut daemon, &fake, said(REPORT_TWO, stream.group));
     assert_eq!(version(&mut daemon, stream.group), in_mode("IGMPv2", Some(PRESENT / 1_000)));
     happens(&mut daemon, &fake, no_cache(0, stream));
+    happens(&mut daemon, &fake, whole(stream, data(FAR, stream.group, 0, 40)));
     assert_eq!(fake.entry(stream).map(|entry| entry.outgoing), Some(0b10));
     let before = fake.sent.borrow().len();
     happens(&mut daemon, &fake, said(LEAVE, stream.group));
@@ -147,16 +148,16 @@ fn queries_of_version_two_have_eight_bytes() {
 #[test]
 fn an_older_querier_with_a_lower_address_asks_alone() {
     let query = packet(IGMP, [10, 1, 0, 2].into(), ALL_HOSTS, &summed(&[QUERY, 100, 0, 0, 0, 0, 0, 0]));
-    // How many queries of the router, and messages that its library refused, follow in the query interval.
+    // How many queries of the router, and messages that its library refused, follow in 160 s.
     let follow = |settings: &str| {
         let (mut daemon, fake) = begun(settings, &[(ETH0, [10, 1, 0, 9]), (ETH1, [10, 5, 0, 1])]);
         let before = fake.sent.borrow().len();
         happens(&mut daemon, &fake, frame(ETH0, query.clone()));
-        passes(&mut daemon, &fake, 130_000);
+        passes(&mut daemon, &fake, 160_000);
         (asked(&fake, ETH0, before).len(), daemon.ports[0].passed.refused)
     };
     assert_eq!(follow(TWO), (0, 0));
-    // At the start two, and then one each interval.
+    // The second of the start, and one after the query interval.
     assert_eq!(follow(&format!("[igmp]\nolder_hosts = \"none\"\n{TWO}")), (2, 1));
 }
 
