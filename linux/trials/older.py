@@ -146,10 +146,10 @@ def older_querier(net: Network) -> None:
         if asks() != asked or not is_in(net, group, "IGMPv2"):
             raise Failed(f"it asked {asks() - asked} times, and shows {row(net, group)}")
     finally:
-        configure(net, "first", "no ip igmp version", "no ip igmp query-interval",
+        configure(net, "first", "no ip igmp version 2", "no ip igmp query-interval",
                   "no ip igmp query-max-response-time", "no ip igmp")
         ended(receiver)
     until("the router asks again", 2 * PRESENT, lambda: asks() > asked)
 
 
-TRIALS = [host_of_version_two, host_of_version_one, older_querier, queries_of_version_two]
+TRIALS = [host_of_version_two, host_of_version_one, queries_of_version_two, older_querier]
