@@ -1,6 +1,7 @@
 //! Hosts and routers of IGMPv1 and IGMPv2: what they get, and what operators see of them.
-use super::shown::shown;
+use super::shown::{samples, shown};
 use super::*;
+use crate::metrics::text;
 
 const REPORT_ONE: u8 = 0x12;
 const REPORT_TWO: u8 = 0x16;
@@ -131,6 +132,19 @@ fn other_settings_are_taken_without_another_router() {
     daemon.make_anew("it is to be").expect("it goes on");
     happens(&mut daemon, &fake, said(REPORT_ONE, group));
     assert_eq!(version(&mut daemon, group), None);
+}
+
+#[test]
+fn metrics_count_groups_of_older_hosts() {
+    let (mut daemon, fake) = begun(TWO, &both());
+    for (kind, last) in [(REPORT_ONE, 1), (REPORT_TWO, 2), (REPORT_TWO, 3)] {
+        happens(&mut daemon, &fake, said(kind, [239, 2, 1, last].into()));
+    }
+    let found = samples(&text(&mut daemon).expect("it tells"));
+    let of = |name: &str| found.get(&format!("viqeshor_{name}")).copied();
+    let groups = |version: &str| of(&format!("igmp_older_groups{{interface=\"eth1\",version=\"{version}\"}}"));
+    assert_eq!((groups("1"), groups("2")), (Some(1.0), Some(2.0)));
+    assert_eq!(of("igmp_messages_total{interface=\"eth1\",type=\"older_report\",direction=\"received\"}"), Some(3.0));
 }
 
 #[test]

@@ -202,7 +202,7 @@ fn the_way_to_an_address_is_shown() {
 // ---- metrics
 
 /// Each sample with its value, where each stands below its family's type, and counters are named as such.
-fn samples(text: &str) -> BTreeMap<String, f64> {
+pub(super) fn samples(text: &str) -> BTreeMap<String, f64> {
     let (mut family, mut found) = (String::new(), BTreeMap::new());
     for line in text.lines() {
         if let Some(rest) = line.strip_prefix("# TYPE ") {
