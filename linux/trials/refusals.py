@@ -51,6 +51,26 @@ def flood_of_groups(net: Network) -> str:
     return f"{groups} groups of the flood are held; {said}"
 
 
+def flood_of_older_groups(net: Network) -> str:
+    """of 65,536 groups that it reports by IGMPv2, too, while it reports what is held again and again"""
+    send(net, "hosts", "to-router", HOST, "older-reports", 65_536, 1)
+    until("the flood is refused", 15, lambda: net.refused("max_groups") > 0)
+    groups = len([row for row in net.show("igmp") if row["version"] == "IGMPv2"])
+    words = [sys.executable, SENDER, "to-router", HOST, "older-reports", 8_000, 20]
+    flood = net.start("hosts", *words, stdout=subprocess.DEVNULL)
+    receiver = net.receive("asker", "239.2.7.9", "10.7.0.77", 100, 30)
+    sender = net.send("source", "239.2.7.9", SOURCE, 100, 10)
+    came, of, _ = received(receiver)
+    sender.wait()
+    is_over = flood.poll() is not None
+    ended(flood)
+    net.stop_router()
+    net.start_router()
+    if is_over or came < of - 10:
+        raise Failed(f"{came} of {of} came, and the flood {'was over' if is_over else 'went on'}")
+    return f"{groups} groups of the flood are held; of a stream elsewhere {came} of {of} came"
+
+
 def flood_of_sources(net: Network) -> str:
     """one that sends to 40,000 groups, too: a stream of another interface goes on, and a new one begins"""
     group = "239.2.7.1"
@@ -232,5 +252,5 @@ def check_says_quotas(net: Network) -> None:
 
 TRIALS = [check_says_quotas, older_hosts_that_are_not_heard, fragments_of_a_report, hello_of_a_host,
           neighbours_that_are_believed, list_of_joins, list_of_senders, list_of_registers, flood_of_neighbours,
-          flood_of_groups, flood_of_sources,
+          flood_of_groups, flood_of_older_groups, flood_of_sources,
           flood_of_registers]
