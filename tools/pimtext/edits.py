@@ -110,19 +110,20 @@ class Crate:
 
     def proved_in(self, path: str) -> list[Found]:
         """The functions whose proof stands in a folder below proofs/: its modules, its type with its trait, its
-        name, after a `+` where a module has that name too."""
+        name, after a `+` where a module has that name too. The modules of a method may be those of its type."""
         *parts, name = path.split("/")
-        return [one for one in self.all() if one.function.name == name.removeprefix("+")
+        found = [one for one in self.all() if one.function.name == name.removeprefix("+")
             and stands_in(one.function, parts)]
+        beside = [one for one in found if one.function.owner and list(one.function.module) == parts[:-1]]
+        return beside or found
 
 
 def stands_in(function: Function, parts: list[str]) -> bool:
-    """Whether a function has a folder of these modules and, at the end, this type with its trait and what tells it
-    apart."""
-    module = list(function.module)
+    """Whether a function has a folder of these modules, or, if it is a method, one that ends with this type with its
+    trait and what tells it apart."""
     if not function.owner:
-        return parts == module
-    return parts[:-1] == module and parts[-1].partition("+")[0].startswith(function.owner + function.trait)
+        return parts == list(function.module)
+    return bool(parts) and parts[-1].partition("+")[0].startswith(function.owner + function.trait)
 
 
 class Edit:

@@ -213,6 +213,18 @@ class Tried(unittest.TestCase):
         cut = line.format("number", standing.format("same").removesuffix(", auto"))
         self.assertFalse(edit.meets(cut.replace("changed", "changed".ljust(len("changed") + 160 - len(cut), "d"))))
 
+    def test_a_method_in_another_module_than_its_type(self):
+        block = ("impl {} {{\n    pub fn number(&self) -> u32\n        ensures same {{ result ≡ 1 }}\n    {{\n"
+                 "        1\n    }}\n}}\n")
+        files = {"crates/low/src/world.rt": "pub struct World {\n}\n", "crates/low/src/time.rt": block.format("World"),
+                 "crates/low/src/own.rt": block.format("Own"), "crates/low/src/other.rt": block.format("Own")}
+        with repository(files) as room:
+            crate = try_edits.Crate(room / "crates" / "low")
+        for folder, functions in (("world/World", ["time::World::number"]), ("own/Own", ["own::Own::number"]),
+                                  ("world/Worl", [])):
+            found = crate.proved_in(f"{folder}/number")
+            self.assertEqual(functions, [str(one.function) for one in found], folder)
+
     def test_the_clause_is_named_that_tells_most(self):
         goals = ("requires-same", "invariant_of-self", "returns-clause-same", "slice_bounds-all")
         lines = [GOAL.replace("returns-clause-same", it) for it in goals]
