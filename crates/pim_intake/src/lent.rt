@@ -1,5 +1,6 @@
 //! Events whose packets, routes and ranges are borrowed.
 ghost use Rattle.std.specs.Prelude.{◌≡◌};
+ghost use Rattle.pim_intake.specs.Lent.{event_kind};
 ghost use Rattle.pim_types.specs.declared.event.EventKind.{EventKind as EventValue};
 
 use pim_types::{Event, EventKind, IfaceId, Lent, Route, RpRange};
@@ -85,6 +86,13 @@ impl<'a> LentEvent<'a> {
             draw,
             kind: LentKind::Unicast { bytes },
         }
+    }
+
+    /// What happens, and what it brings.
+    pub fn kind(&self) -> &LentKind<'a>
+        ensures { event_kind result.now ≡ self.now.kind }
+    {
+        &self.kind
     }
 
     /// The number from which its random delays are drawn.
