@@ -53,6 +53,7 @@ static void without_a_router(void) {
     struct viq_forwarding forwarding = {.rpf = 7};
     struct viq_plane_row plane = {.incoming = 7};
     struct viq_source_group name = {7, 7};
+    struct viq_older_row older_row = {.iface = 7};
     is("advance without a router", viq_advance(NULL, 1, viq_draw(0)), VIQ_NO_ROUTER);
     is("frame without a router", viq_frame(NULL, 0, room, 2, viq_draw(0)), VIQ_NO_ROUTER);
     is("unicast without a router", viq_unicast(NULL, room, 2, viq_draw(0)), VIQ_NO_ROUTER);
@@ -71,6 +72,13 @@ static void without_a_router(void) {
     is("rows without a router", viq_rows(NULL), 0);
     is("row without a router", viq_row(NULL, 0, &row), false);
     is("its row", row.table, 7);
+    is("older hosts without a router", viq_older(NULL, 0, VIQ_OLDER_ALL), VIQ_NO_ROUTER);
+    is("no setting of them without a router", viq_older(NULL, 0, 3), VIQ_NO_SETTING);
+    is("version 2 without a router", viq_query_version(NULL, 0, 2), VIQ_NO_ROUTER);
+    is("groups in an older mode without a router", viq_older_read(NULL), VIQ_NO_ROUTER);
+    is("how many without a router", viq_older_rows(NULL), 0);
+    is("one of them without a router", viq_older_row(NULL, 0, &older_row), false);
+    is("what isn't written of it", older_row.iface, 7);
     is("cached without a router", viq_cached(NULL, 0x0a000305, 0xe1010101, &forwarding), false);
     is("its forwarding", forwarding.rpf, 7);
     is("offload without a router", viq_offload(NULL, 0x0a000305, 0xe1010101, &plane), false);
@@ -433,6 +441,103 @@ static void many_interfaces(void) {
     viq_end(router);
 }
 
+/* ---- hosts and routers of older versions */
+
+/* A message of eight bytes on an interface, from 10.0.IFACE.HOST. */
+static uint32_t older(struct viq_router *router, uint8_t iface, uint8_t host, uint8_t type, uint32_t group) {
+    uint8_t bytes[] = {0x46, 0, 0, 32, 0, 0, 0, 0, 1, 2, 0, 0, 10, 0, iface, host, 224, 0, 0, 1, 0x94, 4, 0, 0,
+                       type, 0, 0, 0, (uint8_t)(group >> 24), (uint8_t)(group >> 16), (uint8_t)(group >> 8), (uint8_t)group};
+    set_sum(bytes, 24, 10);
+    set_sum(bytes + 24, 8, 2);
+    return viq_frame(router, iface, bytes, sizeof bytes, viq_draw(0));
+}
+
+/* A BLOCK of 10.0.0.9 in 239.1.1.1, of a host of IGMPv3 on interface 1. */
+static uint32_t blocked(struct viq_router *router) {
+    uint8_t report[] = {0x46, 0xc0, 0, 44, 0, 0, 0, 0, 1, 2, 0, 0, 10, 0, 1, 8, 224, 0, 0, 22, 0x94, 4, 0, 0,
+                        0x22, 0, 0, 0, 0, 0, 0, 1, 6, 0, 0, 1, 239, 1, 1, 1, 10, 0, 0, 9};
+    set_sum(report, 24, 10);
+    set_sum(report + 24, 20, 2);
+    return viq_frame(router, 1, report, sizeof report, viq_draw(0));
+}
+
+enum { QUERY = 0x11, REPORT_ONE = 0x12, REPORT_TWO = 0x16, LEAVE = 0x17, THEIRS = 0xef010101 };
+
+static void settings_of_older(struct viq_router *router) {
+    is("a report of IGMPv2, unheard", older(router, 1, 9, REPORT_TWO, THEIRS), VIQ_OLD_VERSION);
+    is("a query of IGMPv2, unheard", older(router, 0, 1, QUERY, 0), VIQ_OLD_VERSION);
+    is("no rows", viq_older_read(router), VIQ_DONE);
+    is("none", viq_older_rows(router), 0);
+    is("older hosts of no interface", viq_older(router, 3, VIQ_OLDER_ALL), VIQ_BAD_INTERFACE);
+    is("no such hosts", viq_older(router, 1, 3), VIQ_NO_SETTING);
+    is("no version of an interface", viq_query_version(router, 1, 4), VIQ_NO_SETTING);
+    is("version 1", viq_query_version(router, 1, 1), VIQ_NO_SETTING);
+    is("version 2 of no interface", viq_query_version(router, 3, 2), VIQ_BAD_INTERFACE);
+    is("a report of IGMPv2, still unheard", older(router, 1, 9, REPORT_TWO, THEIRS), VIQ_OLD_VERSION);
+}
+
+static void groups_of_older(struct viq_router *router) {
+    struct viq_older_row row = {.iface = 7};
+    is("hosts of both versions", viq_older(router, 1, VIQ_OLDER_ALL), VIQ_DONE);
+    is("a report of IGMPv2", older(router, 1, 9, REPORT_TWO, THEIRS), VIQ_DONE);
+    is("of SSM", older(router, 1, 9, REPORT_TWO, 0xe8010101), VIQ_OLD_VERSION);
+    is("another interface hears nobody", older(router, 2, 9, REPORT_TWO, THEIRS), VIQ_OLD_VERSION);
+    is("read", viq_older_read(router), VIQ_DONE);
+    is("a group", viq_older_rows(router), 1);
+    is("it is there", viq_older_row(router, 0, &row), true);
+    is("which", row.iface == 1 && row.group == THEIRS && row.mode == 2, true);
+    is("for [Older Host Present Interval]", row.two_end == 5 + 260000 && row.one_end == VIQ_NEVER, true);
+    row.iface = 7;
+    is("no second one", viq_older_row(router, 1, &row), false);
+    is("what isn't written", row.iface, 7);
+    is("a BLOCK of another host", blocked(router), VIQ_DONE);
+    is("sources", viq_read(router, 'S'), VIQ_DONE);
+    is("none is excluded", viq_rows(router), 0);
+    is("a report of IGMPv1", older(router, 1, 10, REPORT_ONE, THEIRS), VIQ_DONE);
+    is("a Leave beside it", older(router, 1, 9, LEAVE, THEIRS), VIQ_OLD_VERSION);
+    is("read again", viq_older_read(router), VIQ_DONE);
+    is("the group again", viq_older_row(router, 0, &row) && row.mode == 1 && row.one_end == 5 + 260000, true);
+    is("hosts of IGMPv2 alone", viq_older(router, 1, VIQ_OLDER_TWO), VIQ_DONE);
+    is("what was read stays", viq_older_rows(router), 1);
+    is("read once more", viq_older_read(router), VIQ_DONE);
+    is("what was heard is forgotten", viq_older_rows(router), 0);
+    is("a report of IGMPv1, unheard", older(router, 1, 10, REPORT_ONE, THEIRS), VIQ_OLD_VERSION);
+}
+
+static void end_of_older(struct viq_router *router) {
+    struct viq_packet packet = {7, 7, 7, 7};
+    uint8_t room[VIQ_MOST_BYTES];
+    is("a report of IGMPv2", older(router, 1, 9, REPORT_TWO, THEIRS), VIQ_DONE);
+    is("its Leave", older(router, 1, 9, LEAVE, THEIRS), VIQ_DONE);
+    is("the query of the group", viq_packet(router, 0, &packet, room, sizeof room), true);
+    is("it is one of IGMPv3", packet.iface == 1 && packet.length == 36, true);
+    is("nobody answers", viq_advance(router, 5 + 2000, viq_draw(0)), VIQ_DONE);
+    is("groups", viq_read(router, 'G'), VIQ_DONE);
+    is("there is none", viq_rows(router), 0);
+    is("read", viq_older_read(router), VIQ_DONE);
+    is("none is in an older mode", viq_older_rows(router), 0);
+    is("version 2", viq_query_version(router, 1, 2), VIQ_DONE);
+    is("a report of IGMPv2 again", older(router, 1, 9, REPORT_TWO, THEIRS), VIQ_DONE);
+    is("its Leave again", older(router, 1, 9, LEAVE, THEIRS), VIQ_DONE);
+    is("the query of the group again", viq_packet(router, 0, &packet, room, sizeof room), true);
+    is("it is one of IGMPv2", packet.iface == 1 && packet.length == 32 && room[24] == QUERY && room[25] == 10, true);
+    is("a query of IGMPv2 where hosts aren't heard", older(router, 0, 1, QUERY, 0), VIQ_OLD_VERSION);
+    is("version 2 there", viq_query_version(router, 0, 2), VIQ_DONE);
+    is("a query of IGMPv2", older(router, 0, 1, QUERY, 0), VIQ_DONE);
+    is("version 3 there", viq_query_version(router, 0, 3), VIQ_DONE);
+    is("a query of IGMPv2 then", older(router, 0, 1, QUERY, 0), VIQ_OLD_VERSION);
+}
+
+static void older_versions(void) {
+    struct viq_router *router = NULL;
+    is("new for older hosts", made(&router, &usual), VIQ_DONE);
+    moments_and_interfaces(router);
+    settings_of_older(router);
+    groups_of_older(router);
+    end_of_older(router);
+    viq_end(router);
+}
+
 static void texts(void) {
     is("the version", strncmp(viq_version(), VIQ_VERSION " ", sizeof VIQ_VERSION), 0);
     is("how it was built", strstr(viq_version(), "proved") != NULL, true);
@@ -457,6 +562,7 @@ int main(void) {
     many_interfaces();
     plane();
     full();
+    older_versions();
     texts();
     is("the other's moment", viq_next_moment(other), VIQ_NEVER);
     is("the other's packets", viq_packets(other), 0);

@@ -96,6 +96,22 @@ bool viq_row(const struct viq_router *router, size_t index, struct viq_row *row)
     return viq_core_row(CORE(router), index, row);
 }
 
+uint32_t viq_older(struct viq_router *router, uint32_t iface, uint32_t hosts) {
+    return viq_core_older(CORE(router), iface, hosts);
+}
+
+uint32_t viq_query_version(struct viq_router *router, uint32_t iface, uint32_t version) {
+    return viq_core_query_version(CORE(router), iface, version);
+}
+
+uint32_t viq_older_read(struct viq_router *router) { return viq_core_older_read(CORE(router)); }
+
+size_t viq_older_rows(const struct viq_router *router) { return viq_core_older_rows(CORE(router)); }
+
+bool viq_older_row(const struct viq_router *router, size_t index, struct viq_older_row *row) {
+    return viq_core_older_row(CORE(router), index, row);
+}
+
 bool viq_cached(const struct viq_router *router, uint32_t source, uint32_t group, struct viq_forwarding *forwarding) {
     return viq_core_cached(CORE(router), source, group, forwarding);
 }

@@ -44,6 +44,7 @@ const char *viq_answer_text(uint32_t answer) {
     case VIQ_NO_TABLE: return "no table has this letter";
     case VIQ_NO_TIMER: return "no keepalive timer of the source runs";
     case VIQ_OTHER_ABI: return "the program was compiled for another version of the library";
+    case VIQ_NO_SETTING: return "no setting has this number";
     case VIQ_OWN: return "ignored: the router's own packet";
     case VIQ_NOT_FOR_ME: return "ignored: not for this router";
     case VIQ_OTHER_TYPE: return "ignored: a PIM message of another type";

@@ -65,7 +65,7 @@ extern "C" {
 /* The number of what a compiled program and a library have to agree on: the values, the calls and the numbers of this
  * header and of plane.h. Wherever one of them changes, this number changes. A program passes it to viq_new, which
  * refuses any other. */
-#define VIQ_ABI 1
+#define VIQ_ABI 2
 
 /* The library's number: VIQ_ABI as it was built with. */
 uint32_t viq_abi(void);
@@ -129,6 +129,7 @@ enum {
     VIQ_NO_TABLE = 51,  /* no table has this letter */
     VIQ_NO_TIMER = 52,  /* no keepalive timer of the source runs, and none was started */
     VIQ_OTHER_ABI = 53, /* the program was compiled for another library than this one */
+    VIQ_NO_SETTING = 54, /* no setting has this number */
 
     VIQ_IGNORED = 100, /* no answer: the reasons to ignore an event are the numbers above it */
     VIQ_OWN = 101,
@@ -339,6 +340,60 @@ struct viq_forwarding {
  * for a lost router, and for NULL. */
 VIQ_READ_ANSWER VIQ_NOT_NULL(4)
 bool viq_cached(const struct viq_router *router, uint32_t source, uint32_t group, struct viq_forwarding *forwarding);
+
+/* ---- older versions of IGMP (RFC 3376, section 7.3)
+ *
+ * A new router hears no older version: it refuses each message of one by VIQ_OLD_VERSION. The calls of this part are no
+ * events: what is to be sent, the costs, what changed and the present are unchanged by them. They may be made at any
+ * time. */
+
+/* Which hosts of older versions an interface hears. */
+enum {
+    VIQ_OLDER_NONE = 0, /* none, as of a new router */
+    VIQ_OLDER_TWO = 1,  /* those of IGMPv2 */
+    VIQ_OLDER_ALL = 2   /* those of IGMPv1 and IGMPv2, as RFC 3376 asks for (7.3.2) */
+};
+
+/* Sets which hosts of older versions an interface hears. From then on it takes a report or a Leave of such a host for
+ * the IGMPv3 report that says the same. A group that such a host reports is in the mode of its version for [Older Host
+ * Present Interval] (260 s with the usual settings), as long as there is a record of it. In mode IGMPv2 a BLOCK and the
+ * sources of a TO_EX are left out of IGMPv3 reports, in mode IGMPv1 a TO_IN too, and Leaves are refused. Messages about
+ * groups of 224.0.0.0/24 and of SSM stay refused. One forged report of IGMPv1 makes Leaves of its group ineffective for
+ * that time; with VIQ_OLDER_TWO no such report is heard (9.2). An interface that hears older hosts also elects its
+ * querier by the queries of IGMPv2 routers.
+ *
+ * What the interface heard before is forgotten. It answers VIQ_DONE; VIQ_BAD_INTERFACE, VIQ_NO_SETTING or VIQ_MEMORY,
+ * where nothing has changed; VIQ_FAILED or VIQ_NO_ROUTER. */
+VIQ_READ_ANSWER
+uint32_t viq_older(struct viq_router *router, uint32_t iface, uint32_t hosts);
+
+/* Sets the version in which an interface queries, 2 or 3; it is 3 in a new router. In version 2 its queries leave cut
+ * behind their group, as those of IGMPv2, and it elects its querier by the queries of IGMPv2 routers. All routers of a
+ * link have to query in one version (7.3.1). It answers as viq_older does. */
+VIQ_READ_ANSWER
+uint32_t viq_query_version(struct viq_router *router, uint32_t iface, uint32_t version);
+
+/* A group in an older mode on an interface. A timer that doesn't run has VIQ_NEVER. */
+struct viq_older_row {
+    uint32_t iface;
+    uint32_t group;
+    uint32_t mode;    /* the version, 1 or 2 */
+    uint64_t one_end; /* ms, when the IGMPv1 Host Present timer expires */
+    uint64_t two_end; /* ms, when the IGMPv2 Host Present timer expires */
+};
+
+/* Reads the groups that are in an older mode now. It answers VIQ_DONE; VIQ_MEMORY, where nothing has changed; VIQ_FAILED
+ * or VIQ_NO_ROUTER. */
+VIQ_READ_ANSWER
+uint32_t viq_older_read(struct viq_router *router);
+
+/* How many groups were read by viq_older_read last; and one of them, counted from 0, ascending by interface and then by
+ * group. viq_older_row answers false, and writes nothing, where there is none of that number. They remain as they were
+ * read until they are read again. */
+VIQ_READ_ANSWER
+size_t viq_older_rows(const struct viq_router *router);
+VIQ_NOT_NULL(3)
+bool viq_older_row(const struct viq_router *router, size_t index, struct viq_older_row *row);
 
 /* ---- costs */
 

@@ -1,12 +1,14 @@
 //! The library's router, with the random numbers that it draws: what of the daemon calls the library is here.
 use crate::error::Fatal;
 use crate::mroute::Key;
+use crate::older::Speech;
 use crate::plane::Row;
 use crate::settings::{RpSettings, Settings};
 use rand::rngs::{OsRng, StdRng};
 use rand::{RngCore, SeedableRng};
+use std::collections::BTreeMap;
 use std::net::Ipv4Addr;
-use viqeshor::{Error, Packet, Range, Refusal, Route, Router, Sent, Table, Verdict, MOST_BYTES};
+use viqeshor::{Error, OlderRow, Packet, Range, Refusal, Route, Router, Sent, Table, Verdict, MOST_BYTES};
 
 /// What happens to the router.
 #[derive(Clone, Copy, Debug)]
@@ -36,6 +38,8 @@ pub enum Answer {
 pub struct Core {
     router: Router,
     draws: StdRng,
+    /// What the router was told of how its interfaces speak IGMP.
+    speech: BTreeMap<u32, Speech>,
     /// How often memory was refused for a table that was to be read.
     pub refused_memory: u64,
 }
@@ -59,7 +63,31 @@ impl Core {
     /// A router without routes, at moment 0 and with every interface down.
     pub fn new(settings: &Settings, interfaces: &[viqeshor::Interface]) -> Result<Core, Fatal> {
         let router = Router::new(&settings_of(settings), interfaces, &[], &ranges_of(&settings.rps));
-        Ok(Core { router: router.map_err(Fatal::Settings)?, draws: StdRng::from_rng(OsRng)?, refused_memory: 0 })
+        Ok(Core {
+            router: router.map_err(Fatal::Settings)?,
+            draws: StdRng::from_rng(OsRng)?,
+            speech: BTreeMap::new(),
+            refused_memory: 0,
+        })
+    }
+
+    /// How an interface speaks IGMP from here on. Where it is to hear other older hosts, those are forgotten that were
+    /// heard there. One that the router doesn't have, since it refused to be made anew, is left out.
+    pub fn speak(&mut self, iface: u32, wanted: Speech) -> Result<(), Fatal> {
+        let told = self.speech.entry(iface).or_insert(Speech::NEW);
+        let mut answer = Ok(());
+        if told.older_hosts != wanted.older_hosts {
+            answer = self.router.set_older_hosts(iface, wanted.older_hosts);
+        }
+        if told.queries != wanted.queries {
+            answer = answer.and_then(|()| self.router.set_query_version(iface, wanted.queries));
+        }
+        match answer {
+            Ok(()) => *told = wanted,
+            Err(Error::Refused(Refusal::BadInterface)) => {}
+            Err(error) => return Err(Fatal::Router(error)),
+        }
+        Ok(())
     }
 
     /// An event, by a number of its own.
@@ -122,6 +150,13 @@ impl Core {
 
     pub fn rows(&mut self, table: Table) -> Result<Vec<viqeshor::Row>, Fatal> {
         let read = self.router.rows(table);
+        self.refused_memory += u64::from(matches!(read, Err(Error::Memory)));
+        Ok(read?)
+    }
+
+    /// The groups on interfaces that have older hosts.
+    pub fn older_rows(&mut self) -> Result<Vec<OlderRow>, Fatal> {
+        let read = self.router.older_rows();
         self.refused_memory += u64::from(matches!(read, Err(Error::Memory)));
         Ok(read?)
     }

@@ -49,7 +49,7 @@ pub enum Message {
     Query,
     Report,
     /// Of IGMPv1 and IGMPv2: reports and leaves.
-    OldReport,
+    OlderReport,
     OtherIgmp,
 }
 
@@ -64,7 +64,7 @@ impl Message {
         Message::OtherPim,
         Message::Query,
         Message::Report,
-        Message::OldReport,
+        Message::OlderReport,
         Message::OtherIgmp,
     ];
 
@@ -84,7 +84,7 @@ impl Message {
             Message::OtherPim | Message::OtherIgmp => "other",
             Message::Query => "query",
             Message::Report => "report",
-            Message::OldReport => "old_report",
+            Message::OlderReport => "older_report",
         }
     }
 }

@@ -14,6 +14,7 @@ use crate::counters::Counters;
 use crate::error::Fatal;
 use crate::kernel::Kernel;
 use crate::mroute::Key;
+use crate::older::Version;
 use crate::packed::Packing;
 use crate::packet::{is_pim, message_of, with_holdtime, Packet};
 use crate::plane::{Placed, Plane, Row, Ways};
@@ -26,13 +27,16 @@ use log::{debug, info, warn};
 use std::collections::{BTreeMap, BTreeSet};
 use std::net::Ipv4Addr;
 use std::path::{Path, PathBuf};
-use std::time::Instant;
+use std::time::{Duration, Instant};
 use viqeshor::{Route, Table};
 
 /// The most bytes of Join/Prunes that leave together: the library of another router reads no more.
 const MOST_PACKED: usize = 1_500;
 /// A line of a kind that may come often, at most so often, in ms.
 const SAY_EVERY: u64 = 10_000;
+/// Time passes for the library for a part of the time, but it is behind by no more than so many ms.
+const PART_OF_TIME: u64 = 10;
+const MOST_BEHIND: u64 = 50;
 
 /// A neighbour as its last Hello has it.
 #[derive(Clone, Debug)]
@@ -101,10 +105,27 @@ impl Rate {
     }
 }
 
+/// When time may pass for the library though no timer ends, in ms: the more groups older hosts have, the longer it
+/// takes, and packets may come faster than that.
+#[derive(Clone, Copy, Debug, Default, PartialEq, Eq)]
+struct Pace(u64);
+
+impl Pace {
+    fn is_early(self, now: u64) -> bool {
+        now < self.0
+    }
+
+    /// After it took so long.
+    fn after(now: u64, took: Duration) -> Pace {
+        Pace(now + (took.as_micros() as u64 * PART_OF_TIME / 1_000).min(MOST_BEHIND))
+    }
+}
+
 #[derive(Default)]
 struct Rates {
     unset: Rate,
     hearing: Rate,
+    older_queries: Rate,
 }
 
 pub struct Daemon {
@@ -121,11 +142,14 @@ pub struct Daemon {
     pub routing: Routing,
     pub neighbours: Neighbours,
     pub counters: Counters,
+    /// Which older versions were heard on which interfaces, for lines.
+    older_heard: BTreeSet<(u32, Version)>,
     /// Of BFD, with neighbours.
     sessions: BTreeMap<Place, Session>,
     due: Due,
     stale: Stale,
     rates: Rates,
+    pace: Pace,
     /// The source of the data packet that the router has in hand, and where it came.
     in_hand: Option<(Key, Option<u32>)>,
 }
@@ -174,15 +198,23 @@ impl Daemon {
             routing: Routing { told: Vec::new(), counts: Counts::default(), due: None, settle: machine::ROUTES_SETTLE },
             neighbours: Neighbours::default(),
             counters: Counters::default(),
+            older_heard: BTreeSet::new(),
             sessions: BTreeMap::new(),
             due: Due::default(),
             stale: Stale::default(),
             rates: Rates::default(),
+            pace: Pace::default(),
             in_hand: None,
             settings,
         };
         daemon.set_policy();
+        daemon.speak()?;
         Ok(daemon)
+    }
+
+    /// The library's router speaks IGMP as the settings say.
+    fn speak(&mut self) -> Result<(), Fatal> {
+        self.ports.iter().try_for_each(|port| self.core.speak(port.number, port.settings.speech))
     }
 
     /// The policy goes by the settings and the addresses.
@@ -190,6 +222,7 @@ impl Daemon {
         let gate = |port: &Port| Gate {
             name: port.settings.name.clone(),
             address: port.told_subnet().address,
+            speech: port.settings.speech,
             policy: port.settings.policy.clone(),
         };
         let gates = self.ports.iter().map(|port| (port.number, gate(port))).collect();
@@ -244,14 +277,19 @@ impl Daemon {
         Ok(answer)
     }
 
-    /// Time passes up to the present.
+    /// Time passes up to the present, or where no timer ends until then, to a little before it.
     fn advance(&mut self) -> Result<(), Fatal> {
         let now = self.now();
         let is_due = self.core.next_moment().map_or(false, |moment| moment <= now);
+        if !is_due && self.pace.is_early(now) {
+            return Ok(());
+        }
         if is_due && self.plane.is_overdue(now) {
             self.look()?;
         }
+        let began = Instant::now();
         self.take(Event::Advance(now))?;
+        self.pace = Pace::after(now, began.elapsed());
         // Where no timer ends nothing differs but the moment.
         if is_due {
             self.neighbours.are_stale = true;

@@ -12,6 +12,7 @@ mod log;
 mod metrics;
 mod mroute;
 mod netlink;
+mod older;
 mod packed;
 mod packet;
 mod plane;

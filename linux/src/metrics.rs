@@ -3,6 +3,7 @@ use crate::bfd::State;
 use crate::counters::{Message, Passing};
 use crate::daemon::Daemon;
 use crate::error::Fatal;
+use crate::older::Version;
 use crate::ports::Port;
 use crate::server::{Answers, Protocol, Server};
 use crate::show;
@@ -270,6 +271,7 @@ fn facts(daemon: &mut Daemon, text: &mut Text) -> Result<(), Fatal> {
     let of = |table: Table| rows.get(&(table as u8)).map_or(&[][..], Vec::as_slice);
     of_interfaces(daemon, text, "igmp_groups", "Groups that hosts reported.", of(Table::Groups));
     of_interfaces(daemon, text, "igmp_sources", "Sources of groups that hosts named.", of(Table::Sources));
+    older_groups(daemon, text)?;
     joins(daemon, text, of(Table::Downstream));
     asserts(daemon, text, of(Table::Asserts));
     for (name, about, table) in [
@@ -306,6 +308,18 @@ fn by_label(
     for ((iface, value), count) in counts {
         text.sample(name, &[("interface", daemon.name(iface)), (label, value)], count);
     }
+}
+
+fn older_groups(daemon: &mut Daemon, text: &mut Text) -> Result<(), Fatal> {
+    const NAME: &str = "igmp_older_groups";
+    text.family(NAME, Kind::Gauge, "Groups in the compatibility mode of an older version, by version.");
+    let rows = daemon.core.older_rows()?;
+    let version = |mode: u32| match Version::of_mode(mode) {
+        Version::One => "1",
+        Version::Two => "2",
+    };
+    by_label(daemon, text, NAME, "version", rows.iter().map(|row| (row.iface, version(row.mode))));
+    Ok(())
 }
 
 fn joins(daemon: &Daemon, text: &mut Text, rows: &[Row]) {

@@ -150,7 +150,6 @@ pub fn is_pim(packet: Packet, kind: u8) -> bool {
     packet.protocol() == PIM && packet.content().len() >= 4 && packet.content()[0] == 0x20 | kind
 }
 
-/// Whether a packet is a report of IGMPv3.
 /// What message of PIM or IGMP a packet is; `None` for data.
 pub fn message_of(packet: Packet) -> Option<Message> {
     const NULL_REGISTER: u8 = 0x40;
@@ -166,7 +165,7 @@ pub fn message_of(packet: Packet) -> Option<Message> {
         (PIM, _) => Some(Message::OtherPim),
         (IGMP, 0x11) => Some(Message::Query),
         (IGMP, 0x22) => Some(Message::Report),
-        (IGMP, 0x12 | 0x16 | 0x17) => Some(Message::OldReport),
+        (IGMP, 0x12 | 0x16 | 0x17) => Some(Message::OlderReport),
         (IGMP, _) => Some(Message::OtherIgmp),
         _ => None,
     }
@@ -182,12 +181,12 @@ pub fn goodbye_of(router: Ipv4Addr) -> Vec<u8> {
     with_content(&header, &hello)
 }
 
-pub fn is_report(bytes: &[u8]) -> bool {
-    const REPORT: u8 = 0x22;
-    Packet::read(bytes).map_or(false, |it| it.protocol() == IGMP && it.content().first() == Some(&REPORT))
+/// Whether a packet is a report or a Leave of a host, of any version.
+pub fn is_of_host(packet: Packet) -> bool {
+    matches!(message_of(packet), Some(Message::Report | Message::OlderReport))
 }
 
-/// The same report as of a host that has no address yet (RFC 3376, 4.2.13).
+/// The same report or Leave as of a host that has no address yet (RFC 3376, 4.2.13).
 pub fn as_of_nobody(report: &[u8]) -> Vec<u8> {
     let mut own = report.to_vec();
     own[12..16].fill(0);

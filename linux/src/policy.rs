@@ -4,6 +4,7 @@
 //! It stands in front of the library: what it refuses never gets there. What is known is never refused by a quota, so a
 //! refresh goes through. Each refusal is counted, and said at a bounded rate.
 use crate::mroute::Key;
+use crate::older::{Older, Speech};
 use crate::packet::{address, is_pim, Packet, IGMP};
 use crate::split;
 use log::warn;
@@ -29,10 +30,8 @@ const ASSERTED_GROUP_AT: usize = 8;
 const ASSERTED_SOURCE_AT: usize = 14;
 const ASSERT_LENGTH: usize = 26;
 const REPORT: u8 = 0x22;
-/// Reports of IGMPv1 and IGMPv2, and the leave.
-const OLD: [u8; 3] = [0x12, 0x16, 0x17];
-/// So many hosts of old versions are told apart.
-const MOST_OLD_HOSTS: usize = 1_024;
+/// So many older hosts that aren't served are told apart.
+const MOST_OLDER_HOSTS: usize = 1_024;
 
 /// Where the policy reads what the router holds.
 pub trait Books {
@@ -46,6 +45,7 @@ pub trait Books {
 pub struct Gate {
     pub name: String,
     pub address: Ipv4Addr,
+    pub speech: Speech,
     pub policy: InterfacePolicy,
 }
 
@@ -104,7 +104,8 @@ pub struct Policy {
     /// The sources of groups that the router knows, with the interface on which they came first; none of a Register.
     streams: HashMap<Key, Option<u32>>,
     stream_counts: HashMap<Option<u32>, usize>,
-    old_hosts: HashSet<(u32, Ipv4Addr)>,
+    /// Those of IGMPv1 and IGMPv2 of which a line said that they aren't served, and why.
+    older_hosts: HashSet<(u32, Ipv4Addr, Cause)>,
     read_due: u64,
     pub refusals: Refusals,
 }
@@ -198,9 +199,9 @@ impl Policy {
         if is_pim(packet, ASSERT) {
             self.assert(books, iface, packet)?;
         }
-        match packet.content().first() {
-            Some(&REPORT) if packet.protocol() == IGMP => self.report(books, iface, packet),
-            Some(kind) if packet.protocol() == IGMP && OLD.contains(kind) => self.old_host(iface, packet),
+        match (Older::read(packet), packet.content().first()) {
+            (Some(older), _) => self.older(books, iface, packet, older),
+            (None, Some(&REPORT)) if packet.protocol() == IGMP => self.report(books, iface, packet),
             _ => Some(bytes.to_vec()),
         }
     }
@@ -231,13 +232,42 @@ impl Policy {
         Some(())
     }
 
-    fn old_host(&mut self, iface: u32, packet: Packet) -> Option<Vec<u8>> {
-        let (host, name) = (packet.source(), self.name(iface));
-        self.refusals.count(Cause::OldHost, &name);
-        if self.old_hosts.len() < MOST_OLD_HOSTS && self.old_hosts.insert((iface, host)) {
-            warn!("the host {host} on {name} speaks IGMPv1 or IGMPv2, which the router doesn't serve: it gets nothing");
+    /// A report or a Leave of an older host passes as the record does that it becomes.
+    fn older(&mut self, books: &mut dyn Books, iface: u32, packet: Packet, older: Older) -> Option<Vec<u8>> {
+        // Of these groups nothing is kept, as of records of them.
+        if older.is_of_link() {
+            return None;
         }
-        None
+        let cause = match self.gates.get(&iface) {
+            Some(gate) if !gate.speech.hears(older) => Some(Cause::OlderHost),
+            // RFC 4604, 3: such a host names no source.
+            _ if older.is_source_specific() => Some(Cause::SourceSpecific),
+            _ => None,
+        };
+        if let Some(cause) = cause {
+            self.is_not_served(cause, iface, packet.source(), older);
+            return None;
+        }
+        let record = split::Record::of_older(older);
+        self.read_for_report(books, iface, std::slice::from_ref(&record));
+        self.passes(books, iface, packet, &record).then(|| packet.bytes().to_vec())
+    }
+
+    /// Counts it, and says it once of a host.
+    fn is_not_served(&mut self, cause: Cause, iface: u32, host: Ipv4Addr, older: Older) {
+        let name = self.name(iface);
+        self.refusals.count(cause, &name);
+        if self.older_hosts.len() >= MOST_OLDER_HOSTS || !self.older_hosts.insert((iface, host, cause)) {
+            return;
+        }
+        let (version, group) = (older.version, older.group);
+        match cause {
+            Cause::SourceSpecific => warn!(
+                "the host {host} on {name} speaks {version} of the SSM group {group}, and so names no source: of such \
+                 groups it gets nothing"
+            ),
+            _ => warn!("the host {host} on {name} speaks {version}, which `older_hosts` doesn't hear: it gets nothing"),
+        }
     }
 
     fn report(&mut self, books: &mut dyn Books, iface: u32, packet: Packet) -> Option<Vec<u8>> {
@@ -249,11 +279,8 @@ impl Policy {
         let count = records.len();
         let mut kept = Vec::new();
         for record in records {
-            match self.record(iface, &record) {
-                Ok(()) => kept.push(record),
-                Err(cause) => {
-                    self.refuse(books.now(), cause, iface, &format_args!("{} of {}", record.group, packet.source()));
-                }
+            if self.passes(books, iface, packet, &record) {
+                kept.push(record);
             }
         }
         match kept.len() {
@@ -261,6 +288,15 @@ impl Policy {
             0 => None,
             _ => Some(split::with_records(packet, &kept)),
         }
+    }
+
+    /// Whether a record of a packet passes; one that doesn't is counted, and said.
+    fn passes(&mut self, books: &dyn Books, iface: u32, packet: Packet, record: &split::Record) -> bool {
+        let passes = self.record(iface, record);
+        if let Err(cause) = passes {
+            self.refuse(books.now(), cause, iface, &format_args!("{} of {}", record.group, packet.source()));
+        }
+        passes.is_ok()
     }
 
     /// Has what is held read anew, where not each of the records may pass by what the books say.

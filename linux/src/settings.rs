@@ -2,6 +2,7 @@
 use crate::bfd::Times;
 use crate::control::Place;
 use crate::log::LEVELS;
+use crate::older::Speech;
 use crate::policy::lists::{
     reserve, InterfacePolicy, List, PolicySettings, Rule, UsualQuotas, MOST_NEIGHBOURS, USUAL_NEIGHBOURS, USUAL_SOURCES,
 };
@@ -13,6 +14,7 @@ use std::fmt;
 use std::net::{Ipv4Addr, SocketAddr};
 use std::path::PathBuf;
 use toml::Spanned;
+use viqeshor::{OlderHosts, QueryVersion};
 
 /// Linux has 32 virtual interfaces, and the register tunnel is one.
 pub const MOST_INTERFACES: usize = 31;
@@ -20,6 +22,10 @@ pub const MOST_INTERFACES: usize = 31;
 pub const LOOPBACK: &str = "lo";
 const MOST_RANGES: usize = 256;
 const ALL_GROUPS: Ipv4Addr = Ipv4Addr::new(224, 0, 0, 0);
+const OLDER_HOSTS: [(&str, OlderHosts); 3] =
+    [("all", OlderHosts::All), ("v2", OlderHosts::VersionTwo), ("none", OlderHosts::Nobody)];
+/// A query of IGMPv2 asks for answers within at most so many tenths of a second.
+const MOST_RESPONSE: u32 = 255;
 const USUAL_SOCKET: &str = "/run/viqeshord/control";
 /// By the names of the kernel's route protocols; `static` is also FRR's.
 const PROTOCOLS: [(&str, &[u8]); 12] = [
@@ -119,6 +125,7 @@ pub struct InterfaceSettings {
     pub hello: HelloSettings,
     /// Sessions with the neighbours there.
     pub bfd: Option<Times>,
+    pub speech: Speech,
     pub policy: InterfacePolicy,
     /// Where it stands in the file.
     pub line: usize,
@@ -214,6 +221,7 @@ struct IgmpTable {
     query_interval: Whole,
     query_response: Option<Spanned<f64>>,
     last_member_query: Option<Spanned<f64>>,
+    older_hosts: Text,
 }
 
 /// A rule of a list.
@@ -263,6 +271,8 @@ struct InterfaceTable {
     bfd: Option<bool>,
     bfd_interval: Whole,
     bfd_multiplier: Whole,
+    older_hosts: Text,
+    version: Whole,
     passive: Option<bool>,
     neighbors: Option<Vec<Spanned<String>>>,
     join: Option<Vec<RuleTable>>,
@@ -460,7 +470,31 @@ impl Check<'_> {
         table.bfd.unwrap_or(false).then_some(Times { interval, multiplier: multiplier as u8 })
     }
 
-    fn interface(&mut self, table: &InterfaceTable, of_all: &PolicyTable, usual: &UsualQuotas) -> InterfaceSettings {
+    /// By the older hosts that all interfaces hear.
+    fn speech(&mut self, table: &InterfaceTable, of_all: OlderHosts) -> Speech {
+        let older_hosts = match &table.older_hosts {
+            None => of_all,
+            given => self.one_of("older_hosts", given, &OLDER_HOSTS),
+        };
+        let queries = match self.within("version", &table.version, 3, 2, 3) {
+            2 => QueryVersion::Two,
+            _ => QueryVersion::Three,
+        };
+        let speech = Speech { older_hosts, queries };
+        if let (QueryVersion::Two, OlderHosts::Nobody, Some(version)) = (queries, older_hosts, &table.version) {
+            let reason = "version is 2, so hosts answer by IGMPv2, and older_hosts is \"none\": it hears none of them";
+            self.wrong(version.start(), reason.to_string());
+        }
+        speech
+    }
+
+    fn interface(
+        &mut self,
+        table: &InterfaceTable,
+        of_all: &PolicyTable,
+        usual: &UsualQuotas,
+        older_hosts: OlderHosts,
+    ) -> InterfaceSettings {
         let address = table.address.as_ref().and_then(|given| {
             let subnet = self.subnet(given, "the address")?;
             if let Some(reason) = not_a_host(subnet) {
@@ -476,6 +510,7 @@ impl Check<'_> {
             override_interval: self.within("override", &table.override_interval, 2500, 0, 65535),
             hello: self.hello(table),
             bfd: self.bfd(table),
+            speech: self.speech(table, older_hosts),
             policy: self.policy(table, of_all, usual),
             line: self.line(table.name.start()),
         }
@@ -483,7 +518,8 @@ impl Check<'_> {
 
     fn interfaces(&mut self, file: &File, usual: &UsualQuotas) -> Vec<InterfaceSettings> {
         let tables = &file.interface;
-        let found: Vec<_> = tables.iter().map(|table| self.interface(table, &file.policy, usual)).collect();
+        let heard = self.one_of("older_hosts", &file.igmp.older_hosts, &OLDER_HOSTS);
+        let found: Vec<_> = tables.iter().map(|table| self.interface(table, &file.policy, usual, heard)).collect();
         if found.is_empty() {
             self.problems.push(Problem { line: 0, reason: "there is no [[interface]]".to_string() });
         }
@@ -640,6 +676,11 @@ impl Check<'_> {
             let at = at.or_else(|| igmp.query_interval.as_ref().map(Spanned::start)).unwrap_or(0);
             self.wrong(at, "query_response is to be below query_interval".to_string());
         }
+        let by_two = |version: &&Spanned<u32>| *version.get_ref() == 2;
+        let found = file.interface.iter().filter_map(|table| table.version.as_ref()).find(by_two);
+        if let Some(version) = found.filter(|_| query_response > MOST_RESPONSE) {
+            self.wrong(version.start(), "with version 2 query_response is to be at most 25.5".to_string());
+        }
         let limit = self.within("limit", &file.limit, 65536, 1, 1_000_000);
         let (usual, domain) = (self.usual_quotas(limit, file), self.domain(file));
         Settings {
@@ -757,6 +798,7 @@ mod tests {
         );
         assert_eq!((it.routes.table, it.routes.preference_of(188)), (None, 110));
         assert_eq!((eth0.hello, eth0.bfd), (HelloSettings { interval: 300, holdtime: 105 }, None));
+        assert_eq!(eth0.speech, Speech { older_hosts: OlderHosts::All, queries: QueryVersion::Three });
         assert_eq!((it.control.path, it.control.group, it.control.mode), (USUAL_SOCKET.into(), None, 0o600));
         assert_eq!(it.metrics, None);
     }
@@ -784,7 +826,7 @@ mod tests {
     #[test]
     fn all_that_can_be_said_is_taken() {
         let text = "limit = 9\nspt = \"never\"\nlog = \"debug\"\nsocket = \"/run/x\"\nsocket_group = \"adm\"\npack = false\n[metrics]\nlisten = \"[::1]:9791\"\n[igmp]\nrobustness = 3\n\
-            query_interval = 20\nquery_response = 1.5\nlast_member_query = 2\n\
+            query_interval = 20\nquery_response = 1.5\nlast_member_query = 2\nolder_hosts = \"none\"\n\
             [routes]\ntable = 7\npreference = 5\n[routes.preferences]\nstatic = 1\n\
             [[interface]]\nname = \"a\"\naddress = \"10.0.0.1/24\"\npriority = 7\npropagation = 1\noverride = 2\nhello_interval = 0.3\nhello_holdtime = 1\nbfd = true\nbfd_interval = 100\n\
             [[rp]]\ngroups = \"239.0.0.0/8\"\naddress = \"10.0.0.1\"\n";
@@ -802,8 +844,9 @@ mod tests {
             override_interval: 2,
             hello: HelloSettings { interval: 3, holdtime: 1 },
             bfd: Some(Times { interval: 100, multiplier: 3 }),
+            speech: Speech { older_hosts: OlderHosts::Nobody, queries: QueryVersion::Three },
             policy: it.interfaces[0].policy.clone(),
-            line: 20,
+            line: 21,
         };
         assert_eq!(it.interfaces, [a]);
         assert_eq!((it.routes.table, it.routes.preference_of(196), it.routes.preference_of(188)), (Some(7), 1, 5));
@@ -811,6 +854,34 @@ mod tests {
             (it.rps[0].groups.to_string(), it.rps[0].address),
             ("239.0.0.0/8".to_string(), Ipv4Addr::new(10, 0, 0, 1))
         );
+    }
+
+    #[test]
+    fn an_interface_has_its_own_older_hosts_and_version() {
+        let text = "[igmp]\nolder_hosts = \"v2\"\n[[interface]]\nname = \"a\"\n\
+            [[interface]]\nname = \"b\"\nolder_hosts = \"all\"\nversion = 2\n\
+            [[interface]]\nname = \"c\"\nolder_hosts = \"none\"\nversion = 3\n";
+        let spoken: Vec<_> = read(text).unwrap().interfaces.iter().map(|it| it.speech).collect();
+        let speech = |older_hosts, queries| Speech { older_hosts, queries };
+        let wanted = [
+            speech(OlderHosts::VersionTwo, QueryVersion::Three),
+            speech(OlderHosts::All, QueryVersion::Two),
+            speech(OlderHosts::Nobody, QueryVersion::Three),
+        ];
+        assert_eq!(spoken, wanted);
+        let told = |lines: &str| only(&format!("{SMALL}{lines}"));
+        assert_eq!(
+            told("older_hosts = \"v1\"\n"),
+            (3, "older_hosts is \"v1\"; it is to be \"all\" or \"v2\" or \"none\"".to_string())
+        );
+        assert_eq!(told("version = 1\n"), (3, "version is 1; it is to be 2 to 3".to_string()));
+        assert_eq!(told("older_hosts = \"none\"\nversion = 2\n").0, 4);
+        let slow = |version: u32| format!("[igmp]\nquery_response = 25.6\n{SMALL}version = {version}\n");
+        assert_eq!(only(&slow(2)), (5, "with version 2 query_response is to be at most 25.5".to_string()));
+        assert!(read(&slow(3)).is_ok());
+        // What is of all interfaces is said once.
+        let two = format!("[igmp]\nolder_hosts = \"some\"\n{SMALL}[[interface]]\nname = \"eth1\"\n");
+        assert_eq!(only(&two).0, 2);
     }
 
     #[test]
@@ -870,7 +941,7 @@ mod tests {
         let differs = |text: &str| old.differs_in_router(&read(text).unwrap());
         assert!(!differs(&format!("# a line\n{SMALL}")));
         assert!(!differs(&format!(
-            "log = \"debug\"\n{SMALL}passive = true\n[[rp]]\ngroups = \"239.0.0.0/8\"\naddress = \"10.0.0.1\"\n"
+            "log = \"debug\"\n{SMALL}passive = true\nversion = 2\nolder_hosts = \"v2\"\n[[rp]]\ngroups = \"239.0.0.0/8\"\naddress = \"10.0.0.1\"\n"
         )));
         assert!(differs(&format!("limit = 7\n{SMALL}")) && differs(&format!("{SMALL}priority = 2\n")));
         assert!(differs(&format!("{SMALL}[[interface]]\nname = \"eth1\"\n")));

@@ -6,6 +6,7 @@ use crate::error::Fatal;
 use crate::metrics::Kind;
 use crate::mroute::{Key, REGISTER_VIF};
 use crate::netlink::{Netlink, Used};
+use crate::older::Version;
 use crate::plane::Entry;
 use crate::ports::{Port, Standing};
 use crate::routes::{longest, Counts};
@@ -14,7 +15,7 @@ use clap::ValueEnum;
 use serde_json::{json, Map, Value};
 use std::collections::{BTreeMap, BTreeSet, HashMap};
 use std::net::Ipv4Addr;
-use viqeshor::{Interfaces, Row, Table};
+use viqeshor::{Interfaces, OlderRow, Row, Table};
 
 /// What can be shown.
 #[derive(Clone, Copy, Debug, PartialEq, Eq, ValueEnum)]
@@ -267,17 +268,36 @@ fn interfaces(daemon: &mut Daemon) -> Result<Rows, Fatal> {
     Ok(daemon.ports.iter().filter(|port| !port.is_removed).map(row).collect())
 }
 
+/// The compatibility mode of a group, and when its older hosts of that version expire (RFC 3376, 7.3.2).
+fn compatibility(older: Option<&OlderRow>) -> (Value, u64) {
+    let row = match older {
+        Some(row) => row,
+        None => return (json!("IGMPv3"), u64::MAX),
+    };
+    let version = Version::of_mode(row.mode);
+    let end = match version {
+        Version::One => row.one_end,
+        Version::Two => row.two_end,
+    };
+    (json!(version.to_string()), end.unwrap_or(u64::MAX))
+}
+
 fn igmp(daemon: &mut Daemon) -> Result<Rows, Fatal> {
     let now = daemon.now();
     let (groups, sources) = (rows_of(daemon, Table::Groups)?, rows_of(daemon, Table::Sources)?);
+    let older = daemon.core.older_rows()?;
+    let older: BTreeMap<_, _> = older.iter().map(|row| ((row.iface, row.group), row)).collect();
     let of_group = |row: &Row| {
         let mode = if row.is_set { "exclude" } else { "include" };
+        let (version, older_end) = compatibility(older.get(&(row.iface, row.group)).copied());
         vec![
             ("interface", json!(daemon.name(row.iface))),
             ("group", address(u32::from(row.group))),
             ("source", json!("*")),
             ("mode", json!(mode)),
             ("expires_seconds", until(row.end, now)),
+            ("version", version),
+            ("older_expires_seconds", until(older_end, now)),
         ]
     };
     let of_source = |row: &Row| {
@@ -289,6 +309,8 @@ fn igmp(daemon: &mut Daemon) -> Result<Rows, Fatal> {
             ("source", address(u32::from(row.source))),
             ("mode", json!(mode)),
             ("expires_seconds", until(row.end, now)),
+            ("version", Value::Null),
+            ("older_expires_seconds", Value::Null),
         ]
     };
     let key = |row: &Row| (row.iface, u32::from(row.group), u32::from(row.source));

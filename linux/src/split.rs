@@ -2,6 +2,7 @@
 //!
 //! By the rules a message is taken whole or not at all. So where one names what is known beside what is new, a router
 //! at its limit would let the known end too. Offered part by part, the known is refreshed, and the new alone refused.
+use crate::older::Older;
 use crate::packet::{address, is_pim, put_checksum, two, with_content, Packet, IGMP};
 use std::fmt;
 use std::net::Ipv4Addr;
@@ -24,6 +25,7 @@ const RPT: u8 = 1;
 const REPORT: u8 = 0x22;
 const RECORDS_AT: usize = 8;
 const IS_IN: u8 = 1;
+const IS_EX: u8 = 2;
 const TO_IN: u8 = 3;
 const ALLOW: u8 = 5;
 const BLOCK: u8 = 6;
@@ -88,6 +90,12 @@ pub struct Record {
 }
 
 impl Record {
+    /// Which a message of an older host becomes (RFC 3376, 7.3.2); it stands in no report.
+    pub fn of_older(older: Older) -> Record {
+        let kind = if older.is_leave { TO_IN } else { IS_EX };
+        Record { kind, group: older.group, sources: Vec::new(), place: 0..0 }
+    }
+
     /// It makes no state: it takes back what may have been asked for, or is of a group of the link alone
     /// (224.0.0.0/24).
     pub fn asks_for_nothing(&self) -> bool {

@@ -15,8 +15,8 @@ const PACKET_OTHERHOST: u32 = 3;
 const PACKET_LOOPBACK: u32 = 5;
 const PACKET_FANOUT: i32 = 18;
 const FANOUT_DEFRAG_UNIQUE: u32 = (0x8000 | 0x2000) << 16;
-/// Where hosts report their groups (RFC 3376, 4.2.14).
-const ALL_IGMP_ROUTERS: Ipv4Addr = Ipv4Addr::new(224, 0, 0, 22);
+/// Where hosts report their groups (RFC 3376, 4.2.14), and where they leave them by IGMPv2 (RFC 2236, 3).
+const OF_ROUTERS: [Ipv4Addr; 2] = [Ipv4Addr::new(224, 0, 0, 22), Ipv4Addr::new(224, 0, 0, 2)];
 const SKF_AD_PKTTYPE: u32 = (-0x1000i32 + 4) as u32;
 const ETH_P_IP: u16 = 0x0800;
 
@@ -166,7 +166,7 @@ impl Links {
 /// Hears the reports of the machine's own programs, which the kernel shows to members of their group alone.
 pub struct OwnReports {
     socket: Socket,
-    /// A member of ALL-IGMP-ROUTERS on each interface, by the kernel's number: a socket has few memberships.
+    /// A member of the groups of routers on each interface, by the kernel's number: a socket has few memberships.
     members: HashMap<u32, Socket>,
 }
 
@@ -190,7 +190,9 @@ impl OwnReports {
     /// An interface from which they are to be heard.
     pub fn hear_from(&mut self, index: u32) -> io::Result<()> {
         let member = Socket::new(Domain::IPV4, Type::DGRAM, None)?;
-        set_option(&member, libc::IPPROTO_IP, libc::IP_ADD_MEMBERSHIP, &by_index(ALL_IGMP_ROUTERS, index))?;
+        for group in OF_ROUTERS {
+            set_option(&member, libc::IPPROTO_IP, libc::IP_ADD_MEMBERSHIP, &by_index(group, index))?;
+        }
         self.members.insert(index, member);
         Ok(())
     }

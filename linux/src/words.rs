@@ -1,4 +1,5 @@
 //! A packet in words, for the lines of the log.
+use crate::older::Older;
 use crate::packet::{address, options, two, Packet, IGMP, PIM, UDP};
 use std::net::Ipv4Addr;
 
@@ -16,7 +17,7 @@ fn content(packet: Packet) -> String {
     let bytes = packet.content();
     let read = match packet.protocol() {
         PIM => pim(bytes),
-        IGMP => igmp(bytes),
+        IGMP => Older::read(packet).map(|older| older.to_string()).or_else(|| igmp(bytes)),
         UDP => udp(packet),
         other => Some(format!("protocol {other}, {} bytes, TTL {}", bytes.len(), packet.ttl())),
     };
@@ -145,20 +146,33 @@ fn code(value: u8) -> u32 {
 fn igmp(bytes: &[u8]) -> Option<String> {
     match bytes.first()? {
         0x11 if bytes.len() >= 12 => Some(query(bytes)),
-        0x11 => Some("IGMP query of an old version".to_string()),
+        0x11 if bytes.len() == 8 => Some(older_query(bytes)),
         0x22 => report(bytes),
-        0x12 | 0x16 | 0x17 => Some("IGMP report or leave of an old version".to_string()),
+        0x11 | 0x12 | 0x16 | 0x17 => None,
         other => Some(format!("IGMP type {other}")),
     }
 }
 
-fn query(bytes: &[u8]) -> String {
-    let (group, count) = (address(bytes, 4), two(bytes, 10));
-    let of = match (group.is_unspecified(), count) {
+/// What a query asks for.
+fn asked(group: Ipv4Addr, sources: usize) -> String {
+    match (group.is_unspecified(), sources) {
         (true, _) => "all groups".to_string(),
         (false, 0) => group.to_string(),
-        (false, _) => format!("{count} sources of {group}"),
-    };
+        (false, _) => format!("{sources} sources of {group}"),
+    }
+}
+
+/// One of IGMPv1 has no time (RFC 2236, 4).
+fn older_query(bytes: &[u8]) -> String {
+    let of = asked(address(bytes, 4), 0);
+    match bytes[1] {
+        0 => format!("IGMPv1 query of {of}"),
+        tenths => format!("IGMPv2 query of {of}: answer within {} s", f64::from(tenths) / 10.0),
+    }
+}
+
+fn query(bytes: &[u8]) -> String {
+    let of = asked(address(bytes, 4), two(bytes, 10));
     let tenths = code(bytes[1]);
     format!(
         "IGMP query of {of}: answer within {} s, robustness {}, interval {} s",
@@ -221,6 +235,10 @@ mod tests {
     fn igmp_and_data_are_said() {
         let query = [0x11, 100, 0, 0, 0, 0, 0, 0, 2, 125, 0, 0];
         assert_eq!(said(IGMP, &query), "IGMP query of all groups: answer within 10 s, robustness 2, interval 125 s");
+        assert_eq!(said(IGMP, &[0x11, 100, 0, 0, 0, 0, 0, 0]), "IGMPv2 query of all groups: answer within 10 s");
+        assert_eq!(said(IGMP, &[0x11, 0, 0, 0, 0, 0, 0, 0]), "IGMPv1 query of all groups");
+        let older = [0x12, 0x16, 0x17].map(|kind| said(IGMP, &[kind, 0, 0, 0, 239, 1, 1, 1]));
+        assert_eq!(older, ["IGMPv1 report of 239.1.1.1", "IGMPv2 report of 239.1.1.1", "IGMPv2 Leave of 239.1.1.1"]);
         let report = [0x22, 0, 0, 0, 0, 0, 0, 1, 4, 0, 0, 1, 239, 1, 1, 1, 10, 1, 0, 50];
         assert_eq!(said(IGMP, &report), "IGMP report: TO_EX 239.1.1.1 {10.1.0.50}");
         assert_eq!(said(UDP, &[0, 1, 0x13, 0x8c, 0, 9, 0, 0, 7]), "data, UDP to port 5004, 1 bytes, TTL 16");
@@ -230,6 +248,8 @@ mod tests {
     fn what_is_cut_short_is_malformed() {
         assert_eq!(said(PIM, &[0x23, 0, 0, 0, 1, 0, 10, 0, 0, 1, 0, 1, 0, 210]), "protocol 103, malformed");
         assert_eq!(said(IGMP, &[0x22, 0, 0, 0, 0, 0, 0, 1]), "protocol 2, malformed");
+        assert_eq!(said(IGMP, &[0x16, 0, 0, 0, 239, 1, 1]), "protocol 2, malformed");
+        assert_eq!(said(IGMP, &[0x11, 100, 0, 0, 0, 0, 0, 0, 2]), "protocol 2, malformed");
         assert_eq!(of(&[1, 2, 3]), "3 bytes that are no IPv4 packet");
     }
 }

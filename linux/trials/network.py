@@ -11,7 +11,7 @@ from typing import Any
 
 HERE = Path(__file__).resolve().parent.parent
 FRR = Path("/usr/lib/frr")
-PLACES = ("source", "first", "second", "router", "hosts", "viewer", "lan", "asker")
+PLACES = ("source", "first", "second", "router", "hosts", "viewer", "lan", "asker", "older")
 # Of a trial of its own.
 MORE_PLACES = ("red-source", "red-host", "blue-source", "blue-host")
 NAMES = {place: f"vq-{place}-{os.getpid()}" for place in (*PLACES, *MORE_PLACES)}
@@ -25,6 +25,7 @@ LINKS = [
     ("router", "10.7.0.3/24", "lan", None),
     ("first", "10.7.0.2/24", "lan", None),
     ("asker", "10.7.0.77/24", "lan", None),
+    ("older", "10.7.0.76/24", "lan", None),
 ]
 ROUTES = {
     "source": ["default via 10.1.0.1"],
@@ -35,6 +36,7 @@ ROUTES = {
     "hosts": ["default via 10.5.0.1"],
     "viewer": ["default via 10.6.0.1"],
     "asker": ["default via 10.7.0.3"],
+    "older": ["default via 10.7.0.3"],
 }
 RPS = [("239.1.0.0/16", "10.4.0.2"), ("239.2.0.0/16", "10.5.0.1"), ("239.4.0.0/16", "10.4.0.1")]
 WITH_PIM = {"first": ("source", "router", "second", "lan"), "second": ("first", "router")}

@@ -51,6 +51,26 @@ def flood_of_groups(net: Network) -> str:
     return f"{groups} groups of the flood are held; {said}"
 
 
+def flood_of_older_groups(net: Network) -> str:
+    """of 65,536 groups that it reports by IGMPv2, too, while it reports what is held again and again"""
+    send(net, "hosts", "to-router", HOST, "older-reports", 65_536, 1)
+    until("the flood is refused", 15, lambda: net.refused("max_groups") > 0)
+    groups = len([row for row in net.show("igmp") if row["version"] == "IGMPv2"])
+    words = [sys.executable, SENDER, "to-router", HOST, "older-reports", 8_000, 20]
+    flood = net.start("hosts", *words, stdout=subprocess.DEVNULL)
+    receiver = net.receive("asker", "239.2.7.9", "10.7.0.77", 100, 30)
+    sender = net.send("source", "239.2.7.9", SOURCE, 100, 10)
+    came, of, _ = received(receiver)
+    sender.wait()
+    is_over = flood.poll() is not None
+    ended(flood)
+    net.stop_router()
+    net.start_router()
+    if is_over or came < of - 10:
+        raise Failed(f"{came} of {of} came, and the flood {'was over' if is_over else 'went on'}")
+    return f"{groups} groups of the flood are held; of a stream elsewhere {came} of {of} came"
+
+
 def flood_of_sources(net: Network) -> str:
     """one that sends to 40,000 groups, too: a stream of another interface goes on, and a new one begins"""
     group = "239.2.7.1"
@@ -190,14 +210,30 @@ def fragments_of_a_report(net: Network) -> str:
     return f"{len(there)} of {len(groups)} groups"
 
 
-def hosts_of_old_versions(net: Network) -> None:
-    """a host that speaks IGMPv2 is said once, however often it reports"""
+def older_hosts_that_are_not_heard(net: Network) -> None:
+    """one of IGMPv2 is said once, however often it reports, and "v2" hears it, but none of IGMPv1 and none of SSM"""
+    group, ssm = "239.2.8.6", "232.1.1.1"
+    is_there = lambda: any(row["group"] == group for row in net.show("igmp"))
+    says = lambda version: len(lines(net, f"the host 10.5.0.50 on to-hosts speaks {version}, which `older_hosts`"))
+    asks = lambda version, group: send(net, "hosts", "to-router", "10.5.0.50", "older", version, group)
+    net.reload(net.settings.replace("[igmp]\n", '[igmp]\nolder_hosts = "none"\n'))
     for _ in range(5):
-        send(net, "hosts", "to-router", "10.5.0.50", "old", "239.2.8.6")
-    until("it is said", 5, lambda: lines(net, "the host 10.5.0.50 on to-hosts speaks IGMPv1 or IGMPv2"))
-    count = len(lines(net, "the host 10.5.0.50 on to-hosts speaks"))
-    if count != 1 or net.refused("IGMPv1 or IGMPv2") < 5:
-        raise Failed(f"{count} lines")
+        asks(2, group)
+    until("it is said", 5, lambda: says("IGMPv2"))
+    if says("IGMPv2") != 1 or net.refused("IGMPv1 or IGMPv2") < 5 or is_there():
+        raise Failed(f"{says('IGMPv2')} lines")
+    net.reload_interface("to-hosts", 'older_hosts = "v2"\njoin = [{ groups = "239.2.8.6/32" }]\n')
+    refused = net.refused("IGMPv1 or IGMPv2")
+    asks(1, group)
+    until("IGMPv1 isn't heard", 5, lambda: net.refused("IGMPv1 or IGMPv2") > refused and not is_there())
+    refused = net.refused("`join` doesn't permit")
+    asks(2, "239.2.8.7")
+    until("`join` refuses another group", 5, lambda: net.refused("`join` doesn't permit") > refused)
+    asks(2, ssm)
+    until("it is said of SSM", 5, lambda: lines(net, f"speaks IGMPv2 of the SSM group {ssm}"))
+    asks(2, group)
+    until("IGMPv2 is heard", 5, is_there)
+    net.reload(net.settings)
 
 
 def check_says_quotas(net: Network) -> None:
@@ -214,7 +250,7 @@ def check_says_quotas(net: Network) -> None:
         raise Failed(said)
 
 
-TRIALS = [check_says_quotas, hosts_of_old_versions, fragments_of_a_report, hello_of_a_host,
+TRIALS = [check_says_quotas, older_hosts_that_are_not_heard, fragments_of_a_report, hello_of_a_host,
           neighbours_that_are_believed, list_of_joins, list_of_senders, list_of_registers, flood_of_neighbours,
-          flood_of_groups, flood_of_sources,
+          flood_of_groups, flood_of_older_groups, flood_of_sources,
           flood_of_registers]

@@ -5,7 +5,8 @@
                                                         groups in all, from 239.2.16.0 on or another one; it prints
                                                         when it begins, in seconds since 1970
     sender.py INTERFACE ADDRESS report GROUP ..         one report, in fragments where it is long
-    sender.py INTERFACE ADDRESS old GROUP               a report of IGMPv2
+    sender.py INTERFACE ADDRESS older VERSION GROUP     a report of IGMPv1 or IGMPv2
+    sender.py INTERFACE ADDRESS older-reports COUNT TIMES  a report of IGMPv2 for each of COUNT groups, so many times
     sender.py INTERFACE ADDRESS sources COUNT           a packet of data to each of COUNT groups
     sender.py INTERFACE ADDRESS hello SECONDS           Hellos of a router with the highest priority
     sender.py INTERFACE ADDRESS hellos COUNT            a Hello of each of COUNT routers, beginning with the address
@@ -86,9 +87,16 @@ def main() -> None:
                 time.sleep(pause)
     elif what == "report":
         link.send_long(own, ALL_IGMP_ROUTERS, IGMP, report([socket.inet_aton(group) for group in rest]))
-    elif what == "old":
-        group = socket.inet_aton(rest[0])
-        link.send(ip(own, group, IGMP, summed(bytes([0x16, 0, 0, 0]) + group)))
+    elif what == "older":
+        kind, group = {"1": 0x12, "2": 0x16}[rest[0]], socket.inet_aton(rest[1])
+        link.send(ip(own, group, IGMP, summed(bytes([kind, 0, 0, 0]) + group)))
+    elif what == "older-reports":
+        groups = [numbered("239.2.16.0", number) for number in range(int(rest[0]))]
+        packets = [ip(own, group, IGMP, summed(bytes([0x16, 0, 0, 0]) + group)) for group in groups]
+        for number, packet in enumerate(packets * int(rest[1])):
+            link.send(packet)
+            if number % 64 == 63:
+                time.sleep(0.004)
     elif what == "sources":
         for number in range(int(rest[0])):
             link.send(ip(own, numbered("239.2.16.0", number), 17, struct.pack("!HHHH", 5004, 5004, 8, 0), ttl=9))

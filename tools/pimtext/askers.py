@@ -19,6 +19,8 @@ if TYPE_CHECKING:
     from pimtext.wishes import Heard
 
 QUERY, OLD_QUERY_SIZE = 0x11, 8
+# Which versions of older hosts a router hears, by `older_hosts` of its table.
+HEARD = {"none": (), "v2": (2,), "all": (1, 2)}
 
 
 class Askers:
@@ -27,14 +29,29 @@ class Askers:
 
     # ---- how hosts ask
 
-    def old_hosts(self) -> Iterator[Cause]:
-        """Hosts speak IGMPv3."""
-        refused = [each for each in self.hosts.heard if each.is_old and each.step.verdict == "refused"]
-        for host, reports in gathered((each.host, each) for each in refused).items():
-            groups = {group for each in reports for group, _ in each.wishes}
-            told = f"{host} on {reports[0].link} speaks IGMPv2 or IGMPv1, and routers take IGMPv3 alone: they refused"
-            told = f"{told} {times(len(reports), 'report')} of it for {some(sorted(groups))}"
-            yield Cause(*self.run.at_move(reports[0].step, told), self.of_host(host, groups, "7"))
+    def older_refused(self, is_heard: bool) -> Iterator[Heard]:
+        """Messages of IGMPv1 and IGMPv2 that routers refused, where they hear the version or where they don't."""
+        for each in self.hosts.heard:
+            setting = self.run.played.router(each.step.router).table.get("older_hosts", "none")
+            if each.step.verdict == "refused" and each.version < 3 and (each.version in HEARD[setting]) == is_heard:
+                yield each
+
+    def older_hosts(self) -> Iterator[Cause]:
+        """The routers of a link hear the version that its hosts speak."""
+        for host, reports in gathered((each.host, each) for each in self.older_refused(False)).items():
+            first, groups = reports[0], {group for each in reports for group, _ in each.wishes}
+            routers = some(list(dict.fromkeys(each.step.router for each in reports)))
+            told = f"{host} on {first.link} speaks IGMPv{first.version}, which `older_hosts` of {routers} doesn't hear"
+            told = f"{told}: refused {times(len(reports), 'report')} of it for {some(sorted(groups))}"
+            yield Cause(*self.run.at_move(first.step, told), self.of_host(host, groups, "7"))
+
+    def older_leaves(self) -> Iterator[Cause]:
+        """No host of a group that one leaves speaks IGMPv1 (RFC 3376, 7.3.2)."""
+        for each in self.older_refused(True):
+            group, wish = each.wishes[0]
+            if wish == wishes.NOTHING and not is_local(group) and not trees.is_source_specific(group):
+                told = f"the Leave of {each.host} for {group} isn't heard: a host of IGMPv1 wants the group"
+                yield Cause(*self.run.at_move(each.step, told), self.of_host(each.host, {group}, "7"))
 
     @staticmethod
     def of_host(host: str, groups: Container[str], cause: str | None = None) -> Callable[[Symptom], bool]:
@@ -56,7 +73,7 @@ class Askers:
             if trees.is_source_specific(group) and first is not None:
                 why = "and an SSM group has no tree but those of its sources: name one, by ALLOW or TO_IN"
                 text = f"{host} asks for {group} without a source, {why}"
-                yield Cause(*self.run.at_move(self.run.steps[first], text), self.of_host(host, {group}))
+                yield Cause(*self.run.at_move(self.run.steps[first], text), self.of_host(host, {group}, "7"))
 
     def other_sources(self) -> Iterator[Cause]:
         """A source that is asked for by name is one that sends."""
@@ -201,8 +218,8 @@ class Askers:
         return list({key(each): each for each in reversed(data)}.values())[::-1]
 
     def causes(self) -> Iterator[Cause]:
-        parts = (self.old_hosts, self.old_queriers, self.sourceless, self.strangers, self.other_sources, self.unheard)
-        for told in (*parts, self.forgotten, self.local, self.unasked):
+        parts = (self.older_hosts, self.older_leaves, self.old_queriers, self.sourceless, self.strangers)
+        for told in (*parts, self.other_sources, self.unheard, self.forgotten, self.local, self.unasked):
             yield from told()
 
 

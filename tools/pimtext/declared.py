@@ -14,7 +14,8 @@ ABI = TOP / "bindings" / "c" / "abi.txt"
 NAMES = {
     "Handle": "viq_core", "GivenInterface": "viq_interface", "GivenRoute": "viq_route", "GivenRange": "viq_range",
     "GivenSettings": "viq_settings", "Packet": "viq_packet", "TableRow": "viq_row", "Interfaces": "viq_interfaces",
-    "Forwarding": "viq_forwarding", "PlaneRow": "viq_plane_row", "NamedSource": "viq_source_group",
+    "Forwarding": "viq_forwarding", "PlaneRow": "viq_plane_row", "OlderGroup": "viq_older_row",
+    "NamedSource": "viq_source_group",
 }
 # `Place` is a pointer beside what takes no room.
 TYPES = {"u8": "uint8_t", "u32": "uint32_t", "u64": "uint64_t", "usize": "size_t", "bool": "bool", "Place": "void *"}

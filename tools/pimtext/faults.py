@@ -14,7 +14,7 @@ from pimtext.addresses import BELOW, address_in, dotted, is_group, is_host, mask
 
 MOST_ROUTERS, MOST_IFACES, MOST_ROUTES, MOST_RPS = 64, 120, 100_000, 256
 
-ROUTER_KEYS = ["name", "iface", "limit", "spt", "rv", "qi", "qri", "lmqi", "routes", "rps"]
+ROUTER_KEYS = ["name", "iface", "limit", "spt", "rv", "qi", "qri", "lmqi", "older_hosts", "routes", "rps"]
 IFACE_KEYS = ["link", "address", "priority", "propagation", "override"]
 MOVE_KEYS = {
     "up": ["router", "iface", "draw"],
@@ -214,12 +214,18 @@ class Judge:
         made = {"line": table.line, "where": where, "table": table, "ifaces": self.ifaces(table, where)}
         for key, default in (("limit", 65536), ("rv", 2), ("qi", 125), ("qri", 100), ("lmqi", 10)):
             made[key] = self.number(table, key, default, where)
-        spt = table.get("spt")
-        if spt is not None and (spt.kind != "text" or spt.held not in ("always", "never")):
-            self.fault(spt.line, where, f'`spt` is {found(spt)}, and wanted is "always" or "never"')
+        self.word(table, "spt", ("always", "never"), where)
+        self.word(table, "older_hosts", ("none", "v2", "all"), where)
         made["routes"] = self.texts(table, "routes", where, self.route, FORMS["list of routes"], False)
         made["rps"] = self.texts(table, "rps", where, self.rp, FORMS["list of rps"], False)
         return made
+
+    def word(self, table: toml_lines.Value, key: str, words: tuple[str, ...], where: str) -> None:
+        """A text that may be missing, and else is one of these."""
+        value = table.get(key)
+        if value is not None and (value.kind != "text" or value.held not in words):
+            wanted = ", ".join(f'"{word}"' for word in words[:-1]) + f' or "{words[-1]}"'
+            self.fault(value.line, where, f"`{key}` is {found(value)}, and wanted is {wanted}")
 
     def ifaces(self, table: toml_lines.Value, where: str) -> list[Iface]:
         values = table.get("iface")

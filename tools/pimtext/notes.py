@@ -25,7 +25,8 @@ MEANINGS = {
          "9 to 11 bytes",
     "5": "an IP source that no host has, an encoded address of another family, or a wrong source in an Assert",
     "6": "a group field, or the destination of a registered packet, isn't in 224.0.0.0/4",
-    "7": "IGMPv1 or IGMPv2, which the router doesn't speak",
+    "7": "IGMPv1 or IGMPv2 that the router doesn't hear: by its `older_hosts`, of a group of 224.0.0.0/24 or SSM, or a "
+         "Leave while a host of IGMPv1 wants the group",
     "8": "an IGMP type other than query and report",
     "9": "the packet is a fragment",
     "20": "the moment is before the router's present",

@@ -8,7 +8,8 @@ from typing import TYPE_CHECKING, NamedTuple, TypeAlias, TypeVar
 if TYPE_CHECKING:
     R = TypeVar("R")
     Row: TypeAlias = (
-        "Neighbour | GroupRecord | SourceRecord | Downstream | AssertState | Upstream | SharedTree | Active"
+        "Neighbour | GroupRecord | SourceRecord | Downstream | AssertState | Upstream | SharedTree | Active | "
+        "OlderHosts"
     )
 
 NEVER = math.inf
@@ -101,10 +102,21 @@ class Active(NamedTuple):
     register: str
 
 
+class OlderHosts(NamedTuple):
+    """Hosts of IGMPv1 and IGMPv2 that want a group: its mode, and when the timers that run expire."""
+    iface: int
+    group: str
+    mode: str
+    one_end: float | None
+    two_end: float | None
+
+
 ROWS = {
     "N": Neighbour, "G": GroupRecord, "S": SourceRecord, "D": Downstream, "A": AssertState, "U": Upstream,
-    "R": SharedTree, "F": Active,
+    "R": SharedTree, "F": Active, "O": OlderHosts,
 }
+# The columns that are moments.
+ENDS = ("end", "pending", "one_end", "two_end")
 PACKETS = ("frame", "copy", "unicast")
 
 
@@ -115,7 +127,7 @@ def end_of(text: str) -> float | None:
 def value_of(column: str, text: str) -> str | float | None:
     if column == "iface":
         return int(text)
-    return end_of(text) if column in ("end", "pending") else text
+    return end_of(text) if column in ENDS else text
 
 
 def row_of(letter: str, texts: list[str]) -> Row:

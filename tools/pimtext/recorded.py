@@ -84,6 +84,8 @@ def row_words(router: Router, row: printed.Row) -> str:
                         "pending": ", asks the RP"}[row.register]
             by = ", on its own tree" if row.spt == "spt" else ""
             return f"source {words.tree(row.group, row.source)}{by}{register}"
+        case printed.OlderHosts():
+            return f"hosts of IGMP{row.mode} want {row.group}{where}"
 
 
 # ---- shapes

@@ -3,6 +3,7 @@ from collections.abc import Iterable, Iterator
 from dataclasses import dataclass
 
 from pimtext import packets, story
+from pimtext.older import read_heard
 from pimtext.packets import RECORD_KINDS
 from pimtext.printed import ANY
 
@@ -44,7 +45,7 @@ def said(steps: Iterable[story.Step]) -> Iterator[Said]:
     """What was given to the routers by `frame` and taken."""
     for step in steps:
         if step.did is not None and step.did["do"] == "frame" and step.verdict == "done":
-            yield Said(step, packets.read_on_link(step.taken()))
+            yield Said(step, read_heard(step.taken()))
 
 
 def joined(steps: Iterable[story.Step]) -> Iterator[tuple[str, str]]:

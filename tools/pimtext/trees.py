@@ -15,6 +15,7 @@ from typing import TYPE_CHECKING, Any, TypeVar
 
 from pimtext import packets, printed, scenario
 from pimtext.addresses import ranges_of, routes_of
+from pimtext.older import read_heard
 from pimtext.printed import ANY
 
 if TYPE_CHECKING:
@@ -147,7 +148,7 @@ def hear(state: Known, step: Step) -> None:
         whom = ANY if packet.body.source == "0.0.0.0" else packet.body.source
         state.asserts[step.iface, packet.body.group, whom, packet.source] = packet.body
     elif data[9] == packets.IGMP:
-        hear_query(state, step.iface, step.moment, packets.read_on_link(data))
+        hear_query(state, step.iface, step.moment, read_heard(data))
 
 
 @dataclass(frozen=True)

@@ -1,5 +1,5 @@
 """What hosts asked for in a run, and when: by all reports that they gave, also by those that routers refused, and by
-IGMPv2."""
+IGMPv1 and IGMPv2."""
 from __future__ import annotations
 
 from collections import defaultdict
@@ -13,8 +13,8 @@ if TYPE_CHECKING:
     from pimtext.scenario import Scenario
     from pimtext.story import Step
 
-# IGMPv1's and IGMPv2's messages of hosts: reports, and the one that leaves.
-OLD_REPORTS, OLD_LEAVE = (0x12, 0x16), 0x17
+# The messages of older hosts, with their version of IGMP: reports, and the one that leaves.
+OLDER, LEAVE = {0x12: 1, 0x16: 2, 0x17: 2}, 0x17
 
 
 @dataclass(frozen=True)
@@ -47,13 +47,13 @@ def after(wish: Wish, record: packets.Record) -> Wish:
 @dataclass(frozen=True)
 class Heard:
     """A host's report as a router took or refused it: pairs of a group and what the host wants of it after the
-    report."""
+    report. `version` is that of IGMP."""
     at: int
     step: Step
     host: str
     link: str
     wishes: tuple
-    is_old: bool = False
+    version: int = 3
 
 
 def igmp_of(data: bytes) -> bytes | None:
@@ -61,11 +61,11 @@ def igmp_of(data: bytes) -> bytes | None:
     return data[4 * (data[0] & 15):] if len(data) >= 20 and data[9] == packets.IGMP else None
 
 
-def old_wish(message: bytes) -> tuple[str, Wish] | None:
-    """The group of an IGMPv1 or IGMPv2 message, and what its host wants of it; None of any other."""
-    if len(message) != 8 or message[0] not in (*OLD_REPORTS, OLD_LEAVE):
+def older_wish(message: bytes) -> tuple[str, Wish] | None:
+    """The group of a message of IGMPv1 or IGMPv2, and what its host wants of it; None of any other."""
+    if len(message) < 8 or message[0] not in OLDER:
         return None
-    return packets.dotted(message[4:]), NOTHING if message[0] == OLD_LEAVE else EVERYTHING
+    return packets.dotted(message[4:8]), NOTHING if message[0] == LEAVE else EVERYTHING
 
 
 class Hosts:
@@ -84,13 +84,13 @@ class Hosts:
         interfaces = self.played.router(step.router).interfaces
         if not message or step.iface >= len(interfaces):
             return
-        host, link, old = packets.dotted(data[12:16]), interfaces[step.iface].link, old_wish(message)
-        wishes = [old] if old else [(record.group, record) for record in records_of(data)]
+        host, link, older = packets.dotted(data[12:16]), interfaces[step.iface].link, older_wish(message)
+        wishes = [older] if older else [(record.group, record) for record in records_of(data)]
         if not wishes:
             return
-        changed = [(group, told if old else after(self.wish(host, group, at), told)) for group, told in wishes]
+        changed = [(group, told if older else after(self.wish(host, group, at), told)) for group, told in wishes]
         self.links.setdefault(host, link)
-        self.heard.append(Heard(at, step, host, link, tuple(changed), old is not None))
+        self.heard.append(Heard(at, step, host, link, tuple(changed), OLDER[message[0]] if older else 3))
         for group, wish in changed:
             self.told[host, group].append((at, wish))
 

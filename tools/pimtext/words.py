@@ -5,6 +5,7 @@ from collections.abc import Iterable
 from typing import TYPE_CHECKING, Any
 
 from pimtext import packets, printed
+from pimtext.older import older_of
 from pimtext.packets import RECORD_KINDS, Refused
 
 if TYPE_CHECKING:
@@ -135,6 +136,8 @@ def bytes_given(content: bytes, limit: int = packets.MOST_IN_A_FRAME) -> str:
     try:
         return packet(packets.read(content, limit))
     except Refused as refused:
+        if (told := older_of(content)) is not None:
+            return str(told)
         return f"{len(content)} bytes, malformed: {REFUSALS[refused.args[0]]}"
 
 

@@ -19,8 +19,8 @@ class Spoilt(unittest.TestCase):
         for crate in check_counts.crates_below(CRATES.parent, "pim_router"):
             shutil.copytree(CRATES / crate / "src", self.root / "crates" / crate / "src")
 
-    def spoil(self, name, old, new):
-        path = self.root / "crates" / name
+    def spoil(self, name, old, new, folder="crates"):
+        path = self.root / folder / name
         text = path.read_text()
         self.assertEqual(text.count(old), 1, f"{old} in {name}")
         path.write_text(text.replace(old, new))
@@ -34,44 +34,88 @@ class Spoilt(unittest.TestCase):
     def test_the_tree_as_it_is(self):
         self.refused()
 
-    def test_a_look_up_with_a_meter_of_its_own(self):
-        self.spoil(
-            "pim_source_trie/src/source_trie.rt",
-            "        self.groups.get(host(group), meter)?.get(source, meter)",
-            "        self.groups.get(host(group), &mut Meter::outside_events());\n"
-            "        self.groups.get(host(group), meter)?.get(source, meter)",
-        )
-        self.refused("a count is made in SourceTrie::get")
+    def test_a_crate_on_an_events_road_that_lists_the_meter(self):
+        self.spoil("crates.txt", "pim_mfc: ", "pim_mfc: pim_meter ", "")
+        self.refused("pim_mfc lists pim_meter")
 
-    def test_the_same_under_another_name(self):
-        self.spoil("pim_world/src/unicast.rt", "use pim_trie::Meter;",
-            "use pim_trie::Meter as Count;\nuse pim_trie::Meter;")
-        self.refused("a count has another name")
+    def test_a_router_that_lists_no_meter(self):
+        self.spoil("crates.txt", " pim_tables pim_meter pim_promises", " pim_tables pim_promises", "")
+        self.refused("pim_router lists no pim_meter")
+
+    def test_a_meter_that_can_be_cloned(self):
+        self.spoil("pim_meter/src/meter.rt", "pub struct Meter {", "#[derive(Clone, Drop)]\npub struct Meter {")
+        self.refused("Meter derives Clone, Drop")
+
+    def test_a_meter_that_is_dropped_by_hand(self):
+        self.spoil(
+            "pim_meter/src/meter.rt",
+            "impl Visited {\n",
+            "impl Drop for Meter {\n    fn drop(self) {\n        let Meter { count: _ } = self;\n    }\n}\n\n"
+            "impl Visited {\n",
+        )
+        self.refused("Meter is Drop")
+
+    def test_a_further_type_of_meter(self):
+        self.spoil("pim_meter/src/meter.rt", "impl Visited {\n",
+            "/// Two counts.\npub struct Twice {\n    count: u64,\n}\n\nimpl Visited {\n")
+        self.refused("Twice derives nothing")
 
     def test_a_further_way_to_make_a_meter(self):
         self.spoil(
-            "pim_trie/src/meter.rt",
+            "pim_meter/src/meter.rt",
             "    /// The nodes visited.\n",
             "    pub fn another() -> Self {\n        Self { count: 0 }\n    }\n\n    /// The nodes visited.\n",
         )
-        self.refused("a count is made in Meter::another")
+        self.refused("a meter is made in Meter::another")
+
+    def test_a_meter_that_can_be_set_back(self):
+        self.spoil(
+            "pim_meter/src/meter.rt",
+            "    /// The nodes visited.\n",
+            "    pub fn restart(&mut self) {\n        self.count = 0;\n    }\n\n    /// The nodes visited.\n",
+        )
+        self.refused("a meter changes in Meter::restart")
+
+    def test_a_trie_that_opens_an_auditor(self):
+        self.spoil("pim_trie/src/trie.rt", "use pim_meter::Meter;", "use pim_meter::{Auditor, Meter, open};")
+        self.refused("an auditor is brought in")
+
+    def test_a_trie_that_passes_all_on(self):
+        self.spoil("pim_trie/src/lib.rt", "pub use pim_meter::Meter;", "pub use pim_meter::*;")
+        self.refused("an auditor is brought in")
+
+    def test_a_walk_that_reads_a_node_twice(self):
+        self.spoil(
+            "pim_trie/src/nodes.rt",
+            "        let node = walk.read(key);\n",
+            "        walk.read(key);\n        let node = walk.read(key);\n",
+        )
+        self.refused("a walk reads a node in next_entry")
 
     def test_a_meter_that_is_set_back_at_the_end(self):
         self.spoil(
             "pim_router/src/router.rt",
             "    take_in(room, world, cache, event, &mut probes.meter)\n",
             "    let outcome = take_in(room, world, cache, event, &mut probes.meter);\n"
-            "    probes.begin();\n    probes.meter.visit();\n    outcome\n",
+            "    probes.begin();\n    outcome\n",
         )
         self.refused("a count begins anew in take_next")
 
-    def test_a_meter_that_can_be_set_back(self):
+    def test_an_event_with_a_meter_of_its_own(self):
         self.spoil(
-            "pim_trie/src/meter.rt",
-            "    /// The nodes visited.\n",
-            "    pub fn restart(&mut self) {\n        self.count = 0;\n    }\n\n    /// The nodes visited.\n",
+            "pim_router/src/router.rt",
+            "    take_in(room, world, cache, event, &mut probes.meter)\n",
+            "    let mut outside = probes.outside();\n    take_in(room, world, cache, event, &mut outside.meter)\n",
         )
-        self.refused("a count changes in Meter::restart")
+        self.refused("a meter is made beside that of events in take_next")
+
+    def test_an_event_with_an_auditor_of_its_own(self):
+        self.spoil(
+            "pim_router/src/router.rt",
+            "    take_in(room, world, cache, event, &mut probes.meter)\n",
+            "    take_in(room, world, cache, event, &mut Probes::new().meter)\n",
+        )
+        self.refused("a meter is made beside that of events in take_next")
 
     def test_all_rows_evaluated_with_a_count_that_is_thrown_away(self):
         self.spoil(
@@ -81,57 +125,48 @@ class Spoilt(unittest.TestCase):
             "{\n            row(world, other, meter, &mut Evaluations::none());\n        }\n"
             "        let made = row(",
         )
-        self.refused("a count is made in Cache::refresh_one", "a row is evaluated in Cache::refresh_one")
+        self.refused("a count of rows is made in Cache::refresh_one", "a row is evaluated in Cache::refresh_one")
 
     def test_rows_evaluated_in_another_cache(self):
         self.spoil(
-            "pim_router/src/event.rt",
+            "pim_event/src/event.rt",
             "    cache.refresh(world, meter, names, disturbed_where(reroutes, touched))?;",
             "    Cache::new(turn.alloc).refresh(world, meter, names.try_clone()?, Touched::All)?;\n"
             "    cache.refresh(world, meter, names, disturbed_where(reroutes, touched))?;",
         )
-        self.refused("a count is made in take_change")
+        self.refused("a count of rows is made in take_change")
+
+    def test_a_count_of_rows_under_another_name(self):
+        self.spoil("pim_fanout/src/naming.rt", "use pim_macros::",
+            "use pim_macros::Evaluations as Count;\nuse pim_macros::")
+        self.refused("a count has another name")
 
     def test_a_row_evaluated_when_asked(self):
         self.spoil(
             "pim_router/src/router.rt",
-            "        self.cache.mfc().cached(SourceGroup { source, group })\n",
-            "        let mut meter = Meter::outside_events();\n        let mut count = Evaluations::none();\n"
-            "        let made = pim_macros::row(&self.world, SourceGroup { source, group }, &mut meter, &mut count);\n"
+            "        self.cache\n"
+            "            .mfc()\n"
+            "            .cached(SourceGroup { source, group }, &mut outside.meter)\n",
+            "        let mut count = Evaluations::none();\n"
+            "        let name = SourceGroup { source, group };\n"
+            "        let made = pim_macros::row(&self.world, name, &mut outside.meter, &mut count);\n"
             "        Some(CacheRow::of(&made.answers()))\n",
         )
         self.refused(
-            "a count is made in Router::cached",
-            "a count is made in Router::cached",
+            "a count of rows is made in Router::cached",
             "`row` is brought in in Router::cached",
-            "a row is told in Router::cached 0 times",
-            "Router::cached calls outside_events, none, row, Some, of, answers",
+            "Router::cached calls outside, none, row, Some, of, answers",
         )
-
-    def test_a_row_asked_for_by_an_event(self):
-        self.spoil(
-            "pim_router/src/event.rt",
-            "    cache\n        .mfc()\n        .forward(",
-            "    cache.mfc().cached(name);\n    cache\n        .mfc()\n        .forward(",
-        )
-        self.refused("a row is told in by_row")
 
     def test_an_event_that_asks_what_a_plane_does(self):
         self.spoil(
             "pim_router/src/router.rt",
             "        let outcome = take_next(",
-            "        offer(&self.world, &self.cache, SourceGroup { source: Addr::NONE, group: Addr::NONE });\n"
+            "        let name = SourceGroup { source: Addr::NONE, group: Addr::NONE };\n"
+            "        offer(&self.world, &self.cache, name, &mut self.probes.meter);\n"
             "        let outcome = take_next(",
         )
         self.refused("a row is offered in Router::step")
-
-    def test_a_row_asked_for_whole(self):
-        self.spoil(
-            "pim_router/src/event.rt",
-            "    cache\n        .mfc()\n        .forward(",
-            "    cache.mfc().kept(name);\n    cache\n        .mfc()\n        .forward(",
-        )
-        self.refused("a row is told whole in by_row")
 
     def test_a_place_that_is_gone(self):
         self.spoil("pim_router/src/router.rt", "    cache.reset();\n", "")

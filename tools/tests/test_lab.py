@@ -10,6 +10,7 @@ from unittest import mock
 from lab import GroupRecord, Network, hosts, topology
 from lab.hosts import ALLOW, BLOCK, IS_EX, IS_IN, TO_EX, TO_IN, Wish
 from pimtext import packets, scenario, story
+from pimtext.printed import OlderHosts
 from tests import stored
 
 GROUP = "239.1.1.1"
@@ -238,6 +239,68 @@ def broken(how, times=3, **host):
     return viewer.payloads(), net
 
 
+def older(igmp, other=3, heard="all"):
+    """A viewer of an older version beside another host of the last router, which leaves the viewer's group: the network
+    and the viewer, once a packet was sent after that.
+    """
+    net = Network()
+    net.router("b", older_hosts=heard)
+    net.line("a", "b")
+    net.rp("a")
+    lan = net.link("b", name="lan")
+    camera, viewer, beside = net.host("camera", "a"), net.host("viewer", lan, igmp=igmp), net.host("x", lan, igmp=other)
+    net.run(10)
+    for host in (viewer, beside):
+        host.join(GROUP)
+    net.run(5)
+    beside.leave(GROUP)
+    net.run(10)
+    camera.send(GROUP, b"one")
+    net.run(5)
+    return net, viewer
+
+
+class Older(unittest.TestCase):
+    """Hosts of IGMPv1 and IGMPv2, where routers hear them."""
+
+    def left(self, net, viewer, seconds):
+        """The modes of groups, and how many groups there are, so long after the viewer left."""
+        viewer.leave(GROUP)
+        net.run(seconds)
+        rows = net.routers["b"].rows
+        return [row.mode for row in rows(OlderHosts)], len(rows(GroupRecord))
+
+    def test_one_of_version_two_is_served_until_it_leaves(self):
+        net, viewer = older(2)
+        self.assertEqual(viewer.payloads(), [b"one"])
+        self.assertEqual([row.mode for row in net.routers["b"].rows(OlderHosts)], ["v2"])
+        self.assertEqual(self.left(net, viewer, 5), ([], 0))
+
+    def test_one_of_version_one_is_served_and_leaves_by_silence(self):
+        net, viewer = older(1)
+        self.assertEqual(viewer.payloads(), [b"one"])
+        self.assertEqual(self.left(net, viewer, 100), (["v1"], 1))
+        self.assertEqual(self.left(net, viewer, 170), ([], 0))
+
+    def test_a_version_that_is_not_heard(self):
+        net, viewer = older(1, heard="v2")
+        self.assertEqual(viewer.payloads(), [])
+        self.assertIn("speaks IGMPv1, which `older_hosts` of b doesn't hear: refused", "\n".join(net.notes()))
+
+    def test_a_leave_beside_a_host_of_version_one(self):
+        net, viewer = older(1, other=2)
+        self.assertEqual(viewer.payloads(), [b"one"])
+        self.assertIn("isn't heard: a host of IGMPv1 wants the group", "\n".join(net.notes()))
+
+    def test_what_they_tell(self):
+        net, viewer = older(2)
+        self.assertEqual(viewer.told([hosts.record(IS_EX, GROUP, ())]), [packets.write_older(viewer.address, GROUP)])
+        self.assertEqual(viewer.told([hosts.record(TO_IN, GROUP, ())])[0][20:].hex(), "940400001700f8fcef010101")
+        viewer.igmp = 1
+        self.assertEqual([viewer.told([hosts.record(kind, GROUP, ())]) for kind in (TO_EX, TO_IN)],
+            [[packets.write_older(viewer.address, GROUP, 1)], []])
+
+
 class Broken(unittest.TestCase):
     """What people get wrong, made on purpose."""
 
@@ -366,7 +429,7 @@ WRONG = [
     ('camera.send("239.1.1.1", bytes(1473))', "a payload of 1473 bytes is too long: a packet takes 1472"),
     ('camera.send("239.1.1.1", b"one", ttl=256)', "256 is no TTL: it is a whole number from 0 to 255"),
     ('camera.stream("239.1.1.1", every=-1)', "-1 is no number of seconds"),
-    ('net.host("x", "west", igmp=4)', "4 is no version of IGMP: it is a whole number from 2 to 3"),
+    ('net.host("x", "west", igmp=4)', "4 is no version of IGMP: it is a whole number from 1 to 3"),
     ('net.host("x", "west", igmp=2).join("239.1.1.1", camera)', "x speaks IGMPv2, by which no source can be named"),
     ('net.links["west-hub"].lose(2)', "2 is no share of the packets that are lost: it is a number from 0 to 1"),
     ('net.links["west-hub"].lose(1, "Hello")', "'Hello' is no kind of packet: it is the class of this name"),

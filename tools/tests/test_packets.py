@@ -44,11 +44,21 @@ class Documented(unittest.TestCase):
         return re.search(r"^    ([0-9a-f]+)$", self.section(title), re.M)[1]
 
     def test_tables_are_the_bytes_of_the_packets(self):
-        header = self.bytes_of("The header that all have")
+        header = self.bytes_of("The header of all packets")
         for title in ("A Hello", "A Join"):
             self.assertEqual(header + self.bytes_of(title), self.packet(title))
         assert_header = header.replace("0036", "002e").replace("cc91", "ce94").replace("0a000203", "0a050003")
         self.assertEqual(assert_header + self.bytes_of("An Assert"), self.packet("An Assert"))
+
+    def test_an_older_report_and_what_it_becomes(self):
+        title = "A report of IGMPv2"
+        told, given = re.findall(r"^    ([0-9a-f]+)$", self.section(title), re.M)
+        self.assertEqual(self.bytes_of(title), told + given)
+        self.assertEqual(packets.write_older("10.8.0.77", "239.1.1.1").hex(), told)
+        becomes = lambda kind: packets.write_report(
+            "10.8.0.77", [packets.Record(kind, "239.1.1.1", ())], packets.ROUTING).hex()
+        self.assertEqual(becomes(2), given)
+        self.assertEqual(becomes(3), given.replace("ebfb", "eafb").replace("02000000ef", "03000000ef"))
 
     def test_they_are_written_so_and_read_back(self):
         hello = packets.Hello(105, 500, 2500, 1, 31)

@@ -9,6 +9,7 @@ import unittest
 from concurrent.futures import ThreadPoolExecutor
 
 from pimtext import packets, scenario, served, story, trees
+from pimtext.older import read_heard
 from tests import stored
 from tests.networks import SOURCE, Network
 
@@ -23,7 +24,7 @@ def is_taken(step, kind):
 
 
 def packet_of(step):
-    return packets.read(step.taken()) if step.iface is None else packets.read_on_link(step.taken())
+    return packets.read(step.taken()) if step.iface is None else read_heard(step.taken())
 
 
 def found(kind):

@@ -226,6 +226,42 @@ class Routers(unittest.TestCase):
         self.assertEqual(router.frame(2, hosts.leave("10.0.2.7", "225.1.1.1")), Answer.DONE)
         self.assertEqual([row.end for row in router.rows("G")], [2000])
 
+    def test_hosts_of_older_versions(self):
+        router, group = self.router(), "239.1.1.1"
+        router.up(2)
+        join, leave = hosts.older_join("10.0.2.7", group), hosts.older_leave("10.0.2.7", group)
+        self.assertEqual(router.frame(2, join), Answer.OLD_VERSION)
+        with self.assertRaises(Refused) as caught:
+            router.set_older_hosts(3, "all")
+        self.assertEqual(caught.exception.answer, Answer.BAD_INTERFACE)
+        self.assertRaises(ValueError, router.set_older_hosts, 2, "v1")
+        router.set_older_hosts(2, "all")
+        self.assertEqual(router.frame(2, join), Answer.DONE)
+        self.assertEqual(router.older_rows(), [(2, group, 2, None, 260000)])
+        self.assertEqual([str(row) for row in router.rows("G")], [f"G 2 {group} exclude 260000"])
+        # a host of IGMPv3 can't cut the older one off
+        self.assertEqual(router.frame(2, hosts.leave("10.0.2.8", group, "10.0.2.9")), Answer.DONE)
+        self.assertEqual(router.rows("S"), [])
+        self.assertEqual(router.frame(2, hosts.older_join("10.0.2.6", group, version=1)), Answer.DONE)
+        self.assertEqual(router.older_rows(), [(2, group, 1, 260000, 260000)])
+        self.assertEqual(router.frame(2, leave), Answer.OLD_VERSION)
+        router.set_older_hosts(2, "v2")
+        self.assertEqual(router.older_rows(), [])
+        self.assertEqual(router.frame(2, hosts.older_join("10.0.2.6", group, version=1)), Answer.OLD_VERSION)
+        self.assertEqual(router.frame(2, leave), Answer.DONE)
+        self.assertEqual([len(one.packet) for one in router.packets()], [36])
+        router.run_to(2000)
+        self.assertEqual(router.rows("G"), [])
+
+    def test_queries_of_version_2(self):
+        router = self.router()
+        router.set_query_version(2, 2)
+        router.up(2)
+        self.assertIn(32, [len(one.packet) for one in router.packets()])
+        with self.assertRaises(Refused) as caught:
+            router.set_query_version(2, 1)
+        self.assertEqual(caught.exception.answer, Answer.NO_SETTING)
+
     def test_texts(self):
         self.assertRegex(viqeshor.version(), r"^0\.1\.0 (not )?proved$")
         self.assertEqual(viqeshor.answer_text(0), "done")

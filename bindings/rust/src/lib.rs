@@ -40,7 +40,7 @@ pub const REGISTER_JOINED: u32 = 1;
 pub const REGISTER_JOIN_PENDING: u32 = 2;
 pub const REGISTER_PRUNED: u32 = 3;
 /// What this crate and the library have to agree on: `VIQ_ABI` of `viqeshor.h`.
-pub const ABI: u32 = 1;
+pub const ABI: u32 = 2;
 
 const DONE: u32 = 0;
 const MEMORY: u32 = 40;
@@ -48,6 +48,7 @@ const FAILED: u32 = 41;
 const LOST: u32 = 43;
 const NO_TIMER: u32 = 52;
 const OTHER_ABI: u32 = 53;
+const NO_SETTING: u32 = 54;
 const NEVER: u64 = u64::MAX;
 const NO_INTERFACE: u32 = u32::MAX;
 
@@ -130,6 +131,30 @@ impl Range {
     fn given(&self) -> raw::Range {
         raw::Range { prefix: self.prefix.into(), length: self.length, rp: self.rp.into() }
     }
+}
+
+/// Which hosts of older versions of IGMP an interface hears (RFC 3376, sections 7.3.2 and 9.2).
+#[derive(Clone, Copy, Debug, Default, PartialEq, Eq, Hash)]
+#[repr(u32)]
+pub enum OlderHosts {
+    /// None, as of a new router.
+    #[default]
+    Nobody = 0,
+    /// Those of IGMPv2.
+    VersionTwo = 1,
+    /// Those of IGMPv1 and IGMPv2.
+    All = 2,
+}
+
+/// The version in which an interface queries (RFC 3376, section 7.3.1).
+#[derive(Clone, Copy, Debug, Default, PartialEq, Eq, Hash)]
+#[repr(u32)]
+pub enum QueryVersion {
+    /// Its queries leave cut behind their group, as those of IGMPv2.
+    Two = 2,
+    /// As of a new router.
+    #[default]
+    Three = 3,
 }
 
 /// What a configuration has beside its lists; `Settings::default()` is what is usual.
@@ -249,6 +274,8 @@ pub enum Error {
     Failed,
     /// The library is of another version than this crate.
     OtherAbi,
+    /// The library has no setting of this number.
+    NoSetting,
     /// An answer that this crate doesn't know.
     Unknown(u32),
 }
@@ -260,6 +287,7 @@ impl Error {
             LOST => Error::Lost,
             FAILED => Error::Failed,
             OTHER_ABI => Error::OtherAbi,
+            NO_SETTING => Error::NoSetting,
             _ => Refusal::of(answer).map_or(Error::Unknown(answer), Error::Refused),
         }
     }
@@ -272,6 +300,7 @@ impl Error {
             Error::Lost => LOST,
             Error::Failed => FAILED,
             Error::OtherAbi => OTHER_ABI,
+            Error::NoSetting => NO_SETTING,
             Error::Unknown(number) => number,
         }
     }
@@ -284,6 +313,13 @@ impl fmt::Display for Error {
 }
 
 impl std::error::Error for Error {}
+
+fn done(answer: u32) -> Result<(), Error> {
+    match answer {
+        DONE => Ok(()),
+        _ => Err(Error::of(answer)),
+    }
+}
 
 fn verdict(answer: u32) -> Result<Verdict, Error> {
     match answer {
@@ -413,6 +449,31 @@ impl Row {
             state: of.state,
             end: of.end,
             pending: of.pending,
+        }
+    }
+}
+
+/// A group in an older mode on an interface: a host of IGMPv1 or IGMPv2 reported it.
+#[derive(Clone, Copy, Debug, PartialEq, Eq)]
+pub struct OlderRow {
+    pub iface: u32,
+    pub group: Ipv4Addr,
+    /// The version, 1 or 2.
+    pub mode: u32,
+    /// When the IGMPv1 Host Present timer expires, in ms, if it runs.
+    pub one_end: Option<u64>,
+    /// When the IGMPv2 Host Present timer expires, in ms, if it runs.
+    pub two_end: Option<u64>,
+}
+
+impl OlderRow {
+    fn told(of: raw::OlderRow) -> OlderRow {
+        OlderRow {
+            iface: of.iface,
+            group: of.group.into(),
+            mode: of.mode,
+            one_end: ends(of.one_end),
+            two_end: ends(of.two_end),
         }
     }
 }
@@ -569,6 +630,16 @@ mod raw {
     }
 
     #[repr(C)]
+    #[derive(Default)]
+    pub struct OlderRow {
+        pub iface: u32,
+        pub group: u32,
+        pub mode: u32,
+        pub one_end: u64,
+        pub two_end: u64,
+    }
+
+    #[repr(C)]
     #[derive(Clone, Copy)]
     pub struct Draw {
         pub bits: u32,
@@ -611,6 +682,11 @@ extern "C" {
     fn viq_read(router: *mut c_void, letter: u8) -> u32;
     fn viq_rows(router: *const c_void) -> usize;
     fn viq_row(router: *const c_void, index: usize, row: *mut raw::Row) -> bool;
+    fn viq_older(router: *mut c_void, iface: u32, hosts: u32) -> u32;
+    fn viq_query_version(router: *mut c_void, iface: u32, version: u32) -> u32;
+    fn viq_older_read(router: *mut c_void) -> u32;
+    fn viq_older_rows(router: *const c_void) -> usize;
+    fn viq_older_row(router: *const c_void, index: usize, row: *mut raw::OlderRow) -> bool;
     fn viq_cached(router: *const c_void, source: u32, group: u32, forwarding: *mut Forwarding) -> bool;
     fn viq_offload(router: *const c_void, source: u32, group: u32, row: *mut PlaneRow) -> bool;
     fn viq_changed(router: *const c_void) -> usize;
@@ -620,6 +696,10 @@ extern "C" {
     fn viq_keep(router: *mut c_void, source: u32, group: u32, moment: u64) -> u32;
     fn viq_probes(router: *const c_void) -> u64;
     fn viq_touched(router: *const c_void) -> u64;
+}
+
+fn ends(moment: u64) -> Option<u64> {
+    (moment != NEVER).then_some(moment)
 }
 
 fn text(from: *const c_char) -> &'static str {
@@ -805,8 +885,7 @@ impl Router {
     /// The timestamp at which the next timer expires: time is to pass then.
     pub fn next_moment(&self) -> Option<u64> {
         // SAFETY: the router is there.
-        let moment = unsafe { viq_next_moment(self.at()) };
-        (moment != NEVER).then_some(moment)
+        ends(unsafe { viq_next_moment(self.at()) })
     }
 
     // ---- what the router knows
@@ -839,6 +918,37 @@ impl Router {
         let mut told = Forwarding::default();
         // SAFETY: the router is there.
         unsafe { viq_cached(self.at(), source.into(), group.into(), &mut told) }.then_some(told)
+    }
+
+    // ---- older versions of IGMP
+
+    /// Sets which hosts of older versions an interface hears from then on, and forgets what it heard before. A new
+    /// router hears none of them, and refuses their messages by `Refusal::OldVersion`. It is no event.
+    pub fn set_older_hosts(&mut self, iface: u32, hosts: OlderHosts) -> Result<(), Error> {
+        // SAFETY: the router is there and borrowed alone.
+        done(unsafe { viq_older(self.at_mut(), iface, hosts as u32) })
+    }
+
+    /// Sets the version in which an interface queries. It is no event. All routers of a link have to query in one
+    /// version.
+    pub fn set_query_version(&mut self, iface: u32, version: QueryVersion) -> Result<(), Error> {
+        // SAFETY: the router is there and borrowed alone.
+        done(unsafe { viq_query_version(self.at_mut(), iface, version as u32) })
+    }
+
+    /// The groups that are in an older mode, ascending by interface and then by group.
+    pub fn older_rows(&mut self) -> Result<Vec<OlderRow>, Error> {
+        // SAFETY: the router is there and borrowed alone.
+        done(unsafe { viq_older_read(self.at_mut()) })?;
+        // SAFETY: the router is there.
+        let count = unsafe { viq_older_rows(self.at()) };
+        Ok((0..count).filter_map(|index| self.older_row(index)).collect())
+    }
+
+    fn older_row(&self, index: usize) -> Option<OlderRow> {
+        let mut row = raw::OlderRow::default();
+        // SAFETY: the router is there.
+        unsafe { viq_older_row(self.at(), index, &mut row) }.then(|| OlderRow::told(row))
     }
 
     // ---- a data plane: `include/viqeshor/plane.h` says what one owes

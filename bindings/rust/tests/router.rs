@@ -1,6 +1,9 @@
 //! Each call of the crate once, and what it answers: a Join of 10.0.1.2 comes and a packet of its source, as in `examples/library`.
 use std::net::Ipv4Addr;
-use viqeshor::{Error, Interface, Kind, Range, Reason, Refusal, Route, Router, Settings, Table, Verdict, JOINED};
+use viqeshor::{
+    Error, Interface, Kind, OlderHosts, OlderRow, QueryVersion, Range, Reason, Refusal, Route, Router, Settings, Table,
+    Verdict, JOINED,
+};
 
 const HELLO_ABOVE: &str = "45C0001E000000000167CEAB0A000001E000000D2000DFFC00010002FFFF";
 const HELLO_BELOW: &str = "45C0001E000000000167CDAA0A000102E000000D2000DFFC00010002FFFF";
@@ -218,4 +221,29 @@ fn texts() {
     assert_eq!(number, env!("CARGO_PKG_VERSION"));
     assert!(["proved", "not proved"].contains(&how));
     assert_eq!(viqeshor::answer_text(0), "done");
+}
+
+/// Of 10.0.1.9, about 239.1.1.1.
+const REPORT_OF_TWO: &str = "4600002000000000010229CD0A000109EF010101940400001600F9FCEF010101";
+const LEAVE_OF_TWO: &str = "4600002000000000010239CD0A000109E0000002940400001700F8FCEF010101";
+
+#[test]
+fn hosts_of_older_versions() {
+    let mut router = joined();
+    let group = address([239, 1, 1, 1]);
+    let old = Err(Error::Refused(Refusal::OldVersion));
+    assert_eq!(router.frame(1, &bytes_of(REPORT_OF_TWO), 0), old);
+    assert_eq!(router.set_older_hosts(3, OlderHosts::All), Err(Error::Refused(Refusal::BadInterface)));
+    assert_eq!(router.set_older_hosts(1, OlderHosts::All), Ok(()));
+    assert_eq!(router.frame(1, &bytes_of(REPORT_OF_TWO), 0), DONE);
+    let row = OlderRow { iface: 1, group, mode: 2, one_end: None, two_end: Some(260_000) };
+    assert_eq!(router.older_rows(), Ok(vec![row]));
+    assert_eq!(only(router.rows(Table::Groups).unwrap()).group, group);
+    assert_eq!(router.set_older_hosts(1, OlderHosts::VersionTwo), Ok(()));
+    assert_eq!(router.older_rows(), Ok(vec![]));
+    assert_eq!(router.set_query_version(1, QueryVersion::Two), Ok(()));
+    assert_eq!(router.frame(1, &bytes_of(LEAVE_OF_TWO), 0), DONE);
+    assert_eq!(only(router.packets()).bytes.len(), 32);
+    assert_eq!(router.set_older_hosts(1, OlderHosts::Nobody), Ok(()));
+    assert_eq!(router.frame(1, &bytes_of(REPORT_OF_TWO), 0), old);
 }

@@ -1,5 +1,5 @@
 //! Routers of IGMP version 2 on a link (RFC 3376, section 7.3.1).
-ghost use Rattle.std.specs.Prelude.{◌≡◌, ◌≤◌, ◌++◌, [], min, option_map, IfOk, OnErr, OnOk};
+ghost use Rattle.std.specs.Prelude.{◌≡◌, ◌≤◌, ◌++◌, [], min, option_map, IfOk, IsOk, None, OnErr, OnOk};
 ghost use Rattle.pim_ip.specs.Ipv4.{igmp_packet_text};
 ghost use Rattle.igmp_wire.specs.Codes.{code_value};
 ghost use Rattle.igmp_wire.specs.Queries.{query_text};
@@ -82,6 +82,7 @@ fn give_packet(alloc: Global, packet: &Ipv4View<'_>, out: &mut Vec<u8>) -> Resul
     ensures ok { IfOk result (λ written. Wrote written (option_map query_packet (packet_queried packet.now))
         out.old.items out.new.items) }
     ensures err { OnErr result (out.new.items ≡ out.old.items) }
+    ensures sure { packet_queried packet.now ≡ None → IsOk result }
 {
     if packet.protocol() != PROTOCOL_IGMP || !packet.destination().is_multicast() {
         return Ok(false);
@@ -94,13 +95,14 @@ fn give_packet(alloc: Global, packet: &Ipv4View<'_>, out: &mut Vec<u8>) -> Resul
 }
 
 /// Whether a packet that came is a query of version 2: then the query of version 3 that the router is to be given in its
-/// place is written behind what stands in `out`. The router elects by it, with its configured values. An `Err` changes
-/// nothing.
+/// place is written behind what stands in `out`. The router elects by it, with its configured values. An `Err` is want of
+/// memory, and changes nothing. Any other packet takes no memory.
 #[tactic(auto, unfolding(crate::specs::Routers::queried))]
 pub fn give_query(alloc: Global, bytes: &[u8], out: &mut Vec<u8>) -> Result<bool, AllocError>
     ensures ok { IfOk result (λ written. Wrote written (option_map query_packet (queried bytes.now))
         out.old.items out.new.items) }
     ensures err { OnErr result (out.new.items ≡ out.old.items) }
+    ensures sure { queried bytes.now ≡ None → IsOk result }
 {
     if bytes.len() > FRAME_LIMIT {
         return Ok(false);

@@ -1,4 +1,5 @@
-//! Which hosts of older versions are heard (RFC 3376, section 9.2).
+//! Which hosts of older versions are heard (RFC 3376, section 9.2), and the version of an interface's queries (section
+//! 7.3.1).
 ghost use Rattle.std.specs.Prelude.{◌≡◌};
 ghost use Rattle.igmp_older.specs.Modes.{hears};
 
@@ -28,4 +29,13 @@ impl OlderHosts {
             (OlderHosts::Nobody, _) => false,
         }
     }
+}
+
+/// The version in which an interface queries. All routers of a link have to query in one version.
+#[derive(Clone, Copy)]
+pub enum QueryVersion {
+    /// IGMPv2: queries leave cut behind their group.
+    Two,
+    /// IGMPv3.
+    Three,
 }

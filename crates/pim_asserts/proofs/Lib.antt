@@ -22,5 +22,4 @@ mod Alone
 mod SptBit
 mod Receiving
 mod Needed
-mod Visited
 mod Stays

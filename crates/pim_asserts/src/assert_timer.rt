@@ -1,11 +1,9 @@
 //! What the expiry of an assert timer changes (RFC 7761, sections 4.6.1 and 4.6.2).
-ghost use Rattle.std.specs.Prelude.{◌≡◌, ◌≤◌, ◌<◌, ◌^◌, OnOk};
+ghost use Rattle.std.specs.Prelude.{◌≡◌, ◌<◌, ◌^◌, OnOk};
 ghost use Rattle.pim_types.specs.declared.timer.TimerKind.{TimerKind};
 ghost use Rattle.pim_model.specs.Asserts.{asserted_metric, wins_again};
 ghost use Rattle.pim_model.specs.Firing.{fired};
-ghost use Rattle.pim_world.specs.Visits.{raised};
 ghost use Rattle.pim_world.specs.Turns.{saying};
-ghost use Rattle.pim_asserts.specs.Visits.{assert_end_nodes, key_nodes};
 
 use pim_macros::{SourceSight, StarSight};
 use pim_types::Key;
@@ -52,8 +50,7 @@ pub(crate) fn win_again(
 }
 
 /// What the expiry of an assert timer changes: a winner sends its Assert again, and a loser forgets the assert. The
-/// meter rises by the nodes that the look-ups visit, at least those of a winner's sight, or those that lead to what a
-/// loser forgets. The error is want of memory.
+/// meter rises by the nodes visited. The error is want of memory.
 #[tactic(auto, unfolding(pim_model::specs::Firing::fired, pim_model::specs::Firing::fire_row, pim_model::specs::Asserts::assert_due, pim_model::specs::Asserts::assert_forgotten))]
 pub fn fired(
     world: &mut World,

@@ -1,9 +1,8 @@
 //! What must go after a change: asserts, and SPTbits with the asserts that they kept.
-ghost use Rattle.std.specs.Prelude.{◌≡◌, ◌≤◌, ◌∷◌, [], IsTrue, OnOk, Some, false, map};
+ghost use Rattle.std.specs.Prelude.{◌≡◌, ◌∷◌, [], IsTrue, OnOk, Some, false, map};
 ghost use Rattle.pim_macros.specs.Sights.{IsSourceSight, IsStarSight};
 ghost use Rattle.pim_opening.specs.After.{AreAfter, IsAfter, opened_in, opening_in};
 ghost use Rattle.pim_world.specs.Turns.{saying};
-ghost use Rattle.pim_world.specs.Visits.{raised, sight_nodes};
 ghost use Rattle.pim_model.specs.Asserts.{without_spt_bit};
 ghost use Rattle.pim_model.specs.Querier.{each_in_turn};
 ghost use Rattle.pim_model.specs.Desires.{join_desired};
@@ -11,7 +10,6 @@ ghost use Rattle.pim_model.specs.State.{State};
 ghost use Rattle.pim_model.specs.Tables.{row_at};
 ghost use Rattle.pim_types.specs.Keys.{source_key};
 ghost use Rattle.pim_asserts.specs.Opened.{clear_asserts, clear_bit, clear_bits, clear_by, clear_source, clear_star};
-ghost use Rattle.pim_asserts.specs.Visits.{alone_asserts_nodes, alone_bit_nodes, alone_nodes, clear_all_asserts_nodes, clear_all_bits_nodes, clear_asserts_nodes, clear_bit_nodes, clear_bits_nodes, clear_nodes, clear_source_nodes, clear_sources_nodes, clear_star_nodes, gone_bit_nodes};
 
 use crate::going::{first_of_source, first_of_star};
 use crate::part::{Part, clear_part};
@@ -121,7 +119,7 @@ fn forget_spt_bit(
     row: SourceRow,
 ) -> Result<(), AllocError>
     requires { row_at world.old.sources (source_key 0 name.group.bits name.source.bits) ≡ Some row }
-    ensures state { OnOk result (world.new
+    ensures { OnOk result (world.new
         ≡ without_spt_bit world.old (source_key 0 name.group.bits name.source.bits)) }
 {
     // For the proof: a key is listed once.
@@ -161,7 +159,7 @@ fn clear_bit(
 
 // JoinDesired(S,G).
 fn is_joined(world: &World, meter: &mut Meter, name: SourceGroup) -> bool
-    ensures desired { result ≡ join_desired world.now name.group.bits name.source.bits }
+    ensures { result ≡ join_desired world.now name.group.bits name.source.bits }
 {
     SourceSight::with_star(world, name, meter).join_desired()
 }
@@ -201,8 +199,7 @@ fn clear_all_bits(
 
 /// Clears what must go of what was opened: group after group the asserts of (*,G) and of its sources, then source after
 /// source the SPTbit and the asserts that must go with it; all macros are evaluated anew after each. The meter rises by
-/// the nodes that the look-ups visit, at least those of each sight, and those that lead to the facts of what goes. The
-/// error is want of memory.
+/// the nodes visited. The error is want of memory.
 #[tactic(auto, unfolding(crate::specs::Opened::clear_by))]
 pub fn clear(
     world: &mut World,
@@ -272,8 +269,8 @@ fn clear_bit_by_sight(
 }
 
 /// Clears what must go where one source alone was opened, by its sight, which is gathered again only where something
-/// goes: it is true of the state before, and then of the state after. The meter rises where something goes, by the
-/// nodes that the look-ups visit.
+/// goes: it is true of the state before, and then of the state after. The meter rises by the nodes visited. The error is
+/// want of memory.
 #[tactic(auto, unfolding(crate::specs::Opened::clear_by, crate::specs::Opened::clear_asserts, crate::specs::Opened::clear_star, crate::specs::Opened::clear_bits))]
 pub fn clear_alone(
     world: &mut World,

@@ -1,13 +1,11 @@
 //! An Assert, and data that calls for one (RFC 7761, sections 4.6.1 and 4.6.2).
-ghost use Rattle.std.specs.Prelude.{◌≡◌, ◌≤◌, ◌<◌, ◌^◌, ◌+◌, IfOk, OnOk, false, not, ◌&&◌};
+ghost use Rattle.std.specs.Prelude.{◌≡◌, ◌<◌, ◌^◌, ◌+◌, IfOk, OnOk, false, not, ◌&&◌};
 ghost use Rattle.pim_types.specs.Keys.{source_key, star_key};
 ghost use Rattle.pim_model.specs.Asserts.{assert_at, assert_received, asserted_metric, data_seen, loses, theirs_of};
 ghost use Rattle.pim_model.specs.Tables.{has_row};
-ghost use Rattle.pim_world.specs.Visits.{raised};
 ghost use Rattle.pim_world.specs.Turns.{saying};
 ghost use Rattle.pim_macros.specs.Sights.{IsSourceSight, IsStarSight};
 ghost use Rattle.pim_asserts.specs.Receiving.{after_action, data_key, goes_on_to_star, source_asserted, stance_at, wins_with};
-ghost use Rattle.pim_asserts.specs.Visits.{action_nodes, asserted_nodes, data_nodes, key_nodes, machine_nodes, new_assert_nodes, source_asserted_nodes};
 
 use crate::action::{Action, action_of};
 use crate::assert_timer::{WINNER_TIME, asserted_metric, win_again};
@@ -77,7 +75,7 @@ fn lose(
 ) -> Result<(), AllocError>
     requires plain { key.rpt ≡ false }
     requires below { key.iface.number < 120 }
-    ensures state { OnOk result (world.new ≡ loses world.old key theirs) }
+    ensures { OnOk result (world.new ≡ loses world.old key theirs) }
 {
     let row = AssertRow {
         role: AssertRole::Loser,
@@ -185,9 +183,8 @@ pub(crate) fn metric_of(from: Addr, assert: &Assert) -> AssertMetric
 }
 
 /// Takes an Assert that came from an address. One of a source goes to (S,G), and with R set on to (*,G) where (S,G) was
-/// in NoInfo and still is; one without a source goes to (*,G) alone. The meter rises by the nodes that the look-ups
-/// visit, at least those of the sight of each machine that it goes to, and those that lead to the facts of what gets an
-/// assert or loses one. The error is want of memory.
+/// in NoInfo and still is; one without a source goes to (*,G) alone. The meter rises by the nodes visited. The
+/// error is want of memory.
 pub fn received(
     world: &mut World,
     turn: &mut Turn,
@@ -282,8 +279,8 @@ fn data_seen_of_source(
 }
 
 /// Takes data on an interface on which the router forwards it, as an event of the machine of (S,G) with SPTbit(S,G),
-/// else of (*,G): where it could assert and none has won or lost yet, it wins, and the meter rises by the nodes that
-/// lead to the facts of the source, or the group. An error is want of memory.
+/// else of (*,G): where it could assert and none has won or lost yet, it wins. The meter rises by the nodes
+/// visited. An error is want of memory.
 pub fn data_seen(
     world: &mut World,
     turn: &mut Turn,

@@ -1,14 +1,12 @@
 //! The asserts of a group, or of a source, that must go: one after the other.
-ghost use Rattle.std.specs.Prelude.{◌≡◌, ◌≤◌, ◌<◌, ◌∷◌, [], IfOk, OnOk, false, if◌then◌else◌, is_some};
+ghost use Rattle.std.specs.Prelude.{◌≡◌, ◌<◌, ◌∷◌, [], IfOk, OnOk, false, if◌then◌else◌, is_some};
 ghost use Rattle.pim_world.specs.Turns.{saying};
-ghost use Rattle.pim_world.specs.Visits.{mark_nodes, raised, sight_nodes};
 ghost use Rattle.pim_model.specs.Asserts.{assert_cancel, assert_forgotten};
 ghost use Rattle.pim_model.specs.Sets.{is_winner};
 ghost use Rattle.pim_model.specs.Tables.{row_at};
 ghost use Rattle.pim_macros.specs.Rows.{number_of};
 ghost use Rattle.pim_asserts.specs.Going.{clear_once, first_below, goes_at, part_key, source_bits};
 ghost use Rattle.pim_asserts.specs.Opened.{clear_part, part_to_clear};
-ghost use Rattle.pim_asserts.specs.Visits.{part_nodes, turn_nodes};
 
 use crate::going::{first_of_source, first_of_star};
 use pim_macros::asserts::infinite;
@@ -29,7 +27,7 @@ pub(crate) struct Part {
 
 // The first interface on which the assert must go.
 fn first_to_go(world: &World, meter: &mut Meter, part: Part) -> Option<IfaceId>
-    ensures first { number_of result
+    ensures { number_of result
         ≡ first_below (goes_at part.was part.group.bits (source_bits part.source) world.now) }
 {
     let star = StarSight::of(world, part.group, meter);

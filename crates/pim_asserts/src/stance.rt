@@ -1,10 +1,8 @@
 //! The stance of the router in an assert machine (RFC 7761, sections 4.6.1 to 4.6.3).
-ghost use Rattle.std.specs.Prelude.{◌≡◌, ◌≤◌, ◌<◌, false};
+ghost use Rattle.std.specs.Prelude.{◌≡◌, ◌<◌, false};
 ghost use Rattle.pim_types.specs.Keys.{source_key, star_key};
-ghost use Rattle.pim_world.specs.Visits.{raised};
 ghost use Rattle.pim_macros.specs.Sights.{IsSourceSight, IsStarSight};
 ghost use Rattle.pim_asserts.specs.Receiving.{stance_at};
-ghost use Rattle.pim_asserts.specs.Visits.{key_nodes};
 
 use pim_macros::{SourceSight, StarSight};
 use pim_types::fact::AssertMetric;
@@ -59,7 +57,7 @@ pub(crate) fn source_stance(world: &World, sight: &SourceSight, iface: IfaceId) 
 pub(crate) fn stance_of(world: &World, meter: &mut Meter, key: Key) -> Stance
     requires plain { key.rpt ≡ false }
     requires below { key.iface.number < 120 }
-    ensures stance { result ≡ stance_at world.now key }
+    ensures { result ≡ stance_at world.now key }
 {
     let star = StarSight::of(world, key.group, meter);
     match key.source {

@@ -14,53 +14,68 @@ use Rattle.pim_model.specs.Printed.{rows}
 use Rattle.pim_model.specs.Sets.{Set, is_kept_alive}
 use Rattle.pim_model.specs.State.{opening}
 use Rattle.pim_model.specs.Step.{step}
-use Rattle.pim_model.specs.Sure.{needs_no_memory}
 use Rattle.pim_model.specs.Unicast.{rpf_interface_rp}
 use Rattle.pim_offload.specs.Keeping.{keep}
 use Rattle.pim_offload.specs.Offered.{Offered, offered}
 use Rattle.pim_reach.specs.Named.{event_named}
-use Rattle.pim_router.specs.Costs.{IsCheap}
-use Rattle.pim_router.specs.Disturbing.{event_disturbed}
-use Rattle.pim_router.specs.Listing.{ListsSame}
-use Rattle.pim_router.specs.Staying.{OffersStay}
+use Rattle.pim_event.specs.Costs.{IsCheap}
+use Rattle.pim_event.specs.Disturbing.{event_disturbed}
+use Rattle.pim_event.specs.Listing.{ListsSame}
+use Rattle.pim_event.specs.Staying.{OffersStay}
 use Rattle.pim_router.specs.Standing.{Standing, begun, nothing_shown, standing, with_state}
+use Rattle.pim_session.specs.Front.{emissions_left, front_after, given, hosts_set, interface_test, is_sure, older_rows, version_set}
 use Rattle.pim_session.specs.Session.{ShownSession}
+use Rattle.igmp_older.specs.declared.mode.OlderRow.{OlderRow}
+use Rattle.igmp_older.specs.declared.setting.OlderHosts.{OlderHosts}
+use Rattle.igmp_older.specs.declared.setting.QueryVersion.{QueryVersion}
 use Rattle.pim_types.specs.declared.config.Config.{Config}
 use Rattle.pim_types.specs.declared.event.Event.{Event}
 use Rattle.pim_types.specs.declared.fact.Key.{Key}
 use Rattle.pim_types.specs.declared.outcome.Emission.{Emission}
 use Rattle.pim_types.specs.declared.table.Row.{Row}
 use Rattle.pim_types.specs.declared.table.Table.{Table}
-use Rattle.pim_c.specs.Told.{answer_number, bytes_in, kept_number, name_of, no_interface_number, told_packet, row_of, written_into}
+use Rattle.pim_c.specs.Told.{answer_number, bytes_in, kept_number, name_of, no_interface_number, older_group_of, set_number, told_packet, row_of, written_into}
 use Rattle.pim_c.specs.declared.told.Forwarding.{Forwarding}
 use Rattle.pim_c.specs.declared.told.Interfaces.{Interfaces}
 use Rattle.pim_c.specs.declared.told.NamedSource.{NamedSource}
+use Rattle.pim_c.specs.declared.told.OlderGroup.{OlderGroup}
 use Rattle.pim_c.specs.declared.told.Packet.{Packet}
 use Rattle.pim_c.specs.declared.told.PlaneRow.{PlaneRow}
 use Rattle.pim_c.specs.declared.told.TableRow.{TableRow}
 
 -- What a session shows of a new router.
 abbrev pub new_shown : Config → ShownSession
-new_shown config = record { router = begun (opening config); sent = []; rows = [] }
+new_shown config = record { router = begun (opening config); front = None; sent = []; rows = []; older_rows = [] }
 
 -- What a session shows after an allocation failed.
 abbrev pub lost : ShownSession → ShownSession
-lost s = record { router = nothing_shown; sent = s.sent; rows = s.rows }
+lost s = record s { router = nothing_shown; front = None }
 
--- What a session shows after an event that had no fault, whether it was done, ignored or refused.
-abbrev pub Taken : ShownSession → Standing → Event → ShownSession → Type 0
-Taken s r e left = (left.router.standing ≡ Some (standing (step r.state e)))
+-- What a session shows after an event that had no fault, whether it was done, ignored or refused: by the event as the
+-- router was given it.
+abbrev pub Went : ShownSession → Standing → Event → ShownSession → Type 0
+Went s r e left = (left.router.standing ≡ Some (standing (step r.state e)))
     × IsCheap r.state e left.router.probes left.router.touched
     × ListsSame left.router.changed (event_named r.state e)
     × (left.router.disturbed ≡ event_disturbed r.state e)
     × OffersStay left.router.disturbed r.state (step r.state e).state
-    × (left.sent ≡ (step r.state e).emissions) × (left.rows ≡ s.rows)
+    × (left.rows ≡ s.rows) × (left.older_rows ≡ s.older_rows)
+
+-- An event before which nothing stood.
+abbrev pub Taken : ShownSession → Standing → Event → ShownSession → Type 0
+Taken s r e left = Went s r e left × (left.front ≡ s.front) × (left.sent ≡ (step r.state e).emissions)
+
+-- An event behind what stands before the router.
+abbrev pub TakenBehind : ShownSession → Standing → Event → Event → ShownSession → Type 0
+TakenBehind s r e behind left = Went s r behind left × (left.front ≡ front_after s.front r.state e)
+    × (left.sent ≡ emissions_left s.front (step r.state behind).emissions)
 
 abbrev pub SteppedFrom : ShownSession → Option Standing → Event → ℕ → ShownSession → Type 0
 SteppedFrom s None e answer left = (answer ≡ 41) × (left ≡ lost s)
 SteppedFrom s (Some r) e answer left =
-    ((answer ≡ answer_number (step r.state e).answer) × Taken s r e left)
-    ⊎ ((answer ≡ 43) × (left ≡ lost s) × (needs_no_memory (step r.state e).answer ≡ false))
+    ((answer ≡ answer_number (step r.state (given s.front r.state e)).answer)
+    × TakenBehind s r e (given s.front r.state e) left)
+    ⊎ ((answer ≡ 43) × (left ≡ lost s) × (is_sure s.front r.state e ≡ false))
 
 -- The router took the event and the answer is the router's, or an allocation failed.
 abbrev pub Stepped : Option ShownSession → Event → ℕ → Option ShownSession → Type 0
@@ -96,11 +111,7 @@ Seen (Some s) e answer None = ⊥
 abbrev pub SourceKeptFrom : ShownSession → Option Standing → ℕ → ℕ → ℕ → ℕ → ShownSession → Type 0
 SourceKeptFrom s None source group moment answer left = (answer ≡ 41) × (left ≡ lost s)
 SourceKeptFrom s (Some r) source group moment answer left =
-    ((answer ≡ kept_number (is_kept_alive r.state group source)) × (left ≡ record {
-      router = with_state s.router r (keep r.state group source (min moment last_moment));
-      sent = s.sent;
-      rows = s.rows;
-    }))
+    ((answer ≡ kept_number (is_kept_alive r.state group source)) × (left ≡ record s { router = with_state s.router r (keep r.state group source (min moment last_moment)) }))
     ⊎ ((answer ≡ 43) × (left ≡ lost s))
 
 -- The source's keepalive timer was moved if it runs, or an allocation failed.
@@ -118,7 +129,7 @@ KeepAnswered false old source group moment answer left = SourceKept old source g
 abbrev pub ReadFrom : ShownSession → Option Standing → Table → ℕ → ShownSession → Type 0
 ReadFrom s None table answer left = (answer ≡ 41) × (left ≡ s)
 ReadFrom s (Some r) table answer left =
-    ((answer ≡ 0) × (left ≡ record { router = s.router; sent = s.sent; rows = rows r.state table }))
+    ((answer ≡ 0) × (left ≡ record s { rows = rows r.state table }))
     ⊎ ((answer ≡ 40) × (left ≡ s))
 
 -- The rows of the table were read, or an allocation failed.
@@ -132,6 +143,52 @@ abbrev pub ReadBy : Option ShownSession → Option Table → ℕ → Option Show
 ReadBy old None answer left = (answer ≡ 51) × (left ≡ old)
 ReadBy old (Some table) answer left = Read old table answer left
 
+abbrev pub HostsSetFrom : ShownSession → Option Standing → ℕ → OlderHosts → ℕ → ShownSession → Type 0
+HostsSetFrom s None i hosts answer left = (answer ≡ 41) × (left ≡ s)
+HostsSetFrom s (Some r) i hosts answer left =
+    ((answer ≡ set_number (interface_test r.state i)) × (left ≡ record s { front = hosts_set r.state s.front i hosts }))
+    ⊎ ((answer ≡ 40) × (left ≡ s))
+
+-- The hosts that an interface hears were set, or the interface was refused, or an allocation failed.
+abbrev pub HostsSet : Option ShownSession → ℕ → OlderHosts → ℕ → Option ShownSession → Type 0
+HostsSet None i hosts answer left = (answer ≡ 50) × (left ≡ None)
+HostsSet (Some s) i hosts answer (Some left) = HostsSetFrom s s.router.standing i hosts answer left
+HostsSet (Some s) i hosts answer None = ⊥
+
+-- A number that names no hosts is refused, and nothing changes; else the hosts are set.
+abbrev pub HostsSetBy : Option ShownSession → ℕ → Option OlderHosts → ℕ → Option ShownSession → Type 0
+HostsSetBy old i None answer left = (answer ≡ 54) × (left ≡ old)
+HostsSetBy old i (Some hosts) answer left = HostsSet old i hosts answer left
+
+abbrev pub VersionSetFrom : ShownSession → Option Standing → ℕ → QueryVersion → ℕ → ShownSession → Type 0
+VersionSetFrom s None i version answer left = (answer ≡ 41) × (left ≡ s)
+VersionSetFrom s (Some r) i version answer left =
+    ((answer ≡ set_number (interface_test r.state i)) × (left ≡ record s { front = version_set r.state s.front i version }))
+    ⊎ ((answer ≡ 40) × (left ≡ s))
+
+-- The version in which an interface queries was set, or the interface was refused, or an allocation failed.
+abbrev pub VersionSet : Option ShownSession → ℕ → QueryVersion → ℕ → Option ShownSession → Type 0
+VersionSet None i version answer left = (answer ≡ 50) × (left ≡ None)
+VersionSet (Some s) i version answer (Some left) = VersionSetFrom s s.router.standing i version answer left
+VersionSet (Some s) i version answer None = ⊥
+
+-- A number that names no version is refused, and nothing changes; else the version is set.
+abbrev pub VersionSetBy : Option ShownSession → ℕ → Option QueryVersion → ℕ → Option ShownSession → Type 0
+VersionSetBy old i None answer left = (answer ≡ 54) × (left ≡ old)
+VersionSetBy old i (Some version) answer left = VersionSet old i version answer left
+
+abbrev pub OlderReadFrom : ShownSession → Option Standing → ℕ → ShownSession → Type 0
+OlderReadFrom s None answer left = (answer ≡ 41) × (left ≡ s)
+OlderReadFrom s (Some r) answer left =
+    ((answer ≡ 0) × (left ≡ record s { older_rows = older_rows s.front r.state }))
+    ⊎ ((answer ≡ 40) × (left ≡ s))
+
+-- The groups in an older mode were read, or an allocation failed.
+abbrev pub OlderRead : Option ShownSession → ℕ → Option ShownSession → Type 0
+OlderRead None answer left = (answer ≡ 50) × (left ≡ None)
+OlderRead (Some s) answer (Some left) = OlderReadFrom s s.router.standing answer left
+OlderRead (Some s) answer None = ⊥
+
 -- What is to be sent: nothing once the router has failed.
 abbrev pub to_send : List Emission → Option Standing → List Emission
 to_send sent None = []
@@ -144,6 +201,10 @@ packets_in (Some s) = to_send s.sent s.router.standing
 abbrev pub rows_in : Option ShownSession → List Row
 rows_in None = []
 rows_in (Some s) = s.rows
+
+abbrev pub older_rows_in : Option ShownSession → List OlderRow
+older_rows_in None = []
+older_rows_in (Some s) = s.older_rows
 
 abbrev pub standing_in : Option ShownSession → Option Standing
 standing_in None = None
@@ -183,6 +244,10 @@ PacketTold (Some emission) is_copied is_there packet told room filled =
 abbrev pub RowTold : Option Row → Bool → TableRow → TableRow → Type 0
 RowTold None is_there row told = (is_there ≡ false) × (told ≡ row)
 RowTold (Some found) is_there row told = (is_there ≡ true) × (told ≡ row_of found)
+
+abbrev pub OlderTold : Option OlderRow → Bool → OlderGroup → OlderGroup → Type 0
+OlderTold None is_there row told = (is_there ≡ false) × (told ≡ row)
+OlderTold (Some found) is_there row told = (is_there ≡ true) × (told ≡ older_group_of found)
 
 abbrev pub NameTold : Option Key → Bool → NamedSource → NamedSource → Type 0
 NameTold None is_there name told = (is_there ≡ false) × (told ≡ name)

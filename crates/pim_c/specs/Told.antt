@@ -14,7 +14,12 @@ use Rattle.pim_types.specs.declared.table.DownstreamState.{DownstreamState}
 use Rattle.pim_types.specs.declared.table.RegisterName.{RegisterName}
 use Rattle.pim_types.specs.declared.table.Row.{Row}
 use Rattle.pim_types.specs.declared.table.Table.{Table}
+use Rattle.igmp_older.specs.declared.mode.Mode.{Mode}
+use Rattle.igmp_older.specs.declared.mode.OlderRow.{OlderRow}
+use Rattle.igmp_older.specs.declared.setting.OlderHosts.{OlderHosts}
+use Rattle.igmp_older.specs.declared.setting.QueryVersion.{QueryVersion}
 use Rattle.pim_c.specs.declared.told.NamedSource.{NamedSource}
+use Rattle.pim_c.specs.declared.told.OlderGroup.{OlderGroup}
 use Rattle.pim_c.specs.declared.told.Packet.{Packet}
 use Rattle.pim_c.specs.declared.told.TableRow.{TableRow}
 
@@ -54,6 +59,36 @@ loss_number Fault.Wire = 42
 abbrev pub kept_number : Bool → ℕ
 kept_number true = 0
 kept_number false = 52
+
+-- The number of an answer to a setting of an interface.
+abbrev pub set_number : Result (Unit {0}) Refusal → ℕ
+set_number (Ok _) = 0
+set_number (Err refusal) = refusal_number refusal
+
+abbrev pub older_hosts_of : ℕ → Option OlderHosts
+older_hosts_of number =
+    if number == 0 then Some OlderHosts.Nobody
+    else (if number == 1 then Some OlderHosts.VersionTwo
+    else (if number == 2 then Some OlderHosts.All else None))
+
+abbrev pub query_version_of : ℕ → Option QueryVersion
+query_version_of number =
+    if number == 2 then Some QueryVersion.Two
+    else (if number == 3 then Some QueryVersion.Three else None)
+
+abbrev pub mode_number : Mode → ℕ
+mode_number Mode.One = 1
+mode_number Mode.Two = 2
+mode_number Mode.Three = 3
+
+abbrev pub older_group_of : OlderRow → OlderGroup
+older_group_of r = record {
+  iface = r.iface.number;
+  group = r.group.bits;
+  mode = mode_number r.mode;
+  one_end = unwrap_or r.one_end never;
+  two_end = unwrap_or r.two_end never;
+}
 
 abbrev pub bytes_in : Emission → List ℕ
 bytes_in (Emission.Link iface bytes) = bytes

@@ -6,16 +6,16 @@ ghost use Rattle.pim_model.specs.Judging.{last_moment};
 ghost use Rattle.pim_model.specs.Timers.{next_moment};
 ghost use Rattle.pim_offload.specs.Seen.{seen_event};
 ghost use Rattle.pim_types.specs.declared.event.EventKind.{EventKind};
-ghost use Rattle.pim_c.specs.Called.{CachedTold, Copied, KeepAnswered, Made, NameTold, OffloadTold, PacketTold, ReadBy, RowTold, Seen, Stepped, changed_in, copies_in, is_copy, may_differ_in, packets_in, probes_in, rows_in, standing_in, touched_in};
+ghost use Rattle.pim_c.specs.Called.{CachedTold, Copied, HostsSetBy, KeepAnswered, Made, NameTold, OffloadTold, OlderRead, OlderTold, PacketTold, ReadBy, RowTold, Seen, Stepped, VersionSetBy, changed_in, copies_in, is_copy, may_differ_in, older_rows_in, packets_in, probes_in, rows_in, standing_in, touched_in};
 ghost use Rattle.pim_ifset.specs.Members.{iface_of};
 ghost use Rattle.pim_c.specs.Given.{config_of, given_event, range_of, route_of};
-ghost use Rattle.pim_c.specs.Told.{never, table_of_letter};
+ghost use Rattle.pim_c.specs.Told.{never, older_hosts_of, query_version_of, table_of_letter};
 
 use crate::given::{self, GivenInterface, GivenRange, GivenRoute, GivenSettings};
 use crate::handle::Handle;
 use crate::told::{
-    self, Forwarding, LAST_MOMENT, MEMORY, MOMENT_FAR, NO_TABLE, NamedSource, Packet, PlaneRow,
-    TableRow,
+    self, Forwarding, LAST_MOMENT, MEMORY, MOMENT_FAR, NO_SETTING, NO_TABLE, NamedSource,
+    OlderGroup, Packet, PlaneRow, TableRow,
 };
 use pim_intake::LentEvent;
 use pim_types::{Addr, Event, EventKind, IfaceId};
@@ -215,6 +215,70 @@ pub extern "C" fn viq_core_row(
     ensures stays { router.new.place.inside ≡ router.old.place.inside }
 {
     router.row(alloc, index, row)
+}
+
+/// Sets which hosts of older versions of IGMP an interface hears, by a number: 0 none, 1 those of version 2, 2 those of
+/// versions 1 and 2. What was heard there before is forgotten.
+#[unsafe(no_mangle)]
+pub extern "C" fn viq_core_older(
+    alloc: Global,
+    router: &mut Handle,
+    iface: u32,
+    hosts: u32,
+) -> u32
+    ensures { HostsSetBy router.old.place.inside iface (older_hosts_of hosts) result router.new.place.inside }
+{
+    match told::older_hosts(hosts) {
+        Some(hosts) => router.set_older_hosts(alloc, IfaceId { number: iface }, hosts),
+        None => NO_SETTING,
+    }
+}
+
+/// Sets the version in which an interface queries: 2 or 3.
+#[unsafe(no_mangle)]
+pub extern "C" fn viq_core_query_version(
+    alloc: Global,
+    router: &mut Handle,
+    iface: u32,
+    version: u32,
+) -> u32
+    ensures { VersionSetBy router.old.place.inside iface (query_version_of version) result router.new.place.inside }
+{
+    match told::query_version(version) {
+        Some(version) => router.set_query_version(alloc, IfaceId { number: iface }, version),
+        None => NO_SETTING,
+    }
+}
+
+/// Reads the groups that are in an older mode.
+#[unsafe(no_mangle)]
+pub extern "C" fn viq_core_older_read(alloc: Global, router: &mut Handle) -> u32
+    ensures { OlderRead router.old.place.inside result router.new.place.inside }
+{
+    router.read_older(alloc)
+}
+
+/// How many groups in an older mode were read.
+#[unsafe(no_mangle)]
+pub extern "C" fn viq_core_older_rows(alloc: Global, router: &mut Handle) -> usize
+    ensures count { result ≡ length (older_rows_in router.old.place.inside) }
+    ensures stays { router.new.place.inside ≡ router.old.place.inside }
+{
+    router.older_rows(alloc)
+}
+
+/// Reads one of the groups in an older mode that were read, counted from 0. False where there is none of this number.
+#[unsafe(no_mangle)]
+pub extern "C" fn viq_core_older_row(
+    alloc: Global,
+    router: &mut Handle,
+    index: usize,
+    row: &mut OlderGroup,
+) -> bool
+    ensures told { OlderTold (slice_get (older_rows_in router.old.place.inside) index) result row.old row.new }
+    ensures stays { router.new.place.inside ≡ router.old.place.inside }
+{
+    router.older_row(alloc, index, row)
 }
 
 /// How data of a source to a group is forwarded, by the forwarding cache. False where the cache has no row of it.

@@ -14,13 +14,14 @@ ghost use Rattle.pim_offload.specs.Offered.{Offered as OfferedValue};
 ghost use Rattle.pim_offload.specs.Seen.{seen_event};
 ghost use Rattle.pim_offrow.specs.Shown.{TellsOffload};
 ghost use Rattle.pim_c.specs.Told.{never};
-ghost use Rattle.pim_c.specs.Called.{AnswersTold, CachedTold, SourceKept, SourceKeptFrom, Made, NameTold, OfferTold, OffloadTold, PacketTold, Read, ReadFrom, Refused, RowTold, Seen, SeenFrom, Stepped, SteppedFrom, changed_in, copies_in, is_copy, lost, may_differ_in, new_shown, packets_in, probes_in, refused_number, rows_in, standing_in, to_send, touched_in};
+ghost use Rattle.pim_c.specs.Called.{AnswersTold, CachedTold, HostsSet, HostsSetFrom, SourceKept, SourceKeptFrom, Made, NameTold, OfferTold, OffloadTold, OlderRead, OlderReadFrom, OlderTold, PacketTold, Read, ReadFrom, Refused, RowTold, Seen, SeenFrom, Stepped, SteppedFrom, VersionSet, VersionSetFrom, changed_in, copies_in, is_copy, lost, may_differ_in, new_shown, older_rows_in, packets_in, probes_in, refused_number, rows_in, standing_in, to_send, touched_in};
 
 use crate::place::Place;
 use crate::told::{
-    self, DONE, FAILED, Forwarding, MEMORY, NEVER, NO_ROUTER, NamedSource, Packet, PlaneRow,
-    TableRow, answer_number, kept_number, loss_number,
+    self, DONE, FAILED, Forwarding, MEMORY, NEVER, NO_ROUTER, NamedSource, OlderGroup, Packet,
+    PlaneRow, TableRow, answer_number, kept_number, loss_number, set_number,
 };
+use igmp_older::{OlderHosts, OlderRow, QueryVersion};
 use pim_intake::LentEvent;
 use pim_mfc::CacheRow;
 use pim_offrow::Offered;
@@ -134,6 +135,42 @@ impl Handle {
             return NO_ROUTER;
         };
         let answer = read(session.as_mut(), table);
+        self.put(session);
+        answer
+    }
+
+    /// Sets which hosts of older versions an interface hears. The result is the number of the answer.
+    pub fn set_older_hosts(&mut self, alloc: Global, iface: IfaceId, hosts: OlderHosts) -> u32
+        ensures { HostsSet self.old.place.inside iface.number hosts result self.new.place.inside }
+    {
+        let Some(mut session) = self.take(alloc) else {
+            return NO_ROUTER;
+        };
+        let answer = set_older_hosts(alloc, session.as_mut(), iface, hosts);
+        self.put(session);
+        answer
+    }
+
+    /// Sets the version in which an interface queries. The result is the number of the answer.
+    pub fn set_query_version(&mut self, alloc: Global, iface: IfaceId, version: QueryVersion) -> u32
+        ensures { VersionSet self.old.place.inside iface.number version result self.new.place.inside }
+    {
+        let Some(mut session) = self.take(alloc) else {
+            return NO_ROUTER;
+        };
+        let answer = set_query_version(alloc, session.as_mut(), iface, version);
+        self.put(session);
+        answer
+    }
+
+    /// Has the router read the groups in an older mode. The result is the number of the answer.
+    pub fn read_older(&mut self, alloc: Global) -> u32
+        ensures { OlderRead self.old.place.inside result self.new.place.inside }
+    {
+        let Some(mut session) = self.take(alloc) else {
+            return NO_ROUTER;
+        };
+        let answer = read_older(alloc, session.as_mut());
         self.put(session);
         answer
     }
@@ -336,6 +373,32 @@ impl Handle {
         self.put(session);
         is_there
     }
+
+    /// How many groups in an older mode were read.
+    pub fn older_rows(&mut self, alloc: Global) -> usize
+        ensures count { result ≡ length (older_rows_in self.old.place.inside) }
+        ensures stays { self.new.place.inside ≡ self.old.place.inside }
+    {
+        let Some(session) = self.take(alloc) else {
+            return 0;
+        };
+        let count = session.older_rows().len();
+        self.put(session);
+        count
+    }
+
+    /// Reads one of the groups in an older mode that were read, counted from 0.
+    pub fn older_row(&mut self, alloc: Global, index: usize, row: &mut OlderGroup) -> bool
+        ensures told { OlderTold (slice_get (older_rows_in self.old.place.inside) index) result row.old row.new }
+        ensures stays { self.new.place.inside ≡ self.old.place.inside }
+    {
+        let Some(session) = self.take(alloc) else {
+            return false;
+        };
+        let is_there = tell_older(session.older_rows(), index, row);
+        self.put(session);
+        is_there
+    }
 }
 
 // A session behind a box.
@@ -405,6 +468,19 @@ fn tell_row(rows: &[Row], index: usize, row: &mut TableRow) -> bool
     match rows.get(index) {
         Some(found) => {
             *row = told::row(found);
+            true
+        }
+        None => false,
+    }
+}
+
+// Writes out one of the groups in an older mode, if it exists.
+fn tell_older(rows: &[OlderRow], index: usize, row: &mut OlderGroup) -> bool
+    ensures { OlderTold (slice_get rows.now index) result row.old row.new }
+{
+    match rows.get(index) {
+        Some(found) => {
+            *row = told::older_group(found);
             true
         }
         None => false,
@@ -505,6 +581,46 @@ fn read(session: &mut Session, table: Table) -> u32
     ensures { ReadFrom session.old session.old.router.standing table result session.new }
 {
     match session.read(table) {
+        Ok(()) => DONE,
+        Err(fault) => u32::from(fault.number()),
+    }
+}
+
+// Sets which hosts of older versions an interface hears.
+fn set_older_hosts(
+    alloc: Global,
+    session: &mut Session,
+    iface: IfaceId,
+    hosts: OlderHosts,
+) -> u32
+    ensures { HostsSetFrom session.old session.old.router.standing iface.number hosts result session.new }
+{
+    match session.set_older_hosts(alloc, iface, hosts) {
+        Ok(answer) => set_number(answer),
+        Err(fault) => u32::from(fault.number()),
+    }
+}
+
+// Sets the version in which an interface queries.
+fn set_query_version(
+    alloc: Global,
+    session: &mut Session,
+    iface: IfaceId,
+    version: QueryVersion,
+) -> u32
+    ensures { VersionSetFrom session.old session.old.router.standing iface.number version result session.new }
+{
+    match session.set_query_version(alloc, iface, version) {
+        Ok(answer) => set_number(answer),
+        Err(fault) => u32::from(fault.number()),
+    }
+}
+
+// Has a session read the groups in an older mode.
+fn read_older(alloc: Global, session: &mut Session) -> u32
+    ensures { OlderReadFrom session.old session.old.router.standing result session.new }
+{
+    match session.read_older(alloc) {
         Ok(()) => DONE,
         Err(fault) => u32::from(fault.number()),
     }

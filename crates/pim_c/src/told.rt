@@ -11,8 +11,9 @@ ghost use Rattle.pim_offload.specs.Offered.{Offered as OfferedValue};
 ghost use Rattle.pim_offrow.specs.Shown.{ShowsOffered};
 ghost use Rattle.pim_world.specs.Shown.{Shows};
 ghost use Rattle.pim_c.specs.Called.{forwarding_of, interface_bits, plane_row_of};
-ghost use Rattle.pim_c.specs.Told.{answer_number, bytes_in, downstream_number, iface_number, ignored_number, kept_number, link_kind, loss_number, name_of, told_packet, register_number, row_of, source_or_zero, table_of_letter, verdict_number, written_into};
+ghost use Rattle.pim_c.specs.Told.{answer_number, bytes_in, downstream_number, iface_number, ignored_number, kept_number, link_kind, loss_number, mode_number, name_of, older_group_of, older_hosts_of, query_version_of, set_number, told_packet, register_number, row_of, source_or_zero, table_of_letter, verdict_number, written_into};
 
+use igmp_older::{Mode, OlderHosts, OlderRow, QueryVersion};
 use pim_ifset::IfSet;
 use pim_mfc::CacheRow;
 use pim_offrow::Offered;
@@ -38,6 +39,8 @@ pub const NO_ROUTER: u32 = 50;
 pub const NO_TABLE: u32 = 51;
 /// The source's keepalive timer doesn't run.
 pub const NO_TIMER: u32 = 52;
+/// No setting has this number.
+pub const NO_SETTING: u32 = 54;
 /// A packet that leaves on an interface and is no copy.
 pub const FRAME: u32 = 1;
 /// A copy of a packet of data, which leaves on an interface.
@@ -95,6 +98,39 @@ pub fn answer_number(answer: Result<Result<Verdict, Refusal>, Fault>) -> u32
         Ok(Ok(verdict)) => verdict_number(verdict),
         Ok(Err(refusal)) => u32::from(refusal.number()),
         Err(fault) => loss_number(fault),
+    }
+}
+
+/// The number of an answer to a setting of an interface.
+pub fn set_number(answer: Result<(), Refusal>) -> u32
+    ensures { result ≡ set_number answer }
+{
+    match answer {
+        Ok(()) => DONE,
+        Err(refusal) => u32::from(refusal.number()),
+    }
+}
+
+/// The hosts that a number names, if it names any.
+pub fn older_hosts(number: u32) -> Option<OlderHosts>
+    ensures { result ≡ older_hosts_of number }
+{
+    match number {
+        0 => Some(OlderHosts::Nobody),
+        1 => Some(OlderHosts::VersionTwo),
+        2 => Some(OlderHosts::All),
+        _ => None,
+    }
+}
+
+/// The version of queries that a number names, if it names one.
+pub fn query_version(number: u32) -> Option<QueryVersion>
+    ensures { result ≡ query_version_of number }
+{
+    match number {
+        2 => Some(QueryVersion::Two),
+        3 => Some(QueryVersion::Three),
+        _ => None,
     }
 }
 
@@ -380,6 +416,43 @@ pub fn row(row: &Row) -> TableRow
         state: state(row),
         end: end(row),
         pending: pending(row),
+    }
+}
+
+/// A group in an older mode on an interface. A timer that doesn't run has `NEVER`.
+#[repr(C)]
+#[derive(Drop)]
+pub struct OlderGroup {
+    pub iface: u32,
+    pub group: u32,
+    /// The version, 1 or 2.
+    pub mode: u32,
+    /// When the IGMPv1 Host Present timer expires, in ms.
+    pub one_end: u64,
+    /// When the IGMPv2 Host Present timer expires, in ms.
+    pub two_end: u64,
+}
+
+fn mode_number(mode: Mode) -> u32
+    ensures { result ≡ mode_number mode }
+{
+    match mode {
+        Mode::One => 1,
+        Mode::Two => 2,
+        Mode::Three => 3,
+    }
+}
+
+/// A group in an older mode as C reads it.
+pub fn older_group(row: &OlderRow) -> OlderGroup
+    ensures { result ≡ older_group_of row.now }
+{
+    OlderGroup {
+        iface: row.iface.number,
+        group: row.group.bits,
+        mode: mode_number(row.mode),
+        one_end: row.one_end.unwrap_or(NEVER),
+        two_end: row.two_end.unwrap_or(NEVER),
     }
 }
 

@@ -5,4 +5,3 @@ pub mod NamedSets
 pub mod OnInterface
 mod Rows
 mod RptGroups
-mod Visited

@@ -1,15 +1,13 @@
 //! What the expiry of a downstream state's timers changes (RFC 7761, sections 4.5.1 to 4.5.3).
-ghost use Rattle.std.specs.Prelude.{◌≡◌, ◌≤◌, ◌∷◌, [], OnOk, true};
+ghost use Rattle.std.specs.Prelude.{◌≡◌, ◌∷◌, [], OnOk, true};
 ghost use Rattle.pim_types.specs.Keys.{group_in, iface_in};
 ghost use Rattle.pim_types.specs.declared.timer.TimerKind.{TimerKind};
 ghost use Rattle.pim_model.specs.Downstream.{entry_kind, prune_echo};
 ghost use Rattle.pim_model.specs.Firing.{fired};
 ghost use Rattle.pim_model.specs.Messages.{Message, entry};
 ghost use Rattle.pim_model.specs.State.{my_address};
-ghost use Rattle.pim_trie.specs.Meter.{raised};
 ghost use Rattle.pim_world.specs.Turns.{saying};
 ghost use Rattle.pim_downstream.specs.Ends.{is_downstream_kind};
-ghost use Rattle.pim_downstream.specs.Visits.{echo_nodes, expired_nodes, downstream_end_nodes, prune_pending_due_nodes};
 
 use pim_trie::Meter;
 use pim_types::fact::DownstreamRow;
@@ -49,9 +47,9 @@ fn echo_of(world: &World, turn: &mut Turn, key: Key, address: Addr) -> Result<()
 
 // The PruneEcho: a Prune to the router itself, for a neighbour on the link that still wants the traffic and lost the
 // Prune that came. There is none of (*,G) without an RP.
-#[tactic(auto, using(pim_world::proofs::Visits::raised_by_none), unfolding(pim_model::specs::Downstream::prune_echo))]
+#[tactic(auto, unfolding(pim_model::specs::Downstream::prune_echo))]
 fn echo(world: &World, turn: &mut Turn, meter: &mut Meter, key: Key) -> Result<(), AllocError>
-    ensures said { OnOk result (turn.new ≡ saying turn.old (prune_echo world.now key)) }
+    ensures { OnOk result (turn.new ≡ saying turn.old (prune_echo world.now key)) }
 {
     let address = match key.source {
         Some(source) => Some(source),
@@ -92,16 +90,14 @@ fn prune_pending_due(
 // The state expires.
 #[tactic(auto, unfolding(pim_model::specs::Firing::fired, pim_model::specs::Downstream::downstream_expired))]
 fn expired(world: &mut World, meter: &mut Meter, key: Key)
-    ensures state { world.new ≡ (fired world.old TimerKind.DownstreamExpiry key).0 }
+    ensures { world.new ≡ (fired world.old TimerKind.DownstreamExpiry key).0 }
 {
     world.store_mut().drop_downstream(key, meter);
 }
 
 /// What the expiry of a Prune-Pending timer, or of an expiry timer, changes. When the Prune-Pending timer expires,
 /// (S,G,rpt) is pruned from then on, and (*,G) and (S,G) are removed with a PruneEcho. When an expiry timer does, its
-/// state is removed without a message. The meter rises by the nodes that its look-ups visit, at least those that lead
-/// to RP(G) for a PruneEcho of (*,G), and to the facts of the group or source whose state is removed. The error is want
-/// of memory.
+/// state is removed without a message. The meter rises by the nodes visited. The error is want of memory.
 #[tactic(auto, unfolding(pim_model::specs::Firing::fired))]
 pub fn fired(
     world: &mut World,

@@ -3,8 +3,6 @@ ghost use Rattle.std.specs.Prelude.{◌≡◌};
 ghost use Rattle.pim_ip.specs.Ipv4.{is_link_local, is_source_specific};
 ghost use Rattle.pim_model.specs.Downstream.{is_accepted, is_kind, is_used};
 ghost use Rattle.pim_downstream.specs.Naming.{is_counted};
-ghost use Rattle.pim_downstream.specs.Visits.{accepted_nodes, counted_nodes};
-ghost use Rattle.pim_trie.specs.Meter.{raised};
 
 use pim_trie::Meter;
 use pim_types::Addr;
@@ -20,20 +18,17 @@ pub fn is_used(group: Addr, entry: Entry) -> bool
         && (!group.is_source_specific() || matches!(entry.kind, EntryKind::Source))
 }
 
-/// Whether a join of the group is accepted: one of (*,G) has to name RP(G). The meter rises by the nodes that are
-/// visited for it.
-#[tactic(auto, using(pim_world::proofs::Visits::raised_by_none), unfolding(pim_model::specs::Downstream::is_accepted))]
+/// Whether a join of the group is accepted: one of (*,G) has to name RP(G). The meter rises by the nodes visited.
+#[tactic(auto, unfolding(pim_model::specs::Downstream::is_accepted))]
 pub fn is_accepted(world: &World, group: Addr, join: Entry, meter: &mut Meter) -> bool
-    ensures accepted { result ≡ is_accepted world.now (group.bits, join) }
+    ensures { result ≡ is_accepted world.now (group.bits, join) }
 {
     !matches!(join.kind, EntryKind::Star) || world.is_rp(group, join.address, meter)
 }
 
-/// Whether a join of the group counts: it is used and accepted. The meter rises by the nodes that are visited where
-/// RP(G) is looked up.
-#[tactic(auto, using(pim_world::proofs::Visits::raised_by_none))]
+/// Whether a join of the group counts: it is used and accepted. The meter rises by the nodes visited.
 pub fn is_counted(world: &World, group: Addr, join: Entry, meter: &mut Meter) -> bool
-    ensures counted { result ≡ is_counted world.now (group.bits, join) }
+    ensures { result ≡ is_counted world.now (group.bits, join) }
 {
     is_used(group, join) && is_accepted(world, group, join, meter)
 }

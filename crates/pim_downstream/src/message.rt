@@ -1,11 +1,9 @@
 //! A message as a whole.
 ghost use Rattle.std.specs.List.{list_all};
-ghost use Rattle.std.specs.Prelude.{◌≡◌, ◌≤◌, ◌<◌, OnOk, true};
+ghost use Rattle.std.specs.Prelude.{◌≡◌, ◌<◌, OnOk, true};
 ghost use Rattle.pim_types.specs.Keys.{is_on};
 ghost use Rattle.pim_downstream.specs.Naming.{are_on, changes_after, rows_set};
-ghost use Rattle.pim_downstream.specs.Visits.{rows_set_nodes, to_me_nodes};
 ghost use Rattle.pim_model.specs.Downstream.{keys_taken};
-ghost use Rattle.pim_trie.specs.Meter.{raised};
 
 use crate::effect::{Change, Effect};
 use crate::named::Named;
@@ -24,7 +22,7 @@ fn set_rows(
 ) -> Result<(), AllocError>
     requires within { iface.number < 120 }
     requires on { list_all (λ change. is_on iface.number change.key) changes.now ≡ true }
-    ensures set { OnOk result (world.new ≡ rows_set world.old changes.now) }
+    ensures { OnOk result (world.new ≡ rows_set world.old changes.now) }
 {
     for change in changes {
         world
@@ -35,9 +33,8 @@ fn set_rows(
 }
 
 /// Takes a Join/Prune to the router that came on an interface and names keys on it, as one message: what becomes of
-/// each key depends on the whole message, and on the state that it finds. The meter rises by the nodes that its
-/// look-ups visit, at least those that lead to the facts of each key whose row is added or removed. If an allocation
-/// fails, some keys may be taken and others not.
+/// each key depends on the whole message, and on the state that it finds. The meter rises by the nodes visited. If an
+/// allocation fails, some keys may be taken and others not.
 pub fn to_me(
     world: &mut World,
     turn: &Turn,
@@ -49,7 +46,7 @@ pub fn to_me(
     requires within { iface.number < 120 }
     requires joined { are_on iface.number named.now.joined.items ≡ true }
     requires pruned { are_on iface.number named.now.pruned.items ≡ true }
-    ensures state { OnOk result (world.new
+    ensures { OnOk result (world.new
         ≡ keys_taken world.old iface.number holdtime named.now.joined.items named.now.pruned.items) }
 {
     let Effect { changes, .. } = Effect::of(world, turn, iface, holdtime, named)?;
@@ -70,7 +67,7 @@ pub fn take_changes(
     requires pruned { are_on iface.number named.now.pruned.items ≡ true }
     requires changes { changes.now
         ≡ changes_after world.old iface.number holdtime named.now.joined.items named.now.pruned.items }
-    ensures state { OnOk result (world.new
+    ensures { OnOk result (world.new
         ≡ keys_taken world.old iface.number holdtime named.now.joined.items named.now.pruned.items) }
 {
     set_rows(world, meter, iface, changes)?;

@@ -1,9 +1,7 @@
 //! The keys that a Join/Prune names.
-ghost use Rattle.std.specs.Prelude.{◌≡◌, ◌≤◌, ◌++◌, IfOk, OnOk};
+ghost use Rattle.std.specs.Prelude.{◌≡◌, ◌++◌, IfOk, OnOk};
 ghost use Rattle.pim_downstream.specs.Naming.{entry_keys, is_counted};
-ghost use Rattle.pim_downstream.specs.Visits.{joins_nodes, message_named_nodes};
 ghost use Rattle.pim_model.specs.Downstream.{is_used, joined_keys, key_by, pruned_keys};
-ghost use Rattle.pim_trie.specs.Meter.{raised};
 
 use crate::entry::{is_counted, is_used};
 use pim_types::{Addr, IfaceId, Key};
@@ -38,7 +36,7 @@ fn push_joined(
     group: &GroupView<'_>,
     keys: &mut Vec<Key>,
 ) -> Result<(), AllocError>
-    ensures keys { OnOk result (keys.new.items
+    ensures { OnOk result (keys.new.items
         ≡ keys.old.items ++ entry_keys (is_counted world.now) iface.number group.now.group group.now.joins) }
 {
     let address = group.group();
@@ -65,8 +63,7 @@ fn push_pruned(iface: IfaceId, group: &GroupView<'_>, keys: &mut Vec<Key>) -> Re
 }
 
 impl Named {
-    /// The keys that the message names on an interface. The meter rises by the nodes that its look-ups visit, at least
-    /// those that lead to RP(G) for each join of (*,G) that is used.
+    /// The keys that the message names on an interface. The meter rises by the nodes visited.
     pub fn of(
         world: &World,
         turn: &Turn,

@@ -8,8 +8,6 @@ mod Others
 mod Refreshed
 mod Same
 mod SameSets
-mod Seen
-mod Visited
 pub mod Shown
 pub mod Untouched
 mod Joining

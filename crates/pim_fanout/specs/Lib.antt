@@ -6,4 +6,3 @@ pub mod Same
 pub mod Named
 pub mod Refreshing
 pub mod Laws
-pub mod Visits

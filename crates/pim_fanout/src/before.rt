@@ -1,19 +1,15 @@
 //! What an event touches, as it is before the event's own change: gathered once, for the machines and for the
 //! forwarding cache.
 ghost use Rattle.std.specs.List.{flat_map};
-ghost use Rattle.std.specs.Prelude.{◌≡◌, ◌≤◌, ◌++◌, ◌∷◌, [], true, IfOk, IfSome, OnOk, map, sum_by};
+ghost use Rattle.std.specs.Prelude.{◌≡◌, ◌++◌, ◌∷◌, [], true, IfOk, IfSome, OnOk, map};
 ghost use Rattle.pim_fanout.specs.Alone.{TouchesAlone, opening_alone};
 ghost use Rattle.pim_fanout.specs.Before.{AreBefore, IsBefore, IsSourceBefore, IsKnown, key_before, name_key, seen_key};
-ghost use Rattle.pim_fanout.specs.Visits.{alone_nodes, last_group, last_star_nodes, next_last, seen_nodes};
 ghost use Rattle.pim_macros.specs.Sights.{IsSourceSight, IsStarSight};
 ghost use Rattle.pim_model.specs.Sets.{register_state};
 ghost use Rattle.pim_model.specs.Tables.{has_row};
 ghost use Rattle.pim_opening.specs.Openings.{group_opening, opening_of, source_opening, touched_sources};
-ghost use Rattle.pim_opening.specs.Visits.{group_opening_nodes, opening_nodes, source_opening_nodes};
-ghost use Rattle.pim_trie.specs.Meter.{raised};
 ghost use Rattle.pim_types.specs.Keys.{source_key};
 ghost use Rattle.pim_world.specs.Groups.{numbers_of};
-ghost use Rattle.pim_world.specs.Visits.{fact_nodes, source_nodes};
 ghost use Rattle.pim_world.specs.declared.touched.Touched.{Touched as TouchedKeys};
 
 use pim_macros::{SourceSight, StarSight};
@@ -102,8 +98,7 @@ impl Before {
 
 impl Gathered {
     /// What the event touches, in the present state: one sight is gathered of each touched group and source. The meter
-    /// rises by the nodes that the look-ups visit, at least those of these sights, and those that lead to the facts of
-    /// each source.
+    /// rises by the nodes visited.
     pub fn of(
         world: &World,
         alloc: Global,
@@ -304,7 +299,7 @@ fn open_source(
 // A source as the machines compare it, by its sight.
 fn opened_by_sight(world: &World, sight: &SourceSight, meter: &mut Meter) -> SourceOpening
     requires { IsSourceSight world.now sight.now }
-    ensures opened { result ≡ source_opening world.now sight.now.star.group.bits sight.now.source.bits }
+    ensures { result ≡ source_opening world.now sight.now.star.group.bits sight.now.source.bits }
 {
     let name = SourceGroup {
         source: sight.source,
@@ -358,7 +353,7 @@ fn known(world: &World, meter: &mut Meter, star: &StarSight, source: Addr) -> Kn
 }
 
 /// A source as it is compared, in the present state. The sight of its group is gathered unless it is the last one that
-/// was. The meter rises by the nodes that the look-ups visit, at least those of the sights that are gathered.
+/// was. The meter rises by the nodes visited.
 pub(crate) fn compared(
     world: &World,
     meter: &mut Meter,
@@ -369,7 +364,6 @@ pub(crate) fn compared(
     ensures key { key_before result ≡ name_key name }
     ensures before { IsSourceBefore world.now result }
     ensures last { IfSome last.new (IsStarSight world.now) }
-    ensures group { last_group last.new ≡ next_last world.now (last_group last.old) name }
 {
     if !has_fact(world, name) {
         return SourceBefore::Unknown(name);

@@ -1,12 +1,11 @@
 //! The forwarding cache, with the count of what an event costs it.
 ghost use Rattle.std.specs.List.Sorted.{IsStrictlySortedBy};
-ghost use Rattle.std.specs.Prelude.{◌≡◌, ℕ, ◌≤◌, ◌++◌, [], OnOk, if◌then◌else◌, sum_by};
+ghost use Rattle.std.specs.Prelude.{◌≡◌, ℕ, ◌++◌, [], OnOk, if◌then◌else◌};
 ghost use Rattle.pim_cached.specs.Kept.{is_listed};
 ghost use Rattle.pim_fanout.specs.Before.{name_key};
 ghost use Rattle.pim_fanout.specs.Disturbed.{joined};
 ghost use Rattle.pim_fanout.specs.Refreshing.{Refreshes, RefreshesOne, nothing_cached, touches, touches_in, touches_of, uncounted};
 ghost use Rattle.pim_fanout.specs.Named.{keys_of};
-ghost use Rattle.pim_fanout.specs.Visits.{named_nodes};
 ghost use Rattle.pim_trie.specs.Meter.{raised};
 ghost use Rattle.pim_types.specs.Keys.{key_cmp};
 ghost use Rattle.pim_world.specs.declared.touched.Touched.{Touched as TouchedValue};
@@ -189,8 +188,7 @@ impl Cache {
 
     /// Evaluates the row of each named source that has a fact, once, and puts it in; takes out the row of each other
     /// named source; and lists them all as changed. The sources that the touched keys name, alone or with their group,
-    /// become disturbed. The meter rises by the nodes that its look-ups visit, at least those of the sight of each
-    /// named source that has a fact. After an error nothing is known of the rows.
+    /// become disturbed. The meter rises by the nodes visited. After an error nothing is known of the rows.
     pub fn refresh(
         &mut self,
         world: &World,

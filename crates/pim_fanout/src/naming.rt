@@ -1,13 +1,11 @@
 //! Which of the touched sources have an outdated row in the forwarding cache: they are named, and their rows evaluated
 //! again.
-ghost use Rattle.std.specs.Prelude.{◌≡◌, ◌≤◌, IfOk, IfSome, IsTrue, OnOk, filter, map};
+ghost use Rattle.std.specs.Prelude.{◌≡◌, IfOk, IfSome, IsTrue, filter, map};
 ghost use Rattle.pim_fanout.specs.Before.{AreBefore, IsBefore, IsSourceBefore, IsKnown, key_before, name_key, seen_key};
 ghost use Rattle.pim_fanout.specs.Named.{is_changed, keys_of, named_among};
-ghost use Rattle.pim_fanout.specs.Visits.{asked_nodes, known_name, last_group, naming_nodes, next_asked, next_last, seen_nodes};
 ghost use Rattle.pim_macros.specs.Sights.{IsSourceSight, IsStarSight};
 ghost use Rattle.pim_model.specs.State.{State};
 ghost use Rattle.pim_opening.specs.After.{AreAfter};
-ghost use Rattle.pim_trie.specs.Meter.{raised};
 ghost use Rattle.pim_world.specs.declared.touched.Touched.{Touched};
 
 use crate::before::{Before, KnownSource, SourceBefore, compared, compared_by_sight, has_fact};
@@ -39,7 +37,6 @@ fn has_changed(
     requires { IfSome last.old (IsStarSight world.now) }
     ensures changed { (o : State) → IsKnown o known.now → result ≡ is_changed o world.now (seen_key known.now.sight) }
     ensures last { IfSome last.new (IsStarSight world.now) }
-    ensures group { last_group last.new ≡ next_last world.now (last_group last.old) (known_name known.now) }
 {
     differs(known, &compared(world, meter, last, known.name()))
 }
@@ -56,7 +53,6 @@ fn is_outdated(
     ensures changed { (o : State) → IsSourceBefore o before.now
         → result ≡ is_changed o world.now (key_before before.now) }
     ensures last { IfSome last.new (IsStarSight world.now) }
-    ensures group { last_group last.new ≡ next_asked world.now (last_group last.old) before.now }
 {
     match before {
         SourceBefore::Unknown(name) => has_fact(world, *name),
@@ -71,7 +67,7 @@ fn outdated_among(
     meter: &mut Meter,
     sources: &[SourceBefore],
 ) -> Result<Vec<SourceGroup>, AllocError>
-    ensures named { IfOk result (λ names. (o : State) → AreBefore o sources.now
+    ensures { IfOk result (λ names. (o : State) → AreBefore o sources.now
         → keys_of names.items ≡ filter (is_changed o world.now) (map key_before sources.now)) }
 {
     let mut names = Vec::new(alloc);
@@ -87,8 +83,7 @@ fn outdated_among(
 /// The sources, ordered by group, then by source, whose rows are to be evaluated again where the world is as clearing
 /// left it. A source is named if it had a fact and has none, or the other way round; or if it has one, and something
 /// differs of what its macros read, of CouldRegister(S,G) with KAT(S,G) or without it, of the register state, or of
-/// JoinDesired(S,G). The meter rises by the nodes that the look-ups visit, at least those of the sight of each source
-/// that had a fact and has one, and of its group's.
+/// JoinDesired(S,G). The meter rises by the nodes visited.
 #[tactic(auto, unfolding(crate::specs::Named::named_among))]
 pub fn named(
     world: &World,
@@ -96,7 +91,7 @@ pub fn named(
     meter: &mut Meter,
     before: &Before,
 ) -> Result<Series<SourceGroup>, AllocError>
-    ensures named { IfOk result (λ names. (o : State) (touched : Touched) → IsBefore o touched before.now
+    ensures { IfOk result (λ names. (o : State) (touched : Touched) → IsBefore o touched before.now
         → keys_of names ≡ named_among o world.now touched) }
 {
     let names = outdated_among(world, alloc, meter, before.sources())?;
@@ -118,7 +113,7 @@ fn has_changed_at_hand(
     known: &KnownSource,
 ) -> bool
     requires { IfSome sight (IsSourceSight world.now) }
-    ensures changed { (o : State) → IsKnown o known.now → result ≡ is_changed o world.now (seen_key known.now.sight) }
+    ensures { (o : State) → IsKnown o known.now → result ≡ is_changed o world.now (seen_key known.now.sight) }
 {
     match sight {
         Some(sight) if is_sight_of(&sight, known.name()) => {
@@ -136,7 +131,7 @@ fn is_outdated_at_hand(
     before: &SourceBefore,
 ) -> bool
     requires { IfSome sight (IsSourceSight world.now) }
-    ensures changed { (o : State) → IsSourceBefore o before.now
+    ensures { (o : State) → IsSourceBefore o before.now
         → result ≡ is_changed o world.now (key_before before.now) }
 {
     match before {
@@ -172,7 +167,7 @@ fn outdated_among_by_sights(
     after: &[SourceAfter],
 ) -> Result<Vec<SourceGroup>, AllocError>
     requires { AreAfter world.now star.now after.now }
-    ensures named { IfOk result (λ names. (o : State) → AreBefore o sources.now
+    ensures { IfOk result (λ names. (o : State) → AreBefore o sources.now
         → keys_of names.items ≡ filter (is_changed o world.now) (map key_before sources.now)) }
 {
     let mut names = Vec::new(alloc);
@@ -186,7 +181,8 @@ fn outdated_among_by_sights(
 }
 
 /// The sources that `named` gives where one group alone was opened, by the sights of the group's sources in the world
-/// as clearing left it. The sights are in the same order as the sources, so none is gathered again.
+/// as clearing left it. The sights are in the same order as the sources, so none is gathered again. The meter rises by
+/// the nodes visited.
 #[tactic(auto, unfolding(crate::specs::Named::named_among))]
 pub fn named_by_sights(
     world: &World,
@@ -197,7 +193,7 @@ pub fn named_by_sights(
     after: &[SourceAfter],
 ) -> Result<Series<SourceGroup>, AllocError>
     requires { AreAfter world.now star.now after.now }
-    ensures named { IfOk result (λ names. (o : State) (touched : Touched) → IsBefore o touched before.now
+    ensures { IfOk result (λ names. (o : State) (touched : Touched) → IsBefore o touched before.now
         → keys_of names ≡ named_among o world.now touched) }
 {
     let names = outdated_among_by_sights(world, alloc, meter, before.sources(), star, after)?;

@@ -1,5 +1,5 @@
 -- What looks to a neighbour of a group.
-use Rattle.std.proofs.Common.{◌≡◌, ◌==◌, ℕ, Bool, true, false, not, eqb-true, List, [], ◌∷◌, Err, Ok, OnOk, Result, filter, map, refl, sym, ap, ◌∙◌}
+use Rattle.std.proofs.Common.{◌≡◌, ℕ, Bool, true, false, List, [], ◌∷◌, filter, map, refl, sym, ap, ◌∙◌}
 use Rattle.pim_types.specs.Keys.{source_key, star_key}
 use Rattle.pim_model.specs.State.{State}
 use Rattle.pim_model.specs.Unicast.{route, rp_route}
@@ -17,14 +17,3 @@ module _ (s : State) (i address g : ℕ) (led : Bool) (is : led ≡ leads_to i a
   some_led e sources are =
       rw (sym is ∙ e)
       (ap (λ (ns : List ℕ). map (source_key 0 g) (filter (λ src. leads_to i address (route s src)) ns)) are)
-
-pub on_ok : {A E : Type 0} {P : Type 0} (r : Result A E) → P → OnOk r P
-on_ok (Ok x) p = p
-on_ok (Err e) p = tt
-
-pub not_zero : (n : ℕ) → (n ≡ 0 → ⊥) → not (n == 0) ≡ true
-not_zero n other = go (n == 0) refl
-  where
-    go : (b : Bool) → (n == 0) ≡ b → not b ≡ true
-    go true e = absurd (other (eqb-true n 0 e))
-    go false e = refl

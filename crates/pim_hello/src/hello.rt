@@ -1,9 +1,7 @@
 //! A Hello that came from a neighbour, or from one that is new.
-ghost use Rattle.std.specs.Prelude.{◌≡◌, ◌≤◌, ◌<◌, ◌+◌, OnOk};
+ghost use Rattle.std.specs.Prelude.{◌≡◌, ◌+◌, OnOk};
 ghost use Rattle.pim_model.specs.Hellos.{hello_received, hello_triggered, neighbour_replaced, neighbour_restarted, triggered_hello_delay};
 ghost use Rattle.pim_model.specs.Tables.{delay_in};
-ghost use Rattle.pim_hello.specs.Visits.{hello_nodes, timers_towards_nodes};
-ghost use Rattle.pim_world.specs.Visits.{raised};
 
 use crate::restarted::{asserts_lost_to, lower_timers, timers_towards};
 use pim_neighbours::delay_in;
@@ -18,9 +16,9 @@ const TRIGGERED_HELLO_DELAY: u32 = 5000;
 /// Takes a Hello that came on an interface from an address, with a draw (RFC 7761, section 4.3.1). One from a new
 /// neighbour, or from one that restarted, makes a Hello owed. Then the neighbour's row is as the Hello says. Where the
 /// neighbour restarted, the asserts lost to it are removed, and the Join timers towards it are lowered. With holdtime 0
-/// the neighbour is removed. The meter rises by the nodes that its look-ups visit, at least those of the sight of each
-/// Join timer's group and source where the neighbour restarted. If an allocation fails, the Hello may be taken in part.
-#[tactic(auto, using(pim_world::proofs::Visits::raised_by_none), unfolding(pim_model::specs::Hellos::hello_received, pim_model::specs::Hellos::is_generation_changed))]
+/// the neighbour is removed. The meter rises by the nodes visited. If an allocation fails, the Hello may be taken in
+/// part.
+#[tactic(auto, unfolding(pim_model::specs::Hellos::hello_received, pim_model::specs::Hellos::is_generation_changed))]
 pub fn received(
     world: &mut World,
     turn: &mut Turn,

@@ -1,12 +1,10 @@
 //! What a neighbour that restarted changes: the asserts lost to it are removed, and the Join timers towards it lowered.
-ghost use Rattle.std.specs.Prelude.{◌≡◌, ◌≤◌, IfOk, OnOk, Some, filter};
+ghost use Rattle.std.specs.Prelude.{◌≡◌, IfOk, OnOk, Some, filter};
 ghost use Rattle.pim_model.specs.Hellos.{is_lost_to, upstream_of};
 ghost use Rattle.pim_model.specs.Tables.{change_row, keys_in, same_hop};
 ghost use Rattle.pim_hello.specs.Towards.{is_towards};
-ghost use Rattle.pim_hello.specs.Visits.{timers_towards_nodes};
 ghost use Rattle.pim_laws.specs.Rows.{all_changed};
 ghost use Rattle.pim_store.specs.PimTables.{lowered_join_timer};
-ghost use Rattle.pim_world.specs.Visits.{raised};
 
 use pim_macros::desires::is_same_hop;
 use pim_macros::upstream_of;
@@ -17,7 +15,7 @@ use std::alloc::{AllocError, Global};
 
 // The keys of all Join timers, ascending.
 fn timer_keys(world: &World, alloc: Global, meter: &mut Meter) -> Result<Vec<Key>, AllocError>
-    ensures keys { IfOk result (λ keys. keys.items ≡ keys_in world.now.join_timers) }
+    ensures { IfOk result (λ keys. keys.items ≡ keys_in world.now.join_timers) }
 {
     let mut keys = Vec::new(alloc);
     for (key, _) in world.store().join_timer_rows(meter) {
@@ -26,15 +24,14 @@ fn timer_keys(world: &World, alloc: Global, meter: &mut Meter) -> Result<Vec<Key
     Ok(keys)
 }
 
-/// The keys of the Join timers whose upstream neighbour it is. The meter rises by the nodes that the look-ups visit, at
-/// least those of the sight of each timer's group and source.
+/// The keys of the Join timers whose upstream neighbour it is. The meter rises by the nodes visited.
 pub(crate) fn timers_towards(
     world: &World,
     alloc: Global,
     meter: &mut Meter,
     neighbour: Hop,
 ) -> Result<Vec<Key>, AllocError>
-    ensures keys { IfOk result (λ keys. keys.items
+    ensures { IfOk result (λ keys. keys.items
         ≡ keys_in (filter (λ e. is_towards world.now neighbour e.0) world.now.join_timers)) }
 {
     let timers = timer_keys(world, alloc, meter)?;
@@ -71,15 +68,14 @@ pub fn asserts_lost_to(world: &World, turn: &Turn, neighbour: Hop) -> Result<Vec
     Ok(keys)
 }
 
-/// Lowers the Join timers with these keys to a timestamp, in ms. The meter rises by the nodes that lead to the group,
-/// or to the source, of each.
+/// Lowers the Join timers with these keys to a timestamp, in ms. The meter rises by the nodes visited.
 pub(crate) fn lower_timers(
     world: &mut World,
     meter: &mut Meter,
     keys: &[Key],
     end: u64,
 ) -> Result<(), AllocError>
-    ensures lowered { OnOk result (world.new
+    ensures { OnOk result (world.new
         ≡ record world.old { join_timers = all_changed (lowered_join_timer end) world.old.join_timers keys.now }) }
 {
     for key in keys {

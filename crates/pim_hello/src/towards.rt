@@ -1,13 +1,11 @@
 //! What looks to a neighbour: each group to whose RP it leads, of the other groups the sources to which it leads, and
 //! the asserts that the router lost to it.
 ghost use Rattle.std.specs.List.{flat_map};
-ghost use Rattle.std.specs.Prelude.{◌≡◌, ◌≤◌, ◌++◌, IfOk, OnOk, filter, map, sum_by};
+ghost use Rattle.std.specs.Prelude.{◌≡◌, ◌++◌, IfOk, OnOk, filter, map};
 ghost use Rattle.pim_adjacent.specs.Adjacent.{keys_of_hello, keys_towards, leads_to, led_keys, led_of_group, may_lead};
-ghost use Rattle.pim_hello.specs.Visits.{hello_keys_nodes, led_nodes, rp_path_nodes, source_path_nodes, towards_nodes};
 ghost use Rattle.pim_model.specs.Unicast.{route, rp_route};
 ghost use Rattle.pim_types.specs.Keys.{source_key};
 ghost use Rattle.pim_world.specs.Groups.{numbers_of};
-ghost use Rattle.pim_world.specs.Visits.{raised};
 
 use crate::restarted::asserts_lost_to;
 use pim_adjacent::laws::leads_nowhere;
@@ -29,7 +27,7 @@ fn leads_to(neighbour: Hop, path: Option<Path>) -> bool
 
 // Whether it leads to the RP of the group.
 fn is_group_led(world: &World, meter: &mut Meter, neighbour: Hop, group: Addr) -> bool
-    ensures led { result
+    ensures { result
         ≡ leads_to neighbour.iface.number neighbour.address.bits (rp_route world.now group.bits) }
 {
     let rp = world.rp(group, meter);
@@ -38,7 +36,7 @@ fn is_group_led(world: &World, meter: &mut Meter, neighbour: Hop, group: Addr) -
 
 // Whether it leads to the source.
 fn is_source_led(world: &World, meter: &mut Meter, neighbour: Hop, source: Addr) -> bool
-    ensures led { result
+    ensures { result
         ≡ leads_to neighbour.iface.number neighbour.address.bits (route world.now source.bits) }
 {
     leads_to(neighbour, world.route(source, meter))
@@ -53,7 +51,7 @@ fn put_sources(
     sources: &BTreeMap<Addr, (), Global>,
     keys: &mut Vec<Key>,
 ) -> Result<(), AllocError>
-    ensures keys { OnOk result (keys.new.items ≡ keys.old.items ++ map (source_key 0 group.bits)
+    ensures { OnOk result (keys.new.items ≡ keys.old.items ++ map (source_key 0 group.bits)
         (filter (λ src. leads_to neighbour.iface.number neighbour.address.bits (route world.now src))
         (numbers_of sources.now.entries))) }
 {
@@ -79,7 +77,7 @@ fn put_group(
     group: Addr,
     keys: &mut Vec<Key>,
 ) -> Result<(), AllocError>
-    ensures keys { OnOk result (keys.new.items ≡ keys.old.items
+    ensures { OnOk result (keys.new.items ≡ keys.old.items
         ++ led_of_group world.now neighbour.iface.number neighbour.address.bits group.bits) }
 {
     if is_group_led(world, meter, neighbour, group) {
@@ -98,7 +96,7 @@ fn keys_of_groups(
     neighbour: Hop,
     groups: &BTreeMap<Addr, (), Global>,
 ) -> Result<Vec<Key>, AllocError>
-    ensures keys { IfOk result (λ keys. keys.items
+    ensures { IfOk result (λ keys. keys.items
         ≡ flat_map (led_of_group world.now neighbour.iface.number neighbour.address.bits) (numbers_of groups.now.entries)) }
 {
     let mut keys = Vec::new(alloc);
@@ -126,7 +124,7 @@ fn keys_by_paths(
     meter: &mut Meter,
     neighbour: Hop,
 ) -> Result<Vec<Key>, AllocError>
-    ensures keys { IfOk result (λ keys. keys.items
+    ensures { IfOk result (λ keys. keys.items
         ≡ led_keys world.now neighbour.iface.number neighbour.address.bits) }
 {
     if !may_lead(world, neighbour.address, meter) {
@@ -137,8 +135,7 @@ fn keys_by_paths(
     keys_of_groups(world, alloc, meter, neighbour, &groups)
 }
 
-/// The keys with facts of what depends on the neighbour. The meter rises by the nodes that the look-ups visit; where a
-/// path may lead to it, at least those of the RP of each group and of the routes that are looked up.
+/// The keys with facts of what depends on the neighbour. The meter rises by the nodes visited.
 #[tactic(auto, unfolding(pim_adjacent::specs::Adjacent::keys_towards))]
 pub fn keys_towards(
     world: &World,
@@ -146,7 +143,7 @@ pub fn keys_towards(
     meter: &mut Meter,
     neighbour: Hop,
 ) -> Result<Vec<Key>, AllocError>
-    ensures keys { IfOk result (λ keys. keys.items
+    ensures { IfOk result (λ keys. keys.items
         ≡ keys_towards world.now neighbour.iface.number neighbour.address.bits) }
 {
     let mut keys = keys_by_paths(world, turn.alloc, meter, neighbour)?;
@@ -157,7 +154,7 @@ pub fn keys_towards(
 
 /// The keys of what a Hello moves that doesn't change whether the router is the DR. For a neighbour that stays they are
 /// the asserts that the router lost to it, which are removed where it restarted; for one that comes or goes they are
-/// all that depends on it. The meter rises by the nodes that the look-ups visit.
+/// all that depends on it. The meter rises by the nodes visited.
 #[tactic(auto, unfolding(pim_adjacent::specs::Adjacent::keys_of_hello))]
 pub fn keys_of_hello(
     world: &World,
@@ -167,7 +164,7 @@ pub fn keys_of_hello(
     from: Addr,
     hello: &Hello,
 ) -> Result<Vec<Key>, AllocError>
-    ensures keys { IfOk result (λ keys. keys.items
+    ensures { IfOk result (λ keys. keys.items
         ≡ keys_of_hello world.now iface.number from.bits hello.now) }
 {
     let neighbour = Hop {

@@ -4,13 +4,15 @@ ghost use Rattle.pim_net.specs.Showing.{node_of};
 ghost use Rattle.pim_lab.specs.Statuses.{IsFault, IsTroubleOf, router_node, routers_test};
 
 use crate::frames::Frames;
+use crate::front::Asked;
 use crate::lines::Lines;
 use crate::station::Station;
-use crate::table::RowLine;
+use crate::table::{OlderLine, RowLine};
 use crate::trouble::Trouble;
-use pim_net::{Move, Net, Node, Router, Wire};
+use igmp_older::Presence;
+use pim_net::{Move, Net, NetLog, Node, Router, Wire};
 use pim_scenario::{RouterText, ScenarioMove};
-use pim_types::{Emission, Fault, Outcome, Series, Table};
+use pim_types::{Emission, Event, Fault, Outcome, Series, Table};
 use std::alloc::{AllocError, Global};
 
 /// How many deliveries one settle makes at most.
@@ -71,9 +73,7 @@ impl<W: Wire> Lab<W> {
         ensures { IfErr result (λ t. IsFault t) }
     {
         match step {
-            ScenarioMove::Event { router, event } => {
-                self.step(number, router, Move::Event { router, event }, lines)
-            }
+            ScenarioMove::Event { router, event } => self.happen(number, router, event, lines),
             ScenarioMove::Deliver {
                 router,
                 iface,
@@ -104,7 +104,25 @@ impl<W: Wire> Lab<W> {
         }
     }
 
-    // One move of the network, which concerns this router.
+    // An event at a router, behind its front.
+    fn happen(
+        &mut self,
+        number: usize,
+        router: usize,
+        event: Event,
+        lines: &mut Lines,
+    ) -> Result<(), Trouble>
+        ensures { IfErr result (λ t. IsFault t) }
+    {
+        // Each move names one of the routers.
+        let Some(station) = self.stations.get_mut(router) else {
+            return Err(Trouble::Fault(Fault::Failed));
+        };
+        let log = station.run(self.alloc, &mut self.net, router, event)?;
+        self.print_all(number, router, log, lines)
+    }
+
+    // One delivery of the network, to this router. What routers send isn't changed by a front: it is no report.
     fn step(
         &mut self,
         number: usize,
@@ -114,7 +132,21 @@ impl<W: Wire> Lab<W> {
     ) -> Result<(), Trouble>
         ensures { IfErr result (λ t. IsFault t) }
     {
-        for outcome in self.net.run(&[step])? {
+        let log = self.net.run(&[step])?;
+        self.print_all(number, router, log, lines)
+    }
+
+    // What became of moves that concern a router, with the tables if they are printed.
+    fn print_all(
+        &mut self,
+        number: usize,
+        router: usize,
+        log: NetLog,
+        lines: &mut Lines,
+    ) -> Result<(), Trouble>
+        ensures { IfErr result (λ t. IsFault t) }
+    {
+        for outcome in log {
             self.print(number, router, outcome, lines)?;
             if self.tables_each {
                 self.print_tables_at(router, lines)?;
@@ -194,7 +226,10 @@ impl<W: Wire> Lab<W> {
         let name = station.name();
         lines.push(format_args!("router {name}"))?;
         match self.net.router(place) {
-            Some(router) => print_router(router, lines),
+            Some(router) => {
+                print_router(router, lines)?;
+                print_older(self.alloc, router, &station.presence, lines)
+            }
             None => Ok(()),
         }
     }
@@ -214,6 +249,21 @@ fn print_table(router: &Router, table: Table, lines: &mut Lines) -> Result<(), T
 {
     for row in router.rows(table)? {
         lines.push(RowLine { row })?;
+    }
+    Ok(())
+}
+
+// Prints what the router's front knows of older hosts.
+fn print_older(
+    alloc: Global,
+    router: &Router,
+    presence: &Presence,
+    lines: &mut Lines,
+) -> Result<(), Trouble>
+    ensures { IfErr result (λ t. IsFault t) }
+{
+    for row in presence.older_rows(alloc, &Asked { router })? {
+        lines.push(OlderLine { row })?;
     }
     Ok(())
 }

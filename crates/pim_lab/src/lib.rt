@@ -2,6 +2,7 @@
 #![tactic(auto)]
 
 mod frames;
+mod front;
 mod lab;
 mod line;
 mod lines;

@@ -1,12 +1,17 @@
 //! The routers of a scenario, as they are printed and found.
-ghost use Rattle.std.specs.Prelude.{◌≡◌, IfOk, map};
+ghost use Rattle.std.specs.Prelude.{◌≡◌, ◌∷◌, [], IfOk, OnOk, Some, map};
 ghost use Rattle.pim_net.specs.Showing.{node_of};
+ghost use Rattle.igmp_older.specs.Joined.{event_given, joined_step};
+ghost use Rattle.pim_model.specs.Network.{Network, Station as StationValue, moved_at, station_at};
+ghost use Rattle.pim_lab.specs.Fronts.{behind, nobody_behind};
 ghost use Rattle.pim_lab.specs.Statuses.{router_node};
 
+use crate::front::run_behind;
 use crate::line::{MoveLine, PacketLine, Way};
-use pim_net::Node;
+use igmp_older::{OlderHosts, Presence};
+use pim_net::{Net, NetLog, Node, Wire};
 use pim_scenario::{Link, RouterText};
-use pim_types::{Addr, Config, Emission, IfaceId, Refusal, Series, Verdict};
+use pim_types::{Addr, Config, Emission, Event, Fault, IfaceId, Refusal, Series, Verdict};
 use std::alloc::{AllocError, Global};
 
 /// What the lab knows of a router that the network doesn't.
@@ -17,6 +22,8 @@ pub(crate) struct Station {
     pub(crate) links: Series<Link>,
     /// The address of each interface.
     pub(crate) addresses: Series<Addr>,
+    /// What its front knows of older hosts. Where none are heard the front changes nothing.
+    pub(crate) presence: Presence,
 }
 
 impl Station {
@@ -25,18 +32,22 @@ impl Station {
         ensures node { IfOk result (λ made. node_of made.1 ≡ router_node text) }
         ensures links { IfOk result (λ made. made.0.links ≡ text.links) }
         ensures addresses { IfOk result (λ made. made.0.addresses ≡ map (λ i. i.address) text.config.interfaces) }
+        ensures presence { IfOk result (λ made. made.0.presence ≡ nobody_behind text.config text.older_hosts) }
     {
         let RouterText {
             name,
             config,
             links,
+            older_hosts,
         } = text;
         let numbers = link_numbers(alloc, links.as_slice())?;
         let addresses = addresses_of(alloc, &config)?;
+        let presence = presence_of(alloc, &config, older_hosts)?;
         let station = Station {
             name,
             links,
             addresses,
+            presence,
         };
         let node = Node {
             config,
@@ -48,6 +59,25 @@ impl Station {
     /// What is printed before the router's tables.
     pub(crate) fn name(&self) -> &str {
         self.name.as_str()
+    }
+
+    /// An event at the router, which has this place in the network, behind its front.
+    pub(crate) fn run<W: Wire>(
+        &mut self,
+        alloc: Global,
+        net: &mut Net<W>,
+        place: usize,
+        event: Event,
+    ) -> Result<NetLog, Fault>
+        ensures outcome { (n : Network) (st : StationValue) → net.old.network ≡ Some n → station_at n place ≡ Some st
+            → IfOk result (λ log. log.items ≡ (joined_step (behind self.old.presence st.state) event).0 ∷ []) }
+        ensures network { (n : Network) (st : StationValue) → net.old.network ≡ Some n → station_at n place ≡ Some st
+            → OnOk result (net.new.network
+            ≡ Some (moved_at n (place, event_given (behind self.old.presence st.state) event)).1) }
+        ensures presence { (n : Network) (st : StationValue) → net.old.network ≡ Some n → station_at n place ≡ Some st
+            → OnOk result (self.new.presence ≡ (joined_step (behind self.old.presence st.state) event).1.present) }
+    {
+        run_behind(alloc, net, place, &mut self.presence, event)
     }
 
     /// What became of a move.
@@ -112,6 +142,21 @@ fn link_numbers(alloc: Global, links: &[Link]) -> Result<Series<u32>, AllocError
         numbers.push(u32::try_from(link.number).map_err(|_| AllocError)?)?;
     }
     Ok(numbers)
+}
+
+// Nobody is known yet. The front has room for as many groups on interfaces as the router has for facts.
+fn presence_of(
+    alloc: Global,
+    config: &Config,
+    older_hosts: OlderHosts,
+) -> Result<Presence, AllocError>
+    ensures { IfOk result (λ presence. presence ≡ nobody_behind config.now older_hosts) }
+{
+    let mut hosts = Vec::new(alloc);
+    for _interface in config.interfaces.as_slice() {
+        hosts.push(older_hosts)?;
+    }
+    Ok(Presence::new(alloc, config.limit as usize, hosts))
 }
 
 fn addresses_of(alloc: Global, config: &Config) -> Result<Series<Addr>, AllocError>

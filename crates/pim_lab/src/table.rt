@@ -1,4 +1,5 @@
 //! The lines of printed tables.
+use igmp_older::{Mode, OlderRow};
 use pim_types::fact::AssertRole;
 use pim_types::table::{DownstreamState, RegisterName};
 use pim_types::{Addr, IfaceId, Key, Row};
@@ -61,6 +62,31 @@ impl fmt::Display for RowLine {
                 register,
             } => write_active(f, group, source, Absent(keepalive), spt, register),
         }
+    }
+}
+
+/// A group in an older mode.
+#[derive(Clone, Copy)]
+pub(crate) struct OlderLine {
+    pub(crate) row: OlderRow,
+}
+
+impl fmt::Display for OlderLine {
+    fn fmt<W: fmt::Write>(&self, f: &mut fmt::Formatter<W>) -> fmt::Result {
+        let iface = self.row.iface.number;
+        let group = self.row.group;
+        let mode = mode_name(self.row.mode);
+        let one_end = Absent(self.row.one_end);
+        let two_end = Absent(self.row.two_end);
+        write!(f, "O {iface} {group} {mode} {one_end} {two_end}")
+    }
+}
+
+fn mode_name(mode: Mode) -> &'static str {
+    match mode {
+        Mode::One => "v1",
+        Mode::Two => "v2",
+        Mode::Three => "v3",
     }
 }
 

@@ -1,4 +1,3 @@
-mod Counted
 mod Receivers
 mod Told
 mod Writes
@@ -8,7 +7,4 @@ mod Found
 mod Named
 mod Kept
 mod Walked
-mod Listings
-mod Each
-mod Summed
 mod Going

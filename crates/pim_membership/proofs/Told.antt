@@ -2,7 +2,6 @@
 use Rattle.std.proofs.Common.{◌≡◌, ◌<◌, ◌==◌, ℕ, Bool, true, false, cond, length, not, [], ◌∷◌, Option, Some, None, is_some, nat_lt, option_map, refl, sym, ap, subst, ◌∙◌, arith}
 use Rattle.std.specs.Bool.{beq}
 use Rattle.std.specs.Cmp.{first_so, second_so}
-use Rattle.std.specs.Cmp.Derive.{both_true}
 use Rattle.std.specs.List.{AllByRecursion, filter, list_all}
 use Rattle.std.specs.List.Sorted.{IsStrictlySortedBy}
 use Rattle.std.specs.Option.{option_map_or}
@@ -18,7 +17,7 @@ use Rattle.pim_laws.proofs.RowLaws.{each_put}
 use Rattle.pim_laws.proofs.TableLaws.{row_of_each}
 use Rattle.pim_tables.proofs.Lookups.{row_at-drop_at, row_at-put}
 use Rattle.pim_tables.proofs.Updates.{put_updated}
-use Rattle.pim_membership.specs.Listing.{IsListed, Lists, Side, is_record_key, listed, timer_at, record_key, told_of, There, Running}
+use Rattle.pim_membership.specs.Listing.{IsListed, Lists, Side, is_listed_anew, is_record_key, listed, timer_at, record_key, told_of, There, Running}
 use Rattle.pim_membership.specs.declared.listed.Listed.{Listed}
 
 -- ---- keys
@@ -84,6 +83,15 @@ tests_alike true true e = refl
 tests_alike true false e = cc
 tests_alike false true e = cc
 tests_alike false false e = refl
+
+-- a row that isn't listed anew is listed as the one that is there
+pub listed_as_before : {R : Type 0} (runs : R → Bool) (before row : R) → is_listed_anew runs before row ≡ false
+    → runs before ≡ runs row
+listed_as_before runs before row e = tests_alike (runs before) (runs row) (both (beq (runs before) (runs row)) e)
+  where
+    both : (b : Bool) → not b ≡ false → b ≡ true
+    both true e = refl
+    both false e = cc
 
 -- ---- rows and what is listed
 

@@ -1,32 +1,23 @@
 -- The sources of a group among what is listed, of which each that has a record is gathered.
-use Rattle.std.proofs.Common.{◌≡◌, ◌<◌, ◌≤◌, ◌+◌, ◌==◌, ◌&&◌, ◌||◌, ℕ, Bool, true, false, cond, List, [], ◌∷◌, map, Option, Some, None, is_some, refl, sym, ap, subst, ◌∙◌, arith}
+use Rattle.std.proofs.Common.{◌≡◌, ◌<◌, ◌==◌, ◌&&◌, ◌||◌, ℕ, Bool, true, false, List, ◌∷◌, Option, Some, None, is_some, refl, sym, ap, ◌∙◌}
 use Rattle.std.proofs.Math.Bool.{or-true}
 use Rattle.std.specs.BTreeMap.{insert_entry}
 use Rattle.std.specs.Cmp.{first_so, second_so}
-use Rattle.std.specs.List.{AllByRecursion, filter, list_any, sum_by}
+use Rattle.std.specs.List.{AllByRecursion, filter, list_any}
 use Rattle.std.specs.List.Sorted.{IsStrictlySortedBy}
 use Rattle.std.specs.Option.{option_map_or}
 use Rattle.std.specs.Ordering.{nat_cmp}
-use Rattle.std.proofs.lemmas.List.Sums.{sum_by-cons}
-use Rattle.pim_ip.specs.Addr.{addr}
 use Rattle.pim_ip.specs.declared.addr.Addr.{Addr}
 use Rattle.pim_types.specs.declared.fact.Key.{Key}
 use Rattle.pim_types.specs.Keys.{iface_in, is_of_group, key_cmp, names_source, source_in, source_key}
 use Rattle.pim_model.specs.Tables.{Table, has_row, keys_in, row_at}
-use Rattle.pim_model.specs.Upstream.{sources_of}
 use Rattle.pim_laws.proofs.ListLaws.{each_more}
-use Rattle.pim_laws.proofs.Numbers.{RisesFrom, any_ascending, rises_ascending}
 use Rattle.pim_laws.proofs.TableLaws.{any_in_filter, any_of_map}
-use Rattle.pim_source_trie.specs.Entries.{nodes_visited}
-use Rattle.pim_trie.specs.Meter.{raised}
-use Rattle.pim_membership.specs.Visits.{nodes_to_sources}
 use Rattle.pim_membership.specs.Listing.{IsListed, in_entry, is_record_key, There}
 use Rattle.pim_membership.specs.Sources.{ArePlain, has_number, is_of_source}
 use Rattle.pim_membership.specs.declared.listed.Listed.{Listed}
 use Rattle.pim_membership.proofs.Found.{any_alike, number_put}
-use Rattle.pim_membership.proofs.Each.{raised_further, raised_no_further}
 use Rattle.pim_membership.proofs.Named.{none_at, none_named, number_of}
-use Rattle.pim_membership.proofs.Summed.{rising_within}
 use Rattle.pim_membership.proofs.Told.{Fits, limit_below, not_rpt, there_told}
 
 -- ---- the keys of records
@@ -138,74 +129,3 @@ module _ {R : Type 0} (g n : ℕ) (rows : Table R) where
             sym (absent ∙ ap (λ (m : ℕ). list_any (names_source g m) (keys_in rows)) (number_of source.bits n same)) in
             (λ j. f || (off j && c)) ∙ sym (λ j. f || (off j && true))
         go false other f c = refl
-
--- ---- how many nodes the walk visits
-
--- the sources among the entries, of which each is looked up
-abbrev pub walked_sources : Table Listed → List ℕ
-walked_sources entries = map (λ e. source_in e.0) (filter (λ e. is_some (e.0).source) entries)
-
-abbrev pub nodes_to_walked : List Key → Addr → Table Listed → ℕ
-nodes_to_walked keys group entries = sum_by (λ n. nodes_visited keys group (Some (addr n))) (walked_sources entries)
-
-module _ (keys : List Key) (group : Addr) (xs t : Table Listed) (e : Key × Listed) (is : xs ≡ e ∷ t) where
-  pub source_passed : (old : ℕ) → (e.0).source ≡ None
-      → raised old (nodes_to_walked keys group xs) ≡ raised old (nodes_to_walked keys group t)
-  source_passed old none =
-      ap (λ (ys : Table Listed). raised old (nodes_to_walked keys group ys)) is
-      ∙ ap (λ (b : Bool). raised old (sum_by (λ n. nodes_visited keys group (Some (addr n)))
-      (map (λ (x : Key × Listed). source_in x.0)
-      (cond b (e ∷ filter (λ x. is_some (x.0).source) t) (filter (λ x. is_some (x.0).source) t)))))
-      (ap is_some none)
-
-  pub source_walked : (old new : ℕ) (source : Addr) → (e.0).source ≡ Some source
-      → raised old (nodes_visited keys group (Some source)) ≤ new
-      → raised old (nodes_to_walked keys group xs) ≤ raised new (nodes_to_walked keys group t)
-  source_walked old new source of visited =
-      let first : walked_sources xs ≡ source.bits ∷ walked_sources t =
-      ap walked_sources is
-      ∙ ap (λ (b : Bool). map (λ (x : Key × Listed). source_in x.0)
-      (cond b (e ∷ filter (λ x. is_some (x.0).source) t) (filter (λ x. is_some (x.0).source) t))) (ap is_some of)
-      ∙ ap (λ (o : Option Addr). option_map_or (λ (a : Addr). a.bits) o 0 ∷ walked_sources t) of in
-      subst (λ (m : ℕ). raised old m ≤ raised new (nodes_to_walked keys group t))
-      (sym (ap (sum_by (λ n. nodes_visited keys group (Some (addr n)))) first
-      ∙ sum_by-cons (λ n. nodes_visited keys group (Some (addr n))) source.bits (walked_sources t)))
-      (raised_further old new _ (nodes_to_walked keys group t) visited)
-
-pub all_passed : (keys : List Key) (group : Addr) (t : Table Listed) (old : ℕ) → t ≡ []
-    → raised old (nodes_to_walked keys group t) ≡ old
-all_passed keys group t old none =
-    ap (λ (u : Table Listed). raised old (nodes_to_walked keys group u)) none ∙ raised_no_further old
-
-group_then_sources : (old between star part whole : ℕ) → raised old star ≤ between → part ≤ whole
-    → raised old (star + part) ≤ raised between whole
-unfolding raised
-group_then_sources old between star part whole e f = omega (arith, e, f)
-
-sources_rise : (g : ℕ) (keys : List Key) → RisesFrom 0 (sources_of g keys)
-unfolding sources_of
-sources_rise g keys = rises_ascending _
-
-module _ {R : Type 0} (group : Addr) (rows : Table R) (runs : R → Bool) (of_sources : Bool) (marks : Table Listed)
-    (listed : IsListed runs of_sources marks rows) (sorted : IsStrictlySortedBy key_cmp (keys_in rows))
-    (walked : Table Listed) (is : walked ≡ filter (λ e. is_of_group group.bits e.0) marks) where
-  source_is_walked : (n : ℕ) → list_any (λ m. m == n) (sources_of group.bits (keys_in rows)) ≡ true
-      → list_any (λ m. m == n) (walked_sources walked) ≡ true
-  unfolding sources_of names_source
-  source_is_walked n there =
-      any_of_map (λ m. m == n) (λ (e : Key × Listed). source_in e.0) (filter (λ e. is_some (e.0).source) walked)
-      ∙ any_in_filter (λ (e : Key × Listed). is_some (e.0).source) (λ e. source_in e.0 == n) walked
-      ∙ second_so (has_any group.bits n rows) (list_any (λ e. is_of_source n e.0) walked)
-      (all_listed group.bits n rows runs of_sources marks listed sorted walked is
-      ∙ sym (any_ascending (λ m. m == n) _
-      ∙ any_of_map (λ m. m == n) source_in _
-      ∙ any_in_filter (λ (k : Key). is_of_group group.bits k && is_some k.source) (λ k. source_in k == n) (keys_in rows))
-      ∙ there)
-
-  pub walk_begins : (old between : ℕ) → raised old (nodes_visited (keys_in rows) group None) ≤ between
-      → raised old (nodes_to_sources (keys_in rows) group) ≤ raised between (nodes_to_walked (keys_in rows) group walked)
-  unfolding nodes_to_sources
-  walk_begins old between visited =
-      group_then_sources old between _ _ _ visited
-      (rising_within (λ n. nodes_visited (keys_in rows) group (Some (addr n))) (walked_sources walked) 0 _ (sources_rise group.bits (keys_in rows))
-      source_is_walked)

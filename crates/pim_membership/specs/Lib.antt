@@ -2,4 +2,3 @@ pub mod Listing
 pub mod MembershipTables
 pub mod Sources
 pub mod Unrecorded
-pub mod Visits

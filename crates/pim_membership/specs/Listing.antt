@@ -1,5 +1,6 @@
 -- Which interfaces are listed for a group, or for a source: those with a record of it, and those where its timer runs.
 -- No public clause cites this module.
+use Rattle.std.specs.Bool.{beq}
 use Rattle.std.specs.List.{AllByRecursion}
 use Rattle.std.specs.Prelude.{Bool, None, Option, Some, cond, false, is_some, nat_lt, not, option_map, true, unwrap_or, ℕ, ◌&&◌, ◌≡◌}
 use Rattle.pim_ip.specs.declared.addr.Addr.{Addr}
@@ -56,6 +57,10 @@ module _ {R : Type 0} (runs : R → Bool) where
   -- Whether the timer of the record under a key runs, if there is a record.
   abbrev pub timer_at : Table R → Key → Option Bool
   timer_at rows k = option_map runs (row_at rows k)
+
+  -- The timer of one of two rows runs, and that of the other doesn't.
+  abbrev pub is_listed_anew : (before row : R) → Bool
+  is_listed_anew before row = not (beq (runs before) (runs row))
 
   -- The listed interfaces are those of the rows, and each row is under a key of its kind: of groups, or of their
   -- sources.

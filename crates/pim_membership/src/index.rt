@@ -1,7 +1,7 @@
 //! Which interfaces are listed for all groups and sources.
 ghost use Rattle.std.specs.Prelude.{◌≡◌, ◌<◌, ◌≤◌, ◌+◌, [], ℕ, None, Some, OnErr, OnOk, filter, option_map};
-ghost use Rattle.pim_model.specs.Tables.{keys_in, row_at};
-ghost use Rattle.pim_source_trie.specs.Entries.{address_bits, entry_key, nodes_visited, raised};
+ghost use Rattle.pim_model.specs.Tables.{row_at};
+ghost use Rattle.pim_source_trie.specs.Entries.{address_bits, entry_key};
 ghost use Rattle.pim_types.specs.Keys.{is_of_group};
 ghost use Rattle.pim_membership.specs.Listing.{Lists, ListsAt, Side, in_side, listed, record_key};
 
@@ -38,8 +38,11 @@ impl Index {
     }
 
     // The interfaces listed for (*,G), where `source` is `None`, or for a source of the group.
+    #[tactic(auto, unfolding(pim_trie::specs::Meter::raised))]
     pub(crate) fn get(&self, group: Addr, source: Option<Addr>, meter: &mut Meter) -> Listed
         ensures sides { (x : Side) (i : ℕ) → in_side x result i ≡ listed self.now x i group.bits (option_map address_bits source) }
+        ensures at_most { meter.new ≤ meter.old + 66 }
+        ensures star_at_most { source ≡ None → meter.new ≤ meter.old + 33 }
     {
         match self.entries.get(group, source, meter) {
             Some(listed) => *listed,
@@ -49,7 +52,7 @@ impl Index {
 
     // The interfaces listed for the group and for its sources.
     pub(crate) fn walk(&self, group: Addr, meter: &mut Meter) -> Entries<'_, Listed>
-        ensures entries { result ≡ filter (λ e. is_of_group group.bits e.0) self.now }
+        ensures { result ≡ filter (λ e. is_of_group group.bits e.0) self.now }
     {
         self.entries.walk(group, meter)
     }
@@ -100,7 +103,7 @@ impl Index {
         source: Option<Addr>,
         meter: &mut Meter,
     )
-        ensures listed { Lists self.old self.new (record_key iface.number group source) None }
+        ensures { Lists self.old self.new (record_key iface.number group source) None }
     {
         let listed = self.get(group, source, meter);
         // Where this fails, nothing was listed.

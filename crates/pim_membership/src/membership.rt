@@ -1,5 +1,5 @@
 //! The membership facts.
-ghost use Rattle.std.specs.Prelude.{◌≡◌, ◌<◌, ◌≤◌, ◌+◌, ◌^◌, ◌&&◌, ℕ, None, Some, IfOk, IfSome, IsTrue, OnErr, OnOk, Option, false, filter, is_some, length, not, map, nat_lt, option_map, true};
+ghost use Rattle.std.specs.Prelude.{◌≡◌, ◌<◌, ◌≤◌, ◌+◌, ◌^◌, ◌&&◌, ℕ, None, Some, IfOk, IfSome, IsTrue, OnOk, Option, false, filter, length, not, map, nat_lt, option_map, true};
 ghost use Rattle.std.specs.List.{AllByRecursion, list_all, list_any};
 ghost use Rattle.std.specs.List.Sorted.{IsStrictlySortedBy};
 ghost use Rattle.std.specs.Ordering.{nat_cmp};
@@ -8,17 +8,14 @@ ghost use Rattle.pim_laws.specs.Laws.{is_under_source};
 ghost use Rattle.pim_model.specs.Clearing.{first_by};
 ghost use Rattle.pim_model.specs.Receivers.{is_exclude_among, local_receiver_exclude_among, local_receiver_include_among};
 ghost use Rattle.pim_model.specs.Records.{is_at_group};
-ghost use Rattle.pim_model.specs.Tables.{change_row, drop_at, drop_where, has_row, keys_in, put, row_at, rows_on, set_row};
+ghost use Rattle.pim_model.specs.Tables.{change_row, drop_at, drop_where, has_row, keys_in, put, row_at, set_row};
 ghost use Rattle.pim_model.specs.Timers.{is_ending_first};
 ghost use Rattle.pim_model.specs.Upstream.{sources_of};
-ghost use Rattle.pim_source_trie.specs.Entries.{nodes_visited, raised};
 ghost use Rattle.pim_tables.specs.Ends.{due_of};
 ghost use Rattle.pim_types.specs.Keys.{iface_in, iface_key, is_on, key_cmp, names_source, source_in, source_key, star_key};
 ghost use Rattle.pim_types.specs.declared.fact.GroupRecordRow.{GroupRecordRow as GroupRecord};
-ghost use Rattle.pim_types.specs.declared.fact.SourceRecordRow.{SourceRecordRow as SourceRecord};
 ghost use Rattle.pim_membership.specs.MembershipTables.{counted_records, membership_endings, membership_keys, no_membership};
 ghost use Rattle.pim_membership.specs.Sources.{NameNone};
-ghost use Rattle.pim_membership.specs.Visits.{IsLookedUp, IsLookedUpWhere, changes_listed, nodes_to_each, nodes_to_sources, sets_listed};
 
 use crate::records::Records;
 use crate::repeats::Repeats;
@@ -38,9 +35,8 @@ use std::collections::btree_map::Iter;
 use std::marker::Model;
 
 /// The IGMP membership facts of the router (RFC 3376, sections 4 and 6). After want of memory in a call that changes
-/// them, nothing is promised of their values, but all that is stated of every membership still holds. A call that
-/// changes records raises the meter by the nodes that lead to the interfaces listed for a group or a source, wherever a
-/// record is added or removed there, or its timer starts or stops.
+/// them, nothing is promised of their values, but all that is stated of every membership still holds. A call that is
+/// lent a meter raises it by the trie nodes that it visits.
 pub struct Membership {
     queriers: Timed<QuerierRow>,
     group_records: Records<GroupRecordRow>,
@@ -171,22 +167,18 @@ impl Membership {
         meter: &mut Meter,
     ) -> Result<(), AllocError>
         requires { iface.number < 120 }
-        ensures set { OnOk result (self.new ≡ record self.old {
+        ensures { OnOk result (self.new ≡ record self.old {
           group_records = set_row self.old.group_records (star_key iface.number group.bits) row;
         }) }
-        ensures visited { OnOk result (IsLookedUpWhere (sets_listed (λ (r : GroupRecord). is_some r.end) row
-            (row_at self.old.group_records (star_key iface.number group.bits)))
-            (keys_in self.old.group_records) group None meter.old meter.new) }
     {
         self.group_records.set(iface, group, None, row, meter)
     }
 
     /// Removes the group's record on the interface.
     pub fn remove_group_record(&mut self, iface: IfaceId, group: Addr, meter: &mut Meter)
-        ensures removed { self.new ≡ record self.old {
+        ensures { self.new ≡ record self.old {
           group_records = drop_at self.old.group_records (star_key iface.number group.bits);
         } }
-        ensures visited { IsLookedUp (keys_in self.old.group_records) group None meter.old meter.new }
     {
         self.group_records.remove(iface, group, None, meter);
     }
@@ -208,9 +200,6 @@ impl Membership {
             → self.new ≡ record self.old {
               group_records = change_row change (star_key iface.number group.bits) self.old.group_records;
             }) }
-        ensures visited { OnOk result (IsLookedUpWhere (changes_listed (λ (r : GroupRecord). is_some r.end) row
-            (row_at self.old.group_records (star_key iface.number group.bits)))
-            (keys_in self.old.group_records) group None meter.old meter.new) }
     {
         self.group_records
             .change(Key::star(iface, group), row, meter)
@@ -267,12 +256,9 @@ impl Membership {
         meter: &mut Meter,
     ) -> Result<(), AllocError>
         requires { iface.number < 120 }
-        ensures set { OnOk result (self.new ≡ record self.old {
+        ensures { OnOk result (self.new ≡ record self.old {
           source_records = set_row self.old.source_records (source_key iface.number group.bits source.bits) row;
         }) }
-        ensures visited { OnOk result (IsLookedUpWhere (sets_listed (λ (r : SourceRecord). is_some r.end) row
-            (row_at self.old.source_records (source_key iface.number group.bits source.bits)))
-            (keys_in self.old.source_records) group (Some source) meter.old meter.new) }
     {
         let key = Key::source(iface, group, source);
         let unrecorded = self.unrecorded.with_key(key, row.is_none());
@@ -292,10 +278,9 @@ impl Membership {
         source: Addr,
         meter: &mut Meter,
     )
-        ensures removed { self.new ≡ record self.old {
+        ensures { self.new ≡ record self.old {
           source_records = drop_at self.old.source_records (source_key iface.number group.bits source.bits);
         } }
-        ensures visited { IsLookedUp (keys_in self.old.source_records) group (Some source) meter.old meter.new }
     {
         let key = Key::source(iface, group, source);
         self.source_records
@@ -310,12 +295,9 @@ impl Membership {
         row: SourceRecordRow,
         meter: &mut Meter,
     ) -> Result<(), AllocError>
-        ensures changed { OnOk result (self.new ≡ record self.old {
+        ensures { OnOk result (self.new ≡ record self.old {
           source_records = change_row (λ _. Some row) key self.old.source_records;
         }) }
-        ensures visited { OnOk result (IsLookedUpWhere (changes_listed (λ (r : SourceRecord). is_some r.end) row
-            (row_at self.old.source_records key))
-            (keys_in self.old.source_records) key.group key.source meter.old meter.new) }
     {
         let unrecorded = self.unrecorded;
         // After want of memory any record may be gone.
@@ -341,7 +323,7 @@ impl Membership {
 
     /// Removes the source records of the group on the interface.
     pub fn drop_source_records(&mut self, iface: IfaceId, group: Addr, meter: &mut Meter)
-        ensures dropped { self.new ≡ record self.old {
+        ensures { self.new ≡ record self.old {
           source_records = drop_where (is_at_group iface.number group.bits) self.old.source_records;
         } }
     {
@@ -525,7 +507,7 @@ impl Membership {
 
     /// Removes all facts of the interface.
     pub fn drop_on(&mut self, iface: IfaceId, meter: &mut Meter)
-        ensures dropped { self.new ≡ record {
+        ensures { self.new ≡ record {
           queriers = drop_where (is_on iface.number) self.old.queriers;
           group_records = drop_where (is_on iface.number) self.old.group_records;
           source_records = drop_where (is_on iface.number) self.old.source_records;
@@ -565,7 +547,7 @@ impl Membership {
         group: Addr,
         meter: &mut Meter,
     ) -> Result<BTreeMap<Addr, (), Global>, AllocError>
-        ensures sources { IfOk result (λ found. map (λ e. (e.0).bits) found.entries
+        ensures { IfOk result (λ found. map (λ e. (e.0).bits) found.entries
             ≡ sources_of group.bits (membership_keys self.now)) }
     {
         // For the proof: no other fact is of a source.
@@ -590,8 +572,7 @@ impl Membership {
         self.source_repeats.recall_no_source();
     }
 
-    /// Whether there is any fact of the source of the group. The meter rises by the nodes that are
-    /// visited: 66 at most, and at least those that lead to the source among those with a record.
+    /// Whether there is any fact of the source of the group. The meter rises by 66 nodes at most.
     pub fn has_facts(&self, name: SourceGroup, meter: &mut Meter) -> bool
         ensures any { result ≡ list_any (names_source name.group.bits name.source.bits) (membership_keys self.now) }
         ensures at_most { meter.new ≤ meter.old + 66 }
@@ -624,8 +605,7 @@ impl Membership {
     }
 
     /// The interfaces on which the group is in EXCLUDE mode: it has receivers of all its sources but the excluded ones.
-    /// The meter rises by the nodes that are visited: 33 at most, and at least those that lead to the group among those
-    /// with a record.
+    /// The meter rises by 33 nodes at most.
     pub fn receivers_star(&self, group: Addr, meter: &mut Meter) -> IfSet
         ensures interfaces { (i : ℕ) → has result i ≡ is_exclude_among self.now.group_records group.bits i }
         ensures tunnel { result.tunnel ≡ false }
@@ -638,7 +618,7 @@ impl Membership {
     }
 
     /// The interfaces with receivers of this source of the group: the group is in INCLUDE mode there, and lists the
-    /// source. The meter rises by the nodes that are visited, 99 at most.
+    /// source. The meter rises by 99 nodes at most.
     pub fn receivers_include(&self, name: SourceGroup, meter: &mut Meter) -> IfSet
         ensures interfaces { (i : ℕ) → has result i ≡ local_receiver_include_among self.now.group_records
             self.now.source_records name.group.bits name.source.bits i }
@@ -654,7 +634,7 @@ impl Membership {
     }
 
     /// The interfaces with receivers of the group that exclude this source: the group is in EXCLUDE mode there, and the
-    /// source is excluded. The meter rises by the nodes that are visited, 99 at most.
+    /// source is excluded. The meter rises by 99 nodes at most.
     pub fn receivers_exclude(&self, name: SourceGroup, meter: &mut Meter) -> IfSet
         ensures interfaces { (i : ℕ) → has result i ≡ local_receiver_exclude_among self.now.group_records
             self.now.source_records name.group.bits name.source.bits i }

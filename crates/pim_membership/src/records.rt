@@ -1,5 +1,5 @@
 //! The records of one kind, of groups or of their sources, with the interfaces that have them.
-ghost use Rattle.std.specs.Prelude.{◌≡◌, ◌<◌, ◌≤◌, ◌+◌, ◌∷◌, [], refl, length, ℕ, Bool, None, Option, Some, IfOk, IfSome, IsTrue, OnErr, OnOk, false, true, filter, is_some, nat_lt, option_map};
+ghost use Rattle.std.specs.Prelude.{◌≡◌, ◌<◌, ◌≤◌, ◌+◌, [], refl, length, ℕ, Bool, None, Option, Some, IfOk, IfSome, IsTrue, OnErr, OnOk, false, true, filter, is_some, nat_lt, option_map};
 ghost use Rattle.std.specs.List.{AllByRecursion, list_all, list_any};
 ghost use Rattle.std.specs.List.Sorted.{IsStrictlySortedBy};
 ghost use Rattle.std.specs.Option.{option_map_or};
@@ -11,10 +11,8 @@ ghost use Rattle.pim_tables.specs.Ends.{due_of, row_endings};
 ghost use Rattle.pim_tables.specs.RowsOf.{first_key};
 ghost use Rattle.pim_types.specs.Keys.{iface_in, is_on, key_cmp, names_source};
 ghost use Rattle.pim_ifset.specs.Members.{has};
-ghost use Rattle.pim_source_trie.specs.Entries.{nodes_visited, raised};
 ghost use Rattle.pim_membership.specs.Sources.{Gathers};
-ghost use Rattle.pim_membership.specs.Listing.{IsListed, Lists, is_record_key, record_key};
-ghost use Rattle.pim_membership.specs.Visits.{IsLookedUp, IsLookedUpWhere, changes_listed, is_listed_anew, nodes_to_each, nodes_to_sources, sets_listed};
+ghost use Rattle.pim_membership.specs.Listing.{IsListed, Lists, is_listed_anew, is_record_key, record_key};
 
 use crate::index::Index;
 use crate::listed::Listed;
@@ -83,7 +81,6 @@ impl<R: Record> Drop for Records<R> {
 
 impl<R: Record> Model for Records<R> {
     ghost use Rattle.pim_model.specs.Tables.{Table};
-    ghost use Rattle.pim_source_trie.specs.Entries.{nodes_visited, raised};
     ghost use Rattle.pim_membership.specs.Sources.{Gathers};
     ghost use Rattle.pim_membership.specs.Listing.{IsListed};
 
@@ -194,7 +191,7 @@ impl<R: Record> Records<R> {
         found: &mut BTreeMap<Addr, (), Global>,
         meter: &mut Meter,
     ) -> Result<(), AllocError>
-        ensures gathered { OnOk result (Gathers found.old.entries found.new.entries group.bits self.now) }
+        ensures { OnOk result (Gathers found.old.entries found.new.entries group.bits self.now) }
     {
         // For the proof: the keys rise, and what form they have.
         self.recall_rising();
@@ -223,10 +220,7 @@ impl<R: Record> Records<R> {
     ) -> Result<(), AllocError>
         requires below { iface.number < 120 }
         requires kind { is_some source ≡ R.of_sources }
-        ensures set { OnOk result (self.new ≡ set_row self.old (record_key iface.number group source) row) }
-        ensures visited { OnOk result (IsLookedUpWhere
-            (sets_listed R.runs row (row_at self.old (record_key iface.number group source)))
-            (keys_in self.old) group source meter.old meter.new) }
+        ensures { OnOk result (self.new ≡ set_row self.old (record_key iface.number group source) row) }
     {
         match row {
             Some(row) => self.put(record_key(iface, group, source), row, meter),
@@ -241,9 +235,7 @@ impl<R: Record> Records<R> {
     fn put(&mut self, key: Key, row: R, meter: &mut Meter) -> Result<(), AllocError>
         requires fit { IsTrue (is_record_key key) }
         requires kind { is_some key.source ≡ R.of_sources }
-        ensures put { OnOk result (self.new ≡ put self.old key row) }
-        ensures visited { OnOk result (IsLookedUpWhere (is_listed_anew R.runs row (row_at self.old key))
-            (keys_in self.old) key.group key.source meter.old meter.new) }
+        ensures { OnOk result (self.new ≡ put self.old key row) }
     {
         // For the proof: what is put under a key with a record takes the place of that record.
         self.recall_rising();
@@ -258,8 +250,6 @@ impl<R: Record> Records<R> {
     fn update(&mut self, key: Key, row: R, meter: &mut Meter) -> Result<bool, AllocError>
         ensures changed { OnOk result (self.new ≡ change_row (λ _. Some row) key self.old) }
         ensures there { IfOk result (λ there. there ≡ has_row self.old key) }
-        ensures visited { OnOk result (IsLookedUpWhere (changes_listed R.runs row (row_at self.old key))
-            (keys_in self.old) key.group key.source meter.old meter.new) }
     {
         // For the proof: a key is listed once.
         self.rows.recall_rising();
@@ -282,8 +272,7 @@ impl<R: Record> Records<R> {
         requires fit { IsTrue (is_record_key key) }
         requires kind { is_some key.source ≡ R.of_sources }
         requires absent { row_at self.old key ≡ None }
-        ensures put { OnOk result (self.new ≡ put self.old key row) }
-        ensures visited { OnOk result (IsLookedUp (keys_in self.old) key.group key.source meter.old meter.new) }
+        ensures { OnOk result (self.new ≡ put self.old key row) }
     {
         list_record(&mut self.index, key, row, meter)?;
         if let Err(refused) = self.rows.add(key, row) {
@@ -301,8 +290,7 @@ impl<R: Record> Records<R> {
         source: Option<Addr>,
         meter: &mut Meter,
     )
-        ensures removed { self.new ≡ drop_at self.old (record_key iface.number group source) }
-        ensures visited { IsLookedUp (keys_in self.old) group source meter.old meter.new }
+        ensures { self.new ≡ drop_at self.old (record_key iface.number group source) }
     {
         self.rows.remove(record_key(iface, group, source));
         self.index.unlist(iface, group, source, meter);
@@ -314,8 +302,6 @@ impl<R: Record> Records<R> {
         ensures by { OnOk result ((change : R → Option R)
             → IfSome (row_at self.old key) (λ before. change before ≡ Some row)
             → self.new ≡ change_row change key self.old) }
-        ensures visited { OnOk result (IsLookedUpWhere (changes_listed R.runs row (row_at self.old key))
-            (keys_in self.old) key.group key.source meter.old meter.new) }
     {
         // For the proof: a key is listed once.
         self.recall_rising();
@@ -326,10 +312,6 @@ impl<R: Record> Records<R> {
     // The key of the first record of the group on the interface.
     fn first_of_group(&self, iface: IfaceId, group: Addr) -> Option<Key>
         ensures first { result ≡ first_key (filter (λ e. is_at_group iface.number group.bits e.0) self.now) }
-
-        // The key is listed once, so without its record the others are left.
-        ensures others { IfSome result (λ key. keys_in (filter (λ e. is_at_group iface.number group.bits e.0) self.now)
-            ≡ key ∷ keys_in (filter (λ e. is_at_group iface.number group.bits e.0) (drop_at self.now key))) }
         ensures kind { IfSome result (λ key. IsTrue (is_record_key key)) }
     {
         self.rows.recall_rising();
@@ -340,10 +322,6 @@ impl<R: Record> Records<R> {
     // The key of the interface's first record.
     fn first_on(&self, iface: IfaceId) -> Option<Key>
         ensures first { result ≡ first_key (rows_on iface.number self.now) }
-
-        // The key is listed once, so without its record the others are left.
-        ensures others { IfSome result (λ key. keys_in (rows_on iface.number self.now)
-            ≡ key ∷ keys_in (rows_on iface.number (drop_at self.now key))) }
         ensures kind { IfSome result (λ key. IsTrue (is_record_key key)) }
     {
         self.rows.recall_rising();
@@ -353,7 +331,7 @@ impl<R: Record> Records<R> {
 
     // Removes the group's records on the interface.
     pub(crate) fn drop_group(&mut self, iface: IfaceId, group: Addr, meter: &mut Meter)
-        ensures dropped { self.new ≡ drop_where (is_at_group iface.number group.bits) self.old }
+        ensures { self.new ≡ drop_where (is_at_group iface.number group.bits) self.old }
     {
         while let Some(key) = self.first_of_group(iface, group) {
             self.remove(key.iface, key.group, key.source, meter);
@@ -362,7 +340,7 @@ impl<R: Record> Records<R> {
 
     // Removes the interface's records.
     pub(crate) fn drop_on(&mut self, iface: IfaceId, meter: &mut Meter)
-        ensures dropped { self.new ≡ drop_where (is_on iface.number) self.old }
+        ensures { self.new ≡ drop_where (is_on iface.number) self.old }
     {
         while let Some(key) = self.first_on(iface) {
             self.remove(key.iface, key.group, key.source, meter);
@@ -384,7 +362,7 @@ fn record_key(iface: IfaceId, group: Addr, source: Option<Addr>) -> Key
 
 // Whether the row is listed differently from the one before.
 fn is_listed_anew<R: Record>(before: R, row: R) -> bool
-    ensures { result ≡ is_listed_anew R.runs row (Some before) }
+    ensures { result ≡ is_listed_anew R.runs before row }
 {
     before.is_running() != row.is_running()
 }

@@ -1,4 +1,3 @@
 pub mod Openings
 pub mod After
 pub mod Covers
-pub mod Visits

@@ -1,10 +1,7 @@
 //! A touched group after a change: gathered once, for all that follows.
-ghost use Rattle.std.specs.Prelude.{◌≡◌, ◌≤◌, IfOk, OnOk, map};
+ghost use Rattle.std.specs.Prelude.{◌≡◌, IfOk, map};
 ghost use Rattle.pim_macros.specs.Sights.{IsStarSight};
 ghost use Rattle.pim_opening.specs.After.{AreAfter, IsAfter, IsSourceAfter, opened_in, opening_in};
-ghost use Rattle.pim_opening.specs.Visits.{group_after_nodes, sources_after_nodes};
-ghost use Rattle.pim_trie.specs.Meter.{raised};
-ghost use Rattle.pim_world.specs.Visits.{source_nodes};
 
 use crate::opening::{GroupOpening, SourceOpening};
 use pim_macros::{SourceSight, StarSight};
@@ -31,8 +28,7 @@ pub struct GroupAfter {
 }
 
 impl GroupAfter {
-    /// What was opened, with what is read of it in the present state. The meter rises by the nodes that the look-ups
-    /// visit, at least those of the sight of the group, and of each of these sources.
+    /// What was opened, with what is read of it in the present state. The meter rises by the nodes visited.
     pub fn of(
         world: &World,
         alloc: Global,

@@ -1,12 +1,10 @@
 //! The sources that an event touches.
 ghost use Rattle.std.specs.List.{list_any};
-ghost use Rattle.std.specs.Prelude.{◌≡◌, ◌≤◌, IfOk, OnOk};
+ghost use Rattle.std.specs.Prelude.{◌≡◌, IfOk, OnOk};
 ghost use Rattle.pim_world.specs.Groups.{gathered, numbers_of};
 ghost use Rattle.pim_world.specs.Sources.{sources_among};
 ghost use Rattle.pim_model.specs.Upstream.{sources_of};
 ghost use Rattle.pim_opening.specs.Openings.{facts_of_whole, is_of_all, touched_sources};
-ghost use Rattle.pim_opening.specs.Visits.{touched_nodes};
-ghost use Rattle.pim_trie.specs.Meter.{raised};
 ghost use Rattle.pim_world.specs.declared.touched.Touched.{Touched as TouchedKeys};
 
 use pim_types::{Addr, Key};
@@ -50,7 +48,7 @@ fn gather_named(
 }
 
 // The sources that the keys touch because they touch all of the group: those that have any fact, or none. The meter
-// rises where these are looked up.
+// rises by the nodes visited.
 fn sources_of_whole(
     alloc: Global,
     world: &World,
@@ -58,7 +56,7 @@ fn sources_of_whole(
     group: Addr,
     meter: &mut Meter,
 ) -> Result<BTreeMap<Addr, (), Global>, AllocError>
-    ensures sources { IfOk result (λ found. numbers_of found.entries
+    ensures { IfOk result (λ found. numbers_of found.entries
         ≡ sources_of group.bits (facts_of_whole world.now keys.now group.bits)) }
 {
     if is_whole(keys, group) {
@@ -68,7 +66,7 @@ fn sources_of_whole(
 }
 
 /// The sources of the group that are touched, ascending: those of the touched keys, and, where all of the group is
-/// touched, those that have any fact. The meter rises where these are looked up.
+/// touched, those that have any fact. The meter rises by the nodes visited.
 pub fn touched_sources(
     alloc: Global,
     world: &World,
@@ -76,7 +74,7 @@ pub fn touched_sources(
     group: Addr,
     meter: &mut Meter,
 ) -> Result<BTreeMap<Addr, (), Global>, AllocError>
-    ensures sources { IfOk result (λ found. numbers_of found.entries ≡ touched_sources world.now touched.now group.bits) }
+    ensures { IfOk result (λ found. numbers_of found.entries ≡ touched_sources world.now touched.now group.bits) }
 {
     match touched {
         Touched::All => {

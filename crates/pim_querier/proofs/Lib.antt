@@ -13,6 +13,5 @@ mod Queried
 mod Reported
 mod Sent
 mod Starting
-mod Visited
 pub mod OneSource
 mod Room

@@ -2,4 +2,3 @@ pub mod Changes
 pub mod Kinds
 pub mod Queries
 pub mod Reports
-pub mod Visits

@@ -1,6 +1,6 @@
 //! A record of a report, applied to what is known of its group (RFC 3376, section 6.4).
 ghost use Rattle.std.specs.List.{list_any};
-ghost use Rattle.std.specs.Prelude.{◌≡◌, ◌≤◌, ◌<◌, ◌&&◌, ℕ, IfOk, OnOk, if◌then◌else◌, is_none, not, option_map, true};
+ghost use Rattle.std.specs.Prelude.{◌≡◌, ◌<◌, ◌&&◌, ℕ, IfOk, OnOk, if◌then◌else◌, is_none, not, option_map, true};
 ghost use Rattle.pim_filters.specs.Members.{IsAscending, member_entries, member_entry, is_named_source};
 ghost use Rattle.pim_model.specs.Querier.{group_end};
 ghost use Rattle.pim_model.specs.Records.{Gone, apply_record, fate_in, is_at_group, record_of, with_record};
@@ -8,8 +8,6 @@ ghost use Rattle.pim_model.specs.Tables.{is_among};
 ghost use Rattle.pim_querier.specs.Changes.{beside};
 ghost use Rattle.igmp_wire.specs.Written.{bits_of};
 ghost use Rattle.pim_querier.specs.Reports.{asks_named, keeps_others, member_named, members_named, record_named};
-ghost use Rattle.pim_querier.specs.Visits.{apply_nodes, apply_to_all_nodes, apply_to_named_nodes, write_beside_nodes};
-ghost use Rattle.pim_world.specs.Visits.{raised};
 
 use crate::place::IfaceGroup;
 use crate::records::{drop_empty, drop_repeats, has_sources, put_members, record_of, set_record};
@@ -123,7 +121,7 @@ fn write_beside(
     known: &GroupRecord,
 ) -> Result<(), AllocError>
     requires { place.iface.number < 120 }
-    ensures beside { OnOk result (world.new ≡ beside place.iface.number place.group.bits world.old known.now) }
+    ensures { OnOk result (world.new ≡ beside place.iface.number place.group.bits world.old known.now) }
 {
     let end = known.timer();
     let row = GroupRecordRow { end };
@@ -226,8 +224,7 @@ fn asks_named(record_type: RecordType) -> bool
 
 /// Applies a record of a report, on an interface below 120, with when its timers expire, in ms, if they are set. The
 /// result is the queries that the record requests. If it deletes no source, the records of sources that it doesn't name
-/// aren't written. The meter rises by the nodes that its look-ups visit, at least those that lead to the group and the
-/// sources whose records are added or removed, or whose timers start or stop.
+/// aren't written. The meter rises by the nodes visited.
 pub fn apply(
     world: &mut World,
     meter: &mut Meter,

@@ -29,7 +29,6 @@ fn query_group(
     ensures state { OnOk result (world.new ≡ (query_group world.old place.iface.number place.group.bits).0) }
     ensures messages { OnOk result (turn.new
         ≡ saying turn.old (query_group world.old place.iface.number place.group.bits).1) }
-    ensures kept { OnOk result (meter.new ≡ meter.old) }
 {
     let query = specific_query(world, place, false);
     let repeat = GroupRepeatRow {
@@ -101,7 +100,6 @@ fn query_sources(
         ≡ (query_sources world.old place.iface.number place.group.bits (bits_of asked.now)).0) }
     ensures messages { OnOk result (turn.new
         ≡ saying turn.old (query_sources world.old place.iface.number place.group.bits (bits_of asked.now)).1) }
-    ensures kept { OnOk result (meter.new ≡ meter.old) }
 {
     let end = query_end(world, place.iface);
     let sources = running_past(world, turn.alloc, place, asked, end)?;
@@ -130,7 +128,6 @@ fn query_asked_sources(
     ensures messages { OnOk result (turn.new ≡ saying turn.old
         (each_in_turn (query_asked place.iface.number place.group.bits) world.old
         (source_queries (option_map (λ named. bits_of named.now) sources.entry))).1) }
-    ensures kept { OnOk result (meter.new ≡ meter.old) }
 {
     match sources {
         Some(sources) => query_sources(world, turn, meter, place, sources),
@@ -138,8 +135,8 @@ fn query_asked_sources(
     }
 }
 
-/// Sends the queries that a record of a report requests: first of the group's sources, then of the group. The meter is
-/// unchanged.
+/// Sends the queries that a record of a report requests: first of the group's sources, then of the group. The meter rises
+/// by the nodes visited.
 pub fn query_asked(
     world: &mut World,
     turn: &mut Turn,
@@ -151,7 +148,6 @@ pub fn query_asked(
         ≡ (each_in_turn (query_asked place.iface.number place.group.bits) world.old asked.now).0) }
     ensures messages { OnOk result (turn.new
         ≡ saying turn.old (each_in_turn (query_asked place.iface.number place.group.bits) world.old asked.now).1) }
-    ensures kept { OnOk result (meter.new ≡ meter.old) }
 {
     query_asked_sources(world, turn, meter, place, asked.sources())?;
     if asked.asks_group() {

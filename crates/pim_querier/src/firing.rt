@@ -4,8 +4,6 @@ ghost use Rattle.pim_world.specs.Turns.{saying};
 ghost use Rattle.pim_model.specs.Firing.{fired, startup_left};
 ghost use Rattle.pim_types.specs.declared.timer.TimerKind.{TimerKind};
 ghost use Rattle.pim_querier.specs.Kinds.{is_igmp_kind};
-ghost use Rattle.pim_querier.specs.Visits.{membership_end_nodes};
-ghost use Rattle.pim_world.specs.Visits.{raised};
 
 use crate::election::other_querier_gone;
 use crate::place::IfaceGroup;
@@ -56,9 +54,8 @@ fn general_query_fired(world: &mut World, turn: &mut Turn, key: Key) -> Result<(
 }
 
 /// A timer of a querier expires: of a group or a source of its records, of the other querier, or one after which a
-/// query leaves. The meter rises by the nodes that its look-ups visit, at least those that lead to a group and to
-/// sources whose records are removed or stop. If an allocation fails, some of what it changes may be changed.
-#[tactic(auto, using(pim_world::proofs::Visits::raised_by_none), unfolding(pim_model::specs::Firing::fired))]
+/// query leaves. The meter rises by the nodes visited. If an allocation fails, some of what it changes may be changed.
+#[tactic(auto, unfolding(pim_model::specs::Firing::fired))]
 pub fn fired(
     world: &mut World,
     turn: &mut Turn,

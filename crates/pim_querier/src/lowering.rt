@@ -19,8 +19,7 @@ fn lower_source(
     source: Addr,
     end: u64,
 ) -> Result<(), AllocError>
-    ensures lowered { OnOk result (world.new ≡ one_lowered place.iface.number place.group.bits end world.old source) }
-    ensures kept { OnOk result (meter.new ≡ meter.old) }
+    ensures { OnOk result (world.new ≡ one_lowered place.iface.number place.group.bits end world.old source) }
 {
     // For the proof: each key is listed once.
     world.membership().recall_rising_source_records();
@@ -49,9 +48,8 @@ fn lower_each(
     sources: &[Addr],
     end: u64,
 ) -> Result<(), AllocError>
-    ensures lowered { OnOk result (world.new
+    ensures { OnOk result (world.new
         ≡ each_lowered place.iface.number place.group.bits end world.old sources.now) }
-    ensures kept { OnOk result (meter.new ≡ meter.old) }
 {
     for source in sources {
         lower_source(world, meter, place, *source, end)?;
@@ -60,7 +58,7 @@ fn lower_each(
 }
 
 /// Lowers the timers of these sources of the group on the interface to a timestamp, in ms, where they run and expire
-/// later. The records of other sources aren't read. The meter is unchanged.
+/// later. The records of other sources aren't read. The meter rises by the nodes visited.
 pub fn lower_sources(
     world: &mut World,
     meter: &mut Meter,
@@ -68,9 +66,8 @@ pub fn lower_sources(
     sources: &[Addr],
     end: u64,
 ) -> Result<(), AllocError>
-    ensures lowered { OnOk result (world.new
+    ensures { OnOk result (world.new
         ≡ lower_sources world.old place.iface.number place.group.bits (bits_of sources.now) end) }
-    ensures kept { OnOk result (meter.new ≡ meter.old) }
 {
     // For the proof: each is under the key of a source.
     world.membership().recall_keyed_source_records();

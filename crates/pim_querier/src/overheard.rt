@@ -40,8 +40,7 @@ fn lower_queried(
     iface: IfaceId,
     query: &QueryView<'_>,
 ) -> Result<(), AllocError>
-    ensures lowered { OnOk result (world.new ≡ lower_queried world.old iface.number query.now) }
-    ensures kept { OnOk result (meter.new ≡ meter.old) }
+    ensures { OnOk result (world.new ≡ lower_queried world.old iface.number query.now) }
 {
     let group = query.group();
     if query.is_suppress() || group.bits == 0 {
@@ -65,8 +64,8 @@ fn elect(world: &mut World, iface: IfaceId, query: &QueryView<'_>) -> Result<(),
 }
 
 /// Takes a query that came on an interface from an address. A router with a lower address than the router's own becomes
-/// the querier, and its values are adopted. With S clear the query lowers the timers of what it queries. The meter is
-/// unchanged.
+/// the querier, and its values are adopted. With S clear the query lowers the timers of what it queries. The meter rises
+/// by the nodes visited.
 #[tactic(auto, unfolding(pim_model::specs::Querier::query_seen))]
 pub fn query_seen(
     world: &mut World,
@@ -78,7 +77,6 @@ pub fn query_seen(
 ) -> Result<(), AllocError>
     ensures state { OnOk result (world.new ≡ query_seen world.old iface.number from.bits query.now) }
     ensures silent { turn.new ≡ turn.old }
-    ensures kept { OnOk result (meter.new ≡ meter.old) }
 {
     if is_lower_querier(world, iface, from) {
         elect(world, iface, query)?;

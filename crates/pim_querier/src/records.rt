@@ -1,12 +1,10 @@
 //! The record of a group, and what the expiry of its timers changes (RFC 3376, sections 6.2, 6.3 and 6.5).
 ghost use Rattle.std.specs.List.{list_any};
-ghost use Rattle.std.specs.Prelude.{◌≡◌, ◌≤◌, ◌<◌, IfOk, OnOk, length};
+ghost use Rattle.std.specs.Prelude.{◌≡◌, ◌<◌, IfOk, OnOk, length};
 ghost use Rattle.pim_filters.specs.Members.{IsAscending, member_entries};
 ghost use Rattle.pim_model.specs.Querier.{group_record_due, source_record_due};
 ghost use Rattle.pim_model.specs.Records.{is_at_group, record_of, with_members, with_record, with_repeats_of_rows};
 ghost use Rattle.pim_querier.specs.Changes.{members_put, with_excluded, without_empty, without_group_repeat, without_source_record, without_source_repeat};
-ghost use Rattle.pim_querier.specs.Visits.{drop_source_nodes, empty_nodes, exclude_source_nodes, group_record_due_nodes, members_nodes, set_members_nodes, set_record_nodes, source_record_due_nodes};
-ghost use Rattle.pim_world.specs.Visits.{raised};
 
 use crate::place::IfaceGroup;
 use pim_filters::{GroupRecord, Member};
@@ -49,7 +47,7 @@ pub(crate) fn put_members(
     members: &[Member],
 ) -> Result<(), AllocError>
     requires { 0 < length members.now → place.iface.number < 120 }
-    ensures put { OnOk result (world.new ≡ members_put place.iface.number place.group.bits world.old members.now) }
+    ensures { OnOk result (world.new ≡ members_put place.iface.number place.group.bits world.old members.now) }
 {
     for member in members {
         let row = SourceRecordRow { end: member.end };
@@ -61,9 +59,8 @@ pub(crate) fn put_members(
 }
 
 // Takes the group's record away, where it is none.
-#[tactic(auto, using(pim_world::proofs::Visits::raised_by_none))]
 pub(crate) fn drop_empty(world: &mut World, meter: &mut Meter, place: IfaceGroup, is_none: bool)
-    ensures dropped { world.new ≡ without_empty is_none place.iface.number place.group.bits world.old }
+    ensures { world.new ≡ without_empty is_none place.iface.number place.group.bits world.old }
 {
     if is_none {
         world
@@ -121,7 +118,7 @@ fn set_members(
     known: &GroupRecord,
 ) -> Result<(), AllocError>
     requires { 0 < length known.now.members → place.iface.number < 120 }
-    ensures set { OnOk result (world.new ≡ with_members world.old place.iface.number place.group.bits known.now) }
+    ensures { OnOk result (world.new ≡ with_members world.old place.iface.number place.group.bits known.now) }
 {
     drop_empty(world, meter, place, known.is_no_record());
     world
@@ -141,9 +138,7 @@ pub fn record_of(world: &World, alloc: Global, place: IfaceGroup) -> Result<Grou
     GroupRecord::with(alloc, world.group_end(place.iface, place.group), &members)
 }
 
-/// Gives the group this record on the interface. The meter rises by the nodes that its look-ups visit, at least those
-/// that lead to the group where its record is added or removed or its timer starts or stops, to each source that is
-/// removed, and to each that is added.
+/// Gives the group this record on the interface. The meter rises by the nodes visited.
 #[tactic(auto, unfolding(pim_model::specs::Records::with_record, pim_model::specs::Tables::set_row))]
 pub fn set_record(
     world: &mut World,
@@ -153,7 +148,7 @@ pub fn set_record(
     known: &GroupRecord,
 ) -> Result<(), AllocError>
     requires { place.iface.number < 120 }
-    ensures set { OnOk result (world.new ≡ with_record world.old place.iface.number place.group.bits known.now) }
+    ensures { OnOk result (world.new ≡ with_record world.old place.iface.number place.group.bits known.now) }
 {
     let row = GroupRecordRow { end: known.timer() };
     world
@@ -165,8 +160,7 @@ pub fn set_record(
 // ---- the ends of its timers
 
 /// The group timer expired: INCLUDE of the sources whose timers run on (RFC 3376, section 6.5). The meter rises by the
-/// nodes that its look-ups visit, at least those that lead to the group, to each of its sources, and to each that is
-/// left.
+/// nodes visited.
 #[tactic(auto, unfolding(pim_model::specs::Querier::group_record_due))]
 pub fn group_record_due(
     world: &mut World,
@@ -174,7 +168,7 @@ pub fn group_record_due(
     alloc: Global,
     place: IfaceGroup,
 ) -> Result<(), AllocError>
-    ensures state { OnOk result (world.new ≡ group_record_due world.old place.iface.number place.group.bits) }
+    ensures { OnOk result (world.new ≡ group_record_due world.old place.iface.number place.group.bits) }
 {
     let mut known = record_of(world, alloc, place)?;
     known.group_expired(world.present());
@@ -200,7 +194,7 @@ pub(crate) fn has_sources(world: &World, place: IfaceGroup) -> bool
 
 // Takes the source's record away, and that of the group with the last of them.
 fn drop_source(world: &mut World, meter: &mut Meter, place: IfaceGroup, source: Addr)
-    ensures dropped { world.new ≡ without_source_record place.iface.number place.group.bits source.bits world.old }
+    ensures { world.new ≡ without_source_record place.iface.number place.group.bits source.bits world.old }
 {
     world
         .membership_mut()
@@ -217,7 +211,7 @@ fn exclude_source(
     place: IfaceGroup,
     source: Addr,
 ) -> Result<(), AllocError>
-    ensures excluded { OnOk result (world.new
+    ensures { OnOk result (world.new
         ≡ with_excluded place.iface.number place.group.bits source.bits world.old) }
 {
     let key = Key::source(place.iface, place.group, source);
@@ -233,7 +227,7 @@ fn end_source(
     place: IfaceGroup,
     source: Addr,
 ) -> Result<(), AllocError>
-    ensures ended { OnOk result (with_repeats_of_rows world.new place.iface.number place.group.bits
+    ensures { OnOk result (with_repeats_of_rows world.new place.iface.number place.group.bits
         ≡ source_record_due world.old place.iface.number place.group.bits source.bits) }
 {
     // For the proof: each source has one record, under its own key.
@@ -247,9 +241,7 @@ fn end_source(
 }
 
 /// The source timer expired: in INCLUDE the source is deleted, in EXCLUDE it is excluded from then on (RFC 3376,
-/// section 6.3). Records and queries of other sources aren't read. The meter rises by the nodes that its look-ups
-/// visit, at least those that lead to the source where it is deleted or its timer stops, and to a group that is deleted
-/// with it.
+/// section 6.3). Records and queries of other sources aren't read. The meter rises by the nodes visited.
 pub fn source_record_due(
     world: &mut World,
     meter: &mut Meter,
@@ -257,7 +249,7 @@ pub fn source_record_due(
     place: IfaceGroup,
     source: Addr,
 ) -> Result<(), AllocError>
-    ensures state { OnOk result (world.new
+    ensures { OnOk result (world.new
         ≡ source_record_due world.old place.iface.number place.group.bits source.bits) }
 {
     end_source(world, meter, place, source)?;

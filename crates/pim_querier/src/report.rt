@@ -5,8 +5,6 @@ ghost use Rattle.pim_model.specs.Querier.{is_skipped, record_seen, report_seen};
 ghost use Rattle.pim_model.specs.Records.{with_record};
 ghost use Rattle.pim_querier.specs.Changes.{applied};
 ghost use Rattle.igmp_wire.specs.Written.{bits_of};
-ghost use Rattle.pim_querier.specs.Visits.{record_seen_nodes, report_seen_nodes};
-ghost use Rattle.pim_world.specs.Visits.{raised};
 
 use crate::applying::{SeenRecord, apply};
 use crate::asked::query_asked;
@@ -96,8 +94,7 @@ pub fn is_skipped(group_record: &RecordView<'_>) -> bool
 
 /// Takes a report that came on an interface below 120: its group records in their order, without those that are
 /// skipped. Each changes what is known of its group. If the router is the querier, it sends the queries that the record
-/// requests, and lowers the timers of what it queries. The meter rises by the nodes that its look-ups visit, at least
-/// those that lead to the groups and the sources whose records are added or removed, or whose timers start or stop.
+/// requests, and lowers the timers of what it queries. The meter rises by the nodes visited.
 #[tactic(auto, unfolding(pim_model::specs::Querier::report_seen))]
 pub fn report_seen(
     world: &mut World,

@@ -4,8 +4,6 @@ ghost use Rattle.pim_wire.specs.RegisterParts.{registered_group, registered_sour
 ghost use Rattle.pim_model.specs.Full.{needed, source_is_full};
 ghost use Rattle.pim_model.specs.Unicast.{is_rp};
 ghost use Rattle.pim_types.specs.Keys.{source_key};
-ghost use Rattle.pim_mrib.specs.Routes.{rp_nodes};
-ghost use Rattle.pim_world.specs.Visits.{raised};
 
 use crate::rendezvous::registered;
 use pim_ip::Ipv4View;
@@ -30,14 +28,14 @@ pub fn source_is_full(world: &World, name: SourceGroup) -> bool
 }
 
 /// Whether the row that a Register may make passes it: at another router than the RP a Register makes none. The meter
-/// rises by the nodes that lead to the RP.
+/// rises by the nodes visited.
 pub fn is_full(
     world: &World,
     meter: &mut Meter,
     packet: &Ipv4View<'_>,
     register: &RegisterView<'_>,
 ) -> bool
-    ensures full { result ≡ (is_rp world.now (registered_group register.now) packet.now.destination
+    ensures { result ≡ (is_rp world.now (registered_group register.now) packet.now.destination
         && source_is_full world.now (registered_group register.now) (registered_source register.now)) }
 {
     let name = registered(register);

@@ -1,5 +1,5 @@
 //! Registers that came to one of the router's addresses (RFC 7761, section 4.4.2).
-ghost use Rattle.std.specs.Prelude.{◌≡◌, ◌≤◌, ◌&&◌, ◌||◌, IfOk, OnOk, false, if◌then◌else◌};
+ghost use Rattle.std.specs.Prelude.{◌≡◌, ◌&&◌, ◌||◌, IfOk, OnOk, false, if◌then◌else◌};
 ghost use Rattle.pim_world.specs.Shown.{Shows};
 ghost use Rattle.pim_macros.specs.Sights.{InSource};
 ghost use Rattle.pim_world.specs.Turns.{saying};
@@ -9,8 +9,6 @@ ghost use Rattle.pim_model.specs.Forwarding.{no_interface, register_at_rp, regis
 ghost use Rattle.pim_model.specs.Registers.{is_spt_wanted};
 ghost use Rattle.pim_model.specs.Sets.{inherited_olist_rpt, spt_bit};
 ghost use Rattle.pim_register.specs.Outgoing.{LeavesOn};
-ghost use Rattle.pim_register.specs.Visits.{at_rp_nodes, register_nodes};
-ghost use Rattle.pim_world.specs.Visits.{raised};
 
 use pim_ifset::IfSet;
 use pim_ip::Ipv4View;
@@ -97,8 +95,7 @@ fn register_at_rp(
 /// Takes a Register that came in this packet. At the RP of its group its packet goes down the shared tree and the
 /// keepalive timer of its source is set; a Register-Stop is sent where the source comes without Registers, or nobody
 /// wants it. Any other router sends a Register-Stop. The result is the interfaces on which the packet leaves, without
-/// the tunnel; none for a Null-Register. The meter rises by the nodes that the look-ups visit, at least those that lead
-/// to the RP and, at it, those of the sight of the source. The error is want of memory.
+/// the tunnel; none for a Null-Register. The meter rises by the nodes visited. The error is want of memory.
 #[tactic(auto, unfolding(pim_model::specs::Forwarding::register_received))]
 pub fn register_seen(
     world: &mut World,

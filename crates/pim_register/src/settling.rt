@@ -1,13 +1,11 @@
 //! Registers, settled after an event's own change.
-ghost use Rattle.std.specs.Prelude.{◌≡◌, ◌≤◌, ◌+◌, ◌∷◌, [], IsTrue, OnOk, fold, map};
+ghost use Rattle.std.specs.Prelude.{◌≡◌, ◌∷◌, [], IsTrue, OnOk, fold, map};
 ghost use Rattle.pim_types.specs.Keys.{source_key};
 ghost use Rattle.pim_model.specs.Registers.{settle_register};
 ghost use Rattle.pim_macros.specs.Sights.{IsSourceSight, IsStarSight};
 ghost use Rattle.pim_opening.specs.After.{AreAfter, IsAfter, opened_in, opening_in};
 ghost use Rattle.pim_register.specs.Settling.{registers_by};
 ghost use Rattle.pim_register.specs.Steps.{source_keys};
-ghost use Rattle.pim_register.specs.Visits.{register_mark_nodes, settled_group_nodes, settled_nodes, settled_source_nodes, source_settled};
-ghost use Rattle.pim_world.specs.Visits.{nodes_in_turn, raised, source_nodes};
 
 use pim_macros::{SourceSight, StarSight};
 use pim_opening::{GroupAfter, GroupOpening, Opening, SourceAfter, SourceOpening};
@@ -18,7 +16,7 @@ use std::alloc::AllocError;
 
 /// Settles the register of one source: NoInfo becomes Join where CouldRegister(S,G) holds, and any state becomes NoInfo
 /// where it doesn't. The sight is true of the state before, and then of the state after. The meter rises by the nodes
-/// that lead to the facts of the source, unless it has a register that is unchanged. The error is want of memory.
+/// visited. The error is want of memory.
 pub fn settle_register(
     world: &mut World,
     meter: &mut Meter,
@@ -56,7 +54,7 @@ fn settle_source(
     source: Addr,
 ) -> Result<(), AllocError>
     requires { IsStarSight world.old star.now }
-    ensures state { OnOk result (world.new
+    ensures { OnOk result (world.new
         ≡ settle_register world.old (source_key 0 star.now.group.bits source.bits)) }
 {
     let mut sight = SourceSight::of(world, *star, source, meter);
@@ -71,7 +69,7 @@ fn settle_sources(
     sources: &[SourceOpening],
 ) -> Result<(), AllocError>
     requires { IsStarSight world.old star.now }
-    ensures state { OnOk result (world.new
+    ensures { OnOk result (world.new
         ≡ fold settle_register world.old (source_keys star.now.group.bits sources.now)) }
 {
     for opened in sources {
@@ -86,7 +84,7 @@ fn settle_group(
     meter: &mut Meter,
     opened: &GroupOpening,
 ) -> Result<(), AllocError>
-    ensures state { OnOk result (world.new
+    ensures { OnOk result (world.new
         ≡ fold settle_register world.old (source_keys opened.now.group.bits opened.now.sources)) }
 {
     let star = StarSight::of(world, opened.group, meter);
@@ -94,10 +92,9 @@ fn settle_group(
 }
 
 /// Registers are settled: an opened source for which CouldRegister(S,G) holds has a register, in Join if it had none;
-/// no other opened source has one. The meter rises by the nodes that the look-ups visit, at least those of the sight of
-/// each opened group and source. An error is want of memory.
+/// no other opened source has one. The meter rises by the nodes visited. An error is want of memory.
 pub fn changed(world: &mut World, meter: &mut Meter, opening: &Opening) -> Result<(), AllocError>
-    ensures state { OnOk result (world.new ≡ registers_by opening.now world.old) }
+    ensures { OnOk result (world.new ≡ registers_by opening.now world.old) }
 {
     for opened in opening.groups() {
         settle_group(world, meter, opened)?;

@@ -1,6 +1,5 @@
 //! What the expiry of register timers and of keepalive timers changes (RFC 7761, sections 4.4.1 and 4.2).
-ghost use Rattle.std.specs.Option.{option_map_or};
-ghost use Rattle.std.specs.Prelude.{◌≡◌, ◌≤◌, ◌∷◌, [], OnOk, Some, unwrap_or};
+ghost use Rattle.std.specs.Prelude.{◌≡◌, ◌∷◌, [], OnOk, Some, unwrap_or};
 ghost use Rattle.pim_types.specs.Keys.{group_in, source_in};
 ghost use Rattle.pim_types.specs.declared.timer.TimerKind.{TimerKind};
 ghost use Rattle.pim_model.specs.Firing.{fired};
@@ -8,9 +7,6 @@ ghost use Rattle.pim_model.specs.Messages.{Message};
 ghost use Rattle.pim_model.specs.Registers.{registering_address};
 ghost use Rattle.pim_model.specs.Unicast.{rp_of};
 ghost use Rattle.pim_world.specs.Turns.{saying};
-ghost use Rattle.pim_world.specs.Visits.{path_nodes, raised};
-ghost use Rattle.pim_mrib.specs.Routes.{rp_nodes};
-ghost use Rattle.pim_register.specs.Visits.{ended_nodes, probe_nodes, register_end_nodes};
 
 use pim_types::fact::{RegisterRow, RegisterState, SourceRow};
 use pim_types::{Addr, Key};
@@ -21,10 +17,10 @@ use std::alloc::AllocError;
 const REGISTER_PROBE_TIME: u64 = 5_000;
 
 /// The router's address on RPF_interface(S), from which it registers the source; 0.0.0.0 without a route. The meter
-/// rises by the nodes that lead to the route.
+/// rises by the nodes visited.
 #[tactic(auto, unfolding(pim_model::specs::Unicast::rpf_interface))]
 pub fn registering_address(world: &World, meter: &mut Meter, source: Addr) -> Addr
-    ensures address { result.bits ≡ registering_address world.now source.bits }
+    ensures { result.bits ≡ registering_address world.now source.bits }
 {
     match world.route(source, meter) {
         Some(path) => world.address(path.iface),
@@ -34,14 +30,14 @@ pub fn registering_address(world: &World, meter: &mut Meter, source: Addr) -> Ad
 
 // RP(G), or 0.0.0.0.
 fn rp_or_none(world: &World, meter: &mut Meter, group: Addr) -> Addr
-    ensures address { result.bits ≡ unwrap_or (rp_of world.now group.bits) 0 }
+    ensures { result.bits ≡ unwrap_or (rp_of world.now group.bits) 0 }
 {
     world.rp(group, meter).unwrap_or(Addr::NONE)
 }
 
 // Sends a Null-Register, by which the RP is probed: it answers if it still wants no Registers of the key's source.
 fn probe(world: &World, turn: &mut Turn, meter: &mut Meter, key: Key) -> Result<(), AllocError>
-    ensures sent { OnOk result (turn.new ≡ saying turn.old (Message.NullRegister
+    ensures { OnOk result (turn.new ≡ saying turn.old (Message.NullRegister
         (registering_address world.now (source_in key)) (unwrap_or (rp_of world.now (group_in key)) 0)
         (source_in key) (group_in key) ∷ [])) }
 {
@@ -52,8 +48,7 @@ fn probe(world: &World, turn: &mut Turn, meter: &mut Meter, key: Key) -> Result<
 }
 
 /// What the expiry of a register timer changes: in Prune the RP is probed by a Null-Register; without an answer in
-/// Register_Probe_Time the tunnel opens again. The meter rises by the nodes that the look-ups visit, at least, for a
-/// probe, those that lead to the route to the source and to the RP. The error is want of memory.
+/// Register_Probe_Time the tunnel opens again. The meter rises by the nodes visited. The error is want of memory.
 #[tactic(auto, unfolding(pim_model::specs::Firing::fired, pim_model::specs::Firing::fire_row, pim_model::specs::Registers::register_due))]
 pub fn fired(
     world: &mut World,
@@ -82,10 +77,10 @@ pub fn fired(
 }
 
 /// What the expiry of KAT(S,G) changes: the source's row is removed, unless SPTbit(S,G) is set. The meter rises by the
-/// nodes that lead to the facts of a source whose row is removed. The error is want of memory.
+/// nodes visited. The error is want of memory.
 #[tactic(auto, unfolding(pim_model::specs::Firing::fired, pim_model::specs::Firing::fire_row, pim_model::specs::Firing::keepalive_due))]
 pub fn keepalive_due(world: &mut World, meter: &mut Meter, key: Key) -> Result<(), AllocError>
-    ensures state { OnOk result (world.new ≡ (fired world.old TimerKind.Keepalive key).0) }
+    ensures { OnOk result (world.new ≡ (fired world.old TimerKind.Keepalive key).0) }
 {
     let Some(row) = world.store().source(key) else {
         return Ok(());

@@ -1,12 +1,10 @@
 //! What a Register-Stop and new RP ranges change of the tunnels (RFC 7761, section 4.4.1).
-ghost use Rattle.std.specs.Prelude.{◌≡◌, ◌≤◌, ◌==◌, IfOk, OnOk, filter, not, option_map, sum_by};
+ghost use Rattle.std.specs.Prelude.{◌≡◌, ◌==◌, IfOk, OnOk, filter, not, option_map};
 ghost use Rattle.pim_laws.specs.Rows.{all_changed};
 ghost use Rattle.pim_model.specs.Registers.{register_stop_seen, state_after_stop};
 ghost use Rattle.pim_model.specs.Step.{rps_replaced};
 ghost use Rattle.pim_model.specs.Tables.{change_row, keys_in, same_option};
 ghost use Rattle.pim_register.specs.Tunnel.{is_rp_changed, joining, stopping};
-ghost use Rattle.pim_register.specs.Visits.{register_rps_nodes, replaced_nodes};
-ghost use Rattle.pim_world.specs.Visits.{raised};
 ghost use Rattle.pim_types.specs.Keys.{is_of_group};
 
 use pim_mrib::Mrib;
@@ -46,7 +44,7 @@ fn stopped(row: RegisterRow, end: u64) -> RegisterRow
 
 // Sets a register, if there is one, to Prune until the timestamp, in ms, unless it is in Prune already.
 fn stop(world: &mut World, meter: &mut Meter, key: Key, end: u64) -> Result<(), AllocError>
-    ensures state { OnOk result (world.new
+    ensures { OnOk result (world.new
         ≡ record world.old { registers = change_row (stopping end) key world.old.registers }) }
 {
     // For the proof: their keys rise, so that the key is listed once.
@@ -61,7 +59,7 @@ fn stop(world: &mut World, meter: &mut Meter, key: Key, end: u64) -> Result<(), 
 
 // Lets these registers wait.
 fn stop_all(world: &mut World, meter: &mut Meter, keys: &[Key], end: u64) -> Result<(), AllocError>
-    ensures state { OnOk result (world.new
+    ensures { OnOk result (world.new
         ≡ record world.old { registers = all_changed (stopping end) world.old.registers keys.now }) }
 {
     for key in keys {
@@ -78,7 +76,7 @@ fn is_any(source: Addr) -> bool
 }
 
 /// Takes a Register-Stop for a source of a group, or for all its sources where the source is 0.0.0.0: for a time that
-/// the draw gives nothing of them is registered. An error is want of memory.
+/// the draw gives nothing of them is registered. The meter rises by the nodes visited. An error is want of memory.
 #[tactic(auto, unfolding(pim_model::specs::Registers::register_stop_seen))]
 pub fn stop_seen(
     world: &mut World,
@@ -134,7 +132,7 @@ fn keys_with_new_rp(
 
 // Sets these registers to Join.
 fn join_all(world: &mut World, meter: &mut Meter, keys: &[Key]) -> Result<(), AllocError>
-    ensures state { OnOk result (world.new
+    ensures { OnOk result (world.new
         ≡ record world.old { registers = all_changed joining world.old.registers keys.now }) }
 {
     for key in keys {
@@ -147,8 +145,7 @@ fn join_all(world: &mut World, meter: &mut Meter, keys: &[Key]) -> Result<(), Al
 }
 
 /// Replaces the RP ranges by those of the next table. Where the RP of a group changes, its registers start again in
-/// Join. The meter rises by the nodes that the look-ups visit, at least those that lead to the RP of each register, by
-/// the old ranges and by the new. The error is want of memory.
+/// Join. The meter rises by the nodes visited. The error is want of memory.
 pub fn rps_replaced(
     world: &mut World,
     turn: &mut Turn,

@@ -1,17 +1,1 @@
-pub mod Acting
-pub mod Caching
-pub mod Listing
-pub mod Disturbing
-pub mod Staying
-pub mod Costs
-pub mod Ends
-pub mod Naming
-pub mod OtherRoutes
-pub mod Plainly
-pub mod Planning
-pub mod Sending
-pub mod Settling
 pub mod Standing
-pub mod Stops
-pub mod Visits
-pub mod Repeats

@@ -19,9 +19,8 @@ use pim_macros::{Evaluations, row};
 use pim_messages::Room;
 use pim_offrow::Offered;
 use pim_register::source_is_full;
-use pim_trie::Meter;
 use pim_types::SourceGroup;
-use pim_world::World;
+use pim_world::{Meter, World};
 use std::alloc::AllocError;
 
 // Keepalive_Period (RFC 7761, section 4.11), also at the RP, in ms.
@@ -31,20 +30,25 @@ const KEEPALIVE_PERIOD: u64 = 210_000;
 const PROTOCOL_UDP: u8 = 17;
 
 /// What a data plane may do with the packets of a source: by its row of the cache, or evaluated where the source has no
-/// fact.
-pub(crate) fn offer(world: &World, cache: &Cache, name: SourceGroup) -> Option<Offered>
+/// fact. The meter rises by the nodes visited.
+pub(crate) fn offer(
+    world: &World,
+    cache: &Cache,
+    name: SourceGroup,
+    meter: &mut Meter,
+) -> Option<Offered>
     requires { ShowsRows cache.now.mfc.rows (cached world.now) }
     ensures { TellsOffload result (offered world.now name.group.bits name.source.bits) }
 {
-    if let Some(answers) = cache.mfc().kept(name) {
+    if let Some(answers) = cache.mfc().kept(name, meter) {
         return Some(Offered::known(&answers));
     }
     if source_is_full(world, name) {
         return None;
     }
-    // What this counts belongs to no event.
-    let (mut uncounted, mut evaluated) = (Meter::outside_events(), Evaluations::none());
-    let made = row(world, name, &mut uncounted, &mut evaluated);
+    // The evaluation belongs to no event.
+    let mut evaluated = Evaluations::none();
+    let made = row(world, name, meter, &mut evaluated);
     Some(Offered::unknown(&made.answers()))
 }
 

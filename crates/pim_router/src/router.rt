@@ -6,8 +6,8 @@ ghost use Rattle.std.specs.Vec.{vec_capacity, vec_len};
 ghost use Rattle.pim_fanout.specs.Refreshing.{touches};
 ghost use Rattle.pim_mfc.specs.Laws.{ShowsRows, TellsRow};
 ghost use Rattle.pim_model.specs.Cache.{cached};
-ghost use Rattle.pim_router.specs.Costs.{IsCheap, IsLastCheap};
-ghost use Rattle.pim_router.specs.Disturbing.{IsLastDisturbed, event_disturbed};
+ghost use Rattle.pim_event.specs.Costs.{IsCheap, IsLastCheap};
+ghost use Rattle.pim_event.specs.Disturbing.{IsLastDisturbed, event_disturbed};
 ghost use Rattle.pim_model.specs.Judging.{last_moment};
 ghost use Rattle.pim_model.specs.Sets.{is_kept_alive};
 ghost use Rattle.pim_offload.specs.Keeping.{keep};
@@ -15,8 +15,8 @@ ghost use Rattle.pim_offload.specs.Offered.{offered};
 ghost use Rattle.pim_offload.specs.Seen.{seen_event};
 ghost use Rattle.pim_offrow.specs.Shown.{TellsOffload};
 ghost use Rattle.pim_fanout.specs.Disturbed.{is_disturbed};
-ghost use Rattle.pim_router.specs.Listing.{IsLastListed, ListsSame};
-ghost use Rattle.pim_router.specs.Staying.{LastOffersStay, OffersStay};
+ghost use Rattle.pim_event.specs.Listing.{IsLastListed, ListsSame};
+ghost use Rattle.pim_event.specs.Staying.{LastOffersStay, OffersStay};
 ghost use Rattle.pim_fanout.specs.Named.{keys_of};
 ghost use Rattle.pim_reach.specs.Named.{event_named};
 ghost use Rattle.pim_ip.specs.declared.fault.Fault.{Fault};
@@ -37,14 +37,14 @@ ghost use Rattle.pim_promises.specs.Bounded.{IsBounded};
 
 mod hosts;
 
-use crate::event::take_in;
 use crate::plane::{bare_packet, keep, offer};
+use crate::probes::Probes;
+use pim_event::take_in;
 use pim_fanout::Cache;
 use pim_intake::LentEvent;
 use pim_messages::Room;
 use pim_mfc::CacheRow;
 use pim_offrow::Offered;
-use pim_trie::{Meter, Probes};
 use pim_types::{
     Addr, Config, Emission, Event, Fault, IfaceId, Outcome, Refusal, Row, SourceGroup, Table,
     Verdict,
@@ -98,21 +98,26 @@ impl Router {
     /// A router with this configuration at timestamp 0, all its interfaces down. A configuration is refused for the
     /// first test that fails, in this order: the interfaces, the limit, the querier's values, the delays, the routes
     /// and the RP ranges. The fault is want of memory.
-    #[tactic(auto, unfolding(pim_fanout::specs::Refreshing::touches, pim_trie::specs::Meter::raised))]
+    #[tactic(auto, unfolding(pim_fanout::specs::Refreshing::touches, pim_meter::specs::Meter::raised))]
     pub fn new(alloc: Global, config: Config) -> Result<Result<Router, Refusal>, Fault>
         ensures accepted { IfOk result (λ made. IfOk made (λ router. (config_test config ≡ Ok tt)
             × (router ≡ begun (opening config)))) }
         ensures refused { IfOk result (λ made. IfErr made (λ refusal. config_test config ≡ Err refusal)) }
         ensures memory { IfErr result (λ fault. fault ≡ Fault.Memory) }
     {
-        match World::new(alloc, &config)? {
+        let probes = Probes::new();
+        let made = {
+            let mut outside = probes.outside();
+            World::new(alloc, &config, &mut outside.meter)?
+        };
+        match made {
             Ok(world) => Ok(Ok(Router {
                 failed: false,
                 world,
                 cache: Cache::new(alloc),
                 room: Room::new(alloc),
                 copies: 0,
-                probes: Probes::new(),
+                probes,
             })),
             Err(refusal) => Ok(Err(refusal)),
         }
@@ -153,7 +158,10 @@ impl Router {
         if self.failed {
             return None;
         }
-        self.cache.mfc().cached(SourceGroup { source, group })
+        let mut outside = self.probes.outside();
+        self.cache
+            .mfc()
+            .cached(SourceGroup { source, group }, &mut outside.meter)
     }
 
     /// RPF_interface(RP(G)) of any group, evaluated anew in the present state. `None` where the group has no RP, where
@@ -166,10 +174,9 @@ impl Router {
         if self.failed {
             return None;
         }
-        // What this look-up counts belongs to no event.
-        let mut uncounted = Meter::outside_events();
-        let rp = self.world.rp(group, &mut uncounted);
-        let path = self.world.rp_route(group, rp, &mut uncounted);
+        let mut outside = self.probes.outside();
+        let rp = self.world.rp(group, &mut outside.meter);
+        let path = self.world.rp_route(group, rp, &mut outside.meter);
         path.map(|path| path.iface)
     }
 
@@ -222,7 +229,9 @@ impl Router {
         if self.failed {
             return None;
         }
-        offer(&self.world, &self.cache, SourceGroup { source, group })
+        let mut outside = self.probes.outside();
+        let name = SourceGroup { source, group };
+        offer(&self.world, &self.cache, name, &mut outside.meter)
     }
 
     /// Whether the answer of `offload` for (S,G) may differ from its answer before the last event, whether the source
@@ -251,7 +260,9 @@ impl Router {
         if self.failed {
             return Err(Fault::Failed);
         }
-        Ok(pim_printed::rows(&self.world, self.room.alloc, table)?)
+        let mut outside = self.probes.outside();
+        let alloc = self.room.alloc;
+        Ok(pim_printed::rows(&self.world, alloc, table, &mut outside.meter)?)
     }
 
     /// Takes one event: it is done, ignored or refused. The packets that leave are added at the end of `emissions`, in

@@ -1,11 +1,9 @@
 //! What the expiry of an override timer changes (RFC 7761, section 4.5.7).
-ghost use Rattle.std.specs.Prelude.{◌≡◌, ◌≤◌, OnOk, Some};
+ghost use Rattle.std.specs.Prelude.{◌≡◌, OnOk};
 ghost use Rattle.pim_types.specs.declared.timer.TimerKind.{TimerKind};
 ghost use Rattle.pim_model.specs.Desires.{rpf_rpt};
 ghost use Rattle.pim_model.specs.Firing.{fired};
-ghost use Rattle.pim_rpt.specs.Visits.{override_nodes};
 ghost use Rattle.pim_world.specs.Turns.{saying};
-ghost use Rattle.pim_world.specs.Visits.{raised, sight_nodes};
 
 use crate::machine::entry;
 use crate::message::say;
@@ -16,15 +14,14 @@ use std::alloc::AllocError;
 
 // RPF'(S,G,rpt).
 fn rpf_rpt(world: &World, meter: &mut Meter, name: SourceGroup) -> Option<Hop>
-    ensures upstream { result ≡ rpf_rpt world.now name.group.bits name.source.bits }
+    ensures { result ≡ rpf_rpt world.now name.group.bits name.source.bits }
 {
     let sight = SourceSight::with_star(world, name, meter);
     sight.rpf_neighbour_rpt()
 }
 
 /// What the expiry of an override timer changes: it is removed, and a Join(S,G,rpt) overrides the Prune of another
-/// router. The error is want of memory. The meter rises by the nodes that the look-ups visit, at least those of the
-/// sight of the source, and those that lead to its PIM facts where the timer is among them.
+/// router. The error is want of memory. The meter rises by the nodes visited.
 #[tactic(auto, unfolding(pim_model::specs::Firing::fired, pim_model::specs::Upstream::override_timer_due))]
 pub fn fired(
     world: &mut World,

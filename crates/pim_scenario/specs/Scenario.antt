@@ -13,6 +13,7 @@ use Rattle.pim_types.specs.declared.config.SptSwitch.{SptSwitch}
 use Rattle.pim_types.specs.declared.config.SptSwitch.TheVariants.{Always, Never}
 use Rattle.pim_types.specs.declared.event.EventKind.{EventKind}
 use Rattle.pim_types.specs.declared.event.EventKind.TheVariants as event
+use Rattle.igmp_older.specs.declared.setting.OlderHosts.{OlderHosts}
 use Rattle.pim_scenario.specs.declared.scenario.Link.{Link}
 use Rattle.pim_scenario.specs.declared.scenario.RouterText.{RouterText}
 use Rattle.pim_scenario.specs.declared.scenario.ScenarioMove.{ScenarioMove}
@@ -94,10 +95,20 @@ pub record IsConfig (ms : Members) (c : Config) : Type 0 where
   pub routes : AreRead (IsText AreRouteWords) (list_or_empty (codes "routes") ms) c.routes
   pub rps : AreRead (IsText AreRpWords) (list_or_empty (codes "rps") ms) c.rps
 
+abbrev pub older_hosts_named : Option (List ℕ) → Option OlderHosts
+older_hosts_named None = Some OlderHosts.Nobody
+older_hosts_named (Some name) =
+    if bytes_eq name (codes "none") then Some OlderHosts.Nobody
+    else (if bytes_eq name (codes "v2") then Some OlderHosts.VersionTwo
+    else (if bytes_eq name (codes "all") then Some OlderHosts.All else None))
+
+abbrev pub older_hosts_at : Members → Option OlderHosts
+older_hosts_at ms = option_and_then older_hosts_named (optional_text (codes "older_hosts") ms)
+
 abbrev pub router_keys : List (List ℕ)
 router_keys =
     codes "name" ∷ codes "iface" ∷ codes "limit" ∷ codes "spt" ∷ codes "rv" ∷ codes "qi" ∷ codes "qri"
-    ∷ codes "lmqi" ∷ codes "routes" ∷ codes "rps" ∷ []
+    ∷ codes "lmqi" ∷ codes "older_hosts" ∷ codes "routes" ∷ codes "rps" ∷ []
 
 pub record IsRouter (ms : Members) (r : RouterText) : Type 0 where
   pub keys : has_only router_keys ms ≡ true
@@ -105,6 +116,7 @@ pub record IsRouter (ms : Members) (r : RouterText) : Type 0 where
   pub interfaces : AreRead (IsTable IsInterface) (list_at (codes "iface") ms) r.config.interfaces
   pub links : AreRead (IsTable IsLink) (list_at (codes "iface") ms) r.links
   pub config : IsConfig ms r.config
+  pub older_hosts : older_hosts_at ms ≡ Some r.older_hosts
 
 -- the place of a name
 abbrev pub place_in : List (List ℕ) → List ℕ → Option ℕ

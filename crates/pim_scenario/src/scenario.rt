@@ -16,6 +16,7 @@ mod router;
 mod routes;
 mod words;
 
+use igmp_older::OlderHosts;
 use pim_types::{Config, Event, Fault, IfaceId, Refusal, Series};
 use std::alloc::{AllocError, AllocFailed, Global};
 use toml::Table;
@@ -36,6 +37,8 @@ pub struct RouterText {
     pub config: Config,
     /// The link of each interface.
     pub links: Series<Link>,
+    /// Which hosts of older versions of IGMP are heard on its interfaces.
+    pub older_hosts: OlderHosts,
 }
 
 /// What a scenario requests. A router is named by its place among the routers, from 0, and a frame by its number among

@@ -1,2 +1,5 @@
+pub mod Behind
+pub mod Front
+pub mod Laws
 pub mod Session
 pub use Rattle.pim_router.specs.Standing

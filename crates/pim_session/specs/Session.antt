@@ -1,13 +1,19 @@
--- What a session shows: its router, and what its last calls returned.
-use Rattle.std.specs.Prelude.{List}
+-- What a session shows: its router, what stands before it, and what its last calls returned.
+use Rattle.std.specs.Prelude.{List, Option}
 use Rattle.pim_types.specs.declared.outcome.Emission.{Emission}
 use Rattle.pim_types.specs.declared.table.Row.{Row}
 use Rattle.pim_router.specs.Standing.{Shown as RouterShown}
+use Rattle.igmp_older.specs.declared.mode.OlderRow.{OlderRow}
+use Rattle.pim_session.specs.Front.{Front}
 
 pub record ShownSession : Type 0 where
   -- nothing once an allocation failed
   pub router : RouterShown
+  -- none where no setting was made, and once an allocation failed
+  pub front : Option Front
   -- what the last event sent that had no fault
   pub sent : List Emission
   -- the rows of the table that was read last
   pub rows : List Row
+  -- the groups in an older mode that were read last
+  pub older_rows : List OlderRow

@@ -1,4 +1,4 @@
-//! A router in a box, with what its last calls returned.
+//! A router in a box, with what stands before it, and what its last calls returned.
 ghost use Rattle.std.specs.List.Sorted.{IsStrictlySortedBy};
 ghost use Rattle.std.specs.Option.{option_map_or};
 ghost use Rattle.std.specs.Prelude.{◌≡◌, ◌↔◌, [], Err, IfErr, IfOk, IfSome, IsOk, IsOkUnless, IsSome, IsTrue, None, Ok, OnErr, OnOk, Some, min, option_and_then};
@@ -14,7 +14,6 @@ ghost use Rattle.pim_model.specs.Printed.{rows};
 ghost use Rattle.pim_model.specs.Sets.{is_kept_alive};
 ghost use Rattle.pim_model.specs.State.{opening};
 ghost use Rattle.pim_model.specs.Step.{step};
-ghost use Rattle.pim_model.specs.Sure.{needs_no_memory};
 ghost use Rattle.pim_model.specs.Timers.{next_moment};
 ghost use Rattle.pim_model.specs.Unicast.{rpf_interface_rp};
 ghost use Rattle.pim_offload.specs.Keeping.{keep};
@@ -22,13 +21,18 @@ ghost use Rattle.pim_offload.specs.Offered.{offered};
 ghost use Rattle.pim_offload.specs.Seen.{seen_event};
 ghost use Rattle.pim_offrow.specs.Shown.{TellsOffload};
 ghost use Rattle.pim_reach.specs.Named.{event_named};
-ghost use Rattle.pim_router.specs.Costs.{IsCheap};
-ghost use Rattle.pim_router.specs.Disturbing.{event_disturbed};
-ghost use Rattle.pim_router.specs.Listing.{ListsSame};
-ghost use Rattle.pim_router.specs.Staying.{OffersStay};
+ghost use Rattle.pim_event.specs.Costs.{IsCheap};
+ghost use Rattle.pim_event.specs.Disturbing.{event_disturbed};
+ghost use Rattle.pim_event.specs.Listing.{ListsSame};
+ghost use Rattle.pim_event.specs.Staying.{OffersStay};
 ghost use Rattle.pim_router.specs.Standing.{begun, nothing_shown, standing, with_state};
 ghost use Rattle.pim_types.specs.Keys.{key_cmp};
+ghost use Rattle.pim_session.specs.Front.{emissions_left, front_after, given, hosts_set, interface_test, is_sure, older_rows, version_set};
 
+use crate::asked::Asked;
+use crate::behind;
+use crate::front::Front;
+use igmp_older::{OlderHosts, OlderRow, QueryVersion};
 use pim_intake::LentEvent;
 use pim_mfc::CacheRow;
 use pim_offrow::Offered;
@@ -40,17 +44,21 @@ use std::alloc::Global;
 use std::marker::Model;
 use std::mem;
 
-/// A router, the packets of the last event that had no fault, and the rows of the table that was read last.
+/// A router, what stands before it for hosts and routers of older versions of IGMP, the packets of the last event that
+/// had no fault, and the rows that were read last. Nothing stands before a new session's router, which refuses each
+/// message of an older version.
 pub struct Session {
     router: Box<Router>,
     // An allocation failed, so the session has failed.
     is_lost: bool,
+    front: Option<Front>,
     sent: Vec<Emission>,
     rows: Vec<Row>,
+    older_rows: Vec<OlderRow>,
 }
 
 impl Model for Session {
-    ghost use Rattle.std.specs.Prelude.{◌≡◌, IsSome, false, if◌then◌else◌};
+    ghost use Rattle.std.specs.Prelude.{◌≡◌, IsSome, None, false, if◌then◌else◌};
     ghost use Rattle.pim_router.specs.Standing.{nothing_shown};
     ghost use Rattle.pim_session.specs.Session.{ShownSession};
 
@@ -58,8 +66,10 @@ impl Model for Session {
 
     ghost view = { λ s. record {
       router = if s.is_lost then nothing_shown else s.router.value;
+      front = if s.is_lost then None else s.front;
       sent = s.sent.items;
       rows = s.rows.items;
+      older_rows = s.older_rows.items;
     } };
 
     ghost invariant = { λ s. s.is_lost ≡ false → IsSome s.router.value.standing };
@@ -71,8 +81,10 @@ impl Drop for Session {
         let Session {
             router: _,
             is_lost: _,
+            front: _,
             sent: _,
             rows: _,
+            older_rows: _,
         } = self;
     }
 }
@@ -82,7 +94,8 @@ impl Session {
     /// The fault is want of memory.
     pub fn new(alloc: Global, config: Config) -> Result<Result<Session, Refusal>, Fault>
         ensures accepted { IfOk result (λ made. IfOk made (λ s. (config_test config ≡ Ok tt)
-            × (s.router ≡ begun (opening config)) × (s.sent ≡ []) × (s.rows ≡ []))) }
+            × (s.router ≡ begun (opening config)) × (s.front ≡ None) × (s.sent ≡ []) × (s.rows ≡ [])
+            × (s.older_rows ≡ []))) }
         ensures refused { IfOk result (λ made. IfErr made (λ refusal. config_test config ≡ Err refusal)) }
         ensures memory { IfErr result (λ fault. fault ≡ Fault.Memory) }
     {
@@ -94,50 +107,57 @@ impl Session {
 
     fn of(alloc: Global, router: Box<Router>) -> Session
         requires { IsSome router.value.standing }
-        ensures { (result.router ≡ router.value) × (result.sent ≡ []) × (result.rows ≡ []) }
+        ensures { (result.router ≡ router.value) × (result.front ≡ None) × (result.sent ≡ []) × (result.rows ≡ [])
+            × (result.older_rows ≡ []) }
     {
         Session {
             router,
             is_lost: false,
+            front: None,
             sent: Vec::new(alloc),
             rows: Vec::new(alloc),
+            older_rows: Vec::new(alloc),
         }
     }
 
-    /// Takes one event, as `Router::step_lent` does, and keeps its packets in place of the packets kept before. After a
-    /// fault the kept packets are unchanged, and the session answers `Failed` from then on. A session that hasn't
-    /// failed has no fault where the event is ignored, or is refused for its bytes, its timestamp or its interface.
+    /// Takes one event, as `Router::step_lent` does, and keeps its packets in place of the packets kept before. Where
+    /// something stands before the router, the router is given what that makes of a packet, and its queries leave as the
+    /// versions of the interfaces say. After a fault the kept packets are unchanged, and the session answers `Failed`
+    /// from then on. A session that hasn't failed has no fault where the event is ignored, or is refused for its bytes,
+    /// its timestamp or its interface, if its packet was given to the router as it came.
     pub fn step(
         &mut self,
         alloc: Global,
         event: &LentEvent<'_>,
     ) -> Result<Result<Verdict, Refusal>, Fault>
-        ensures answer { IfSome self.old.router.standing (λ r. IfOk result (λ answer. answer ≡ (step r.state event.now).answer)) }
+        ensures answer { IfSome self.old.router.standing (λ r. IfOk result (λ answer. answer
+            ≡ (step r.state (given self.old.front r.state event.now)).answer)) }
         ensures state { IfSome self.old.router.standing (λ r. OnOk result
-            (self.new.router.standing ≡ Some (standing (step r.state event.now)))) }
-        ensures sent { IfSome self.old.router.standing (λ r. OnOk result (self.new.sent ≡ (step r.state event.now).emissions)) }
+            (self.new.router.standing ≡ Some (standing (step r.state (given self.old.front r.state event.now))))) }
+        ensures sent { IfSome self.old.router.standing (λ r. OnOk result (self.new.sent
+            ≡ emissions_left self.old.front (step r.state (given self.old.front r.state event.now)).emissions)) }
+        ensures front { IfSome self.old.router.standing (λ r. OnOk result
+            (self.new.front ≡ front_after self.old.front r.state event.now)) }
         ensures cheap { IfSome self.old.router.standing (λ r. OnOk result
-            (IsCheap r.state event.now self.new.router.probes self.new.router.touched)) }
+            (IsCheap r.state (given self.old.front r.state event.now) self.new.router.probes self.new.router.touched)) }
         ensures changed { IfSome self.old.router.standing (λ r. OnOk result
-            (ListsSame self.new.router.changed (event_named r.state event.now))) }
+            (ListsSame self.new.router.changed (event_named r.state (given self.old.front r.state event.now)))) }
         ensures disturbed { IfSome self.old.router.standing (λ r. OnOk result
-            (self.new.router.disturbed ≡ event_disturbed r.state event.now)) }
+            (self.new.router.disturbed ≡ event_disturbed r.state (given self.old.front r.state event.now))) }
         ensures stays { IfSome self.old.router.standing (λ r. OnOk result
-            (OffersStay self.new.router.disturbed r.state (step r.state event.now).state)) }
-        ensures failing { OnErr result (self.new.router ≡ nothing_shown) }
+            (OffersStay self.new.router.disturbed r.state (step r.state (given self.old.front r.state event.now)).state)) }
+        ensures failing { OnErr result ((self.new.router ≡ nothing_shown) × (self.new.front ≡ None)) }
         ensures silent { OnErr result (self.new.sent ≡ self.old.sent) }
         ensures failed { (result ≡ Err Fault.Failed) ↔ (self.old.router.standing ≡ None) }
         ensures fault { IfSome self.old.router.standing (λ r. IsOkUnless result Fault.Memory) }
-        ensures sure { IfSome self.old.router.standing (λ r. IsTrue (needs_no_memory (step r.state event.now).answer)
-            → IsOk result) }
-        ensures rows { self.new.rows ≡ self.old.rows }
+        ensures sure { IfSome self.old.router.standing (λ r. IsTrue (is_sure self.old.front r.state event.now) → IsOk result) }
+        ensures rows { (self.new.rows ≡ self.old.rows) × (self.new.older_rows ≡ self.old.older_rows) }
     {
         if self.is_lost {
             return Err(Fault::Failed);
         }
-        let mut sent = Vec::new(alloc);
-        match self.router.step_lent(event, &mut sent) {
-            Ok(answer) => {
+        match behind::step(alloc, self.router.as_mut(), &mut self.front, event) {
+            Ok((answer, sent)) => {
                 self.keep_sent(sent);
                 Ok(answer)
             }
@@ -173,11 +193,12 @@ impl Session {
             ≡ event_disturbed r.state (seen_event draw iface group.bits source.bits))) }
         ensures stays { IfSome self.old.router.standing (λ r. OnOk result (OffersStay self.new.router.disturbed r.state
             (step r.state (seen_event draw iface group.bits source.bits)).state)) }
-        ensures failing { OnErr result (self.new.router ≡ nothing_shown) }
+        ensures failing { OnErr result ((self.new.router ≡ nothing_shown) × (self.new.front ≡ None)) }
+        ensures front { OnOk result (self.new.front ≡ self.old.front) }
         ensures silent { OnErr result (self.new.sent ≡ self.old.sent) }
         ensures failed { (result ≡ Err Fault.Failed) ↔ (self.old.router.standing ≡ None) }
         ensures fault { IfSome self.old.router.standing (λ r. IsOkUnless result Fault.Memory) }
-        ensures rows { self.new.rows ≡ self.old.rows }
+        ensures rows { (self.new.rows ≡ self.old.rows) × (self.new.older_rows ≡ self.old.older_rows) }
     {
         if self.is_lost {
             return Err(Fault::Failed);
@@ -202,10 +223,12 @@ impl Session {
             runs ≡ is_kept_alive r.state group.bits source.bits)) }
         ensures state { IfSome self.old.router.standing (λ r. OnOk result (self.new.router
             ≡ with_state self.old.router r (keep r.state group.bits source.bits (min moment last_moment)))) }
-        ensures failing { OnErr result (self.new.router ≡ nothing_shown) }
+        ensures failing { OnErr result ((self.new.router ≡ nothing_shown) × (self.new.front ≡ None)) }
+        ensures front { OnOk result (self.new.front ≡ self.old.front) }
         ensures failed { (result ≡ Err Fault.Failed) ↔ (self.old.router.standing ≡ None) }
         ensures fault { IfSome self.old.router.standing (λ r. IsOkUnless result Fault.Memory) }
-        ensures rest { (self.new.sent ≡ self.old.sent) × (self.new.rows ≡ self.old.rows) }
+        ensures rest { (self.new.sent ≡ self.old.sent) × (self.new.rows ≡ self.old.rows)
+            × (self.new.older_rows ≡ self.old.older_rows) }
     {
         if self.is_lost {
             return Err(Fault::Failed);
@@ -222,7 +245,8 @@ impl Session {
     // Keeps packets that were sent in place of those kept before, whose memory goes back to the router.
     fn keep_sent(&mut self, sent: Vec<Emission>)
         ensures sent { self.new.sent ≡ sent.items }
-        ensures rest { (self.new.router ≡ self.old.router) × (self.new.rows ≡ self.old.rows) }
+        ensures rest { (self.new.router ≡ self.old.router) × (self.new.front ≡ self.old.front) × (self.new.rows ≡ self.old.rows)
+            × (self.new.older_rows ≡ self.old.older_rows) }
     {
         let done = mem::replace(&mut self.sent, sent);
         self.router.take_back(done);
@@ -242,12 +266,96 @@ impl Session {
         ensures silent { OnErr result (self.new.rows ≡ self.old.rows) }
         ensures failed { (result ≡ Err Fault.Failed) ↔ (self.old.router.standing ≡ None) }
         ensures fault { IfSome self.old.router.standing (λ r. IsOkUnless result Fault.Memory) }
-        ensures rest { (self.new.router ≡ self.old.router) × (self.new.sent ≡ self.old.sent) }
+        ensures rest { (self.new.router ≡ self.old.router) × (self.new.front ≡ self.old.front)
+            × (self.new.sent ≡ self.old.sent) × (self.new.older_rows ≡ self.old.older_rows) }
     {
         if self.is_lost {
             return Err(Fault::Failed);
         }
         self.rows = self.router.rows(table)?;
+        Ok(())
+    }
+
+    /// Sets which hosts of older versions an interface hears from then on, and forgets what it heard before. The
+    /// refusal is `NoInterface`. A fault changes nothing.
+    pub fn set_older_hosts(
+        &mut self,
+        alloc: Global,
+        iface: IfaceId,
+        hosts: OlderHosts,
+    ) -> Result<Result<(), Refusal>, Fault>
+        ensures answer { IfSome self.old.router.standing (λ r. IfOk result (λ answer. answer
+            ≡ interface_test r.state iface.number)) }
+        ensures front { IfSome self.old.router.standing (λ r. OnOk result
+            (self.new.front ≡ hosts_set r.state self.old.front iface.number hosts)) }
+        ensures silent { OnErr result (self.new.front ≡ self.old.front) }
+        ensures failed { (result ≡ Err Fault.Failed) ↔ (self.old.router.standing ≡ None) }
+        ensures fault { IfSome self.old.router.standing (λ r. IsOkUnless result Fault.Memory) }
+        ensures rest { (self.new.router ≡ self.old.router) × (self.new.sent ≡ self.old.sent) × (self.new.rows ≡ self.old.rows)
+            × (self.new.older_rows ≡ self.old.older_rows) }
+    {
+        if self.is_lost {
+            return Err(Fault::Failed);
+        }
+        if iface.number >= self.router.interface_count() {
+            return Ok(Err(Refusal::NoInterface));
+        }
+        let before = mem::replace(&mut self.front, None);
+        let mut front = behind::front_of(alloc, &self.router, before)?;
+        front.set_hosts(iface, hosts);
+        self.front = Some(front);
+        Ok(Ok(()))
+    }
+
+    /// Sets the version in which an interface queries: in version 2 its queries leave cut behind their group. The refusal
+    /// is `NoInterface`. A fault changes nothing.
+    pub fn set_query_version(
+        &mut self,
+        alloc: Global,
+        iface: IfaceId,
+        version: QueryVersion,
+    ) -> Result<Result<(), Refusal>, Fault>
+        ensures answer { IfSome self.old.router.standing (λ r. IfOk result (λ answer. answer
+            ≡ interface_test r.state iface.number)) }
+        ensures front { IfSome self.old.router.standing (λ r. OnOk result
+            (self.new.front ≡ version_set r.state self.old.front iface.number version)) }
+        ensures silent { OnErr result (self.new.front ≡ self.old.front) }
+        ensures failed { (result ≡ Err Fault.Failed) ↔ (self.old.router.standing ≡ None) }
+        ensures fault { IfSome self.old.router.standing (λ r. IsOkUnless result Fault.Memory) }
+        ensures rest { (self.new.router ≡ self.old.router) × (self.new.sent ≡ self.old.sent) × (self.new.rows ≡ self.old.rows)
+            × (self.new.older_rows ≡ self.old.older_rows) }
+    {
+        if self.is_lost {
+            return Err(Fault::Failed);
+        }
+        if iface.number >= self.router.interface_count() {
+            return Ok(Err(Refusal::NoInterface));
+        }
+        let before = mem::replace(&mut self.front, None);
+        let mut front = behind::front_of(alloc, &self.router, before)?;
+        front.set_version(iface, version);
+        self.front = Some(front);
+        Ok(Ok(()))
+    }
+
+    /// Reads the groups that are in an older mode, and keeps them in place of those kept before. After a fault the kept
+    /// rows are unchanged.
+    pub fn read_older(&mut self, alloc: Global) -> Result<(), Fault>
+        ensures rows { IfSome self.old.router.standing (λ r. OnOk result
+            (self.new.older_rows ≡ older_rows self.old.front r.state)) }
+        ensures silent { OnErr result (self.new.older_rows ≡ self.old.older_rows) }
+        ensures failed { (result ≡ Err Fault.Failed) ↔ (self.old.router.standing ≡ None) }
+        ensures fault { IfSome self.old.router.standing (λ r. IsOkUnless result Fault.Memory) }
+        ensures rest { (self.new.router ≡ self.old.router) × (self.new.front ≡ self.old.front)
+            × (self.new.sent ≡ self.old.sent) × (self.new.rows ≡ self.old.rows) }
+    {
+        if self.is_lost {
+            return Err(Fault::Failed);
+        }
+        self.older_rows = match &self.front {
+            Some(front) => front.older_rows(alloc, &Asked::of(&self.router))?,
+            None => Vec::new(alloc),
+        };
         Ok(())
     }
 
@@ -263,6 +371,13 @@ impl Session {
         ensures { result.now ≡ self.now.rows }
     {
         self.rows.as_slice()
+    }
+
+    /// The groups in an older mode that were read last, in ascending order of their interfaces and groups.
+    pub fn older_rows(&self) -> &[OlderRow]
+        ensures { result.now ≡ self.now.older_rows }
+    {
+        self.older_rows.as_slice()
     }
 
     /// The timestamp, in ms, at which the next timer expires; `None` where no timer runs, and after a fault.

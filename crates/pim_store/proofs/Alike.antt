@@ -1,11 +1,9 @@
 -- A row that says what the one before says: nothing is looked up then.
-use Rattle.std.proofs.Common.{◌≡◌, ◌==◌, ◌&&◌, ◌||◌, ℕ, Bool, true, false, not, Option, Some, None, Result, Ok, Err, OnOk, is_some, refl, ap, ◌∙◌, arith}
-use Rattle.std.specs.Prelude.{IsSome, IsTrue}
+use Rattle.std.proofs.Common.{◌≡◌, ◌==◌, ◌&&◌, ◌||◌, ℕ, Bool, true, false, not, Option, Some, refl, ap, ◌∙◌, arith}
 use Rattle.std.proofs.lemmas.Bool.Decides.{nat_tests}
 use Rattle.std.specs.Bool.{beq}
 use Rattle.pim_types.specs.declared.fact.Key.{Key}
-use Rattle.pim_model.specs.Tables.{Table, has_row, row_at}
-use Rattle.pim_store.specs.Said.{SaysAlike, is_about, is_set_by}
+use Rattle.pim_store.specs.Said.{is_about, is_set_by}
 use Rattle.pim_store.specs.Telling.{is_second, is_set_by_either}
 use Rattle.pim_store.specs.declared.marks.Mark.{Mark}
 use Rattle.pim_store.specs.declared.marks.Mark.TheVariants.{Joined, Branched, Pruned, Lost, Won, HasOverrideTimer, HasSource, HasRegister}
@@ -62,21 +60,3 @@ apart true true e same = cc
 apart true false e same = cc
 apart false true e same = cc
 apart false false e same = cc
-
--- ---- rows that say no more than that they are there
-
--- one that takes the place of another leaves the meter as it was
-pub kept_there : {R A E : Type 0} {tells : Mark → Bool} {says : Mark → R → Bool} (r : Result A E) (t : Table R) (k q : Key)
-    (row : Option R) (P : Type 0) → k ≡ q
-    → ((x : Mark) (after before : R) → tells x ≡ true → says x after ≡ says x before)
-    → OnOk r ((after before : R) → row ≡ Some after → row_at t k ≡ Some before → SaysAlike tells says after before → P)
-    → OnOk r (IsSome row → IsTrue (has_row t q) → P)
-unfolding has_row
-kept_there {R} (Ok a) t k q row P named alike kept = go row (row_at t q) refl refl
-  where
-    go : (o p : Option R) → row ≡ o → row_at t q ≡ p → IsSome o → IsTrue (is_some p) → P
-    go None p is at some there = cc
-    go (Some after) None is at some there = cc
-    go (Some after) (Some before) is at some there =
-        kept after before is (ap (row_at t) named ∙ at) (λ x told. alike x after before told)
-kept_there (Err e) t k q row P named alike kept = tt

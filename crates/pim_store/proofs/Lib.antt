@@ -6,7 +6,6 @@ mod Empty
 mod Fitting
 mod Indexed
 mod KeptAlive
-mod LookedUp
 mod Losses
 mod Lowered
 mod Marked

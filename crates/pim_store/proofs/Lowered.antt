@@ -68,7 +68,3 @@ pub same_beside : {T E X Y Z : Type 0} (result : Result T E) (f : X → Y → Z)
     → OnOk result (x ≡ y) → OnOk result (f x u ≡ f y v)
 same_beside (Ok r) f x y u v beside same = λ j. f (same j) (beside j)
 same_beside (Err e) f x y u v beside same = tt
-
-pub on_ok_always : {T E P : Type 0} (result : Result T E) → P → OnOk result P
-on_ok_always (Ok r) p = p
-on_ok_always (Err e) p = tt

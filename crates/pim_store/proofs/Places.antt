@@ -11,6 +11,7 @@ use Rattle.pim_types.specs.declared.fact.Key.{Key}
 use Rattle.pim_types.specs.Keys.{addr_cmp, iface_in, key_cmp, key_of, same_key}
 use Rattle.pim_model.specs.Tables.{same_bool}
 use Rattle.pim_source_trie.specs.Entries.{entry_key}
+use Rattle.pim_store.specs.PimTables.{fact_key}
 use Rattle.pim_store.specs.Said.{iface_at, is_about, is_here, is_rpt, mark_key, place, source_bits}
 use Rattle.pim_store.specs.declared.marks.Mark.{Mark}
 use Rattle.pim_store.specs.declared.marks.Mark.TheVariants.{Joined, Branched, Pruned, Lost, Won}
@@ -98,3 +99,22 @@ place_is x i g s k =
     key_parts (iface_at x i) g s (is_rpt x) k
     ∙ moved (iface_at x i == iface_in k) (is_of g s k) (same_bool (is_rpt x) k.rpt)
     ∙ (λ j. sym (of_place g s k) j && (here x i (iface_in k) j && same_bool (is_rpt x) k.rpt))
+
+-- ---- the keys of facts of the whole router
+
+-- the key with its fields as they are
+pub fact_named : (i : ℕ) (group : Addr) (source : Option Addr) (rpt : Bool)
+    → (let k : Key = record { iface = record { number = i }; group = group; source = source; rpt = rpt } in k)
+    ≡ fact_key i group source rpt
+fact_named i group source rpt = λ j. record {
+  iface = record { number = i };
+  group = group;
+  source = sym (source_again source) j;
+  rpt = rpt;
+}
+
+-- the entry of a fact of the whole router
+pub entry_named : (key : Key) (group : Addr) (source : Option Addr) → key ≡ fact_key 0 group source false
+    → entry_key key.group key.source ≡ fact_key 0 group source false
+entry_named key group source is =
+    ap (λ (k : Key). entry_key k.group k.source) is ∙ ap (entry_key group) (source_again source)

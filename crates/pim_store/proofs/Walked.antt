@@ -25,8 +25,7 @@ use Rattle.pim_laws.proofs.TableLaws.{any_in_filter, any_of_map, row_is_there}
 use Rattle.pim_tables.proofs.Firsts.{all_found}
 use Rattle.pim_tables.proofs.RowsIn.{no_row_in, none_in}
 use Rattle.pim_laws.proofs.Numbers.{RisesFrom, any_ascending, members_tell, rises_ascending, same_numbers}
-use Rattle.pim_source_trie.specs.Entries.{entry_key, nodes_visited}
-use Rattle.pim_source_trie.proofs.Visited.{same_visited}
+use Rattle.pim_source_trie.specs.Entries.{entry_key}
 use Rattle.pim_store.specs.PimTables.{PimTables, stored_keys}
 use Rattle.pim_store.specs.Said.{AreEntries, IsTold, is_about, is_plain_of_iface, is_rpt_of_router, is_source_of_router, mark_key, place, row_says, said, seen_in, source_bits, timers_in}
 use Rattle.pim_store.specs.Sources.{sources_in}
@@ -350,25 +349,6 @@ module _ (marks : Table Marks) (f : PimTables) (entries : AreEntries marks) (is 
       (λ none. none_among names marks (no_other none))
       (λ none. ap is_some (none_under names marks (entry_key group (Some source)) none entry_named))
       ∙ any_marked marks f entries is names same_names
-
--- ---- the nodes that a look-up visits
-
-module _ (marks : Table Marks) (f : PimTables) (entries : AreEntries marks) (is : IsIndexed marks f) where
-  abbrev tests_source : ℕ → (ℕ → Bool) → Key → Bool
-  tests_source g test k = is_of_group g k && (is_some k.source && test (source_in k))
-
-  same_tested : (g : ℕ) (test : ℕ → Bool) (k : Key)
-      → tests_source g test (mark_key (group_in k) (source_bits k.source)) ≡ tests_source g test k
-  same_tested g test k =
-      ap (λ (o : Option Addr). is_of_group g k && (is_some o && test (option_map_or (λ (a : Addr). a.bits) o 0)))
-      (source_again k.source)
-
-  pub marks_visited : (group : Addr) (source : Option Addr)
-      → nodes_visited (keys_in marks) group source ≡ nodes_visited (stored_keys f) group source
-  marks_visited group source =
-      same_visited (keys_in marks) (stored_keys f)
-      (λ test. any_marked marks f entries is (λ k. test (group_in k)) (λ k. refl)) group
-      (λ test. any_marked marks f entries is (tests_source group.bits test) (same_tested group.bits test)) source
 
 -- ---- walks
 

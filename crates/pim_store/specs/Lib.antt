@@ -6,4 +6,3 @@ pub mod Said
 pub mod Sources
 pub mod Stored
 pub mod Telling
-pub mod Visits

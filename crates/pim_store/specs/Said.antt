@@ -6,9 +6,9 @@ use Rattle.pim_ifset.specs.Members.{has}
 use Rattle.pim_types.specs.declared.fact.JoinTimerRow.{JoinTimerRow}
 use Rattle.pim_types.specs.declared.fact.Key.{Key}
 use Rattle.pim_types.specs.Keys.{iface_in, key_of, same_key}
-use Rattle.pim_model.specs.Tables.{Table, has_row, keys_in, row_at, same_bool}
+use Rattle.pim_model.specs.Tables.{Table, has_row, row_at, same_bool}
 use Rattle.pim_tables.specs.RowsIn.{rows_in}
-use Rattle.pim_source_trie.specs.Entries.{entry_key, nodes_visited, raised}
+use Rattle.pim_source_trie.specs.Entries.{entry_key}
 use Rattle.pim_store.specs.declared.marks.Mark.{Mark}
 use Rattle.pim_store.specs.declared.marks.Mark.TheVariants.{Joined, Branched, Pruned, Lost, Won, HasOverrideTimer, HasSource, HasRegister}
 use Rattle.pim_store.specs.declared.marks.Marks.{Marks}
@@ -114,11 +114,6 @@ pub record IsEntry (k : Key) (m : Marks) : Type 0 where
 
 abbrev pub AreEntries : Table Marks → Type 0
 AreEntries t = (k : Key) (m : Marks) → row_at t k ≡ Some m → IsEntry k m
-
--- the marks under a key of a group or a source were looked up: the meter counts the nodes that lead there
-pub record AreLookedUp (marks : Table Marks) (k : Key) (old new : ℕ) : Type 0 where
-  pub entries : AreEntries marks
-  pub visited : new ≡ raised old (nodes_visited (keys_in marks) k.group k.source)
 
 -- The Join timer under the key is the given one, or none, and each other one is unchanged.
 abbrev pub WritesTimer : (before after : Table Marks) → Key → Option JoinTimerRow → Type 0

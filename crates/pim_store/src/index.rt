@@ -1,5 +1,5 @@
 //! The marks of all groups and sources.
-ghost use Rattle.std.specs.Prelude.{◌≡◌, ◌≤◌, ◌&&◌, [], ℕ, IsTrue, None, Some, OnOk, OnErr, cond, false, filter, length, map, option_map};
+ghost use Rattle.std.specs.Prelude.{◌≡◌, ◌≤◌, ◌+◌, ◌&&◌, [], ℕ, IsTrue, None, Some, OnOk, OnErr, cond, false, filter, length, map, option_map};
 ghost use Rattle.std.specs.List.{list_all};
 ghost use Rattle.std.specs.List.Sorted.{IsStrictlySortedBy};
 ghost use Rattle.pim_model.specs.Tables.{ascending, change_row, has_row, keys_in, row_at, set_row};
@@ -7,11 +7,11 @@ ghost use Rattle.pim_model.specs.Clearing.{first_by};
 ghost use Rattle.pim_model.specs.Timers.{is_ending_first};
 ghost use Rattle.pim_tables.specs.Ends.{due_of, row_endings};
 ghost use Rattle.pim_types.specs.Keys.{group_in, is_of_group, key_cmp};
-ghost use Rattle.pim_source_trie.specs.Entries.{entry_key, nodes_visited, raised};
+ghost use Rattle.pim_source_trie.specs.Entries.{entry_key};
 ghost use Rattle.pim_store.specs.Entry.{with_plain};
 ghost use Rattle.pim_store.specs.JoinTimers.{AreTimersBeside, AreTimersInStep, GivesBeside, IsThere, IsTimerArmed};
 ghost use Rattle.pim_store.specs.PimTables.{is_plain_key};
-ghost use Rattle.pim_store.specs.Said.{AreEntries, AreLookedUp, SetsMarks, KeepsMarks, Writes, WritesTimer, is_about, row_says, said, seen, source_bits, timer_in, timers_in, tunnel_in};
+ghost use Rattle.pim_store.specs.Said.{AreEntries, SetsMarks, KeepsMarks, Writes, WritesTimer, is_about, row_says, said, seen, source_bits, timer_in, timers_in, tunnel_in};
 ghost use Rattle.pim_store.specs.declared.marks.Mark.{Mark as MarkValue};
 ghost use Rattle.pim_store.specs.declared.marks.Marks.{Marks as MarksValue};
 
@@ -187,11 +187,14 @@ impl Index {
     }
 
     // The marks of (*,G), where `source` is `None`, or of a source of the group.
+    #[tactic(auto, unfolding(pim_trie::specs::Meter::raised))]
     pub(crate) fn get(&self, group: Addr, source: Option<Addr>, meter: &mut Meter) -> Marks
         ensures marks { (x : MarkValue) (i : ℕ) → seen x result i ≡ said self.now x i group.bits (source_bits source) }
         ensures bare { (x : MarkValue) → tunnel_in x result ≡ false }
         ensures timer { result.join_timer ≡ timer_in (row_at self.now (entry_key group source)) }
         ensures row { result.join_timer ≡ row_at (timers_in self.now) (entry_key group source) }
+        ensures at_most { meter.new ≤ meter.old + 66 }
+        ensures star_at_most { source ≡ None → meter.new ≤ meter.old + 33 }
 
         // This holds of every index.
         ensures ascending { IsStrictlySortedBy key_cmp (keys_in self.now) }
@@ -206,10 +209,10 @@ impl Index {
     }
 
     // Whether there are marks of the source of the group.
-    #[tactic(auto, unfolding(pim_model::specs::Tables::has_row))]
+    #[tactic(auto, unfolding(pim_model::specs::Tables::has_row, pim_trie::specs::Meter::raised))]
     pub(crate) fn contains(&self, group: Addr, source: Addr, meter: &mut Meter) -> bool
         ensures found { result ≡ has_row self.now (entry_key group (Some source)) }
-
+        ensures at_most { meter.new ≤ meter.old + 66 }
 
         // This holds of every index.
         ensures entries { AreEntries self.now }
@@ -252,7 +255,6 @@ impl Index {
             → Writes self.old self.new (entry_key key.group key.source) (with_plain mark key.iface.number is_set m) }
         ensures absent { result ≡ false → self.new ≡ self.old }
         ensures timers { timers_in self.new ≡ timers_in self.old }
-        ensures visited { AreLookedUp self.old key meter.old meter.new }
     {
         // For the proof: the keys rise.
         let _ = self.entries.is_empty();
@@ -276,7 +278,6 @@ impl Index {
         ensures ok { OnOk result (SetsMarks R.tells R.says self.old self.new key (Some row)) }
         ensures timers { timers_in self.new ≡ timers_in self.old }
         ensures err { OnErr result (self.new ≡ self.old) }
-        ensures visited { AreLookedUp self.old key meter.old meter.new }
     {
         let (first, second) = R::told(key);
         if second.is_some() || !first.is_plain() {
@@ -295,7 +296,6 @@ impl Index {
         requires { IsTrue (R.fits key) }
         ensures marks { SetsMarks R.tells R.says self.old self.new key None }
         ensures timers { timers_in self.new ≡ timers_in self.old }
-        ensures visited { AreLookedUp self.old key meter.old meter.new }
     {
         let (first, second) = R::told(key);
         // For the proof: the keys rise.
@@ -311,7 +311,7 @@ impl Index {
     // The Join timer of the key's group, or of its source.
     pub(crate) fn timer(&self, key: Key, meter: &mut Meter) -> Option<JoinTimerRow>
         ensures timer { result ≡ row_at (timers_in self.now) (entry_key key.group key.source) }
-        ensures visited { AreLookedUp self.now key meter.old meter.new }
+        ensures at_most { meter.new ≤ meter.old + 66 }
     {
         let marks = self.get(key.group, key.source, meter);
         marks.join_timer
@@ -389,7 +389,7 @@ impl Index {
     }
 
     // Sets or removes the Join timer of the key's group, or of its source. The error is want of memory, and then no
-    // timer has changed. The meter rises by the nodes that lead there.
+    // timer has changed.
     pub(crate) fn set_timer(
         &mut self,
         key: Key,
@@ -399,14 +399,13 @@ impl Index {
         ensures set { OnOk result (timers_in self.new
             ≡ set_row (timers_in self.old) (entry_key key.group key.source) row) }
         ensures marks { KeepsMarks self.old self.new }
-        ensures visited { AreLookedUp self.old key meter.old meter.new }
     {
         let marks = self.get(key.group, key.source, meter);
         self.set_known(key, marks, row, meter)
     }
 
     // Changes the Join timer under the key, if there is one. The error is want of memory, and then no timer has
-    // changed. The meter rises by the nodes that lead to the key's group, or to its source.
+    // changed.
     pub(crate) fn change_timer<C: Change<JoinTimerRow>>(
         &mut self,
         key: Key,
@@ -416,7 +415,6 @@ impl Index {
         ensures changed { OnOk result (timers_in self.new
             ≡ change_row (λ before. Some (C.after change before)) key (timers_in self.old)) }
         ensures marks { KeepsMarks self.old self.new }
-        ensures visited { AreLookedUp self.old key meter.old meter.new }
     {
         let marks = self.get(key.group, key.source, meter);
         let Some(before) = marks.join_timer else {

@@ -1,8 +1,8 @@
 //! A table's rows, changed together with the marks that they set.
-ghost use Rattle.std.specs.Prelude.{◌≡◌, ◌≤◌, ◌&&◌, ℕ, None, Some, IfOk, IsTrue, OnOk, false, true};
+ghost use Rattle.std.specs.Prelude.{◌≡◌, ◌&&◌, ℕ, None, Some, IfOk, IsTrue, OnOk, false, true};
 ghost use Rattle.pim_model.specs.Tables.{change_row, drop_at, drop_where, has_row, put, row_at, set_row};
 ghost use Rattle.pim_types.specs.Keys.{is_on};
-ghost use Rattle.pim_store.specs.Said.{AreLookedUp, IsTold, KeepsOtherMarks, SaysAlike, SetsMarks, is_about, row_says, timers_in};
+ghost use Rattle.pim_store.specs.Said.{IsTold, KeepsOtherMarks, SaysAlike, SetsMarks, is_about, row_says, timers_in};
 ghost use Rattle.pim_store.specs.declared.marks.Mark.{Mark as MarkValue};
 
 use crate::index::Index;
@@ -31,7 +31,7 @@ fn says_alike<R: TellsMarks>(key: Key, before: R, row: R) -> bool
 
 // Changes the row under the key in its place, if there is one. The result is whether there is one. The row is looked up
 // once, or not at all where the hint is its place; the result doesn't depend on the hint. The error is want of memory.
-// The meter rises by the nodes that lead to the marks, if the new row sets other marks than the old one.
+// The marks are looked up only if the new row sets other marks than the old one.
 pub(crate) fn update_row<R: TellsMarks, K: Keeping<R>, C: Change<R>>(
     rows: &mut Timed<R, K>,
     index: &mut Index,
@@ -49,8 +49,6 @@ pub(crate) fn update_row<R: TellsMarks, K: Keeping<R>, C: Change<R>>(
     ensures timers { timers_in index.new ≡ timers_in index.old }
     ensures alike { OnOk result ((before : R) → row_at rows.old key ≡ Some before
         → SaysAlike R.tells R.says (C.after change before) before → meter.new ≡ meter.old) }
-    ensures index { IfOk result (λ there. there ≡ false → index.new ≡ index.old) }
-    ensures meter { IfOk result (λ there. there ≡ false → meter.new ≡ meter.old) }
 {
     // For the proof: a key is listed once.
     rows.recall_rising();
@@ -89,9 +87,6 @@ pub(crate) fn put_row<R: TellsMarks, K: Keeping<R>>(
     ensures told { IsTold R.tells R.says R.fits index.new rows.new }
     ensures others { KeepsOtherMarks R.tells index.old index.new }
     ensures timers { timers_in index.new ≡ timers_in index.old }
-    ensures alike { OnOk result ((before : R) → row_at rows.old key ≡ Some before → SaysAlike R.tells R.says row before
-        → meter.new ≡ meter.old) }
-    ensures new { OnOk result (row_at rows.old key ≡ None → AreLookedUp index.old key meter.old meter.new) }
 {
     // For the proof: what is put under a key with a row takes the place of that row.
     rows.recall_rising();
@@ -116,7 +111,6 @@ pub(crate) fn add_row<R: TellsMarks, K: Keeping<R>>(
     ensures told { IsTold R.tells R.says R.fits index.new rows.new }
     ensures others { KeepsOtherMarks R.tells index.old index.new }
     ensures timers { timers_in index.new ≡ timers_in index.old }
-    ensures visited { OnOk result (AreLookedUp index.old key meter.old meter.new) }
 {
     index.mark(key, row, meter)?;
     if let Err(refused) = rows.add(key, row) {
@@ -137,7 +131,6 @@ fn drop_marked<R: TellsMarks, K: Keeping<R>>(
     ensures removed { rows.new ≡ drop_at rows.old key }
     ensures unmarked { SetsMarks R.tells R.says index.old index.new key None }
     ensures timers { timers_in index.new ≡ timers_in index.old }
-    ensures visited { AreLookedUp index.old key meter.old meter.new }
 {
     rows.remove(key);
     index.unmark::<R>(key, meter);
@@ -156,7 +149,6 @@ pub(crate) fn remove_row<R: TellsMarks, K: Keeping<R>>(
     ensures told { IsTold R.tells R.says R.fits index.new rows.new }
     ensures others { KeepsOtherMarks R.tells index.old index.new }
     ensures timers { timers_in index.new ≡ timers_in index.old }
-    ensures visited { AreLookedUp index.old key meter.old meter.new }
 {
     drop_marked(rows, index, key, meter);
 }
@@ -176,10 +168,6 @@ pub(crate) fn set_row<R: TellsMarks, K: Keeping<R>>(
     ensures told { IsTold R.tells R.says R.fits index.new rows.new }
     ensures others { KeepsOtherMarks R.tells index.old index.new }
     ensures timers { timers_in index.new ≡ timers_in index.old }
-    ensures alike { OnOk result ((after before : R) → row ≡ Some after → row_at rows.old key ≡ Some before
-        → SaysAlike R.tells R.says after before → meter.new ≡ meter.old) }
-    ensures new { OnOk result (row_at rows.old key ≡ None → AreLookedUp index.old key meter.old meter.new) }
-    ensures gone { row ≡ None → AreLookedUp index.old key meter.old meter.new }
 {
     match row {
         Some(row) => put_row(rows, index, key, row, meter),
@@ -203,10 +191,6 @@ pub(crate) fn change_row<R: TellsMarks, K: Keeping<R>>(
     ensures told { IsTold R.tells R.says R.fits index.new rows.new }
     ensures others { KeepsOtherMarks R.tells index.old index.new }
     ensures timers { timers_in index.new ≡ timers_in index.old }
-    ensures absent { has_row rows.old key ≡ false → meter.new ≡ meter.old }
-    ensures alike { OnOk result ((after before : R) → row ≡ Some after → row_at rows.old key ≡ Some before
-        → SaysAlike R.tells R.says after before → meter.new ≡ meter.old) }
-    ensures gone { row ≡ None → has_row rows.old key ≡ true → AreLookedUp index.old key meter.old meter.new }
 {
     // For the proof: what is put under a key with a row takes the place of that row.
     rows.recall_rising();
@@ -228,8 +212,6 @@ pub(crate) fn drop_row<R: TellsMarks, K: Keeping<R>>(
     ensures told { IsTold R.tells R.says R.fits index.new rows.new }
     ensures others { KeepsOtherMarks R.tells index.old index.new }
     ensures timers { timers_in index.new ≡ timers_in index.old }
-    ensures absent { has_row rows.old key ≡ false → meter.new ≡ meter.old }
-    ensures there { has_row rows.old key ≡ true → AreLookedUp index.old key meter.old meter.new }
 {
     if rows.contains(key) {
         remove_row(rows, index, key, meter);

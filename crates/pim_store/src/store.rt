@@ -1,5 +1,5 @@
 //! The PIM facts.
-ghost use Rattle.std.specs.Prelude.{◌≡◌, ◌<◌, ◌≤◌, ◌+◌, ◌^◌, ◌==◌, ◌++◌, ◌&&◌, ℕ, None, Some, IsSome, IsTrue, IfOk, OnOk, false, filter, is_some, length, nat_lt, not, option_map, true};
+ghost use Rattle.std.specs.Prelude.{◌≡◌, ◌<◌, ◌≤◌, ◌+◌, ◌^◌, ◌==◌, ◌++◌, ◌&&◌, ℕ, None, Some, IsTrue, IfOk, OnOk, false, filter, is_some, length, nat_lt, not, option_map, true};
 ghost use Rattle.std.specs.List.{list_all, list_any};
 ghost use Rattle.pim_ifset.specs.Members.{has};
 ghost use Rattle.pim_model.specs.Clearing.{first_by};
@@ -8,12 +8,10 @@ ghost use Rattle.pim_model.specs.Sets.{is_loser, is_winner};
 ghost use Rattle.pim_model.specs.Tables.{change_row, drop_at, drop_where, has_row, keys_in, put, row_at, set_row};
 ghost use Rattle.pim_model.specs.Timers.{is_ending_first};
 ghost use Rattle.pim_model.specs.Upstream.{groups_of, sources_of};
-ghost use Rattle.pim_source_trie.specs.Entries.{nodes_visited, raised};
 ghost use Rattle.pim_tables.specs.Ends.{due_of};
 ghost use Rattle.pim_types.specs.Keys.{group_in, iface_in, is_of_group, is_on, names_source, rpt_key, same_key, source_key};
 ghost use Rattle.pim_store.specs.Bare.{IsWithoutTunnel};
 ghost use Rattle.pim_store.specs.PimTables.{AllRise, AreKeyed, are_of_kind, counted_facts, fact_key, is_prune, kept_alive, lowered_join_timer, no_facts, stored_endings, stored_keys};
-ghost use Rattle.pim_store.specs.Visits.{Visits};
 
 use crate::changes::{KeepAlive, Lowering};
 use crate::entry::Entry;
@@ -37,11 +35,8 @@ use std::collections::btree_map::Iter;
 use std::marker::Model;
 
 /// The PIM facts of the router. After want of memory in a call that changes them, nothing is promised of their values,
-/// but all that is stated of every store still holds. A call that changes facts raises the meter by the nodes that lead
-/// to the marks of a group or a source, wherever a row is added or removed there, or a new row sets other marks than
-/// the old one. A Join timer is in the entry with those marks, so each call that reads or changes one raises the meter
-/// in this way, whether there is a timer or not. Not counted are the look-ups of Join timers that the timer queue does
-/// when one is set or removed.
+/// but all that is stated of every store still holds. A call that is lent a meter raises it by the trie nodes that it
+/// visits. The marks of a group, or of a source, are in a trie, and the Join timer with them.
 pub struct Store {
     downstream: Timed<DownstreamRow>,
     asserts: Timed<AssertRow>,
@@ -169,7 +164,7 @@ impl Store {
         self.asserts.get(key)
     }
 
-    /// The Join timer of (*,G), where `source` is `None`, or of (S,G). The meter rises by the nodes that lead there.
+    /// The Join timer of (*,G), where `source` is `None`, or of (S,G). The meter rises by 66 nodes at most.
     pub fn join_timer(
         &self,
         group: Addr,
@@ -177,7 +172,7 @@ impl Store {
         meter: &mut Meter,
     ) -> Option<JoinTimerRow>
         ensures timer { result ≡ row_at self.now.join_timers (fact_key 0 group source false) }
-        ensures visited { Visits self.now group source meter.old meter.new }
+        ensures at_most { meter.new ≤ meter.old + 66 }
     {
         self.index.timer(plain_key(group, source), meter)
     }
@@ -219,10 +214,7 @@ impl Store {
         meter: &mut Meter,
     ) -> Result<(), AllocError>
         requires { key.iface.number < 120 }
-        ensures set { OnOk result (self.new ≡ record self.old { downstream = set_row self.old.downstream key row }) }
-        ensures new { OnOk result (row_at self.old.downstream key ≡ None
-            → Visits self.old key.group key.source meter.old meter.new) }
-        ensures gone { row ≡ None → Visits self.old key.group key.source meter.old meter.new }
+        ensures { OnOk result (self.new ≡ record self.old { downstream = set_row self.old.downstream key row }) }
     {
         set_row(&mut self.downstream, &mut self.index, key, row, meter)
     }
@@ -238,12 +230,9 @@ impl Store {
         meter: &mut Meter,
     ) -> Result<(), AllocError>
         requires { iface.number < 120 }
-        ensures set { OnOk result (self.new ≡ record self.old {
+        ensures { OnOk result (self.new ≡ record self.old {
           asserts = set_row self.old.asserts (fact_key iface.number group source false) row;
         }) }
-        ensures new { OnOk result (row_at self.old.asserts (fact_key iface.number group source false) ≡ None
-            → Visits self.old group source meter.old meter.new) }
-        ensures gone { row ≡ None → Visits self.old group source meter.old meter.new }
     {
         let key = Key {
             iface,
@@ -262,10 +251,9 @@ impl Store {
         row: Option<JoinTimerRow>,
         meter: &mut Meter,
     ) -> Result<(), AllocError>
-        ensures set { OnOk result (self.new ≡ record self.old {
+        ensures { OnOk result (self.new ≡ record self.old {
           join_timers = set_row self.old.join_timers (fact_key 0 group source false) row;
         }) }
-        ensures visited { Visits self.old group source meter.old meter.new }
     {
         self.index.set_timer(plain_key(group, source), row, meter)
     }
@@ -277,41 +265,32 @@ impl Store {
         row: Option<OverrideTimerRow>,
         meter: &mut Meter,
     ) -> Result<(), AllocError>
-        ensures set { OnOk result (self.new ≡ record self.old {
+        ensures { OnOk result (self.new ≡ record self.old {
           override_timers = set_row self.old.override_timers (rpt_key 0 name.group.bits name.source.bits) row;
         }) }
-        ensures new { OnOk result (row_at self.old.override_timers (rpt_key 0 name.group.bits name.source.bits) ≡ None
-            → Visits self.old name.group (Some name.source) meter.old meter.new) }
-        ensures gone { row ≡ None → Visits self.old name.group (Some name.source) meter.old meter.new }
     {
         let key = name.rpt_key();
         set_row(&mut self.override_timers, &mut self.index, key, row, meter)
     }
 
-    /// Sets the row of the source of the group, or removes it. The error is want of memory. The meter is unchanged
-    /// where a row replaces another.
+    /// Sets the row of the source of the group, or removes it. The error is want of memory.
     pub fn set_source(
         &mut self,
         name: SourceGroup,
         row: Option<SourceRow>,
         meter: &mut Meter,
     ) -> Result<(), AllocError>
-        ensures set { OnOk result (self.new ≡ record self.old {
+        ensures { OnOk result (self.new ≡ record self.old {
           sources = set_row self.old.sources (source_key 0 name.group.bits name.source.bits) row;
         }) }
-        ensures kept { OnOk result (IsSome row → IsTrue (has_row self.old.sources (source_key 0 name.group.bits name.source.bits))
-            → meter.new ≡ meter.old) }
-        ensures new { OnOk result (row_at self.old.sources (source_key 0 name.group.bits name.source.bits) ≡ None
-            → Visits self.old name.group (Some name.source) meter.old meter.new) }
-        ensures gone { row ≡ None → Visits self.old name.group (Some name.source) meter.old meter.new }
     {
         let key = name.key();
         set_row(&mut self.sources, &mut self.index, key, row, meter)
     }
 
     /// Sets when the keepalive timer of the source of the group expires, in ms, and gives the source a row if it has
-    /// none. A row that is there is looked up once, or not at all where the hint is its place (`source_place`), and
-    /// then the meter is unchanged. The result doesn't depend on the hint. The error is want of memory.
+    /// none. A row that is there is looked up once, or not at all where the hint is its place (`source_place`); either
+    /// way the meter is unchanged. The result doesn't depend on the hint. The error is want of memory.
     pub fn keep_alive(
         &mut self,
         name: SourceGroup,
@@ -325,8 +304,6 @@ impl Store {
         }) }
         ensures kept { OnOk result (IsTrue (has_row self.old.sources (source_key 0 name.group.bits name.source.bits))
             → meter.new ≡ meter.old) }
-        ensures new { OnOk result (row_at self.old.sources (source_key 0 name.group.bits name.source.bits) ≡ None
-            → Visits self.old name.group (Some name.source) meter.old meter.new) }
     {
         // For the proof: a key is listed once.
         self.sources.recall_rising();
@@ -349,12 +326,9 @@ impl Store {
         row: Option<RegisterRow>,
         meter: &mut Meter,
     ) -> Result<(), AllocError>
-        ensures set { OnOk result (self.new ≡ record self.old {
+        ensures { OnOk result (self.new ≡ record self.old {
           registers = set_row self.old.registers (source_key 0 name.group.bits name.source.bits) row;
         }) }
-        ensures new { OnOk result (row_at self.old.registers (source_key 0 name.group.bits name.source.bits) ≡ None
-            → Visits self.old name.group (Some name.source) meter.old meter.new) }
-        ensures gone { row ≡ None → Visits self.old name.group (Some name.source) meter.old meter.new }
     {
         let key = name.key();
         set_row(&mut self.registers, &mut self.index, key, row, meter)
@@ -367,18 +341,15 @@ impl Store {
         row: DownstreamRow,
         meter: &mut Meter,
     ) -> Result<(), AllocError>
-        ensures changed { OnOk result (self.new
+        ensures { OnOk result (self.new
             ≡ record self.old { downstream = change_row (λ before. Some row) key self.old.downstream }) }
-        ensures absent { has_row self.old.downstream key ≡ false → meter.new ≡ meter.old }
     {
         change_row(&mut self.downstream, &mut self.index, key, Some(row), meter)
     }
 
     /// Removes the downstream state under the key, if there is one.
     pub fn drop_downstream(&mut self, key: Key, meter: &mut Meter)
-        ensures dropped { self.new ≡ record self.old { downstream = drop_at self.old.downstream key } }
-        ensures absent { has_row self.old.downstream key ≡ false → meter.new ≡ meter.old }
-        ensures there { has_row self.old.downstream key ≡ true → Visits self.old key.group key.source meter.old meter.new }
+        ensures { self.new ≡ record self.old { downstream = drop_at self.old.downstream key } }
     {
         drop_row(&mut self.downstream, &mut self.index, key, meter);
     }
@@ -390,18 +361,15 @@ impl Store {
         row: AssertRow,
         meter: &mut Meter,
     ) -> Result<(), AllocError>
-        ensures changed { OnOk result (self.new
+        ensures { OnOk result (self.new
             ≡ record self.old { asserts = change_row (λ before. Some row) key self.old.asserts }) }
-        ensures absent { has_row self.old.asserts key ≡ false → meter.new ≡ meter.old }
     {
         change_row(&mut self.asserts, &mut self.index, key, Some(row), meter)
     }
 
     /// Removes the assert under the key, if there is one.
     pub fn drop_assert(&mut self, key: Key, meter: &mut Meter)
-        ensures dropped { self.new ≡ record self.old { asserts = drop_at self.old.asserts key } }
-        ensures absent { has_row self.old.asserts key ≡ false → meter.new ≡ meter.old }
-        ensures there { has_row self.old.asserts key ≡ true → Visits self.old key.group key.source meter.old meter.new }
+        ensures { self.new ≡ record self.old { asserts = drop_at self.old.asserts key } }
     {
         drop_row(&mut self.asserts, &mut self.index, key, meter);
     }
@@ -413,11 +381,8 @@ impl Store {
         row: Option<SourceRow>,
         meter: &mut Meter,
     ) -> Result<(), AllocError>
-        ensures changed { OnOk result (self.new
+        ensures { OnOk result (self.new
             ≡ record self.old { sources = change_row (λ before. row) key self.old.sources }) }
-        ensures kept { OnOk result (IsSome row → meter.new ≡ meter.old) }
-        ensures absent { has_row self.old.sources key ≡ false → meter.new ≡ meter.old }
-        ensures gone { row ≡ None → has_row self.old.sources key ≡ true → Visits self.old key.group key.source meter.old meter.new }
     {
         change_row(&mut self.sources, &mut self.index, key, row, meter)
     }
@@ -429,55 +394,48 @@ impl Store {
         row: RegisterRow,
         meter: &mut Meter,
     ) -> Result<(), AllocError>
-        ensures changed { OnOk result (self.new
+        ensures { OnOk result (self.new
             ≡ record self.old { registers = change_row (λ before. Some row) key self.old.registers }) }
-        ensures kept { OnOk result (meter.new ≡ meter.old) }
     {
         change_row(&mut self.registers, &mut self.index, key, Some(row), meter)
     }
 
-    /// If there is a Join timer under the key, replaces it. The error is want of memory. The meter rises by the nodes
-    /// that lead to its group, or to its source.
+    /// If there is a Join timer under the key, replaces it. The error is want of memory.
     pub fn change_join_timer(
         &mut self,
         key: Key,
         row: JoinTimerRow,
         meter: &mut Meter,
     ) -> Result<(), AllocError>
-        ensures changed { OnOk result (self.new
+        ensures { OnOk result (self.new
             ≡ record self.old { join_timers = change_row (λ before. Some row) key self.old.join_timers }) }
-        ensures visited { Visits self.old key.group key.source meter.old meter.new }
     {
         self.index.change_timer(key, To { row }, meter)
     }
 
     /// Removes the override timer under the key, if there is one.
     pub fn drop_override_timer(&mut self, key: Key, meter: &mut Meter)
-        ensures dropped { self.new ≡ record self.old { override_timers = drop_at self.old.override_timers key } }
-        ensures absent { has_row self.old.override_timers key ≡ false → meter.new ≡ meter.old }
-        ensures there { has_row self.old.override_timers key ≡ true → Visits self.old key.group key.source meter.old meter.new }
+        ensures { self.new ≡ record self.old { override_timers = drop_at self.old.override_timers key } }
     {
         drop_row(&mut self.override_timers, &mut self.index, key, meter);
     }
 
-    /// Lowers the Join timer under the key, if there is one, to this timestamp, in ms. The error is want of memory. The
-    /// meter rises by the nodes that lead to its group, or to its source.
+    /// Lowers the Join timer under the key, if there is one, to this timestamp, in ms. The error is want of memory.
     pub fn lower_join_timer(
         &mut self,
         key: Key,
         end: u64,
         meter: &mut Meter,
     ) -> Result<(), AllocError>
-        ensures lowered { OnOk result (self.new
+        ensures { OnOk result (self.new
             ≡ record self.old { join_timers = change_row (lowered_join_timer end) key self.old.join_timers }) }
-        ensures visited { Visits self.old key.group key.source meter.old meter.new }
     {
         self.index.change_timer(key, Lowering { end }, meter)
     }
 
     /// Removes those asserts under the given keys that the router lost.
     pub fn end_losses(&mut self, keys: &[Key], meter: &mut Meter)
-        ensures ended { self.new ≡ record self.old {
+        ensures { self.new ≡ record self.old {
           asserts = filter (λ e. not (is_loser (Some e.1) && is_named keys.now e.0)) self.old.asserts;
         } }
     {
@@ -488,7 +446,7 @@ impl Store {
 
     // Removes the assert under the key, if the router lost it.
     fn end_loss(&mut self, key: Key, meter: &mut Meter)
-        ensures ended { self.new ≡ record self.old {
+        ensures { self.new ≡ record self.old {
           asserts = filter (λ e. not (is_loser (Some e.1) && same_key e.0 key)) self.old.asserts;
         } }
     {
@@ -501,7 +459,7 @@ impl Store {
 
     /// Removes the downstream states and the asserts of the interface.
     pub fn drop_on(&mut self, iface: IfaceId, meter: &mut Meter)
-        ensures dropped { self.new ≡ record self.old {
+        ensures { self.new ≡ record self.old {
           downstream = drop_where (is_on iface.number) self.old.downstream;
           asserts = drop_where (is_on iface.number) self.old.asserts;
         } }
@@ -517,9 +475,10 @@ impl Store {
         self.index.groups(meter)
     }
 
-    /// The sources of the group with any fact, ascending. The meter rises by the nodes that lead to the group.
+    /// The sources of the group with any fact, ascending. The meter rises by the nodes that lead to the group, and by
+    /// all that lead on to its sources.
     pub fn sources_of(&self, group: Addr, meter: &mut Meter) -> Sources<'_>
-        ensures sources { result ≡ sources_of group.bits (stored_keys self.now) }
+        ensures { result ≡ sources_of group.bits (stored_keys self.now) }
     {
         Sources::among(self.index.walk(group, meter))
     }
@@ -540,10 +499,9 @@ impl Store {
     }
 
     /// The Join timers of the group, by rising key: that of (*,G), then those of its sources. All its sources are gone
-    /// through. The meter rises by the nodes that lead to the group.
+    /// through. The meter rises by the nodes that lead to the group, and by all that lead on to its sources.
     pub fn join_timers_of(&self, group: Addr, meter: &mut Meter) -> GroupJoinTimers<'_>
-        ensures timers { result ≡ filter (λ e. is_of_group group.bits e.0) self.now.join_timers }
-        ensures visited { Visits self.now group None meter.old meter.new }
+        ensures { result ≡ filter (λ e. is_of_group group.bits e.0) self.now.join_timers }
     {
         GroupJoinTimers::among(self.index.walk(group, meter))
     }
@@ -555,11 +513,10 @@ impl Store {
         self.registers.rows().rows_at(IfaceId::NONE, group)
     }
 
-    /// Whether there is a fact of the source of the group. The meter rises by the nodes that it visits.
-    #[tactic(auto, using(pim_source_trie::proofs::Visited::visited_at_most))]
+    /// Whether there is a fact of the source of the group. The meter rises by 66 nodes at most.
     pub fn has_facts(&self, name: SourceGroup, meter: &mut Meter) -> bool
         ensures has { result ≡ list_any (names_source name.group.bits name.source.bits) (stored_keys self.now) }
-        ensures at_most { nodes_visited (stored_keys self.now) name.group (Some name.source) ≤ 66 }
+        ensures at_most { meter.new ≤ meter.old + 66 }
     {
         self.index.contains(name.group, name.source, meter)
     }
@@ -630,9 +587,8 @@ impl Store {
     }
 
     /// The marks of (*,G), where `source` is `None`, or of (S,G) with its (S,G,rpt): the interfaces that have
-    /// downstream states and asserts, and which other facts there are. The meter rises by the nodes that it visits: as
-    /// many as lead to the group, and to the source, where a trie has those of all facts.
-    #[tactic(auto, using(pim_source_trie::proofs::Visited::star_at_most, pim_source_trie::proofs::Visited::visited_at_most))]
+    /// downstream states and asserts, and which other facts there are. The meter rises by 33 nodes at most for (*,G),
+    /// and by 66 for (S,G).
     pub fn marks(&self, group: Addr, source: Option<Addr>, meter: &mut Meter) -> Marks
         ensures joined { (i : ℕ) → has result.joined i ≡ has_row self.now.downstream (fact_key i group source false) }
         ensures branched { (i : ℕ)
@@ -649,8 +605,8 @@ impl Store {
         ensures source { result.has_source ≡ has_row self.now.sources (fact_key 0 group source false) }
         ensures register { result.has_register ≡ has_row self.now.registers (fact_key 0 group source false) }
         ensures tunnels { IsWithoutTunnel result }
-        ensures at_most { nodes_visited (stored_keys self.now) group source ≤ 66 }
-        ensures star_at_most { nodes_visited (stored_keys self.now) group None ≤ 33 }
+        ensures at_most { meter.new ≤ meter.old + 66 }
+        ensures star_at_most { source ≡ None → meter.new ≤ meter.old + 33 }
     {
         self.index.get(group, source, meter)
     }

@@ -73,6 +73,7 @@ impl Daemon {
         info!("the router is made anew ({why}): it learns again, and the kernel forwards as before meanwhile");
         self.counters.made_anew += 1;
         self.core = core;
+        self.speak()?;
         self.forget();
         self.begin_again()
     }

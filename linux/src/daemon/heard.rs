@@ -1,12 +1,13 @@
 //! What comes from other routers and from hosts: PIM and IGMP.
 use super::{Answer, Daemon, Event, Fatal, Ledger, Neighbour};
-use crate::packet::{as_of_nobody, fill_registered, is_pim, is_report, message_of, priority_of, Packet};
+use crate::older::{self, Older, Version};
+use crate::packet::{as_of_nobody, fill_registered, is_of_host, is_pim, message_of, priority_of, Packet};
 use crate::policy::registered;
 use crate::{split, stand_in, words};
-use log::{debug, info};
+use log::{debug, info, warn};
 use std::collections::HashSet;
 use std::net::Ipv4Addr;
-use viqeshor::{Error, Refusal};
+use viqeshor::{Error, QueryVersion, Refusal};
 
 /// The most bytes of a packet that the library reads.
 const MOST_READ: usize = 1500;
@@ -18,6 +19,9 @@ fn groups_of(bytes: &[u8]) -> Option<Vec<Ipv4Addr>> {
     let packet = Packet::read(bytes)?;
     if let Some(records) = split::records(packet) {
         return Some(records.iter().map(|record| record.group).collect());
+    }
+    if let Some(older) = Older::read(packet) {
+        return Some(vec![older.group]);
     }
     if let Some(message) = split::join_prune(packet) {
         return Some(message.entries.iter().map(|entry| entry.key.group).collect());
@@ -41,7 +45,7 @@ impl Daemon {
 
     /// IGMP of a program on the machine came: its reports are heard as those of a host that has no address.
     pub(super) fn heard_own(&mut self, bytes: &[u8]) -> Result<(), Fatal> {
-        let from = Packet::read(bytes).filter(|_| is_report(bytes)).map(Packet::source);
+        let from = Packet::read(bytes).filter(|packet| is_of_host(*packet)).map(Packet::source);
         // Another router's interface may have the same address, in another VRF.
         let indices = || self.ports.iter().filter_map(|port| port.index);
         let index = from.and_then(|from| indices().find(|index| self.machine.has(*index, from)));
@@ -57,11 +61,12 @@ impl Daemon {
         passed.heard += 1;
         passed.messages.received.count(Packet::read(bytes).and_then(message_of));
         debug!("hears on {}: {}", self.name(number), words::of(bytes));
+        self.watch_querier(number, bytes);
         let Daemon { policy, core, kernel, .. } = self;
         let let_in = match policy.frame(&mut Ledger { core, kernel: kernel.as_ref() }, number, bytes) {
             Some(let_in) => let_in,
             None => {
-                debug!("the settings refuse it");
+                debug!("it isn't let through");
                 return Ok(());
             }
         };
@@ -79,6 +84,9 @@ impl Daemon {
         }
         let answer = self.take(Event::Frame(number, let_in))?;
         self.after(answer, let_in);
+        if answer == Answer::Done {
+            self.watch_older(number, let_in);
+        }
         if let Answer::Refused(refusal) = answer {
             self.ports[number as usize].passed.refused += 1;
             debug!("it is refused: {}", Error::Refused(refusal));
@@ -87,6 +95,45 @@ impl Daemon {
             }
         }
         Ok(())
+    }
+
+    /// Says where the first host of an older version is heard: it takes something from others that want its groups.
+    fn watch_older(&mut self, number: u32, bytes: &[u8]) {
+        let heard = Packet::read(bytes).and_then(|packet| Some((packet.source(), Older::read(packet)?)));
+        let (host, version) = match heard {
+            Some((host, older)) if !older.is_leave => (host, older.version),
+            _ => return,
+        };
+        if !self.older_heard.insert((number, version)) {
+            return;
+        }
+        let who = if host.is_unspecified() { "a program on the router".to_string() } else { host.to_string() };
+        let name = self.name(number);
+        match version {
+            Version::One => warn!(
+                "{who} is the first on {name} to speak IGMPv1: while such a host wants a group, nobody there can leave \
+                 it (older_hosts = \"v2\" doesn't hear IGMPv1)"
+            ),
+            Version::Two => info!(
+                "{who} is the first on {name} to speak IGMPv2: while such a host wants a group, nobody there can \
+                 exclude its sources"
+            ),
+        }
+    }
+
+    /// Says at a bounded rate that another router asks by an older version than this one (RFC 3376, 7.3.1).
+    fn watch_querier(&mut self, number: u32, bytes: &[u8]) {
+        let asks_by_three = self.ports[number as usize].settings.speech.queries == QueryVersion::Three;
+        let now = self.now();
+        match Packet::read(bytes).filter(|packet| asks_by_three && older::is_query(*packet)) {
+            Some(packet) if self.rates.older_queries.is_due(now) => warn!(
+                "{} on {} asks hosts by an older version of IGMP: all routers of a link are to ask by the same one \
+                 (`version` of the interface)",
+                packet.source(),
+                self.name(number)
+            ),
+            _ => {}
+        }
     }
 
     /// What was told of sources without a fact may differ after a packet.

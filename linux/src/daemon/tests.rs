@@ -456,4 +456,5 @@ fn the_unknown_are_asked_for_anew_where_their_group_moves() {
 }
 
 mod liveness;
+mod older;
 mod shown;

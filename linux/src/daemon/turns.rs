@@ -128,6 +128,7 @@ impl Daemon {
         } else if are_rps_new {
             self.set_ranges()?;
         }
+        self.speak()?;
         self.place_all();
         // What was refused may be permitted now: the next packet asks.
         self.plane.unknown().into_iter().for_each(|key| self.withdraw(key));

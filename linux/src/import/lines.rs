@@ -31,6 +31,8 @@ pub struct Interface {
     pub query_interval: Option<(Place, u32)>,
     pub query_response: Option<(Place, u32)>,
     pub last_member_query: Option<(Place, u32)>,
+    /// Its queries are those of IGMPv2.
+    pub asks_by_two: bool,
 }
 
 /// Which groups an RP has.
@@ -113,7 +115,7 @@ const REASONS: [(&str, &str); 25] = [
     ("ip pim", "it has no counterpart"),
     ("ip igmp join", "the router joins nothing itself; a program on it that joins receives"),
     ("ip igmp static-group", "there are no static joins; a program on the router that joins has the same effect"),
-    ("ip igmp version", "the router speaks only IGMPv3: hosts of older versions get nothing"),
+    ("ip igmp version", "its queries can be of version 2 or 3"),
     ("ip igmp last-member-query-count", "it is the robustness, which all interfaces share: set `robustness` of [igmp]"),
     ("ip igmp", "it has no counterpart"),
     ("ip multicast boundary", "only `oil` with a prefix list is taken, as `join` of the interface"),
@@ -293,6 +295,7 @@ impl<'a> Reader<'a> {
                 return it.bfd != Some(None);
             }
             ["ip", "igmp"] => it.has_hosts = true,
+            ["ip", "igmp", "version", "2"] => it.asks_by_two = true,
             ["ip", "igmp", "query-interval", number] => it.query_interval = with_number(number),
             ["ip", "igmp", "query-max-response-time", number] => it.query_response = with_number(number),
             ["ip", "igmp", "last-member-query-interval", number] => it.last_member_query = with_number(number),

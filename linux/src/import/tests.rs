@@ -3,6 +3,7 @@ use super::*;
 use crate::bfd::Times;
 use crate::settings::{self, Settings};
 use crate::tables::Domain;
+use viqeshor::QueryVersion;
 
 /// As FRR 8.4.4 prints it for `show running-config`.
 const FRR_8: &str = "Building configuration...
@@ -122,6 +123,7 @@ fn a_configuration_of_frr_8_is_taken() {
     assert_eq!((it.interfaces.len(), &eth0.name[..], &eth1.name[..], &lo.name[..]), (3, "eth0", "eth1", "lo"));
     assert_eq!(eth0.address.map(|it| it.to_string()).as_deref(), Some("10.1.0.1/24"));
     assert_eq!((eth0.priority, eth0.hello.interval, eth0.hello.holdtime), (100, 50, 18));
+    assert_eq!((eth0.speech.queries, eth1.speech.queries), (QueryVersion::Two, QueryVersion::Three));
     assert_eq!((eth0.bfd, eth1.bfd), (Some(Times { interval: 300, multiplier: 3 }), None));
     assert!(!eth0.policy.is_passive && eth1.policy.is_passive && !lo.policy.is_passive);
     let joins = |group: [u8; 4]| eth0.policy.join.permits(None, group.into());
@@ -138,7 +140,6 @@ fn a_configuration_of_frr_8_is_taken() {
     let wanted = [
         "ip pim join-prune-interval 30",
         "ip igmp last-member-query-count 3",
-        "ip igmp version 2",
         "ip igmp join 239.1.1.1",
         "ip igmp query-interval 20",
         "ip igmp query-interval 30",

@@ -148,6 +148,9 @@ fn interface(reader: &mut Reader, it: &Interface, text: &mut String) {
             text.push_str(&format!("bfd_interval = {interval}\nbfd_multiplier = {multiplier}\n"))
         });
     }
+    if it.asks_by_two {
+        text.push_str("version = 2\n");
+    }
     if let Some((place, name)) = &it.boundary {
         boundary(reader, place, name, text);
     }

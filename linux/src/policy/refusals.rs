@@ -21,7 +21,8 @@ pub enum Cause {
     RegisterList,
     Registered,
     Reserve,
-    OldHost,
+    OlderHost,
+    SourceSpecific,
 }
 
 impl Cause {
@@ -40,7 +41,8 @@ impl Cause {
             Cause::RegisterList => "register",
             Cause::Registered => "max_registered",
             Cause::Reserve => "limit",
-            Cause::OldHost => "old_host",
+            Cause::OlderHost => "older_hosts",
+            Cause::SourceSpecific => "ssm",
         }
     }
 }
@@ -60,7 +62,8 @@ impl fmt::Display for Cause {
             Cause::RegisterList => "a Register of a source or group that `register` doesn't permit",
             Cause::Registered => "a source of a Register above `max_registered`",
             Cause::Reserve => "the rest of `limit` is kept for neighbours",
-            Cause::OldHost => "a report of IGMPv1 or IGMPv2",
+            Cause::OlderHost => "a message of IGMPv1 or IGMPv2 that `older_hosts` doesn't hear",
+            Cause::SourceSpecific => "a message of IGMPv1 or IGMPv2 for an SSM group",
         })
     }
 }

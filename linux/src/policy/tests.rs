@@ -3,6 +3,7 @@ use super::*;
 use crate::packet::{put_checksum, with_content, PIM};
 use crate::settings::Subnet;
 use std::cell::Cell;
+use viqeshor::OlderHosts;
 
 /// A router that holds some rows.
 #[derive(Default)]
@@ -24,7 +25,12 @@ impl Books for Holds {
 const OWN: [u8; 4] = [10, 5, 0, 1];
 
 fn policy(limit: u32, of_one: InterfacePolicy) -> Policy {
-    let gate = |name: &str, policy| Gate { name: name.to_string(), address: OWN.into(), policy };
+    hearing(OlderHosts::All, limit, of_one)
+}
+
+fn hearing(older_hosts: OlderHosts, limit: u32, of_one: InterfacePolicy) -> Policy {
+    let speech = Speech { older_hosts, ..Speech::NEW };
+    let gate = |name: &str, policy| Gate { name: name.to_string(), address: OWN.into(), speech, policy };
     let mut policy = Policy::default();
     let gates = [(0, gate("eth0", of_one)), (1, gate("eth1", InterfacePolicy::default()))].into_iter().collect();
     policy.set(PolicySettings::default(), limit, gates);
@@ -225,10 +231,85 @@ fn streams_and_registers_have_lists_and_quotas() {
     assert_eq!(causes.map(|cause| it.refusals.of(cause)), [1; 4]);
 }
 
+// ---- older hosts
+
+const REPORT_ONE: u8 = 0x12;
+const REPORT_TWO: u8 = 0x16;
+const LEAVE: u8 = 0x17;
+
+/// A message of an older host about a group.
+fn older(kind: u8, group: [u8; 4]) -> Vec<u8> {
+    packet(IGMP, 77, group, &[&[kind, 0, 0, 0], &group[..]].concat())
+}
+
+/// Whether each of some packets on the first interface passes.
+fn pass<const N: usize>(it: &mut Policy, books: &mut Holds, packets: [Vec<u8>; N]) -> [bool; N] {
+    packets.map(|packet| {
+        let let_in = it.frame(books, 0, &packet);
+        assert!(let_in.is_none() || let_in.as_ref() == Some(&packet));
+        let_in.is_some()
+    })
+}
+
 #[test]
-fn an_old_host_is_counted() {
+fn older_hosts_that_are_not_heard_are_counted_and_told_apart() {
+    let group = [239, 1, 1, 1];
+    let messages = || [REPORT_ONE, REPORT_TWO, LEAVE].map(|kind| older(kind, group));
+    let mut it = hearing(OlderHosts::Nobody, 1_000, InterfacePolicy::default());
+    assert_eq!(pass(&mut it, &mut Holds::default(), messages()), [false; 3]);
+    assert_eq!((it.refusals.of(Cause::OlderHost), it.older_hosts.len()), (3, 1));
+    let mut it = hearing(OlderHosts::VersionTwo, 1_000, InterfacePolicy::default());
+    assert_eq!(pass(&mut it, &mut Holds::default(), messages()), [false, true, true]);
+    assert_eq!(it.refusals.of(Cause::OlderHost), 1);
     let mut it = policy(1_000, InterfacePolicy::default());
-    let asked = packet(IGMP, 9, [239, 1, 1, 1], &[0x16, 0, 0, 0, 239, 1, 1, 1]);
-    assert_eq!((it.frame(&mut Holds::default(), 0, &asked), it.frame(&mut Holds::default(), 0, &asked)), (None, None));
-    assert_eq!((it.refusals.of(Cause::OldHost), it.old_hosts.len()), (2, 1));
+    assert_eq!(pass(&mut it, &mut Holds::default(), messages()), [true; 3]);
+}
+
+#[test]
+fn reports_of_older_hosts_share_the_quota_of_groups() {
+    let mut it = policy(1_000, InterfacePolicy { max_groups: 2, ..InterfacePolicy::default() });
+    let mut books = Holds::default();
+    let first = [older(REPORT_TWO, [239, 1, 1, 1]), report(&[([1, 2], &[])])];
+    assert_eq!(pass(&mut it, &mut books, first), [true; 2]);
+    books.rows = [1, 2].map(|last| row(Table::Groups, [0; 4], [239, 1, 1, last])).to_vec();
+    let more = [older(REPORT_ONE, [239, 1, 1, 3]), older(REPORT_TWO, [239, 1, 1, 4])];
+    assert_eq!(pass(&mut it, &mut books, more), [false; 2]);
+    let again = [older(REPORT_ONE, [239, 1, 1, 2]), report(&[([1, 1], &[])])];
+    assert_eq!(pass(&mut it, &mut books, again), [true; 2]);
+    assert_eq!(it.refusals.of(Cause::Groups), 2);
+    // A Leave asks for nothing.
+    assert_eq!(pass(&mut it, &mut books, [older(LEAVE, [239, 1, 1, 9])]), [true]);
+}
+
+#[test]
+fn a_list_of_joins_is_of_older_hosts_too() {
+    let one = |permits, group: [u8; 4], sources| {
+        let groups = Subnet { address: group.into(), length: 32 };
+        Rule { permits, groups, sources }
+    };
+    let source = Subnet { address: [10, 1, 0, 50].into(), length: 32 };
+    let list = List(Some(vec![one(true, [239, 1, 1, 1], None), one(true, [239, 1, 1, 2], Some(source))]));
+    let mut it = policy(1_000, InterfacePolicy { join: list, ..InterfacePolicy::default() });
+    // A rule with sources fits no report of a whole group.
+    let asked = [1, 2, 3].map(|last| older(REPORT_TWO, [239, 1, 1, last]));
+    assert_eq!(pass(&mut it, &mut Holds::default(), asked), [true, false, false]);
+    assert_eq!(it.refusals.of(Cause::JoinList), 2);
+    assert_eq!(pass(&mut it, &mut Holds::default(), [older(LEAVE, [239, 1, 1, 3])]), [true]);
+}
+
+#[test]
+fn older_hosts_have_no_group_of_the_link_and_none_of_ssm() {
+    let mut it = policy(1_000, InterfacePolicy::default());
+    let asked = [older(REPORT_TWO, [224, 0, 0, 251]), older(REPORT_TWO, [232, 1, 1, 1]), older(LEAVE, [232, 1, 1, 1])];
+    assert_eq!(pass(&mut it, &mut Holds::default(), asked), [false; 3]);
+    assert_eq!((it.refusals.of(Cause::SourceSpecific), it.refusals.of(Cause::OlderHost)), (2, 0));
+    assert_eq!(it.refusals.counts().count(), 1);
+}
+
+#[test]
+fn what_is_no_whole_message_of_an_older_host_is_the_library_s() {
+    let mut it = hearing(OlderHosts::Nobody, 1_000, InterfacePolicy::default());
+    let short = packet(IGMP, 77, [239, 1, 1, 1], &[REPORT_TWO, 0, 0, 0, 239, 1, 1]);
+    let query = packet(IGMP, 9, [224, 0, 0, 1], &[0x11, 100, 0, 0, 0, 0, 0, 0]);
+    assert_eq!(pass(&mut it, &mut Holds::default(), [short, query]), [true; 2]);
 }

@@ -57,7 +57,7 @@ def record(kind: int, group: str, sources: Iterable[str]) -> packets.Record:
 
 @dataclass(eq=False)
 class Host:
-    """`igmp` is the version that it speaks, 3 or 2; `answers` whether it answers queries."""
+    """`igmp` is the version that it speaks, 3, 2 or 1; `answers` whether it answers queries."""
     name: str
     link: Link
     address: str
@@ -70,8 +70,8 @@ class Host:
     def join(self, group: str, source: Host | str | None = None) -> None:
         """Wants a group, of every source or of one, a host or an address, from the present on."""
         old, source = self.wish(group_given(group)), source and source_given(source)
-        if source is not None and self.igmp == 2:
-            raise Mistake(f"{self.name} speaks IGMPv2, by which no source can be named")
+        if source is not None and self.igmp < 3:
+            raise Mistake(f"{self.name} speaks IGMPv{self.igmp}, by which no source can be named")
         if source is None:
             self.turn(group, Wish(True, frozenset()))
         else:
@@ -97,15 +97,18 @@ class Host:
         self.wishes[group] = new
         if new == NOTHING:
             del self.wishes[group]
-        if records:
+        for data in self.told(records):
             for again in range(ROBUSTNESS if self.link.loss else 1):
-                self.net.schedule(Speech(self, self.report(records)), self.net.now + again * UNSOLICITED_INTERVAL)
+                self.net.schedule(Speech(self, data), self.net.now + again * UNSOLICITED_INTERVAL)
 
-    def report(self, records: list[packets.Record]) -> bytes:
-        """A report of some records; by IGMPv2 of the first alone, which either wants its group or doesn't."""
+    def told(self, records: list[packets.Record]) -> list[bytes]:
+        """The packets that tell some records: a report, or by an older version one of each record, which either wants
+        its group or leaves it. By IGMPv1 no group is left."""
         if self.igmp == 3:
-            return packets.write_report(self.address, records)
-        return packets.write_old_report(self.address, records[0].group, records[0].kind in (TO_IN, IS_IN))
+            return [packets.write_report(self.address, records)] if records else []
+        spoken = [(each.group, each.kind in (TO_IN, IS_IN)) for each in records]
+        heard = [(group, is_leave) for group, is_leave in spoken if self.igmp == 2 or not is_leave]
+        return [packets.write_older(self.address, group, self.igmp, is_leave) for group, is_leave in heard]
 
     def hear(self, query: packets.Query) -> None:
         """Answers a query; the answer is what it wants by then."""
@@ -193,9 +196,8 @@ class Reply(Speech):
         self.query = query
 
     def moves(self) -> list[dict[str, Any]]:
-        records = self.host.records(self.query)
-        parts = [records] if self.host.igmp == 3 else [[each] for each in records]
-        return [move for part in parts if part for move in self.given(self.host.report(part))]
+        told = self.host.told(self.host.records(self.query))
+        return [move for data in told for move in self.given(data)]
 
     def done(self, moment: int) -> None:
         pass

@@ -139,10 +139,10 @@ class Network:
         self, name: str, at: Router | Link | str, address: str | None = None, igmp: int = 3, answers: bool = True
     ) -> Host:
         """A host on a link, or at a router: then it has a link of its own there, which loses nothing. `address` is
-        another one than the network would give it, `igmp` the version that it speaks, 3 or 2, and `answers` whether it
-        answers queries."""
+        another one than the network would give it, `igmp` the version that it speaks, 3, 2 or 1, and `answers` whether
+        it answers queries."""
         self.is_new(name, self.hosts)
-        number_given(igmp, "version of IGMP", 2, 3, is_whole=True)
+        number_given(igmp, "version of IGMP", 1, 3, is_whole=True)
         link = self.links.get(at) if isinstance(at, str) else at
         if not isinstance(link, Link):
             link = self.link(self.known_router(at, " or link"), name=name, loss=0.0)

@@ -37,6 +37,8 @@ __all__ = [
     "Forwarding",
     "Lost",
     "NoMemory",
+    "OLDER_HOSTS",
+    "OlderRow",
     "OtherVersion",
     "PlaneRow",
     "Refused",
@@ -52,16 +54,18 @@ __all__ = [
 Buffer: TypeAlias = bytes | bytearray | memoryview
 
 # What this package and the library have to agree on: VIQ_ABI of viqeshor.h.
-ABI = 1
+ABI = 2
 NEVER, NO_INTERFACE, MOST_BYTES = 2**64 - 1, 2**32 - 1, 1528
 # The letters of the tables.
 TABLES = "NGSDAURF"
+# What an interface hears of hosts of older versions of IGMP.
+OLDER_HOSTS = {"none": 0, "v2": 1, "all": 2}
 JOINED, REGISTERS = ["", "join", "pending", "prune"], ["-", "join", "pending", "prune"]
 
 
 class Answer(enum.IntEnum):
     """What became of an event. `docs/SCENARIOS.md` has the refusals, 1 to 39, and the reasons to ignore, from 101.
-    Those of 40 to 51 and of 53 are raised as an `Error`."""
+    Those of 40 to 51, of 53 and of 54 are raised as an `Error`."""
     DONE = 0
     SHORT = 1
     BAD_VERSION = 2
@@ -95,6 +99,7 @@ class Answer(enum.IntEnum):
     NO_TABLE = 51
     NO_TIMER = 52
     OTHER_ABI = 53
+    NO_SETTING = 54
     OWN = 101
     NOT_FOR_ME = 102
     OTHER_TYPE = 103
@@ -196,6 +201,10 @@ class ToldRow(Structure):
     ]
 
 
+class ToldOlderRow(Structure):
+    _fields_ = [*numbers("iface", "group", "mode"), ("one_end", c_uint64), ("two_end", c_uint64)]
+
+
 class Words(Structure):
     _fields_ = [("low", c_uint64), ("high", c_uint64)]
 
@@ -275,6 +284,16 @@ class Row(NamedTuple):
         return " ".join([self.table, *map(str, words[self.table])])
 
 
+class OlderRow(NamedTuple):
+    """A group in an older mode on an interface: a host of IGMPv1 or IGMPv2 reported it. The mode is the version, 1 or 2;
+    behind it stand the times in ms at which the IGMPv1 and the IGMPv2 Host Present timer expire, or None."""
+    iface: int
+    group: str
+    mode: int
+    one_end: int | None
+    two_end: int | None
+
+
 class Forwarding(NamedTuple):
     """How data of a source to a group is forwarded: RPF_interface(S), RPF_interface(RP(G)), SPTbit(S,G), whether the
     register tunnel is in the first two lists, and immediate_olist(S,G), inherited_olist(S,G) and
@@ -345,6 +364,11 @@ CALLS: dict[str, tuple[list[Any], Any]] = {
     "read": ([c_uint8], c_uint32),
     "rows": ([], c_size_t),
     "row": ([c_size_t, POINTER(ToldRow)], c_bool),
+    "older": ([c_uint32, c_uint32], c_uint32),
+    "query_version": ([c_uint32, c_uint32], c_uint32),
+    "older_read": ([], c_uint32),
+    "older_rows": ([], c_size_t),
+    "older_row": ([c_size_t, POINTER(ToldOlderRow)], c_bool),
     "cached": ([*SOURCE, POINTER(ToldForwarding)], c_bool),
     "offload": ([*SOURCE, POINTER(ToldPlaneRow)], c_bool),
     "changed": ([], c_size_t),
@@ -589,6 +613,34 @@ class Router:
         ways = (there(way, NO_INTERFACE) for way in (told.rpf, told.shared_rpf))
         lists = (each.interfaces() for each in (told.immediate, told.inherited, told.shared_tree))
         return Forwarding(*ways, told.has_spt_bit, told.has_tunnel, *lists)
+
+    # ---- older versions of IGMP
+
+    def set_older_hosts(self, iface: int, hosts: str) -> None:
+        """Sets which hosts of older versions an interface hears from then on, a key of `OLDER_HOSTS`, and forgets what it
+        heard before. A new router hears none of them, and refuses their messages by OLD_VERSION. It is no event."""
+        if hosts not in OLDER_HOSTS:
+            raise ValueError(f"none of {', '.join(OLDER_HOSTS)}: {hosts}")
+        self._must(self._call("older", number(iface, 32, "an interface"), OLDER_HOSTS[hosts]))
+
+    def set_query_version(self, iface: int, version: int) -> None:
+        """Sets the version in which an interface queries, 2 or 3. It is no event. All routers of a link have to query in
+        one version."""
+        self._must(self._call("query_version", number(iface, 32, "an interface"), number(version, 32, "a version")))
+
+    def older_rows(self) -> list[OlderRow]:
+        """The groups that are in an older mode, ascending by interface and then by group."""
+        told, rows = ToldOlderRow(), []
+        with self.lock:
+            self._must(self._call("older_read"))
+            for index in range(self._call("older_rows")):
+                self._call("older_row", index, byref(told))
+                rows.append(
+                    OlderRow(
+                        told.iface, dotted(told.group), told.mode, there(told.one_end, NEVER), there(told.two_end, NEVER)
+                    )
+                )
+        return rows
 
     # ---- a data plane; include/viqeshor/plane.h says what one owes
 

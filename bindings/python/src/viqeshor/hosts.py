@@ -1,5 +1,5 @@
-"""Packets of hosts: reports of IGMPv3 by which they ask for groups, and data by UDP. Each is a whole IPv4 packet, with
-its checksums."""
+"""Packets of hosts: reports by which they ask for groups, of IGMPv3 or of an older version, and data by UDP. Each is a
+whole IPv4 packet, with its checksums."""
 from collections.abc import Iterable
 from enum import IntEnum
 from ipaddress import IPv4Address
@@ -7,7 +7,9 @@ from typing import NamedTuple
 
 IGMP, UDP = 2, 17
 ROUTER_ALERT = bytes((0x94, 4, 0, 0))
-REPORTS = "224.0.0.22"
+REPORTS, ALL_ROUTERS = "224.0.0.22", "224.0.0.2"
+# The types of messages of hosts of IGMPv1 (RFC 1112, appendix I) and IGMPv2 (RFC 2236, section 2).
+OLDER_REPORTS, LEAVE = {1: 0x12, 2: 0x16}, 0x17
 
 
 class Kind(IntEnum):
@@ -76,6 +78,21 @@ def join(host: str, group: str, *sources: str) -> bytes:
 def leave(host: str, group: str, *sources: str) -> bytes:
     """A host wants a group no more, of any source or of these."""
     return report(host, [Record(Kind.BLOCK, group, sources) if sources else Record(Kind.TO_IN, group)])
+
+
+def older(host: str, destination: str, kind: int, group: str, options: bytes = ROUTER_ALERT) -> bytes:
+    """A message of IGMPv1 or IGMPv2."""
+    return ipv4(IGMP, host, destination, 1, with_checksum(bytes((kind, 0, 0, 0)) + octets(group), 2), options)
+
+
+def older_join(host: str, group: str, version: int = 2) -> bytes:
+    """A host of IGMPv1 or IGMPv2 wants a group. In version 1 there is no Router Alert."""
+    return older(host, group, OLDER_REPORTS[version], group, ROUTER_ALERT if version == 2 else b"")
+
+
+def older_leave(host: str, group: str) -> bytes:
+    """A host of IGMPv2 wants a group no more."""
+    return older(host, ALL_ROUTERS, LEAVE, group)
 
 
 def data(source: str, group: str, payload: bytes = b"", ttl: int = 16, port: int = 5000) -> bytes:

@@ -1,7 +1,8 @@
-//! What a front for hosts of older versions of IGMP asks of the router.
+//! What a front for hosts and routers of older versions of IGMP asks of the router.
 ghost use Rattle.std.specs.Option.{option_map_or};
 ghost use Rattle.std.specs.Prelude.{◌≡◌, ◌+◌, false};
 ghost use Rattle.pim_model.specs.Querier.{group_membership_interval};
+ghost use Rattle.pim_model.specs.State.{iface_count};
 ghost use Rattle.pim_model.specs.Tables.{has_row};
 ghost use Rattle.pim_types.specs.Keys.{star_key};
 
@@ -10,6 +11,26 @@ use pim_querier::intervals::group_membership_interval;
 use pim_types::{Addr, IfaceId};
 
 impl Router {
+    /// How many interfaces are configured; 0 where the router has failed. No memory is taken.
+    pub fn interface_count(&self) -> u32
+        ensures { result ≡ option_map_or (λ r. iface_count r.state) self.now.standing 0 }
+    {
+        if self.failed {
+            return 0;
+        }
+        self.world.interfaces().count()
+    }
+
+    /// The limit on facts; 0 where the router has failed. No memory is taken.
+    pub fn limit(&self) -> u32
+        ensures { result ≡ option_map_or (λ r. r.state.settings.limit) self.now.standing 0 }
+    {
+        if self.failed {
+            return 0;
+        }
+        self.world.settings().limit
+    }
+
     /// The present moment, in ms; 0 where the router has failed. No memory is taken.
     pub fn present(&self) -> u64
         ensures { result ≡ option_map_or (λ r. r.state.present) self.now.standing 0 }

@@ -4,13 +4,14 @@ ghost use Rattle.std.specs.List.{AllZip};
 ghost use Rattle.std.specs.Result.{result_ok};
 ghost use Rattle.toml.specs.View.{view, table_view};
 ghost use Rattle.pim_scenario.specs.Scenario.{IsConfig, IsInterface, IsLink, IsRouter, IsTable};
-ghost use Rattle.pim_scenario.specs.Scenario.{names_after, place_of, spt_switch_at, IsNumbered};
+ghost use Rattle.pim_scenario.specs.Scenario.{names_after, older_hosts_at, place_of, spt_switch_at, IsNumbered};
 ghost use Rattle.pim_scenario.specs.Scenario.{HasNumbered, AreRouters};
 ghost use Rattle.pim_scenario.specs.Texts.{ReadsExactly};
 ghost use Rattle.pim_scenario.specs.Links.{names_in};
 
 use super::links::LinkNames;
 use super::{Link, RouterText, Scenario, Unread, Wrong, address, field, routes};
+use igmp_older::OlderHosts;
 use pim_types::{Config, InterfaceConfig, Series, SptSwitch};
 use std::alloc::Global;
 use toml::{Table, Value};
@@ -56,7 +57,17 @@ fn router_in<'a>(
     field::only(
         table,
         &[
-            "name", "iface", "limit", "spt", "rv", "qi", "qri", "lmqi", "routes", "rps",
+            "name",
+            "iface",
+            "limit",
+            "spt",
+            "rv",
+            "qi",
+            "qri",
+            "lmqi",
+            "older_hosts",
+            "routes",
+            "rps",
         ],
     )?;
     let name = String::from_str(alloc, field::text(table, "name")?)?;
@@ -68,6 +79,7 @@ fn router_in<'a>(
         name,
         config,
         links,
+        older_hosts: older_hosts_in(table)?,
     })
 }
 
@@ -133,6 +145,17 @@ fn spt_switch_in(table: &Table) -> Result<SptSwitch, Wrong>
     match field::optional_text(table, "spt")? {
         None | Some("always") => Ok(SptSwitch::Always),
         Some("never") => Ok(SptSwitch::Never),
+        Some(_) => Err(Wrong),
+    }
+}
+
+fn older_hosts_in(table: &Table) -> Result<OlderHosts, Wrong>
+    ensures { result_ok result ≡ older_hosts_at (table_view table.now) }
+{
+    match field::optional_text(table, "older_hosts")? {
+        None | Some("none") => Ok(OlderHosts::Nobody),
+        Some("v2") => Ok(OlderHosts::VersionTwo),
+        Some("all") => Ok(OlderHosts::All),
         Some(_) => Err(Wrong),
     }
 }

@@ -67,7 +67,7 @@ fn busy() -> (Daemon, Rc<Fake>) {
     (daemon, fake)
 }
 
-fn shown(daemon: &mut Daemon, line: &str) -> Vec<Value> {
+pub(super) fn shown(daemon: &mut Daemon, line: &str) -> Vec<Value> {
     let said = answer(daemon, &format!("show {line} json"));
     let mut whole: Value = serde_json::from_str(&said).unwrap_or_else(|_| panic!("{said}"));
     let name = line.split(' ').next().unwrap_or_default();
@@ -202,7 +202,7 @@ fn the_way_to_an_address_is_shown() {
 // ---- metrics
 
 /// Each sample with its value, where each stands below its family's type, and counters are named as such.
-fn samples(text: &str) -> BTreeMap<String, f64> {
+pub(super) fn samples(text: &str) -> BTreeMap<String, f64> {
     let (mut family, mut found) = (String::new(), BTreeMap::new());
     for line in text.lines() {
         if let Some(rest) = line.strip_prefix("# TYPE ") {

@@ -3,18 +3,16 @@ use Rattle.std.proofs.lemmas.Result.{on_ok_weaker}
 use Rattle.pim_types.specs.Keys.{source_key}
 use Rattle.pim_types.specs.declared.fact.SourceRow.{SourceRow}
 use Rattle.pim_model.specs.Asserts.{without_spt_bit}
-use Rattle.pim_model.specs.Sets.{is_kept_alive}
 use Rattle.pim_model.specs.State.{State}
 use Rattle.pim_model.specs.Tables.{Table, set_row}
 use Rattle.pim_store.specs.PimTables.{PimTables}
 use Rattle.pim_world.proofs.Lent.{stored_on_ok}
 use Rattle.pim_asserts.proofs.SptBit.{bit_forgotten}
-use Rattle.pim_asserts.proofs.Visited.{kept_or_gone}
 use Rattle.pim_asserts.proofs.clearing.forget_spt_bit.Goals as goal
 
-pub returns-clause-state : goal.returns-clause-state
+pub returns : goal.returns
 unfolding without_spt_bit
-returns-clause-state c =
+returns c =
     let s = c.args.world.now in
     let key = source_key 0 c.args.name.group.bits c.args.name.source.bits in
     on_ok_weaker c.set_source.result
@@ -23,4 +21,4 @@ returns-clause-state c =
     ∙ bit_forgotten key s.sources c.args.row c.is_some.result c.recall_keyed.ensures.sources_rise c.requires c.is_some.ensures))
     (stored_on_ok s c.set_source.result _ _ (λ (f : PimTables). record f {
       sources = set_row f.sources key c.then_some-left.result;
-    }) c.store_mut.ensures.value c.set_source.ensures.set)
+    }) c.store_mut.ensures.value c.set_source.ensures)

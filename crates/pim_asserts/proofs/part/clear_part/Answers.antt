@@ -1,4 +1,4 @@
-use Rattle.std.proofs.Common.{List, ap, arith, refl, subst, sym, ◌<◌, ◌∙◌}
+use Rattle.std.proofs.Common.{List, ap, refl, subst, sym, ◌<◌, ◌∙◌}
 use Rattle.pim_model.specs.Clearing.{clearable_count}
 use Rattle.pim_model.specs.Messages.{Message}
 use Rattle.pim_model.specs.State.{State}
@@ -8,14 +8,10 @@ use Rattle.pim_asserts.specs.Opened.{clear_part}
 use Rattle.pim_asserts.proofs.Fuel.{cleared_by_turn, in_turn, no_turn, nothing_once, turn_is_fewer}
 use Rattle.pim_world.proofs.Said.{said_nothing}
 use Rattle.pim_asserts.proofs.Progress.{stands_last, stands_next}
-use Rattle.pim_asserts.proofs.Visited.{turns_last, turns_next}
 use Rattle.pim_asserts.proofs.part.clear_part.Goals as goal
 
 pub loop-init : goal.loop-init
-loop-init c = record {
-  stands = record { state = refl; taking = refl };
-  turning = record { fuel = clearable_count c.args.world.now; enough = omega arith; visited = omega arith };
-}
+loop-init c = record { state = refl; taking = refl }
 
 pub loop-smaller : goal.loop-smaller
 loop-smaller c =
@@ -32,16 +28,12 @@ loop-preserved c =
     let source = source_bits c.args.part.source in
     let s = c.loop.world in
     let more = sym c.in_ok-clear_next.ensures.more ∙ c.if-branch.true in
-    record {
-      stands = stands_next (clear_once was g source s) (clear_part was g source c.clear_next.new.world)
-          (clear_part was g source s) (clear_part was g source c.args.world.now) c.loop.turn c.clear_next.new.turn c.args.turn.now
-          (cleared_by_turn was g source s more
-          ∙ ap (λ (u : State). in_turn was g source (clear_once was g source s) (clear_part was g source u))
-          (sym c.in_ok-clear_next.ensures.state))
-          c.in_ok-clear_next.ensures.messages c.loop.invariant.stands;
-      turning = turns_next was c.args.part.group c.args.part.source s c.clear_next.new.world _ _ _ _ more
-          c.in_ok-clear_next.ensures.state c.in_ok-clear_next.ensures.at_least c.loop.invariant.turning;
-    }
+    stands_next (clear_once was g source s) (clear_part was g source c.clear_next.new.world)
+    (clear_part was g source s) (clear_part was g source c.args.world.now) c.loop.turn c.clear_next.new.turn c.args.turn.now
+    (cleared_by_turn was g source s more
+    ∙ ap (λ (u : State). in_turn was g source (clear_once was g source s) (clear_part was g source u))
+    (sym c.in_ok-clear_next.ensures.state))
+    c.in_ok-clear_next.ensures.messages c.loop.invariant
 
 pub returns-clause-state : goal.returns-clause-state
 returns-clause-state c =
@@ -53,7 +45,7 @@ returns-clause-state c =
     c.in_ok-clear_next.ensures.state
     ∙ ap (λ (p : State × List Message). p.0) (nothing_once was g source s none)
     ∙ (stands_last s (clear_part was g source s) (clear_part was g source c.args.world.now) c.loop.turn c.args.turn.now
-    (no_turn was g source s none) c.loop.invariant.stands).0
+    (no_turn was g source s none) c.loop.invariant).0
 
 pub returns-clause-messages : goal.returns-clause-messages
 returns-clause-messages c =
@@ -66,4 +58,4 @@ returns-clause-messages c =
     ∙ ap (λ (p : State × List Message). saying c.loop.turn p.1) (nothing_once was g source s none)
     ∙ said_nothing c.loop.turn
     ∙ (stands_last s (clear_part was g source s) (clear_part was g source c.args.world.now) c.loop.turn c.args.turn.now
-    (no_turn was g source s none) c.loop.invariant.stands).1
+    (no_turn was g source s none) c.loop.invariant).1

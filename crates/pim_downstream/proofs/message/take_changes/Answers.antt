@@ -1,21 +1,18 @@
-use Rattle.std.proofs.Common.{◌≤◌, List, Some, ap, filter, not, subst, ◌&&◌, ◌∙◌}
+use Rattle.std.proofs.Common.{List, Some, ap, filter, not, subst, ◌&&◌, ◌∙◌}
 use Rattle.pim_types.specs.declared.fact.Key.{Key}
 use Rattle.pim_model.specs.Downstream.{asserts_after_joins, is_named, row_after}
 use Rattle.pim_model.specs.Sets.{is_loser}
 use Rattle.pim_model.specs.State.{State}
 use Rattle.pim_store.specs.PimTables.{PimTables}
-use Rattle.pim_trie.specs.Meter.{raised}
 use Rattle.pim_world.proofs.Lent.{stored}
-use Rattle.pim_world.proofs.Visits.{then_rises}
-use Rattle.pim_downstream.specs.Visits.{rows_set_nodes, to_me_nodes}
 use Rattle.pim_downstream.specs.declared.effect.Change.{Change}
 use Rattle.pim_downstream.proofs.OnInterface.{changes_on, touched_on}
 use Rattle.pim_downstream.proofs.Rows.{taken}
 use Rattle.pim_downstream.proofs.message.take_changes.Goals as goal
 
-pub returns-clause-state : goal.returns-clause-state
+pub returns : goal.returns
 unfolding asserts_after_joins
-returns-clause-state c =
+returns c =
     let named = c.args.named.now in
     let later = c.set_rows.new.world in
     let losses_ended : List Key → State = λ ks. record later { asserts = asserts_after_joins later ks } in

@@ -3,8 +3,6 @@ use Rattle.std.proofs.lemmas.Grind.{common_steps}
 use Rattle.pim_world.specs.Groups.{numbers_of}
 use Rattle.pim_opening.specs.Openings.{group_opening}
 use Rattle.pim_opening.specs.declared.opening.GroupOpening.{GroupOpening}
-use Rattle.pim_opening.specs.Visits.{group_opening_nodes}
-use Rattle.pim_world.proofs.Visits.{all_gathered, next_gathered}
 use Rattle.pim_fanout.proofs.before.open_groups.Goals as goal
 
 pub loop-group-preserved : goal.loop-group-preserved
@@ -19,7 +17,4 @@ loop-group-preserved c =
           ∙ c.loop-group.invariant.opened;
       keys = grind (arith, common_steps);
       each = c.in_ok-open_group.ensures.each;
-      visited = next_gathered (group_opening_nodes s c.args.touched.now) _ _ _ c.in-Some.group.now.bits
-          (numbers_of c.args.groups.now.entries) (numbers_of c.loop-group.group-iterator) (numbers_of c.next.new.self) c.loop-group.invariant.visited
-          (ap (λ es. numbers_of es) c.in-Some.ensures.steps) c.in_ok-open_group.ensures.at_least;
     }

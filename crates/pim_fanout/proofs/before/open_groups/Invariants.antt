@@ -1,10 +1,8 @@
-use Rattle.std.proofs.Common.{◌≡◌, ◌≤◌, ◌++◌, map}
-use Rattle.std.specs.List.{flat_map, sum_by}
-use Rattle.pim_trie.specs.Meter.{raised}
+use Rattle.std.proofs.Common.{◌≡◌, ◌++◌, map}
+use Rattle.std.specs.List.{flat_map}
 use Rattle.pim_types.specs.Keys.{source_key}
 use Rattle.pim_world.specs.Groups.{numbers_of}
 use Rattle.pim_opening.specs.Openings.{group_opening, touched_sources}
-use Rattle.pim_opening.specs.Visits.{group_opening_nodes}
 use Rattle.pim_fanout.specs.Before.{AreBefore, key_before}
 use Rattle.pim_fanout.proofs.before.open_groups.Given as goal
 
@@ -17,6 +15,4 @@ invariant-loop-group l = record {
       ≡ map key_before l.fn.before.items
       ++ flat_map (λ g. map (source_key 0 g) (touched_sources l.world l.touched g)) (numbers_of l.fn.groups.entries);
   each : AreBefore l.world l.before.items;
-  visited : raised l.fn.meter (sum_by (group_opening_nodes l.world l.touched) (numbers_of l.fn.groups.entries))
-      ≤ raised l.meter (sum_by (group_opening_nodes l.world l.touched) (numbers_of l.group-iterator));
 }

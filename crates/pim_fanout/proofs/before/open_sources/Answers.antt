@@ -3,8 +3,6 @@ use Rattle.std.proofs.lemmas.Grind.{common_steps}
 use Rattle.pim_world.specs.Groups.{numbers_of}
 use Rattle.pim_opening.specs.Openings.{source_opening}
 use Rattle.pim_opening.specs.declared.opening.SourceOpening.{SourceOpening}
-use Rattle.pim_opening.specs.Visits.{source_opening_nodes}
-use Rattle.pim_world.proofs.Visits.{all_gathered, next_gathered}
 use Rattle.pim_fanout.proofs.before.open_sources.Goals as goal
 
 pub loop-source-preserved : goal.loop-source-preserved
@@ -19,7 +17,4 @@ loop-source-preserved c =
           ∙ c.loop-source.invariant.opened;
       keys = grind (arith, common_steps);
       each = c.in_ok-open_source.ensures.each;
-      visited = next_gathered (source_opening_nodes s c.args.star.now.group.bits) _ _ _ c.in-Some.source.now.bits
-          (numbers_of c.args.sources.now.entries) (numbers_of c.loop-source.source-iterator) (numbers_of c.next.new.self) c.loop-source.invariant.visited
-          (ap (λ es. numbers_of es) c.in-Some.ensures.steps) c.in_ok-open_source.ensures.at_least;
     }

@@ -1,10 +1,7 @@
-use Rattle.std.proofs.Common.{◌≡◌, ◌≤◌, ◌++◌, map}
-use Rattle.std.specs.List.{sum_by}
-use Rattle.pim_trie.specs.Meter.{raised}
+use Rattle.std.proofs.Common.{◌≡◌, ◌++◌, map}
 use Rattle.pim_types.specs.Keys.{source_key}
 use Rattle.pim_world.specs.Groups.{numbers_of}
 use Rattle.pim_opening.specs.Openings.{source_opening}
-use Rattle.pim_opening.specs.Visits.{source_opening_nodes}
 use Rattle.pim_fanout.specs.Before.{AreBefore, key_before}
 use Rattle.pim_fanout.proofs.before.open_sources.Given as goal
 
@@ -15,6 +12,4 @@ invariant-loop-source l = record {
   keys : map key_before l.before.items ++ map (source_key 0 l.star.group.bits) (numbers_of l.source-iterator)
       ≡ map key_before l.fn.before.items ++ map (source_key 0 l.star.group.bits) (numbers_of l.fn.sources.entries);
   each : AreBefore l.world l.before.items;
-  visited : raised l.fn.meter (sum_by (source_opening_nodes l.world l.star.group.bits) (numbers_of l.fn.sources.entries))
-      ≤ raised l.meter (sum_by (source_opening_nodes l.world l.star.group.bits) (numbers_of l.source-iterator));
 }

@@ -1,7 +1,6 @@
-use Rattle.std.proofs.Common.{◌≡◌, refl, sym, subst, ◌∙◌}
+use Rattle.std.proofs.Common.{◌≡◌, sym, subst, ◌∙◌}
 use Rattle.pim_fanout.specs.Before.{IsSourceBefore, key_before}
 use Rattle.pim_fanout.specs.Named.{is_changed}
-use Rattle.pim_world.proofs.Visits.{none_visited}
 use Rattle.pim_fanout.proofs.Same.{new_is_changed}
 use Rattle.pim_fanout.proofs.naming.is_outdated.Goals as goal
 

@@ -4,8 +4,8 @@ use Rattle.pim_fanout.specs.Named.{is_changed}
 use Rattle.pim_fanout.proofs.Same.{new_is_changed}
 use Rattle.pim_fanout.proofs.naming.is_outdated_at_hand.Goals as goal
 
-pub returns-in-Unknown-clause-changed : goal.returns-in-Unknown-clause-changed
-returns-in-Unknown-clause-changed c o =
+pub returns-in-Unknown : goal.returns-in-Unknown
+returns-in-Unknown c o =
     let a = c.args.world.now in
     let name = c.in-Unknown.new in
     subst (λ b. IsSourceBefore o b → c.has_fact.result ≡ is_changed o a (key_before b)) (sym c.in-Unknown.is)

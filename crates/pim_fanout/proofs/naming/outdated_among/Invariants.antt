@@ -1,11 +1,8 @@
-use Rattle.std.proofs.Common.{◌≡◌, ◌≤◌, ◌++◌, IfSome, drop, filter, map}
-use Rattle.pim_trie.specs.Meter.{raised}
+use Rattle.std.proofs.Common.{◌≡◌, ◌++◌, IfSome, drop, filter, map}
 use Rattle.pim_model.specs.State.{State}
 use Rattle.pim_macros.specs.Sights.{IsStarSight}
 use Rattle.pim_fanout.specs.Before.{AreBefore, key_before}
 use Rattle.pim_fanout.specs.Named.{is_changed, keys_of}
-use Rattle.pim_world.specs.Visits.{nodes_in_turn}
-use Rattle.pim_fanout.specs.Visits.{asked_nodes, last_group, naming_nodes, next_asked}
 use Rattle.pim_fanout.proofs.naming.outdated_among.Given as goal
 
 abbrev pub invariant-loop-source : goal.invariant-loop-source
@@ -14,7 +11,4 @@ invariant-loop-source l = record {
       → keys_of l.names.items ++ filter (is_changed o l.world) (map key_before (drop l.source-index l.sources))
       ≡ filter (is_changed o l.world) (map key_before l.sources);
   last : IfSome l.last (IsStarSight l.world);
-  visited : raised l.fn.meter (naming_nodes l.world l.sources)
-      ≤ raised l.meter
-      (nodes_in_turn (next_asked l.world) (asked_nodes l.world) (last_group l.last) (drop l.source-index l.sources));
 }

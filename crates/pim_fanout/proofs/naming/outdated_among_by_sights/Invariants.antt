@@ -1,13 +1,11 @@
-use Rattle.std.proofs.Common.{◌≡◌, ◌≤◌, ◌++◌, drop, filter, map}
+use Rattle.std.proofs.Common.{◌≡◌, ◌++◌, drop, filter, map}
 use Rattle.pim_model.specs.State.{State}
 use Rattle.pim_fanout.specs.Before.{AreBefore, key_before}
 use Rattle.pim_fanout.specs.Named.{is_changed, keys_of}
 use Rattle.pim_fanout.proofs.naming.outdated_among_by_sights.Given as goal
 
 abbrev pub invariant-loop-at : goal.invariant-loop-at
-invariant-loop-at l = record {
-  named : (o : State) → AreBefore o l.sources
-      → keys_of l.names.items ++ filter (is_changed o l.world) (map key_before (drop l.at l.sources))
-      ≡ filter (is_changed o l.world) (map key_before l.sources);
-  rises : l.fn.meter ≤ l.meter;
-}
+invariant-loop-at l =
+    (o : State) → AreBefore o l.sources
+    → keys_of l.names.items ++ filter (is_changed o l.world) (map key_before (drop l.at l.sources))
+    ≡ filter (is_changed o l.world) (map key_before l.sources)

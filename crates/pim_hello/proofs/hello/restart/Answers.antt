@@ -5,7 +5,6 @@ use Rattle.pim_model.specs.Sets.{is_loser}
 use Rattle.pim_model.specs.State.{State}
 use Rattle.pim_store.specs.PimTables.{PimTables}
 use Rattle.pim_world.proofs.Lent.{stored}
-use Rattle.pim_world.proofs.Visits.{then_rises}
 use Rattle.pim_world.specs.Turns.{Taking}
 use Rattle.pim_hello.proofs.StartedAnew.{replaced, restarted}
 use Rattle.pim_hello.proofs.hello.restart.Goals as goal
@@ -28,7 +27,7 @@ returns-clause-state c =
     }) c.store_mut.ensures.value c.end_losses.ensures)
     (ap (λ n. n + c.override_delay.result) c.present.ensures.present
     ∙ ap (λ (n : ℕ). c.replace_neighbour.new.self.present + n) c.override_delay.ensures.delay)
-    (c.deref-2.ensures.value ∙ c.in_ok-towards.ensures.keys)
+    (c.deref-2.ensures.value ∙ c.in_ok-towards.ensures)
     ∙ ap (λ (d : ℕ). neighbour_restarted s c.args.iface.number c.args.from.bits d
     (replaced s c.args.iface.number c.args.from.bits d c.args.hello.now))
     (ap (λ (t : Taking). t.draw) c.turn.view_is)

@@ -1,17 +1,12 @@
-use Rattle.std.proofs.Common.{◌≡◌, ◌≤◌, ◌++◌}
-use Rattle.std.specs.List.{flat_map, sum_by}
+use Rattle.std.proofs.Common.{◌≡◌, ◌++◌}
+use Rattle.std.specs.List.{flat_map}
 use Rattle.pim_adjacent.specs.Adjacent.{led_of_group}
 use Rattle.pim_world.specs.Groups.{numbers_of}
-use Rattle.pim_world.specs.Visits.{raised}
-use Rattle.pim_hello.specs.Visits.{led_nodes}
 use Rattle.pim_hello.proofs.towards.keys_of_groups.Given as goal
 
 abbrev pub invariant-loop-group : goal.invariant-loop-group
 invariant-loop-group l =
     let i = l.neighbour.iface.number in
-    let address = l.neighbour.address.bits in record {
-      keys : l.keys.items ++ flat_map (led_of_group l.world i address) (numbers_of l.group-iterator)
-          ≡ flat_map (led_of_group l.world i address) (numbers_of l.fn.groups.entries);
-      visited : raised l.fn.meter (sum_by (led_nodes l.world i address) (numbers_of l.fn.groups.entries))
-          ≤ raised l.meter (sum_by (led_nodes l.world i address) (numbers_of l.group-iterator));
-    }
+    let address = l.neighbour.address.bits in
+    l.keys.items ++ flat_map (led_of_group l.world i address) (numbers_of l.group-iterator)
+    ≡ flat_map (led_of_group l.world i address) (numbers_of l.fn.groups.entries)

@@ -1,15 +1,10 @@
-use Rattle.std.proofs.Common.{List, OnOk, ap, not, subst, sym, ℕ, ◌≡◌, ◌≤◌, ◌++◌, ◌∷◌, [], ◌∙◌}
-use Rattle.std.proofs.lemmas.Result.{on_ok_weaker}
-use Rattle.std.specs.List.{sum_by}
+use Rattle.std.proofs.Common.{List, OnOk, ap, subst, ◌≡◌, ◌++◌, ◌∷◌, [], ◌∙◌}
 use Rattle.pim_types.specs.declared.fact.Key.{Key}
-use Rattle.pim_world.specs.Visits.{raised}
-use Rattle.pim_world.proofs.Visits.{one_asked, two_in_turn}
-use Rattle.pim_hello.specs.Visits.{source_path_nodes}
 use Rattle.pim_hello.proofs.Led.{all_led, some_led}
 use Rattle.pim_hello.proofs.towards.put_group.Goals as goal
 
-pub returns-then-is_group_led-clause-keys : goal.returns-then-is_group_led-clause-keys
-returns-then-is_group_led-clause-keys c =
+pub returns-then-is_group_led : goal.returns-then-is_group_led
+returns-then-is_group_led c =
     let n = c.args.neighbour in
     c.in_ok-push.ensures.items
     ∙ ap (λ (k : Key). c.args.keys.now.items ++ k ∷ []) c.group.ensures
@@ -17,8 +12,8 @@ returns-then-is_group_led-clause-keys c =
     (all_led c.args.world.now n.iface.number n.address.bits c.args.group.bits c.is_group_led.result
     c.is_group_led.ensures c.if-is_group_led.true)
 
-pub returns-clause-keys : goal.returns-clause-keys
-returns-clause-keys c =
+pub returns : goal.returns
+returns c =
     let n = c.args.neighbour in
     subst (λ (ks : List Key). OnOk c.put_sources.result (c.put_sources.new.keys.items ≡ c.args.keys.now.items ++ ks))
     (some_led c.args.world.now n.iface.number n.address.bits c.args.group.bits c.is_group_led.result

@@ -1,21 +1,15 @@
-use Rattle.std.proofs.Common.{◌≡◌, ◌≤◌, ◌++◌, filter, map}
-use Rattle.std.specs.List.{sum_by}
+use Rattle.std.proofs.Common.{◌≡◌, ◌++◌, filter, map}
 use Rattle.pim_types.specs.Keys.{source_key}
 use Rattle.pim_model.specs.Unicast.{route}
 use Rattle.pim_adjacent.specs.Adjacent.{leads_to}
 use Rattle.pim_world.specs.Groups.{numbers_of}
-use Rattle.pim_world.specs.Visits.{raised}
-use Rattle.pim_hello.specs.Visits.{source_path_nodes}
 use Rattle.pim_hello.proofs.towards.put_sources.Given as goal
 
 abbrev pub invariant-loop-source : goal.invariant-loop-source
-invariant-loop-source l = record {
-  keys : l.keys.items ++ map (source_key 0 l.group.bits)
-      (filter (λ src. leads_to l.neighbour.iface.number l.neighbour.address.bits (route l.world src))
-      (numbers_of l.source-iterator))
-      ≡ l.fn.keys.items ++ map (source_key 0 l.group.bits)
-      (filter (λ src. leads_to l.neighbour.iface.number l.neighbour.address.bits (route l.world src))
-      (numbers_of l.fn.sources.entries));
-  visited : raised l.fn.meter (sum_by (source_path_nodes l.world) (numbers_of l.fn.sources.entries))
-      ≤ raised l.meter (sum_by (source_path_nodes l.world) (numbers_of l.source-iterator));
-}
+invariant-loop-source l =
+    l.keys.items ++ map (source_key 0 l.group.bits)
+    (filter (λ src. leads_to l.neighbour.iface.number l.neighbour.address.bits (route l.world src))
+    (numbers_of l.source-iterator))
+    ≡ l.fn.keys.items ++ map (source_key 0 l.group.bits)
+    (filter (λ src. leads_to l.neighbour.iface.number l.neighbour.address.bits (route l.world src))
+    (numbers_of l.fn.sources.entries))

@@ -1,8 +1,4 @@
-use Rattle.std.proofs.Common.{◌≤◌, ap, subst, ◌∙◌}
-use Rattle.pim_model.specs.Records.{GroupRecord, apply_record}
-use Rattle.pim_world.specs.Visits.{raised}
 use Rattle.igmp_wire.specs.Written.{bits_of}
-use Rattle.pim_querier.specs.Visits.{write_beside_nodes}
 use Rattle.pim_querier.proofs.NamedRecords.{few_asked, few_written}
 use Rattle.pim_querier.proofs.applying.apply_to_named.Goals as goal
 

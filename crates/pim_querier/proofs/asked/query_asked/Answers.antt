@@ -11,7 +11,7 @@ returns-then-asks_group-clause-state c =
     (state_of_both c.args.place.iface.number c.args.place.group.bits c.args.world.now c.args.turn.now c.query_asked_sources.new.world
     c.query_asked_sources.new.turn c.args.asked.now (option_map (λ named. bits_of named.now) c.sources.result)
     (c.sources.ensures.whole
-    ∙ (λ j. asked_in_order (sym c.sources.ensures j) ((sym c.asks_group.ensures ∙ c.if-asks_group.true) j)))
+    ∙ (λ j. asked_in_order (sym c.sources.ensures.sources j) ((sym c.asks_group.ensures ∙ c.if-asks_group.true) j)))
     (c.in_ok-query_asked_sources.ensures.state, c.in_ok-query_asked_sources.ensures.messages) c.query_group.new.world)
     c.query_group.ensures.state
 
@@ -21,6 +21,6 @@ returns-then-asks_group-clause-messages c =
     (said_of_both c.args.place.iface.number c.args.place.group.bits c.args.world.now c.args.turn.now c.query_asked_sources.new.world
     c.query_asked_sources.new.turn c.args.asked.now (option_map (λ named. bits_of named.now) c.sources.result)
     (c.sources.ensures.whole
-    ∙ (λ j. asked_in_order (sym c.sources.ensures j) ((sym c.asks_group.ensures ∙ c.if-asks_group.true) j)))
+    ∙ (λ j. asked_in_order (sym c.sources.ensures.sources j) ((sym c.asks_group.ensures ∙ c.if-asks_group.true) j)))
     (c.in_ok-query_asked_sources.ensures.state, c.in_ok-query_asked_sources.ensures.messages) c.query_group.new.turn)
     c.query_group.ensures.messages

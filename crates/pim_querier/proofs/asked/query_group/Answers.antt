@@ -14,7 +14,7 @@ returns-clause-state c =
     _ c.query_end.result _ _ c.query_end.ensures
     (λ j. c.present.ensures.present j + c.last_member_query_interval.ensures.value j)
     (c.saturating_sub.ensures ∙ ap (λ n. n - 1) (c.from.ensures ∙ c.robustness.ensures.value))
-    c.in_ok-lower_group.ensures.state (ap (with_membership c.lower_group.new.self) (rw c.membership_mut.ensures.value at c.in_ok-set_group_repeat.ensures)))
+    c.in_ok-lower_group.ensures (ap (with_membership c.lower_group.new.self) (rw c.membership_mut.ensures.value at c.in_ok-set_group_repeat.ensures)))
 
 pub returns-clause-messages : goal.returns-clause-messages
 unfolding query_group

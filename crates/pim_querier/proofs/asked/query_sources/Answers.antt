@@ -33,7 +33,7 @@ returns-clause-state c =
     (sources_queried i g c.args.world.now c.lower_sources.new.world c.put_sendings.new.world (bits_of c.args.asked.now)
     c.in_ok-sources.sources.items c.query_end-end.result c.from.result c.query_end-end.ensures
     (c.from.ensures ∙ c.robustness.ensures.value) c.in_ok-sources.ensures (ap (λ n. n == 0) (omega (arith, c.in_ok-sources.sources.ok.0)) ∙ sym c.is_empty.ensures ∙ c.if-is_empty.false)
-    (c.in_ok-lower_sources.ensures.lowered
+    (c.in_ok-lower_sources.ensures
     ∙ ap (λ (xs : List Addr). lower_sources c.args.world.now i g (bits_of xs) c.query_end-end.result) c.deref.ensures.value)
     (c.in_ok-put_sendings.ensures
     ∙ ap (λ (xs : List Addr). sendings_put i g (record { left = c.from.result }) c.lower_sources.new.world xs)
@@ -49,7 +49,7 @@ returns-clause-messages c =
     (sources_queried i g c.args.world.now c.lower_sources.new.world c.put_sendings.new.world (bits_of c.args.asked.now)
     c.in_ok-sources.sources.items c.query_end-end.result c.from.result c.query_end-end.ensures
     (c.from.ensures ∙ c.robustness.ensures.value) c.in_ok-sources.ensures (ap (λ n. n == 0) (omega (arith, c.in_ok-sources.sources.ok.0)) ∙ sym c.is_empty.ensures ∙ c.if-is_empty.false)
-    (c.in_ok-lower_sources.ensures.lowered
+    (c.in_ok-lower_sources.ensures
     ∙ ap (λ (xs : List Addr). lower_sources c.args.world.now i g (bits_of xs) c.query_end-end.result) c.deref.ensures.value)
     (c.in_ok-put_sendings.ensures
     ∙ ap (λ (xs : List Addr). sendings_put i g (record { left = c.from.result }) c.lower_sources.new.world xs)

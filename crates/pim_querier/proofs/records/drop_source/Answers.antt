@@ -1,12 +1,11 @@
-use Rattle.std.proofs.Common.{ap, not}
+use Rattle.std.proofs.Common.{ap}
 use Rattle.pim_world.specs.Lending.{with_membership}
 use Rattle.pim_querier.proofs.OneSource.{source_dropped}
-use Rattle.pim_querier.proofs.Visited.{source_dropped_visited}
 use Rattle.pim_querier.proofs.records.drop_source.Goals as goal
 
-pub returns-clause-dropped : goal.returns-clause-dropped
-returns-clause-dropped c =
+pub returns : goal.returns
+returns c =
     source_dropped c.args.place.iface.number c.args.place.group.bits c.args.source.bits c.args.world.now _ c.drop_empty.new.world
     c.has_sources-is_none.result
-    (ap (with_membership c.args.world.now) (rw c.membership_mut.ensures.value at c.remove_source_record.ensures.removed))
+    (ap (with_membership c.args.world.now) (rw c.membership_mut.ensures.value at c.remove_source_record.ensures))
     c.has_sources-is_none.ensures c.drop_empty.ensures

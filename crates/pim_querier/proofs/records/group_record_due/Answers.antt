@@ -1,8 +1,4 @@
-use Rattle.std.proofs.Common.{ap}
-use Rattle.pim_world.specs.Lending.{with_membership}
 use Rattle.pim_querier.proofs.Expired.{group_near}
-use Rattle.pim_querier.proofs.Starting.{then_ok}
-use Rattle.pim_querier.proofs.Visited.{group_due_visited, group_listed}
 use Rattle.pim_querier.proofs.records.group_record_due.Goals as goal
 
 pub set_members-requires : goal.set_members-requires

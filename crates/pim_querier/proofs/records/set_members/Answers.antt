@@ -2,16 +2,15 @@ use Rattle.std.proofs.Common.{ap}
 use Rattle.pim_world.specs.Lending.{with_membership}
 use Rattle.pim_querier.proofs.Expired.{members_near}
 use Rattle.pim_querier.proofs.Sent.{members_set}
-use Rattle.pim_querier.proofs.Starting.{on_ok, then_ok}
-use Rattle.pim_querier.proofs.Visited.{members_set_visited}
+use Rattle.pim_querier.proofs.Starting.{then_ok}
 use Rattle.pim_querier.proofs.records.set_members.Goals as goal
 
 pub put_members-requires : goal.put_members-requires
 put_members-requires c =
     members_near c.args.place.iface.number c.members.result.now c.args.known.now.members c.members.ensures.members c.requires
 
-pub returns-clause-set : goal.returns-clause-set
-returns-clause-set c =
+pub returns : goal.returns
+returns c =
     then_ok c.drop_repeats.result
     (members_set c.args.place.iface.number c.args.place.group.bits c.args.world.now c.drop_empty.new.world _ c.put_members.new.world
     c.drop_repeats.new.world c.args.known.now c.is_no_record.result c.members.result.now c.members.ensures.members

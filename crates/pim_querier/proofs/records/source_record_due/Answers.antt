@@ -1,6 +1,6 @@
 use Rattle.std.proofs.Common.{◌∙◌}
-use Rattle.pim_querier.proofs.Starting.{on_ok, then_ok}
+use Rattle.pim_querier.proofs.Starting.{then_ok}
 use Rattle.pim_querier.proofs.records.source_record_due.Goals as goal
 
-pub returns-clause-state : goal.returns-clause-state
-returns-clause-state c = then_ok c.drop_repeats.result (λ e. e ∙ c.in_ok-end_source.ensures) c.drop_repeats.ensures
+pub returns : goal.returns
+returns c = then_ok c.drop_repeats.result (λ e. e ∙ c.in_ok-end_source.ensures) c.drop_repeats.ensures

@@ -1,9 +1,7 @@
-use Rattle.std.proofs.Common.{drop, get_or, subst, sym, ◌+◌, ◌∙◌}
+use Rattle.std.proofs.Common.{get_or, subst, sym, ◌∙◌}
 use Rattle.std.proofs.lemmas.List.{drop_more}
 use Rattle.pim_types.specs.Keys.{source_key}
 use Rattle.pim_macros.specs.Sights.{IsStarSight}
-use Rattle.pim_world.proofs.Visits.{all_in_turn, next_in_turn}
-use Rattle.pim_register.specs.Visits.{settled_source_nodes, source_settled}
 use Rattle.pim_register.proofs.Steps.{next_source, no_source, star_stays}
 use Rattle.pim_register.proofs.settling.settle_sources.Goals as goal
 
@@ -21,10 +19,4 @@ loop-opened-preserved c =
           subst (λ s. IsStarSight s star) (sym c.in_ok-settle_source.ensures)
           (star_stays c.loop-opened.world (source_key 0 star.group.bits opened.source.bits) star
           c.loop-opened.invariant.sight);
-      visited =
-          next_in_turn (source_settled star.group) (settled_source_nodes star.group) _ _ _ _ opened
-          (drop c.loop-opened.opened-index c.args.sources.now) (drop (c.loop-opened.opened-index + 1) c.args.sources.now) _ _
-          c.loop-opened.invariant.visited
-          (drop_more c.args.sources.now c.loop-opened.opened-index no_source c.loop-opened-test.true)
-          c.in_ok-settle_source.ensures c.in_ok-settle_source.ensures.at_least;
     }

@@ -1,4 +1,4 @@
-use Rattle.std.proofs.Common.{◌+◌, Some, ap, arith, drop, get_or, sym, ◌∙◌}
+use Rattle.std.proofs.Common.{◌+◌, Some, ap, drop, get_or, sym, ◌∙◌}
 use Rattle.pim_types.specs.declared.fact.RegisterRow.{RegisterRow}
 use Rattle.pim_types.specs.declared.fact.RegisterState.{RegisterState}
 use Rattle.pim_model.specs.State.{State}
@@ -21,17 +21,16 @@ loop-key-preserved c =
     let i = c.loop-key.key-index in
     let changed = stored c.loop-key.world _ _ (λ (f : PimTables). record f {
       registers = change_row (λ before. Some joined_row) (get_or keys i (star_key 0 0)) f.registers;
-    }) c.store_mut.ensures.value c.in_ok-change_register.ensures.changed in
+    }) c.store_mut.ensures.value c.in_ok-change_register.ensures in
     let registers = ap (λ (s : State). s.registers) changed in record {
       registers = ap (λ (t : Table RegisterRow). all_changed joining t (drop (i + 1) keys)) registers
           ∙ one_more_changed joining keys i (star_key 0 0) c.loop-key.world.registers c.loop-key-test.true
           ∙ c.loop-key.invariant.registers;
       rest = kept c.args.world.now c.loop-key.world _ _ c.loop-key.invariant.rest changed;
-      rises = omega (arith, c.loop-key.invariant.rises, c.in_ok-change_register.ensures.kept);
     }
 
-pub returns-clause-state : goal.returns-clause-state
-returns-clause-state c =
+pub returns : goal.returns
+returns c =
     let registers = sym (none_left_changed joining c.args.keys.now c.loop-key.key-index c.loop-key.world.registers
     c.loop-key-test.false)
     ∙ c.loop-key.invariant.registers in

@@ -1,16 +1,10 @@
-use Rattle.std.proofs.Common.{◌≤◌, filter}
-use Rattle.std.specs.List.{sum_by}
+use Rattle.std.proofs.Common.{filter}
 use Rattle.pim_model.specs.Tables.{keys_in}
 use Rattle.pim_laws.proofs.FoundRows.{Keeps}
-use Rattle.pim_world.specs.Visits.{raised}
 use Rattle.pim_register.specs.Tunnel.{is_rp_changed}
-use Rattle.pim_register.specs.Visits.{register_rps_nodes}
 use Rattle.pim_register.proofs.tunnel.keys_with_new_rp.Given as goal
 
 abbrev pub invariant-loop-key : goal.invariant-loop-key
-invariant-loop-key l = record {
-  kept : Keeps (λ e. is_rp_changed l.world l.next.ranges e.0)
-      (keys_in (filter (λ e. is_rp_changed l.world l.next.ranges e.0) l.fn.world.registers)) l.keys.items l.key-iterator;
-  visited : raised l.fn.meter (sum_by (register_rps_nodes l.world l.next.ranges) l.fn.world.registers)
-      ≤ raised l.meter (sum_by (register_rps_nodes l.world l.next.ranges) l.key-iterator);
-}
+invariant-loop-key l =
+    Keeps (λ e. is_rp_changed l.world l.next.ranges e.0)
+    (keys_in (filter (λ e. is_rp_changed l.world l.next.ranges e.0) l.fn.world.registers)) l.keys.items l.key-iterator

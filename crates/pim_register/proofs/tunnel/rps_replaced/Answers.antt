@@ -1,6 +1,4 @@
 use Rattle.std.proofs.Common.{◌∙◌}
-use Rattle.std.proofs.lemmas.Result.{on_ok_weaker}
-use Rattle.pim_world.proofs.Visits.{then_rises}
 use Rattle.pim_register.proofs.Tunnelled.{ranges_taken, same_on_ok}
 use Rattle.pim_register.proofs.tunnel.rps_replaced.Goals as goal
 

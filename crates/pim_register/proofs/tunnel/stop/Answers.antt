@@ -8,15 +8,15 @@ use Rattle.pim_register.specs.Tunnel.{stopping}
 use Rattle.pim_register.proofs.Tunnelled.{changed_by_found, none_changed, same_on_ok}
 use Rattle.pim_register.proofs.tunnel.stop.Goals as goal
 
-pub returns-in_default-clause-state : goal.returns-in_default-clause-state
-returns-in_default-clause-state c =
+pub returns-in_default : goal.returns-in_default
+returns-in_default c =
     let found = ap (λ (f : PimTables). row_at f.registers c.args.key) c.store.ensures in
     ap (λ (t : Table RegisterRow). let s : State = record c.args.world.now { registers = t } in s)
     (none_changed (stopping c.args.end) c.args.key c.args.world.now.registers
     (sym found ∙ sym c.register.ensures ∙ c.in_default.is))
 
-pub returns-clause-state : goal.returns-clause-state
-returns-clause-state c =
+pub returns : goal.returns
+returns c =
     let s = c.args.world.now in
     let found = ap (λ (f : PimTables). row_at f.registers c.args.key) c.store.ensures in
     same_on_ok c.change_register.result _ _ _
@@ -26,4 +26,4 @@ returns-clause-state c =
     (ap Some (sym c.stopped.ensures))))
     (stored_on_ok s c.change_register.result _ _ (λ (f : PimTables). record f {
       registers = change_row (λ before. Some c.stopped.result) c.args.key f.registers;
-    }) c.store_mut.ensures.value c.change_register.ensures.changed)
+    }) c.store_mut.ensures.value c.change_register.ensures)

@@ -1,4 +1,4 @@
-use Rattle.std.proofs.Common.{◌+◌, ap, arith, drop, sym, ◌∙◌}
+use Rattle.std.proofs.Common.{◌+◌, ap, drop, sym, ◌∙◌}
 use Rattle.pim_types.specs.declared.fact.RegisterRow.{RegisterRow}
 use Rattle.pim_model.specs.State.{State}
 use Rattle.pim_model.specs.Tables.{Table}
@@ -19,11 +19,10 @@ loop-key-preserved c =
           ∙ c.loop-key.invariant.registers;
       rest = kept c.args.world.now c.loop-key.world c.stop.new.world _ c.loop-key.invariant.rest
           c.in_ok-stop.ensures;
-      rises = omega (arith, c.loop-key.invariant.rises, c.in_ok-stop.ensures.rises);
     }
 
-pub returns-clause-state : goal.returns-clause-state
-returns-clause-state c =
+pub returns : goal.returns
+returns c =
     let registers = sym (none_left_changed (stopping c.args.end) c.args.keys.now c.loop-key.key-index c.loop-key.world.registers
     c.loop-key-test.false)
     ∙ c.loop-key.invariant.registers in

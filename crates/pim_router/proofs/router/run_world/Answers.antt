@@ -1,9 +1,9 @@
 use Rattle.std.proofs.Common.{◌++◌, ◌∷◌, [], ap, ◌∙◌}
 use Rattle.pim_fanout.specs.Refreshing.{touches}
-use Rattle.pim_router.proofs.Costs.{counts_all, counts_next, counts_none}
-use Rattle.pim_router.proofs.Disturbing.{disturbs_all, disturbs_next}
-use Rattle.pim_router.proofs.Staying.{stays_all, stays_next}
-use Rattle.pim_router.proofs.Listing.{lists_all, lists_next}
+use Rattle.pim_event.proofs.Costs.{counts_all, counts_next, counts_none}
+use Rattle.pim_event.proofs.Disturbing.{disturbs_all, disturbs_next}
+use Rattle.pim_event.proofs.Staying.{stays_all, stays_next}
+use Rattle.pim_event.proofs.Listing.{lists_all, lists_next}
 use Rattle.pim_router.proofs.Runs.{runs_begin, runs_end, runs_next}
 use Rattle.pim_router.proofs.router.run_world.Goals as goal
 

@@ -4,11 +4,11 @@ use Rattle.pim_types.specs.Keys.{key_cmp}
 use Rattle.pim_fanout.specs.Refreshing.{touches}
 use Rattle.pim_mfc.specs.Laws.{ShowsRows}
 use Rattle.pim_model.specs.Cache.{cached}
-use Rattle.pim_router.proofs.Costs.{Counted}
+use Rattle.pim_event.proofs.Costs.{Counted}
 use Rattle.pim_router.proofs.Runs.{Runs}
-use Rattle.pim_router.specs.Disturbing.{IsLastDisturbed}
-use Rattle.pim_router.specs.Listing.{IsLastListed}
-use Rattle.pim_router.specs.Staying.{LastOffersStay}
+use Rattle.pim_event.specs.Disturbing.{IsLastDisturbed}
+use Rattle.pim_event.specs.Listing.{IsLastListed}
+use Rattle.pim_event.specs.Staying.{LastOffersStay}
 use Rattle.pim_router.proofs.router.run_world.Given as goal
 
 abbrev pub invariant-loop-event : goal.invariant-loop-event

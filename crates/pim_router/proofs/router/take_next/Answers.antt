@@ -1,7 +1,7 @@
 use Rattle.std.proofs.Common.{ap}
 use Rattle.std.proofs.lemmas.Result.{on_ok_weaker}
 use Rattle.pim_fanout.specs.Refreshing.{CacheValue}
-use Rattle.pim_router.proofs.Costs.{none_touched}
+use Rattle.pim_event.proofs.Costs.{none_touched}
 use Rattle.pim_router.proofs.router.take_next.Goals as goal
 
 pub take_in-requires-clause-uncounted : goal.take_in-requires-clause-uncounted

@@ -1,4 +1,4 @@
-use Rattle.std.proofs.Common.{arith, refl, sym, ◌∙◌}
+use Rattle.std.proofs.Common.{refl, sym, ◌∙◌}
 use Rattle.pim_store.proofs.Dropped.{all_unmarked, another, at_first, fits_here, unmarked_here}
 use Rattle.pim_store.proofs.rows.unmark_on.Goals as goal
 
@@ -7,7 +7,6 @@ loop-key-init g c = record {
   unmarked = at_first g.R.TellsMarks.tells g.R.TellsMarks.says g.R.TellsMarks.fits c.args.iface.number _ _ _
       (c.into_iter-key-iterator.ensures.into_iter_gives ∙ c.iter-key-items.ensures ∙ c.rows.ensures) c.requires;
   timers = refl;
-  rises = omega arith;
 }
 
 pub unmark-requires : goal.unmark-requires
@@ -22,7 +21,6 @@ loop-key-preserved-then-eq g c = record {
       c.loop-key.key-iterator c.next.new.self c.in-Some.key.now c.in-Some.field-0-1.now c.loop-key.invariant.unmarked
       c.in-Some.ensures.steps _ (sym c.if-eq.ensures) c.unmark.ensures.marks;
   timers = c.unmark.ensures.timers ∙ c.loop-key.invariant.timers;
-  rises = omega (arith, c.loop-key.invariant.rises, c.unmark.ensures.rises);
 }
 
 pub loop-key-preserved : goal.loop-key-preserved
@@ -31,7 +29,6 @@ loop-key-preserved g c = record {
       c.loop-key.key-iterator c.next.new.self c.in-Some.key.now c.in-Some.field-0-1.now c.loop-key.invariant.unmarked
       c.in-Some.ensures.steps (sym c.if-eq.ensures);
   timers = c.loop-key.invariant.timers;
-  rises = c.loop-key.invariant.rises;
 }
 
 pub returns-clause-told : goal.returns-clause-told

@@ -1,4 +1,4 @@
-use Rattle.std.proofs.Common.{◌≡◌, ◌≤◌}
+use Rattle.std.proofs.Common.{◌≡◌}
 use Rattle.pim_store.specs.Said.{timers_in}
 use Rattle.pim_store.proofs.Dropped.{IsUnmarked}
 use Rattle.pim_store.proofs.rows.unmark_on.Given as goal
@@ -8,5 +8,4 @@ invariant-loop-key g l = record {
   unmarked : IsUnmarked g.R.TellsMarks.tells g.R.TellsMarks.says g.R.TellsMarks.fits l.iface.number l.fn.index l.index l.fn.rows
       l.key-iterator;
   timers : timers_in l.index ≡ timers_in l.fn.index;
-  rises : l.fn.meter ≤ l.meter;
 }

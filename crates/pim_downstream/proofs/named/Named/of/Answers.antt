@@ -1,7 +1,5 @@
 use Rattle.pim_model.specs.Downstream.{accepted_joins, accepted_prunes, is_used, joined_keys, pruned_keys}
-use Rattle.pim_world.proofs.Visits.{all_gathered, next_gathered}
 use Rattle.pim_downstream.specs.Naming.{is_counted}
-use Rattle.pim_downstream.specs.Visits.{joins_nodes, message_named_nodes}
 use Rattle.pim_downstream.proofs.GroupKeys.{group_added, groups_made}
 use Rattle.pim_downstream.proofs.named.Named.of.Goals as goal
 
@@ -16,9 +14,6 @@ loop-group-preserved c =
           group_added is_used (λ g. g.prunes) c.args.iface.number
           l.pruned.items c.push_pruned.new.keys.items _ c.in-Some.group l.group-iterator c.next.new.self
           c.in-Some.ensures.steps c.in_ok-push_pruned.ensures l.invariant.pruned;
-      visited =
-          next_gathered (joins_nodes c.args.world.now) _ _ _ c.in-Some.group c.args.message.now.groups l.group-iterator
-          c.next.new.self l.invariant.visited c.in-Some.ensures.steps c.in_ok-push_joined.ensures.at_least;
     }
 
 pub returns-clause-joined : goal.returns-clause-joined

@@ -1,9 +1,6 @@
-use Rattle.std.proofs.Common.{◌≡◌, ◌≤◌, ◌++◌}
-use Rattle.std.specs.List.{sum_by}
-use Rattle.pim_trie.specs.Meter.{raised}
+use Rattle.std.proofs.Common.{◌≡◌, ◌++◌}
 use Rattle.pim_model.specs.Downstream.{is_used}
 use Rattle.pim_downstream.specs.Naming.{is_counted}
-use Rattle.pim_downstream.specs.Visits.{joins_nodes}
 use Rattle.pim_downstream.proofs.GroupKeys.{group_keys}
 use Rattle.pim_downstream.proofs.named.Named.of.Given as goal
 
@@ -13,6 +10,4 @@ invariant-loop-group l = record {
       ≡ group_keys (is_counted l.world) (λ g. g.joins) l.iface.number l.message.groups;
   pruned : l.pruned.items ++ group_keys is_used (λ g. g.prunes) l.iface.number l.group-iterator
       ≡ group_keys is_used (λ g. g.prunes) l.iface.number l.message.groups;
-  visited : raised l.fn.meter (sum_by (joins_nodes l.world) l.message.groups)
-      ≤ raised l.meter (sum_by (joins_nodes l.world) l.group-iterator);
 }

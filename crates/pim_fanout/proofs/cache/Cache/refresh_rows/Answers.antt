@@ -1,6 +1,5 @@
-use Rattle.std.proofs.Common.{◌≡◌, ◌≤◌, ◌+◌, ◌++◌, [], ◌∷◌, ap, arith, get_or, refl, subst, sym, take, ◌∙◌}
+use Rattle.std.proofs.Common.{◌≡◌, ◌+◌, ◌++◌, [], ◌∷◌, ap, get_or, refl, subst, sym, take, ◌∙◌}
 use Rattle.std.proofs.lemmas.List.{map-append, take_all, take_more}
-use Rattle.std.specs.List.{sum_by}
 use Rattle.pim_ip.specs.Addr.{addr}
 use Rattle.pim_trie.specs.Meter.{raised}
 use Rattle.pim_cached.specs.Kept.{is_listed, refreshed}
@@ -10,8 +9,7 @@ use Rattle.pim_fanout.specs.Named.{keys_of}
 use Rattle.pim_fanout.specs.Refreshing.{touches, touches_in, touches_of}
 use Rattle.pim_fanout.proofs.Counts.{one_more}
 use Rattle.pim_types.specs.declared.name.SourceGroup.{SourceGroup}
-use Rattle.pim_fanout.specs.Visits.{named_nodes}
-use Rattle.pim_world.proofs.Visits.{next_made, raised_by_none}
+use Rattle.pim_world.proofs.Visits.{raised_by_none}
 use Rattle.pim_fanout.proofs.cache.Cache.refresh_rows.Goals as goal
 
 pub loop-name-init : goal.loop-name-init
@@ -20,7 +18,6 @@ loop-name-init c = record {
   shown = λ cache shows. shows;
   few = sym (raised_by_none (touches c.args.self.now));
   listed = (refl, refl);
-  visited = omega (arith, raised_by_none c.args.meter.now);
 }
 
 pub loop-name-preserved : goal.loop-name-preserved
@@ -43,8 +40,6 @@ loop-name-preserved c =
         c.in_ok-refresh_one.ensures.listed.0 ∙ c.loop-name.invariant.listed.0,
         c.in_ok-refresh_one.ensures.listed.1 ∙ c.loop-name.invariant.listed.1,
       );
-      visited = next_made (named_nodes s) names i _ _ _ none c.loop-name-test.true c.loop-name.invariant.visited
-          c.in_ok-refresh_one.ensures.at_least;
     }
 
 pub returns-clause-few : goal.returns-clause-few

@@ -1,7 +1,5 @@
-use Rattle.std.proofs.Common.{◌≡◌, ◌≤◌, take}
-use Rattle.std.specs.List.{sum_by}
+use Rattle.std.proofs.Common.{◌≡◌, take}
 use Rattle.pim_trie.specs.Meter.{raised}
-use Rattle.pim_fanout.specs.Visits.{named_nodes}
 use Rattle.pim_fanout.specs.Refreshing.{Refreshes, touches, touches_in}
 use Rattle.pim_fanout.specs.Named.{keys_of}
 use Rattle.pim_fanout.proofs.cache.Cache.refresh_rows.Given as goal
@@ -11,5 +9,4 @@ invariant-loop-name l = record {
   shown : Refreshes (keys_of (take l.name-index l.names)) l.world (l.fn.self.mfc).rows (l.self.mfc).rows;
   few : touches l.self ≡ raised (touches l.fn.self) (touches_in l.world (keys_of (take l.name-index l.names)));
   listed : (l.self.changed ≡ l.fn.self.changed) × (l.self.disturbed ≡ l.fn.self.disturbed);
-  visited : raised l.fn.meter (sum_by (named_nodes l.world) (take l.name-index l.names)) ≤ l.meter;
 }

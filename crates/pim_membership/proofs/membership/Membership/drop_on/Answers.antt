@@ -1,6 +1,5 @@
 use Rattle.std.proofs.Common.{subst, sym}
 use Rattle.pim_types.specs.Keys.{is_on}
-use Rattle.pim_source_trie.proofs.Visited.{raised_in_turn}
 use Rattle.pim_membership.specs.MembershipTables.{AreRobust}
 use Rattle.pim_membership.specs.Unrecorded.{HaveRecords}
 use Rattle.pim_membership.proofs.Going.{both_dropped}

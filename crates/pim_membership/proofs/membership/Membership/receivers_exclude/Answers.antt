@@ -1,5 +1,4 @@
 use Rattle.std.proofs.Common.{◌&&◌, not, ◌∙◌}
-use Rattle.pim_source_trie.proofs.Visited.{raised_in_turn}
 use Rattle.pim_membership.proofs.Receivers.{excluded_is, group_runs}
 use Rattle.pim_membership.proofs.membership.Membership.receivers_exclude.Goals as goal
 

@@ -1,7 +1,6 @@
 use Rattle.std.proofs.Common.{◌&&◌, not, ◌∙◌}
 use Rattle.pim_types.specs.Keys.{source_key}
 use Rattle.pim_model.specs.Tables.{has_row}
-use Rattle.pim_source_trie.proofs.Visited.{raised_in_turn}
 use Rattle.pim_membership.proofs.Receivers.{included_is}
 use Rattle.pim_membership.proofs.membership.Membership.receivers_include.Goals as goal
 

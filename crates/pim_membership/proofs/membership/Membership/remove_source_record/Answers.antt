@@ -6,7 +6,7 @@ use Rattle.pim_membership.proofs.membership.Membership.remove_source_record.Goal
 pub invariant_of-self : goal.invariant_of-self
 invariant_of-self c = (
   c.self.invariant.0,
-  subst (λ t. HaveRecords c.with_key-self-inside.result t c.self.inside.sendings) (sym c.remove.ensures.removed)
+  subst (λ t. HaveRecords c.with_key-self-inside.result t c.self.inside.sendings) (sym c.remove.ensures)
       (record_removed c.self.inside.unrecorded _ c.self.inside.source_records c.self.inside.sendings c.self.invariant.1
       c.source-key.result _ c.source-key.ensures c.with_key-self-inside.ensures),
 )

@@ -6,7 +6,7 @@ use Rattle.pim_membership.proofs.membership.Membership.set_source_record.Goals a
 pub invariant_of-self-2 : goal.invariant_of-self-2
 invariant_of-self-2 c = (
   c.self.invariant.0,
-  subst (λ t. HaveRecords c.with_key-unrecorded.result t c.self.inside.sendings) (sym c.in_ok-set.ensures.set)
+  subst (λ t. HaveRecords c.with_key-unrecorded.result t c.self.inside.sendings) (sym c.in_ok-set.ensures)
       (record_set c.self.inside.unrecorded _ c.self.inside.source_records c.self.inside.sendings c.self.invariant.1
       c.source-key.result _ c.source-key.ensures c.args.row c.is_none.result c.is_none.ensures c.with_key-unrecorded.ensures),
 )

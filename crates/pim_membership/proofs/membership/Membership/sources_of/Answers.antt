@@ -6,13 +6,13 @@ use Rattle.pim_membership.proofs.Found.{all_sources, both_gathered}
 use Rattle.pim_membership.specs.MembershipTables.{MembershipTables}
 use Rattle.pim_membership.proofs.membership.Membership.sources_of.Goals as goal
 
-pub returns-clause-sources : goal.returns-clause-sources
+pub returns : goal.returns
 unfolding addr_cmp
-returns-clause-sources c =
+returns c =
     all_sources c.args.group.bits c.args.self.now c.gather_sources-2.new.found.entries c.recall_keyed.ensures.records
     c.recall_keyed.ensures.group_repeats c.recall_keyed.ensures.source_repeats c.len.ensures.ordered (λ n.
     both_gathered c.args.group.bits c.self.inside.source_records c.self.inside.sendings c.new-found.result.entries
     c.gather_sources.new.found.entries c.gather_sources-2.new.found.entries c.new-found.ensures.empty
-    c.in_ok-gather_sources.ensures.gathered c.in_ok-gather_sources-2.ensures n
+    c.in_ok-gather_sources.ensures c.in_ok-gather_sources-2.ensures n
     ∙ ap (λ (m : MembershipTables). list_any (names_source c.args.group.bits n) (keys_in m.source_records)
     || list_any (names_source c.args.group.bits n) (keys_in m.sendings)) c.self.view_is)

@@ -1,6 +1,5 @@
 use Rattle.std.proofs.Common.{Some, ap, ◌∙◌}
 use Rattle.pim_model.specs.Tables.{drop_at}
-use Rattle.pim_membership.proofs.Counted.{is_looked_up}
 use Rattle.pim_membership.proofs.Told.{listed_put, listed_refused}
 use Rattle.pim_membership.proofs.records.Records.add.Goals as goal
 
@@ -18,8 +17,3 @@ pub invariant_of-self-in_default : goal.invariant_of-self-in_default
 invariant_of-self-in_default g c =
     listed_put g.R.Record.runs g.R.Record.of_sources _ c.self.inside.rows c.self.invariant c.args.key c.args.row _ _
     c.requires.fit c.requires.kind c.in_default.ensures.ok c.in_ok-list_record.ensures.ok
-
-pub returns-clause-visited : goal.returns-clause-visited
-returns-clause-visited g c = rw (← c.self.view_is)
-    (is_looked_up g.R.Record.runs g.R.Record.of_sources c.self.inside.index c.self.inside.rows c.self.invariant
-    c.args.key.group c.args.key.source _ _ c.list_record.ensures.visited)

@@ -1,6 +1,5 @@
 use Rattle.std.proofs.Common.{ap, filter, sym, ◌∙◌}
 use Rattle.pim_model.specs.Records.{is_at_group}
-use Rattle.pim_membership.proofs.Each.{first_goes}
 use Rattle.pim_membership.proofs.Told.{fits_first}
 use Rattle.pim_membership.proofs.records.Records.first_of_group.Goals as goal
 
@@ -10,10 +9,3 @@ returns-clause-kind g c =
     (c.in_ok-key.key.now, c.in_ok-key.field-0-1.now) c.next.new.self c.self.invariant.fit
     (sym (c.rows_at.ensures ∙ ap (filter (λ e. is_at_group c.args.iface.number c.args.group.bits e.0)) c.rows.ensures)
     ∙ c.in_ok-key.ensures.steps)
-
-pub returns-clause-others : goal.returns-clause-others
-returns-clause-others g c = rw (← c.self.view_is)
-    (first_goes (is_at_group c.args.iface.number c.args.group.bits) c.self.inside.rows
-    (c.in_ok-key.key.now, c.in_ok-key.field-0-1.now) c.next.new.self c.recall_rising.ensures
-    (sym (c.rows_at.ensures ∙ ap (filter (λ e. is_at_group c.args.iface.number c.args.group.bits e.0)) c.rows.ensures)
-    ∙ c.in_ok-key.ensures.steps))

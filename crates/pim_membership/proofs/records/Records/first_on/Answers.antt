@@ -1,7 +1,6 @@
 use Rattle.std.proofs.Common.{ap, sym, ◌∙◌}
 use Rattle.pim_types.specs.Keys.{is_on}
 use Rattle.pim_model.specs.Tables.{rows_on}
-use Rattle.pim_membership.proofs.Each.{first_goes}
 use Rattle.pim_membership.proofs.Told.{fits_first}
 use Rattle.pim_membership.proofs.records.Records.first_on.Goals as goal
 
@@ -11,10 +10,3 @@ returns-clause-kind g c =
     fits_first (λ e. is_on c.args.iface.number e.0) c.self.inside.rows
     (c.in_ok-key.key.now, c.in_ok-key.field-0-1.now) c.next.new.self c.self.invariant.fit
     (sym (c.rows_on.ensures ∙ ap (rows_on c.args.iface.number) c.rows.ensures) ∙ c.in_ok-key.ensures.steps)
-
-pub returns-clause-others : goal.returns-clause-others
-unfolding rows_on
-returns-clause-others g c = rw (← c.self.view_is)
-    (first_goes (is_on c.args.iface.number) c.self.inside.rows
-    (c.in_ok-key.key.now, c.in_ok-key.field-0-1.now) c.next.new.self c.recall_rising.ensures
-    (sym (c.rows_on.ensures ∙ ap (rows_on c.args.iface.number) c.rows.ensures) ∙ c.in_ok-key.ensures.steps))

@@ -1,70 +1,34 @@
-use Rattle.std.proofs.Common.{◌≤◌, ◌||◌, ap, arith, subst, sym, ◌∙◌}
-use Rattle.pim_model.specs.Tables.{keys_in}
-use Rattle.pim_source_trie.specs.Entries.{raised}
-use Rattle.pim_membership.proofs.Counted.{records_visited}
-use Rattle.pim_membership.proofs.Walked.{all_listed, all_passed, no_source, not_there, put_there, source_passed, source_walked, walk_begins}
+use Rattle.std.proofs.Common.{◌||◌, ap, subst, sym, ◌∙◌}
+use Rattle.pim_membership.proofs.Walked.{all_listed, no_source, not_there, put_there}
 use Rattle.pim_membership.specs.Listing.{IsListed}
 use Rattle.pim_membership.specs.Sources.{has_number}
-use Rattle.pim_membership.specs.Visits.{nodes_to_sources}
 use Rattle.pim_membership.proofs.records.Records.gather_sources.Goals as goal
 
 pub loop-key-init : goal.loop-key-init
 loop-key-init g c =
     let listed =
     subst (λ t. IsListed g.R.Record.runs g.R.Record.of_sources c.self.inside.index t) c.self.view_is c.self.invariant in
-    let walked = c.into_iter-key-iterator.ensures.into_iter_gives ∙ c.walk-key-items.ensures.entries in (
-      λ n.
-          ap (λ b. has_number n c.args.found.now.entries || b)
-          (all_listed c.args.group.bits n c.args.self.now g.R.Record.runs g.R.Record.of_sources c.self.inside.index listed
-          c.recall_rising.ensures _ walked),
-      walk_begins c.args.group c.args.self.now g.R.Record.runs g.R.Record.of_sources c.self.inside.index listed
-          c.recall_rising.ensures _ walked _ _
-          (records_visited g.R.Record.runs g.R.Record.of_sources c.self.inside.index c.args.self.now listed c.args.group
-          _ _ _ c.walk-key-items.ensures.visited),
-    )
+    λ n.
+    ap (λ b. has_number n c.args.found.now.entries || b)
+    (all_listed c.args.group.bits n c.args.self.now g.R.Record.runs g.R.Record.of_sources c.self.inside.index listed
+    c.recall_rising.ensures _ (c.into_iter-key-iterator.ensures.into_iter_gives ∙ c.walk-key-items.ensures))
 
 pub loop-key-preserved-in_ok-insert : goal.loop-key-preserved-in_ok-insert
-loop-key-preserved-in_ok-insert g c = (
-  λ n.
-      put_there c.args.group.bits n c.args.self.now c.loop-key.key-iterator c.next.new.self
-      (c.in-Some.key, c.in-Some.field-0-1.now) c.in-Some.ensures.steps c.loop-key.found.entries c.in-Some-source.source _ _
-      c.in-Some-source.is c.in_ok-insert.ensures.entries (sym c.if-has_source.true ∙ c.has_source.ensures.any)
-      ∙ c.loop-key.invariant.0 n,
-  omega (
-    arith,
-    c.loop-key.invariant.1,
-    source_walked (keys_in c.args.self.now) c.args.group c.loop-key.key-iterator c.next.new.self
-        (c.in-Some.key, c.in-Some.field-0-1.now) c.in-Some.ensures.steps _ _ c.in-Some-source.source c.in-Some-source.is
-        c.has_source.ensures.at_least,
-  ),
-)
+loop-key-preserved-in_ok-insert g c = λ n.
+    put_there c.args.group.bits n c.args.self.now c.loop-key.key-iterator c.next.new.self
+    (c.in-Some.key, c.in-Some.field-0-1.now) c.in-Some.ensures.steps c.loop-key.found.entries c.in-Some-source.source _ _
+    c.in-Some-source.is c.in_ok-insert.ensures.entries (sym c.if-has_source.true ∙ c.has_source.ensures.any)
+    ∙ c.loop-key.invariant n
 
 pub loop-key-preserved : goal.loop-key-preserved
-loop-key-preserved g c = (
-  λ n.
-      not_there c.args.group.bits n c.args.self.now c.loop-key.key-iterator c.next.new.self
-      (c.in-Some.key, c.in-Some.field-0-1.now) c.in-Some.ensures.steps c.loop-key.found.entries c.in-Some-source.source
-      c.in-Some-source.is (sym c.if-has_source.false ∙ c.has_source.ensures.any)
-      ∙ c.loop-key.invariant.0 n,
-  omega (
-    arith,
-    c.loop-key.invariant.1,
-    source_walked (keys_in c.args.self.now) c.args.group c.loop-key.key-iterator c.next.new.self
-        (c.in-Some.key, c.in-Some.field-0-1.now) c.in-Some.ensures.steps _ _ c.in-Some-source.source c.in-Some-source.is
-        c.has_source.ensures.at_least,
-  ),
-)
+loop-key-preserved g c = λ n.
+    not_there c.args.group.bits n c.args.self.now c.loop-key.key-iterator c.next.new.self
+    (c.in-Some.key, c.in-Some.field-0-1.now) c.in-Some.ensures.steps c.loop-key.found.entries c.in-Some-source.source
+    c.in-Some-source.is (sym c.if-has_source.false ∙ c.has_source.ensures.any)
+    ∙ c.loop-key.invariant n
 
 pub loop-key-preserved-in_default : goal.loop-key-preserved-in_default
-loop-key-preserved-in_default g c = (
-  λ n.
-      no_source c.args.group.bits n c.args.self.now c.loop-key.key-iterator c.next.new.self
-      (c.in-Some.key, c.in-Some.field-0-1.now) c.in-Some.ensures.steps c.loop-key.found.entries c.in_default.is
-      ∙ c.loop-key.invariant.0 n,
-  omega (
-    arith,
-    c.loop-key.invariant.1,
-    source_passed (keys_in c.args.self.now) c.args.group c.loop-key.key-iterator c.next.new.self
-        (c.in-Some.key, c.in-Some.field-0-1.now) c.in-Some.ensures.steps c.loop-key.meter c.in_default.is,
-  ),
-)
+loop-key-preserved-in_default g c = λ n.
+    no_source c.args.group.bits n c.args.self.now c.loop-key.key-iterator c.next.new.self
+    (c.in-Some.key, c.in-Some.field-0-1.now) c.in-Some.ensures.steps c.loop-key.found.entries c.in_default.is
+    ∙ c.loop-key.invariant n

@@ -1,6 +1,5 @@
 use Rattle.std.proofs.Common.{ap, ◌∙◌}
 use Rattle.pim_model.specs.Tables.{drop_at}
-use Rattle.pim_membership.proofs.Counted.{is_looked_up}
 use Rattle.pim_membership.proofs.Told.{listed_dropped}
 use Rattle.pim_membership.specs.Listing.{record_key}
 use Rattle.pim_membership.proofs.records.Records.remove.Goals as goal
@@ -10,8 +9,3 @@ invariant_of-self g c =
     listed_dropped g.R.Record.runs g.R.Record.of_sources _ c.self.inside.rows c.self.invariant
     (record_key c.args.iface.number c.args.group c.args.source) _ _
     (c.remove.ensures ∙ ap (drop_at c.self.inside.rows) c.record_key.ensures) c.unlist.ensures
-
-pub returns-clause-visited : goal.returns-clause-visited
-returns-clause-visited g c = rw (← c.self.view_is)
-    (is_looked_up g.R.Record.runs g.R.Record.of_sources c.self.inside.index c.self.inside.rows c.self.invariant
-    c.args.group c.args.source _ _ c.unlist.ensures.visited)

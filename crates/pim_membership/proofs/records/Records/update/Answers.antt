@@ -1,11 +1,8 @@
 use Rattle.std.proofs.Common.{None, Some, ap, is_some, subst, sym, ◌∙◌}
 use Rattle.pim_model.specs.Tables.{drop_at, has_row}
 use Rattle.pim_tables.proofs.Updates.{none_updated, updated_goes}
-use Rattle.pim_membership.proofs.Counted.{is_looked_up}
-use Rattle.pim_membership.proofs.Listings.{listed_as_before, looked_up_so}
-use Rattle.pim_membership.proofs.Told.{fits_there, listed_dropped, listed_updated, nothing_new}
+use Rattle.pim_membership.proofs.Told.{fits_there, listed_as_before, listed_dropped, listed_updated, nothing_new}
 use Rattle.pim_membership.specs.Listing.{IsListed, Lists}
-use Rattle.pim_membership.specs.Visits.{changes_listed}
 use Rattle.pim_membership.proofs.records.Records.update.Goals as goal
 
 pub invariant_of-self-in_default : goal.invariant_of-self-in_default
@@ -27,8 +24,8 @@ invariant_of-self-then-not-is_listed_anew g c =
     c.args.row _ _ found c.recall_rising.ensures c.in_ok-before.ensures.ok
     (nothing_new g.R.Record.runs g.R.Record.of_sources _ c.self.inside.rows c.self.invariant c.args.key c.args.row
     (Some c.in-Some.before) found
-    (listed_as_before g.R.Record.runs c.args.row (Some c.in-Some.before)
-    (sym c.is_listed_anew.ensures ∙ c.if-not-is_listed_anew.true)))
+    (ap Some (listed_as_before g.R.Record.runs c.in-Some.before c.args.row
+    (sym c.is_listed_anew.ensures ∙ c.if-not-is_listed_anew.true))))
 
 pub returns-then-not-is_listed_anew-clause-there : goal.returns-then-not-is_listed_anew-clause-there
 unfolding has_row
@@ -64,11 +61,3 @@ pub returns-clause-there : goal.returns-clause-there
 unfolding has_row
 returns-clause-there g c = rw (← c.self.view_is)
     (sym (ap is_some (sym c.in_ok-before.ensures.before ∙ c.in-Some.is)))
-
-pub returns-clause-visited : goal.returns-clause-visited
-returns-clause-visited g c = rw (← c.self.view_is)
-    (looked_up_so _ _ _ _ _ _
-    (sym (ap (changes_listed g.R.Record.runs c.args.row) (sym c.in_ok-before.ensures.before ∙ c.in-Some.is)
-    ∙ sym c.is_listed_anew.ensures ∙ c.if-not-is_listed_anew.false))
-    (is_looked_up g.R.Record.runs g.R.Record.of_sources c.self.inside.index c.self.inside.rows c.self.invariant
-    c.args.key.group c.args.key.source _ _ c.list_record.ensures.visited))

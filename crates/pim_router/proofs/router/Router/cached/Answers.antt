@@ -4,7 +4,7 @@ use Rattle.pim_mfc.specs.Kept.{cache_row, kept_row}
 use Rattle.pim_mfc.specs.Laws.{TellsRow}
 use Rattle.pim_mfc.proofs.Shown.{shown_are_told}
 use Rattle.pim_model.specs.Cache.{cached}
-use Rattle.pim_router.proofs.Rows.{tells_shown}
+use Rattle.pim_router.proofs.Shown.{tells_shown}
 use Rattle.pim_router.proofs.router.Router.cached.Goals as goal
 
 pub returns-clause-cached : goal.returns-clause-cached

@@ -1,7 +1,7 @@
 use Rattle.std.proofs.Common.{None, Some, sym, ◌∙◌}
 use Rattle.pim_model.specs.Timers.{next_ending}
 use Rattle.pim_fanout.specs.Refreshing.{touches}
-use Rattle.pim_router.proofs.Instants.{moment_told, no_moment, shown_moment}
+use Rattle.pim_router.proofs.Shown.{moment_told, no_moment, shown_moment}
 use Rattle.pim_router.proofs.router.Router.next_moment.Goals as goal
 
 pub returns-in-Some : goal.returns-in-Some

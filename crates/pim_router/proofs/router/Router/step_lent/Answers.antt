@@ -1,5 +1,5 @@
 use Rattle.pim_fanout.specs.Refreshing.{touches}
-use Rattle.pim_router.proofs.Taking.{finds_room}
+use Rattle.pim_router.proofs.Shown.{finds_room}
 use Rattle.pim_router.proofs.router.Router.step_lent.Goals as goal
 
 pub returns-in_err-hand_over-clause-sure : goal.returns-in_err-hand_over-clause-sure

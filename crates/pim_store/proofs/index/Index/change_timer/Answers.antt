@@ -12,22 +12,11 @@ set_known-requires g c = record {
   timer = c.get-marks.ensures.row;
 }
 
-pub returns-in_default-clause-visited : goal.returns-in_default-clause-visited
-returns-in_default-clause-visited g c =
-    record { entries = c.get-marks.ensures.entries; visited = c.get-marks.ensures.visited }
-
-pub returns-clause-visited : goal.returns-clause-visited
-returns-clause-visited g c = record { entries = c.get-marks.ensures.entries; visited = c.get-marks.ensures.visited }
-
 pub returns-in_default-clause-changed : goal.returns-in_default-clause-changed
 returns-in_default-clause-changed g c =
     not_there c.args.key (timers_in c.args.self.now) (λ before. Some (g.C.Change.after c.args.change before))
     (no_timer_under c.args.self.now c.get-marks.ensures.ascending c.get-marks.ensures.entries c.args.key
     (sym c.get-marks.ensures.row ∙ c.in_default.is))
-
-pub returns-then-not-is_placed-clause-visited : goal.returns-then-not-is_placed-clause-visited
-returns-then-not-is_placed-clause-visited g c =
-    record { entries = c.get-marks.ensures.entries; visited = c.get-marks.ensures.visited }
 
 pub returns-then-not-is_placed-clause-changed : goal.returns-then-not-is_placed-clause-changed
 returns-then-not-is_placed-clause-changed g c =

@@ -23,10 +23,6 @@ returns-clause-timers c = rw (← c.self.view_is)
     ∙ timers_stay (entry_key c.args.key.group c.args.key.source) (with_plain c.args.mark c.args.key.iface.number c.args.is_set)
     (timer_with_plain c.args.mark c.args.key.iface.number c.args.is_set) _)
 
-pub returns-clause-visited : goal.returns-clause-visited
-returns-clause-visited c = rw (← c.self.view_is)
-    (record { entries = c.self.invariant.entries; visited = c.alter.ensures.visited })
-
 pub returns-clause-marks : goal.returns-clause-marks
 returns-clause-marks c = rw (← c.self.view_is) (λ m found.
     altered_writes c.args.key.group c.args.key.source (with_plain c.args.mark c.args.key.iface.number c.args.is_set) _ _

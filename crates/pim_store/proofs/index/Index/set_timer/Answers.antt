@@ -6,6 +6,3 @@ set_known-requires c = record {
   bare = c.get-marks.ensures.bare;
   timer = c.get-marks.ensures.row;
 }
-
-pub returns-clause-visited : goal.returns-clause-visited
-returns-clause-visited c = record { entries = c.get-marks.ensures.entries; visited = c.get-marks.ensures.visited }

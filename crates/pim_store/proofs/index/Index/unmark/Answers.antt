@@ -5,7 +5,6 @@ use Rattle.pim_store.proofs.Timers.{kept_as}
 use Rattle.pim_store.specs.Entry.{without_either}
 use Rattle.pim_store.proofs.Altered.{entries_altered, timers_stay}
 use Rattle.pim_store.proofs.Changed.{timer_without, tunnel_without}
-use Rattle.pim_store.proofs.LookedUp.{raised_rises}
 use Rattle.pim_store.proofs.Marked.{marks_cleared}
 use Rattle.pim_store.proofs.index.Index.unmark.Goals as goal
 
@@ -25,10 +24,6 @@ returns-clause-timers g c = rw (← c.self.view_is)
     (ap timers_in c.alter.ensures.changed
     ∙ timers_stay (entry_key c.args.key.group c.args.key.source) (without_either c.told-first.result.0 c.told-first.result.1 c.args.key.iface.number)
     (timer_without c.told-first.result.0 c.told-first.result.1 c.args.key.iface.number) _)
-
-pub returns-clause-visited : goal.returns-clause-visited
-returns-clause-visited g c = rw (← c.self.view_is)
-    (record { entries = c.self.invariant.entries; visited = c.alter.ensures.visited })
 
 pub returns-clause-marks : goal.returns-clause-marks
 returns-clause-marks g c = rw (← c.self.view_is)

@@ -12,8 +12,8 @@ change_row-requires c = c.self.invariant.asserts
 pub invariant_of-self : goal.invariant_of-self
 invariant_of-self c = after_asserts c.self.invariant c.change_row.ensures.others c.change_row.ensures.told
 
-pub returns-clause-changed : goal.returns-clause-changed
-returns-clause-changed c = rw (← c.self.view_is)
+pub returns : goal.returns
+returns c = rw (← c.self.view_is)
     (same_beside c.change_row.result
     (λ (t : Table AssertRow) (u : Table JoinTimerRow). record (tables_of c.self.inside) { asserts = t; join_timers = u })
     c.change_row.new.rows _ _ _ c.change_row.ensures.timers c.change_row.ensures.changed)

@@ -1,7 +1,5 @@
 use Rattle.pim_store.specs.Stored.{tables_of}
 use Rattle.pim_store.proofs.Indexed.{after_asserts}
-use Rattle.std.proofs.Common.{refl}
-use Rattle.pim_store.proofs.LookedUp.{looked_up}
 use Rattle.pim_store.proofs.store.Store.drop_assert.Goals as goal
 
 pub drop_row-requires : goal.drop_row-requires
@@ -10,10 +8,6 @@ drop_row-requires c = c.self.invariant.asserts
 pub invariant_of-self : goal.invariant_of-self
 invariant_of-self c = after_asserts c.self.invariant c.drop_row.ensures.others c.drop_row.ensures.told
 
-pub returns-clause-there : goal.returns-clause-there
-returns-clause-there c = rw (← c.self.view_is) (λ there.
-    looked_up _ _ c.self.invariant _ _ refl _ _ (c.drop_row.ensures.there there))
-
-pub returns-clause-dropped : goal.returns-clause-dropped
-returns-clause-dropped c = rw (← c.self.view_is)
+pub returns : goal.returns
+returns c = rw (← c.self.view_is)
     (λ j. record (tables_of c.self.inside) { asserts = c.drop_row.ensures.dropped j; join_timers = c.drop_row.ensures.timers j })

@@ -2,8 +2,8 @@ use Rattle.std.proofs.Common.{◌∙◌}
 use Rattle.pim_store.specs.Stored.{tables_of}
 use Rattle.pim_store.proofs.store.Store.drop_on.Goals as goal
 
-pub returns-clause-dropped : goal.returns-clause-dropped
-returns-clause-dropped c = rw (← c.self.view_is)
+pub returns : goal.returns
+returns c = rw (← c.self.view_is)
     (λ j. record (tables_of c.self.inside) {
       downstream = c.drop_rows_on.ensures.dropped j;
       asserts = c.drop_rows_on-2.ensures.dropped j;

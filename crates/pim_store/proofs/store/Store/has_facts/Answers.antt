@@ -1,6 +1,5 @@
-use Rattle.std.proofs.Common.{Some, ◌∙◌}
-use Rattle.pim_source_trie.proofs.Visited.{raised_alike}
-use Rattle.pim_store.proofs.Walked.{marks_visited, source_marked}
+use Rattle.std.proofs.Common.{◌∙◌}
+use Rattle.pim_store.proofs.Walked.{source_marked}
 use Rattle.pim_store.proofs.store.Store.has_facts.Goals as goal
 
 pub returns-clause-has : goal.returns-clause-has

@@ -6,7 +6,6 @@ use Rattle.pim_tables.proofs.Lookups.{absent}
 use Rattle.pim_store.specs.PimTables.{kept_alive}
 use Rattle.pim_store.specs.Stored.{tables_of}
 use Rattle.pim_store.proofs.KeptAlive.{alive_kept, alive_new, alive_there, with_end}
-use Rattle.pim_store.proofs.LookedUp.{looked_up_new, looked_up_unchanged, not_missing}
 use Rattle.pim_store.proofs.Lowered.{both_same, nothing_changed, same_beside}
 use Rattle.pim_store.proofs.store.Store.keep_alive.Goals as goal
 
@@ -47,14 +46,3 @@ returns-clause-state c = rw (← c.self.view_is)
     (sym c.in_ok-update_row.ensures.there ∙ c.if-branch.false)
     ∙ ap (λ k. put c.self.inside.sources k (kept_alive c.args.end (row_at c.self.inside.sources k))) c.key-key.ensures)
     c.add_row.ensures.put))
-
-pub returns-then-branch-clause-new : goal.returns-then-branch-clause-new
-returns-then-branch-clause-new c = rw (← c.self.view_is)
-    (not_missing c.self.inside.sources c.key-key.result _ c.key-key.ensures
-    (sym c.in_ok-update_row.ensures.there ∙ c.if-branch.true))
-
-pub returns-clause-new : goal.returns-clause-new
-returns-clause-new c = rw (← c.self.view_is)
-    (looked_up_new _ _ c.self.invariant _ _ c.key-key.ensures _ _ c.add_row.result c.self.inside.sources _ c.key-key.ensures
-    (looked_up_unchanged c.add_row.result c.key-key.result _ _ _ _ _ _ (c.in_ok-update_row.ensures.index c.if-branch.false)
-    (c.in_ok-update_row.ensures.meter c.if-branch.false) c.add_row.ensures.visited))

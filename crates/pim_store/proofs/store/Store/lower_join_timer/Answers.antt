@@ -1,21 +1,15 @@
-use Rattle.std.proofs.Common.{refl}
 use Rattle.pim_types.specs.declared.fact.JoinTimerRow.{JoinTimerRow}
 use Rattle.pim_model.specs.Tables.{Table}
 use Rattle.pim_store.specs.Said.{timers_in}
 use Rattle.pim_store.specs.Stored.{tables_of}
 use Rattle.pim_store.proofs.Indexed.{after_join_timers}
-use Rattle.pim_store.proofs.LookedUp.{looked_up}
 use Rattle.pim_store.proofs.Lowered.{same_on_ok}
 use Rattle.pim_store.proofs.store.Store.lower_join_timer.Goals as goal
 
 pub invariant_of-self : goal.invariant_of-self
 invariant_of-self c = after_join_timers c.self.invariant c.change_timer.ensures.marks
 
-pub returns-clause-visited : goal.returns-clause-visited
-returns-clause-visited c = rw (← c.self.view_is)
-    (looked_up _ _ c.self.invariant _ _ refl _ _ c.change_timer.ensures.visited)
-
-pub returns-clause-lowered : goal.returns-clause-lowered
-returns-clause-lowered c = rw (← c.self.view_is)
+pub returns : goal.returns
+returns c = rw (← c.self.view_is)
     (same_on_ok c.change_timer.result (λ (u : Table JoinTimerRow). record (tables_of c.self.inside) { join_timers = u })
     (timers_in c.change_timer.new.self) _ c.change_timer.ensures.changed)

@@ -1,25 +1,20 @@
-use Rattle.std.proofs.Common.{◌≡◌, OnOk, false, subst, sym, ◌∙◌}
+use Rattle.std.proofs.Common.{◌≡◌, OnOk, subst}
 use Rattle.pim_types.specs.declared.fact.JoinTimerRow.{JoinTimerRow}
 use Rattle.pim_model.specs.Tables.{Table, set_row}
 use Rattle.pim_store.specs.Said.{timers_in}
 use Rattle.pim_store.specs.Stored.{tables_of}
 use Rattle.pim_store.proofs.Indexed.{after_join_timers}
-use Rattle.pim_store.proofs.LookedUp.{entry_named, fact_named, looked_up}
+use Rattle.pim_store.proofs.Places.{entry_named}
 use Rattle.pim_store.proofs.Lowered.{same_on_ok}
 use Rattle.pim_store.proofs.store.Store.set_join_timer.Goals as goal
 
 pub invariant_of-self : goal.invariant_of-self
 invariant_of-self c = after_join_timers c.self.invariant c.set_timer.ensures.marks
 
-pub returns-clause-set : goal.returns-clause-set
-returns-clause-set c = rw (← c.self.view_is)
+pub returns : goal.returns
+returns c = rw (← c.self.view_is)
     (same_on_ok c.set_timer.result (λ (u : Table JoinTimerRow). record (tables_of c.self.inside) { join_timers = u })
     (timers_in c.set_timer.new.self) _
     (subst
     (λ k. OnOk c.set_timer.result (timers_in c.set_timer.new.self ≡ set_row (timers_in c.self.inside.index) k c.args.row))
     (entry_named c.plain_key.result c.args.group c.args.source c.plain_key.ensures) c.set_timer.ensures.set))
-
-pub returns-clause-visited : goal.returns-clause-visited
-returns-clause-visited c = rw (← c.self.view_is)
-    (looked_up _ _ c.self.invariant _ _ (c.plain_key.ensures ∙ sym (fact_named 0 c.args.group c.args.source false)) _ _
-    c.set_timer.ensures.visited)

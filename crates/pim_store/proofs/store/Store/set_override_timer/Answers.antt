@@ -5,7 +5,6 @@ use Rattle.pim_store.specs.Stored.{tables_of}
 use Rattle.pim_model.specs.Tables.{Table, set_row}
 use Rattle.pim_types.specs.declared.fact.JoinTimerRow.{JoinTimerRow}
 use Rattle.pim_store.proofs.Indexed.{after_override_timers}
-use Rattle.pim_store.proofs.LookedUp.{looked_up, looked_up_new}
 use Rattle.pim_store.proofs.store.Store.set_override_timer.Goals as goal
 
 pub set_row-requires-clause-told : goal.set_row-requires-clause-told
@@ -14,17 +13,8 @@ set_row-requires-clause-told c = c.self.invariant.override_timers
 pub invariant_of-self : goal.invariant_of-self
 invariant_of-self c = after_override_timers c.self.invariant c.set_row.ensures.others c.set_row.ensures.told
 
-pub returns-clause-new : goal.returns-clause-new
-returns-clause-new c = rw (← c.self.view_is)
-    (looked_up_new _ _ c.self.invariant _ _ c.rpt_key-key.ensures _ _ c.set_row.result c.self.inside.override_timers _ c.rpt_key-key.ensures
-    c.set_row.ensures.new)
-
-pub returns-clause-gone : goal.returns-clause-gone
-returns-clause-gone c = rw (← c.self.view_is) (λ none.
-    looked_up _ _ c.self.invariant _ _ c.rpt_key-key.ensures _ _ (c.set_row.ensures.gone none))
-
-pub returns-clause-set : goal.returns-clause-set
-returns-clause-set c = rw (← c.self.view_is)
+pub returns : goal.returns
+returns c = rw (← c.self.view_is)
     (same_beside c.set_row.result
     (λ (t : Table OverrideTimerRow) (u : Table JoinTimerRow). record (tables_of c.self.inside) { override_timers = t; join_timers = u })
     c.set_row.new.rows _ _ _ c.set_row.ensures.timers

@@ -1,0 +1,48 @@
+-- What an event is to do: of which event it is, and what was read for it.
+use Rattle.std.proofs.Common.{◌≡◌, ℕ, subst, sym, ◌∙◌}
+use Rattle.pim_types.specs.declared.config.IfaceId.{IfaceId}
+use Rattle.pim_wire.specs.Values.{JoinPrune}
+use Rattle.pim_model.specs.declared.accepted.Accepted.{Accepted}
+use Rattle.pim_model.specs.Downstream.{joined_keys, pruned_keys}
+use Rattle.pim_model.specs.State.{State}
+use Rattle.pim_downstream.specs.Naming.{changes_after}
+use Rattle.pim_downstream.specs.declared.named.Named.{Named}
+use Rattle.pim_event.specs.Acting.{HasHeard, HasKeys, control_event, act_event}
+use Rattle.pim_event.specs.declared.act.Act.{Act}
+use Rattle.pim_event.specs.declared.act.Control.{Control}
+
+-- none lets time pass
+pub control_timeless : (s : State) (control : Control) (m : ℕ) → ¬ (control_event s control ≡ Accepted.Advance m)
+control_timeless s (Control.Up i) m is = cc is
+control_timeless s (Control.Down i) m is = cc is
+control_timeless s (Control.Routes table) m is = cc is
+control_timeless s (Control.Ranges table) m is = cc is
+control_timeless s (Control.Hello i from h) m is = cc is
+control_timeless s (Control.JoinPruneToMe i message named changes) m is = cc is
+control_timeless s (Control.JoinPruneSeen i message named) m is = cc is
+control_timeless s (Control.Assert i from a) m is = cc is
+control_timeless s (Control.Query i from q) m is = cc is
+control_timeless s (Control.Report i records) m is = cc is
+control_timeless s (Control.RegisterStop from stop) m is = cc is
+
+pub timeless : (s : State) (act : Act) (m : ℕ) → ¬ (act_event s act ≡ Accepted.Advance m)
+timeless s (Act.Data i p sight) m is = cc is
+timeless s (Act.Register p r) m is = cc is
+timeless s (Act.Control control) m is = control_timeless s control m is
+
+-- ---- a Join/Prune
+
+module _ (s : State) (control : Control) (i : IfaceId) (message : JoinPrune) (named : Named) where
+  module _ (changes : _) (is : control ≡ Control.JoinPruneToMe i message named changes) (heard : HasHeard s control) where
+    pub to_me_heard : HasKeys (joined_keys s i.number message) (pruned_keys i.number message) named
+    to_me_heard = (subst (λ (x : Control). HasHeard s x) is heard).0
+
+    pub to_me_changes : (holdtime : ℕ) → holdtime ≡ message.holdtime
+        → changes.items ≡ changes_after s i.number holdtime named.joined.items named.pruned.items
+    to_me_changes holdtime lasts =
+        (subst (λ (x : Control). HasHeard s x) is heard).1
+        ∙ sym (λ j. changes_after s i.number (lasts j) (to_me_heard.joins j) (to_me_heard.prunes j))
+
+  pub seen_heard : control ≡ Control.JoinPruneSeen i message named → HasHeard s control
+      → HasKeys (joined_keys s i.number message) (pruned_keys i.number message) named
+  seen_heard is heard = subst (λ (x : Control). HasHeard s x) is heard

@@ -1,0 +1,178 @@
+-- Where what is accepted is about an interface, that is one of the router's; where it is about a moment, that is one
+-- that an event may have; and routes and RP ranges are those of the event.
+use Rattle.std.proofs.Common.{◌≡◌, ◌<◌, ◌≤◌, ℕ, Bool, true, false, not, nat_le, nat_lt, Ok, Err, List, length, arith, refl, subst, sym, ◌∙◌, ◌==◌, ◌&&◌}
+use Rattle.std.proofs.lemmas.Bool.Decides.{nat_tests}
+use Rattle.std.specs.Prelude.{if◌then◌else◌}
+use Rattle.pim_ip.specs.Addr.{addr}
+use Rattle.pim_ip.specs.Ipv4.{Packet, all_pim_routers, frame_limit, ipv4_reading, is_link_local, is_multicast, protocol_igmp, protocol_pim}
+use Rattle.pim_ip.specs.declared.refusal.Refusal.{Refusal}
+use Rattle.pim_types.specs.declared.config.IfaceId.{IfaceId}
+use Rattle.pim_types.specs.declared.event.EventKind.{EventKind}
+use Rattle.pim_types.specs.declared.outcome.Ignored.{Ignored}
+use Rattle.pim_types.specs.declared.outcome.Stop.{Stop}
+use Rattle.pim_wire.specs.Messages.{pim_reading}
+use Rattle.pim_wire.specs.RegisterParts.{registered_group}
+use Rattle.pim_wire.specs.Values.{JoinPrune}
+use Rattle.pim_wire.specs.declared.view.PimView.{PimView}
+use Rattle.igmp_wire.specs.Messages.{igmp_reading}
+use Rattle.igmp_wire.specs.declared.view.IgmpView.{IgmpView}
+use Rattle.pim_model.specs.declared.accepted.Accepted.{Accepted}
+use Rattle.pim_model.specs.Hellos.{hello_holdtime_of}
+use Rattle.pim_model.specs.Judging.{Judged, advance_judged, assert_judged, data_judged, down_judged, frame_judged, hello_judged, igmp_accepted, igmp_judged, igmp_message_judged, ignore_if, join_prune_judged, judged, last_moment, of_read, packet_judged, pim_judged, pim_message_judged, pim_to_me_judged, refuse_if, register_judged, register_stop_judged, routes_judged, rps_judged, unicast_judged, unicast_packet_judged, up_judged, ◌>>◌}
+use Rattle.pim_model.specs.Limits.{are_routes, are_rps}
+use Rattle.pim_model.specs.Neighbours.{is_neighbour}
+use Rattle.pim_model.specs.State.{InterfaceTable, State, iface_count, interfaces_of, is_own, is_up, my_address}
+use Rattle.pim_model.specs.Unicast.{is_rp}
+use Rattle.pim_mrib.specs.Routes.{RouteTable}
+use Rattle.pim_intake.specs.Admitted.{IsTableOf}
+use Rattle.pim_event.specs.Naming.{Brings, IsConfigured}
+use Rattle.pim_event.proofs.Judgements.{FitsTo, Says, choosing, ignoring, reading, refusing, three, two}
+
+below : (i n : ℕ) → nat_le n i ≡ false → i < n
+below i n e = grind (arith, nat_tests, e)
+
+within : (m n : ℕ) → nat_lt n m ≡ false → m ≤ n
+within m n e = grind (arith, nat_tests, e)
+
+-- the event brings the routes, or the RP ranges, that are accepted
+abbrev IsBroughtBy : EventKind → Accepted → Type 0
+IsBroughtBy kind (Accepted.Routes routes) = kind ≡ EventKind.Routes routes
+IsBroughtBy kind (Accepted.Rps ranges) = kind ≡ EventKind.Rps ranges
+IsBroughtBy kind _ = Unit {0}
+
+module _ (s : State) (whole : EventKind) where
+  abbrev Fits : Judged → Type 0
+  Fits = FitsTo (λ a. IsConfigured s a × IsBroughtBy whole a)
+
+  -- ---- a frame on an interface of the router
+
+  module _ (i : IfaceId) (known : i.number < iface_count s) where
+    join_prune : (m : JoinPrune) (b : Bool)
+        → Fits (Ok (if b then Accepted.JoinPruneToMe i m else Accepted.JoinPruneSeen i m))
+    join_prune m true = record { says = (known, tt) }
+    join_prune m false = record { says = (known, tt) }
+
+    pim : (from : ℕ) (v : PimView) → Fits (pim_judged s i from v)
+    unfolding pim_judged hello_judged join_prune_judged assert_judged
+    pim from (PimView.Hello h) =
+        ignoring ((hello_holdtime_of h == 0) && not (is_neighbour s i.number from)) Ignored.NoNeighbour
+        (Ok (Accepted.Hello i (addr from) h)) (record { says = (known, tt) })
+    pim from (PimView.JoinPrune m) =
+        ignoring (not (is_neighbour s i.number from)) Ignored.NoNeighbour _
+        (join_prune m (m.upstream == my_address s i.number))
+    pim from (PimView.Assert a) =
+        three (not (a.mask_length == 32)) (is_link_local a.group.bits) (not (is_neighbour s i.number from))
+        Ignored.Mask Ignored.LinkLocal Ignored.NoNeighbour (Ok (Accepted.Assert i (addr from) a))
+        (record { says = (known, tt) })
+    pim from PimView.Other = record { says = tt }
+    pim from (PimView.Register r) = record { says = tt }
+    pim from (PimView.RegisterStop r) = record { says = tt }
+
+    igmp : (from : ℕ) (v : IgmpView) → Fits (Ok (igmp_accepted i from v))
+    igmp from (IgmpView.Query q) = record { says = (known, tt) }
+    igmp from (IgmpView.Report records) = record { says = (known, tt) }
+
+    of_data : (p : Packet) → Fits (data_judged s i p)
+    unfolding data_judged
+    of_data p =
+        three (is_own s p.source) (not (is_multicast p.destination)) (is_link_local p.destination)
+        Ignored.Own Ignored.NotForMe Ignored.LinkLocal (Ok (Accepted.Data i p)) (record { says = (known, tt) })
+
+    packet : (p : Packet) → Fits (packet_judged s i p)
+    unfolding packet_judged pim_message_judged igmp_message_judged igmp_judged
+    packet p =
+        choosing ((p.protocol == protocol_pim) && (p.destination == all_pim_routers)) (pim_message_judged s i p) _
+        (reading (pim_reading p.payload) (λ m. ignore_if (is_own s p.source) Ignored.Own >> pim_judged s i p.source m)
+        (λ m. ignoring (is_own s p.source) Ignored.Own (pim_judged s i p.source m) (pim p.source m)))
+        (choosing (p.protocol == protocol_igmp) (igmp_message_judged s i p) (data_judged s i p)
+        (reading (igmp_reading p.payload) (igmp_judged s i p)
+        (λ m. two (is_own s p.source) (not (is_multicast p.destination)) Ignored.Own Ignored.NotForMe
+        (Ok (igmp_accepted i p.source m)) (igmp p.source m)))
+        (of_data p))
+
+  frame : (i : IfaceId) (bytes : List ℕ) → Fits (frame_judged s i bytes)
+  unfolding frame_judged
+  frame i bytes =
+      let read : Judged = of_read (ipv4_reading bytes) (packet_judged s i) in
+      let short : Judged = refuse_if (nat_lt frame_limit (length bytes)) Refusal.BadLength >> read in
+      let up : Judged = refuse_if (not (is_up s i.number)) Refusal.InterfaceDown >> short in
+      refusing (nat_le (iface_count s) i.number) Refusal.NoInterface up
+      (λ e. refusing (not (is_up s i.number)) Refusal.InterfaceDown short
+      (λ _. refusing (nat_lt frame_limit (length bytes)) Refusal.BadLength read
+      (λ _. reading (ipv4_reading bytes) (packet_judged s i) (packet i (below i.number (iface_count s) e)))))
+
+  -- ---- other events
+
+  to_me : (p : Packet) (v : PimView) → Fits (pim_to_me_judged s p v)
+  unfolding pim_to_me_judged register_judged register_stop_judged
+  to_me p (PimView.Register r) =
+      ignoring (is_link_local (registered_group r)) Ignored.LinkLocal (Ok (Accepted.Register p r))
+      (record { says = (tt, tt) })
+  to_me p (PimView.RegisterStop r) =
+      two (not (r.mask_length == 32)) (not (is_rp s r.group.bits p.source)) Ignored.Mask Ignored.NotRp
+      (Ok (Accepted.RegisterStop (addr p.source) r)) (record { says = (tt, tt) })
+  to_me p (PimView.Hello h) = record { says = tt }
+  to_me p (PimView.JoinPrune m) = record { says = tt }
+  to_me p (PimView.Assert a) = record { says = tt }
+  to_me p PimView.Other = record { says = tt }
+
+  unicast : (bytes : List ℕ) → Fits (unicast_judged s bytes)
+  unfolding unicast_judged unicast_packet_judged
+  unicast bytes =
+      reading (ipv4_reading bytes) (unicast_packet_judged s)
+      (λ p. choosing (p.protocol == protocol_pim) _ (Err (Stop.Ignore Ignored.NotForMe))
+      (reading (pim_reading p.payload)
+      (λ m. ignore_if (not (is_own s p.destination)) Ignored.NotForMe >> pim_to_me_judged s p m)
+      (λ m. ignoring (not (is_own s p.destination)) Ignored.NotForMe (pim_to_me_judged s p m) (to_me p m)))
+      (record { says = tt }))
+
+-- ---- any event
+
+module _ (s : State) where
+  any : (kind : EventKind) → Fits s kind (judged s kind)
+  unfolding judged up_judged down_judged advance_judged routes_judged rps_judged
+  any (EventKind.Advance moment) =
+      refusing (nat_lt moment s.present) Refusal.MomentBack
+      (refuse_if (nat_lt last_moment moment) Refusal.MomentFar >> Ok (Accepted.Advance moment))
+      (λ _. refusing (nat_lt last_moment moment) Refusal.MomentFar (Ok (Accepted.Advance moment))
+      (λ e. record { says = (within moment last_moment e, tt) }))
+  any (EventKind.Frame i bytes) = frame s (EventKind.Frame i bytes) i bytes
+  any (EventKind.Unicast bytes) = unicast s (EventKind.Unicast bytes) bytes
+  any (EventKind.Up i) =
+      refusing (nat_le (iface_count s) i.number) Refusal.NoInterface _
+      (λ e. ignoring (is_up s i.number) Ignored.Already (Ok (Accepted.Up i))
+      (record { says = (below i.number (iface_count s) e, tt) }))
+  any (EventKind.Down i) =
+      refusing (nat_le (iface_count s) i.number) Refusal.NoInterface _
+      (λ e. ignoring (not (is_up s i.number)) Ignored.Already (Ok (Accepted.Down i))
+      (record { says = (below i.number (iface_count s) e, tt) }))
+  any (EventKind.Routes routes) =
+      refusing (not (are_routes s.configured routes)) Refusal.BadRoutes (Ok (Accepted.Routes routes))
+      (λ e. record { says = (tt, refl) })
+  any (EventKind.Rps ranges) =
+      refusing (not (are_rps ranges)) Refusal.BadRps (Ok (Accepted.Rps ranges)) (λ e. record { says = (tt, refl) })
+
+  accepted_of : (kind : EventKind) (j : Judged) (a : Accepted) → j ≡ judged s kind → j ≡ Ok a
+      → IsConfigured s a × IsBroughtBy kind a
+  accepted_of kind j a e f =
+      subst (λ (x : Judged). Says (λ a. IsConfigured s a × IsBroughtBy kind a) x) (sym e ∙ f) (any kind).says
+
+  pub configured : (kind : EventKind) (j : Judged) (a : Accepted) → j ≡ judged s kind → j ≡ Ok a → IsConfigured s a
+  configured kind j a e f = (accepted_of kind j a e f).0
+
+  of_event : (kind : EventKind) (a : Accepted) (table : RouteTable) → IsBroughtBy kind a → IsTableOf kind table
+      → Brings a table
+  of_event kind (Accepted.Routes routes) table is of = subst (λ (k : EventKind). IsTableOf k table) is of
+  of_event kind (Accepted.Rps ranges) table is of = subst (λ (k : EventKind). IsTableOf k table) is of
+  of_event kind a table is of = tt
+
+  pub brings : (kind : EventKind) (a : Accepted) (table : RouteTable) → judged s kind ≡ Ok a → IsTableOf kind table
+      → Brings a table
+  brings kind a table heard of = of_event kind a table (accepted_of kind (judged s kind) a refl heard).1 of
+
+  pub data_below : (kind : EventKind) (i : IfaceId) (p : Packet) → judged s kind ≡ Ok (Accepted.Data i p)
+      → (lent : InterfaceTable) → lent ≡ interfaces_of s → length lent.configured ≤ 120 → i.number < 120
+  data_below kind i p heard lent lends few =
+      let below : i.number < iface_count s = configured kind (judged s kind) (Accepted.Data i p) refl heard in
+      let within : length s.configured ≤ 120 = subst (λ (x : InterfaceTable). length x.configured ≤ 120) lends few in
+      omega (arith, below, within)

@@ -1,0 +1,31 @@
+mod Acts
+mod Caching
+mod Following
+mod Asserted
+mod Configured
+pub mod Costs
+pub mod Disturbing
+mod Firings
+mod Frames
+mod IgmpFacts
+mod Growing
+mod Heard
+mod Instants
+pub mod Listing
+mod Judgements
+mod MovedEnds
+mod MovedReports
+mod Plainly
+mod Rows
+mod Sending
+pub mod Staying
+mod Settling
+mod SourceEnds
+pub mod Taking
+mod OtherRoutes
+mod Packets
+mod Plans
+mod Repeats
+mod Direct
+mod Touching
+mod Tunnelled

@@ -1,0 +1,60 @@
+use Rattle.std.proofs.Common.{List, [], ap, refl, sym, ◌∙◌}
+use Rattle.pim_types.specs.declared.fact.Key.{Key}
+use Rattle.pim_types.specs.declared.fact.NeighbourRow.{NeighbourRow}
+use Rattle.pim_model.specs.declared.accepted.Accepted.{Accepted}
+use Rattle.pim_model.specs.Full.{is_full}
+use Rattle.pim_model.specs.Tables.{Table}
+use Rattle.pim_neighbours.specs.Refreshed.{is_refreshed}
+use Rattle.pim_adjacent.specs.Adjacent.{keys_of_hello}
+use Rattle.pim_event.specs.Ends.{few_or_all}
+use Rattle.pim_world.specs.declared.touched.Touched.{Touched}
+use Rattle.pim_event.specs.Planning.{touched_of}
+use Rattle.pim_event.specs.declared.act.Act.{Act}
+use Rattle.pim_event.specs.declared.act.Control.{Control}
+use Rattle.pim_event.proofs.Plans.{adjoins_fit, all_fit, all_where, keys_fit, keys_where, touched_where}
+use Rattle.pim_event.proofs.Touching.{hello_moves, refreshed_covered}
+use Rattle.pim_event.proofs.plan.plan_hello.Goals as goal
+
+pub returns-then-is_full : goal.returns-then-is_full
+unfolding is_full
+returns-then-is_full c = sym c.is_full.ensures ∙ c.if-is_full.true
+
+pub returns-then-is_refreshed : goal.returns-then-is_refreshed
+unfolding is_full touched_of
+returns-then-is_refreshed c =
+    let tested = c.is_refreshed.ensures
+    ∙ ap (λ (t : Table NeighbourRow). is_refreshed t c.args.iface.number c.args.from.bits c.args.hello)
+    c.neighbours.ensures in
+    keys_fit c.args.world.now (Accepted.Hello c.args.iface c.args.from c.args.hello) c.of_nothing.result
+    (Act.Control (Control.Hello c.args.iface c.args.from c.args.hello)) refl tt
+    (sym c.is_full.ensures ∙ c.if-is_full.false) [] c.of_nothing.ensures
+    (keys_where _ [] [] _ (sym tested ∙ c.if-is_refreshed.true) refl)
+    (refreshed_covered c.args.world.now c.args.iface c.args.from c.args.hello [] c.is_refreshed.result
+    c.requires.settled.ordered.neighbours tested c.if-is_refreshed.true refl)
+
+pub returns-then-hello_keeps_dr : goal.returns-then-hello_keeps_dr
+unfolding is_full touched_of
+returns-then-hello_keeps_dr c =
+    let tested = c.is_refreshed.ensures
+    ∙ ap (λ (t : Table NeighbourRow). is_refreshed t c.args.iface.number c.args.from.bits c.args.hello)
+    c.neighbours.ensures in
+    let keeps = sym c.hello_keeps_dr.ensures ∙ c.if-hello_keeps_dr.true in
+    let s = c.args.world.now in
+    let keys = keys_of_hello s c.args.iface.number c.args.from.bits c.args.hello in
+    adjoins_fit s (Act.Control (Control.Hello c.args.iface c.args.from c.args.hello)) keys c.few_or_all-touched.result tt
+    (c.few_or_all-touched.ensures ∙ ap (λ (ks : List Key). few_or_all ks) c.in_ok-keys_of_hello.ensures)
+    (touched_where _ _ (few_or_all keys) _ (Touched.Keys []) (sym tested ∙ c.if-is_refreshed.false) keeps refl)
+    (sym c.is_full.ensures ∙ c.if-is_full.false)
+    (hello_moves s c.args.iface c.args.from c.args.hello keeps)
+
+pub returns : goal.returns
+unfolding is_full touched_of
+returns c =
+    let tested = c.is_refreshed.ensures
+    ∙ ap (λ (t : Table NeighbourRow). is_refreshed t c.args.iface.number c.args.from.bits c.args.hello)
+    c.neighbours.ensures in
+    all_fit c.args.world.now (Accepted.Hello c.args.iface c.args.from c.args.hello) c.of_all.result
+    (Act.Control (Control.Hello c.args.iface c.args.from c.args.hello)) refl tt
+    (sym c.is_full.ensures ∙ c.if-is_full.false) c.of_all.ensures
+    (all_where _ _ (Touched.Keys []) _ (sym tested ∙ c.if-is_refreshed.false)
+    (sym c.hello_keeps_dr.ensures ∙ c.if-hello_keeps_dr.false)) tt

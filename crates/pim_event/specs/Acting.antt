@@ -1,0 +1,70 @@
+-- What an event is to do: which event it is of, and what was read for it.
+use Rattle.std.specs.Prelude.{List, None, Option, Some, ◌≡◌, ℕ}
+use Rattle.pim_types.specs.declared.config.Route.{Route}
+use Rattle.pim_types.specs.declared.config.RpRange.{RpRange}
+use Rattle.pim_types.specs.declared.fact.Key.{Key}
+use Rattle.pim_model.specs.declared.accepted.Accepted.{Accepted}
+use Rattle.pim_model.specs.Downstream.{joined_keys, pruned_keys}
+use Rattle.pim_model.specs.State.{State}
+use Rattle.pim_downstream.specs.Naming.{changes_after}
+use Rattle.pim_downstream.specs.declared.named.Named.{Named}
+use Rattle.pim_macros.specs.Sights.{IsSourceSight}
+use Rattle.pim_macros.specs.declared.sight.SourceSight.{SourceSight}
+use Rattle.pim_mrib.specs.Routes.{RouteTable}
+use Rattle.pim_event.specs.declared.act.Act.{Act}
+use Rattle.pim_event.specs.declared.act.Control.{Control}
+
+-- ---- of which event it is
+
+-- The routes, or the RP ranges, that a table brings; without a table they are those of the state.
+abbrev pub routes_by : State → Option RouteTable → List Route
+routes_by s None = s.routes
+routes_by s (Some table) = table.routes
+
+abbrev pub ranges_by : State → Option RouteTable → List RpRange
+ranges_by s None = s.ranges
+ranges_by s (Some table) = table.ranges
+
+abbrev pub control_event : State → Control → Accepted
+control_event s (Control.Up i) = Accepted.Up i
+control_event s (Control.Down i) = Accepted.Down i
+control_event s (Control.Routes table) = Accepted.Routes (routes_by s table)
+control_event s (Control.Ranges table) = Accepted.Rps (ranges_by s table)
+control_event s (Control.Hello i from h) = Accepted.Hello i from h
+control_event s (Control.JoinPruneToMe i m named changes) = Accepted.JoinPruneToMe i m
+control_event s (Control.JoinPruneSeen i m named) = Accepted.JoinPruneSeen i m
+control_event s (Control.Assert i from a) = Accepted.Assert i from a
+control_event s (Control.Query i from q) = Accepted.Query i from q
+control_event s (Control.Report i records) = Accepted.Report i records
+control_event s (Control.RegisterStop from stop) = Accepted.RegisterStop from stop
+
+abbrev pub act_event : State → Act → Accepted
+act_event s (Act.Data i p sight) = Accepted.Data i p
+act_event s (Act.Register p r) = Accepted.Register p r
+act_event s (Act.Control control) = control_event s control
+
+-- ---- what was read for it
+
+-- The keys that a Join/Prune names.
+pub record HasKeys (joined pruned : List Key) (named : Named) : Type 0 where
+  pub joins : named.joined.items ≡ joined
+  pub prunes : named.pruned.items ≡ pruned
+
+-- What is read for a packet of (S,G): the sight of its source.
+pub record IsSightOf (s : State) (g src : ℕ) (sight : SourceSight) : Type 0 where
+  pub shown : IsSourceSight s sight
+  pub group : sight.star.group.bits ≡ g
+  pub source : sight.source.bits ≡ src
+
+-- What is read for a Join/Prune: its keys and, where it is to the router, what becomes of their rows.
+abbrev pub HasHeard : State → Control → Type 0
+HasHeard s (Control.JoinPruneToMe i m named changes) =
+    HasKeys (joined_keys s i.number m) (pruned_keys i.number m) named
+    × (changes.items ≡ changes_after s i.number m.holdtime (joined_keys s i.number m) (pruned_keys i.number m))
+HasHeard s (Control.JoinPruneSeen i m named) = HasKeys (joined_keys s i.number m) (pruned_keys i.number m) named
+HasHeard s _ = Unit {0}
+
+abbrev pub HasRead : State → Act → Type 0
+HasRead s (Act.Data i p sight) = IsSightOf s p.destination p.source sight
+HasRead s (Act.Control control) = HasHeard s control
+HasRead s _ = Unit {0}

@@ -1,0 +1,79 @@
+-- Which sources an event disturbs, exactly: those that its change touches, by their key or by their group, and those that
+-- a timer of an Advance touches when it expires.
+use Rattle.std.specs.Prelude.{Bool, Err, List, Ok, [], false, if◌then◌else◌, is_some, length, ℕ, ◌&&◌, ◌+◌, ◌-◌, ◌∷◌, ◌≡◌}
+use Rattle.pim_types.specs.declared.event.Event.{Event}
+use Rattle.pim_model.specs.declared.accepted.Accepted.{Accepted}
+use Rattle.pim_model.specs.Firing.{fire_once}
+use Rattle.pim_model.specs.Full.{is_full, passes_limit}
+use Rattle.pim_model.specs.Judging.{Judged, judged}
+use Rattle.pim_model.specs.Plain.{fact_key}
+use Rattle.pim_model.specs.Repeat.{until_none}
+use Rattle.pim_model.specs.State.{State}
+use Rattle.pim_model.specs.Step.{step}
+use Rattle.pim_model.specs.Tables.{has_row, same_bool}
+use Rattle.pim_model.specs.Timers.{Ending, next_due, timers}
+use Rattle.pim_cached.specs.Decided.{decided_by_answers}
+use Rattle.pim_world.specs.declared.touched.Touched.{Touched}
+use Rattle.pim_fanout.specs.Disturbed.{joined}
+use Rattle.pim_event.specs.Ends.{touched_by_end}
+use Rattle.pim_event.specs.Planning.{touched_of}
+use Rattle.pim_event.specs.Staying.{disturbed_by}
+
+-- ---- an Advance
+
+-- What `told` says of each firing of an Advance, by the state before it and the timer that expires. The firings are those
+-- of `fire_all`, in its order.
+module _ {X : Type 0} (told : State → Ending → List X) (w : ℕ) where
+  unfoldable pub ended_once : State → Ending → State × List X
+  ended_once s e = ((fire_once w s e).0, told s e)
+
+  unfoldable pub ended_instant : State → Ending → State × List X
+  ended_instant s e = until_none (next_due e.end) ended_once (length (timers s) + 1) s
+
+  unfoldable pub ended_all : ℕ → State → State × List X
+  ended_all moment s = until_none (next_due moment) ended_instant (moment + 2 - s.present) s
+
+-- What one firing touches, as a list of one.
+abbrev pub touched_at : State → Ending → List Touched
+touched_at s e = touched_by_end s e.timer.kind e.timer.key ∷ []
+
+-- What several firings touch together.
+unfoldable pub joined_all : List Touched → Touched
+joined_all [] = Touched.Keys []
+joined_all (touched ∷ later) = joined touched (joined_all later)
+
+-- ---- an event
+
+-- What an accepted event disturbs, if there is room for it.
+unfoldable pub disturbed_of : State → ℕ → Accepted → Touched
+disturbed_of s w (Accepted.Advance moment) = joined_all (ended_all touched_at w moment s).1
+disturbed_of s w a = disturbed_by a (touched_of s a)
+
+-- An event that is refused or ignored, or for which there is no room, disturbs nothing.
+abbrev pub where_disturbed : State → (Accepted → Touched) → Judged → Touched
+where_disturbed s told (Err stop) = Touched.Keys []
+where_disturbed s told (Ok a) = if is_full s a then Touched.Keys [] else told a
+
+-- Where the event takes the room for one more fact, or makes such room, it disturbs all sources, since each source without
+-- a fact is then answered otherwise.
+unfoldable pub disturbed_with_room : State → Event → Touched
+disturbed_with_room s e =
+    if same_bool (passes_limit s 1) (passes_limit (step s e).state 1)
+    then where_disturbed s (disturbed_of s e.draw) (judged s e.kind) else Touched.All
+
+-- The event is a packet of data of a source with a fact, and the answers of the source decide it.
+abbrev pub goes_by_answers : State → Judged → Bool
+goes_by_answers s (Ok (Accepted.Data i p)) = has_row s.sources (fact_key p) && is_some (decided_by_answers s i p)
+goes_by_answers s _ = false
+
+-- What an event disturbs. A packet that the answers of its source decide disturbs nothing: it moves a keepalive timer at
+-- most.
+unfoldable pub event_disturbed : State → Event → Touched
+event_disturbed s e =
+    if goes_by_answers s (judged s e.kind) then Touched.Keys [] else disturbed_with_room s e
+
+-- What the last of a list of events disturbs.
+abbrev pub IsLastDisturbed : State → List Event → Touched → Type 0
+IsLastDisturbed s [] disturbed = Unit {0}
+IsLastDisturbed s (e ∷ []) disturbed = disturbed ≡ event_disturbed s e
+IsLastDisturbed s (e ∷ es) disturbed = IsLastDisturbed (step s e).state es disturbed

@@ -1,0 +1,409 @@
+//! One event: its tests, its change where there is room for its facts, and what follows of the change.
+ghost use Rattle.std.specs.List.Sorted.{IsStrictlySortedBy};
+ghost use Rattle.std.specs.Prelude.{◌≡◌, ◌<◌, [], IfOk, IsOk, IsOkUnless, IsTrue, Ok, OnOk, false, if◌then◌else◌, not, true};
+ghost use Rattle.pim_fanout.specs.Disturbed.{joined};
+ghost use Rattle.pim_fanout.specs.Laws.{names_of};
+ghost use Rattle.pim_fanout.specs.Refreshing.{touches, touches_in};
+ghost use Rattle.pim_fanout.specs.Named.{keys_of};
+ghost use Rattle.pim_ip.specs.declared.fault.Fault.{Fault};
+ghost use Rattle.pim_locality.specs.Rest.{IsAtRest};
+ghost use Rattle.pim_mfc.specs.Laws.{ShowsRows};
+ghost use Rattle.pim_model.specs.Cache.{cached};
+ghost use Rattle.pim_model.specs.declared.accepted.Accepted.{Accepted};
+ghost use Rattle.pim_model.specs.Reach.{where_accepted};
+ghost use Rattle.pim_model.specs.State.{State};
+ghost use Rattle.pim_model.specs.Step.{change, outcome_of, step, taken, taken_unless_full};
+ghost use Rattle.pim_model.specs.Sure.{needs_no_memory};
+ghost use Rattle.pim_reach.specs.Named.{named_of};
+ghost use Rattle.pim_mfc.specs.Kept.{ForwardsAs, decided};
+ghost use Rattle.pim_model.specs.Plain.{IsPlainEvent, fact_key};
+ghost use Rattle.pim_model.specs.Tables.{has_row, same_bool};
+ghost use Rattle.pim_event.specs.Acting.{control_event, act_event};
+ghost use Rattle.pim_event.specs.Costs.{IsWithinPath};
+ghost use Rattle.pim_event.specs.Disturbing.{disturbed_of, goes_by_answers, where_disturbed};
+ghost use Rattle.pim_intake.specs.Memory.{is_frame};
+ghost use Rattle.pim_ip.specs.Ipv4.{Packet};
+ghost use Rattle.pim_model.specs.Judging.{judged};
+ghost use Rattle.pim_types.specs.declared.config.IfaceId.{IfaceId as IfaceValue};
+ghost use Rattle.pim_event.specs.Caching.{CacheAfter, CacheFollows};
+ghost use Rattle.pim_event.specs.Naming.{Brings, IsConfigured};
+ghost use Rattle.pim_event.specs.Planning.{Fits};
+ghost use Rattle.pim_event.specs.Settling.{AreNames};
+ghost use Rattle.pim_offload.specs.Staying.{is_rerouting};
+ghost use Rattle.pim_event.specs.Stops.{stop_outcome};
+ghost use Rattle.pim_trie.specs.Meter.{raised};
+ghost use Rattle.pim_types.specs.Keys.{key_cmp};
+ghost use Rattle.pim_world.specs.declared.touched.Touched.{Touched as TouchedValue};
+
+use crate::act::{Act, Control};
+use crate::change::apply;
+use crate::plain::take_plain;
+use crate::plan::{Plan, Planning, planned};
+use crate::settle::settle;
+use crate::time::advance;
+use pim_data::Leaving;
+use pim_fanout::{Cache, Gathered};
+use pim_intake::{Admitted, LentEvent, judge};
+use pim_ip::Ipv4View;
+use pim_messages::Room;
+use pim_mfc::Forward;
+use pim_model::Accepted;
+use pim_mrib::Mrib;
+use pim_trie::Meter;
+use pim_types::{Fault, IfaceId, Outcome, Refusal, Series, SourceGroup, Stop, Verdict};
+use pim_world::{Touched, Turn, World};
+use std::alloc::Global;
+
+// The outcome of an event that changes nothing.
+fn stopped(alloc: Global, stop: Stop) -> Outcome
+    ensures { result ≡ stop_outcome stop }
+{
+    let answer = match stop {
+        Stop::Refuse(refusal) => Err(refusal),
+        Stop::Ignore(reason) => Ok(Verdict::Ignored(reason)),
+    };
+    Outcome {
+        answer,
+        emissions: Series::new(alloc),
+        copies: 0,
+    }
+}
+
+// What became of an event, and the sources whose rows of the forwarding cache are to be evaluated again.
+#[derive(Drop)]
+struct Changed {
+    outcome: Outcome,
+    names: Series<SourceGroup>,
+}
+
+// What an event does: its own change, what follows of that, and last the packets that are forwarded.
+fn change_world(
+    world: &mut World,
+    turn: &mut Turn,
+    meter: &mut Meter,
+    touched: &Touched,
+    act: Act<'_>,
+) -> Result<Changed, Fault>
+    requires rest { IsAtRest world.old }
+    requires begun { turn.old.messages ≡ [] }
+    requires configured { IsConfigured world.old (act_event world.old act) }
+    requires plan { Fits world.old (act_event world.old act) (record { touched = touched.now; act = act }) }
+    ensures outcome { IfOk result (λ changed. changed.outcome
+        ≡ outcome_of (taken world.old turn.old.draw (act_event world.old act.entry))) }
+    ensures state { OnOk result (world.new ≡ (taken world.old turn.old.draw (act_event world.old act.entry)).state) }
+    ensures names { IfOk result (λ changed. AreNames world.old (change world.old turn.old.draw (act_event world.old act.entry)).state
+        touched.now (keys_of changed.names)) }
+    ensures fault { IsOkUnless result Fault.Memory }
+{
+    let gathered = Gathered::of(world, turn.alloc, touched, meter)?;
+    let Leaving {
+        mut copies,
+        mut registered,
+    } = apply(world, turn, meter, act)?;
+    // For the proof: asserts, sources and registers are under keys of their kind.
+    world.recall_keyed();
+    let count = copies.len() as u32;
+    let mut emissions = Vec::new(turn.alloc);
+    let names = settle(world, turn, meter, &gathered, &mut emissions)?;
+    emissions.append(&mut copies)?;
+    emissions.append(&mut registered)?;
+    let outcome = Outcome {
+        answer: Ok(Verdict::Done),
+        emissions: Series::from_vec(emissions),
+        copies: count,
+    };
+    Ok(Changed { outcome, names })
+}
+
+// Whether an event that forwards no packet brings new routes or RP ranges.
+fn control_reroutes(control: &Control<'_>) -> bool
+    ensures { (s : State) → result ≡ is_rerouting (control_event s control.now) }
+{
+    match control {
+        Control::Routes { .. } => true,
+        Control::Ranges { .. } => true,
+        Control::Up { .. } => false,
+        Control::Down { .. } => false,
+        Control::Hello { .. } => false,
+        Control::JoinPruneToMe { .. } => false,
+        Control::JoinPruneSeen { .. } => false,
+        Control::Assert { .. } => false,
+        Control::Query { .. } => false,
+        Control::Report { .. } => false,
+        Control::RegisterStop { .. } => false,
+    }
+}
+
+// Whether the event brings new routes or RP ranges.
+fn is_rerouting(act: &Act<'_>) -> bool
+    ensures { (s : State) → result ≡ is_rerouting (act_event s act.now) }
+{
+    match act {
+        Act::Data { .. } => false,
+        Act::Register { .. } => false,
+        Act::Control(control) => control_reroutes(control),
+    }
+}
+
+// What a change disturbs: all sources where there are new routes or RP ranges, since these touch only what has facts,
+// and move any source; else what the change touches.
+fn disturbed_where(reroutes: bool, touched: Touched) -> Touched
+    ensures { result ≡ (if reroutes then TouchedValue.All else touched) }
+{
+    if reroutes { Touched::All } else { touched }
+}
+
+// Makes a change, and then evaluates the rows of the named sources again.
+fn take_change(
+    world: &mut World,
+    cache: &mut Cache,
+    turn: &mut Turn,
+    meter: &mut Meter,
+    plan: Plan<'_>,
+) -> Result<Outcome, Fault>
+    requires rest { IsAtRest world.old }
+    requires shown { ShowsRows cache.old.mfc.rows (cached world.old) }
+    requires begun { turn.old.messages ≡ [] }
+    requires unlisted { cache.old.changed ≡ [] }
+    requires configured { IsConfigured world.old (act_event world.old plan.act) }
+    requires plan { Fits world.old (act_event world.old plan.act) plan }
+    ensures outcome { IfOk result (λ outcome. outcome
+        ≡ outcome_of (taken world.old turn.old.draw (act_event world.old plan.entry.act))) }
+    ensures state { OnOk result (world.new ≡ (taken world.old turn.old.draw (act_event world.old plan.entry.act)).state) }
+    ensures cache { OnOk result (CacheFollows world.old world.new
+        (named_of world.old turn.old.draw (act_event world.old plan.entry.act)) cache.old cache.new) }
+    ensures disturbed { OnOk result (cache.new.disturbed ≡ joined cache.old.disturbed
+        (disturbed_of world.old turn.old.draw (act_event world.old plan.entry.act))) }
+    ensures once { OnOk result (IsStrictlySortedBy key_cmp cache.new.changed) }
+    ensures touched { OnOk result (touches cache.new ≡ raised (touches cache.old) (touches_in world.new
+        (names_of world.old (change world.old turn.old.draw (act_event world.old plan.entry.act)).state plan.entry.touched))) }
+    ensures fault { IsOkUnless result Fault.Memory }
+{
+    // For the proof: there are at most 120 interfaces.
+    world.interfaces().recall_few();
+    let Plan { touched, act } = plan;
+    let reroutes = is_rerouting(&act);
+    let Changed { outcome, names } = change_world(world, turn, meter, &touched, act)?;
+    cache.refresh(world, meter, names, disturbed_where(reroutes, touched))?;
+    Ok(outcome)
+}
+
+// Takes an accepted event: an Advance lets time pass, and any other event is refused where there is no room for the
+// facts that it names.
+fn take_unless_full(
+    world: &mut World,
+    cache: &mut Cache,
+    turn: &mut Turn,
+    meter: &mut Meter,
+    accepted: Accepted<'_>,
+    table: Mrib,
+) -> Result<Outcome, Fault>
+    requires rest { IsAtRest world.old }
+    requires shown { ShowsRows cache.old.mfc.rows (cached world.old) }
+    requires begun { turn.old.messages ≡ [] }
+    requires unlisted { cache.old.changed ≡ [] }
+    requires configured { IsConfigured world.old accepted }
+    requires table { Brings accepted table }
+    ensures outcome { IfOk result (λ outcome. outcome ≡ outcome_of (taken_unless_full world.old turn.old.draw accepted.entry)) }
+    ensures state { OnOk result (world.new ≡ (taken_unless_full world.old turn.old.draw accepted.entry).state) }
+    ensures cache { OnOk result (CacheFollows world.old world.new
+        (where_accepted world.old (named_of world.old turn.old.draw) (Ok accepted.entry)) cache.old cache.new) }
+    ensures disturbed { OnOk result (cache.new.disturbed ≡ joined cache.old.disturbed
+        (where_disturbed world.old (disturbed_of world.old turn.old.draw) (Ok accepted.entry))) }
+    ensures once { OnOk result (IsStrictlySortedBy key_cmp cache.new.changed) }
+    ensures fault { IsOkUnless result Fault.Memory }
+{
+    let planning = planned(world, turn, meter, accepted, table)?;
+    match planning {
+        Planning::Time { moment } => advance(world, cache, turn, meter, moment),
+        Planning::Full => Ok(stopped(turn.alloc, Stop::Refuse(Refusal::Full))),
+        Planning::Change(plan) => take_change(world, cache, turn, meter, plan),
+    }
+}
+
+// Whether there was room for one more fact and is none after the event, or the other way round: without room each
+// packet of a source that has no fact is refused.
+fn has_room_changed(was_full: bool, is_full: bool) -> bool
+    ensures { result ≡ not (same_bool was_full is_full) }
+{
+    was_full != is_full
+}
+
+// Takes an accepted event in a turn of its own.
+#[tactic(auto, unfolding(pim_model::specs::Step::step))]
+fn take_turn(
+    room: &mut Room,
+    world: &mut World,
+    cache: &mut Cache,
+    event: &LentEvent<'_>,
+    accepted: Accepted<'_>,
+    table: Mrib,
+    meter: &mut Meter,
+) -> Result<Outcome, Fault>
+    requires rest { IsAtRest world.old }
+    requires shown { ShowsRows cache.old.mfc.rows (cached world.old) }
+    requires heard { judged world.old event.now.kind ≡ Ok accepted }
+    requires table { Brings accepted table }
+    requires uncounted { touches cache.old ≡ 0 }
+    requires unlisted { cache.old.changed ≡ [] }
+    requires undisturbed { cache.old.disturbed ≡ TouchedValue.Keys [] }
+    ensures outcome { IfOk result (λ outcome. outcome ≡ outcome_of (step world.old event.now)) }
+    ensures state { OnOk result (world.new ≡ (step world.old event.now).state) }
+    ensures cache { OnOk result ((IsPlainEvent world.old event.now → IsWithinPath meter.new)
+        → goes_by_answers world.old (judged world.old event.now.kind) ≡ false
+        → CacheAfter world.old event.now world.new cache.new meter.new) }
+    ensures fault { IsOkUnless result Fault.Memory }
+{
+    let mut turn = Turn::new(room.taken(), event.draw());
+    let was_full = world.passes_limit(1);
+    let outcome = take_unless_full(world, cache, &mut turn, meter, accepted, table)?;
+    cache.disturb_all_if(has_room_changed(was_full, world.passes_limit(1)));
+    *room = turn.room;
+    Ok(outcome)
+}
+
+// What the row of its source decides of a packet of data.
+fn by_row(
+    cache: &Cache,
+    iface: IfaceId,
+    packet: &Ipv4View<'_>,
+    meter: &mut Meter,
+) -> Option<Forward>
+    ensures decided { ForwardsAs result (decided cache.now.mfc packet.now.destination packet.now.source iface.number
+        packet.now.time_to_live) }
+    ensures visited { meter.old ≡ 0 → has_row cache.now.mfc.rows (fact_key packet.now) ≡ true → IsWithinPath meter.new }
+{
+    let name = SourceGroup {
+        source: packet.source(),
+        group: packet.destination(),
+    };
+    cache
+        .mfc()
+        .forward(name, iface, packet.time_to_live(), meter)
+}
+
+// Takes a packet of data: by the row of its source where that decides it, else in a turn of its own.
+fn take_data(
+    room: &mut Room,
+    world: &mut World,
+    cache: &mut Cache,
+    event: &LentEvent<'_>,
+    iface: IfaceId,
+    packet: Ipv4View<'_>,
+    meter: &mut Meter,
+) -> Result<Outcome, Fault>
+    requires rest { IsAtRest world.old }
+    requires shown { ShowsRows cache.old.mfc.rows (cached world.old) }
+    requires heard { judged world.old event.now.kind ≡ Ok (Accepted.Data iface packet) }
+    requires below { iface.number < 120 }
+    requires uncounted { touches cache.old ≡ 0 }
+    requires unlisted { cache.old.changed ≡ [] }
+    requires undisturbed { cache.old.disturbed ≡ TouchedValue.Keys [] }
+    requires unvisited { meter.old ≡ 0 }
+    ensures outcome { IfOk result (λ outcome. outcome ≡ outcome_of (step world.old event.now)) }
+    ensures state { OnOk result (world.new ≡ (step world.old event.now).state) }
+    ensures cache { OnOk result (CacheAfter world.old event.now world.new cache.new meter.new) }
+    ensures fault { IsOkUnless result Fault.Memory }
+{
+    match by_row(cache, iface, &packet, meter) {
+        Some(forward) => take_plain(room, world, &packet, forward, meter),
+        // The event brings no table.
+        None => {
+            let table = Mrib::new(room.alloc);
+            let accepted = Accepted::Data { iface, packet };
+            take_turn(room, world, cache, event, accepted, table, meter)
+        }
+    }
+}
+
+// Takes an accepted event that is no packet of data, in a turn of its own. It is a function of its own because the
+// prover needs "this is no packet of data" as a premise where the cost of the turn is stated.
+fn take_other(
+    room: &mut Room,
+    world: &mut World,
+    cache: &mut Cache,
+    event: &LentEvent<'_>,
+    accepted: Accepted<'_>,
+    table: Mrib,
+    meter: &mut Meter,
+) -> Result<Outcome, Fault>
+    requires rest { IsAtRest world.old }
+    requires shown { ShowsRows cache.old.mfc.rows (cached world.old) }
+    requires heard { judged world.old event.now.kind ≡ Ok accepted }
+    requires table { Brings accepted table }
+    requires other { (i : IfaceValue) (p : Packet) → ¬ (accepted ≡ Accepted.Data i p) }
+    requires uncounted { touches cache.old ≡ 0 }
+    requires unlisted { cache.old.changed ≡ [] }
+    requires undisturbed { cache.old.disturbed ≡ TouchedValue.Keys [] }
+    ensures outcome { IfOk result (λ outcome. outcome ≡ outcome_of (step world.old event.now)) }
+    ensures state { OnOk result (world.new ≡ (step world.old event.now).state) }
+    ensures cache { OnOk result (CacheAfter world.old event.now world.new cache.new meter.new) }
+    ensures fault { IsOkUnless result Fault.Memory }
+{
+    take_turn(room, world, cache, event, accepted, table, meter)
+}
+
+// Takes an accepted event.
+fn take_accepted(
+    room: &mut Room,
+    world: &mut World,
+    cache: &mut Cache,
+    event: &LentEvent<'_>,
+    accepted: Accepted<'_>,
+    table: Mrib,
+    meter: &mut Meter,
+) -> Result<Outcome, Fault>
+    requires rest { IsAtRest world.old }
+    requires shown { ShowsRows cache.old.mfc.rows (cached world.old) }
+    requires heard { judged world.old event.now.kind ≡ Ok accepted }
+    requires table { Brings accepted table }
+    requires uncounted { touches cache.old ≡ 0 }
+    requires unlisted { cache.old.changed ≡ [] }
+    requires undisturbed { cache.old.disturbed ≡ TouchedValue.Keys [] }
+    requires unvisited { is_frame event.now.kind ≡ true → meter.old ≡ 0 }
+    ensures outcome { IfOk result (λ outcome. outcome ≡ outcome_of (step world.old event.now)) }
+    ensures state { OnOk result (world.new ≡ (step world.old event.now).state) }
+    ensures cache { OnOk result (CacheAfter world.old event.now world.new cache.new meter.new) }
+    ensures fault { IsOkUnless result Fault.Memory }
+{
+    match accepted {
+        Accepted::Data { iface, packet } => {
+            // For the proof: the interface is below 120.
+            world.interfaces().recall_few();
+            take_data(room, world, cache, event, iface, packet, meter)
+        }
+        _ => take_other(room, world, cache, event, accepted, table, meter),
+    }
+}
+
+/// Takes an event. The meter counts the trie nodes that it visits, and the cache counts the rows that it touches and
+/// lists their sources. The cache's counts and lists begin empty; so does the meter where the event is a frame. The error is
+/// want of memory.
+#[tactic(auto, unfolding(pim_model::specs::Step::step))]
+pub fn take_in(
+    room: &mut Room,
+    world: &mut World,
+    cache: &mut Cache,
+    event: &LentEvent<'_>,
+    meter: &mut Meter,
+) -> Result<Outcome, Fault>
+    requires rest { IsAtRest world.old }
+    requires shown { ShowsRows cache.old.mfc.rows (cached world.old) }
+    requires uncounted { touches cache.old ≡ 0 }
+    requires unlisted { cache.old.changed ≡ [] }
+    requires undisturbed { cache.old.disturbed ≡ TouchedValue.Keys [] }
+    requires unvisited { is_frame event.now.kind ≡ true → meter.old ≡ 0 }
+    ensures outcome { IfOk result (λ outcome. outcome ≡ outcome_of (step world.old event.now)) }
+    ensures state { OnOk result (world.new ≡ (step world.old event.now).state) }
+    ensures rest { OnOk result (IsAtRest world.new) }
+    ensures cache { OnOk result (CacheAfter world.old event.now world.new cache.new meter.new) }
+    ensures fault { IsOkUnless result Fault.Memory }
+    ensures sure { IsTrue (needs_no_memory (step world.old event.now).answer) → IsOk result }
+{
+    match judge(room.alloc, world, event, meter)? {
+        Ok(Admitted { accepted, table }) => {
+            take_accepted(room, world, cache, event, accepted, table, meter)
+        }
+        Err(stop) => Ok(stopped(room.alloc, stop)),
+    }
+}

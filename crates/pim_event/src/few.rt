@@ -1,0 +1,20 @@
+//! Keys that are opened one by one, where they are few.
+ghost use Rattle.std.specs.Prelude.{◌≡◌};
+ghost use Rattle.pim_event.specs.Ends.{few_or_all};
+
+use pim_types::{Key, Series};
+use pim_world::Touched;
+
+// The most keys that are opened one by one.
+const MOST_OPENED: usize = 256;
+
+/// The given keys, or all where there are more than 256: each touched group is looked for among the keys, so that the
+/// cost grows with their square.
+pub(crate) fn few_or_all(keys: Vec<Key>) -> Touched
+    ensures { result ≡ few_or_all keys.items }
+{
+    if keys.len() > MOST_OPENED {
+        return Touched::All;
+    }
+    Touched::Keys(Series::from_vec(keys))
+}

@@ -1,0 +1,50 @@
+-- Routers behind their fronts for older hosts.
+use Rattle.std.specs.Prelude.{◌≡◌, Option, Some, option_map, Result, Ok, map}
+use Rattle.pim_ip.specs.declared.refusal.Refusal.{Refusal}
+use Rattle.pim_types.specs.declared.config.Config.{Config}
+use Rattle.pim_types.specs.declared.event.EventKind.{EventKind}
+use Rattle.pim_types.specs.declared.fact.GroupRecordRow.{GroupRecordRow}
+use Rattle.pim_types.specs.declared.outcome.Verdict.{Verdict}
+use Rattle.pim_model.specs.State.{State}
+use Rattle.pim_model.specs.Tables.{Table}
+use Rattle.pim_router.specs.Standing.{Standing}
+use Rattle.igmp_older.specs.Joined.{Both, known_if, noted_answered, older_in}
+use Rattle.igmp_older.specs.Laws.{none_known}
+use Rattle.igmp_older.specs.Presence.{Present, forgotten, left}
+use Rattle.igmp_older.specs.declared.setting.OlderHosts.{OlderHosts}
+use Rattle.pim_lab.specs.declared.front.Mark.{Mark}
+
+-- the router hasn't failed, and this is its state
+abbrev pub Stands : Option Standing → State → Type 0
+Stands standing s = option_map (λ (r : Standing). r.state) standing ≡ Some s
+
+-- a router's state behind what is known of older hosts
+abbrev pub behind : Present → State → Both
+behind p s = record { present = p; state = s }
+
+-- nobody is known yet behind the configuration, and such hosts are heard on each interface
+abbrev pub nobody_behind : Config → OlderHosts → Present
+nobody_behind c hosts = none_known c.limit (map (λ _. hosts) c.interfaces)
+
+abbrev pub marked_done : Present → Table GroupRecordRow → Mark → Present
+marked_done p groups (Mark.Note i given end) = p
+marked_done p groups (Mark.Forget moment) = forgotten groups moment p
+marked_done p groups (Mark.Leave i) = left i.number p
+marked_done p groups Mark.Stay = p
+
+abbrev pub marked_if : Present → Table GroupRecordRow → Mark → Result Verdict Refusal → Present
+marked_if p groups mark (Ok Verdict.Done) = marked_done p groups mark
+marked_if p groups mark _ = p
+
+-- What is known after an answer, by the group records that the router then has.
+unfoldable pub marked : Present → Table GroupRecordRow → Mark → Result Verdict Refusal → Present
+marked p groups (Mark.Note i given end) answer = noted_answered p i.number end (older_in given) answer
+marked p groups (Mark.Forget moment) answer = marked_if p groups (Mark.Forget moment) answer
+marked p groups (Mark.Leave i) answer = marked_if p groups (Mark.Leave i) answer
+marked p groups Mark.Stay answer = p
+
+-- With this mark the rows become what is known after an event of this kind, whatever the router answers.
+abbrev pub IsMarkOf : Both → EventKind → Mark → Type 0
+IsMarkOf b kind mark =
+    (after : State) (answer : Result Verdict Refusal)
+    → marked b.present after.group_records mark answer ≡ known_if b after kind answer

@@ -1,0 +1,258 @@
+//! Routers behind their fronts for hosts of versions 1 and 2 of IGMP (RFC 3376, section 7.3.2).
+ghost use Rattle.std.specs.Prelude.{◌≡◌, ◌∷◌, [], IfOk, OnErr, OnOk, Some};
+ghost use Rattle.igmp_older.specs.Joined.{event_given, joined_step, rows_of};
+ghost use Rattle.igmp_older.specs.Presence.{hosts_on};
+ghost use Rattle.igmp_older.specs.Translation.{translation, Gives};
+ghost use Rattle.pim_model.specs.Network.{Network, Station, moved_at, station_at};
+ghost use Rattle.pim_model.specs.State.{State};
+ghost use Rattle.pim_types.specs.declared.event.EventKind.{EventKind as Kind};
+ghost use Rattle.pim_types.specs.declared.outcome.Outcome.{Outcome as OutcomeValue};
+ghost use Rattle.pim_lab.specs.Fronts.{IsMarkOf, Stands, behind, marked};
+
+use igmp_older::{Given, Presence, Querier, note_answered, translate};
+use pim_net::{Move, Net, NetLog, Router, Wire};
+use pim_types::{
+    Addr, Event, EventKind, Fault, IfaceId, Outcome, Refusal, Series, Verdict,
+};
+use std::alloc::{AllocError, Global};
+
+/// A router, as its front asks it.
+#[derive(Clone, Copy)]
+pub(crate) struct Asked<'a> {
+    pub(crate) router: &'a Router,
+}
+
+impl Querier for Asked<'_> {
+    ghost use Rattle.std.specs.Option.{option_map_or};
+    ghost use Rattle.std.specs.Prelude.{[]};
+
+    ghost present = { λ a. option_map_or (λ r. r.state.present) a.router.now.standing 0 };
+
+    ghost group_records = { λ a. option_map_or (λ r. r.state.group_records) a.router.now.standing [] };
+
+    fn present(&self) -> u64 {
+        self.router.present()
+    }
+
+    fn has_group_record(&self, iface: IfaceId, group: Addr) -> bool {
+        self.router.has_group_record(iface, group)
+    }
+}
+
+/// What becomes of the rows of older hosts once the router has answered.
+#[derive(Clone, Copy)]
+pub(crate) enum Mark {
+    /// The older message that a packet on the interface was is remembered until a timestamp, in ms.
+    Note {
+        iface: IfaceId,
+        given: Given,
+        end: u64,
+    },
+    /// The rows that end by a timestamp, in ms, go.
+    Forget {
+        moment: u64,
+    },
+    /// The rows of the interface go.
+    Leave {
+        iface: IfaceId,
+    },
+    Stay,
+}
+
+impl Mark {
+    // Changes the rows by the router's answer, which this router gave.
+    #[tactic(auto, using(crate::proofs::Fronts::asked_records), unfolding(crate::specs::Fronts::marked))]
+    fn keep(
+        self,
+        presence: &mut Presence,
+        router: &Router,
+        answer: Result<Verdict, Refusal>,
+    ) -> Result<(), AllocError>
+        ensures ok { (s : State) → Stands router.now.standing s
+            → OnOk result (presence.new ≡ marked presence.old s.group_records self answer) }
+        ensures err { OnErr result (presence.new ≡ presence.old) }
+    {
+        match (self, answer) {
+            (Mark::Note { iface, given, end }, answer) => {
+                note_answered(presence, iface, given, answer, end)
+            }
+            (Mark::Forget { moment }, Ok(Verdict::Done)) => {
+                presence.forget(&Asked { router }, moment);
+                Ok(())
+            }
+            (Mark::Leave { iface }, Ok(Verdict::Done)) => {
+                presence.leave(iface);
+                Ok(())
+            }
+            _ => Ok(()),
+        }
+    }
+
+    // The same after an event at the router of a network, which has a log of one outcome.
+    fn keep_logged<W: Wire>(
+        self,
+        presence: &mut Presence,
+        net: &Net<W>,
+        router: usize,
+        log: &[Outcome],
+    ) -> Result<(), AllocError>
+        ensures ok { (n : Network) (st : Station) (o : OutcomeValue) → net.now.network ≡ Some n
+            → station_at n router ≡ Some st → log.now ≡ o ∷ []
+            → OnOk result (presence.new ≡ marked presence.old st.state.group_records self o.answer) }
+        ensures err { OnErr result (presence.new ≡ presence.old) }
+    {
+        let Some(asked) = net.router(router) else {
+            return Ok(());
+        };
+        let Some(outcome) = log.first() else {
+            return Ok(());
+        };
+        self.keep(presence, asked, outcome.answer)
+    }
+}
+
+/// An event as the router is given it.
+#[derive(Drop)]
+struct Passed {
+    event: Event,
+    mark: Mark,
+}
+
+impl Passed {
+    // An event of this kind, given as it came.
+    fn same(draw: u32, kind: EventKind, mark: Mark) -> Passed
+        ensures { result ≡ record { event = record { draw = draw; kind = kind }; mark = mark } }
+    {
+        Passed {
+            event: Event { draw, kind },
+            mark,
+        }
+    }
+}
+
+// What the router is to be given in the place of a packet that came on an interface, added at the end of `written`.
+fn translate_for(
+    alloc: Global,
+    presence: &Presence,
+    router: &Router,
+    iface: IfaceId,
+    bytes: &[u8],
+    written: &mut Vec<u8>,
+) -> Result<Given, AllocError>
+    ensures { (s : State) → Stands router.now.standing s → IfOk result (λ given. Gives given
+        (translation (rows_of (behind presence.now s)) s.present iface.number (hosts_on presence.now iface.number) bytes.now)
+        written.old.items written.new.items) }
+{
+    translate(alloc, presence, &Asked { router }, iface, bytes, written)
+}
+
+// A packet that came on an interface, as its router is given it.
+fn pass_packet(
+    alloc: Global,
+    presence: &Presence,
+    router: &Router,
+    draw: u32,
+    iface: IfaceId,
+    bytes: Series<u8>,
+) -> Result<Passed, AllocError>
+    ensures event { (s : State) → Stands router.now.standing s → IfOk result (λ passed. passed.event
+        ≡ event_given (behind presence.now s) (record { draw = draw; kind = Kind.Frame iface bytes })) }
+    ensures mark { (s : State) → Stands router.now.standing s → IfOk result (λ passed.
+        IsMarkOf (behind presence.now s) (Kind.Frame iface bytes) passed.mark) }
+{
+    let end = router.membership_end(iface);
+    let mut written = Vec::new(alloc);
+    let given = translate_for(
+        alloc,
+        presence,
+        router,
+        iface,
+        bytes.as_slice(),
+        &mut written,
+    )?;
+    let mark = Mark::Note { iface, given, end };
+    match given {
+        Given::Same => Ok(Passed {
+            event: Event {
+                draw,
+                kind: EventKind::Frame { iface, bytes },
+            },
+            mark,
+        }),
+        Given::Rewritten(_) => Ok(Passed {
+            event: Event {
+                draw,
+                kind: EventKind::Frame {
+                    iface,
+                    bytes: Series::from_vec(written),
+                },
+            },
+            mark,
+        }),
+    }
+}
+
+// An event as its router is given it.
+#[tactic(auto, unfolding(igmp_older::specs::Joined::event_given, igmp_older::specs::Joined::kind_given, igmp_older::specs::Joined::known_if, igmp_older::specs::Joined::known_after, crate::specs::Fronts::marked))]
+fn pass(
+    alloc: Global,
+    presence: &Presence,
+    router: &Router,
+    event: Event,
+) -> Result<Passed, AllocError>
+    ensures event { (s : State) → Stands router.now.standing s
+        → IfOk result (λ passed. passed.event ≡ event_given (behind presence.now s) event) }
+    ensures mark { (s : State) → Stands router.now.standing s
+        → IfOk result (λ passed. IsMarkOf (behind presence.now s) event.kind passed.mark) }
+{
+    let Event { draw, kind } = event;
+    match kind {
+        EventKind::Frame { iface, bytes } => {
+            pass_packet(alloc, presence, router, draw, iface, bytes)
+        }
+        EventKind::Advance { moment } => {
+            let kind = EventKind::Advance { moment };
+            Ok(Passed::same(draw, kind, Mark::Forget { moment }))
+        }
+        EventKind::Down { iface } => {
+            let kind = EventKind::Down { iface };
+            Ok(Passed::same(draw, kind, Mark::Leave { iface }))
+        }
+        EventKind::Unicast { bytes } => {
+            let kind = EventKind::Unicast { bytes };
+            Ok(Passed::same(draw, kind, Mark::Stay))
+        }
+        EventKind::Up { iface } => Ok(Passed::same(draw, EventKind::Up { iface }, Mark::Stay)),
+        EventKind::Routes { routes } => {
+            let kind = EventKind::Routes { routes };
+            Ok(Passed::same(draw, kind, Mark::Stay))
+        }
+        EventKind::Rps { rps } => Ok(Passed::same(draw, EventKind::Rps { rps }, Mark::Stay)),
+    }
+}
+
+/// One event at a router of a network, behind the router's front. After a fault the rows of older hosts are as they were.
+pub(crate) fn run_behind<W: Wire>(
+    alloc: Global,
+    net: &mut Net<W>,
+    router: usize,
+    presence: &mut Presence,
+    event: Event,
+) -> Result<NetLog, Fault>
+    ensures outcome { (n : Network) (st : Station) → net.old.network ≡ Some n → station_at n router ≡ Some st
+        → IfOk result (λ log. log.items ≡ (joined_step (behind presence.old st.state) event).0 ∷ []) }
+    ensures network { (n : Network) (st : Station) → net.old.network ≡ Some n → station_at n router ≡ Some st
+        → OnOk result (net.new.network
+        ≡ Some (moved_at n (router, event_given (behind presence.old st.state) event)).1) }
+    ensures presence { (n : Network) (st : Station) → net.old.network ≡ Some n → station_at n router ≡ Some st
+        → OnOk result (presence.new ≡ (joined_step (behind presence.old st.state) event).1.present) }
+    ensures fault { OnErr result (presence.new ≡ presence.old) }
+{
+    let Some(asked) = net.router(router) else {
+        return net.run(&[Move::Event { router, event }]);
+    };
+    let Passed { event, mark } = pass(alloc, presence, asked, event)?;
+    let log = net.run(&[Move::Event { router, event }])?;
+    mark.keep_logged(presence, net, router, &log)?;
+    Ok(log)
+}

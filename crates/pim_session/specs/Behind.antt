@@ -1,0 +1,70 @@
+-- What a router and what stands before it show after an event that had no fault.
+use Rattle.std.specs.Prelude.{◌≡◌, ◌++◌, Bool, true, false, ℕ, List, Option, Result, Ok, Err, Some}
+use Rattle.pim_ip.specs.declared.refusal.Refusal.{Refusal}
+use Rattle.pim_types.specs.declared.config.IfaceId.{IfaceId}
+use Rattle.pim_types.specs.declared.event.Event.{Event}
+use Rattle.pim_types.specs.declared.event.EventKind.{EventKind}
+use Rattle.pim_types.specs.declared.outcome.Emission.{Emission}
+use Rattle.pim_types.specs.declared.outcome.Verdict.{Verdict}
+use Rattle.pim_model.specs.State.{State}
+use Rattle.pim_model.specs.Step.{step}
+use Rattle.pim_reach.specs.Named.{event_named}
+use Rattle.pim_event.specs.Costs.{IsCheap}
+use Rattle.pim_event.specs.Disturbing.{event_disturbed}
+use Rattle.pim_event.specs.Listing.{ListsSame}
+use Rattle.pim_router.specs.Standing.{Shown as RouterShown, standing}
+use Rattle.pim_event.specs.Staying.{OffersStay}
+use Rattle.igmp_older.specs.Joined.{event_given, joined_step}
+use Rattle.igmp_older.specs.declared.front.Given.{Given}
+use Rattle.pim_session.specs.Front.{Front, both, emissions_left, front_after, given}
+
+-- A router took an event: what it answered, what it shows, and what was sent, behind what was sent before.
+pub record Gave (s : State) (e : Event) (before : List Emission) (answered : Result Verdict Refusal) (left : RouterShown) (after : List Emission) : Type 0 where
+  pub is_answer : answered ≡ (step s e).answer
+  pub state : left.standing ≡ Some (standing (step s e))
+  pub cheap : IsCheap s e left.probes left.touched
+  pub changed : ListsSame left.changed (event_named s e)
+  pub disturbed : left.disturbed ≡ event_disturbed s e
+  pub stays : OffersStay left.disturbed s (step s e).state
+  pub sent : after ≡ before ++ (step s e).emissions
+
+-- A router took an event in which no older query is left, behind what stood before it.
+pub record Took (f : Front) (s : State) (e : Event) (before : List Emission) (answered : Result Verdict Refusal) (left : RouterShown) (after : List Emission) (known : Front) : Type 0 where
+  pub gave : Gave s (event_given (both f s) e) before answered left after
+  pub knows : known ≡ record f { present = (joined_step (both f s) e).1.present }
+
+-- a packet came on an interface
+abbrev pub frame_event : ℕ → IfaceId → List ℕ → Event
+frame_event draw iface bytes = record { draw = draw; kind = EventKind.Frame iface bytes }
+
+-- the packet that is given: as it came, or as it was written
+abbrev pub packet_of : Given → List ℕ → List ℕ → List ℕ
+packet_of Given.Same bytes written = bytes
+packet_of (Given.Rewritten older) bytes written = written
+
+-- the event makes and forgets nothing of what stands before the router
+abbrev pub is_plain : EventKind → Bool
+is_plain (EventKind.Frame i bytes) = false
+is_plain (EventKind.Advance moment) = false
+is_plain (EventKind.Down i) = false
+is_plain (EventKind.Unicast bytes) = true
+is_plain (EventKind.Up i) = true
+is_plain (EventKind.Routes routes) = true
+is_plain (EventKind.Rps rps) = true
+
+abbrev pub is_done : Result Verdict Refusal → Bool
+is_done (Ok Verdict.Done) = true
+is_done (Ok (Verdict.Ignored reason)) = false
+is_done (Err refusal) = false
+
+-- A router took an event behind what stood before it, if anything did: what it answered and shows, what leaves, and what
+-- stands before it then.
+pub record Stepped (front : Option Front) (s : State) (e : Event) (answered : Result Verdict Refusal) (left : RouterShown) (leaving : List Emission) (after : Option Front) : Type 0 where
+  pub is_answer : answered ≡ (step s (given front s e)).answer
+  pub state : left.standing ≡ Some (standing (step s (given front s e)))
+  pub cheap : IsCheap s (given front s e) left.probes left.touched
+  pub changed : ListsSame left.changed (event_named s (given front s e))
+  pub disturbed : left.disturbed ≡ event_disturbed s (given front s e)
+  pub stays : OffersStay left.disturbed s (step s (given front s e)).state
+  pub sent : leaving ≡ emissions_left front (step s (given front s e)).emissions
+  pub known : after ≡ front_after front s e

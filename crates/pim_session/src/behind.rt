@@ -1,0 +1,256 @@
+//! A router with what stands before it takes an event.
+ghost use Rattle.std.specs.Prelude.{◌≡◌, ◌++◌, IfOk, IfSome, IsOk, IsOkUnless, IsSome, IsTrue, None, OnErr, Some, true};
+ghost use Rattle.pim_ip.specs.declared.fault.Fault.{Fault};
+ghost use Rattle.pim_model.specs.Step.{step};
+ghost use Rattle.pim_model.specs.Sure.{needs_no_memory};
+ghost use Rattle.pim_types.specs.declared.event.EventKind.{EventKind};
+ghost use Rattle.igmp_older.specs.Joined.{event_given, rows_of};
+ghost use Rattle.igmp_older.specs.Presence.{hosts_on};
+ghost use Rattle.igmp_older.specs.Translation.{translation};
+ghost use Rattle.pim_session.specs.Behind.{Gave, Stepped, Took, frame_event, is_done, is_plain, packet_of};
+ghost use Rattle.pim_session.specs.Front.{both, emissions_left, event_queried, front_after, front_of, given, is_passed, is_sure};
+
+use crate::asked::Asked;
+use crate::front::Front;
+use igmp_older::{Given, give_query};
+use pim_intake::LentEvent;
+use pim_intake::lent::LentKind;
+use pim_router::Router;
+use pim_types::{Emission, Fault, IfaceId, Refusal, Verdict};
+use std::alloc::{AllocError, Global};
+use std::mem;
+
+// Whether an event was done.
+fn is_done(answer: Result<Verdict, Refusal>) -> bool
+    ensures { result ≡ is_done answer }
+{
+    matches!(answer, Ok(Verdict::Done))
+}
+
+// The packet that the router is given: as it came, or as it was written in its place.
+fn packet_of<'a>(given: Given, bytes: &'a [u8], written: &'a [u8]) -> &'a [u8]
+    ensures { result.now ≡ packet_of given bytes.now written.now }
+{
+    match given {
+        Given::Same => bytes,
+        Given::Rewritten(_) => written,
+    }
+}
+
+// The router takes an event; what leaves is added to what was sent.
+fn give(
+    router: &mut Router,
+    event: &LentEvent<'_>,
+    sent: &mut Vec<Emission>,
+) -> Result<Result<Verdict, Refusal>, Fault>
+    ensures gave { IfSome router.old.standing (λ r. IfOk result (λ answer.
+        Gave r.state event.now sent.old.items answer router.new sent.new.items)) }
+    ensures fault { IfSome router.old.standing (λ r. IsOkUnless result Fault.Memory) }
+    ensures sure { IfSome router.old.standing (λ r. IsTrue (needs_no_memory (step r.state event.now).answer)
+        → IsOk result) }
+{
+    let answer = router.step_lent(event, sent)?;
+    Ok(answer)
+}
+
+// A packet that came on an interface, in which no older query is left.
+fn take_packet(
+    alloc: Global,
+    router: &mut Router,
+    front: &mut Front,
+    draw: u32,
+    iface: IfaceId,
+    bytes: &[u8],
+    sent: &mut Vec<Emission>,
+) -> Result<Result<Verdict, Refusal>, Fault>
+    ensures took { IfSome router.old.standing (λ r. IfOk result (λ answer.
+        Took front.old r.state (frame_event draw iface bytes.now) sent.old.items answer router.new sent.new.items front.new)) }
+    ensures fault { IfSome router.old.standing (λ r. IsOkUnless result Fault.Memory) }
+    ensures sure { IfSome router.old.standing (λ r.
+        translation (rows_of (both front.old r.state)) r.state.present iface.number (hosts_on front.old.present iface.number)
+        bytes.now ≡ None
+        → IsTrue (needs_no_memory (step r.state (frame_event draw iface bytes.now)).answer) → IsOk result) }
+{
+    let end = router.membership_end(iface);
+    let mut written = Vec::new(alloc);
+    let given = front.translate(alloc, &Asked::of(router), iface, bytes, &mut written)?;
+    let packet = packet_of(given, bytes, written.as_slice());
+    let answer = give(router, &LentEvent::frame(draw, iface, packet), sent)?;
+    front.note(iface, given, answer, end)?;
+    Ok(answer)
+}
+
+// A packet that came on an interface.
+fn take_frame(
+    alloc: Global,
+    router: &mut Router,
+    front: &mut Front,
+    draw: u32,
+    iface: IfaceId,
+    bytes: &[u8],
+    sent: &mut Vec<Emission>,
+) -> Result<Result<Verdict, Refusal>, Fault>
+    ensures took { IfSome router.old.standing (λ r. IfOk result (λ answer.
+        Took front.old r.state (event_queried front.old (frame_event draw iface bytes.now)) sent.old.items answer router.new
+        sent.new.items front.new)) }
+    ensures fault { IfSome router.old.standing (λ r. IsOkUnless result Fault.Memory) }
+    ensures sure { IfSome router.old.standing (λ r.
+        IsTrue (is_sure (Some front.old) r.state (frame_event draw iface bytes.now)) → IsOk result) }
+{
+    if !front.hears_queries(iface) {
+        return take_packet(alloc, router, front, draw, iface, bytes, sent);
+    }
+    let mut query = Vec::new(alloc);
+    if give_query(alloc, bytes, &mut query)? {
+        return take_packet(alloc, router, front, draw, iface, query.as_slice(), sent);
+    }
+    take_packet(alloc, router, front, draw, iface, bytes, sent)
+}
+
+// Time passes: whose timers expired by then is forgotten, and the groups without a record.
+fn advance(
+    router: &mut Router,
+    front: &mut Front,
+    event: &LentEvent<'_>,
+    moment: u64,
+    sent: &mut Vec<Emission>,
+) -> Result<Result<Verdict, Refusal>, Fault>
+    requires { event.now.kind ≡ EventKind.Advance moment }
+    ensures took { IfSome router.old.standing (λ r. IfOk result (λ answer.
+        Took front.old r.state (event_queried front.old event.now) sent.old.items answer router.new sent.new.items front.new)) }
+    ensures fault { IfSome router.old.standing (λ r. IsOkUnless result Fault.Memory) }
+    ensures sure { IfSome router.old.standing (λ r. IsTrue (is_sure (Some front.old) r.state event.now) → IsOk result) }
+{
+    let answer = give(router, event, sent)?;
+    if is_done(answer) {
+        front.forget(&Asked::of(router), moment);
+    }
+    Ok(answer)
+}
+
+// An interface goes down: whom it heard is forgotten.
+fn go_down(
+    router: &mut Router,
+    front: &mut Front,
+    event: &LentEvent<'_>,
+    iface: IfaceId,
+    sent: &mut Vec<Emission>,
+) -> Result<Result<Verdict, Refusal>, Fault>
+    requires { event.now.kind ≡ EventKind.Down iface }
+    ensures took { IfSome router.old.standing (λ r. IfOk result (λ answer.
+        Took front.old r.state (event_queried front.old event.now) sent.old.items answer router.new sent.new.items front.new)) }
+    ensures fault { IfSome router.old.standing (λ r. IsOkUnless result Fault.Memory) }
+    ensures sure { IfSome router.old.standing (λ r. IsTrue (is_sure (Some front.old) r.state event.now) → IsOk result) }
+{
+    let answer = give(router, event, sent)?;
+    if is_done(answer) {
+        front.leave(iface);
+    }
+    Ok(answer)
+}
+
+// An event of which nothing is heard or forgotten.
+fn pass(
+    router: &mut Router,
+    front: &Front,
+    event: &LentEvent<'_>,
+    sent: &mut Vec<Emission>,
+) -> Result<Result<Verdict, Refusal>, Fault>
+    requires { is_plain event.now.kind ≡ true }
+    ensures took { IfSome router.old.standing (λ r. IfOk result (λ answer.
+        Took front.now r.state (event_queried front.now event.now) sent.old.items answer router.new sent.new.items front.now)) }
+    ensures fault { IfSome router.old.standing (λ r. IsOkUnless result Fault.Memory) }
+    ensures sure { IfSome router.old.standing (λ r. IsTrue (is_sure (Some front.now) r.state event.now) → IsOk result) }
+{
+    let _ = front;
+    let answer = give(router, event, sent)?;
+    Ok(answer)
+}
+
+// Any event.
+#[tactic(auto, unfolding(pim_intake::specs::Lent::event_kind))]
+fn take(
+    alloc: Global,
+    router: &mut Router,
+    front: &mut Front,
+    event: &LentEvent<'_>,
+    sent: &mut Vec<Emission>,
+) -> Result<Result<Verdict, Refusal>, Fault>
+    ensures took { IfSome router.old.standing (λ r. IfOk result (λ answer.
+        Took front.old r.state (event_queried front.old event.now) sent.old.items answer router.new sent.new.items front.new)) }
+    ensures fault { IfSome router.old.standing (λ r. IsOkUnless result Fault.Memory) }
+    ensures sure { IfSome router.old.standing (λ r. IsTrue (is_sure (Some front.old) r.state event.now) → IsOk result) }
+{
+    match event.kind() {
+        LentKind::Frame { iface, bytes } => take_frame(
+            alloc,
+            router,
+            front,
+            event.draw(),
+            *iface,
+            bytes.as_slice(),
+            sent,
+        ),
+        LentKind::Advance { moment } => advance(router, front, event, *moment, sent),
+        LentKind::Down { iface } => go_down(router, front, event, *iface, sent),
+        LentKind::Unicast { .. }
+        | LentKind::Up { .. }
+        | LentKind::Routes { .. }
+        | LentKind::Rps { .. } => pass(router, front, event, sent),
+    }
+}
+
+// Any event, before which something stands; with the answer comes what leaves.
+fn step_behind(
+    alloc: Global,
+    router: &mut Router,
+    front: &mut Front,
+    event: &LentEvent<'_>,
+) -> Result<(Result<Verdict, Refusal>, Vec<Emission>), Fault>
+    ensures took { IfSome router.old.standing (λ r. IfOk result (λ told.
+        Stepped (Some front.old) r.state event.now told.0 router.new told.1.items (Some front.new))) }
+    ensures fault { IfSome router.old.standing (λ r. IsOkUnless result Fault.Memory) }
+    ensures sure { IfSome router.old.standing (λ r. IsTrue (is_sure (Some front.old) r.state event.now) → IsOk result) }
+{
+    let mut sent = Vec::new(alloc);
+    let answer = take(alloc, router, front, event, &mut sent)?;
+    let left = front.emissions_left(alloc, sent)?;
+    Ok((answer, left))
+}
+
+/// Has a router take an event; with the answer comes what leaves. What stands before the router is lost by a fault.
+pub(crate) fn step(
+    alloc: Global,
+    router: &mut Router,
+    front: &mut Option<Front>,
+    event: &LentEvent<'_>,
+) -> Result<(Result<Verdict, Refusal>, Vec<Emission>), Fault>
+    ensures took { IfSome router.old.standing (λ r. IfOk result (λ told.
+        Stepped front.old r.state event.now told.0 router.new told.1.items front.new)) }
+    ensures fault { IfSome router.old.standing (λ r. IsOkUnless result Fault.Memory) }
+    ensures sure { IfSome router.old.standing (λ r. IsTrue (is_sure front.old r.state event.now) → IsOk result) }
+{
+    let Some(mut standing) = mem::replace(front, None) else {
+        let mut sent = Vec::new(alloc);
+        let answer = give(router, event, &mut sent)?;
+        return Ok((answer, sent));
+    };
+    let told = step_behind(alloc, router, &mut standing, event)?;
+    *front = Some(standing);
+    Ok(told)
+}
+
+/// What stands before a router: what stood there, or what is made. Only the latter may fail for want of memory.
+pub(crate) fn front_of(
+    alloc: Global,
+    router: &Router,
+    front: Option<Front>,
+) -> Result<Front, AllocError>
+    ensures made { IfSome router.now.standing (λ r. IfOk result (λ made. made ≡ front_of r.state front)) }
+    ensures none { OnErr result (front ≡ None) }
+{
+    match front {
+        Some(front) => Ok(front),
+        None => Front::new(alloc, router.limit(), router.interface_count()),
+    }
+}

@@ -1,0 +1,234 @@
+//! What stands before a router for hosts and routers of older versions of IGMP.
+ghost use Rattle.std.specs.Prelude.{◌≡◌, [], IfOk, IsOk, IsTrue, OnErr, OnOk, None, map, replicate, slice_set};
+ghost use Rattle.igmp_older.specs.Joined.{noted_answered, older_in};
+ghost use Rattle.igmp_older.specs.Presence.{forgotten, hosts_on, left, live_rows, rows_told, with_hosts};
+ghost use Rattle.igmp_older.specs.Translation.{translation, Gives};
+ghost use Rattle.pim_model.specs.Sure.{needs_no_memory};
+ghost use Rattle.pim_session.specs.Front.{bytes_left, emission_left, hears_queries, version_on};
+
+use igmp_older::{
+    Given, OlderHosts, OlderRow, Presence, Querier, QueryVersion, cut_query, note_answered,
+    translate,
+};
+use pim_types::{Emission, IfaceId, Refusal, Series, Verdict};
+use std::alloc::{AllocError, Global};
+use std::marker::Model;
+
+/// The older hosts that were heard, which are heard on each interface, and the version in which each interface queries.
+pub struct Front {
+    presence: Presence,
+    versions: Vec<QueryVersion>,
+}
+
+impl Model for Front {
+    ghost use Rattle.pim_session.specs.Front.{Front};
+
+    ghost Value = { Front };
+
+    ghost view = { λ f. record { present = f.presence; versions = f.versions.items } };
+}
+
+// Called at each exit of an owner, where a derived drop would be spelled out and proved anew.
+impl Drop for Front {
+    fn drop(self) {
+        let Front {
+            presence: _,
+            versions: _,
+        } = self;
+    }
+}
+
+// As many interfaces on which nobody is heard.
+fn nobody(alloc: Global, count: u32) -> Result<Vec<OlderHosts>, AllocError>
+    ensures { IfOk result (λ hosts. hosts.items ≡ replicate count OlderHosts.Nobody) }
+{
+    let mut hosts = Vec::new(alloc);
+    for _place in 0..count {
+        hosts.push(OlderHosts::Nobody)?;
+    }
+    Ok(hosts)
+}
+
+// As many interfaces that query in version 3.
+fn three(alloc: Global, count: u32) -> Result<Vec<QueryVersion>, AllocError>
+    ensures { IfOk result (λ versions. versions.items ≡ replicate count QueryVersion.Three) }
+{
+    let mut versions = Vec::new(alloc);
+    for _place in 0..count {
+        versions.push(QueryVersion::Three)?;
+    }
+    Ok(versions)
+}
+
+impl Front {
+    ghost use Rattle.igmp_older.specs.declared.setting.OlderHosts.{OlderHosts};
+    ghost use Rattle.igmp_older.specs.declared.setting.QueryVersion.{QueryVersion};
+
+    /// Nobody is heard on any of as many interfaces, all of which query in version 3. Later as many older hosts are
+    /// remembered as the limit says.
+    pub(crate) fn new(alloc: Global, limit: u32, count: u32) -> Result<Front, AllocError>
+        ensures { IfOk result (λ front. front ≡ record {
+          present = record { rows = []; limit = limit; hosts = replicate count OlderHosts.Nobody };
+          versions = replicate count QueryVersion.Three;
+        }) }
+    {
+        let hosts = nobody(alloc, count)?;
+        let versions = three(alloc, count)?;
+        let presence = Presence::new(alloc, limit as usize, hosts);
+        Ok(Front { presence, versions })
+    }
+
+    // The version in which an interface queries.
+    #[tactic(auto, unfolding(crate::specs::Front::version_on))]
+    fn version(&self, iface: IfaceId) -> QueryVersion
+        ensures { result ≡ version_on self.now iface.number }
+    {
+        match self.versions.get(iface.number as usize).copied() {
+            Some(version) => version,
+            None => QueryVersion::Three,
+        }
+    }
+
+    /// Whether older queries are heard on an interface.
+    pub(crate) fn hears_queries(&self, iface: IfaceId) -> bool
+        ensures { result ≡ hears_queries self.now iface.number }
+    {
+        match (self.presence.hosts(iface), self.version(iface)) {
+            (OlderHosts::Nobody, QueryVersion::Three) => false,
+            _ => true,
+        }
+    }
+
+    /// What the querier is to be given in place of a packet that came on an interface, as `igmp_older::translate` says.
+    pub(crate) fn translate<Q: Querier>(
+        &self,
+        alloc: Global,
+        querier: &Q,
+        iface: IfaceId,
+        bytes: &[u8],
+        out: &mut Vec<u8>,
+    ) -> Result<Given, AllocError>
+        ensures ok { IfOk result (λ given. Gives given
+            (translation (live_rows (Q.group_records querier.now) self.now.present.rows) (Q.present querier.now)
+            iface.number (hosts_on self.now.present iface.number) bytes.now)
+            out.old.items out.new.items) }
+        ensures sure { translation (live_rows (Q.group_records querier.now) self.now.present.rows) (Q.present querier.now)
+            iface.number (hosts_on self.now.present iface.number) bytes.now ≡ None → IsOk result }
+    {
+        translate(alloc, &self.presence, querier, iface, bytes, out)
+    }
+
+    /// Remembers the older message that the querier was given, until an end in ms, where the answer is that it is done.
+    pub(crate) fn note(
+        &mut self,
+        iface: IfaceId,
+        given: Given,
+        answer: Result<Verdict, Refusal>,
+        end: u64,
+    ) -> Result<(), AllocError>
+        ensures ok { OnOk result (self.new ≡ record self.old {
+          present = noted_answered self.old.present iface.number end (older_in given) answer
+        }) }
+        ensures sure { IsTrue (needs_no_memory answer) → IsOk result }
+    {
+        note_answered(&mut self.presence, iface, given, answer, end)
+    }
+
+    /// Forgets whose timers expired by a timestamp in ms, and the groups of which the querier has no record.
+    pub(crate) fn forget<Q: Querier>(&mut self, querier: &Q, moment: u64)
+        ensures { self.new ≡ record self.old {
+          present = forgotten (Q.group_records querier.now) moment self.old.present
+        } }
+    {
+        self.presence.forget(querier, moment);
+    }
+
+    /// Forgets whom an interface heard.
+    pub(crate) fn leave(&mut self, iface: IfaceId)
+        ensures { self.new ≡ record self.old { present = left iface.number self.old.present } }
+    {
+        self.presence.leave(iface);
+    }
+
+    /// The groups in an older mode.
+    pub(crate) fn older_rows<Q: Querier>(
+        &self,
+        alloc: Global,
+        querier: &Q,
+    ) -> Result<Vec<OlderRow>, AllocError>
+        ensures { IfOk result (λ rows. rows.items
+            ≡ rows_told (Q.group_records querier.now) (Q.present querier.now) self.now.present) }
+    {
+        self.presence.older_rows(alloc, querier)
+    }
+
+    /// Sets which hosts an interface hears, if it has settings, and forgets what it heard.
+    pub(crate) fn set_hosts(&mut self, iface: IfaceId, hosts: OlderHosts)
+        ensures { self.new ≡ record self.old { present = with_hosts iface.number hosts self.old.present } }
+    {
+        self.presence.set_hosts(iface, hosts);
+    }
+
+    /// Sets the version in which an interface queries, if it has settings.
+    pub(crate) fn set_version(&mut self, iface: IfaceId, version: QueryVersion)
+        ensures { self.new ≡ record self.old { versions = slice_set self.old.versions iface.number version } }
+    {
+        let place = iface.number as usize;
+        if place < self.versions.len() {
+            self.versions[place] = version;
+        }
+    }
+
+    // Bytes that leave on an interface: a query is cut where the interface queries in version 2.
+    fn bytes_left(
+        &self,
+        alloc: Global,
+        iface: IfaceId,
+        bytes: Series<u8>,
+    ) -> Result<Series<u8>, AllocError>
+        ensures { IfOk result (λ left. left ≡ bytes_left (version_on self.now iface.number) bytes) }
+    {
+        match self.version(iface) {
+            QueryVersion::Three => return Ok(bytes),
+            QueryVersion::Two => {}
+        }
+        let mut shorter = Vec::new(alloc);
+        if cut_query(alloc, bytes.as_slice(), &mut shorter)? {
+            return Ok(Series::from_vec(shorter));
+        }
+        Ok(bytes)
+    }
+
+    // An emission as it leaves.
+    #[tactic(auto, unfolding(crate::specs::Front::emission_left))]
+    fn emission_left(&self, alloc: Global, emission: Emission) -> Result<Emission, AllocError>
+        ensures { IfOk result (λ left. left ≡ emission_left self.now emission) }
+    {
+        match emission {
+            Emission::Link { iface, bytes } => Ok(Emission::Link {
+                iface,
+                bytes: self.bytes_left(alloc, iface, bytes)?,
+            }),
+            Emission::Unicast { destination, bytes } => {
+                Ok(Emission::Unicast { destination, bytes })
+            }
+        }
+    }
+
+    /// Emissions as they leave. No memory is taken where nothing leaves.
+    pub(crate) fn emissions_left(
+        &self,
+        alloc: Global,
+        sent: Vec<Emission>,
+    ) -> Result<Vec<Emission>, AllocError>
+        ensures left { IfOk result (λ left. left.items ≡ map (emission_left self.now) sent.items) }
+        ensures sure { sent.items ≡ [] → IsOk result }
+    {
+        let mut left = Vec::new(alloc);
+        for emission in sent {
+            let emission = self.emission_left(alloc, emission)?;
+            left.push(emission)?;
+        }
+        Ok(left)
+    }
+}
