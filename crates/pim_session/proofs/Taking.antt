@@ -104,7 +104,7 @@ known_step f s e answered p a k =
 
 pub packet_took : (o : Option Standing) (f : Front) (draw : ℕ) (iface : IfaceId) (bytes written : List ℕ) (given : Given) (event : Event) (before : List Emission) (answered : Result Verdict Refusal) (shown : RouterShown) (after : List Emission) (end : ℕ) (known : Front)
     → Gives given (translation (live_rows (option_map_or (λ r. r.state.group_records) o []) f.present.rows)
-      (option_map_or (λ r. r.state.present) o 0) iface.number (hosts_on f.present iface.number) bytes) [] written
+    (option_map_or (λ r. r.state.present) o 0) iface.number (hosts_on f.present iface.number) bytes) [] written
     → event ≡ frame_event draw iface (packet_of given bytes written)
     → IfSome o (λ r. Gave r.state event before answered shown after)
     → end ≡ option_map_or (λ r. r.state.present + group_membership_interval r.state iface.number) o 0
@@ -117,8 +117,8 @@ packet_took (Some r) f draw iface bytes written given event before answered show
     record {
       gave = went;
       knows = k ∙ known_step f r.state (frame_event draw iface bytes) answered
-        (noted_answered f.present iface.number end (older_in given) answered) went.is_answer
-        (known_so f r.state _ iface bytes end (older_in given) answered late (older_so given _ written gives));
+          (noted_answered f.present iface.number end (older_in given) answered) went.is_answer
+          (known_so f r.state _ iface bytes end (older_in given) answered late (older_so given _ written gives));
     }
 
 -- ---- an older query
@@ -194,12 +194,12 @@ other_took (Some r) f e before answered shown after p known so is gave k =
     let same = given_same f r.state e.draw e.kind is in
     let went = subst (λ (x : Event). Gave r.state x before answered shown after) same gave in
     let told = subst (λ (x : Event). p ≡ known_if (both f r.state) (step r.state x).state e.kind answered) same
-      (k r.state gave.state) in
+    (k r.state gave.state) in
     record {
       gave = went;
       knows = so ∙ known_step f r.state (event_queried f e) answered p went.is_answer
-        (subst (λ (x : EventKind). p ≡ known_if (both f r.state) (step r.state (event_given (both f r.state) (event_queried f e))).state x answered)
-        (kind_same f e.kind is) told);
+          (subst (λ (x : EventKind). p ≡ known_if (both f r.state) (step r.state (event_given (both f r.state) (event_queried f e))).state x answered)
+          (kind_same f e.kind is) told);
     }
 
 -- time passed
@@ -380,8 +380,8 @@ all_stepped (Some r) f e answered shown sent leaving known took is =
       disturbed = gave.disturbed;
       stays = gave.stays;
       sent = is ∙ ap (λ (g : Front). map (emission_left g) sent) took.knows
-        ∙ emissions_same f (joined_step (both f r.state) (event_queried f e)).1.present sent
-        ∙ ap (λ (xs : List Emission). map (emission_left f) xs) gave.sent;
+          ∙ emissions_same f (joined_step (both f r.state) (event_queried f e)).1.present sent
+          ∙ ap (λ (xs : List Emission). map (emission_left f) xs) gave.sent;
       known = ap (λ (g : Front). Some g) took.knows;
     }
 
