@@ -1,14 +1,12 @@
 -- Routers behind their fronts: what the front gives, and what one event then is.
-use Rattle.std.proofs.Common.{◌≡◌, ◌∙◌, ℕ, suc, zero, Bool, false, List, [], ◌∷◌, Option, Some, None, Result, Ok, Err, refl, sym, ap, subst}
+use Rattle.std.proofs.Common.{◌≡◌, ◌∙◌, ℕ, suc, zero, Bool, false, List, [], ◌∷◌, Option, Some, None, Ok, Err, refl, sym, ap, subst}
 use Rattle.std.specs.List.{slice_get}
 use Rattle.std.specs.Option.{option_map_or}
 use Rattle.std.specs.Prelude.{IfSome, set}
-use Rattle.pim_ip.specs.declared.refusal.Refusal.{Refusal}
 use Rattle.pim_types.specs.Keys.{star_key}
 use Rattle.pim_types.specs.declared.config.IfaceId.{IfaceId}
 use Rattle.pim_types.specs.declared.event.Event.{Event}
 use Rattle.pim_types.specs.declared.event.EventKind.{EventKind}
-use Rattle.pim_types.specs.declared.fact.GroupRecordRow.{GroupRecordRow}
 use Rattle.pim_types.specs.declared.outcome.Outcome.{Outcome}
 use Rattle.pim_types.specs.declared.outcome.Verdict.{Verdict}
 use Rattle.pim_model.specs.Network.{At, Network, Station, event_of, moved, moved_at, station_at, stepped}
