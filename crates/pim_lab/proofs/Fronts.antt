@@ -13,10 +13,9 @@ use Rattle.pim_model.specs.Network.{At, Network, Station, event_of, moved, moved
 use Rattle.pim_model.specs.State.{State}
 use Rattle.pim_model.specs.Step.{step}
 use Rattle.pim_model.specs.Tables.{has_row, row_at}
-use Rattle.pim_router.specs.Standing.{Standing}
 use Rattle.pim_net.specs.Carried.{AreMoves, HasMoved, carried_packet}
 use Rattle.pim_net.specs.declared.moves.Move.{Move}
-use Rattle.pim_net.specs.Showing.{shown_state}
+use Rattle.pim_net.specs.Showing.{Standing, shown_state}
 use Rattle.igmp_older.specs.Joined.{Both, bytes_given, event_given, joined_step, kind_given, known_after, known_if, older_in, older_of, present_end, rows_of}
 use Rattle.igmp_older.specs.Presence.{Present, hosts_on}
 use Rattle.igmp_older.specs.Translation.{Gives, Translation, packet_given, translation}
