@@ -31,7 +31,11 @@ KINDS = {"ensures", "invariant", "requires", "loop", "overflow"}
 OF_NETWORKS = ("pim_served_runs",)
 # Where a goal isn't met: in a proof by hand, whose path ends with the function's name, or in the code.
 IN_PROOF = re.compile(r"\./proofs/(\S*)/(?:Answers|Invariants|Proof)\.antt:\d+:\d+: error: "
-                      r"(?:\d+ declarations? that depends? on )?`([^`]*)(`?)")
+                      r"(?:\d+ declarations? that depends? on )?`([^`]*)(`?)(.*)")
+# The goals of a proof by hand that stand on a declaration of its own that is rejected.
+STANDING_ON = re.compile(r", which was rejected, (?:was|were) not checked: (.*)")
+# So many letters of the prover's line the kit passes on.
+PASSED_ON = 160
 IN_CODE = re.compile(r"(?:note: )?(src/\S+?):(\d+):\d+: (?:error: )?(.*)")
 GOAL = re.compile(r"\(`([^`]*)(`?)")
 
@@ -100,11 +104,16 @@ class Crate:
             and it.function.name == one.function.name]
         return KINDS.union(clauses(one), *map(clauses, above)) if above or not trait else AnyClause()
 
+    def can_name(self, reason: Reason) -> bool:
+        """Whether an edit may name this reason: it is whole, and of what the function's contract says."""
+        return reason.is_whole and clause_of(reason.goal) in self.clauses_of(reason.found)
+
     def proved_in(self, path: str) -> list[Found]:
         """The functions whose proof stands in a folder below proofs/: its modules, its type with its trait, its
-        name."""
+        name, after a `+` where a module has that name too."""
         *parts, name = path.split("/")
-        return [one for one in self.all() if one.function.name == name and stands_in(one.function, parts)]
+        return [one for one in self.all() if one.function.name == name.removeprefix("+")
+            and stands_in(one.function, parts)]
 
 
 def stands_in(function: Function, parts: list[str]) -> bool:
@@ -180,26 +189,38 @@ class Edit:
         near = below[:1] if is_above else above[-1:]
         return near[0] if near else None
 
-    def reason(self, told: str) -> Reason | None:
-        """The reason that the prover's line tells, as far as the kit passes it on, or None where it tells none."""
+    def reasons(self, told: str) -> list[Reason]:
+        """The reasons that the prover's line tells, as far as the kit passes it on. Of a proof by hand these are the
+        declaration that is rejected, and the goals that stand on it."""
         if found := IN_PROOF.match(told):
             near = self.crate.proved_in(found[1])
-            return Reason(near[0], found[2], bool(found[3])) if len(near) == 1 else None
+            if len(near) != 1:
+                return []
+            left = STANDING_ON.match(found[4])
+            on_it = left[1].split(", ") if left else []
+            if len(told) == PASSED_ON:
+                on_it = on_it[:-1]
+            return [Reason(near[0], found[2], bool(found[3])), *(Reason(near[0], it, True) for it in on_it)]
         found = IN_CODE.match(told)
         if not found or found[1] not in self.crate.files:
-            return None
+            return []
         one, goals = self.function_at(found[1], int(found[2])), GOAL.findall(found[3])
         if one and "`invariant`" in found[3]:
-            return Reason(one, "invariant", True)
+            return [Reason(one, "invariant", True)]
         # A line that is cut may end before its goal begins.
         goal, closed = goals[-1] if goals else ("", "")
-        return Reason(one, goal, bool(closed)) if one else None
+        return [Reason(one, goal, bool(closed))] if one else []
+
+    def reason(self, told: str) -> Reason | None:
+        """The reason that the prover's line tells: one of a clause that the function has, if there is any. None where
+        the line tells no reason."""
+        found = self.reasons(told)
+        return next(filter(self.crate.can_name, found), found[0] if found else None)
 
     def meets(self, told: str) -> bool:
         """Whether the prover's line tells one of the reasons that the edit names."""
-        reason = self.reason(told)
-        named = [words for words in self.wanted if reason and reason.found.function.is_named(words[0])]
-        return any(reason.is_of(clause) for _, clause in named)
+        return any(reason.found.function.is_named(name) and reason.is_of(clause)
+            for reason in self.reasons(told) for name, clause in self.wanted)
 
     def error(self) -> str | None:
         """The error of the front end that is to refuse the edit; None where the prover is to."""

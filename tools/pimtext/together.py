@@ -10,7 +10,7 @@ from collections.abc import Iterable, Iterator
 from pathlib import Path
 from typing import TYPE_CHECKING
 
-from pimtext.edits import Edit, Reason
+from pimtext.edits import KINDS, Edit, Reason, clause_of
 
 if TYPE_CHECKING:
     from pimtext.functions import Found, Function
@@ -114,13 +114,25 @@ def by_front_end(batch: Batch, lines: list[str]) -> Told:
 
 
 def by_prover(batch: Batch, lines: list[str]) -> Told:
-    """The prover's lines on each edit that it refuses, with the reasons that they tell."""
+    """The prover's lines on each edit that it refuses, with the reasons that they tell, first those that an edit may
+    name: what the function ensures, and then what else it has to keep."""
     found: Told = {}
     for line in lines:
-        reason = batch.reason(line)
-        if reason and reason.found.function in batch.of:
-            found.setdefault(batch.of[reason.found.function], []).append((line, reason))
+        for reason in batch.reasons(line):
+            if reason.found.function in batch.of:
+                found.setdefault(batch.of[reason.found.function], []).append((line, reason))
+    for told in found.values():
+        told.sort(key=lambda it: rank(batch, it[1]))
     return found
+
+
+def rank(batch: Batch, reason: Reason) -> int:
+    """How well a reason tells why its function is refused, the best first."""
+    clause = clause_of(reason.goal)
+    kinds = ["ensures", "loop", "invariant", *sorted(KINDS - {"ensures", "loop", "invariant"})]
+    if not batch.crate.can_name(reason):
+        return len(kinds)
+    return kinds.index(clause) if clause in kinds else 0
 
 
 def told_together(batch: Batch, folder: Path) -> Told:

@@ -4,6 +4,7 @@ import io
 import unittest
 from unittest import mock
 
+from pimtext import together
 from tests import stored
 from tests.rooms import kit, repository
 
@@ -170,6 +171,36 @@ class Tried(unittest.TestCase):
             with repository({"crates/low/src/lib.rt": code, "crates/low/edits/weak.edit": edit.format(clause)}) as room:
                 crate = try_edits.Crate(room / "crates" / "low")
                 self.assertEqual(meets, try_edits.Edit(room / "crates/low/edits/weak.edit", crate).meets(goal))
+
+    def test_a_proof_by_hand(self):
+        code = CODE.replace("pub fn number", "pub fn same") + CODE
+        files = {"crates/low/src/lib.rt": code, "crates/low/edits/weak.edit": EDIT}
+        line = "./proofs/lib/{}/Answers.antt:7:5: error: {}"
+        standing = ("2 declarations that depend on `changed`, which was rejected, were not checked: "
+                    "returns-clause-{}, auto")
+        there = ("`returns-clause-same`: the two types differ", standing.format("same"))
+        with repository(files) as room:
+            edit = try_edits.Edit(room / "crates/low/edits/weak.edit", try_edits.Crate(room / "crates" / "low"))
+        for name, told, meets in (
+            *(("number", it, True) for it in there), *(("+number", it, True) for it in there),
+            *(("same", it, False) for it in there), ("number", standing.format("other"), False),
+            ("number", "`changed`: the two types differ", False),
+        ):
+            self.assertEqual(meets, edit.meets(line.format(name, told)), (name, told))
+        told = line.format("number", standing.format("same"))
+        self.assertEqual("lib::number same", str(edit.reason(told)))
+        # The kit cuts a line, and the last name with it.
+        cut = line.format("number", standing.format("same").removesuffix(", auto"))
+        self.assertFalse(edit.meets(cut.replace("changed", "changed".ljust(len("changed") + 160 - len(cut), "d"))))
+
+    def test_the_clause_is_named_that_tells_most(self):
+        goals = ("requires-same", "invariant_of-self", "returns-clause-same", "slice_bounds-all")
+        lines = [GOAL.replace("returns-clause-same", it) for it in goals]
+        with repository({**FILES, "crates/low/edits/weak.edit": EDIT}) as room:
+            crate = try_edits.Crate(room / "crates" / "low")
+            batch = next(try_edits.batches([try_edits.Edit(room / "crates/low/edits/weak.edit", crate)]))
+        (told,) = together.by_prover(batch, lines).values()
+        self.assertEqual([goals[at] for at in (2, 1, 0, 3)], [reason.goal for _, reason in told])
 
     def test_edits_that_are_not_judged_yet(self):
         status, lines, asked, _ = tried(REFUSES, "--unnamed", "low",
