@@ -10,7 +10,7 @@ from collections.abc import Iterable, Iterator
 from pathlib import Path
 from typing import TYPE_CHECKING
 
-from pimtext.edits import KINDS, Edit, Reason, clause_of
+from pimtext.edits import KINDS, Crate, Edit, Reason, clause_of
 
 if TYPE_CHECKING:
     from pimtext.functions import Found, Function
@@ -19,6 +19,7 @@ if TYPE_CHECKING:
 Told = dict[Edit, list[tuple[str, Reason | None]]]
 # What the front end says of a line of the code: then no function is put to the prover.
 BY_FRONT_END = re.compile(r"(src/\S+?):(\d+):\d+: error\[[\w-]+\]")
+CONSTANT = re.compile(r"\s*(?:pub(?:\([a-z]+\))? )?const (\w+):")
 
 
 class Batch(Edit):
@@ -45,19 +46,36 @@ def lines_changed(edit: Edit) -> Iterator[tuple[str, int]]:
         if line.startswith("file: "):
             at = line.removeprefix("file: ").strip()
         elif line.startswith("old: "):
-            before = edit.crate.files[at].partition(line.removeprefix("old: "))[0]
-            yield at, before.count("\n") + 1
+            before, old, _ = edit.crate.files[at].partition(line.removeprefix("old: "))
+            # Else it is what the edit itself has put in.
+            if old:
+                yield at, before.count("\n") + 1
+
+
+def function_on(crate: Crate, file: str, number: int) -> Function | None:
+    """The function whose lines this one is among."""
+    lines = crate.files[file].splitlines()
+    above = [one for one in crate.found[file] if one.line <= number]
+    return above[-1].function if above and number <= last_line(lines, above[-1].line) else None
+
+
+def function_with(crate: Crate, line: str) -> Function | None:
+    """The function that reads the constant which this line gives its value; None where none does, or several do."""
+    if not (constant := CONSTANT.match(line)):
+        return None
+    found = {function_on(crate, file, number) for file, text in crate.files.items()
+        for number, its in enumerate(text.splitlines(), 1) if re.search(rf"\b{constant[1]}\b", its)}
+    found.discard(None)
+    return found.pop() if len(found) == 1 else None
 
 
 def changed(edit: Edit) -> Function | None:
-    """The one function that an edit changes the body of; None where it changes more than that."""
+    """The one function that an edit changes the body of, or a constant of; None where it changes more than that."""
     if not edit.files() <= set(edit.crate.files) or edit.error():
         return None
-    found: set[Function | None] = set()
-    for file, number in lines_changed(edit):
-        lines = edit.crate.files[file].splitlines()
-        above = [one for one in edit.crate.found[file] if one.line <= number]
-        found.add(above[-1].function if above and number <= last_line(lines, above[-1].line) else None)
+    found = {function_on(edit.crate, file, number)
+        or function_with(edit.crate, edit.crate.files[file].splitlines()[number - 1])
+             for file, number in lines_changed(edit)}
     return found.pop() if len(found) == 1 else None
 
 

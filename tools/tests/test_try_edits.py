@@ -162,6 +162,26 @@ class Tried(unittest.TestCase):
         self.assertEqual((1, COUNTS.format(1, 1, 0, 1, 0)), (status, lines[-1]), lines)
         self.assertEqual(["2 at once", "1 at once"], asked)
 
+    def test_an_edit_of_a_constant_changes_the_function_that_reads_it(self):
+        code = "const LEAST: u32 = 1;\nconst MOST: u32 = 2;\n"
+        code += CODE.replace("    n\n", "    n * LEAST + MOST - MOST\n") + CODE.replace("number", "other").replace("    n\n", "    n + MOST - 2\n")
+        for old, function in (("u32 = 1", "lib::number"), ("u32 = 2", "None"), ("- 2", "lib::other")):
+            edit = f"file: src/lib.rt\nold: {old}\nnew: {old}0\n"
+            with repository({"crates/low/src/lib.rt": code, "crates/low/edits/weak.edit": edit}) as room:
+                crate = try_edits.Crate(room / "crates" / "low")
+                self.assertEqual(function,
+                    str(together.changed(try_edits.Edit(room / "crates/low/edits/weak.edit", crate))))
+
+    def test_two_lines_in_the_other_order(self):
+        code = CODE.replace("    n\n", "    let half = n / 2;\n    let twice = half * 2;\n    n\n")
+        edit = ("file: src/lib.rt\nold: let half = n / 2;\nnew: let all = half * 2;\nold: let twice = half * 2;\n"
+                "new: let half = n / 2;\nold: let all\nnew: let twice\n")
+        with repository({"crates/low/src/lib.rt": code, "crates/low/edits/weak.edit": edit}) as room:
+            crate = try_edits.Crate(room / "crates" / "low")
+            edit = try_edits.Edit(room / "crates/low/edits/weak.edit", crate)
+            self.assertEqual("lib::number", str(together.changed(edit)))
+            self.assertTrue(together.applies(edit, dict(crate.files)))
+
     def test_a_loop_by_its_label(self):
         code = ("pub fn sum(n: u32) -> u32\n    ensures same { result ≡ n }\n{\n"
                 "    'all: for i in 0..n {\n    }\n    n\n}\n")
