@@ -382,8 +382,8 @@ struct viq_older_row {
     uint64_t two_end; /* ms, when the IGMPv2 Host Present timer expires */
 };
 
-/* Reads the groups that are in an older mode now. It answers VIQ_DONE; VIQ_MEMORY, where nothing has changed; VIQ_FAILED
- * or VIQ_NO_ROUTER. */
+/* Reads the groups that are in an older mode now. It answers VIQ_DONE; VIQ_MEMORY, where nothing has changed;
+ * VIQ_FAILED or VIQ_NO_ROUTER. */
 VIQ_READ_ANSWER
 uint32_t viq_older_read(struct viq_router *router);
 

@@ -426,8 +426,8 @@ def write_report(host: str, records: Sequence[Record], service: int = 0) -> byte
 
 
 def write_older(host: str, group: str, version: int = 2, is_leave: bool = False) -> bytes:
-    """What a host tells its routers by IGMPv1 or IGMPv2: that it wants a group, or, by IGMPv2 alone, wants it no more. By
-    IGMPv1 there is no Router Alert."""
+    """What a host tells its routers by IGMPv1 or IGMPv2: that it wants a group, or, by IGMPv2 alone, wants it no more.
+    By IGMPv1 there is no Router Alert."""
     body = bytes([0x17 if is_leave else {1: 0x12, 2: 0x16}[version], 0, 0, 0]) + octets(group)
     if version == 1:
         return write(IGMP, host, group, 1, with_number(body, 2, sum16(body)))

@@ -41,7 +41,8 @@ def read(text, lines):
 
 class Numbers(unittest.TestCase):
     def test_each_printed_row_is_that_of_its_numbers(self):
-        rows = {line for _, lines in stored.played() for line in lines if re.match("[A-Z] ", line)}
+        # Rows O are of a router's front, which the definitions' router doesn't have.
+        rows = {line for _, lines in stored.played() for line in lines if re.match("[A-NP-Z] ", line)}
         self.assertGreater(len(rows), 500)
         for row in rows:
             self.assertEqual(run.row_words(run.row_numbers(row.split(" "))), row)
@@ -89,7 +90,7 @@ class Read(unittest.TestCase):
             except run.SetAside as reason:
                 aside[path.name] = str(reason)
         known = ("its text is refused, before|it ends with an error that no|isn't UTF-8|isn't TOML|two interfaces on "
-                 "its link")
+                 "its link|hears older hosts")
         self.assertFalse({name: why for name, why in aside.items() if not re.search(known, why)})
 
     def test_a_refused_configuration(self):

@@ -5,6 +5,7 @@ ghost use Rattle.igmp_wire.specs.Codes.{code_value};
 ghost use Rattle.igmp_wire.specs.Queries.{query_text};
 ghost use Rattle.igmp_older.specs.Routers.{Wrote, cut, cut_text, message_cut, older_query_reading, older_query_text, packet_cut, packet_queried, queried, query_as_three, query_packet};
 
+use crate::front::PROTOCOL_PLACE;
 use crate::older::group_of;
 use igmp_wire::{IgmpView, QueryHeader, QueryView, code_value, read_igmp, write_query};
 use pim_ip::{
@@ -97,13 +98,17 @@ fn give_packet(alloc: Global, packet: &Ipv4View<'_>, out: &mut Vec<u8>) -> Resul
 /// Whether a packet that came is a query of version 2: then the query of version 3 that the router is to be given in its
 /// place is written behind what stands in `out`. The router elects by it, with its configured values. An `Err` is want of
 /// memory, and changes nothing. Any other packet takes no memory.
-#[tactic(auto, unfolding(crate::specs::Routers::queried))]
+#[tactic(auto, using(crate::proofs::Passing::no_queries), unfolding(crate::specs::Routers::queried))]
 pub fn give_query(alloc: Global, bytes: &[u8], out: &mut Vec<u8>) -> Result<bool, AllocError>
     ensures ok { IfOk result (λ written. Wrote written (option_map query_packet (queried bytes.now))
         out.old.items out.new.items) }
     ensures err { OnErr result (out.new.items ≡ out.old.items) }
     ensures sure { queried bytes.now ≡ None → IsOk result }
 {
+    // Data pays for no more than this.
+    if bytes.len() <= PROTOCOL_PLACE || bytes[PROTOCOL_PLACE] != PROTOCOL_IGMP {
+        return Ok(false);
+    }
     if bytes.len() > FRAME_LIMIT {
         return Ok(false);
     }

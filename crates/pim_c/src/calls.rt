@@ -220,12 +220,7 @@ pub extern "C" fn viq_core_row(
 /// Sets which hosts of older versions of IGMP an interface hears, by a number: 0 none, 1 those of version 2, 2 those of
 /// versions 1 and 2. What was heard there before is forgotten.
 #[unsafe(no_mangle)]
-pub extern "C" fn viq_core_older(
-    alloc: Global,
-    router: &mut Handle,
-    iface: u32,
-    hosts: u32,
-) -> u32
+pub extern "C" fn viq_core_older(alloc: Global, router: &mut Handle, iface: u32, hosts: u32) -> u32
     ensures { HostsSetBy router.old.place.inside iface (older_hosts_of hosts) result router.new.place.inside }
 {
     match told::older_hosts(hosts) {

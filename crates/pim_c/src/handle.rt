@@ -587,12 +587,7 @@ fn read(session: &mut Session, table: Table) -> u32
 }
 
 // Sets which hosts of older versions an interface hears.
-fn set_older_hosts(
-    alloc: Global,
-    session: &mut Session,
-    iface: IfaceId,
-    hosts: OlderHosts,
-) -> u32
+fn set_older_hosts(alloc: Global, session: &mut Session, iface: IfaceId, hosts: OlderHosts) -> u32
     ensures { HostsSetFrom session.old session.old.router.standing iface.number hosts result session.new }
 {
     match session.set_older_hosts(alloc, iface, hosts) {

@@ -1,24 +1,21 @@
 -- Routers behind their fronts: what the front gives, and what one event then is.
-use Rattle.std.proofs.Common.{◌≡◌, ◌∙◌, ℕ, suc, zero, Bool, false, List, [], ◌∷◌, Option, Some, None, Result, Ok, Err, refl, sym, ap, subst}
+use Rattle.std.proofs.Common.{◌≡◌, ◌∙◌, ℕ, suc, zero, Bool, false, List, [], ◌∷◌, Option, Some, None, Ok, Err, refl, sym, ap, subst}
 use Rattle.std.specs.List.{slice_get}
 use Rattle.std.specs.Option.{option_map_or}
 use Rattle.std.specs.Prelude.{IfSome, set}
-use Rattle.pim_ip.specs.declared.refusal.Refusal.{Refusal}
 use Rattle.pim_types.specs.Keys.{star_key}
 use Rattle.pim_types.specs.declared.config.IfaceId.{IfaceId}
 use Rattle.pim_types.specs.declared.event.Event.{Event}
 use Rattle.pim_types.specs.declared.event.EventKind.{EventKind}
-use Rattle.pim_types.specs.declared.fact.GroupRecordRow.{GroupRecordRow}
 use Rattle.pim_types.specs.declared.outcome.Outcome.{Outcome}
 use Rattle.pim_types.specs.declared.outcome.Verdict.{Verdict}
 use Rattle.pim_model.specs.Network.{At, Network, Station, event_of, moved, moved_at, station_at, stepped}
 use Rattle.pim_model.specs.State.{State}
 use Rattle.pim_model.specs.Step.{step}
 use Rattle.pim_model.specs.Tables.{has_row, row_at}
-use Rattle.pim_router.specs.Standing.{Standing}
 use Rattle.pim_net.specs.Carried.{AreMoves, HasMoved, carried_packet}
 use Rattle.pim_net.specs.declared.moves.Move.{Move}
-use Rattle.pim_net.specs.Showing.{shown_state}
+use Rattle.pim_net.specs.Showing.{Standing, shown_state}
 use Rattle.igmp_older.specs.Joined.{Both, bytes_given, event_given, joined_step, kind_given, known_after, known_if, older_in, older_of, present_end, rows_of}
 use Rattle.igmp_older.specs.Presence.{Present, hosts_on}
 use Rattle.igmp_older.specs.Translation.{Gives, Translation, packet_given, translation}

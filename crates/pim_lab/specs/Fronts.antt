@@ -7,7 +7,7 @@ use Rattle.pim_types.specs.declared.fact.GroupRecordRow.{GroupRecordRow}
 use Rattle.pim_types.specs.declared.outcome.Verdict.{Verdict}
 use Rattle.pim_model.specs.State.{State}
 use Rattle.pim_model.specs.Tables.{Table}
-use Rattle.pim_router.specs.Standing.{Standing}
+use Rattle.pim_net.specs.Showing.{Standing}
 use Rattle.igmp_older.specs.Joined.{Both, known_if, noted_answered, older_in}
 use Rattle.igmp_older.specs.Laws.{none_known}
 use Rattle.igmp_older.specs.Presence.{Present, forgotten, left}

@@ -11,9 +11,7 @@ ghost use Rattle.pim_lab.specs.Fronts.{IsMarkOf, Stands, behind, marked};
 
 use igmp_older::{Given, Presence, Querier, note_answered, translate};
 use pim_net::{Move, Net, NetLog, Router, Wire};
-use pim_types::{
-    Addr, Event, EventKind, Fault, IfaceId, Outcome, Refusal, Series, Verdict,
-};
+use pim_types::{Addr, Event, EventKind, Fault, IfaceId, Outcome, Refusal, Series, Verdict};
 use std::alloc::{AllocError, Global};
 
 /// A router, as its front asks it.

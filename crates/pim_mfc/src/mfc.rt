@@ -101,9 +101,7 @@ impl Mfc {
     pub fn kept(&self, name: SourceGroup, meter: &mut Meter) -> Option<SourceAnswers>
         ensures { result ≡ kept_row self.now name.group.bits name.source.bits }
     {
-        self.rows
-            .get(name.group, Some(name.source), meter)
-            .copied()
+        self.rows.get(name.group, Some(name.source), meter).copied()
     }
 
     /// How a packet of the source that came on the interface goes, by its row alone; `None` where there is none, or

@@ -6,6 +6,8 @@ use Rattle.pim_types.specs.declared.event.EventKind.{EventKind}
 use Rattle.pim_model.specs.Network.{Network, Station, station_at}
 use Rattle.pim_model.specs.Network as written
 use Rattle.pim_model.specs.State.{State}
+-- how a router of the network stands, for those who read it
+pub use Rattle.pim_router.specs.Standing.{Standing}
 use Rattle.pim_net.specs.declared.node.Node.{Node}
 use Rattle.pim_net.specs.declared.moves.Move.{Move}
 

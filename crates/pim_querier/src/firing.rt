@@ -1,5 +1,5 @@
 //! The expiry of a querier's timers.
-ghost use Rattle.std.specs.Prelude.{◌≡◌, ◌≤◌, OnOk, true};
+ghost use Rattle.std.specs.Prelude.{◌≡◌, OnOk, true};
 ghost use Rattle.pim_world.specs.Turns.{saying};
 ghost use Rattle.pim_model.specs.Firing.{fired, startup_left};
 ghost use Rattle.pim_types.specs.declared.timer.TimerKind.{TimerKind};

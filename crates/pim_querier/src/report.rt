@@ -1,5 +1,5 @@
 //! A report of a host (RFC 3376, sections 4.2 and 6.4).
-ghost use Rattle.std.specs.Prelude.{◌≡◌, ◌≤◌, ◌<◌, IfOk, OnOk};
+ghost use Rattle.std.specs.Prelude.{◌≡◌, ◌<◌, IfOk, OnOk};
 ghost use Rattle.pim_world.specs.Turns.{saying};
 ghost use Rattle.pim_model.specs.Querier.{is_skipped, record_seen, report_seen};
 ghost use Rattle.pim_model.specs.Records.{with_record};

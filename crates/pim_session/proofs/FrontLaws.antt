@@ -79,8 +79,8 @@ kind_same : (f : Front) (p : Present) (kind : EventKind) → p.hosts ≡ f.prese
 unfolding kind_queried bytes_queried version_on hosts_on
 kind_same f p (EventKind.Frame i bytes) e =
     ap (λ (hosts : List OlderHosts). EventKind.Frame i
-      (if queries_heard (setting_or_nobody (slice_get hosts i.number)) (version_on f i.number)
-      then option_map_or query_packet (queried bytes) bytes else bytes)) e
+    (if queries_heard (setting_or_nobody (slice_get hosts i.number)) (version_on f i.number)
+    then option_map_or query_packet (queried bytes) bytes else bytes)) e
 kind_same f p (EventKind.Advance moment) e = refl
 kind_same f p (EventKind.Unicast bytes) e = refl
 kind_same f p (EventKind.Up i) e = refl
@@ -130,8 +130,9 @@ session_is_joined f s (e ∷ es) =
     let first : Outcome × Both = joined_step (both f s) (event_queried f e) in
     let next : Front = with_present f first.1.present in
     let later = session_is_joined next first.1.state es in
-    let same = events_same f first.1.present es (hosts_stay (both f s) (event_queried f e)) in
-    (ap (λ (os : List Outcome). outcome_left (Some f) first.0 ∷ os)
-    (later.0 ∙ ap (λ (ys : List Event). map (outcome_left (Some next)) (joined first.1 ys).0) same
-    ∙ outcomes_same f first.1.present (joined first.1 (map (event_queried f) es)).0),
-    later.1 ∙ ap (λ (ys : List Event). (joined first.1 ys).1.state) same)
+    let same = events_same f first.1.present es (hosts_stay (both f s) (event_queried f e)) in (
+      ap (λ (os : List Outcome). outcome_left (Some f) first.0 ∷ os)
+          (later.0 ∙ ap (λ (ys : List Event). map (outcome_left (Some next)) (joined first.1 ys).0) same
+          ∙ outcomes_same f first.1.present (joined first.1 (map (event_queried f) es)).0),
+      later.1 ∙ ap (λ (ys : List Event). (joined first.1 ys).1.state) same,
+    )

@@ -1,6 +1,6 @@
 -- What a router and what stands before it make of an event.
 use Rattle.std.specs.Option.{option_map_or}
-use Rattle.std.proofs.Common.{◌≡◌, ◌∙◌, ◌++◌, ◌&&◌, ◌+◌, ap, refl, sym, subst, ℕ, Bool, true, false, is_none, List, [], map, Option, Some, None, option_map, Result, Ok, Err, IfOk, IfSome, IsTrue, IsOk, if◌then◌else◌}
+use Rattle.std.proofs.Common.{◌≡◌, ◌∙◌, ◌++◌, ◌&&◌, ◌+◌, ap, refl, sym, subst, ℕ, Bool, true, false, is_none, nat_lt, List, [], map, Option, Some, None, option_map, Result, Ok, Err, IfOk, IfSome, IsTrue, IsOk, if◌then◌else◌}
 use Rattle.pim_ip.specs.declared.fault.Fault.{Fault}
 use Rattle.pim_ip.specs.declared.refusal.Refusal.{Refusal}
 use Rattle.pim_types.specs.declared.config.IfaceId.{IfaceId}
@@ -10,7 +10,7 @@ use Rattle.pim_types.specs.declared.fact.Key.{Key}
 use Rattle.pim_types.specs.declared.outcome.Emission.{Emission}
 use Rattle.pim_types.specs.declared.outcome.Verdict.{Verdict}
 use Rattle.pim_model.specs.Querier.{group_membership_interval}
-use Rattle.pim_model.specs.State.{State}
+use Rattle.pim_model.specs.State.{State, iface_count}
 use Rattle.pim_model.specs.Step.{Answered, step}
 use Rattle.pim_model.specs.Sure.{needs_no_memory}
 use Rattle.pim_model.specs.Tables.{has_row, row_at}
@@ -22,13 +22,14 @@ use Rattle.pim_event.specs.Listing.{ListsSame}
 use Rattle.pim_router.specs.Standing.{Shown as RouterShown, Standing, standing}
 use Rattle.pim_event.specs.Staying.{OffersStay}
 use Rattle.igmp_older.specs.Joined.{bytes_given, event_given, joined_step, kind_given, known_after, known_if, noted_answered, noted_if, older_in, older_of, present_end, rows_of}
-use Rattle.igmp_older.specs.Presence.{Present, forgotten, hosts_on, left, live_rows}
+use Rattle.igmp_older.specs.Presence.{Present, forgotten, hosts_on, left, live_rows, rows_told}
 use Rattle.igmp_older.specs.Routers.{OlderQueried, Wrote, queried, query_packet}
 use Rattle.igmp_older.specs.Translation.{Gives, Translation, packet_given, translation}
 use Rattle.igmp_older.specs.declared.front.Given.{Given}
+use Rattle.igmp_older.specs.declared.mode.OlderRow.{OlderRow}
 use Rattle.igmp_older.specs.declared.older.Older.{Older}
 use Rattle.pim_session.specs.Behind.{Gave, Stepped, Took, frame_event, is_done, is_plain, packet_of}
-use Rattle.pim_session.specs.Front.{Front, both, bytes_queried, emission_left, emissions_left, event_queried, front_after, given, hears_queries, is_query_passed, is_sure, kind_queried}
+use Rattle.pim_session.specs.Front.{Front, both, bytes_queried, emission_left, emissions_left, event_queried, front_after, front_of, given, hears_queries, interface_test, is_query_passed, is_sure, kind_queried, older_rows}
 use Rattle.pim_session.proofs.FrontLaws.{emissions_same}
 
 -- ---- the router is asked
@@ -103,7 +104,7 @@ known_step f s e answered p a k =
 
 pub packet_took : (o : Option Standing) (f : Front) (draw : ℕ) (iface : IfaceId) (bytes written : List ℕ) (given : Given) (event : Event) (before : List Emission) (answered : Result Verdict Refusal) (shown : RouterShown) (after : List Emission) (end : ℕ) (known : Front)
     → Gives given (translation (live_rows (option_map_or (λ r. r.state.group_records) o []) f.present.rows)
-      (option_map_or (λ r. r.state.present) o 0) iface.number (hosts_on f.present iface.number) bytes) [] written
+    (option_map_or (λ r. r.state.present) o 0) iface.number (hosts_on f.present iface.number) bytes) [] written
     → event ≡ frame_event draw iface (packet_of given bytes written)
     → IfSome o (λ r. Gave r.state event before answered shown after)
     → end ≡ option_map_or (λ r. r.state.present + group_membership_interval r.state iface.number) o 0
@@ -116,8 +117,8 @@ packet_took (Some r) f draw iface bytes written given event before answered show
     record {
       gave = went;
       knows = k ∙ known_step f r.state (frame_event draw iface bytes) answered
-        (noted_answered f.present iface.number end (older_in given) answered) went.is_answer
-        (known_so f r.state _ iface bytes end (older_in given) answered late (older_so given _ written gives));
+          (noted_answered f.present iface.number end (older_in given) answered) went.is_answer
+          (known_so f r.state _ iface bytes end (older_in given) answered late (older_so given _ written gives));
     }
 
 -- ---- an older query
@@ -193,12 +194,12 @@ other_took (Some r) f e before answered shown after p known so is gave k =
     let same = given_same f r.state e.draw e.kind is in
     let went = subst (λ (x : Event). Gave r.state x before answered shown after) same gave in
     let told = subst (λ (x : Event). p ≡ known_if (both f r.state) (step r.state x).state e.kind answered) same
-      (k r.state gave.state) in
+    (k r.state gave.state) in
     record {
       gave = went;
       knows = so ∙ known_step f r.state (event_queried f e) answered p went.is_answer
-        (subst (λ (x : EventKind). p ≡ known_if (both f r.state) (step r.state (event_given (both f r.state) (event_queried f e))).state x answered)
-        (kind_same f e.kind is) told);
+          (subst (λ (x : EventKind). p ≡ known_if (both f r.state) (step r.state (event_given (both f r.state) (event_queried f e))).state x answered)
+          (kind_same f e.kind is) told);
     }
 
 -- time passed
@@ -271,17 +272,9 @@ plain_took o f e before answered shown after is gave =
 
 -- ---- events for which no memory is taken
 
-pub always : (o : Option Standing) (P : Standing → Type 0) → ((r : Standing) → P r) → IfSome o P
-always None P h = tt
-always (Some r) P h = h r
-
 pub fails : (o : Option Standing) (P : Standing → Type 0) (B : Type 0) → IfSome o (λ r. P r → false ≡ true) → IfSome o (λ r. P r → B)
 fails None P B h = tt
 fails (Some r) P B h = λ p. let no : false ≡ true = h p in cc
-
-pub each_of : (o : Option Standing) (P Q : Standing → Type 0) → ((r : Standing) → P r → Q r) → IfSome o P → IfSome o Q
-each_of None P Q h p = tt
-each_of (Some r) P Q h p = h r p
 
 none_so : {A : Type 0} (o : Option A) → is_none o ≡ true → o ≡ None
 none_so None e = refl
@@ -300,42 +293,6 @@ IsGivenSame f s iface bytes = translation (rows_of (both f s)) s.present iface.n
 
 abbrev pub NeedsNone : State → Event → Type 0
 NeedsNone s e = IsTrue (needs_no_memory (step s e).answer)
-
-pub translate_surely : (o : Option Standing) (f : Front) (draw : ℕ) (iface : IfaceId) (bytes : List ℕ) (B : Type 0)
-    → (translation (live_rows (option_map_or (λ r. r.state.group_records) o []) f.present.rows)
-      (option_map_or (λ r. r.state.present) o 0) iface.number (hosts_on f.present iface.number) bytes ≡ None → false ≡ true)
-    → IfSome o (λ r. IsGivenSame f r.state iface bytes → NeedsNone r.state (frame_event draw iface bytes) → B)
-translate_surely None f draw iface bytes B h = tt
-translate_surely (Some r) f draw iface bytes B h = λ none sure. (let no : false ≡ true = h none in cc)
-
-same_packet : (given : Given) (o : Option Translation) (bytes written : List ℕ) → Gives given o [] written → o ≡ None
-    → packet_of given bytes written ≡ bytes
-same_packet Given.Same o bytes written h e = refl
-same_packet (Given.Rewritten older) None bytes written h e = absurd h
-same_packet (Given.Rewritten older) (Some t) bytes written h e = cc
-
-pub give_surely : (o : Option Standing) (f : Front) (draw : ℕ) (iface : IfaceId) (bytes written : List ℕ) (given : Given) (event : Event) (B : Type 0)
-    → Gives given (translation (live_rows (option_map_or (λ r. r.state.group_records) o []) f.present.rows)
-      (option_map_or (λ r. r.state.present) o 0) iface.number (hosts_on f.present iface.number) bytes) [] written
-    → event ≡ frame_event draw iface (packet_of given bytes written)
-    → IfSome o (λ r. NeedsNone r.state event → B)
-    → IfSome o (λ r. IsGivenSame f r.state iface bytes → NeedsNone r.state (frame_event draw iface bytes) → B)
-give_surely None f draw iface bytes written given event B gives is h = tt
-give_surely (Some r) f draw iface bytes written given event B gives is h = λ none sure.
-    h (subst (λ (x : Event). NeedsNone r.state x)
-    (sym (is ∙ ap (λ (xs : List ℕ). frame_event draw iface xs) (same_packet given _ bytes written gives none))) sure)
-
-pub note_surely : (o : Option Standing) (f : Front) (draw : ℕ) (iface : IfaceId) (bytes written : List ℕ) (given : Given) (event : Event) (before : List Emission) (answered : Result Verdict Refusal) (shown : RouterShown) (after : List Emission) (B : Type 0)
-    → Gives given (translation (live_rows (option_map_or (λ r. r.state.group_records) o []) f.present.rows)
-      (option_map_or (λ r. r.state.present) o 0) iface.number (hosts_on f.present iface.number) bytes) [] written
-    → event ≡ frame_event draw iface (packet_of given bytes written)
-    → IfSome o (λ r. Gave r.state event before answered shown after)
-    → (IsTrue (needs_no_memory answered) → B)
-    → IfSome o (λ r. IsGivenSame f r.state iface bytes → NeedsNone r.state (frame_event draw iface bytes) → B)
-note_surely None f draw iface bytes written given event before answered shown after B gives is gave h = tt
-note_surely (Some r) f draw iface bytes written given event before answered shown after B gives is gave h = λ none sure.
-    let same = is ∙ ap (λ (xs : List ℕ). frame_event draw iface xs) (same_packet given _ bytes written gives none) in
-    h (ap needs_no_memory gave.is_answer ∙ subst (λ (x : Event). NeedsNone r.state x) (sym same) sure)
 
 -- a packet that is given as it came
 query_passed : (heard : Bool) (bytes : List ℕ) → is_query_passed heard bytes ≡ true
@@ -423,8 +380,8 @@ all_stepped (Some r) f e answered shown sent leaving known took is =
       disturbed = gave.disturbed;
       stays = gave.stays;
       sent = is ∙ ap (λ (g : Front). map (emission_left g) sent) took.knows
-        ∙ emissions_same f (joined_step (both f r.state) (event_queried f e)).1.present sent
-        ∙ ap (λ (xs : List Emission). map (emission_left f) xs) gave.sent;
+          ∙ emissions_same f (joined_step (both f r.state) (event_queried f e)).1.present sent
+          ∙ ap (λ (xs : List Emission). map (emission_left f) xs) gave.sent;
       known = ap (λ (g : Front). Some g) took.knows;
     }
 

@@ -19,7 +19,8 @@ use Rattle.igmp_older.specs.declared.front.Given.{Given}
 use Rattle.pim_session.specs.Front.{Front, both, emissions_left, front_after, given}
 
 -- A router took an event: what it answered, what it shows, and what was sent, behind what was sent before.
-pub record Gave (s : State) (e : Event) (before : List Emission) (answered : Result Verdict Refusal) (left : RouterShown) (after : List Emission) : Type 0 where
+pub record Gave (s : State) (e : Event) (before : List Emission) (answered : Result Verdict Refusal)
+    (left : RouterShown) (after : List Emission) : Type 0 where
   pub is_answer : answered ≡ (step s e).answer
   pub state : left.standing ≡ Some (standing (step s e))
   pub cheap : IsCheap s e left.probes left.touched
@@ -29,7 +30,8 @@ pub record Gave (s : State) (e : Event) (before : List Emission) (answered : Res
   pub sent : after ≡ before ++ (step s e).emissions
 
 -- A router took an event in which no older query is left, behind what stood before it.
-pub record Took (f : Front) (s : State) (e : Event) (before : List Emission) (answered : Result Verdict Refusal) (left : RouterShown) (after : List Emission) (known : Front) : Type 0 where
+pub record Took (f : Front) (s : State) (e : Event) (before : List Emission) (answered : Result Verdict Refusal)
+    (left : RouterShown) (after : List Emission) (known : Front) : Type 0 where
   pub gave : Gave s (event_given (both f s) e) before answered left after
   pub knows : known ≡ record f { present = (joined_step (both f s) e).1.present }
 
@@ -57,9 +59,10 @@ is_done (Ok Verdict.Done) = true
 is_done (Ok (Verdict.Ignored reason)) = false
 is_done (Err refusal) = false
 
--- A router took an event behind what stood before it, if anything did: what it answered and shows, what leaves, and what
--- stands before it then.
-pub record Stepped (front : Option Front) (s : State) (e : Event) (answered : Result Verdict Refusal) (left : RouterShown) (leaving : List Emission) (after : Option Front) : Type 0 where
+-- A router took an event behind what stood before it, if anything did: what it answered and shows, what leaves, and
+-- what stands before it then.
+pub record Stepped (front : Option Front) (s : State) (e : Event) (answered : Result Verdict Refusal)
+    (left : RouterShown) (leaving : List Emission) (after : Option Front) : Type 0 where
   pub is_answer : answered ≡ (step s (given front s e)).answer
   pub state : left.standing ≡ Some (standing (step s (given front s e)))
   pub cheap : IsCheap s (given front s e) left.probes left.touched

@@ -1,5 +1,5 @@
--- What stands before a router for hosts and routers of older versions of IGMP (RFC 3376, section 7.3), and what an event
--- is behind it.
+-- What stands before a router for hosts and routers of older versions of IGMP (RFC 3376, section 7.3), and what an
+-- event is behind it.
 use Rattle.std.specs.Option.{option_map_or}
 use Rattle.std.specs.Prelude.{ℕ, Bool, true, false, ◌&&◌, is_none, nat_lt, if◌then◌else◌, List, [], map, replicate, slice_get, slice_set, Option, Some, None, Result, Ok, Err, unwrap_or}
 use Rattle.pim_ip.specs.declared.refusal.Refusal.{Refusal}

@@ -8,11 +8,11 @@ ghost use Rattle.igmp_older.specs.Joined.{event_given, rows_of};
 ghost use Rattle.igmp_older.specs.Presence.{hosts_on};
 ghost use Rattle.igmp_older.specs.Translation.{translation};
 ghost use Rattle.pim_session.specs.Behind.{Gave, Stepped, Took, frame_event, is_done, is_plain, packet_of};
-ghost use Rattle.pim_session.specs.Front.{both, emissions_left, event_queried, front_after, front_of, given, is_passed, is_sure};
+ghost use Rattle.pim_session.specs.Front.{both, emissions_left, event_queried, front_after, front_of, given, is_sure, hosts_set, interface_test, older_rows, version_set};
 
 use crate::asked::Asked;
 use crate::front::Front;
-use igmp_older::{Given, give_query};
+use igmp_older::{Given, OlderHosts, OlderRow, QueryVersion, give_query};
 use pim_intake::LentEvent;
 use pim_intake::lent::LentKind;
 use pim_router::Router;
@@ -240,17 +240,84 @@ pub(crate) fn step(
     Ok(told)
 }
 
-/// What stands before a router: what stood there, or what is made. Only the latter may fail for want of memory.
-pub(crate) fn front_of(
-    alloc: Global,
-    router: &Router,
-    front: Option<Front>,
-) -> Result<Front, AllocError>
+// What stands before a router: what stood there, or what is made. Only the latter may fail for want of memory.
+fn front_of(alloc: Global, router: &Router, front: Option<Front>) -> Result<Front, AllocError>
     ensures made { IfSome router.now.standing (λ r. IfOk result (λ made. made ≡ front_of r.state front)) }
     ensures none { OnErr result (front ≡ None) }
 {
     match front {
         Some(front) => Ok(front),
         None => Front::new(alloc, router.limit(), router.interface_count()),
+    }
+}
+
+/// Whether an interface is configured, so that it has settings.
+pub(crate) fn test_interface(router: &Router, iface: IfaceId) -> Result<(), Refusal>
+    ensures { IfSome router.now.standing (λ r. result ≡ interface_test r.state iface.number) }
+{
+    if iface.number < router.interface_count() {
+        Ok(())
+    } else {
+        Err(Refusal::NoInterface)
+    }
+}
+
+/// What stands before a router after it is set which hosts an interface hears. An `Err` is want of memory for what stands
+/// there first.
+#[tactic(auto, unfolding(crate::specs::Front::hosts_set))]
+pub(crate) fn set_hosts(
+    alloc: Global,
+    router: &Router,
+    front: Option<Front>,
+    iface: IfaceId,
+    hosts: OlderHosts,
+) -> Result<Option<Front>, AllocError>
+    ensures set { IfSome router.now.standing (λ r. IfOk result (λ set. set ≡ hosts_set r.state front iface.number hosts)) }
+    ensures none { OnErr result (front ≡ None) }
+{
+    if iface.number >= router.interface_count() {
+        return Ok(front);
+    }
+    let mut made = front_of(alloc, router, front)?;
+    made.set_hosts(iface, hosts);
+    Ok(Some(made))
+}
+
+/// What stands before a router after the version is set in which an interface queries. An `Err` is want of memory for what
+/// stands there first.
+#[tactic(auto, unfolding(crate::specs::Front::version_set))]
+pub(crate) fn set_version(
+    alloc: Global,
+    router: &Router,
+    front: Option<Front>,
+    iface: IfaceId,
+    version: QueryVersion,
+) -> Result<Option<Front>, AllocError>
+    ensures set { IfSome router.now.standing (λ r. IfOk result (λ set. set ≡ version_set r.state front iface.number version)) }
+    ensures none { OnErr result (front ≡ None) }
+{
+    if iface.number >= router.interface_count() {
+        return Ok(front);
+    }
+    let mut made = front_of(alloc, router, front)?;
+    made.set_version(iface, version);
+    Ok(Some(made))
+}
+
+/// The groups in an older mode.
+#[tactic(auto, unfolding(crate::specs::Front::older_rows))]
+pub(crate) fn older_rows(
+    alloc: Global,
+    router: &Router,
+    front: &Option<Front>,
+) -> Result<Vec<OlderRow>, AllocError>
+    ensures { IfSome router.now.standing (λ r. IfOk result (λ rows. rows.items ≡ older_rows front.now r.state)) }
+{
+    match front {
+        Some(front) => {
+            let rows = front.older_rows(alloc, &Asked::of(router))?;
+            Ok(rows)
+        }
+        None => Ok(Vec::new(alloc)),
     }
 }

@@ -127,7 +127,7 @@ impl Front {
         end: u64,
     ) -> Result<(), AllocError>
         ensures ok { OnOk result (self.new ≡ record self.old {
-          present = noted_answered self.old.present iface.number end (older_in given) answer
+          present = noted_answered self.old.present iface.number end (older_in given) answer;
         }) }
         ensures sure { IsTrue (needs_no_memory answer) → IsOk result }
     {
@@ -137,7 +137,7 @@ impl Front {
     /// Forgets whose timers expired by a timestamp in ms, and the groups of which the querier has no record.
     pub(crate) fn forget<Q: Querier>(&mut self, querier: &Q, moment: u64)
         ensures { self.new ≡ record self.old {
-          present = forgotten (Q.group_records querier.now) moment self.old.present
+          present = forgotten (Q.group_records querier.now) moment self.old.present;
         } }
     {
         self.presence.forget(querier, moment);

@@ -29,7 +29,6 @@ ghost use Rattle.pim_router.specs.Standing.{begun, nothing_shown, standing, with
 ghost use Rattle.pim_types.specs.Keys.{key_cmp};
 ghost use Rattle.pim_session.specs.Front.{emissions_left, front_after, given, hosts_set, interface_test, is_sure, older_rows, version_set};
 
-use crate::asked::Asked;
 use crate::behind;
 use crate::front::Front;
 use igmp_older::{OlderHosts, OlderRow, QueryVersion};
@@ -297,14 +296,10 @@ impl Session {
         if self.is_lost {
             return Err(Fault::Failed);
         }
-        if iface.number >= self.router.interface_count() {
-            return Ok(Err(Refusal::NoInterface));
-        }
+        let answer = behind::test_interface(&self.router, iface);
         let before = mem::replace(&mut self.front, None);
-        let mut front = behind::front_of(alloc, &self.router, before)?;
-        front.set_hosts(iface, hosts);
-        self.front = Some(front);
-        Ok(Ok(()))
+        self.front = behind::set_hosts(alloc, &self.router, before, iface, hosts)?;
+        Ok(answer)
     }
 
     /// Sets the version in which an interface queries: in version 2 its queries leave cut behind their group. The refusal
@@ -328,14 +323,10 @@ impl Session {
         if self.is_lost {
             return Err(Fault::Failed);
         }
-        if iface.number >= self.router.interface_count() {
-            return Ok(Err(Refusal::NoInterface));
-        }
+        let answer = behind::test_interface(&self.router, iface);
         let before = mem::replace(&mut self.front, None);
-        let mut front = behind::front_of(alloc, &self.router, before)?;
-        front.set_version(iface, version);
-        self.front = Some(front);
-        Ok(Ok(()))
+        self.front = behind::set_version(alloc, &self.router, before, iface, version)?;
+        Ok(answer)
     }
 
     /// Reads the groups that are in an older mode, and keeps them in place of those kept before. After a fault the kept
@@ -352,10 +343,7 @@ impl Session {
         if self.is_lost {
             return Err(Fault::Failed);
         }
-        self.older_rows = match &self.front {
-            Some(front) => front.older_rows(alloc, &Asked::of(&self.router))?,
-            None => Vec::new(alloc),
-        };
+        self.older_rows = behind::older_rows(alloc, &self.router, &self.front)?;
         Ok(())
     }
 

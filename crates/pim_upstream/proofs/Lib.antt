@@ -1,6 +1,7 @@
 mod Absorbed
 mod Alone
 mod EntryChanges
+mod HeardKeys
 mod HeardMessages
 pub mod Members
 pub mod Moves
@@ -8,4 +9,3 @@ pub mod Progress
 pub mod Pruned
 pub mod Steps
 pub mod UpstreamLaws
-mod Visited

@@ -2,4 +2,3 @@ pub mod Hearing
 pub mod Laws
 pub mod Timers
 pub mod Told
-pub mod Visits

@@ -1,9 +1,7 @@
 //! The sources that a Join(*,G) prunes off the shared tree (RFC 7761, section 4.5.6).
-ghost use Rattle.std.specs.Prelude.{◌≡◌, ◌≤◌, IfOk, OnOk, length};
+ghost use Rattle.std.specs.Prelude.{◌≡◌, ◌≤◌, IfOk, length};
 ghost use Rattle.pim_macros.specs.Sights.{IsStarSight};
 ghost use Rattle.pim_model.specs.Upstream.{is_pruned_with_star, pruned_with_star};
-ghost use Rattle.pim_upstream.specs.Visits.{pruned_nodes};
-ghost use Rattle.pim_world.specs.Visits.{raised, source_nodes};
 
 use pim_macros::{SourceSight, StarSight};
 use pim_types::Addr;
@@ -17,7 +15,7 @@ const MOST_PRUNED: usize = 160;
 // Whether a Join(*,G) prunes the source.
 fn is_pruned(world: &World, meter: &mut Meter, star: &StarSight, source: Addr) -> bool
     requires { IsStarSight world.now star.now }
-    ensures pruned { result ≡ is_pruned_with_star world.now star.now.group.bits source.bits }
+    ensures { result ≡ is_pruned_with_star world.now star.now.group.bits source.bits }
 {
     let sight = SourceSight::of(world, *star, source, meter);
     sight.is_pruned_with_star()

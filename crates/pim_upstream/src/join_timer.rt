@@ -1,9 +1,7 @@
 //! What the expiry of a Join timer changes (RFC 7761, sections 4.5.4 and 4.5.5).
-ghost use Rattle.std.specs.Prelude.{◌≡◌, ◌≤◌, OnOk};
+ghost use Rattle.std.specs.Prelude.{◌≡◌, OnOk};
 ghost use Rattle.pim_types.specs.declared.timer.TimerKind.{TimerKind};
 ghost use Rattle.pim_model.specs.Firing.{fired};
-ghost use Rattle.pim_world.specs.Visits.{raised};
-ghost use Rattle.pim_upstream.specs.Visits.{join_again_nodes};
 ghost use Rattle.pim_world.specs.Turns.{saying};
 
 use crate::{source, star};
@@ -16,7 +14,7 @@ use std::alloc::AllocError;
 // Join(*,G) with its prunes, or Join(S,G), to the upstream neighbour.
 #[tactic(auto, unfolding(pim_model::specs::Firing::fired, pim_model::specs::Upstream::join_timer_due))]
 fn join_again(world: &World, turn: &mut Turn, meter: &mut Meter, key: Key) -> Result<(), AllocError>
-    ensures messages { OnOk result (turn.new ≡ saying turn.old (fired world.now TimerKind.Join key).1) }
+    ensures { OnOk result (turn.new ≡ saying turn.old (fired world.now TimerKind.Join key).1) }
 {
     let star = StarSight::of(world, key.group, meter);
     match key.source {
@@ -33,8 +31,7 @@ fn join_again(world: &World, turn: &mut Turn, meter: &mut Meter, key: Key) -> Re
 }
 
 /// What the expiry of a Join timer changes: the Join leaves again, and the timer restarts. The error is want of memory.
-/// The meter rises by the nodes that the look-ups visit, at least those of the sight of the group, and of the sources
-/// that its Join may prune, or of the source.
+/// The meter rises by the nodes visited.
 #[tactic(auto, unfolding(pim_model::specs::Firing::fired, pim_model::specs::Upstream::join_timer_due))]
 pub fn fired(
     world: &mut World,

@@ -1,7 +1,6 @@
 //! A Join/Prune between other routers (RFC 7761, sections 4.5.4, 4.5.5 and 4.5.7): a Join to the router's own upstream
 //! neighbour suppresses the router's, and a Prune to it is overridden.
-ghost use Rattle.std.specs.Option.{option_map_or};
-ghost use Rattle.std.specs.Prelude.{◌≡◌, ◌≤◌, ◌+◌, ◌++◌, [], OnOk, Some, sum_by};
+ghost use Rattle.std.specs.Prelude.{◌≡◌, ◌++◌, OnOk, Some};
 ghost use Rattle.pim_types.specs.Keys.{is_star};
 ghost use Rattle.pim_macros.specs.Sights.{IsSourceSight, IsStarSight};
 ghost use Rattle.pim_model.specs.Downstream.{joined_keys, pruned_keys};
@@ -9,8 +8,6 @@ ghost use Rattle.pim_model.specs.Seen.{is_unpruned_towards, override_end, seen, 
 ghost use Rattle.pim_model.specs.Tables.{same_hop};
 ghost use Rattle.pim_upstream.specs.Hearing.{heard_in_joins, heard_in_prunes, heard_of_join, heard_of_prune, heard_of_source, heard_of_timer, heard_of_timers, is_source_towards, is_star_towards, timers_of};
 ghost use Rattle.pim_upstream.specs.Timers.{after_moves};
-ghost use Rattle.pim_upstream.specs.Visits.{joined_keys_nodes, pruned_key_nodes, pruned_keys_nodes, overheard_nodes, timers_nodes};
-ghost use Rattle.pim_world.specs.Visits.{raised, sight_nodes, source_nodes, star_nodes};
 
 use crate::timer::{TimerMove, move_timers, note_if};
 use pim_downstream::Named;
@@ -25,7 +22,7 @@ use std::collections::BTreeSet;
 
 // Whether RPF'(*,G) is the neighbour.
 fn is_star_towards(world: &World, meter: &mut Meter, hop: Hop, group: Addr) -> bool
-    ensures towards { result ≡ is_star_towards world.now hop group.bits }
+    ensures { result ≡ is_star_towards world.now hop group.bits }
 {
     let star = StarSight::of(world, group, meter);
     is_same_hop(star.rpf_neighbour(), Some(hop))
@@ -62,7 +59,7 @@ fn hear_join(
     key: Key,
     moves: &mut Vec<TimerMove>,
 ) -> Result<(), AllocError>
-    ensures heard { OnOk result (moves.new.items
+    ensures { OnOk result (moves.new.items
         ≡ moves.old.items ++ heard_of_join world.now hop end key.group key.source key.rpt) }
 {
     let group = key.group;
@@ -100,7 +97,7 @@ fn hear_joins(
     keys: &[Key],
     moves: &mut Vec<TimerMove>,
 ) -> Result<(), AllocError>
-    ensures heard { OnOk result (moves.new.items
+    ensures { OnOk result (moves.new.items
         ≡ moves.old.items ++ heard_in_joins world.now hop end is_star keys.now) }
 {
     for key in keys {
@@ -123,7 +120,7 @@ fn hear_source(
     moves: &mut Vec<TimerMove>,
 ) -> Result<(), AllocError>
     requires { IsStarSight world.now star.now }
-    ensures heard { OnOk result (moves.new.items
+    ensures { OnOk result (moves.new.items
         ≡ moves.old.items ++ heard_of_source world.now hop end star.now.group source) }
 {
     let sight = SourceSight::of(world, *star, source, meter);
@@ -147,7 +144,7 @@ fn hear_timer(
     moves: &mut Vec<TimerMove>,
 ) -> Result<(), AllocError>
     requires { IsStarSight world.now star.now }
-    ensures heard { OnOk result (moves.new.items
+    ensures { OnOk result (moves.new.items
         ≡ moves.old.items ++ heard_of_timer world.now hop end star.now.group key) }
 {
     match key.source {
@@ -166,7 +163,7 @@ fn hear_timers(
     group: Addr,
     moves: &mut Vec<TimerMove>,
 ) -> Result<(), AllocError>
-    ensures heard { OnOk result (moves.new.items
+    ensures { OnOk result (moves.new.items
         ≡ moves.old.items ++ heard_of_timers world.now hop end group (timers_of world.now group.bits)) }
 {
     let star = StarSight::of(world, group, meter);
@@ -186,7 +183,7 @@ fn hear_prune(
     key: Key,
     moves: &mut Vec<TimerMove>,
 ) -> Result<(), AllocError>
-    ensures heard { OnOk result (moves.new.items
+    ensures { OnOk result (moves.new.items
         ≡ moves.old.items ++ heard_of_prune world.now hop end key.group key.source) }
 {
     let group = key.group;
@@ -257,9 +254,7 @@ fn overriding_end(world: &World, iface: IfaceId, draw: u32) -> u64
 /// Takes a Join/Prune to another router that came on an interface and names these keys. If that router is the upstream
 /// neighbour, a Join suppresses the router's own and cancels an override, and a Prune is overridden: first the Joins of
 /// (*,G), then the other Joins, then the Prunes; all is judged by the state that the message finds. The error is want
-/// of memory. The meter rises by the nodes that the look-ups visit, at least those of the sight of each group and
-/// source that the message names (of a repeated Prune only once), and those of the sources with a Join timer of each
-/// group that is pruned.
+/// of memory. The meter rises by the nodes visited.
 pub fn seen(
     world: &mut World,
     turn: &mut Turn,

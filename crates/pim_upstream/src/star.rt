@@ -1,11 +1,9 @@
 //! The messages upstream of (*,G) (RFC 7761, section 4.5.4).
-ghost use Rattle.std.specs.Prelude.{◌≡◌, ◌≤◌, [], IfOk, OnOk, if◌then◌else◌, is_none};
+ghost use Rattle.std.specs.Prelude.{◌≡◌, [], IfOk, OnOk, if◌then◌else◌, is_none};
 ghost use Rattle.pim_model.specs.Upstream.{join_star_to, prune_star_to, star_stays, star_told};
 ghost use Rattle.pim_macros.specs.Sights.{IsStarSight};
 ghost use Rattle.pim_world.specs.Turns.{saying};
 ghost use Rattle.pim_rpt.specs.Changes.{change_of};
-ghost use Rattle.pim_world.specs.Visits.{raised};
-ghost use Rattle.pim_upstream.specs.Visits.{join_star_nodes, star_stays_nodes, star_told_nodes};
 
 use crate::compound::pruned_with_star;
 use pim_macros::StarSight;
@@ -38,7 +36,7 @@ pub(crate) fn join(
     upstream: Option<Hop>,
 ) -> Result<(), AllocError>
     requires { IsStarSight world.now star.now }
-    ensures messages { OnOk result (turn.new ≡ saying turn.old
+    ensures { OnOk result (turn.new ≡ saying turn.old
         (join_star_to world.now rp upstream star.now.group.bits)) }
 {
     match (rp, upstream) {

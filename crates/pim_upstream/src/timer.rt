@@ -1,5 +1,5 @@
 //! The Join timers of (*,G) and (S,G), and the override timers of (S,G,rpt).
-ghost use Rattle.std.specs.Prelude.{◌≡◌, ◌≤◌, ◌++◌, OnOk, Some};
+ghost use Rattle.std.specs.Prelude.{◌≡◌, ◌++◌, OnOk, Some};
 ghost use Rattle.pim_types.specs.Keys.{rpt_key};
 ghost use Rattle.pim_model.specs.Seen.{lowered_row, raised_row};
 ghost use Rattle.pim_model.specs.State.{State};
@@ -64,7 +64,7 @@ fn join_timer(
     group: Addr,
     source: Option<Addr>,
 ) -> Option<JoinTimerRow>
-    ensures timer { result ≡ row_at world.now.join_timers (join_key group source) }
+    ensures { result ≡ row_at world.now.join_timers (join_key group source) }
 {
     world.store().join_timer(group, source, meter)
 }
@@ -78,7 +78,7 @@ fn move_join_timer(
     source: Option<Addr>,
     change: Change,
 ) -> Result<(), AllocError>
-    ensures moved { OnOk result (world.new
+    ensures { OnOk result (world.new
         ≡ with_join_timer world.old (join_key group source) (change_of change)) }
 {
     match change {
@@ -107,7 +107,7 @@ fn move_override_timer(
     name: SourceGroup,
     change: Change,
 ) -> Result<(), AllocError>
-    ensures moved { OnOk result (world.new
+    ensures { OnOk result (world.new
         ≡ with_override_timer world.old (rpt_key 0 name.group.bits name.source.bits) (change_of change)) }
 {
     match change {
@@ -131,7 +131,7 @@ fn move_override_timer(
 // Moves a timer.
 #[tactic(auto, unfolding(crate::specs::Timers::after_move, pim_model::specs::Seen::raise_join_timer, pim_model::specs::Seen::lower_join_timer))]
 fn move_timer(world: &mut World, meter: &mut Meter, moved: TimerMove) -> Result<(), AllocError>
-    ensures moved { OnOk result (world.new ≡ after_move world.old moved) }
+    ensures { OnOk result (world.new ≡ after_move world.old moved) }
 {
     match moved {
         TimerMove::Join(group, source, change) => {
@@ -156,7 +156,7 @@ pub(crate) fn move_timers(
     meter: &mut Meter,
     moves: &[TimerMove],
 ) -> Result<(), AllocError>
-    ensures moved { OnOk result (world.new ≡ after_moves world.old moves.now) }
+    ensures { OnOk result (world.new ≡ after_moves world.old moves.now) }
 {
     for moved in moves {
         move_timer(world, meter, *moved)?;

@@ -1,7 +1,7 @@
 //! The messages upstream after an event's own change.
-ghost use Rattle.std.specs.Prelude.{◌≡◌, ◌≤◌, ◌∷◌, [], ◌||◌, OnOk, map, sum_by};
+ghost use Rattle.std.specs.Prelude.{◌≡◌, ◌∷◌, [], ◌||◌, OnOk, map};
 ghost use Rattle.pim_types.specs.Keys.{star_key};
-ghost use Rattle.pim_model.specs.Upstream.{star_view, with_join_timer};
+ghost use Rattle.pim_model.specs.Upstream.{with_join_timer};
 ghost use Rattle.pim_opening.specs.Openings.{has_facts};
 ghost use Rattle.pim_opening.specs.After.{AreAfter, IsAfter, opened_in, opening_in};
 ghost use Rattle.pim_model.specs.Querier.{each_in_turn};
@@ -9,9 +9,7 @@ ghost use Rattle.pim_model.specs.State.{State};
 ghost use Rattle.pim_macros.specs.Sights.{IsSourceSight, IsStarSight};
 ghost use Rattle.pim_world.specs.Turns.{saying};
 ghost use Rattle.pim_upstream.specs.Told.{group_step, source_moved, source_step, star_changed, upstream_by};
-ghost use Rattle.pim_world.specs.Visits.{raised};
 ghost use Rattle.pim_upstream.specs.Timers.{after_moves};
-ghost use Rattle.pim_upstream.specs.Visits.{group_told_nodes, is_told_nodes, seen_told_nodes, source_told_nodes, star_told_nodes, told_alone_nodes, told_nodes, told_seen_nodes};
 
 use crate::timer::{TimerMove, move_timers, note_join, note_override};
 use crate::{source, star};
@@ -51,7 +49,7 @@ fn tell_views(
 
 // Whether a source of the group may have messages: it has a fact, before or after the change.
 fn is_told(world: &World, meter: &mut Meter, group: Addr, before: SourceOpening) -> bool
-    ensures told { result ≡ (before.has_facts || has_facts world.now group.bits before.source.bits) }
+    ensures { result ≡ (before.has_facts || has_facts world.now group.bits before.source.bits) }
 {
     let source = before.source;
     before.has_facts || world.has_facts(SourceGroup { source, group }, meter)
@@ -187,8 +185,7 @@ fn tell_groups(
 
 /// Sends the messages upstream after a change, and moves the timers: for each touched group ascending, and for each of
 /// its touched sources ascending. All follows of the state after the change; the timers move last. The meter rises by
-/// the nodes that the look-ups visit, at least those of the sight of each group, of each of its sources with a fact,
-/// and of those that its Join may prune.
+/// the nodes visited.
 #[tactic(auto, unfolding(crate::specs::Told::upstream_by, crate::specs::Timers::after_moves))]
 pub fn changed(
     world: &mut World,
@@ -205,8 +202,7 @@ pub fn changed(
 }
 
 /// The messages upstream where one source alone was opened, by its sight in the state after the change: neither this
-/// sight nor that of the group is gathered again. The meter rises by the nodes that the look-ups visit, at least those
-/// of the sources that the group's Join may prune, and those that lead to the facts of the source where it had none.
+/// sight nor that of the group is gathered again. The meter rises by the nodes visited.
 #[tactic(auto, unfolding(crate::specs::Timers::after_moves))]
 pub fn changed_alone(
     world: &mut World,
@@ -254,8 +250,7 @@ fn tell_sources_by_sights(
 }
 
 /// The messages upstream where one group alone was opened, by what was gathered of it in the state after the change:
-/// nothing of that is gathered again. The meter rises by the nodes that the look-ups visit, at least those of the
-/// sources that the group's Join may prune, and those that lead to the facts of each source that had none.
+/// nothing of that is gathered again. The meter rises by the nodes visited.
 #[tactic(auto, unfolding(crate::specs::Timers::after_moves))]
 pub fn changed_group(
     world: &mut World,

@@ -1,11 +1,11 @@
 -- Room for facts: keys need at most as many as they are, and where there is room for so many there is for fewer.
-use Rattle.std.proofs.Common.{◌≡◌, ◌≤◌, ◌+◌, ◌==◌, ℕ, Bool, true, false, not, ◌&&◌, List, [], ◌∷◌, ◌++◌, arith, length, length-append, nat_lt}
+use Rattle.std.proofs.Common.{◌≡◌, ◌≤◌, ◌+◌, ℕ, Bool, true, false, not, List, [], ◌∷◌, ◌++◌, arith, length, length-append}
 use Rattle.std.proofs.lemmas.Bool.Decides.{nat_tests}
 use Rattle.std.specs.Prelude.{fold, if◌then◌else◌}
 use Rattle.pim_types.specs.declared.fact.Key.{Key}
 use Rattle.pim_laws.proofs.ListLaws.{filter_shorter}
 use Rattle.pim_model.specs.Downstream.{is_named}
-use Rattle.pim_model.specs.Full.{counted, distinct, needed, once_more, passes_limit}
+use Rattle.pim_model.specs.Full.{distinct, needed, once_more, passes_limit}
 use Rattle.pim_model.specs.State.{State}
 use Rattle.pim_model.specs.Tables.{Table, has_row}
 

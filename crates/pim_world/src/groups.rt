@@ -21,7 +21,11 @@ use std::collections::btree_map::Iter;
 impl World {
     /// The groups that have any fact, ascending. The meter rises by the nodes visited.
     #[tactic(auto, unfolding(pim_model::specs::Upstream::groups_of, pim_model::specs::Tables::ascending, crate::specs::Groups::gathered))]
-    pub fn groups(&self, alloc: Global, meter: &mut Meter) -> Result<BTreeMap<Addr, (), Global>, AllocError>
+    pub fn groups(
+        &self,
+        alloc: Global,
+        meter: &mut Meter,
+    ) -> Result<BTreeMap<Addr, (), Global>, AllocError>
         ensures { IfOk result (λ found. numbers_of found.entries ≡ groups_of (fact_keys self.now)) }
     {
         let mut found = BTreeMap::new(alloc);

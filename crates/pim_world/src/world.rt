@@ -114,10 +114,7 @@ impl World {
         {
             return Ok(Err(Refusal::ConfiguredRoutes));
         }
-        if mrib
-            .replace_rps(config.rps.as_slice(), meter)?
-            .is_err()
-        {
+        if mrib.replace_rps(config.rps.as_slice(), meter)?.is_err() {
             return Ok(Err(Refusal::ConfiguredRps));
         }
         let world = World::without_facts(alloc, settings_of(config), interfaces, mrib)?;

@@ -17,8 +17,8 @@
 
 Unicast routes are computed by shortest path. Time passes for all routers together, in steps; after each step all that
 was sent is delivered. With `loss`, `delay` or `reorder` the packets between routers suffer, by chance from `seed`: the
-same network with the same seed does the same. Hosts speak IGMPv3, or an older version, and answer queries. Times that you give are in
-seconds; times that you read are in ms, as in the tables.
+same network with the same seed does the same. Hosts speak IGMPv3, or an older version, and answer queries. Times that
+you give are in seconds; times that you read are in ms, as in the tables.
 
 `tools/lab FILE.py` runs such a file; tools/networks/examples has some.
 """

@@ -285,8 +285,8 @@ class Row(NamedTuple):
 
 
 class OlderRow(NamedTuple):
-    """A group in an older mode on an interface: a host of IGMPv1 or IGMPv2 reported it. The mode is the version, 1 or 2;
-    behind it stand the times in ms at which the IGMPv1 and the IGMPv2 Host Present timer expire, or None."""
+    """A group in an older mode on an interface: a host of IGMPv1 or IGMPv2 reported it. The mode is the version, 1 or
+    2; behind it stand the times in ms at which the IGMPv1 and the IGMPv2 Host Present timer expire, or None."""
     iface: int
     group: str
     mode: int
@@ -617,15 +617,15 @@ class Router:
     # ---- older versions of IGMP
 
     def set_older_hosts(self, iface: int, hosts: str) -> None:
-        """Sets which hosts of older versions an interface hears from then on, a key of `OLDER_HOSTS`, and forgets what it
-        heard before. A new router hears none of them, and refuses their messages by OLD_VERSION. It is no event."""
+        """Sets which hosts of older versions an interface hears from then on, a key of `OLDER_HOSTS`, and forgets what
+        it heard before. A new router hears none of them, and refuses their messages by OLD_VERSION. It is no event."""
         if hosts not in OLDER_HOSTS:
             raise ValueError(f"none of {', '.join(OLDER_HOSTS)}: {hosts}")
         self._must(self._call("older", number(iface, 32, "an interface"), OLDER_HOSTS[hosts]))
 
     def set_query_version(self, iface: int, version: int) -> None:
-        """Sets the version in which an interface queries, 2 or 3. It is no event. All routers of a link have to query in
-        one version."""
+        """Sets the version in which an interface queries, 2 or 3. It is no event. All routers of a link have to query
+        in one version."""
         self._must(self._call("query_version", number(iface, 32, "an interface"), number(version, 32, "a version")))
 
     def older_rows(self) -> list[OlderRow]:
@@ -635,11 +635,8 @@ class Router:
             self._must(self._call("older_read"))
             for index in range(self._call("older_rows")):
                 self._call("older_row", index, byref(told))
-                rows.append(
-                    OlderRow(
-                        told.iface, dotted(told.group), told.mode, there(told.one_end, NEVER), there(told.two_end, NEVER)
-                    )
-                )
+                ends = (there(moment, NEVER) for moment in (told.one_end, told.two_end))
+                rows.append(OlderRow(told.iface, dotted(told.group), told.mode, *ends))
         return rows
 
     # ---- a data plane; include/viqeshor/plane.h says what one owes

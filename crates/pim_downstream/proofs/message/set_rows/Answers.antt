@@ -1,4 +1,4 @@
-use Rattle.std.proofs.Common.{◌+◌, None, ap, drop, fold, get_or, sym, ◌∙◌}
+use Rattle.std.proofs.Common.{◌+◌, None, ap, drop, fold, sym, ◌∙◌}
 use Rattle.std.proofs.lemmas.List.{drop_more}
 use Rattle.pim_types.specs.Keys.{star_key}
 use Rattle.pim_model.specs.State.{State}

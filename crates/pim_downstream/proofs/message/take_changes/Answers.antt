@@ -1,11 +1,10 @@
-use Rattle.std.proofs.Common.{List, Some, ap, filter, not, subst, ◌&&◌, ◌∙◌}
+use Rattle.std.proofs.Common.{List, Some, ap, filter, not, ◌&&◌, ◌∙◌}
 use Rattle.pim_types.specs.declared.fact.Key.{Key}
 use Rattle.pim_model.specs.Downstream.{asserts_after_joins, is_named, row_after}
 use Rattle.pim_model.specs.Sets.{is_loser}
 use Rattle.pim_model.specs.State.{State}
 use Rattle.pim_store.specs.PimTables.{PimTables}
 use Rattle.pim_world.proofs.Lent.{stored}
-use Rattle.pim_downstream.specs.declared.effect.Change.{Change}
 use Rattle.pim_downstream.proofs.OnInterface.{changes_on, touched_on}
 use Rattle.pim_downstream.proofs.Rows.{taken}
 use Rattle.pim_downstream.proofs.message.take_changes.Goals as goal

@@ -1,5 +1,4 @@
 use Rattle.std.proofs.Common.{◌≡◌, true, List, IfOk, OnOk, ap, arith, subst, sym, ◌∙◌}
-use Rattle.std.proofs.lemmas.Result.{on_ok_weaker}
 use Rattle.pim_types.specs.declared.fact.Key.{Key}
 use Rattle.pim_model.specs.declared.accepted.Accepted.{Accepted}
 use Rattle.pim_reach.specs.Named.{named_of}
@@ -43,8 +42,6 @@ returns-in-Time c =
           c.advance.ensures.disturbed;
       once = c.advance.ensures.once;
       fault = c.advance.ensures.fault;
-      rises = on_ok_weaker c.advance.result (λ e. omega (arith, c.in_ok-planning.ensures.rises, e))
-          c.advance.ensures.rises;
     }
 
 pub take_change-requires-clause-configured : goal.take_change-requires-clause-configured
@@ -83,8 +80,6 @@ returns-in-Change c =
           c.take_change.ensures.disturbed;
       once = c.take_change.ensures.once;
       fault = c.take_change.ensures.fault;
-      rises = on_ok_weaker c.take_change.result
-          (λ e. omega (arith, c.in_ok-planning.ensures.rises, rises_by _ _ _ e)) c.take_change.ensures.at_least;
     }
 
 pub returns-in-Full : goal.returns-in-Full
@@ -105,5 +100,4 @@ returns-in-Full c =
       disturbed = undisturbed_when_full c.args.world.now c.args.turn.now.draw c.args.accepted c.args.cache.now.disturbed full;
       once = once_alone c.args.cache.now.changed c.requires.unlisted;
       fault = tt;
-      rises = c.in_ok-planning.ensures.rises;
     }

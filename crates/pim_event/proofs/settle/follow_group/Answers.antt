@@ -22,4 +22,4 @@ pub returns-clause-named : goal.returns-clause-named
 returns-clause-named c =
     seen_named c.args.opening.now c.args.world.now c.clear_group.new.world c.args.turn.now c.clear_group.new.turn
     c.in_ok-seen.ensures.state c.in_ok-seen.ensures.messages c.args.before.now (keys_of c.in_ok-names.names)
-    c.in_ok-names.ensures.named
+    c.in_ok-names.ensures

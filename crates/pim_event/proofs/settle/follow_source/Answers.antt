@@ -40,4 +40,4 @@ returns-clause-named c =
     named_there (x ∷ []) c.args.world.now c.settle_register.new.world c.clear_alone.new.world c.args.turn.now
     c.clear_alone.new.turn registered c.in_ok-clear_alone.ensures.state
     c.in_ok-clear_alone.ensures.messages
-    c.args.before.now (keys_of c.in_ok-names.names) c.in_ok-names.ensures.named
+    c.args.before.now (keys_of c.in_ok-names.names) c.in_ok-names.ensures

@@ -13,7 +13,7 @@ returns-then-end_keeps_dr c =
     let s = c.args.world.now in
     let k = c.args.key in
     c.few_or_all.ensures
-    ∙ ap (λ (ks : List Key). few_or_all ks) (c.in_ok-keys.ensures.keys
+    ∙ ap (λ (ks : List Key). few_or_all ks) (c.in_ok-keys.ensures
     ∙ (λ j. keys_towards s (ap (λ (i : IfaceId). i.number) c.hop.ensures.iface j) (c.hop.ensures.address j)))
     ∙ sym (ap (λ (keeps : Bool). if keeps then few_or_all (keys_towards s (iface_in k) (source_in k)) else Touched.All)
     (sym c.end_keeps_dr.ensures ∙ c.if-end_keeps_dr.true))

@@ -1,5 +1,5 @@
 -- One event of the network, which the front gives.
-use Rattle.std.proofs.Common.{◌≡◌, ◌∙◌, ◌∷◌, [], Some, ap, sym}
+use Rattle.std.proofs.Common.{◌∙◌, ◌∷◌, [], Some, ap, sym}
 use Rattle.pim_types.specs.declared.event.Event.{Event}
 use Rattle.pim_types.specs.declared.outcome.Outcome.{Outcome}
 use Rattle.pim_model.specs.Network.{Network, moved_at, stepped}

@@ -1,5 +1,5 @@
 -- One setting more.
-use Rattle.std.proofs.Common.{◌≡◌, ◌∙◌, ◌++◌, ◌∷◌, [], ap, sym, add-one, map, take}
+use Rattle.std.proofs.Common.{◌∙◌, ◌++◌, ◌∷◌, [], ap, sym, add-one, map, take}
 use Rattle.pim_lab.proofs.Settings.{same_more}
 use Rattle.pim_lab.proofs.station.presence_of.Goals as goal
 

@@ -1,4 +1,4 @@
-use Rattle.std.proofs.Common.{◌≡◌, ap, subst, sym, ◌∙◌}
+use Rattle.std.proofs.Common.{ap, subst, sym, ◌∙◌}
 use Rattle.pim_macros.specs.Rows.{answers_of}
 use Rattle.pim_macros.specs.declared.rows.SourceAnswers.{SourceAnswers}
 use Rattle.pim_mfc.specs.Kept.{Kept, kept_row}

@@ -1,10 +1,8 @@
-use Rattle.std.proofs.Common.{◌≡◌, ◌≤◌, ◌+◌, ◌++◌, length}
+use Rattle.std.proofs.Common.{◌≡◌, ◌+◌, ◌++◌, length}
 use Rattle.pim_world.specs.Groups.{numbers_of}
 use Rattle.pim_model.specs.Messages.{entry}
 use Rattle.pim_model.specs.Upstream.{is_pruned_with_star, pruned_with_star}
-use Rattle.pim_world.specs.Visits.{raised}
 use Rattle.pim_wire.specs.declared.join_prune.EntryKind.{EntryKind}
-use Rattle.pim_upstream.specs.Visits.{looked_at_nodes, pruned_nodes}
 use Rattle.pim_upstream.proofs.Pruned.{first_of}
 use Rattle.pim_upstream.proofs.compound.pruned_with_star.Given as goal
 
@@ -15,6 +13,4 @@ invariant-loop-source l = record {
       (numbers_of l.source-iterator)
       ≡ pruned_with_star l.world l.star.group.bits;
   counted : length l.pruned.items + l.room ≡ 160;
-  visited : raised l.fn.meter (pruned_nodes l.world l.star.group)
-      ≤ raised l.meter (looked_at_nodes l.world l.star.group (numbers_of l.source-iterator) l.room);
 }

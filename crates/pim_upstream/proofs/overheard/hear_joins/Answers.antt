@@ -1,25 +1,17 @@
-use Rattle.std.proofs.Common.{◌≡◌, ◌≤◌, ◌++◌, ◌∙◌, Bool, List, [], ap, append-nil, arith, false, get_or, refl, subst, sym, true}
-use Rattle.std.specs.List.{sum_by}
+use Rattle.std.proofs.Common.{◌≡◌, ◌++◌, ◌∙◌, Bool, List, [], ap, append-nil, false, get_or, refl, sym, true}
 use Rattle.std.specs.Prelude.{if◌then◌else◌}
-use Rattle.std.proofs.lemmas.List.{take_all}
 use Rattle.pim_types.specs.Keys.{is_star, star_key}
 use Rattle.pim_types.specs.declared.fact.Key.{Key}
 use Rattle.pim_model.specs.Tables.{same_bool}
-use Rattle.pim_world.specs.Visits.{raised, sight_nodes}
-use Rattle.pim_world.proofs.Visits.{next_made, none_asked, one_asked, raised_by_none}
 use Rattle.pim_upstream.specs.Hearing.{heard_in_join, heard_in_joins}
-use Rattle.pim_upstream.specs.Visits.{joined_key_nodes, joined_keys_nodes}
-use Rattle.pim_upstream.proofs.overheard.hear_joins.Goals.{then-is_none-is_star+in_ok-hear_join, else-is_none-is_star}
 use Rattle.pim_upstream.specs.declared.timer.TimerMove.{TimerMove}
-use Rattle.pim_upstream.proofs.Visited.{is_asked, next_in_joins}
+use Rattle.pim_upstream.proofs.HeardKeys.{is_asked, next_in_joins}
 use Rattle.pim_upstream.proofs.overheard.hear_joins.Goals as goal
+use Rattle.pim_upstream.proofs.overheard.hear_joins.Goals.{then-is_none-is_star+in_ok-hear_join, else-is_none-is_star}
 
 pub loop-key-init : goal.loop-key-init
 unfolding heard_in_joins
-loop-key-init c = record {
-  heard = sym (append-nil c.args.moves.now.items);
-  visited = omega (arith, raised_by_none c.args.meter.now);
-}
+loop-key-init c = sym (append-nil c.args.moves.now.items)
 
 pub loop-key-preserved : goal.loop-key-preserved
 loop-key-preserved c =
@@ -35,23 +27,13 @@ loop-key-preserved c =
       | then-is_none-is_star+in_ok-hear_join w ↦
           let asked : same_bool star (is_star k) ≡ true =
           is_asked k.source c.is_none.result star true c.is_none.ensures w.if-is_none-is_star.true in
-          record {
-            heard = next_in_joins s c.args.hop c.args.end star keys n none k c.loop-key-test.true refl _ before _
-                c.loop-key.invariant.heard
-                (ap (λ m. m.items) w.moves-is ∙ w.in_ok-hear_join.ensures ∙ ap heard (sym asked));
-            visited = next_made (joined_key_nodes s star) keys n _ _ _ none c.loop-key-test.true c.loop-key.invariant.visited
-                (one_asked _ _ _ _ asked
-                (subst (λ m. raised c.loop-key.meter (sight_nodes s k.group k.source) ≤ m) (sym w.meter-is)
-                w.in_ok-hear_join.ensures.at_least));
-          }
+          next_in_joins s c.args.hop c.args.end star keys n none k c.loop-key-test.true refl _ before _
+          c.loop-key.invariant
+          (ap (λ m. m.items) w.moves-is ∙ w.in_ok-hear_join.ensures ∙ ap heard (sym asked))
       | else-is_none-is_star w ↦
           let other : same_bool star (is_star k) ≡ false =
           is_asked k.source c.is_none.result star false c.is_none.ensures w.if-is_none-is_star.false in
-          record {
-            heard = next_in_joins s c.args.hop c.args.end star keys n none k c.loop-key-test.true refl _ before _
-                c.loop-key.invariant.heard
-                (ap (λ m. m.items) w.moves-is ∙ sym (append-nil before) ∙ ap heard (sym other));
-            visited = next_made (joined_key_nodes s star) keys n _ _ _ none c.loop-key-test.true c.loop-key.invariant.visited
-                (none_asked _ _ _ _ other w.meter-is);
-          }
+          next_in_joins s c.args.hop c.args.end star keys n none k c.loop-key-test.true refl _ before _
+          c.loop-key.invariant
+          (ap (λ m. m.items) w.moves-is ∙ sym (append-nil before) ∙ ap heard (sym other))
     ]

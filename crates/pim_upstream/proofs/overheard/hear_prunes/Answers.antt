@@ -1,4 +1,4 @@
-use Rattle.std.proofs.Common.{[], ap, arith, refl, subst, sym, ◌≡◌, ◌≤◌, ◌∙◌, not, ◌++◌, ◌+◌, take, Bool, true, false}
+use Rattle.std.proofs.Common.{[], ap, refl, subst, sym, ◌≡◌, ◌∙◌, not, ◌++◌, ◌+◌, take, Bool, true, false}
 use Rattle.std.proofs.lemmas.List.{take_all}
 use Rattle.std.specs.Prelude.{List}
 use Rattle.pim_types.specs.declared.fact.Key.{Key}
@@ -7,8 +7,6 @@ use Rattle.pim_model.specs.Downstream.{is_named}
 use Rattle.pim_upstream.specs.Hearing.{heard_in_prunes}
 use Rattle.pim_upstream.specs.Timers.{after_moves}
 use Rattle.pim_upstream.proofs.Absorbed.{HeardOnce, heard_again, heard_first, none_heard}
-use Rattle.pim_world.specs.Visits.{raised}
-use Rattle.pim_upstream.proofs.Visited.{all_pruned, asked_again, asked_first, next_pruned}
 use Rattle.pim_downstream.proofs.NamedSets.{next_named}
 use Rattle.pim_upstream.proofs.overheard.hear_prunes.Goals as goal
 use Rattle.pim_upstream.proofs.overheard.hear_prunes.Goals.{then-branch+in_ok-hear_prune, else-branch}
@@ -25,7 +23,6 @@ loop-key-init c = record {
       c.args.moves.now.items) (sym c.new-heard.ensures.empty)
       (none_heard c.args.world.now c.args.hop c.args.end c.args.world.now c.args.moves.now.items c.args.moves.now.items refl);
   named = λ q. ap (λ (set : List Key). is_named set q) c.new-heard.ensures.empty;
-  visited = omega arith;
 }
 
 pub loop-key-preserved : goal.loop-key-preserved
@@ -43,9 +40,6 @@ loop-key-preserved c =
             (ap (λ m. m.items) w.moves-is ∙ w.in_ok-hear_prune.ensures);
         named = next_named keys c.loop-key.heard.keys c.insert.new.self.keys n _ _ c.loop-key-test.true refl
             c.in_ok-insert.ensures.updates.0 c.loop-key.invariant.named;
-        visited = next_pruned o _ _ _ keys n _ _ _ c.loop-key-test.true refl c.loop-key.invariant.visited
-            (asked_first _ _ _ _ _ _ c.in_ok-insert.ensures.added (c.loop-key.invariant.named _) w.if-branch.true
-            (subst (λ m. raised c.loop-key.meter _ ≤ m) (sym w.meter-is) w.in_ok-hear_prune.ensures.at_least));
       }
       | else-branch w ↦ record {
         heard =
@@ -57,8 +51,6 @@ loop-key-preserved c =
             (was_there _ _ c.in_ok-insert.ensures.added w.if-branch.false));
         named = next_named keys c.loop-key.heard.keys c.insert.new.self.keys n _ _ c.loop-key-test.true refl
             c.in_ok-insert.ensures.updates.0 c.loop-key.invariant.named;
-        visited = next_pruned o _ _ _ keys n _ _ _ c.loop-key-test.true refl c.loop-key.invariant.visited
-            (asked_again _ _ _ _ _ _ c.in_ok-insert.ensures.added (c.loop-key.invariant.named _) w.if-branch.false w.meter-is);
       }
     ]
 

@@ -1,11 +1,9 @@
 use Rattle.std.proofs.Common.{ap, subst, ◌≡◌, ◌∙◌}
 use Rattle.std.specs.Prelude.{OnOk}
-use Rattle.std.proofs.lemmas.Result.{on_ok_weaker}
 use Rattle.pim_model.specs.State.{State}
 use Rattle.pim_model.specs.Tables.{hop_at}
 use Rattle.pim_world.specs.Turns.{Taking}
 use Rattle.pim_upstream.proofs.HeardMessages.{gathered}
-use Rattle.pim_upstream.proofs.Visited.{all_seen}
 use Rattle.pim_upstream.proofs.overheard.seen.Goals as goal
 
 pub returns-clause-state : goal.returns-clause-state

@@ -11,7 +11,6 @@ use Rattle.pim_upstream.specs.Timers.{after_moves}
 use Rattle.pim_upstream.specs.Told.{source_step, star_changed}
 use Rattle.pim_upstream.specs.declared.timer.TimerMove.{TimerMove}
 use Rattle.pim_upstream.proofs.Alone.{both, told_alone}
-use Rattle.pim_upstream.proofs.Visited.{alone_told}
 use Rattle.pim_upstream.proofs.turns.changed_alone.Goals as goal
 
 pub returns-clause-state : goal.returns-clause-state

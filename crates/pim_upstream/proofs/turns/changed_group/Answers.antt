@@ -1,5 +1,4 @@
-use Rattle.std.proofs.Common.{List, ap, map, subst, sym, ◌≡◌, ◌≤◌, ◌∙◌}
-use Rattle.std.specs.List.{sum_by}
+use Rattle.std.proofs.Common.{List, ap, map, sym, ◌≡◌, ◌∙◌}
 use Rattle.std.proofs.lemmas.Result.{on_ok_weaker}
 use Rattle.pim_types.specs.Keys.{star_key}
 use Rattle.pim_model.specs.Messages.{Message}
@@ -9,12 +8,9 @@ use Rattle.pim_model.specs.Upstream.{Told, with_join_timer}
 use Rattle.pim_opening.specs.After.{opened_in, opening_in}
 use Rattle.pim_opening.specs.declared.after.SourceAfter.{SourceAfter}
 use Rattle.pim_world.specs.Turns.{Taking, saying}
-use Rattle.pim_world.specs.Visits.{raised}
 use Rattle.pim_world.proofs.Said.{said_both}
-use Rattle.pim_world.proofs.Visits.{then_rises, two_in_turn}
 use Rattle.pim_upstream.specs.Timers.{after_moves}
 use Rattle.pim_upstream.specs.Told.{group_step, source_step, star_changed}
-use Rattle.pim_upstream.specs.Visits.{seen_told_nodes, told_seen_nodes}
 use Rattle.pim_upstream.specs.declared.timer.TimerMove.{TimerMove}
 use Rattle.pim_upstream.proofs.Alone.{group_alone}
 use Rattle.pim_upstream.proofs.turns.changed_group.Goals as goal

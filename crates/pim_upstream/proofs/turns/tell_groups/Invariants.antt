@@ -1,15 +1,10 @@
-use Rattle.std.proofs.Common.{◌≤◌, drop, take}
-use Rattle.std.specs.List.{sum_by}
-use Rattle.pim_world.specs.Visits.{raised}
+use Rattle.std.proofs.Common.{drop}
 use Rattle.pim_upstream.proofs.Progress.{Stands}
 use Rattle.pim_upstream.specs.Timers.{after_moves}
 use Rattle.pim_upstream.specs.Told.{group_step}
-use Rattle.pim_upstream.specs.Visits.{group_told_nodes}
 use Rattle.pim_upstream.proofs.turns.tell_groups.Given as goal
 
 abbrev pub invariant-loop-before : goal.invariant-loop-before
-invariant-loop-before l = record {
-  stands : Stands (λ w. group_step l.world w) l.fn.turn (drop l.before-index l.groups) l.groups l.turn
-      (λ s. after_moves s l.moves.items) (λ s. after_moves s l.fn.moves.items);
-  visited : raised l.fn.meter (sum_by (group_told_nodes l.world) (take l.before-index l.groups)) ≤ l.meter;
-}
+invariant-loop-before l =
+    Stands (λ w. group_step l.world w) l.fn.turn (drop l.before-index l.groups) l.groups l.turn
+    (λ s. after_moves s l.moves.items) (λ s. after_moves s l.fn.moves.items)

@@ -1,6 +1,5 @@
-use Rattle.std.proofs.Common.{◌≤◌, ◌≡◌, ◌+◌, ◌∷◌, List, ap, arith, drop, refl, subst, sym, ◌∙◌}
-use Rattle.std.proofs.lemmas.List.{drop_more, take_all}
-use Rattle.std.specs.List.{sum_by}
+use Rattle.std.proofs.Common.{◌≡◌, ◌+◌, ◌∷◌, List, ap, drop, refl, subst, sym, ◌∙◌}
+use Rattle.std.proofs.lemmas.List.{drop_more}
 use Rattle.pim_ip.specs.declared.addr.Addr.{Addr}
 use Rattle.pim_macros.specs.declared.sight.StarSight.{StarSight}
 use Rattle.pim_model.specs.Messages.{Message}
@@ -8,11 +7,8 @@ use Rattle.pim_model.specs.State.{State}
 use Rattle.pim_opening.specs.After.{AreAfter, IsSourceAfter}
 use Rattle.pim_opening.specs.declared.after.SourceAfter.{SourceAfter}
 use Rattle.pim_world.specs.Turns.{saying}
-use Rattle.pim_world.specs.Visits.{raised}
-use Rattle.pim_world.proofs.Visits.{next_made, raised_by_none}
 use Rattle.pim_upstream.specs.Timers.{after_moves}
 use Rattle.pim_upstream.specs.Told.{source_step}
-use Rattle.pim_upstream.specs.Visits.{is_told_nodes, seen_told_nodes}
 use Rattle.pim_upstream.proofs.Alone.{each_opened}
 use Rattle.pim_upstream.proofs.Progress.{stands_last, stands_next}
 use Rattle.pim_upstream.proofs.turns.tell_sources_by_sights.Goals as goal
@@ -21,7 +17,6 @@ pub loop-after-init : goal.loop-after-init
 loop-after-init c = record {
   stands = record { state = λ s. refl; taking = λ s. refl; draw = refl };
   left = c.requires;
-  visited = omega (arith, raised_by_none c.args.meter.now);
 }
 
 pub loop-after-preserved : goal.loop-after-preserved
@@ -53,15 +48,6 @@ loop-after-preserved c =
           (source_step a c.loop-after.turn.draw g.bits (after_moves s c.loop-after.moves.items) x.opened).1) here)
           c.loop-after.invariant.stands;
       left = left.1;
-      visited =
-          next_made (seen_told_nodes a star.group) sources c.loop-after.after-index _ _ _ x c.loop-after-test.true
-          c.loop-after.invariant.visited
-          (subst (λ (y : SourceAfter). raised c.loop-after.meter
-          (seen_told_nodes a star.group y) ≤ c.tell_source_by_sight.new.meter)
-          c.after-item.is
-          (subst (λ (g : Addr). raised c.loop-after.meter
-          (is_told_nodes a g x.opened) ≤ c.tell_source_by_sight.new.meter) here
-          c.in_ok-tell_source_by_sight.ensures.at_least));
     }
 
 pub returns-clause-timers : goal.returns-clause-timers

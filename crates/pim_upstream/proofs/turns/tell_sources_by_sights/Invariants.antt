@@ -1,13 +1,10 @@
-use Rattle.std.proofs.Common.{◌≤◌, drop, take}
-use Rattle.std.specs.List.{sum_by}
+use Rattle.std.proofs.Common.{drop}
 use Rattle.pim_model.specs.State.{State}
 use Rattle.pim_opening.specs.After.{AreAfter}
 use Rattle.pim_opening.specs.declared.after.SourceAfter.{SourceAfter}
-use Rattle.pim_world.specs.Visits.{raised}
 use Rattle.pim_upstream.proofs.Progress.{Stands}
 use Rattle.pim_upstream.specs.Timers.{after_moves}
 use Rattle.pim_upstream.specs.Told.{source_step}
-use Rattle.pim_upstream.specs.Visits.{seen_told_nodes}
 use Rattle.pim_upstream.proofs.turns.tell_sources_by_sights.Given as goal
 
 abbrev pub invariant-loop-after : goal.invariant-loop-after
@@ -16,5 +13,4 @@ invariant-loop-after l = record {
       (drop l.after-index l.sources) l.sources l.turn
       (λ s. after_moves s l.moves.items) (λ s. after_moves s l.fn.moves.items);
   left : AreAfter l.world l.star (drop l.after-index l.sources);
-  visited : raised l.fn.meter (sum_by (seen_told_nodes l.world l.star.group) (take l.after-index l.sources)) ≤ l.meter;
 }

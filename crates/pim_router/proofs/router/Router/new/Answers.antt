@@ -13,7 +13,7 @@ use Rattle.pim_router.proofs.router.Router.new.Goals as goal
 pub invariant_of-result : goal.invariant_of-result
 unfolding IsStrictlySortedBy
 invariant_of-result c = λ works.
-    let opens = rw c.in-Ok.is at c.in_ok-world.ensures.accepted in (
+    let opens = rw c.in-Ok.is at c.in_ok-made.ensures.accepted in (
       subst (λ (x : State). IsAtRest x) (sym opens.1) (opening_is_at_rest c.args.config opens.0),
       subst (λ (k : CacheValue). ShowsRows k.mfc.rows (cached c.in-Ok.world)) (sym c.new-in-Ok.ensures)
           (subst (λ (x : State). ShowsRows [] (cached x)) (sym opens.1) (opening_shows_rows c.args.config)),
