@@ -19,6 +19,8 @@ if TYPE_CHECKING:
 Told = dict[Edit, list[tuple[str, Reason | None]]]
 # What the front end says of a line of the code: then no function is put to the prover.
 BY_FRONT_END = re.compile(r"(src/\S+?):(\d+):\d+: error\[[\w-]+\]")
+# What the prover says of a function that it doesn't try.
+WAITS = re.compile(r"fn (\S+): not proved; it calls `")
 CONSTANT = re.compile(r"\s*(?:pub(?:\([a-z]+\))? )?const (\w+):")
 
 
@@ -153,15 +155,30 @@ def rank(batch: Batch, reason: Reason) -> int:
     return kinds.index(clause) if clause in kinds else 0
 
 
+def waiting(batch: Batch, lines: list[str]) -> set[Function]:
+    """The changed functions that the prover hasn't tried, since one that they call isn't proved."""
+    paths = {told[1] for told in map(WAITS.match, lines) if told}
+    return {one for one in batch.of if one and any(path.endswith(f"::{ending(one)}") for path in paths)}
+
+
+def ending(function: Function) -> str:
+    """How the prover's name of a function ends: with its type, or else with its modules."""
+    return "::".join([*([function.owner] if function.owner else function.module), function.name])
+
+
 def told_together(batch: Batch, folder: Path) -> Told:
     """The lines on each edit of a batch that is refused. Where the front end refuses some, the others are checked again
-    without these."""
+    without these; so are those that the prover hasn't tried, since another edit of the batch was refused."""
     told: Told = {}
     while True:
         lines = checked(batch, folder)
         refused = by_front_end(batch, lines)
+        if not refused:
+            refused = by_prover(batch, lines)
+            left = [batch.of[one] for one in waiting(batch, lines) if batch.of[one] not in refused]
+        else:
+            left = [edit for edit in batch.edits if edit not in refused]
         told.update(refused)
-        left = [edit for edit in batch.edits if edit not in refused]
-        if not refused or not left:
-            return told | by_prover(batch, [] if refused else lines)
+        if not left or len(left) == len(batch.edits):
+            return told
         batch = Batch(left)

@@ -162,9 +162,23 @@ class Tried(unittest.TestCase):
         self.assertEqual((1, COUNTS.format(1, 1, 0, 1, 0)), (status, lines[-1]), lines)
         self.assertEqual(["2 at once", "1 at once"], asked)
 
+    def test_a_function_that_waits_for_one_that_it_calls_is_checked_again(self):
+        half = CODE.replace("number", "half").replace("    n\n", "    number(n) / 1\n")
+        files = {**FILES, "crates/low/src/lib.rt": CODE.replace("    n\n", "    n + 0\n") + half,
+                 "crates/low/edits/weak.edit": "refused: number same\nfile: src/lib.rt\nold: n + 0\nnew: n / 2\n",
+                 "crates/low/edits/half.edit": "refused: half same\nfile: src/lib.rt\nold: / 1\nnew: / 3\n"}
+        # It tells of the first function, and of the other where the first is as it was.
+        check = ('[ "$1" = check ] || exit 0\ngrep -c "/ [23]" src/lib.rt >> {log}\n'
+                 f"if grep -q '/ 2' src/lib.rt; then echo '{GOAL}'; echo 'fn low::lib::half: not proved; it calls "
+                 "`low::lib::number`, which is not proved'\n"
+                 f"elif grep -q '/ 3' src/lib.rt; then echo '{GOAL.replace('lib.rt:2', 'lib.rt:8')}'; fi\n")
+        status, lines, asked, _ = tried(check, "--together", "low", files=files)
+        self.assertEqual((0, COUNTS.format(2, 0, 0, 0, 0), ["2", "1"]), (status, lines[-1], asked), lines)
+
     def test_an_edit_of_a_constant_changes_the_function_that_reads_it(self):
         code = "const LEAST: u32 = 1;\nconst MOST: u32 = 2;\n"
-        code += CODE.replace("    n\n", "    n * LEAST + MOST - MOST\n") + CODE.replace("number", "other").replace("    n\n", "    n + MOST - 2\n")
+        code += CODE.replace("    n\n", "    n * LEAST + MOST - MOST\n")
+        code += CODE.replace("number", "other").replace("    n\n", "    n + MOST - 2\n")
         for old, function in (("u32 = 1", "lib::number"), ("u32 = 2", "None"), ("- 2", "lib::other")):
             edit = f"file: src/lib.rt\nold: {old}\nnew: {old}0\n"
             with repository({"crates/low/src/lib.rt": code, "crates/low/edits/weak.edit": edit}) as room:
