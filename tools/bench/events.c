@@ -1,7 +1,7 @@
 /* A router that takes the events of a file, of which some are counted: `events EVENTS INTERFACES`. A line of the file
  * is `up IFACE`, `frame IFACE HEX`, `route PREFIX LENGTH NEXT_HOP IFACE`, which is kept, or `routes`, which takes those
  * that are kept in place of the router's. After a line `counted` each event but `route` goes by the function of that
- * name. The answers to these are printed, each with the nodes of tries that the event visited. */
+ * name. The answers to these are printed, each with the count of trie nodes that the event raised the meter by. */
 #include <stdio.h>
 #include <stdlib.h>
 
