@@ -406,6 +406,26 @@ static void full(void) {
     viq_end(router);
 }
 
+/* New routes and RP ranges: the sources for which the route to them, RP(G) or the route to RP(G) is another one. */
+static void moved_sources(void) {
+    struct viq_router *router = NULL;
+    is("new", made(&router, &usual), VIQ_DONE);
+    is("up", viq_up(router, 0, viq_draw(7)), VIQ_DONE);
+    is("all may differ", viq_may_differ(router, 0x0a090905, 0xe1010101), true);
+    is("a route goes", viq_routes(router, two, 1, viq_draw(0)), VIQ_DONE);
+    is("a source behind it", viq_may_differ(router, 0x0a000305, 0xe1010101), true);
+    is("one behind the other route", viq_may_differ(router, 0x0a090905, 0xe1010101), false);
+    is("the same route again", viq_routes(router, two, 1, viq_draw(0)), VIQ_DONE);
+    is("nothing differs", viq_may_differ(router, 0x0a000305, 0xe1010101), false);
+    is("the route to the RP goes", viq_routes(router, two, 0, viq_draw(0)), VIQ_DONE);
+    is("a source without a route", viq_may_differ(router, 0x0a000305, 0xe1010101), true);
+    is("to a group without an RP", viq_may_differ(router, 0x0a000305, 0xe8010101), false);
+    is("the RP goes", viq_ranges(router, one, 0, viq_draw(0)), VIQ_DONE);
+    is("a source of its group", viq_may_differ(router, 0x0a000305, 0xe1010101), true);
+    is("of a group that had none", viq_may_differ(router, 0x0a000305, 0xe8010101), false);
+    viq_end(router);
+}
+
 /* A router with 120 interfaces, and hosts on some that want a source of a group: what is told of interface 64 and
  * above. */
 static void many_interfaces(void) {
@@ -562,6 +582,7 @@ int main(void) {
     many_interfaces();
     plane();
     full();
+    moved_sources();
     older_versions();
     texts();
     is("the other's moment", viq_next_moment(other), VIQ_NEVER);

@@ -2,7 +2,6 @@
 -- works.
 use Rattle.std.specs.Option.{option_map_or}
 use Rattle.std.specs.Prelude.{[], Bool, Err, List, None, Ok, Option, Result, Some, drop, false, filter, length, min, nat_lt, true, unwrap_or, ℕ, ◌+◌, ◌≡◌, ◌⊎◌}
-use Rattle.pim_fanout.specs.Disturbed.{is_disturbed}
 use Rattle.pim_ip.specs.Refusal.{refusal_number}
 use Rattle.pim_ip.specs.declared.refusal.Refusal.{Refusal}
 use Rattle.pim_ifset.specs.Members.{mask_of}
@@ -21,6 +20,7 @@ use Rattle.pim_reach.specs.Named.{event_named}
 use Rattle.pim_event.specs.Costs.{IsCheap}
 use Rattle.pim_event.specs.Disturbing.{event_disturbed}
 use Rattle.pim_event.specs.Listing.{ListsSame}
+use Rattle.pim_event.specs.Replacing.{may_differ}
 use Rattle.pim_event.specs.Staying.{OffersStay}
 use Rattle.pim_router.specs.Standing.{Standing, begun, nothing_shown, standing, with_state}
 use Rattle.pim_session.specs.Front.{emissions_left, front_after, given, hosts_set, interface_test, is_sure, older_rows, version_set}
@@ -226,7 +226,8 @@ changed_in (Some s) = s.router.changed
 -- What is offered of the source may have changed in the last event.
 abbrev pub may_differ_in : Option ShownSession → ℕ → ℕ → Bool
 may_differ_in None source group = true
-may_differ_in (Some s) source group = is_disturbed s.router.disturbed group source
+may_differ_in (Some s) source group =
+    option_map_or (λ (r : Standing). may_differ s.router.disturbed r.state group source) s.router.standing true
 
 -- The packet of this number is one of the given number of last packets on links.
 abbrev pub is_copy : List Emission → ℕ → ℕ → Bool

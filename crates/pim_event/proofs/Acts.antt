@@ -12,23 +12,23 @@ use Rattle.pim_event.specs.declared.act.Act.{Act}
 use Rattle.pim_event.specs.declared.act.Control.{Control}
 
 -- none lets time pass
-pub control_timeless : (s : State) (control : Control) (m : ℕ) → ¬ (control_event s control ≡ Accepted.Advance m)
-control_timeless s (Control.Up i) m is = cc is
-control_timeless s (Control.Down i) m is = cc is
-control_timeless s (Control.Routes table) m is = cc is
-control_timeless s (Control.Ranges table) m is = cc is
-control_timeless s (Control.Hello i from h) m is = cc is
-control_timeless s (Control.JoinPruneToMe i message named changes) m is = cc is
-control_timeless s (Control.JoinPruneSeen i message named) m is = cc is
-control_timeless s (Control.Assert i from a) m is = cc is
-control_timeless s (Control.Query i from q) m is = cc is
-control_timeless s (Control.Report i records) m is = cc is
-control_timeless s (Control.RegisterStop from stop) m is = cc is
+pub control_timeless : (control : Control) (m : ℕ) → ¬ (control_event control ≡ Accepted.Advance m)
+control_timeless (Control.Up i) m is = cc is
+control_timeless (Control.Down i) m is = cc is
+control_timeless (Control.Routes table) m is = cc is
+control_timeless (Control.Ranges table) m is = cc is
+control_timeless (Control.Hello i from h) m is = cc is
+control_timeless (Control.JoinPruneToMe i message named changes) m is = cc is
+control_timeless (Control.JoinPruneSeen i message named) m is = cc is
+control_timeless (Control.Assert i from a) m is = cc is
+control_timeless (Control.Query i from q) m is = cc is
+control_timeless (Control.Report i records) m is = cc is
+control_timeless (Control.RegisterStop from stop) m is = cc is
 
-pub timeless : (s : State) (act : Act) (m : ℕ) → ¬ (act_event s act ≡ Accepted.Advance m)
-timeless s (Act.Data i p sight) m is = cc is
-timeless s (Act.Register p r) m is = cc is
-timeless s (Act.Control control) m is = control_timeless s control m is
+pub timeless : (act : Act) (m : ℕ) → ¬ (act_event act ≡ Accepted.Advance m)
+timeless (Act.Data i p sight) m is = cc is
+timeless (Act.Register p r) m is = cc is
+timeless (Act.Control control) m is = control_timeless control m is
 
 -- ---- a Join/Prune
 

@@ -10,14 +10,14 @@ use Rattle.pim_model.specs.State.{State}
 use Rattle.pim_reach.specs.Named.{event_named}
 use Rattle.pim_event.specs.Caching.{CacheAfter}
 use Rattle.pim_event.specs.Costs.{IsCheap}
-use Rattle.pim_event.specs.Disturbing.{event_disturbed}
+use Rattle.pim_event.specs.Disturbing.{event_touched}
 use Rattle.pim_event.specs.Listing.{ListsSame}
-use Rattle.pim_event.specs.Staying.{OffersStay}
+use Rattle.pim_event.specs.Staying.{UntouchedOffersStay}
 
 pub cache_after : {A E : Type 0} (r : Result A E) (s : State) (e : Event) (t : State) (cache : CacheValue) (probes : ℕ)
     → OnOk r (ShowsRows cache.mfc.rows (cached t)) → OnOk r (IsCheap s e probes (touches cache))
     → OnOk r (ListsSame cache.changed (event_named s e)) → IsStrictlySortedBy key_cmp cache.changed
-    → cache.disturbed ≡ event_disturbed s e → OnOk r (OffersStay cache.disturbed s t)
+    → cache.disturbed ≡ event_touched s e → OnOk r (UntouchedOffersStay cache.disturbed s t)
     → OnOk r (CacheAfter s e t cache probes)
 cache_after (Ok x) s e t cache probes shown cheap listed once disturbs stays =
     record { shown = shown; cheap = cheap; listed = listed; once = once; disturbs = disturbs; stays = stays }

@@ -1,6 +1,6 @@
 -- Which sources an event disturbs: after what was accepted, over firings in turn, and at the last of some events.
 use Rattle.std.specs.Prelude.{if◌then◌else◌}
-use Rattle.std.proofs.Common.{◌≡◌, ◌≤◌, ◌<◌, ◌+◌, ℕ, Bool, true, false, not, ◌&&◌, is_some, List, [], ◌∷◌, ◌++◌, Some, Ok, Err, length, take, take_all, get_or, append_assoc, append-nil, add-one, refl, ap, subst, sym, ◌∙◌}
+use Rattle.std.proofs.Common.{◌≡◌, ◌≤◌, ◌<◌, ◌+◌, ℕ, Bool, true, false, not, ◌&&◌, is_some, List, [], ◌∷◌, ◌++◌, Some, Result, Ok, Err, OnOk, length, take, take_all, get_or, append_assoc, append-nil, add-one, refl, ap, subst, sym, ◌∙◌}
 use Rattle.std.proofs.Math.Seq.{take-suc}
 use Rattle.pim_ip.specs.Ipv4.{Packet}
 use Rattle.pim_types.specs.declared.config.IfaceId.{IfaceId}
@@ -21,9 +21,10 @@ use Rattle.pim_laws.specs.Laws.{IsFirable, IsReady, ends_from}
 use Rattle.pim_cached.specs.Decided.{decided_by_answers}
 use Rattle.pim_world.specs.declared.touched.Touched.{Touched}
 use Rattle.pim_fanout.specs.Disturbed.{joined}
-use Rattle.pim_event.specs.Disturbing.{IsLastDisturbed, disturbed_of, disturbed_with_room, ended_all, ended_instant, event_disturbed, goes_by_answers, joined_all, touched_at, where_disturbed}
+use Rattle.pim_event.specs.Disturbing.{IsLastDisturbed, disturbed_of, disturbed_with_room, ended_all, ended_instant, event_disturbed, event_touched, goes_by_answers, joined_all, touched_at, where_disturbed}
 use Rattle.pim_event.specs.Ends.{touched_by_end}
 use Rattle.pim_event.specs.Planning.{touched_of}
+use Rattle.pim_event.specs.Replacing.{Disturbance, Replaced, event_replaced}
 use Rattle.pim_event.specs.Staying.{disturbed_by}
 use Rattle.pim_event.proofs.Firings.{all_ended, instant_ended}
 
@@ -177,8 +178,8 @@ pub turn_disturbs : (s t : State) (e : Event) (a : Accepted) (w : ℕ) (before n
     → now ≡ joined before (where_disturbed s (disturbed_of s w) (Ok a)) → t ≡ (taken_unless_full s w a).state
     → was ≡ passes_limit s 1 → is ≡ passes_limit t 1 → differs ≡ not (same_bool was is)
     → after ≡ (if differs then Touched.All else now) → goes_by_answers s (judged s e.kind) ≡ false
-    → after ≡ event_disturbed s e
-unfolding event_disturbed disturbed_with_room step
+    → after ≡ event_touched s e
+unfolding event_touched disturbed_with_room step
 turn_disturbs s t e a w before now after was is differs heard draws none joins state was_so is_so exact chooses other =
     let told : now ≡ where_disturbed s (disturbed_of s e.draw) (judged s e.kind) =
     joins
@@ -209,8 +210,8 @@ stopped_by s e (Stop.Refuse refusal) j is = rw (is, same_itself (passes_limit s 
 stopped_by s e (Stop.Ignore reason) j is = rw (is, same_itself (passes_limit s 1)) refl
 
 pub stopped_disturbs_none : (s : State) (e : Event) (stop : Stop) (disturbed : Touched) → judged s e.kind ≡ Err stop
-    → disturbed ≡ Touched.Keys [] → disturbed ≡ event_disturbed s e
-unfolding event_disturbed disturbed_with_room step
+    → disturbed ≡ Touched.Keys [] → disturbed ≡ event_touched s e
+unfolding event_touched disturbed_with_room step
 stopped_disturbs_none s e stop disturbed heard none = none ∙ sym (stopped_by s e stop (judged s e.kind) heard)
 
 -- so does a packet that the answers of its source decide
@@ -220,8 +221,8 @@ by_answers s i p how j heard known answered = rw (heard, known, answered) refl
 
 pub plain_disturbs_none : (s : State) (e : Event) (i : IfaceId) (p : Packet) (how : Plain) (disturbed : Touched)
     → judged s e.kind ≡ Ok (Accepted.Data i p) → has_row s.sources (fact_key p) ≡ true
-    → decided_by_answers s i p ≡ Some how → disturbed ≡ Touched.Keys [] → disturbed ≡ event_disturbed s e
-unfolding event_disturbed
+    → decided_by_answers s i p ≡ Some how → disturbed ≡ Touched.Keys [] → disturbed ≡ event_touched s e
+unfolding event_touched
 plain_disturbs_none s e i p how disturbed heard known answered none =
     none
     ∙ sym (ap (λ (b : Bool). if b then Touched.Keys [] else disturbed_with_room s e)
@@ -253,9 +254,16 @@ pub other_in_turn : (s : State) (e : Event) (a : Accepted) → judged s e.kind �
     → ((i : IfaceId) (p : Packet) → ¬ (a ≡ Accepted.Data i p)) → goes_by_answers s (judged s e.kind) ≡ false
 other_in_turn s e a heard other = ap (goes_by_answers s) heard ∙ no_data s a other
 
+-- what is touched and what is replaced
+pub both_disturb : {A E : Type 0} (r : Result A E) (touched : Touched) (replaced : Replaced) (s : State) (e : Event)
+    → OnOk r (touched ≡ event_touched s e) → OnOk r (replaced ≡ event_replaced s e)
+    → OnOk r (record { touched = touched; replaced = replaced } ≡ event_disturbed s e)
+both_disturb (Ok x) touched replaced s e touches replaces = λ j. record { touched = touches j; replaced = replaces j }
+both_disturb (Err x) touched replaced s e touches replaces = tt
+
 -- ---- the last of some events
 
-last_disturbed : (s : State) (es : List Event) (e : Event) (disturbed : Touched)
+last_disturbed : (s : State) (es : List Event) (e : Event) (disturbed : Disturbance)
     → disturbed ≡ event_disturbed (state_after s es) e → IsLastDisturbed s (es ++ e ∷ []) disturbed
 unfolding state_after ran
 last_disturbed s [] e disturbed is = is
@@ -263,7 +271,7 @@ last_disturbed s (x ∷ []) e disturbed is = is
 last_disturbed s (x ∷ y ∷ es) e disturbed is = last_disturbed (step s x).state (y ∷ es) e disturbed is
 
 module _ (start : State) (events : List Event) where
-  pub disturbs_next : (i : ℕ) (s : State) (e : Event) (disturbed : Touched) → i < length events → e ≡ get_or events i e
+  pub disturbs_next : (i : ℕ) (s : State) (e : Event) (disturbed : Disturbance) → i < length events → e ≡ get_or events i e
       → s ≡ state_after start (take i events) → disturbed ≡ event_disturbed s e
       → IsLastDisturbed start (take (i + 1) events) disturbed
   disturbs_next i s e disturbed lt is state disturbs =
@@ -274,7 +282,7 @@ module _ (start : State) (events : List Event) where
       (last_disturbed start (take i events) e disturbed
       (subst (λ (x : State). disturbed ≡ event_disturbed x e) state disturbs))
 
-  pub disturbs_all : (i : ℕ) (disturbed : Touched) → length events ≤ i → IsLastDisturbed start (take i events) disturbed
+  pub disturbs_all : (i : ℕ) (disturbed : Disturbance) → length events ≤ i → IsLastDisturbed start (take i events) disturbed
       → IsLastDisturbed start events disturbed
   disturbs_all i disturbed le disturbs =
       subst (λ (es : List Event). IsLastDisturbed start es disturbed) (take_all i events le) disturbs

@@ -6,6 +6,8 @@ mod Configured
 pub mod Costs
 pub mod Disturbing
 mod Firings
+mod Replacing
+mod Rerouting
 mod Frames
 mod IgmpFacts
 mod Growing

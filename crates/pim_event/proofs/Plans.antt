@@ -1,6 +1,6 @@
 -- Plans of events: each kind's fits where its parts do.
 use Rattle.std.specs.Prelude.{if◌then◌else◌}
-use Rattle.std.proofs.Common.{◌≡◌, ◌<◌, ℕ, Bool, true, false, List, Option, ap, inl, inr, refl, subst, sym, ◌∙◌}
+use Rattle.std.proofs.Common.{◌≡◌, ◌<◌, ℕ, Bool, true, false, List, ap, inl, inr, refl, subst, sym, ◌∙◌}
 use Rattle.pim_types.specs.declared.fact.Key.{Key}
 use Rattle.pim_model.specs.declared.accepted.Accepted.{Accepted}
 use Rattle.pim_model.specs.Full.{is_full, join_prune_is_full, keys_are_full, source_is_full}
@@ -26,7 +26,7 @@ use Rattle.pim_model.specs.Downstream.{joined_keys, pruned_keys}
 use Rattle.pim_macros.specs.declared.sight.SourceSight.{SourceSight}
 use Rattle.pim_event.specs.Ends.{few_or_all}
 use Rattle.pim_event.specs.OtherRoutes.{with_routes}
-use Rattle.pim_event.specs.Acting.{HasRead, act_event, ranges_by, routes_by}
+use Rattle.pim_event.specs.Acting.{HasRead, act_event}
 use Rattle.pim_event.specs.Planning.{Fits, IsPlanned, touched_of}
 use Rattle.pim_event.specs.declared.act.Act.{Act}
 use Rattle.pim_event.specs.declared.act.Control.{Control}
@@ -34,7 +34,7 @@ use Rattle.pim_event.specs.declared.plan.Plan.{Plan}
 use Rattle.pim_event.specs.declared.plan.Planning.{Planning}
 use Rattle.pim_event.proofs.Touching.{MakesNone, facts_covered, packet_covered}
 
-module _ (s : State) (a : Accepted) (planning : Planning) (act : Act) (event : act_event s act ≡ a) (read : HasRead s act)
+module _ (s : State) (a : Accepted) (planning : Planning) (act : Act) (event : act_event act ≡ a) (read : HasRead s act)
     (room : is_full s a ≡ false) where
   -- some keys are touched
   pub keys_fit : (keys : List Key)
@@ -63,15 +63,15 @@ planned_of s a b planning is planned = subst (λ (x : Accepted). IsPlanned s x p
 
 -- the keys of what depends on a neighbour are touched, or all
 pub adjoins_fit : (s : State) (act : Act) (keys : List Key) (touched : Touched) → HasRead s act → touched ≡ few_or_all keys
-    → few_or_all keys ≡ touched_of s (act_event s act) → is_full s (act_event s act) ≡ false
-    → ((w : ℕ) → Contains (few_or_all keys) s (change s w (act_event s act)).state)
-    → (let p : Plan = record { touched = touched; act = act } in Fits s (act_event s act) p)
+    → few_or_all keys ≡ touched_of s (act_event act) → is_full s (act_event act) ≡ false
+    → ((w : ℕ) → Contains (few_or_all keys) s (change s w (act_event act)).state)
+    → (let p : Plan = record { touched = touched; act = act } in Fits s (act_event act) p)
 adjoins_fit s act keys touched read those touches room covers = record {
   event = refl;
   read = read;
   room = room;
   touches = those ∙ touches;
-  covers = λ w. subst (λ (t : Touched). Contains t s (change s w (act_event s act)).state) (sym those) (covers w);
+  covers = λ w. subst (λ (t : Touched). Contains t s (change s w (act_event act)).state) (sym those) (covers w);
 }
 
 -- keys that are touched on a condition
@@ -100,7 +100,7 @@ those_where on keys first second is are = rw is (ap Touched.Keys are)
 
 -- these keys are touched, which take all that is moved
 module _ (s : State) (a : Accepted) (touched : Touched) (act : Act) (keys : List Key) where
-  moved_fits : act_event s act ≡ a → HasRead s act → Touched.Keys keys ≡ touched_of s a → is_full s a ≡ false
+  moved_fits : act_event act ≡ a → HasRead s act → Touched.Keys keys ≡ touched_of s a → is_full s a ≡ false
       → ((w : ℕ) → MovesAlone keys s (change s w a).state) → touched ≡ Touched.Keys keys
       → (let p : Plan = record { touched = touched; act = act } in Fits s a p)
   moved_fits event read touches room moves those = record {
@@ -111,8 +111,8 @@ module _ (s : State) (a : Accepted) (touched : Touched) (act : Act) (keys : List
     covers = λ w. subst (λ (t : Touched). Contains t s (change s w a).state) (sym those) (inl (inr (moves w)));
   }
 
-pub routes_fit : (s : State) (routes : List Route) (touched : Touched) (table : Option RouteTable)
-    → touched ≡ Touched.Keys (keys_by_routes s (with_routes s routes)) → routes_by s table ≡ routes
+pub routes_fit : (s : State) (routes : List Route) (touched : Touched) (table : RouteTable)
+    → touched ≡ Touched.Keys (keys_by_routes s (with_routes s routes)) → table.routes ≡ routes
     → (let p : Plan = record { touched = touched; act = Act.Control (Control.Routes table) } in
     Fits s (Accepted.Routes routes) p)
 unfolding is_full change touched_of
@@ -120,8 +120,8 @@ routes_fit s routes touched table those brings =
     moved_fits s (Accepted.Routes routes) touched (Act.Control (Control.Routes table))
     (keys_by_routes s (with_routes s routes)) (ap Accepted.Routes brings) tt refl refl (λ w. routes_move s w routes) those
 
-pub rps_fit : (s : State) (ranges : List RpRange) (touched : Touched) (table : Option RouteTable)
-    → touched ≡ Touched.Keys (keys_by_rps s (rps_replaced s ranges)) → ranges_by s table ≡ ranges
+pub rps_fit : (s : State) (ranges : List RpRange) (touched : Touched) (table : RouteTable)
+    → touched ≡ Touched.Keys (keys_by_rps s (rps_replaced s ranges)) → table.ranges ≡ ranges
     → (let p : Plan = record { touched = touched; act = Act.Control (Control.Ranges table) } in
     Fits s (Accepted.Rps ranges) p)
 unfolding is_full change touched_of

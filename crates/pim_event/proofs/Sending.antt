@@ -19,26 +19,26 @@ use Rattle.pim_event.specs.Sending.{Sends}
 pub data_sends : {E : Type 0} (s : State) (w : ℕ) (act : Act) (i : IfaceId) (p : Packet) (sight : SourceSight)
     → act ≡ Act.Data i p sight → (state : State) (before after : Taking) (r : Result Leaving E)
     → IfOk r (λ l. Sends l state before after (packet_forwarded p (forwarded s p.destination p.source i.number)))
-    → IfOk r (λ l. Sends l state before after (change s w (act_event s act)))
+    → IfOk r (λ l. Sends l state before after (change s w (act_event act)))
 unfolding change
 data_sends s w act i p sight is state before after r sends =
-    subst (λ (x : Act). IfOk r (λ l. Sends l state before after (change s w (act_event s x)))) (sym is) sends
+    subst (λ (x : Act). IfOk r (λ l. Sends l state before after (change s w (act_event x)))) (sym is) sends
 
 pub register_sends : {E : Type 0} (s : State) (w : ℕ) (act : Act) (p : Packet) (register : Register)
     → act ≡ Act.Register p register → (state : State) (before after : Taking) (r : Result Leaving E)
     → IfOk r (λ l. Sends l state before after (decapsulated register
     (register_received s p (registered_group register) (registered_source register) (is_null register))))
-    → IfOk r (λ l. Sends l state before after (change s w (act_event s act)))
+    → IfOk r (λ l. Sends l state before after (change s w (act_event act)))
 unfolding change
 register_sends s w act p register is state before after r sends =
-    subst (λ (x : Act). IfOk r (λ l. Sends l state before after (change s w (act_event s x)))) (sym is) sends
+    subst (λ (x : Act). IfOk r (λ l. Sends l state before after (change s w (act_event x)))) (sym is) sends
 
 -- what has no packet leaves none
 record SendsNone (c : Change) : Type 0 where
   copies : c.copies ≡ []
   registered : c.registered ≡ []
 
-without_packet : (s : State) (w : ℕ) (control : Control) → SendsNone (change s w (control_event s control))
+without_packet : (s : State) (w : ℕ) (control : Control) → SendsNone (change s w (control_event control))
 unfolding change
 without_packet s w (Control.Up i) = record { copies = refl; registered = refl }
 without_packet s w (Control.Down i) = record { copies = refl; registered = refl }
@@ -53,12 +53,12 @@ without_packet s w (Control.Report i records) = record { copies = refl; register
 without_packet s w (Control.RegisterStop from stop) = record { copies = refl; registered = refl }
 
 pub nothing_sends : (s : State) (w : ℕ) (act : Act) (control : Control) → act ≡ Act.Control control → (state : State)
-    (before after : Taking) (l : Leaving) → state ≡ (change s w (control_event s control)).state
-    → after ≡ saying before (change s w (control_event s control)).messages → l.copies.items ≡ []
-    → l.registered.items ≡ [] → Sends l state before after (change s w (act_event s act))
+    (before after : Taking) (l : Leaving) → state ≡ (change s w (control_event control)).state
+    → after ≡ saying before (change s w (control_event control)).messages → l.copies.items ≡ []
+    → l.registered.items ≡ [] → Sends l state before after (change s w (act_event act))
 nothing_sends s w act control of state before after l is says copied registered =
-    let none : SendsNone (change s w (control_event s control)) = without_packet s w control in
-    subst (λ (x : Act). Sends l state before after (change s w (act_event s x))) (sym of)
+    let none : SendsNone (change s w (control_event control)) = without_packet s w control in
+    subst (λ (x : Act). Sends l state before after (change s w (act_event x))) (sym of)
     (record {
       state_is = is;
       messages = says;

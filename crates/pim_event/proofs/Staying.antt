@@ -42,7 +42,8 @@ use Rattle.pim_offload.specs.Offered.{offered}
 use Rattle.pim_offload.specs.Staying.{KeepsRoutes, OffersAlike, SourceStays, is_rerouting}
 use Rattle.pim_offload.proofs.Routed.{event_keeps_routes, firing_keeps_routes}
 use Rattle.pim_offload.proofs.Staying.{firing_source_stays, offer_stays, plain_offer_stays, stays_in_turn, stays_itself, time_source_stays, unnamed_source_stays}
-use Rattle.pim_event.specs.Staying.{LastOffersStay, OffersStay, StaysBeside, disturbed_by}
+use Rattle.pim_event.specs.Staying.{LastOffersStay, OffersStay, UntouchedOffersStay, StaysBeside, disturbed_by}
+use Rattle.pim_event.specs.Replacing.{Disturbance}
 use Rattle.pim_event.proofs.Taking.{taken_is_done}
 
 -- ---- what is disturbed
@@ -75,7 +76,7 @@ not_disturbed a touched g src out = go (is_rerouting a) out
 
 -- ---- an event, the expiry of a timer, and the present alone
 
-few_of : (s : State) (lent : InterfaceTable) → lent ≡ interfaces_of s → length lent.configured ≤ 120
+pub few_of : (s : State) (lent : InterfaceTable) → lent ≡ interfaces_of s → length lent.configured ≤ 120
     → length s.configured ≤ 120
 few_of s lent lends few = subst (λ (x : InterfaceTable). length x.configured ≤ 120) lends few
 
@@ -185,7 +186,7 @@ stays_the_same s t disturbed is g src out = subst (λ (u : State). SourceStays g
 -- all are disturbed where there is no more room, or room again
 pub offers_with_room : (s t : State) (disturbed after : Touched) (differs : Bool)
     → after ≡ cond differs Touched.All disturbed → (differs ≡ false → passes_limit s 1 ≡ passes_limit t 1)
-    → StaysBeside disturbed s t → OffersStay after s t
+    → StaysBeside disturbed s t → UntouchedOffersStay after s t
 unfolding is_disturbed
 offers_with_room s t disturbed after true is room stays g src out =
     let all : is_disturbed Touched.All g src ≡ false = ap (λ (d : Touched). is_disturbed d g src) (sym is) ∙ out in
@@ -193,14 +194,14 @@ offers_with_room s t disturbed after true is room stays g src out =
 offers_with_room s t disturbed after false is room stays g src out =
     offer_stays s t g src (stays g src (ap (λ (d : Touched). is_disturbed d g src) (sym is) ∙ out)) (room refl)
 
-pub offers_the_same : (s t : State) (disturbed : Touched) → t ≡ s → OffersStay disturbed s t
+pub offers_the_same : (s t : State) (disturbed : Touched) → t ≡ s → UntouchedOffersStay disturbed s t
 offers_the_same s t disturbed is g src out =
     subst (λ (u : State). OffersAlike (offered s g src) (offered u g src)) (sym is)
     (offer_stays s s g src (stays_itself s g src) refl)
 
 pub plain_offers_stay : {A E : Type 0} (r : Result A E) (s t : State) (e : Event) (p : Packet) (how : Plain)
     → IsAtRest s → IsDecided s e p how → OnOk r (t ≡ (step s e).state) → (disturbed : Touched)
-    → OnOk r (OffersStay disturbed s t)
+    → OnOk r (UntouchedOffersStay disturbed s t)
 plain_offers_stay (Ok x) s t e p how rest is after disturbed =
     λ g src out. subst (λ (u : State). OffersAlike (offered s g src) (offered u g src)) (sym after)
     (plain_offer_stays s e p how rest is g src)
@@ -208,7 +209,7 @@ plain_offers_stay (Err x) s t e p how rest is after disturbed = tt
 
 -- ---- the last of some events
 
-last_stays : (s : State) (es : List Event) (e : Event) (disturbed : Touched)
+last_stays : (s : State) (es : List Event) (e : Event) (disturbed : Disturbance)
     → OffersStay disturbed (state_after s es) (step (state_after s es) e).state → LastOffersStay s (es ++ e ∷ []) disturbed
 unfolding state_after ran
 last_stays s [] e disturbed stays = stays
@@ -216,7 +217,7 @@ last_stays s (x ∷ []) e disturbed stays = stays
 last_stays s (x ∷ y ∷ es) e disturbed stays = last_stays (step s x).state (y ∷ es) e disturbed stays
 
 module _ (first : State) (events : List Event) where
-  pub stays_next : (i : ℕ) (s t : State) (e : Event) (disturbed : Touched) → i < length events → e ≡ get_or events i e
+  pub stays_next : (i : ℕ) (s t : State) (e : Event) (disturbed : Disturbance) → i < length events → e ≡ get_or events i e
       → s ≡ state_after first (take i events) → t ≡ (step s e).state → OffersStay disturbed s t
       → LastOffersStay first (take (i + 1) events) disturbed
   stays_next i s t e disturbed lt is state after stays =
@@ -228,7 +229,7 @@ module _ (first : State) (events : List Event) where
       (subst (λ (x : State). OffersStay disturbed x (step x e).state) state
       (subst (λ (u : State). OffersStay disturbed s u) after stays)))
 
-  pub stays_all : (i : ℕ) (disturbed : Touched) → length events ≤ i → LastOffersStay first (take i events) disturbed
+  pub stays_all : (i : ℕ) (disturbed : Disturbance) → length events ≤ i → LastOffersStay first (take i events) disturbed
       → LastOffersStay first events disturbed
   stays_all i disturbed le stays =
       subst (λ (es : List Event). LastOffersStay first es disturbed) (take_all i events le) stays

@@ -1,7 +1,5 @@
 -- What an event is to do: which event it is of, and what was read for it.
-use Rattle.std.specs.Prelude.{List, None, Option, Some, ◌≡◌, ℕ}
-use Rattle.pim_types.specs.declared.config.Route.{Route}
-use Rattle.pim_types.specs.declared.config.RpRange.{RpRange}
+use Rattle.std.specs.Prelude.{List, ◌≡◌, ℕ}
 use Rattle.pim_types.specs.declared.fact.Key.{Key}
 use Rattle.pim_model.specs.declared.accepted.Accepted.{Accepted}
 use Rattle.pim_model.specs.Downstream.{joined_keys, pruned_keys}
@@ -10,38 +8,28 @@ use Rattle.pim_downstream.specs.Naming.{changes_after}
 use Rattle.pim_downstream.specs.declared.named.Named.{Named}
 use Rattle.pim_macros.specs.Sights.{IsSourceSight}
 use Rattle.pim_macros.specs.declared.sight.SourceSight.{SourceSight}
-use Rattle.pim_mrib.specs.Routes.{RouteTable}
 use Rattle.pim_event.specs.declared.act.Act.{Act}
 use Rattle.pim_event.specs.declared.act.Control.{Control}
 
 -- ---- of which event it is
 
--- The routes, or the RP ranges, that a table brings; without a table they are those of the state.
-abbrev pub routes_by : State → Option RouteTable → List Route
-routes_by s None = s.routes
-routes_by s (Some table) = table.routes
+abbrev pub control_event : Control → Accepted
+control_event (Control.Up i) = Accepted.Up i
+control_event (Control.Down i) = Accepted.Down i
+control_event (Control.Routes table) = Accepted.Routes table.routes
+control_event (Control.Ranges table) = Accepted.Rps table.ranges
+control_event (Control.Hello i from h) = Accepted.Hello i from h
+control_event (Control.JoinPruneToMe i m named changes) = Accepted.JoinPruneToMe i m
+control_event (Control.JoinPruneSeen i m named) = Accepted.JoinPruneSeen i m
+control_event (Control.Assert i from a) = Accepted.Assert i from a
+control_event (Control.Query i from q) = Accepted.Query i from q
+control_event (Control.Report i records) = Accepted.Report i records
+control_event (Control.RegisterStop from stop) = Accepted.RegisterStop from stop
 
-abbrev pub ranges_by : State → Option RouteTable → List RpRange
-ranges_by s None = s.ranges
-ranges_by s (Some table) = table.ranges
-
-abbrev pub control_event : State → Control → Accepted
-control_event s (Control.Up i) = Accepted.Up i
-control_event s (Control.Down i) = Accepted.Down i
-control_event s (Control.Routes table) = Accepted.Routes (routes_by s table)
-control_event s (Control.Ranges table) = Accepted.Rps (ranges_by s table)
-control_event s (Control.Hello i from h) = Accepted.Hello i from h
-control_event s (Control.JoinPruneToMe i m named changes) = Accepted.JoinPruneToMe i m
-control_event s (Control.JoinPruneSeen i m named) = Accepted.JoinPruneSeen i m
-control_event s (Control.Assert i from a) = Accepted.Assert i from a
-control_event s (Control.Query i from q) = Accepted.Query i from q
-control_event s (Control.Report i records) = Accepted.Report i records
-control_event s (Control.RegisterStop from stop) = Accepted.RegisterStop from stop
-
-abbrev pub act_event : State → Act → Accepted
-act_event s (Act.Data i p sight) = Accepted.Data i p
-act_event s (Act.Register p r) = Accepted.Register p r
-act_event s (Act.Control control) = control_event s control
+abbrev pub act_event : Act → Accepted
+act_event (Act.Data i p sight) = Accepted.Data i p
+act_event (Act.Register p r) = Accepted.Register p r
+act_event (Act.Control control) = control_event control
 
 -- ---- what was read for it
 

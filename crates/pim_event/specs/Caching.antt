@@ -10,9 +10,9 @@ use Rattle.pim_fanout.specs.Refreshing.{CacheValue, touches}
 use Rattle.pim_mfc.specs.Laws.{ShowsRows}
 use Rattle.pim_reach.specs.Named.{event_named}
 use Rattle.pim_event.specs.Costs.{IsCheap}
-use Rattle.pim_event.specs.Disturbing.{event_disturbed}
+use Rattle.pim_event.specs.Disturbing.{event_touched}
 use Rattle.pim_event.specs.Listing.{ListsMore, ListsSame}
-use Rattle.pim_event.specs.Staying.{OffersStay, StaysBeside}
+use Rattle.pim_event.specs.Staying.{StaysBeside, UntouchedOffersStay}
 
 -- The cache after a change of the state from `s` to `t`, between which the listed sources are named. Its rows are those
 -- of `t`. It touched at most two rows for each name, and its list of changed sources has the names too. What it doesn't
@@ -29,5 +29,5 @@ pub record CacheAfter (s : State) (e : Event) (t : State) (cache : CacheValue) (
   pub cheap : IsCheap s e probes (touches cache)
   pub listed : ListsSame cache.changed (event_named s e)
   pub once : IsStrictlySortedBy key_cmp cache.changed
-  pub disturbs : cache.disturbed ≡ event_disturbed s e
-  pub stays : OffersStay cache.disturbed s t
+  pub disturbs : cache.disturbed ≡ event_touched s e
+  pub stays : UntouchedOffersStay cache.disturbed s t

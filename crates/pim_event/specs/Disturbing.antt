@@ -1,5 +1,5 @@
--- Which sources an event disturbs, exactly: those that its change touches, by their key or by their group, and those that
--- a timer of an Advance touches when it expires.
+-- What an event disturbs, exactly: what its change touches, by key or by group, what a timer of an Advance touches when it
+-- expires, and the routes or RP ranges that it replaces.
 use Rattle.std.specs.Prelude.{Bool, Err, List, Ok, [], false, if◌then◌else◌, is_some, length, ℕ, ◌&&◌, ◌+◌, ◌-◌, ◌∷◌, ◌≡◌}
 use Rattle.pim_types.specs.declared.event.Event.{Event}
 use Rattle.pim_model.specs.declared.accepted.Accepted.{Accepted}
@@ -17,6 +17,7 @@ use Rattle.pim_world.specs.declared.touched.Touched.{Touched}
 use Rattle.pim_fanout.specs.Disturbed.{joined}
 use Rattle.pim_event.specs.Ends.{touched_by_end}
 use Rattle.pim_event.specs.Planning.{touched_of}
+use Rattle.pim_event.specs.Replacing.{Disturbance, event_replaced}
 use Rattle.pim_event.specs.Staying.{disturbed_by}
 
 -- ---- an Advance
@@ -66,14 +67,19 @@ abbrev pub goes_by_answers : State → Judged → Bool
 goes_by_answers s (Ok (Accepted.Data i p)) = has_row s.sources (fact_key p) && is_some (decided_by_answers s i p)
 goes_by_answers s _ = false
 
--- What an event disturbs. A packet that the answers of its source decide disturbs nothing: it moves a keepalive timer at
--- most.
-unfoldable pub event_disturbed : State → Event → Touched
-event_disturbed s e =
+-- What an event touches of what is offered. A packet that the answers of its source decide touches nothing: it moves a
+-- keepalive timer at most.
+unfoldable pub event_touched : State → Event → Touched
+event_touched s e =
     if goes_by_answers s (judged s e.kind) then Touched.Keys [] else disturbed_with_room s e
 
+-- What an event disturbs. New routes and RP ranges touch all sources; what they replaced tells which of these are
+-- disturbed.
+abbrev pub event_disturbed : State → Event → Disturbance
+event_disturbed s e = record { touched = event_touched s e; replaced = event_replaced s e }
+
 -- What the last of a list of events disturbs.
-abbrev pub IsLastDisturbed : State → List Event → Touched → Type 0
+abbrev pub IsLastDisturbed : State → List Event → Disturbance → Type 0
 IsLastDisturbed s [] disturbed = Unit {0}
 IsLastDisturbed s (e ∷ []) disturbed = disturbed ≡ event_disturbed s e
 IsLastDisturbed s (e ∷ es) disturbed = IsLastDisturbed (step s e).state es disturbed

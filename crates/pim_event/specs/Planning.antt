@@ -50,7 +50,7 @@ touched_of s _ = Touched.All
 -- The plan is of the event, with what was read for it. There is room for what the event names. What the plan touches is
 -- exactly what the event touches, and covers its change.
 pub record Fits (s : State) (a : Accepted) (plan : Plan) : Type 0 where
-  pub event : act_event s plan.act ≡ a
+  pub event : act_event plan.act ≡ a
   pub read : HasRead s plan.act
   pub room : is_full s a ≡ false
   pub touches : plan.touched ≡ touched_of s a

@@ -8,23 +8,29 @@ use Rattle.pim_world.specs.declared.touched.Touched.{Touched}
 use Rattle.pim_fanout.specs.Disturbed.{is_disturbed}
 use Rattle.pim_offload.specs.Offered.{offered}
 use Rattle.pim_offload.specs.Staying.{OffersAlike, SourceStays, is_rerouting}
+use Rattle.pim_event.specs.Replacing.{Disturbance, may_differ}
 
--- What an event disturbs: all sources where it brings new routes or RP ranges, since these touch only what has facts,
--- and move any source; else what it touches.
+-- What an event touches of what is offered: all sources where it brings new routes or RP ranges, since these move also
+-- sources without facts; else what it touches.
 abbrev pub disturbed_by : Accepted → Touched → Touched
 disturbed_by a touched = if is_rerouting a then Touched.All else touched
 
--- Of a source that isn't disturbed the fact and the answers are the same in both states.
+-- Of a source that isn't touched the fact and the answers are the same in both states.
 abbrev pub StaysBeside : Touched → State → State → Type 0
 StaysBeside disturbed s t = (g src : ℕ) → is_disturbed disturbed g src ≡ false → SourceStays g src s t
 
--- Of a source that isn't disturbed the same is offered to a data plane in both states.
-abbrev pub OffersStay : Touched → State → State → Type 0
-OffersStay disturbed s t = (g src : ℕ) → is_disturbed disturbed g src ≡ false
+-- Of a source that isn't touched the same is offered to a data plane in both states.
+abbrev pub UntouchedOffersStay : Touched → State → State → Type 0
+UntouchedOffersStay touched s t = (g src : ℕ) → is_disturbed touched g src ≡ false
+    → OffersAlike (offered s g src) (offered t g src)
+
+-- The same is offered to a data plane in both states of each source but those of which the offer may differ.
+abbrev pub OffersStay : Disturbance → State → State → Type 0
+OffersStay disturbed s t = (g src : ℕ) → may_differ disturbed t g src ≡ false
     → OffersAlike (offered s g src) (offered t g src)
 
 -- The last of some events leaves what is offered of a source that it doesn't disturb.
-abbrev pub LastOffersStay : State → List Event → Touched → Type 0
+abbrev pub LastOffersStay : State → List Event → Disturbance → Type 0
 LastOffersStay s [] disturbed = Unit {0}
 LastOffersStay s (e ∷ []) disturbed = OffersStay disturbed s (step s e).state
 LastOffersStay s (e ∷ es) disturbed = LastOffersStay (step s e).state es disturbed

@@ -17,13 +17,13 @@ pub enum Control<'a> {
     Down {
         iface: IfaceId,
     },
-    /// New routes: those of the table replace the routes of the router. Without a table the routes are unchanged.
+    /// New routes: those of the table replace the routes of the router.
     Routes {
-        table: Option<Mrib>,
+        table: Mrib,
     },
-    /// New RP ranges: those of the table replace the RP ranges of the router. Without a table the ranges are unchanged.
+    /// New RP ranges: those of the table replace the RP ranges of the router.
     Ranges {
-        table: Option<Mrib>,
+        table: Mrib,
     },
     Hello {
         iface: IfaceId,

@@ -5,11 +5,13 @@ ghost use Rattle.pim_wire.specs.RegisterParts.{is_null, registered_group, regist
 ghost use Rattle.pim_model.specs.Forwarding.{forwarded, register_received};
 ghost use Rattle.pim_model.specs.State.{iface_count};
 ghost use Rattle.pim_model.specs.Step.{change, decapsulated, iface_up, packet_forwarded, rps_replaced};
-ghost use Rattle.pim_event.specs.Acting.{HasHeard, HasRead, IsSightOf, control_event, act_event, ranges_by, routes_by};
+ghost use Rattle.pim_event.specs.Acting.{HasHeard, HasRead, IsSightOf, control_event, act_event};
 ghost use Rattle.pim_event.specs.Naming.{IsConfigured};
+ghost use Rattle.pim_event.specs.Replacing.{RangesReplaced, RoutesReplaced, replaced_after};
 ghost use Rattle.pim_event.specs.Sending.{Sends};
 
 use crate::act::{Act, Control};
+use crate::replaced::Replaced;
 use pim_data::{Leaving, arrived, leave};
 use pim_downstream::take_changes;
 use pim_hello::triggered_end;
@@ -76,43 +78,51 @@ fn decapsulate(
     }
 }
 
-// Replaces the routes by those of the table, if there is one.
-fn take_routes(world: &mut World, next: Option<Mrib>)
-    ensures { world.new ≡ record world.old { routes = routes_by world.old next } }
+// Replaces the routes by those of the table, and keeps those that were replaced.
+fn take_routes(world: &mut World, replaced: &mut Replaced, next: Mrib)
+    ensures state { world.new ≡ record world.old { routes = next.routes } }
+    ensures replaced { replaced.new ≡ RoutesReplaced world.old.routes }
 {
-    if let Some(next) = next {
-        world.take_routes(next);
-    }
+    let before = world.take_routes(next);
+    replaced.keep_routes(before);
 }
 
-// Replaces the RP ranges by those of the table, if there is one.
+// Replaces the RP ranges by those of the table, and keeps those that were replaced. If they are the same, no RP is
+// looked up.
 fn take_ranges(
     world: &mut World,
     turn: &mut Turn,
     meter: &mut Meter,
-    next: Option<Mrib>,
+    replaced: &mut Replaced,
+    next: Mrib,
 ) -> Result<(), AllocError>
-    ensures state { OnOk result (world.new ≡ rps_replaced world.old (ranges_by world.old next)) }
+    ensures state { OnOk result (world.new ≡ rps_replaced world.old next.ranges) }
+    ensures replaced { OnOk result (replaced.new ≡ RangesReplaced world.old.ranges) }
     ensures silent { turn.new ≡ turn.old }
 {
-    match next {
-        Some(next) => pim_register::rps_replaced(world, turn, meter, next),
-        None => Ok(()),
+    if world.has_ranges(next.ranges()) {
+        replaced.keep_ranges(next);
+        return Ok(());
     }
+    let before = pim_register::rps_replaced(world, turn, meter, next)?;
+    replaced.keep_ranges(before);
+    Ok(())
 }
 
-/// Does what an event is to do, and returns what leaves of its packet, if it has one. If an allocation fails, the state
-/// may be changed in part.
+/// Does what an event is to do, and returns what leaves of its packet, if it has one. The routes or RP ranges that it
+/// replaces are kept. If an allocation fails, the state may be changed in part.
 pub(crate) fn apply(
     world: &mut World,
     turn: &mut Turn,
     meter: &mut Meter,
+    replaced: &mut Replaced,
     act: Act<'_>,
 ) -> Result<Leaving, AllocError>
-    requires configured { IsConfigured world.old (act_event world.old act) }
+    requires configured { IsConfigured world.old (act_event act) }
     requires read { HasRead world.old act }
-    ensures { IfOk result (λ leaving. Sends leaving world.new turn.old turn.new
-        (change world.old turn.old.draw (act_event world.old act.entry))) }
+    ensures sends { IfOk result (λ leaving. Sends leaving world.new turn.old turn.new
+        (change world.old turn.old.draw (act_event act.entry))) }
+    ensures replaced { OnOk result (replaced.new ≡ replaced_after world.old (act_event act.entry) replaced.old) }
 {
     match act {
         Act::Data {
@@ -126,7 +136,7 @@ pub(crate) fn apply(
         }
         Act::Register { packet, register } => decapsulate(world, turn, meter, &packet, &register),
         Act::Control(control) => {
-            apply_control(world, turn, meter, control)?;
+            apply_control(world, turn, meter, replaced, control)?;
             Ok(Leaving::nothing(turn.alloc))
         }
     }
@@ -138,14 +148,17 @@ fn apply_control(
     world: &mut World,
     turn: &mut Turn,
     meter: &mut Meter,
+    replaced: &mut Replaced,
     control: Control<'_>,
 ) -> Result<(), AllocError>
-    requires configured { IsConfigured world.old (control_event world.old control) }
+    requires configured { IsConfigured world.old (control_event control) }
     requires heard { HasHeard world.old control }
     ensures state { OnOk result (world.new
-        ≡ (change world.old turn.old.draw (control_event world.old control.entry)).state) }
+        ≡ (change world.old turn.old.draw (control_event control.entry)).state) }
     ensures messages { OnOk result (turn.new
-        ≡ saying turn.old (change world.old turn.old.draw (control_event world.old control.entry)).messages) }
+        ≡ saying turn.old (change world.old turn.old.draw (control_event control.entry)).messages) }
+    ensures replaced { OnOk result (replaced.new
+        ≡ replaced_after world.old (control_event control.entry) replaced.old) }
 {
     match control {
         Control::Up { iface } => go_up(world, turn, iface),
@@ -154,10 +167,10 @@ fn apply_control(
             Ok(())
         }
         Control::Routes { table } => {
-            take_routes(world, table);
+            take_routes(world, replaced, table);
             Ok(())
         }
-        Control::Ranges { table } => take_ranges(world, turn, meter, table),
+        Control::Ranges { table } => take_ranges(world, turn, meter, replaced, table),
         Control::Hello { iface, from, hello } => {
             pim_hello::received(world, turn, meter, iface, from, &hello)
         }

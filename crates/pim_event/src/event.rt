@@ -11,7 +11,6 @@ ghost use Rattle.pim_mfc.specs.Laws.{ShowsRows};
 ghost use Rattle.pim_model.specs.Cache.{cached};
 ghost use Rattle.pim_model.specs.declared.accepted.Accepted.{Accepted};
 ghost use Rattle.pim_model.specs.Reach.{where_accepted};
-ghost use Rattle.pim_model.specs.State.{State};
 ghost use Rattle.pim_model.specs.Step.{change, outcome_of, step, taken, taken_unless_full};
 ghost use Rattle.pim_model.specs.Sure.{needs_no_memory};
 ghost use Rattle.pim_reach.specs.Named.{named_of};
@@ -28,6 +27,8 @@ ghost use Rattle.pim_types.specs.declared.config.IfaceId.{IfaceId as IfaceValue}
 ghost use Rattle.pim_event.specs.Caching.{CacheAfter, CacheFollows};
 ghost use Rattle.pim_event.specs.Naming.{Brings, IsConfigured};
 ghost use Rattle.pim_event.specs.Planning.{Fits};
+ghost use Rattle.pim_event.specs.Replacing.{NoneReplaced, event_replaced, replaced_after};
+ghost use Rattle.pim_event.specs.Staying.{OffersStay};
 ghost use Rattle.pim_event.specs.Settling.{AreNames};
 ghost use Rattle.pim_offload.specs.Staying.{is_rerouting};
 ghost use Rattle.pim_event.specs.Stops.{stop_outcome};
@@ -39,6 +40,7 @@ use crate::act::{Act, Control};
 use crate::change::apply;
 use crate::plain::take_plain;
 use crate::plan::{Plan, Planning, planned};
+use crate::replaced::Replaced;
 use crate::settle::settle;
 use crate::time::advance;
 use pim_data::Leaving;
@@ -81,25 +83,27 @@ fn change_world(
     world: &mut World,
     turn: &mut Turn,
     meter: &mut Meter,
+    replaced: &mut Replaced,
     touched: &Touched,
     act: Act<'_>,
 ) -> Result<Changed, Fault>
     requires rest { IsAtRest world.old }
     requires begun { turn.old.messages ≡ [] }
-    requires configured { IsConfigured world.old (act_event world.old act) }
-    requires plan { Fits world.old (act_event world.old act) (record { touched = touched.now; act = act }) }
+    requires configured { IsConfigured world.old (act_event act) }
+    requires plan { Fits world.old (act_event act) (record { touched = touched.now; act = act }) }
     ensures outcome { IfOk result (λ changed. changed.outcome
-        ≡ outcome_of (taken world.old turn.old.draw (act_event world.old act.entry))) }
-    ensures state { OnOk result (world.new ≡ (taken world.old turn.old.draw (act_event world.old act.entry)).state) }
-    ensures names { IfOk result (λ changed. AreNames world.old (change world.old turn.old.draw (act_event world.old act.entry)).state
+        ≡ outcome_of (taken world.old turn.old.draw (act_event act.entry))) }
+    ensures state { OnOk result (world.new ≡ (taken world.old turn.old.draw (act_event act.entry)).state) }
+    ensures names { IfOk result (λ changed. AreNames world.old (change world.old turn.old.draw (act_event act.entry)).state
         touched.now (keys_of changed.names)) }
+    ensures replaced { OnOk result (replaced.new ≡ replaced_after world.old (act_event act.entry) replaced.old) }
     ensures fault { IsOkUnless result Fault.Memory }
 {
     let gathered = Gathered::of(world, turn.alloc, touched, meter)?;
     let Leaving {
         mut copies,
         mut registered,
-    } = apply(world, turn, meter, act)?;
+    } = apply(world, turn, meter, replaced, act)?;
     // For the proof: asserts, sources and registers are under keys of their kind.
     world.recall_keyed();
     let count = copies.len() as u32;
@@ -117,7 +121,7 @@ fn change_world(
 
 // Whether an event that forwards no packet brings new routes or RP ranges.
 fn control_reroutes(control: &Control<'_>) -> bool
-    ensures { (s : State) → result ≡ is_rerouting (control_event s control.now) }
+    ensures { result ≡ is_rerouting (control_event control.now) }
 {
     match control {
         Control::Routes { .. } => true,
@@ -136,7 +140,7 @@ fn control_reroutes(control: &Control<'_>) -> bool
 
 // Whether the event brings new routes or RP ranges.
 fn is_rerouting(act: &Act<'_>) -> bool
-    ensures { (s : State) → result ≡ is_rerouting (act_event s act.now) }
+    ensures { result ≡ is_rerouting (act_event act.now) }
 {
     match act {
         Act::Data { .. } => false,
@@ -145,8 +149,8 @@ fn is_rerouting(act: &Act<'_>) -> bool
     }
 }
 
-// What a change disturbs: all sources where there are new routes or RP ranges, since these touch only what has facts,
-// and move any source; else what the change touches.
+// What a change touches of what is offered: all sources where there are new routes or RP ranges, since these move also
+// sources without facts; else what the change touches.
 fn disturbed_where(reroutes: bool, touched: Touched) -> Touched
     ensures { result ≡ (if reroutes then TouchedValue.All else touched) }
 {
@@ -157,6 +161,7 @@ fn disturbed_where(reroutes: bool, touched: Touched) -> Touched
 fn take_change(
     world: &mut World,
     cache: &mut Cache,
+    replaced: &mut Replaced,
     turn: &mut Turn,
     meter: &mut Meter,
     plan: Plan<'_>,
@@ -165,25 +170,27 @@ fn take_change(
     requires shown { ShowsRows cache.old.mfc.rows (cached world.old) }
     requires begun { turn.old.messages ≡ [] }
     requires unlisted { cache.old.changed ≡ [] }
-    requires configured { IsConfigured world.old (act_event world.old plan.act) }
-    requires plan { Fits world.old (act_event world.old plan.act) plan }
+    requires configured { IsConfigured world.old (act_event plan.act) }
+    requires plan { Fits world.old (act_event plan.act) plan }
     ensures outcome { IfOk result (λ outcome. outcome
-        ≡ outcome_of (taken world.old turn.old.draw (act_event world.old plan.entry.act))) }
-    ensures state { OnOk result (world.new ≡ (taken world.old turn.old.draw (act_event world.old plan.entry.act)).state) }
+        ≡ outcome_of (taken world.old turn.old.draw (act_event plan.entry.act))) }
+    ensures state { OnOk result (world.new ≡ (taken world.old turn.old.draw (act_event plan.entry.act)).state) }
     ensures cache { OnOk result (CacheFollows world.old world.new
-        (named_of world.old turn.old.draw (act_event world.old plan.entry.act)) cache.old cache.new) }
+        (named_of world.old turn.old.draw (act_event plan.entry.act)) cache.old cache.new) }
     ensures disturbed { OnOk result (cache.new.disturbed ≡ joined cache.old.disturbed
-        (disturbed_of world.old turn.old.draw (act_event world.old plan.entry.act))) }
+        (disturbed_of world.old turn.old.draw (act_event plan.entry.act))) }
     ensures once { OnOk result (IsStrictlySortedBy key_cmp cache.new.changed) }
     ensures touched { OnOk result (touches cache.new ≡ raised (touches cache.old) (touches_in world.new
-        (names_of world.old (change world.old turn.old.draw (act_event world.old plan.entry.act)).state plan.entry.touched))) }
+        (names_of world.old (change world.old turn.old.draw (act_event plan.entry.act)).state plan.entry.touched))) }
+    ensures replaced { OnOk result (replaced.new
+        ≡ replaced_after world.old (act_event plan.entry.act) replaced.old) }
     ensures fault { IsOkUnless result Fault.Memory }
 {
     // For the proof: there are at most 120 interfaces.
     world.interfaces().recall_few();
     let Plan { touched, act } = plan;
     let reroutes = is_rerouting(&act);
-    let Changed { outcome, names } = change_world(world, turn, meter, &touched, act)?;
+    let Changed { outcome, names } = change_world(world, turn, meter, replaced, &touched, act)?;
     cache.refresh(world, meter, names, disturbed_where(reroutes, touched))?;
     Ok(outcome)
 }
@@ -193,6 +200,7 @@ fn take_change(
 fn take_unless_full(
     world: &mut World,
     cache: &mut Cache,
+    replaced: &mut Replaced,
     turn: &mut Turn,
     meter: &mut Meter,
     accepted: Accepted<'_>,
@@ -210,6 +218,7 @@ fn take_unless_full(
         (where_accepted world.old (named_of world.old turn.old.draw) (Ok accepted.entry)) cache.old cache.new) }
     ensures disturbed { OnOk result (cache.new.disturbed ≡ joined cache.old.disturbed
         (where_disturbed world.old (disturbed_of world.old turn.old.draw) (Ok accepted.entry))) }
+    ensures replaced { OnOk result (replaced.new ≡ replaced_after world.old accepted.entry replaced.old) }
     ensures once { OnOk result (IsStrictlySortedBy key_cmp cache.new.changed) }
     ensures fault { IsOkUnless result Fault.Memory }
 {
@@ -217,7 +226,7 @@ fn take_unless_full(
     match planning {
         Planning::Time { moment } => advance(world, cache, turn, meter, moment),
         Planning::Full => Ok(stopped(turn.alloc, Stop::Refuse(Refusal::Full))),
-        Planning::Change(plan) => take_change(world, cache, turn, meter, plan),
+        Planning::Change(plan) => take_change(world, cache, replaced, turn, meter, plan),
     }
 }
 
@@ -235,6 +244,7 @@ fn take_turn(
     room: &mut Room,
     world: &mut World,
     cache: &mut Cache,
+    replaced: &mut Replaced,
     event: &LentEvent<'_>,
     accepted: Accepted<'_>,
     table: Mrib,
@@ -247,17 +257,22 @@ fn take_turn(
     requires uncounted { touches cache.old ≡ 0 }
     requires unlisted { cache.old.changed ≡ [] }
     requires undisturbed { cache.old.disturbed ≡ TouchedValue.Keys [] }
+    requires unreplaced { replaced.old ≡ NoneReplaced }
     ensures outcome { IfOk result (λ outcome. outcome ≡ outcome_of (step world.old event.now)) }
     ensures state { OnOk result (world.new ≡ (step world.old event.now).state) }
     ensures cache { OnOk result ((IsPlainEvent world.old event.now → IsWithinPath meter.new)
         → goes_by_answers world.old (judged world.old event.now.kind) ≡ false
         → CacheAfter world.old event.now world.new cache.new meter.new) }
+    ensures replaced { OnOk result (replaced.new ≡ event_replaced world.old event.now) }
     ensures fault { IsOkUnless result Fault.Memory }
 {
     let mut turn = Turn::new(room.taken(), event.draw());
     let was_full = world.passes_limit(1);
-    let outcome = take_unless_full(world, cache, &mut turn, meter, accepted, table)?;
-    cache.disturb_all_if(has_room_changed(was_full, world.passes_limit(1)));
+    let outcome = take_unless_full(world, cache, replaced, &mut turn, meter, accepted, table)?;
+    let is_full = world.passes_limit(1);
+    let has_changed = has_room_changed(was_full, is_full);
+    cache.disturb_all_if(has_changed);
+    replaced.clear_if(has_changed);
     *room = turn.room;
     Ok(outcome)
 }
@@ -287,6 +302,7 @@ fn take_data(
     room: &mut Room,
     world: &mut World,
     cache: &mut Cache,
+    replaced: &mut Replaced,
     event: &LentEvent<'_>,
     iface: IfaceId,
     packet: Ipv4View<'_>,
@@ -299,10 +315,12 @@ fn take_data(
     requires uncounted { touches cache.old ≡ 0 }
     requires unlisted { cache.old.changed ≡ [] }
     requires undisturbed { cache.old.disturbed ≡ TouchedValue.Keys [] }
+    requires unreplaced { replaced.old ≡ NoneReplaced }
     requires unvisited { meter.old ≡ 0 }
     ensures outcome { IfOk result (λ outcome. outcome ≡ outcome_of (step world.old event.now)) }
     ensures state { OnOk result (world.new ≡ (step world.old event.now).state) }
     ensures cache { OnOk result (CacheAfter world.old event.now world.new cache.new meter.new) }
+    ensures replaced { OnOk result (replaced.new ≡ event_replaced world.old event.now) }
     ensures fault { IsOkUnless result Fault.Memory }
 {
     match by_row(cache, iface, &packet, meter) {
@@ -311,7 +329,7 @@ fn take_data(
         None => {
             let table = Mrib::new(room.alloc);
             let accepted = Accepted::Data { iface, packet };
-            take_turn(room, world, cache, event, accepted, table, meter)
+            take_turn(room, world, cache, replaced, event, accepted, table, meter)
         }
     }
 }
@@ -322,6 +340,7 @@ fn take_other(
     room: &mut Room,
     world: &mut World,
     cache: &mut Cache,
+    replaced: &mut Replaced,
     event: &LentEvent<'_>,
     accepted: Accepted<'_>,
     table: Mrib,
@@ -335,12 +354,14 @@ fn take_other(
     requires uncounted { touches cache.old ≡ 0 }
     requires unlisted { cache.old.changed ≡ [] }
     requires undisturbed { cache.old.disturbed ≡ TouchedValue.Keys [] }
+    requires unreplaced { replaced.old ≡ NoneReplaced }
     ensures outcome { IfOk result (λ outcome. outcome ≡ outcome_of (step world.old event.now)) }
     ensures state { OnOk result (world.new ≡ (step world.old event.now).state) }
     ensures cache { OnOk result (CacheAfter world.old event.now world.new cache.new meter.new) }
+    ensures replaced { OnOk result (replaced.new ≡ event_replaced world.old event.now) }
     ensures fault { IsOkUnless result Fault.Memory }
 {
-    take_turn(room, world, cache, event, accepted, table, meter)
+    take_turn(room, world, cache, replaced, event, accepted, table, meter)
 }
 
 // Takes an accepted event.
@@ -348,6 +369,7 @@ fn take_accepted(
     room: &mut Room,
     world: &mut World,
     cache: &mut Cache,
+    replaced: &mut Replaced,
     event: &LentEvent<'_>,
     accepted: Accepted<'_>,
     table: Mrib,
@@ -360,30 +382,33 @@ fn take_accepted(
     requires uncounted { touches cache.old ≡ 0 }
     requires unlisted { cache.old.changed ≡ [] }
     requires undisturbed { cache.old.disturbed ≡ TouchedValue.Keys [] }
+    requires unreplaced { replaced.old ≡ NoneReplaced }
     requires unvisited { is_frame event.now.kind ≡ true → meter.old ≡ 0 }
     ensures outcome { IfOk result (λ outcome. outcome ≡ outcome_of (step world.old event.now)) }
     ensures state { OnOk result (world.new ≡ (step world.old event.now).state) }
     ensures cache { OnOk result (CacheAfter world.old event.now world.new cache.new meter.new) }
+    ensures replaced { OnOk result (replaced.new ≡ event_replaced world.old event.now) }
     ensures fault { IsOkUnless result Fault.Memory }
 {
     match accepted {
         Accepted::Data { iface, packet } => {
             // For the proof: the interface is below 120.
             world.interfaces().recall_few();
-            take_data(room, world, cache, event, iface, packet, meter)
+            take_data(room, world, cache, replaced, event, iface, packet, meter)
         }
-        _ => take_other(room, world, cache, event, accepted, table, meter),
+        _ => take_other(room, world, cache, replaced, event, accepted, table, meter),
     }
 }
 
-/// Takes an event. The meter counts the trie nodes that it visits, and the cache counts the rows that it touches and
-/// lists their sources. The cache's counts and lists begin empty; so does the meter where the event is a frame. The error is
-/// want of memory.
+/// Takes an event. The meter counts the trie nodes that it visits, the cache counts the rows that it touches and lists
+/// their sources, and the routes or RP ranges that it replaces are kept. The cache's counts and lists begin empty, and
+/// nothing is kept yet; the meter begins at 0 where the event is a frame. The error is want of memory.
 #[tactic(auto, unfolding(pim_model::specs::Step::step))]
 pub fn take_in(
     room: &mut Room,
     world: &mut World,
     cache: &mut Cache,
+    replaced: &mut Replaced,
     event: &LentEvent<'_>,
     meter: &mut Meter,
 ) -> Result<Outcome, Fault>
@@ -392,17 +417,23 @@ pub fn take_in(
     requires uncounted { touches cache.old ≡ 0 }
     requires unlisted { cache.old.changed ≡ [] }
     requires undisturbed { cache.old.disturbed ≡ TouchedValue.Keys [] }
+    requires unreplaced { replaced.old ≡ NoneReplaced }
     requires unvisited { is_frame event.now.kind ≡ true → meter.old ≡ 0 }
     ensures outcome { IfOk result (λ outcome. outcome ≡ outcome_of (step world.old event.now)) }
     ensures state { OnOk result (world.new ≡ (step world.old event.now).state) }
     ensures rest { OnOk result (IsAtRest world.new) }
     ensures cache { OnOk result (CacheAfter world.old event.now world.new cache.new meter.new) }
+    ensures replaced { OnOk result (replaced.new ≡ event_replaced world.old event.now) }
+    ensures stays { OnOk result (OffersStay (record { touched = cache.new.disturbed; replaced = replaced.new })
+        world.old world.new) }
     ensures fault { IsOkUnless result Fault.Memory }
     ensures sure { IsTrue (needs_no_memory (step world.old event.now).answer) → IsOk result }
 {
+    // For the proof: there are at most 120 interfaces.
+    world.interfaces().recall_few();
     match judge(room.alloc, world, event, meter)? {
         Ok(Admitted { accepted, table }) => {
-            take_accepted(room, world, cache, event, accepted, table, meter)
+            take_accepted(room, world, cache, replaced, event, accepted, table, meter)
         }
         Err(stop) => Ok(stopped(room.alloc, stop)),
     }

@@ -9,8 +9,10 @@ pub mod event;
 mod few;
 mod plain;
 pub mod plan;
+mod replaced;
 mod rerouted;
 pub mod settle;
 pub mod time;
 
 pub use event::take_in;
+pub use replaced::Replaced;

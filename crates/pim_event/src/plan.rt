@@ -393,11 +393,11 @@ fn plan_routes<'a>(
     ensures same { world.now.routes ≡ routes.now → meter.new ≡ meter.old }
 {
     if world.has_routes(routes) {
-        let act = Act::Control(Control::Routes { table: None });
+        let act = Act::Control(Control::Routes { table: next });
         return Ok(Planning::of_nothing(turn.alloc, act));
     }
     let touched = touched_by_routes(world, turn.alloc, meter, &next)?;
-    let act = Act::Control(Control::Routes { table: Some(next) });
+    let act = Act::Control(Control::Routes { table: next });
     Ok(Planning::Change(Plan { touched, act }))
 }
 
@@ -415,11 +415,11 @@ fn plan_rps<'a>(
     ensures same { world.now.ranges ≡ ranges.now → meter.new ≡ meter.old }
 {
     if world.has_ranges(ranges) {
-        let act = Act::Control(Control::Ranges { table: None });
+        let act = Act::Control(Control::Ranges { table: next });
         return Ok(Planning::of_nothing(turn.alloc, act));
     }
     let touched = touched_by_rps(world, turn.alloc, meter, &next)?;
-    let act = Act::Control(Control::Ranges { table: Some(next) });
+    let act = Act::Control(Control::Ranges { table: next });
     Ok(Planning::Change(Plan { touched, act }))
 }
 

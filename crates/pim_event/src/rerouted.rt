@@ -19,9 +19,9 @@ use pim_world::{Meter, Touched, World};
 use std::alloc::{AllocError, Global};
 use std::collections::BTreeMap;
 
-// Whether the address has another route in the new table.
+/// Whether the address has another route in the other table.
 #[tactic(auto, unfolding(pim_model::specs::Unicast::route))]
-fn has_other_route(world: &World, meter: &mut Meter, next: &Mrib, address: Addr) -> bool
+pub(crate) fn has_other_route(world: &World, meter: &mut Meter, next: &Mrib, address: Addr) -> bool
     ensures { result ≡ has_other_route world.now (with_routes world.now next.now.routes) address.bits }
 {
     let before = world.route(address, meter);
@@ -29,8 +29,8 @@ fn has_other_route(world: &World, meter: &mut Meter, next: &Mrib, address: Addr)
     !is_same_path(before, after)
 }
 
-// Whether the RP of the group has another route in the new table.
-fn is_group_moved(world: &World, meter: &mut Meter, next: &Mrib, group: Addr) -> bool
+/// Whether the RP of the group has another route in the other table.
+pub(crate) fn is_group_moved(world: &World, meter: &mut Meter, next: &Mrib, group: Addr) -> bool
     ensures { result ≡ not (has_same_rp group.bits world.now (with_routes world.now next.now.routes)) }
 {
     match world.rp(group, meter) {
@@ -39,9 +39,9 @@ fn is_group_moved(world: &World, meter: &mut Meter, next: &Mrib, group: Addr) ->
     }
 }
 
-// Whether the group has another RP by the new ranges.
+/// Whether the group has another RP by the other ranges.
 #[tactic(auto, unfolding(pim_model::specs::Unicast::rp_of, pim_model::specs::Step::rps_replaced))]
-fn group_has_other_rp(world: &World, meter: &mut Meter, next: &Mrib, group: Addr) -> bool
+pub(crate) fn group_has_other_rp(world: &World, meter: &mut Meter, next: &Mrib, group: Addr) -> bool
     ensures { result ≡ group_has_other_rp world.now (rps_replaced world.now next.now.ranges) group.bits }
 {
     let before = world.rp(group, meter);

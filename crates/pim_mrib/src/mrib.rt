@@ -20,6 +20,7 @@ use pim_types::{Addr, Fault, IfaceId, Path, Prefix, Refusal, Route, RpRange};
 use std::alloc::{AllocError, Global};
 use std::collections::BTreeSet;
 use std::marker::Model;
+use std::mem;
 
 impl Prefixed for Route {
     ghost prefix_of = { λ route. route.prefix };
@@ -190,31 +191,42 @@ impl Mrib {
             .any(|range| range.rp == address)
     }
 
-    /// Takes the routes of another in the place of its own.
-    pub fn take_routes(&mut self, other: Mrib)
-        ensures { self.new ≡ record self.old { routes = other.routes } }
+    /// Takes the routes of another in the place of its own, and hands that one back with its own.
+    pub fn take_routes(&mut self, other: Mrib) -> Mrib
+        ensures new { self.new ≡ record self.old { routes = other.routes } }
+        ensures back { result ≡ record other { routes = self.old.routes } }
     {
         let Mrib {
-            alloc: _,
+            alloc,
             routes,
-            ranges: _,
+            ranges,
             hops,
         } = other;
-        self.routes = routes;
-        self.hops = hops;
+        Mrib {
+            alloc,
+            routes: mem::replace(&mut self.routes, routes),
+            ranges,
+            hops: mem::replace(&mut self.hops, hops),
+        }
     }
 
-    /// Takes the RP ranges of another in the place of its own.
-    pub fn take_ranges(&mut self, other: Mrib)
-        ensures { self.new ≡ record self.old { ranges = other.ranges } }
+    /// Takes the RP ranges of another in the place of its own, and hands that one back with its own.
+    pub fn take_ranges(&mut self, other: Mrib) -> Mrib
+        ensures new { self.new ≡ record self.old { ranges = other.ranges } }
+        ensures back { result ≡ record other { ranges = self.old.ranges } }
     {
         let Mrib {
-            alloc: _,
-            routes: _,
+            alloc,
+            routes,
             ranges,
-            hops: _,
+            hops,
         } = other;
-        self.ranges = ranges;
+        Mrib {
+            alloc,
+            routes,
+            ranges: mem::replace(&mut self.ranges, ranges),
+            hops,
+        }
     }
 
     /// The route to the address: none to one of the router's own, over the first link that it lies

@@ -144,18 +144,21 @@ fn join_all(world: &mut World, meter: &mut Meter, keys: &[Key]) -> Result<(), Al
     Ok(())
 }
 
-/// Replaces the RP ranges by those of the next table. Where the RP of a group changes, its registers start again in
-/// Join. The meter rises by the nodes visited. The error is want of memory.
+/// Replaces the RP ranges by those of the next table, which comes back with the ranges that were replaced. Where the RP
+/// of a group changes, its registers start again in Join. The meter rises by the nodes visited. The error is want of
+/// memory.
 pub fn rps_replaced(
     world: &mut World,
     turn: &mut Turn,
     meter: &mut Meter,
     next: Mrib,
-) -> Result<(), AllocError>
+) -> Result<Mrib, AllocError>
     ensures state { OnOk result (world.new ≡ rps_replaced world.old next.ranges) }
+    ensures back { IfOk result (λ before. before.ranges ≡ world.old.ranges) }
     ensures silent { turn.new ≡ turn.old }
 {
     let keys = keys_with_new_rp(world, turn, meter, &next)?;
-    world.take_ranges(next);
-    join_all(world, meter, &keys)
+    let before = world.take_ranges(next);
+    join_all(world, meter, &keys)?;
+    Ok(before)
 }

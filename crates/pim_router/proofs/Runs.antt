@@ -12,7 +12,7 @@ use Rattle.pim_asked.proofs.Steps.{run_is_asked}
 use Rattle.pim_promises.proofs.Bounded.{run_stays_within}
 use Rattle.pim_promises.proofs.Few.{counted_stay_bounded}
 use Rattle.pim_promises.specs.Bounded.{IsBounded}
-use Rattle.pim_world.specs.declared.touched.Touched.{Touched}
+use Rattle.pim_event.specs.Replacing.{Disturbance}
 use Rattle.pim_model.specs.Cause.{OutcomesAreAsked}
 use Rattle.pim_model.specs.Limits.{config_test}
 use Rattle.pim_model.specs.State.{State, opening}
@@ -70,7 +70,7 @@ module _ (first : State) (events : List Event) where
       ended s told (subst (λ (es : List Event). Runs first events s told es) (drop_of_length-le events le) runs)
 
 -- a router that shows this and works stands as the configuration opens, where that is what is shown
-is_opening : (shown : Shown) (failed : Bool) (r : Standing) (probes touched : ℕ) (changed : List Key) (disturbed : Touched)
+is_opening : (shown : Shown) (failed : Bool) (r : Standing) (probes touched : ℕ) (changed : List Key) (disturbed : Disturbance)
     → (if failed then nothing_shown
     else record { standing = Some r; probes = probes; touched = touched; changed = changed; disturbed = disturbed }) ≡ shown
     → failed ≡ false → (s : State) → shown.standing ≡ Some (beginning s) → r.state ≡ s
@@ -81,7 +81,7 @@ is_opening shown failed r probes touched changed disturbed shows works s opens =
     ap (λ (x : Standing). x.state) alike
 
 -- the outcomes of a new router's run are asked for
-pub is_asked : (shown : Shown) (failed : Bool) (r : Standing) (probes touched : ℕ) (changed : List Key) (disturbed : Touched)
+pub is_asked : (shown : Shown) (failed : Bool) (r : Standing) (probes touched : ℕ) (changed : List Key) (disturbed : Disturbance)
     (events : List Event)
     (outcomes : List Outcome)
     → (if failed then nothing_shown
@@ -95,7 +95,7 @@ is_asked shown failed r probes touched changed disturbed events outcomes shows w
     (sym (are ∙ ap (λ (s : State). run s events) same)) (run_is_asked c events accepted)
 
 -- after a new router's run the limit bounds its facts
-pub is_bounded : (shown : Shown) (failed : Bool) (r : Standing) (probes touched : ℕ) (changed : List Key) (disturbed : Touched)
+pub is_bounded : (shown : Shown) (failed : Bool) (r : Standing) (probes touched : ℕ) (changed : List Key) (disturbed : Disturbance)
     (events : List Event) (after : State)
     → (if failed then nothing_shown
     else record { standing = Some r; probes = probes; touched = touched; changed = changed; disturbed = disturbed }) ≡ shown

@@ -14,13 +14,13 @@ use Rattle.pim_model.specs.Timers.{Ending, next_ending, next_moment}
 use Rattle.pim_mfc.specs.declared.cache_row.CacheRow.{CacheRow}
 use Rattle.pim_mfc.specs.Laws.{TellsRow}
 use Rattle.pim_tables.specs.Ends.{due_of}
-use Rattle.pim_world.specs.declared.touched.Touched.{Touched}
+use Rattle.pim_event.specs.Replacing.{Disturbance}
 use Rattle.pim_event.proofs.Taking.{concluded_silently}
 use Rattle.pim_router.specs.Standing.{Shown, Standing, nothing_shown}
 
 -- ---- the row of a source
 
-pub tells_shown : (shown : Shown) (failed : Bool) (r : Standing) (probes touched : ℕ) (changed : List Key) (disturbed : Touched)
+pub tells_shown : (shown : Shown) (failed : Bool) (r : Standing) (probes touched : ℕ) (changed : List Key) (disturbed : Disturbance)
     → (if failed then nothing_shown
     else record { standing = Some r; probes = probes; touched = touched; changed = changed; disturbed = disturbed }) ≡ shown
     → failed ≡ false → (row : Option CacheRow) (g src : ℕ) → TellsRow row (cached r.state g src)
@@ -37,7 +37,7 @@ pub moment_told : (o : Option Ending) (due : ℕ × Timer) → Some due ≡ opti
 moment_told None due e = cc
 moment_told (Some d) due e = cc
 
-pub shown_moment : (shown : Shown) (failed : Bool) (r : Standing) (probes touched : ℕ) (changed : List Key) (disturbed : Touched)
+pub shown_moment : (shown : Shown) (failed : Bool) (r : Standing) (probes touched : ℕ) (changed : List Key) (disturbed : Disturbance)
     → (if failed then nothing_shown
     else record { standing = Some r; probes = probes; touched = touched; changed = changed; disturbed = disturbed }) ≡ shown
     → failed ≡ false → (m : Option ℕ) → m ≡ option_map (λ (e : Ending). e.end) (next_ending r.state)
@@ -54,7 +54,7 @@ no_moment (Some d) e = cc
 -- ---- what an event sends
 
 -- an answer that needs no memory finds room for what it sends, which is nothing
-pub finds_room : {A E : Type 0} (shown : Shown) (failed : Bool) (r : Standing) (probes touched : ℕ) (changed : List Key) (disturbed : Touched)
+pub finds_room : {A E : Type 0} (shown : Shown) (failed : Bool) (r : Standing) (probes touched : ℕ) (changed : List Key) (disturbed : Disturbance)
     (event : Event)
     (outcome : Outcome) (sent : List Emission) (taken_up room : ℕ) (q : Result A E)
     → (if failed then nothing_shown

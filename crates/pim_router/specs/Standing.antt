@@ -7,23 +7,30 @@ use Rattle.pim_types.specs.declared.outcome.Outcome.{Outcome}
 use Rattle.pim_model.specs.State.{State}
 use Rattle.pim_model.specs.Step.{Answered, run, state_after}
 use Rattle.pim_world.specs.declared.touched.Touched.{Touched}
+use Rattle.pim_event.specs.Replacing.{Disturbance, NoneReplaced}
 
 pub record Standing : Type 0 where
   pub state : State
   pub copies : ℕ
 
 -- What a router shows: how it stands (none once it has failed), the trie nodes that its last event visited, the rows of
--- the forwarding cache that it evaluated, put in and took out, the sources that it named, and those that it disturbed.
+-- the forwarding cache that it evaluated, put in and took out, the sources that it named, and what it disturbed.
 pub record Shown : Type 0 where
   pub standing : Option Standing
   pub probes : ℕ
   pub touched : ℕ
   pub changed : List Key
-  pub disturbed : Touched
+  pub disturbed : Disturbance
 
 -- What a router shows once it has failed for want of memory.
 abbrev pub nothing_shown : Shown
-nothing_shown = record { standing = None; probes = 0; touched = 0; changed = []; disturbed = Touched.All }
+nothing_shown = record {
+  standing = None;
+  probes = 0;
+  touched = 0;
+  changed = [];
+  disturbed = record { touched = Touched.All; replaced = NoneReplaced };
+}
 
 -- How a router stands before its first event.
 abbrev pub beginning : State → Standing
@@ -35,7 +42,7 @@ begun s = record {
   probes = 0;
   touched = 0;
   changed = [];
-  disturbed = Touched.Keys [];
+  disturbed = record { touched = Touched.Keys []; replaced = NoneReplaced };
 }
 
 -- How a router stands after an event.

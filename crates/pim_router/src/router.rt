@@ -14,8 +14,8 @@ ghost use Rattle.pim_offload.specs.Keeping.{keep};
 ghost use Rattle.pim_offload.specs.Offered.{offered};
 ghost use Rattle.pim_offload.specs.Seen.{seen_event};
 ghost use Rattle.pim_offrow.specs.Shown.{TellsOffload};
-ghost use Rattle.pim_fanout.specs.Disturbed.{is_disturbed};
 ghost use Rattle.pim_event.specs.Listing.{IsLastListed, ListsSame};
+ghost use Rattle.pim_event.specs.Replacing.{may_differ};
 ghost use Rattle.pim_event.specs.Staying.{LastOffersStay, OffersStay};
 ghost use Rattle.pim_fanout.specs.Named.{keys_of};
 ghost use Rattle.pim_reach.specs.Named.{event_named};
@@ -39,7 +39,7 @@ mod hosts;
 
 use crate::plane::{bare_packet, keep, offer};
 use crate::probes::Probes;
-use pim_event::take_in;
+use pim_event::{Replaced, take_in};
 use pim_fanout::Cache;
 use pim_intake::LentEvent;
 use pim_messages::Room;
@@ -63,6 +63,8 @@ pub struct Router {
     world: World,
     // The forwarding cache: a row for each source with a fact.
     cache: Cache,
+    // The routes or RP ranges that the last event replaced.
+    replaced: Replaced,
     // The memory in which packets that leave are written.
     room: Room,
     // How many copies of a data packet the last event sent on links.
@@ -87,7 +89,7 @@ impl Model for Router {
       probes = r.probes.meter;
       touched = touches r.cache;
       changed = r.cache.changed;
-      disturbed = r.cache.disturbed;
+      disturbed = record { touched = r.cache.disturbed; replaced = r.replaced };
     } };
 
     ghost invariant = { λ r. r.failed ≡ false → IsAtRest r.world × ShowsRows r.cache.mfc.rows (cached r.world)
@@ -115,6 +117,7 @@ impl Router {
                 failed: false,
                 world,
                 cache: Cache::new(alloc),
+                replaced: Replaced::none(),
                 room: Room::new(alloc),
                 copies: 0,
                 probes,
@@ -236,18 +239,26 @@ impl Router {
 
     /// Whether the answer of `offload` for (S,G) may differ from its answer before the last event, whether the source
     /// has a fact or not. If this is false, the answer is the same. It is true exactly for the sources that the event's
-    /// change, or the expiry of one of its timers, touched, and for all sources of a group that it touched whole; for
-    /// all sources after new routes or RP ranges; after an interface went up or down; after a Hello, or the expiry of a
-    /// neighbour, that changes whether the router is the DR or touches more than 256 keys; after an event that took the
-    /// last room for a fact or made room again; and where the router has failed. Takes no memory.
-    #[tactic(auto, unfolding(pim_fanout::specs::Disturbed::is_disturbed))]
+    /// change, or the expiry of one of its timers, touched, and for all sources of a group that it touched whole; after
+    /// new routes or RP ranges, for the sources for which RP(G), the route to it or the route to S has changed; for all
+    /// sources after an interface went up or down; after a Hello, or the expiry of a neighbour, that changes whether the
+    /// router is the DR or touches more than 256 keys; after an event that took the last room for a fact or made room
+    /// again; and where the router has failed. Takes no memory.
     pub fn may_differ(&self, source: Addr, group: Addr) -> bool
-        ensures { result ≡ is_disturbed self.now.disturbed group.bits source.bits }
+        ensures { result ≡ option_map_or (λ r. may_differ self.now.disturbed r.state group.bits source.bits)
+            self.now.standing true }
     {
         if self.failed {
             return true;
         }
-        self.cache.disturbed().holds(SourceGroup { source, group })
+        let mut outside = self.probes.outside();
+        let name = SourceGroup { source, group };
+        self.replaced.may_differ(
+            self.cache.disturbed(),
+            &self.world,
+            name,
+            &mut outside.meter,
+        )
     }
 
     /// The rows of a printed table, in ascending order of their keys. The only fault of a router that hasn't failed is
@@ -331,6 +342,7 @@ impl Router {
             &mut self.room,
             &mut self.world,
             &mut self.cache,
+            &mut self.replaced,
             event,
             &mut self.probes,
         )?;
@@ -450,6 +462,7 @@ impl Router {
             &mut self.room,
             &mut self.world,
             &mut self.cache,
+            &mut self.replaced,
             events,
             &mut self.probes,
         )?;
@@ -486,11 +499,12 @@ fn last_copies(before: u32, outcomes: &[Outcome]) -> u32
 }
 
 // Takes an event. It starts from 0 the count of the nodes that its look-ups visit, the count of the rows of the cache
-// that it touches, and the list of the sources of these rows.
+// that it touches, and the list of the sources of these rows. What the event before it replaced is let go.
 fn take_next(
     room: &mut Room,
     world: &mut World,
     cache: &mut Cache,
+    replaced: &mut Replaced,
     event: &LentEvent<'_>,
     probes: &mut Probes,
 ) -> Result<Outcome, Fault>
@@ -503,14 +517,17 @@ fn take_next(
     ensures cheap { OnOk result (IsCheap world.old event.now probes.new.meter (touches cache.new)) }
     ensures listed { OnOk result (ListsSame cache.new.changed (event_named world.old event.now)) }
     ensures once { OnOk result (IsStrictlySortedBy key_cmp cache.new.changed) }
-    ensures disturbed { OnOk result (cache.new.disturbed ≡ event_disturbed world.old event.now) }
-    ensures stays { OnOk result (OffersStay cache.new.disturbed world.old world.new) }
+    ensures disturbed { OnOk result (record { touched = cache.new.disturbed; replaced = replaced.new }
+        ≡ event_disturbed world.old event.now) }
+    ensures stays { OnOk result (OffersStay (record { touched = cache.new.disturbed; replaced = replaced.new })
+        world.old world.new) }
     ensures fault { IsOkUnless result Fault.Memory }
     ensures sure { IsTrue (needs_no_memory (step world.old event.now).answer) → IsOk result }
 {
     probes.begin();
     cache.reset();
-    take_in(room, world, cache, event, &mut probes.meter)
+    replaced.clear();
+    take_in(room, world, cache, replaced, event, &mut probes.meter)
 }
 
 // Takes events one after the other.
@@ -518,6 +535,7 @@ fn run_world(
     room: &mut Room,
     world: &mut World,
     cache: &mut Cache,
+    replaced: &mut Replaced,
     events: &[Event],
     probes: &mut Probes,
 ) -> Result<Vec<Outcome>, Fault>
@@ -531,14 +549,16 @@ fn run_world(
     ensures cheap { OnOk result (IsLastCheap world.old events.now probes.new.meter (touches cache.new)) }
     ensures listed { OnOk result (IsLastListed world.old events.now cache.new.changed) }
     ensures once { OnOk result (IsStrictlySortedBy key_cmp cache.new.changed) }
-    ensures disturbed { OnOk result (IsLastDisturbed world.old events.now cache.new.disturbed) }
-    ensures stays { OnOk result (LastOffersStay world.old events.now cache.new.disturbed) }
+    ensures disturbed { OnOk result (IsLastDisturbed world.old events.now
+        (record { touched = cache.new.disturbed; replaced = replaced.new })) }
+    ensures stays { OnOk result (LastOffersStay world.old events.now
+        (record { touched = cache.new.disturbed; replaced = replaced.new })) }
     ensures fault { IsOkUnless result Fault.Memory }
     ensures sure { events.now ≡ [] → IsOk result }
 {
     let mut outcomes = Vec::new(room.alloc);
     for event in events {
-        outcomes.push(take_next(room, world, cache, &LentEvent::of(event), probes)?)?;
+        outcomes.push(take_next(room, world, cache, replaced, &LentEvent::of(event), probes)?)?;
     }
     Ok(outcomes)
 }

@@ -3,7 +3,6 @@ ghost use Rattle.std.specs.List.Sorted.{IsStrictlySortedBy};
 ghost use Rattle.std.specs.Option.{option_map_or};
 ghost use Rattle.std.specs.Prelude.{◌≡◌, ◌↔◌, [], Err, IfErr, IfOk, IfSome, IsOk, IsOkUnless, IsSome, IsTrue, None, Ok, OnErr, OnOk, Some, min, option_and_then};
 ghost use Rattle.pim_ip.specs.declared.fault.Fault.{Fault};
-ghost use Rattle.pim_fanout.specs.Disturbed.{is_disturbed};
 ghost use Rattle.pim_fanout.specs.Named.{keys_of};
 ghost use Rattle.pim_macros.specs.Rows.{number_of};
 ghost use Rattle.pim_mfc.specs.Laws.{TellsRow};
@@ -23,6 +22,7 @@ ghost use Rattle.pim_offrow.specs.Shown.{TellsOffload};
 ghost use Rattle.pim_reach.specs.Named.{event_named};
 ghost use Rattle.pim_event.specs.Costs.{IsCheap};
 ghost use Rattle.pim_event.specs.Disturbing.{event_disturbed};
+ghost use Rattle.pim_event.specs.Replacing.{may_differ};
 ghost use Rattle.pim_event.specs.Listing.{ListsSame};
 ghost use Rattle.pim_event.specs.Staying.{OffersStay};
 ghost use Rattle.pim_router.specs.Standing.{begun, nothing_shown, standing, with_state};
@@ -435,9 +435,9 @@ impl Session {
 
     /// Whether what is offered of (S,G) may have changed in the last event, as `Router::may_differ` answers; true after
     /// a fault.
-    #[tactic(auto, unfolding(pim_fanout::specs::Disturbed::is_disturbed))]
     pub fn may_differ(&self, source: Addr, group: Addr) -> bool
-        ensures { result ≡ is_disturbed self.now.router.disturbed group.bits source.bits }
+        ensures { result ≡ option_map_or (λ r. may_differ self.now.router.disturbed r.state group.bits source.bits)
+            self.now.router.standing true }
     {
         if self.is_lost {
             return true;

@@ -47,18 +47,20 @@ impl World {
         self.mrib.has_ranges(ranges)
     }
 
-    /// Replaces the routes by those of another table.
-    pub fn take_routes(&mut self, other: Mrib)
-        ensures { self.new ≡ record self.old { routes = other.routes } }
+    /// Replaces the routes by those of another table, which comes back with the routes that were replaced.
+    pub fn take_routes(&mut self, other: Mrib) -> Mrib
+        ensures new { self.new ≡ record self.old { routes = other.routes } }
+        ensures back { result.routes ≡ self.old.routes }
     {
-        self.mrib.take_routes(other);
+        self.mrib.take_routes(other)
     }
 
-    /// Replaces the RP ranges by those of another table.
-    pub fn take_ranges(&mut self, other: Mrib)
-        ensures { self.new ≡ record self.old { ranges = other.ranges } }
+    /// Replaces the RP ranges by those of another table, which comes back with the ranges that were replaced.
+    pub fn take_ranges(&mut self, other: Mrib) -> Mrib
+        ensures new { self.new ≡ record self.old { ranges = other.ranges } }
+        ensures back { result.ranges ≡ self.old.ranges }
     {
-        self.mrib.take_ranges(other);
+        self.mrib.take_ranges(other)
     }
 }
 

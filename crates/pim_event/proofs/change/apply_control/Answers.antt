@@ -3,6 +3,7 @@ use Rattle.pim_downstream.proofs.OnInterface.{joined_on, pruned_on}
 use Rattle.pim_downstream.specs.Naming.{are_on}
 use Rattle.pim_model.specs.Step.{change}
 use Rattle.pim_event.specs.Acting.{control_event}
+use Rattle.pim_event.specs.Replacing.{replaced_after}
 use Rattle.pim_event.specs.declared.act.Control.{Control}
 use Rattle.pim_event.proofs.Acts.{seen_heard, to_me_changes, to_me_heard}
 use Rattle.pim_event.proofs.change.apply_control.Goals as goal
@@ -37,12 +38,24 @@ pub returns-in-Routes-clause-state : goal.returns-in-Routes-clause-state
 unfolding change
 returns-in-Routes-clause-state c =
     subst (λ (x : Control). c.take_routes.new.world
-    ≡ (change c.args.world.now c.args.turn.now.draw (control_event c.args.world.now x)).state)
-    (sym c.in-Routes.is) c.take_routes.ensures
+    ≡ (change c.args.world.now c.args.turn.now.draw (control_event x)).state)
+    (sym c.in-Routes.is) c.take_routes.ensures.state
 
 pub returns-in-Ranges-clause-state : goal.returns-in-Ranges-clause-state
 unfolding change
 returns-in-Ranges-clause-state c =
     subst (λ (x : Control). OnOk c.take_ranges.result (c.take_ranges.new.world
-    ≡ (change c.args.world.now c.args.turn.now.draw (control_event c.args.world.now x)).state))
+    ≡ (change c.args.world.now c.args.turn.now.draw (control_event x)).state))
     (sym c.in-Ranges.is) c.take_ranges.ensures.state
+
+pub returns-in-Routes-clause-replaced : goal.returns-in-Routes-clause-replaced
+returns-in-Routes-clause-replaced c =
+    subst (λ (x : Control). c.take_routes.new.replaced
+    ≡ replaced_after c.args.world.now (control_event x) c.args.replaced.now)
+    (sym c.in-Routes.is) c.take_routes.ensures.replaced
+
+pub returns-in-Ranges-clause-replaced : goal.returns-in-Ranges-clause-replaced
+returns-in-Ranges-clause-replaced c =
+    subst (λ (x : Control). OnOk c.take_ranges.result (c.take_ranges.new.replaced
+    ≡ replaced_after c.args.world.now (control_event x) c.args.replaced.now))
+    (sym c.in-Ranges.is) c.take_ranges.ensures.replaced

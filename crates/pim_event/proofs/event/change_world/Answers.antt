@@ -20,28 +20,28 @@ returns-clause-outcome c =
     c.apply.new.turn.draw).1) c.new-emissions.ensures.items)
     (c.len-count.ensures ∙ omega (arith, c.in_ok-copies.field-0.copies.ok.0, c.in_ok-copies.copies.ok.0))
     ∙ ap (λ (x : Answered). outcome_of x)
-    (taken_in_turn c.args.world.now c.apply.new.world (act_event c.args.world.now c.args.act) c.args.touched.now
+    (taken_in_turn c.args.world.now c.apply.new.world (act_event c.args.act) c.args.touched.now
     c.in_ok-gathered.gathered.opening c.in_ok-copies.field-0 c.args.turn.now c.args.turn.now c.apply.new.turn
-    c.requires.rest.quiet c.recall_keyed.ensures (timeless c.args.world.now c.args.act) c.requires.plan.covers
+    c.requires.rest.quiet c.recall_keyed.ensures (timeless c.args.act) c.requires.plan.covers
     c.in_ok-gathered.ensures.opening c.requires.begun
-    refl c.in_ok-copies.ensures)
+    refl c.in_ok-copies.ensures.sends)
 
 pub returns-clause-state : goal.returns-clause-state
 returns-clause-state c =
     c.in_ok-names.ensures.state
     ∙ ap (λ (x : Answered). x.state)
-    (taken_in_turn c.args.world.now c.apply.new.world (act_event c.args.world.now c.args.act) c.args.touched.now
+    (taken_in_turn c.args.world.now c.apply.new.world (act_event c.args.act) c.args.touched.now
     c.in_ok-gathered.gathered.opening c.in_ok-copies.field-0 c.args.turn.now c.args.turn.now c.apply.new.turn
-    c.requires.rest.quiet c.recall_keyed.ensures (timeless c.args.world.now c.args.act) c.requires.plan.covers
+    c.requires.rest.quiet c.recall_keyed.ensures (timeless c.args.act) c.requires.plan.covers
     c.in_ok-gathered.ensures.opening c.requires.begun
-    refl c.in_ok-copies.ensures)
+    refl c.in_ok-copies.ensures.sends)
 
 pub returns-clause-names : goal.returns-clause-names
 returns-clause-names c =
-    names_opened c.args.world.now (change c.args.world.now c.args.turn.now.draw (act_event c.args.world.now c.args.act)).state
+    names_opened c.args.world.now (change c.args.world.now c.args.turn.now.draw (act_event c.args.act)).state
     c.apply.new.world c.args.touched.now c.in_ok-gathered.gathered.opening c.in_ok-gathered.gathered.before _ c.requires.rest.quiet
     c.recall_keyed.ensures (c.requires.plan.covers c.args.turn.now.draw)
-    (changed_in_turn c.args.world.now c.apply.new.world (act_event c.args.world.now c.args.act) c.in_ok-copies.field-0 c.args.turn.now
+    (changed_in_turn c.args.world.now c.apply.new.world (act_event c.args.act) c.in_ok-copies.field-0 c.args.turn.now
     c.args.turn.now c.apply.new.turn
-    refl c.in_ok-copies.ensures)
+    refl c.in_ok-copies.ensures.sends)
     c.in_ok-gathered.ensures.opening c.in_ok-gathered.ensures.before c.in_ok-names.ensures.named

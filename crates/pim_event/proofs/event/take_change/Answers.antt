@@ -14,45 +14,45 @@ use Rattle.pim_event.proofs.event.take_change.Goals as goal
 
 pub returns-clause-cache : goal.returns-clause-cache
 returns-clause-cache c = record {
-  shown = rows_after c.args.world.now c.args.turn.now.draw (act_event c.args.world.now c.args.plan.act) (timeless c.args.world.now c.args.plan.act)
+  shown = rows_after c.args.world.now c.args.turn.now.draw (act_event c.args.plan.act) (timeless c.args.plan.act)
       c.args.plan.touched c.in_ok-outcome.field-0.names c.in_ok-outcome.ensures.names c.change_world.new.world c.args.cache.now.mfc.rows
       c.refresh.new.self.mfc.rows c.interfaces.result.now c.requires.rest.quiet
       c.interfaces.ensures c.recall_few.ensures c.in_ok-outcome.ensures.state
       c.in_ok-refresh.ensures.shown c.requires.shown;
-  few = cost_after c.args.world.now c.args.turn.now.draw (act_event c.args.world.now c.args.plan.act) (timeless c.args.world.now c.args.plan.act)
+  few = cost_after c.args.world.now c.args.turn.now.draw (act_event c.args.plan.act) (timeless c.args.plan.act)
       c.args.plan.touched c.in_ok-outcome.field-0.names c.in_ok-outcome.ensures.names c.change_world.new.world (touches c.args.cache.now)
       (touches c.refresh.new.self) c.in_ok-refresh.ensures.few;
-  listed = listed_after c.args.world.now c.args.turn.now.draw (act_event c.args.world.now c.args.plan.act) (timeless c.args.world.now c.args.plan.act) c.args.plan.touched
+  listed = listed_after c.args.world.now c.args.turn.now.draw (act_event c.args.plan.act) (timeless c.args.plan.act) c.args.plan.touched
       c.in_ok-outcome.field-0.names c.in_ok-outcome.ensures.names c.requires.rest.quiet c.args.cache.now.changed
       c.refresh.new.self.changed c.in_ok-refresh.ensures.listed;
   stays = λ o stays.
-      stays_after o c.args.world.now c.change_world.new.world c.args.turn.now.draw (act_event c.args.world.now c.args.plan.act) (timeless c.args.world.now c.args.plan.act)
+      stays_after o c.args.world.now c.change_world.new.world c.args.turn.now.draw (act_event c.args.plan.act) (timeless c.args.plan.act)
       c.args.plan.touched c.in_ok-outcome.ensures.names.covers c.requires.rest.quiet c.interfaces.result.now
       c.interfaces.ensures c.recall_few.ensures c.in_ok-outcome.ensures.state c.args.cache.now.disturbed
       c.refresh.new.self.disturbed (c.in_ok-refresh.ensures.disturbed
       ∙ ap (λ (t : Touched). joined c.args.cache.now.disturbed t) (c.disturbed_where.ensures
-      ∙ ap (λ (b : Bool). if b then Touched.All else c.args.plan.touched) (c.is_rerouting-reroutes.ensures c.args.world.now)))
+      ∙ ap (λ (b : Bool). if b then Touched.All else c.args.plan.touched) c.is_rerouting-reroutes.ensures))
       stays;
 }
 
 pub returns-clause-disturbed : goal.returns-clause-disturbed
 returns-clause-disturbed c =
-    disturbed_after c.args.world.now c.args.turn.now.draw (act_event c.args.world.now c.args.plan.act)
-    (timeless c.args.world.now c.args.plan.act) c.args.plan.touched c.args.cache.now.disturbed
+    disturbed_after c.args.world.now c.args.turn.now.draw (act_event c.args.plan.act)
+    (timeless c.args.plan.act) c.args.plan.touched c.args.cache.now.disturbed
     c.refresh.new.self.disturbed c.requires.plan.touches
     (c.in_ok-refresh.ensures.disturbed
     ∙ ap (λ (t : Touched). joined c.args.cache.now.disturbed t) (c.disturbed_where.ensures
-    ∙ ap (λ (b : Bool). if b then Touched.All else c.args.plan.touched) (c.is_rerouting-reroutes.ensures c.args.world.now)))
+    ∙ ap (λ (b : Bool). if b then Touched.All else c.args.plan.touched) c.is_rerouting-reroutes.ensures))
 
 pub returns-clause-once : goal.returns-clause-once
 returns-clause-once c =
-    once_after c.args.world.now (change c.args.world.now c.args.turn.now.draw (act_event c.args.world.now c.args.plan.act)).state
+    once_after c.args.world.now (change c.args.world.now c.args.turn.now.draw (act_event c.args.plan.act)).state
     c.args.plan.touched c.in_ok-outcome.field-0.names c.in_ok-outcome.ensures.names c.args.cache.now.changed
     c.refresh.new.self.changed c.requires.unlisted c.in_ok-refresh.ensures.listed
 
 pub returns-clause-touched : goal.returns-clause-touched
 returns-clause-touched c =
-    touches_named c.args.world.now (change c.args.world.now c.args.turn.now.draw (act_event c.args.world.now c.args.plan.act)).state
+    touches_named c.args.world.now (change c.args.world.now c.args.turn.now.draw (act_event c.args.plan.act)).state
     c.change_world.new.world c.args.plan.touched c.in_ok-outcome.field-0.names
     (touches c.args.cache.now) (touches c.refresh.new.self) c.in_ok-outcome.ensures.names
     c.in_ok-refresh.ensures.few

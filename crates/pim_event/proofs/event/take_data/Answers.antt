@@ -6,6 +6,9 @@ use Rattle.pim_event.proofs.Instants.{on_ok}
 use Rattle.pim_event.proofs.Staying.{plain_offers_stay}
 use Rattle.pim_event.proofs.Disturbing.{data_in_turn, plain_disturbs_none}
 use Rattle.pim_event.proofs.Listing.{once_alone, plain_event_names_none, unlisted}
+use Rattle.std.proofs.Common.{ap}
+use Rattle.pim_event.specs.Replacing.{replaced_where}
+use Rattle.pim_event.proofs.Replacing.{none_replaced}
 use Rattle.pim_event.proofs.Plainly.{answered_by_row, its_packet, not_plain, plain_outcome, plain_rows, plain_state}
 use Rattle.pim_event.proofs.event.take_data.Goals as goal
 
@@ -70,3 +73,9 @@ returns-in-None-clause-cache c =
     (not_plain c.args.cache.now.mfc c.args.world.now c.args.iface c.args.packet c.requires.shown c.requires.below
     c.by_row.result c.in-None.is c.by_row.ensures.decided)))
     c.take_turn.ensures.cache
+
+pub returns-in-Some-clause-replaced : goal.returns-in-Some-clause-replaced
+returns-in-Some-clause-replaced c =
+    on_ok c.take_plain.result
+    (none_replaced c.args.world.now c.args.event.now c.args.replaced.now
+    (ap (replaced_where c.args.world.now) c.requires.heard) c.requires.unreplaced)

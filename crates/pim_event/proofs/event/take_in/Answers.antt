@@ -1,3 +1,4 @@
+use Rattle.std.proofs.lemmas.Result.{on_ok_weaker}
 use Rattle.std.proofs.Common.{IfOk, Result, ap, refl, subst, sym, ◌∙◌}
 use Rattle.pim_types.specs.declared.outcome.Stop.{Stop}
 use Rattle.pim_intake.specs.Admitted.{IsTableOf, heard_of}
@@ -5,7 +6,9 @@ use Rattle.pim_intake.specs.declared.event.Admitted.{Admitted}
 use Rattle.pim_event.proofs.Configured.{brings}
 use Rattle.pim_fanout.specs.Refreshing.{touches}
 use Rattle.pim_event.proofs.Costs.{is_cheap, untouched}
-use Rattle.pim_event.proofs.Staying.{offers_the_same}
+use Rattle.pim_event.specs.Replacing.{replaced_where}
+use Rattle.pim_event.proofs.Replacing.{none_replaced, offers_itself, offers_stay_after}
+use Rattle.pim_event.proofs.Staying.{few_of, offers_the_same}
 use Rattle.pim_event.proofs.Disturbing.{stopped_disturbs_none}
 use Rattle.pim_event.proofs.Listing.{once_alone, stopped_names_none, unlisted}
 use Rattle.pim_event.proofs.Plainly.{stop_isnt_plain}
@@ -55,3 +58,20 @@ returns-in-Err-clause-cache c = record {
       (sym c.in_ok-accepted.ensures.value ∙ ap heard_of c.in-Err.is) c.requires.undisturbed;
   stays = offers_the_same c.args.world.now c.args.world.now c.args.cache.now.disturbed refl;
 }
+
+pub returns-in-Err-clause-replaced : goal.returns-in-Err-clause-replaced
+returns-in-Err-clause-replaced c =
+    none_replaced c.args.world.now c.args.event.now c.args.replaced.now
+    (ap (replaced_where c.args.world.now) (sym c.in_ok-accepted.ensures.value ∙ ap heard_of c.in-Err.is))
+    c.requires.unreplaced
+
+pub returns-in-Err-clause-stays : goal.returns-in-Err-clause-stays
+returns-in-Err-clause-stays c = offers_itself c.args.world.now _
+
+pub returns-in-Ok-clause-stays : goal.returns-in-Ok-clause-stays
+returns-in-Ok-clause-stays c =
+    offers_stay_after c.take_accepted.result c.args.world.now c.take_accepted.new.world c.args.event.now
+    c.take_accepted.new.cache.disturbed c.take_accepted.new.replaced c.requires.rest
+    (few_of c.args.world.now c.interfaces.result.now c.interfaces.ensures c.recall_few.ensures)
+    c.take_accepted.ensures.state (on_ok_weaker c.take_accepted.result (λ after. after.stays) c.take_accepted.ensures.cache)
+    c.take_accepted.ensures.replaced

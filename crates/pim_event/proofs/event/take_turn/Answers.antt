@@ -10,6 +10,7 @@ use Rattle.pim_reach.specs.Named.{event_named}
 use Rattle.pim_event.proofs.Costs.{is_cheap, touched_so}
 use Rattle.pim_event.proofs.Disturbing.{room_alike, turn_disturbs}
 use Rattle.pim_event.proofs.Listing.{listed_alone, named_in_turn}
+use Rattle.pim_event.proofs.Replacing.{turn_replaces}
 use Rattle.pim_event.proofs.Staying.{offers_with_room, stays_the_same}
 use Rattle.pim_world.specs.Turns.{Taking}
 use Rattle.pim_event.specs.Caching.{CacheFollows}
@@ -44,14 +45,23 @@ returns-clause-cache c = λ plain other.
           (listed_alone before.changed names k.changed c.requires.unlisted follows.listed);
       once = subst (λ (x : CacheValue). IsStrictlySortedBy key_cmp x.changed) (sym after) c.in_ok-outcome.ensures.once;
       disturbs = turn_disturbs s c.take_unless_full.new.world c.args.event.now c.args.accepted _ before.disturbed
-          k.disturbed c.disturb_all_if.new.self.disturbed c.passes_limit-was_full.result c.passes_limit.result
-          c.has_room_changed.result c.requires.heard
+          k.disturbed c.disturb_all_if.new.self.disturbed c.passes_limit-was_full.result c.passes_limit-is_full.result
+          c.has_room_changed-has_changed.result c.requires.heard
           (ap (λ (t : Taking). t.draw) c.new-turn.ensures ∙ c.draw.ensures) c.requires.undisturbed
           c.in_ok-outcome.ensures.disturbed c.in_ok-outcome.ensures.state c.passes_limit-was_full.ensures
-          c.passes_limit.ensures c.has_room_changed.ensures (ap (λ (x : CacheValue). x.disturbed) after) other;
+          c.passes_limit-is_full.ensures c.has_room_changed-has_changed.ensures (ap (λ (x : CacheValue). x.disturbed) after) other;
       stays = offers_with_room s c.take_unless_full.new.world k.disturbed
-          c.disturb_all_if.new.self.disturbed c.has_room_changed.result
+          c.disturb_all_if.new.self.disturbed c.has_room_changed-has_changed.result
           (ap (λ (x : CacheValue). x.disturbed) after)
-          (λ same. sym c.passes_limit-was_full.ensures ∙ (room_alike _ _ _ c.has_room_changed.ensures same ∙ c.passes_limit.ensures))
+          (λ same. sym c.passes_limit-was_full.ensures ∙ (room_alike _ _ _ c.has_room_changed-has_changed.ensures same ∙ c.passes_limit-is_full.ensures))
           (follows.stays s (stays_the_same s s before.disturbed refl));
     }
+
+pub returns-clause-replaced : goal.returns-clause-replaced
+returns-clause-replaced c =
+    turn_replaces c.args.world.now c.take_unless_full.new.world c.args.event.now c.args.accepted _ c.args.replaced.now
+    c.take_unless_full.new.replaced c.clear_if.new.self c.passes_limit-was_full.result c.passes_limit-is_full.result
+    c.has_room_changed-has_changed.result c.requires.heard
+    (ap (λ (t : Taking). t.draw) c.new-turn.ensures ∙ c.draw.ensures) c.requires.unreplaced
+    c.in_ok-outcome.ensures.replaced c.in_ok-outcome.ensures.state c.passes_limit-was_full.ensures
+    c.passes_limit-is_full.ensures c.has_room_changed-has_changed.ensures c.clear_if.ensures

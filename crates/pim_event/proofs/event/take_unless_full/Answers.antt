@@ -14,7 +14,10 @@ use Rattle.pim_event.proofs.Disturbing.{disturbed_in_room, disturbed_in_time, un
 use Rattle.pim_event.proofs.Listing.{named_without_room, nothing_more, once_alone}
 use Rattle.pim_event.specs.Naming.{IsConfigured}
 use Rattle.pim_event.specs.Planning.{Fits, IsPlanned}
+use Rattle.pim_event.specs.Replacing.{replaced_after}
 use Rattle.pim_event.specs.declared.plan.Planning.{Planning}
+use Rattle.pim_event.proofs.Instants.{on_ok}
+use Rattle.pim_event.proofs.Replacing.{full_replaces_none}
 use Rattle.pim_event.proofs.Plans.{time_is_taken, with_room, without_room}
 use Rattle.pim_event.proofs.event.take_unless_full.Goals as goal
 
@@ -41,6 +44,8 @@ returns-in-Time c =
           (disturbed_in_time c.args.world.now c.args.turn.now.draw c.args.accepted c.in-Time.moment is)
           c.advance.ensures.disturbed;
       once = c.advance.ensures.once;
+      replaced = on_ok c.advance.result
+          (ap (λ (a : Accepted). replaced_after c.args.world.now a c.args.replaced.now) (sym is));
       fault = c.advance.ensures.fault;
     }
 
@@ -60,7 +65,7 @@ pub returns-in-Change : goal.returns-in-Change
 returns-in-Change c =
     let fits : Fits c.args.world.now c.args.accepted c.in-Change.plan =
     subst (λ (p : Planning). IsPlanned c.args.world.now c.args.accepted p) c.in-Change.is c.in_ok-planning.ensures in
-    let same : taken c.args.world.now c.args.turn.now.draw (act_event c.args.world.now c.in-Change.plan.act)
+    let same : taken c.args.world.now c.args.turn.now.draw (act_event c.in-Change.plan.act)
     ≡ taken_unless_full c.args.world.now c.args.turn.now.draw c.args.accepted =
     ap (λ (a : Accepted). taken c.args.world.now c.args.turn.now.draw a) fits.event
     ∙ sym (with_room c.args.world.now c.args.turn.now.draw c.args.accepted fits.room) in
@@ -79,6 +84,8 @@ returns-in-Change c =
           ∙ disturbed_in_room c.args.world.now c.args.turn.now.draw c.args.accepted fits.room)
           c.take_change.ensures.disturbed;
       once = c.take_change.ensures.once;
+      replaced = subst (λ (a : Accepted). OnOk c.take_change.result (c.take_change.new.replaced
+          ≡ replaced_after c.args.world.now a c.args.replaced.now)) fits.event c.take_change.ensures.replaced;
       fault = c.take_change.ensures.fault;
     }
 
@@ -99,5 +106,6 @@ returns-in-Full c =
       };
       disturbed = undisturbed_when_full c.args.world.now c.args.turn.now.draw c.args.accepted c.args.cache.now.disturbed full;
       once = once_alone c.args.cache.now.changed c.requires.unlisted;
+      replaced = full_replaces_none c.args.world.now c.args.accepted c.args.replaced.now full;
       fault = tt;
     }

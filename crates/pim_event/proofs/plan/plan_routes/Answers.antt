@@ -1,4 +1,4 @@
-use Rattle.std.proofs.Common.{List, None, Some, ap, subst, sym, ◌≡◌, ◌∙◌}
+use Rattle.std.proofs.Common.{List, ap, subst, sym, ◌≡◌, ◌∙◌}
 use Rattle.pim_types.specs.declared.config.Route.{Route}
 use Rattle.pim_world.specs.declared.touched.Touched.{Touched}
 use Rattle.pim_model.specs.declared.accepted.Accepted.{Accepted}
@@ -16,12 +16,12 @@ returns-then-has_routes-clause-plan c =
     let routes = c.args.routes.now in
     let same : s.routes ≡ routes = c.has_routes.ensures.0 c.if-has_routes.true in
     subst (λ (p : Planning). IsPlanned s (Accepted.Routes routes) p) (sym c.of_nothing.ensures)
-    (routes_fit s routes _ None (ap Touched.Keys (none_by_same_routes s routes same)) same)
+    (routes_fit s routes _ c.args.next (ap Touched.Keys (none_by_same_routes s routes same)) c.requires)
 
 pub returns-clause-plan : goal.returns-clause-plan
 returns-clause-plan c =
     let s = c.args.world.now in
-    routes_fit s c.args.routes.now c.in_ok-touched.touched (Some c.args.next)
+    routes_fit s c.args.routes.now c.in_ok-touched.touched c.args.next
     (c.in_ok-touched.ensures
     ∙ ap (λ (rs : List Route). Touched.Keys (keys_by_routes s (with_routes s rs))) c.requires)
     c.requires

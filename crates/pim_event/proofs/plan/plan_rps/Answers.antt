@@ -1,4 +1,4 @@
-use Rattle.std.proofs.Common.{List, None, Some, ap, subst, sym, ◌≡◌, ◌∙◌}
+use Rattle.std.proofs.Common.{List, ap, subst, sym, ◌≡◌, ◌∙◌}
 use Rattle.pim_types.specs.declared.config.RpRange.{RpRange}
 use Rattle.pim_world.specs.declared.touched.Touched.{Touched}
 use Rattle.pim_model.specs.declared.accepted.Accepted.{Accepted}
@@ -16,12 +16,12 @@ returns-then-has_ranges-clause-plan c =
     let ranges = c.args.ranges.now in
     let same : s.ranges ≡ ranges = c.has_ranges.ensures.0 c.if-has_ranges.true in
     subst (λ (p : Planning). IsPlanned s (Accepted.Rps ranges) p) (sym c.of_nothing.ensures)
-    (rps_fit s ranges _ None (ap Touched.Keys (none_by_same_rps s ranges same)) same)
+    (rps_fit s ranges _ c.args.next (ap Touched.Keys (none_by_same_rps s ranges same)) c.requires)
 
 pub returns-clause-plan : goal.returns-clause-plan
 returns-clause-plan c =
     let s = c.args.world.now in
-    rps_fit s c.args.ranges.now c.in_ok-touched.touched (Some c.args.next)
+    rps_fit s c.args.ranges.now c.in_ok-touched.touched c.args.next
     (c.in_ok-touched.ensures
     ∙ ap (λ (rs : List RpRange). Touched.Keys (keys_by_rps s (rps_replaced s rs))) c.requires)
     c.requires

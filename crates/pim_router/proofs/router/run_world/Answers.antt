@@ -41,10 +41,10 @@ loop-event-preserved c = (
       c.take_next.new.cache.changed c.loop-event-test.true c.event-item.is c.loop-event.invariant.2.state_is
       (rw c.of.ensures at c.in_ok-take_next.ensures.listed),
   stays_next c.args.world.now c.args.events.now c.loop-event.event-index c.loop-event.world c.take_next.new.world
-      c.event-item.result c.take_next.new.cache.disturbed c.loop-event-test.true c.event-item.is
+      c.event-item.result (record { touched = c.take_next.new.cache.disturbed; replaced = c.take_next.new.replaced }) c.loop-event-test.true c.event-item.is
       c.loop-event.invariant.2.state_is (rw c.of.ensures at c.in_ok-take_next.ensures.state) c.in_ok-take_next.ensures.stays,
   disturbs_next c.args.world.now c.args.events.now c.loop-event.event-index c.loop-event.world c.event-item.result
-      c.take_next.new.cache.disturbed c.loop-event-test.true c.event-item.is c.loop-event.invariant.2.state_is
+      (record { touched = c.take_next.new.cache.disturbed; replaced = c.take_next.new.replaced }) c.loop-event-test.true c.event-item.is c.loop-event.invariant.2.state_is
       (rw c.of.ensures at c.in_ok-take_next.ensures.disturbed),
   c.in_ok-take_next.ensures.once,
 )
@@ -80,10 +80,10 @@ returns-clause-once c = c.loop-event.invariant.6
 
 pub returns-clause-disturbed : goal.returns-clause-disturbed
 returns-clause-disturbed c =
-    disturbs_all c.args.world.now c.args.events.now c.loop-event.event-index c.loop-event.cache.disturbed
+    disturbs_all c.args.world.now c.args.events.now c.loop-event.event-index (record { touched = c.loop-event.cache.disturbed; replaced = c.loop-event.replaced })
     c.loop-event-test.false c.loop-event.invariant.5
 
 pub returns-clause-stays : goal.returns-clause-stays
 returns-clause-stays c =
-    stays_all c.args.world.now c.args.events.now c.loop-event.event-index c.loop-event.cache.disturbed
+    stays_all c.args.world.now c.args.events.now c.loop-event.event-index (record { touched = c.loop-event.cache.disturbed; replaced = c.loop-event.replaced })
     c.loop-event-test.false c.loop-event.invariant.4

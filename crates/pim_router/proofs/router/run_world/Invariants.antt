@@ -17,6 +17,6 @@ invariant-loop-event l =
     × ShowsRows l.cache.mfc.rows (cached l.world)
     × Counted l.fn.world l.events l.event-index l.world l.probes.meter (touches l.cache)
     × IsLastListed l.fn.world (take l.event-index l.events) l.cache.changed
-    × LastOffersStay l.fn.world (take l.event-index l.events) l.cache.disturbed
-    × IsLastDisturbed l.fn.world (take l.event-index l.events) l.cache.disturbed
+    × LastOffersStay l.fn.world (take l.event-index l.events) (record { touched = l.cache.disturbed; replaced = l.replaced })
+    × IsLastDisturbed l.fn.world (take l.event-index l.events) (record { touched = l.cache.disturbed; replaced = l.replaced })
     × IsStrictlySortedBy key_cmp l.cache.changed

@@ -2,6 +2,7 @@ use Rattle.std.proofs.Common.{ap}
 use Rattle.std.proofs.lemmas.Result.{on_ok_weaker}
 use Rattle.pim_fanout.specs.Refreshing.{CacheValue}
 use Rattle.pim_event.proofs.Costs.{none_touched}
+use Rattle.pim_event.proofs.Disturbing.{both_disturb}
 use Rattle.pim_router.proofs.router.take_next.Goals as goal
 
 pub take_in-requires-clause-uncounted : goal.take_in-requires-clause-uncounted
@@ -28,8 +29,10 @@ returns-clause-listed c = on_ok_weaker c.take_in.result (λ after. after.listed)
 pub returns-clause-once : goal.returns-clause-once
 returns-clause-once c = on_ok_weaker c.take_in.result (λ after. after.once) c.take_in.ensures.cache
 
-pub returns-clause-disturbed : goal.returns-clause-disturbed
-returns-clause-disturbed c = on_ok_weaker c.take_in.result (λ after. after.disturbs) c.take_in.ensures.cache
+pub take_in-requires-clause-unreplaced : goal.take_in-requires-clause-unreplaced
+take_in-requires-clause-unreplaced c = c.clear.ensures
 
-pub returns-clause-stays : goal.returns-clause-stays
-returns-clause-stays c = on_ok_weaker c.take_in.result (λ after. after.stays) c.take_in.ensures.cache
+pub returns-clause-disturbed : goal.returns-clause-disturbed
+returns-clause-disturbed c =
+    both_disturb c.take_in.result _ _ c.args.world.now c.args.event.now
+    (on_ok_weaker c.take_in.result (λ after. after.disturbs) c.take_in.ensures.cache) c.take_in.ensures.replaced

@@ -11,7 +11,7 @@ pub returns-clause-cached : goal.returns-clause-cached
 returns-clause-cached c =
     tells_shown c.args.self.now c.self.inside.failed
     (record { state = c.self.inside.world; copies = c.self.inside.copies }) c.self.inside.probes.meter
-    (touches c.self.inside.cache) c.self.inside.cache.changed c.self.inside.cache.disturbed c.self.view_is c.if-self.false c.cached.result c.args.group.bits c.args.source.bits
+    (touches c.self.inside.cache) c.self.inside.cache.changed (record { touched = c.self.inside.cache.disturbed; replaced = c.self.inside.replaced }) c.self.view_is c.if-self.false c.cached.result c.args.group.bits c.args.source.bits
     (subst (λ row. TellsRow row (cached c.self.inside.world c.args.group.bits c.args.source.bits))
     (sym (c.cached.ensures
     ∙ ap (λ k. option_map cache_row (kept_row k c.args.group.bits c.args.source.bits)) c.mfc.ensures))

@@ -8,7 +8,7 @@ pub returns-in-Some : goal.returns-in-Some
 returns-in-Some c =
     shown_moment c.args.self.now c.self.inside.failed
     (record { state = c.self.inside.world; copies = c.self.inside.copies }) c.self.inside.probes.meter
-    (touches c.self.inside.cache) c.self.inside.cache.changed c.self.inside.cache.disturbed c.self.view_is c.if-self.false
+    (touches c.self.inside.cache) c.self.inside.cache.changed (record { touched = c.self.inside.cache.disturbed; replaced = c.self.inside.replaced }) c.self.view_is c.if-self.false
     (Some c.in-Some.due.0)
     (moment_told (next_ending c.self.inside.world) c.in-Some.due (sym c.in-Some.is ∙ c.next.ensures))
 
@@ -16,5 +16,5 @@ pub returns-in-None : goal.returns-in-None
 returns-in-None c =
     shown_moment c.args.self.now c.self.inside.failed
     (record { state = c.self.inside.world; copies = c.self.inside.copies }) c.self.inside.probes.meter
-    (touches c.self.inside.cache) c.self.inside.cache.changed c.self.inside.cache.disturbed c.self.view_is c.if-self.false None
+    (touches c.self.inside.cache) c.self.inside.cache.changed (record { touched = c.self.inside.cache.disturbed; replaced = c.self.inside.replaced }) c.self.view_is c.if-self.false None
     (no_moment (next_ending c.self.inside.world) (sym c.in-None.is ∙ c.next.ensures))

@@ -5,11 +5,11 @@ use Rattle.pim_router.proofs.router.Router.run.Goals as goal
 pub returns-clause-asked : goal.returns-clause-asked
 returns-clause-asked c =
     is_asked c.args.self.now c.self.inside.failed (record { state = c.self.inside.world; copies = c.self.inside.copies })
-    c.self.inside.probes.meter (touches c.self.inside.cache) c.self.inside.cache.changed c.self.inside.cache.disturbed
+    c.self.inside.probes.meter (touches c.self.inside.cache) c.self.inside.cache.changed (record { touched = c.self.inside.cache.disturbed; replaced = c.self.inside.replaced })
     c.args.events.now c.in_ok-outcomes.outcomes.items c.self.view_is c.if-self.false c.in_ok-outcomes.ensures.outcomes
 
 pub returns-clause-bounded : goal.returns-clause-bounded
 returns-clause-bounded c =
     is_bounded c.args.self.now c.self.inside.failed (record { state = c.self.inside.world; copies = c.self.inside.copies })
-    c.self.inside.probes.meter (touches c.self.inside.cache) c.self.inside.cache.changed c.self.inside.cache.disturbed
+    c.self.inside.probes.meter (touches c.self.inside.cache) c.self.inside.cache.changed (record { touched = c.self.inside.cache.disturbed; replaced = c.self.inside.replaced })
     c.args.events.now c.run_world.new.world c.self.view_is c.if-self.false c.in_ok-outcomes.ensures.state

@@ -6,7 +6,7 @@ pub returns-in_err-hand_over-clause-sure : goal.returns-in_err-hand_over-clause-
 returns-in_err-hand_over-clause-sure c =
     finds_room c.args.self.now c.self.inside.failed
     (record { state = c.self.inside.world; copies = c.self.inside.copies }) c.self.inside.probes.meter
-    (touches c.self.inside.cache) c.self.inside.cache.changed c.self.inside.cache.disturbed c.args.event.now c.in_ok-outcome.outcome
+    (touches c.self.inside.cache) c.self.inside.cache.changed (record { touched = c.self.inside.cache.disturbed; replaced = c.self.inside.replaced }) c.args.event.now c.in_ok-outcome.outcome
     c.into_vec.result.items
     _ _ c.from_residual-in_err-hand_over.result c.self.view_is c.if-self.false c.in_ok-outcome.ensures.outcome
     c.into_vec.ensures
