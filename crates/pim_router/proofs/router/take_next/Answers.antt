@@ -2,6 +2,7 @@ use Rattle.std.proofs.Common.{ap}
 use Rattle.std.proofs.lemmas.Result.{on_ok_weaker}
 use Rattle.pim_fanout.specs.Refreshing.{CacheValue}
 use Rattle.pim_event.proofs.Costs.{none_touched}
+use Rattle.pim_router.proofs.Accepted.{accepted_next}
 use Rattle.pim_router.proofs.router.take_next.Goals as goal
 
 pub take_in-requires-clause-uncounted : goal.take_in-requires-clause-uncounted
@@ -33,3 +34,8 @@ returns-clause-disturbed c = on_ok_weaker c.take_in.result (λ after. after.dist
 
 pub returns-clause-stays : goal.returns-clause-stays
 returns-clause-stays c = on_ok_weaker c.take_in.result (λ after. after.stays) c.take_in.ensures.cache
+
+pub returns-clause-accepted : goal.returns-clause-accepted
+returns-clause-accepted c =
+    accepted_next c.args.world.now c.take_in.new.world c.args.event.now c.take_in.result c.requires.accepted
+    c.take_in.ensures.state
