@@ -1,4 +1,5 @@
 mod Alone
+mod AllRows
 pub mod Counts
 pub mod Few
 pub mod Listed

@@ -1,7 +1,7 @@
 -- The forwarding cache with the number of evaluated rows, the sources whose rows have changed and the touched keys, and
 -- what it is to evaluate named rows again.
 use Rattle.std.specs.List.{sum_by}
-use Rattle.std.specs.Prelude.{List, [], if◌then◌else◌, ℕ, ◌++◌, ◌∷◌}
+use Rattle.std.specs.Prelude.{List, [], if◌then◌else◌, ℕ, ◌++◌, ◌∷◌, ◌≡◌}
 use Rattle.pim_trie.specs.Meter.{raised}
 use Rattle.pim_types.specs.declared.fact.Key.{Key}
 use Rattle.pim_model.specs.State.{State}
@@ -28,6 +28,10 @@ uncounted c = record { mfc = record c.mfc { changes = 0 }; evaluated = 0; change
 -- The puts, the removals and the evaluated rows, added up.
 unfoldable pub touches : CacheValue → ℕ
 touches c = raised (c.mfc).changes c.evaluated
+
+-- Nothing was touched, no source is listed as changed, and none as disturbed.
+abbrev pub IsUncounted : CacheValue → Type 0
+IsUncounted c = (touches c ≡ 0) × (c.changed ≡ []) × (c.disturbed ≡ Touched.Keys [])
 
 -- What one named source costs: a row is evaluated and put if the source has a fact, else it is taken out.
 abbrev pub touches_of : State → Key → ℕ

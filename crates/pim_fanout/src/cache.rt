@@ -1,13 +1,15 @@
 //! The forwarding cache, with the count of what an event costs it.
 ghost use Rattle.std.specs.List.Sorted.{IsStrictlySortedBy};
-ghost use Rattle.std.specs.Prelude.{◌≡◌, ℕ, ◌++◌, [], OnOk, if◌then◌else◌};
+ghost use Rattle.std.specs.Prelude.{◌≡◌, ℕ, ◌++◌, [], IfOk, OnOk, if◌then◌else◌, map};
 ghost use Rattle.pim_cached.specs.Kept.{is_listed};
 ghost use Rattle.pim_fanout.specs.Before.{name_key};
 ghost use Rattle.pim_fanout.specs.Disturbed.{joined};
-ghost use Rattle.pim_fanout.specs.Refreshing.{Refreshes, RefreshesOne, nothing_cached, touches, touches_in, touches_of, uncounted};
+ghost use Rattle.pim_fanout.specs.Refreshing.{IsUncounted, Refreshes, RefreshesOne, nothing_cached, touches, touches_in, touches_of, uncounted};
 ghost use Rattle.pim_fanout.specs.Named.{keys_of};
+ghost use Rattle.pim_mfc.specs.Laws.{ShowsRows};
+ghost use Rattle.pim_model.specs.Cache.{cached};
 ghost use Rattle.pim_trie.specs.Meter.{raised};
-ghost use Rattle.pim_types.specs.Keys.{key_cmp};
+ghost use Rattle.pim_types.specs.Keys.{group_in, key_cmp, source_in, source_key};
 ghost use Rattle.pim_world.specs.declared.touched.Touched.{Touched as TouchedValue};
 
 use crate::before::has_fact;
@@ -15,7 +17,9 @@ use crate::disturbed::Disturbed;
 use crate::once::each_once;
 use pim_macros::{Evaluations, row};
 use pim_mfc::Mfc;
+use pim_tables::PlacedRows;
 use pim_trie::Meter;
+use pim_types::fact::SourceRow;
 use pim_types::{Series, SourceGroup};
 use pim_world::{Touched, World};
 use std::alloc::{AllocError, Global};
@@ -71,6 +75,19 @@ impl Cache {
             changed: Vec::new(alloc),
             disturbed: Disturbed::none(alloc),
         }
+    }
+
+    /// A cache with a row for each source that has a fact. Both counts are 0, no source is listed as changed, and none as
+    /// disturbed. The meter rises by the nodes visited.
+    pub fn of(alloc: Global, world: &World, meter: &mut Meter) -> Result<Cache, AllocError>
+        ensures shown { IfOk result (λ cache. ShowsRows cache.mfc.rows (cached world.now)) }
+        ensures uncounted { IfOk result (λ cache. IsUncounted cache) }
+    {
+        let names = names_of(alloc, world.store().source_rows())?;
+        let mut cache = Cache::new(alloc);
+        cache.refresh_rows(world, meter, names.as_slice())?;
+        cache.reset();
+        Ok(cache)
     }
 
     /// The rows: what they answer, and what they decide of a packet.
@@ -204,4 +221,19 @@ impl Cache {
         self.refresh_rows(world, meter, names.as_slice())?;
         self.list(names.into_vec(), touched)
     }
+}
+
+// The sources that have a fact.
+fn names_of(
+    alloc: Global,
+    rows: PlacedRows<'_, SourceRow>,
+) -> Result<Vec<SourceGroup>, AllocError>
+    ensures { IfOk result (λ names. keys_of names.items
+        ≡ map (λ e. source_key 0 (group_in e.0) (source_in e.0)) rows.entry) }
+{
+    let mut names = Vec::new(alloc);
+    for (key, _) in rows {
+        names.push(key.name())?;
+    }
+    Ok(names)
 }

@@ -6,5 +6,6 @@ mod Robust
 mod Found
 mod Named
 mod Kept
+mod OfKind
 mod Walked
 mod Going

@@ -1,6 +1,7 @@
 -- The IGMP membership facts of the router, as plain tables.
-use Rattle.std.specs.List.{AllByRecursion}
-use Rattle.std.specs.Prelude.{[], length, ℕ, ◌+◌, ◌++◌, ◌≤◌, List, Some}
+use Rattle.std.specs.List.{AllByRecursion, list_all}
+use Rattle.std.specs.List.Sorted.{IsStrictlySortedBy}
+use Rattle.std.specs.Prelude.{Bool, List, Some, [], is_none, is_some, length, nat_le, nat_lt, not, true, ℕ, ◌&&◌, ◌+◌, ◌++◌, ◌==◌, ◌≡◌}
 use Rattle.pim_types.specs.declared.fact.GroupRecordRow.{GroupRecordRow}
 use Rattle.pim_types.specs.declared.fact.GroupRepeatRow.{GroupRepeatRow}
 use Rattle.pim_types.specs.declared.fact.Key.{Key}
@@ -9,6 +10,7 @@ use Rattle.pim_types.specs.declared.fact.SendingRow.{SendingRow}
 use Rattle.pim_types.specs.declared.fact.SourceRecordRow.{SourceRecordRow}
 use Rattle.pim_types.specs.declared.fact.SourceRepeatRow.{SourceRepeatRow}
 use Rattle.pim_types.specs.declared.timer.TimerKind.{TimerKind}
+use Rattle.pim_types.specs.Keys.{group_in, iface_in, key_cmp}
 use Rattle.pim_model.specs.Tables.{Table, keys_in}
 use Rattle.pim_model.specs.Timers.{Ending, endings, next_query, other_querier_end}
 
@@ -22,9 +24,39 @@ pub record MembershipTables : Type 0 where
   pub source_repeats : Table SourceRepeatRow
   pub sendings : Table SendingRow
 
--- Each robustness variable has 3 bits.
-abbrev pub AreRobust : Table QuerierRow → Type 0
-AreRobust rows = AllByRecursion (λ (e : Key × QuerierRow). (e.1).robustness ≤ 7) rows
+-- of a group, and of a source of a group
+abbrev pub is_star_kind : Key → Bool
+is_star_kind k = not k.rpt && is_none k.source
+
+abbrev pub is_source_kind : Key → Bool
+is_source_kind k = not k.rpt && is_some k.source
+
+-- of an interface that a set of interfaces can have
+abbrev pub is_group_key : Key → Bool
+is_group_key k = is_star_kind k && nat_lt (iface_in k) 120
+
+abbrev pub is_listed_key : Key → Bool
+is_listed_key k = is_source_kind k && nat_lt (iface_in k) 120
+
+-- of no group
+abbrev pub is_querier_key : Key → Bool
+is_querier_key k = is_star_kind k && (group_in k == 0)
+
+-- the robustness variable has 3 bits
+abbrev pub is_held_querier : Key × QuerierRow → Bool
+is_held_querier e = is_querier_key e.0 && nat_le (e.1).robustness 7
+
+abbrev pub AreHeld : Table QuerierRow → Type 0
+AreHeld rows = AllByRecursion (λ (e : Key × QuerierRow). is_held_querier e ≡ true) rows
+
+-- each is under a key of its kind
+abbrev pub are_of_kind : MembershipTables → Bool
+are_of_kind m =
+    list_all (λ e. is_held_querier e) m.queriers
+    && (list_all (λ e. is_group_key e.0) m.group_records
+    && (list_all (λ e. is_listed_key e.0) m.source_records
+    && (list_all (λ e. is_star_kind e.0) m.group_repeats
+    && (list_all (λ e. is_star_kind e.0) m.source_repeats && list_all (λ e. is_source_kind e.0) m.sendings))))
 
 abbrev pub no_membership : MembershipTables
 no_membership = record {
@@ -35,6 +67,18 @@ no_membership = record {
   source_repeats = [];
   sendings = [];
 }
+
+abbrev pub Rises : {R : Type 0} → Table R → Type 0
+Rises t = IsStrictlySortedBy key_cmp (keys_in t)
+
+-- the keys of each table rise
+pub record AllRise (m : MembershipTables) : Type 0 where
+  pub queriers : Rises m.queriers
+  pub group_records : Rises m.group_records
+  pub source_records : Rises m.source_records
+  pub group_repeats : Rises m.group_repeats
+  pub source_repeats : Rises m.source_repeats
+  pub sendings : Rises m.sendings
 
 -- how many facts count
 unfoldable pub counted_records : MembershipTables → ℕ

@@ -5,6 +5,7 @@ use Rattle.pim_ip.specs.declared.addr.Addr.{Addr}
 use Rattle.pim_types.specs.declared.fact.Key.{Key}
 use Rattle.pim_types.specs.Keys.{names_source, source_in}
 use Rattle.pim_model.specs.Tables.{Table, keys_in}
+use Rattle.pim_membership.specs.MembershipTables.{is_source_kind, is_star_kind}
 
 -- the number is among the addresses
 abbrev pub has_number : {U : Type 0} → ℕ → List (Addr × U) → Bool
@@ -22,12 +23,25 @@ NamesNone k = is_none k.source ≡ true
 abbrev pub IsPlain : Key → Type 0
 IsPlain k = k.rpt ≡ false
 
+-- the key of a group, and of a source of a group
+abbrev pub IsStarKind : Key → Type 0
+IsStarKind k = is_star_kind k ≡ true
+
+abbrev pub IsSourceKind : Key → Type 0
+IsSourceKind k = is_source_kind k ≡ true
+
 module _ {R : Type 0} where
   abbrev pub NameNone : Table R → Type 0
   NameNone t = AllByRecursion (λ (e : Key × R). NamesNone e.0) t
 
   abbrev pub ArePlain : Table R → Type 0
   ArePlain t = AllByRecursion (λ (e : Key × R). IsPlain e.0) t
+
+  abbrev pub AreStarKind : Table R → Type 0
+  AreStarKind t = AllByRecursion (λ (e : Key × R). IsStarKind e.0) t
+
+  abbrev pub AreSourceKind : Table R → Type 0
+  AreSourceKind t = AllByRecursion (λ (e : Key × R). IsSourceKind e.0) t
 
   -- The group's sources among the facts were added to a set of addresses.
   abbrev pub Gathers : {U : Type 0} → (before after : List (Addr × U)) → ℕ → Table R → Type 0

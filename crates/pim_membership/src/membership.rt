@@ -14,7 +14,8 @@ ghost use Rattle.pim_model.specs.Upstream.{sources_of};
 ghost use Rattle.pim_tables.specs.Ends.{due_of};
 ghost use Rattle.pim_types.specs.Keys.{iface_in, iface_key, is_on, key_cmp, names_source, source_in, source_key, star_key};
 ghost use Rattle.pim_types.specs.declared.fact.GroupRecordRow.{GroupRecordRow as GroupRecord};
-ghost use Rattle.pim_membership.specs.MembershipTables.{counted_records, membership_endings, membership_keys, no_membership};
+ghost use Rattle.pim_types.specs.declared.fact.SourceRecordRow.{SourceRecordRow as SourceRecord};
+ghost use Rattle.pim_membership.specs.MembershipTables.{AllRise, are_of_kind, counted_records, membership_endings, membership_keys, no_membership};
 ghost use Rattle.pim_membership.specs.Sources.{NameNone};
 
 use crate::records::Records;
@@ -77,10 +78,10 @@ impl Model for Membership {
       sendings = m.sendings;
     } };
 
-    ghost use Rattle.pim_membership.specs.MembershipTables.{AreRobust};
+    ghost use Rattle.pim_membership.specs.MembershipTables.{AreHeld};
     ghost use Rattle.pim_membership.specs.Unrecorded.{HaveRecords};
 
-    ghost invariant = { λ m. AreRobust m.queriers × HaveRecords m.unrecorded m.source_records m.sendings };
+    ghost invariant = { λ m. AreHeld m.queriers × HaveRecords m.unrecorded m.source_records m.sendings };
 }
 
 impl Membership {
@@ -114,6 +115,13 @@ impl Membership {
         ensures { result ≡ row_at self.now.queriers key }
     {
         self.queriers.get(key)
+    }
+
+    /// The queriers, by rising key.
+    pub fn querier_rows(&self) -> Iter<'_, Key, QuerierRow>
+        ensures { result ≡ self.now.queriers }
+    {
+        self.queriers.rows().iter()
     }
 
     /// Sets the querier of the interface; its robustness variable has 3 bits. The error is want of memory.
@@ -312,6 +320,30 @@ impl Membership {
         ensures { IsStrictlySortedBy key_cmp (keys_in self.now.source_records) }
     {
         self.source_records.recall_rising();
+    }
+
+    /// For the proof: the keys of each table rise. Does nothing when it runs.
+    pub fn recall_rising(&self)
+        ensures { AllRise self.now }
+    {
+        self.queriers.recall_rising();
+        self.group_records.recall_rising();
+        self.source_records.recall_rising();
+        self.group_repeats.recall_rising();
+        self.source_repeats.recall_rising();
+        self.sendings.recall_rising();
+    }
+
+    /// For the proof: each fact is under a key of its kind, and the robustness variable of each querier has 3 bits. Does
+    /// nothing when it runs.
+    pub fn recall_kinds(&self)
+        ensures { IsTrue (are_of_kind self.now) }
+    {
+        self.group_records.recall_kind();
+        self.source_records.recall_kind();
+        self.group_repeats.recall_kind();
+        self.source_repeats.recall_kind();
+        self.sendings.recall_kind();
     }
 
     /// For the proof: source records are each under the key of a source of a group. Does nothing when it runs.

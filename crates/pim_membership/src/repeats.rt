@@ -1,11 +1,12 @@
 //! Repeats of queries, group by group.
+ghost use Rattle.std.specs.List.Sorted.{IsStrictlySortedBy};
 ghost use Rattle.std.specs.Prelude.{◌≡◌, [], OnOk, option_map};
 ghost use Rattle.pim_model.specs.Clearing.{first_by};
-ghost use Rattle.pim_model.specs.Tables.{change_row, drop_at, drop_where, row_at, set_row};
+ghost use Rattle.pim_model.specs.Tables.{change_row, drop_at, drop_where, keys_in, row_at, set_row};
 ghost use Rattle.pim_model.specs.Timers.{is_ending_first};
 ghost use Rattle.pim_tables.specs.Ends.{due_of, row_endings};
-ghost use Rattle.pim_types.specs.Keys.{is_on, star_key};
-ghost use Rattle.pim_membership.specs.Sources.{NameNone};
+ghost use Rattle.pim_types.specs.Keys.{is_on, key_cmp, star_key};
+ghost use Rattle.pim_membership.specs.Sources.{AreStarKind, NameNone};
 
 use pim_ip::Addr;
 use pim_tables::{Ends, Timed};
@@ -28,13 +29,13 @@ impl<R: Ends> Drop for Repeats<R> {
 
 impl<R: Ends> Model for Repeats<R> {
     ghost use Rattle.pim_model.specs.Tables.{Table};
-    ghost use Rattle.pim_membership.specs.Sources.{NameNone};
+    ghost use Rattle.pim_membership.specs.Sources.{AreStarKind};
 
     ghost Value = { Table R };
 
     ghost view = { λ a. a.rows };
 
-    ghost invariant = { λ a. NameNone a.rows };
+    ghost invariant = { λ a. AreStarKind a.rows };
 }
 
 impl<R: Ends> Repeats<R> {
@@ -52,6 +53,20 @@ impl<R: Ends> Repeats<R> {
         ensures { NameNone self.now }
     {
         let _ = &self.rows;
+    }
+
+    // For the proof: each is under the key of a group. Does nothing when it runs.
+    pub(crate) fn recall_kind(&self)
+        ensures { AreStarKind self.now }
+    {
+        let _ = &self.rows;
+    }
+
+    // For the proof: the keys rise. Does nothing when it runs.
+    pub(crate) fn recall_rising(&self)
+        ensures { IsStrictlySortedBy key_cmp (keys_in self.now) }
+    {
+        self.rows.recall_rising();
     }
 
     // The repeat under the key.

@@ -5,7 +5,7 @@ ghost use Rattle.std.specs.Prelude.{◌≡◌, [], OnOk, filter};
 ghost use Rattle.pim_model.specs.Records.{is_at_group};
 ghost use Rattle.pim_model.specs.Tables.{change_row, drop_at, drop_where, keys_in, set_row};
 ghost use Rattle.pim_types.specs.Keys.{is_on, key_cmp, names_source, source_key};
-ghost use Rattle.pim_membership.specs.Sources.{Gathers};
+ghost use Rattle.pim_membership.specs.Sources.{AreSourceKind, Gathers};
 
 use crate::sources::{above_interfaces, gather};
 use pim_ip::Addr;
@@ -32,13 +32,13 @@ impl Drop for Sendings {
 impl Model for Sendings {
     ghost use Rattle.pim_model.specs.Tables.{Table};
     ghost use Rattle.pim_types.specs.declared.fact.SendingRow.{SendingRow};
-    ghost use Rattle.pim_membership.specs.Sources.{ArePlain};
+    ghost use Rattle.pim_membership.specs.Sources.{AreSourceKind};
 
     ghost Value = { Table SendingRow };
 
     ghost view = { λ a. a.rows };
 
-    ghost invariant = { λ a. ArePlain a.rows };
+    ghost invariant = { λ a. AreSourceKind a.rows };
 }
 
 impl Sendings {
@@ -56,6 +56,13 @@ impl Sendings {
         ensures { IsStrictlySortedBy key_cmp (keys_in self.now) }
     {
         self.rows.recall_rising();
+    }
+
+    // For the proof: each is under the key of a source of a group. Does nothing when it runs.
+    pub(crate) fn recall_kind(&self)
+        ensures { AreSourceKind self.now }
+    {
+        let _ = &self.rows;
     }
 
     // The sendings, by rising key.

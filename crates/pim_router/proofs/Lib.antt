@@ -1,3 +1,4 @@
+mod Accepted
 mod Offering
 mod Runs
 mod Shown

@@ -6,4 +6,5 @@ mod probes;
 pub mod router;
 
 pub use pim_offrow::{Offered, OffloadRow};
+pub use pim_rested::RestoreRefusal;
 pub use router::Router;

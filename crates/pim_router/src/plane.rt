@@ -1,10 +1,11 @@
 //! What the router offers to a data plane (a kernel or a chip that forwards by rows that it was given), and what a data
 //! plane reports to the router.
-ghost use Rattle.std.specs.Prelude.{◌≡◌, ◌≤◌, ◌^◌, IfOk, OnOk, true};
+ghost use Rattle.std.specs.Prelude.{◌≡◌, ◌≤◌, ◌^◌, IfOk, Ok, OnOk, true};
 ghost use Rattle.pim_locality.specs.Rest.{IsAtRest};
 ghost use Rattle.pim_macros.specs.declared.rows.SourceAnswers.{SourceAnswers};
 ghost use Rattle.pim_mfc.specs.Laws.{ShowsRows};
 ghost use Rattle.pim_model.specs.Cache.{cached};
+ghost use Rattle.pim_model.specs.Limits.{config_test};
 ghost use Rattle.pim_model.specs.Sets.{is_kept_alive};
 ghost use Rattle.pim_model.specs.Tables.{Table, has_row};
 ghost use Rattle.pim_types.specs.Keys.{source_key};
@@ -12,6 +13,7 @@ ghost use Rattle.pim_offload.specs.Keeping.{keep, keepalive_end, kept_until};
 ghost use Rattle.pim_offload.specs.Offered.{offered};
 ghost use Rattle.pim_offload.specs.Seen.{bare_text};
 ghost use Rattle.pim_offrow.specs.Shown.{TellsOffload};
+ghost use Rattle.pim_restored.specs.Reload.{config_of};
 
 use pim_fanout::Cache;
 use pim_ip::{ControlHeader, write_header};
@@ -90,6 +92,7 @@ pub(crate) fn keep(
     ensures rest { OnOk result (IsAtRest world.new) }
     ensures shown { (rows : Table SourceAnswers) → ShowsRows rows (cached world.old)
         → OnOk result (ShowsRows rows (cached world.new)) }
+    ensures accepted { config_test (config_of world.old) ≡ Ok tt → OnOk result (config_test (config_of world.new) ≡ Ok tt) }
     ensures unvisited { OnOk result (meter.new ≡ meter.old) }
 {
     match keepalive_end(world, name) {

@@ -28,6 +28,7 @@ ghost use Rattle.pim_model.specs.Printed.{rows};
 ghost use Rattle.pim_macros.specs.Rows.{number_of};
 ghost use Rattle.pim_model.specs.Timers.{next_moment};
 ghost use Rattle.pim_model.specs.Unicast.{rpf_interface_rp};
+ghost use Rattle.pim_restored.specs.Reload.{config_of};
 ghost use Rattle.pim_router.specs.Standing.{beginning, begun, nothing_shown, last_copies, standing, standing_after, with_state};
 ghost use Rattle.pim_types.specs.Keys.{key_cmp};
 ghost use Rattle.pim_types.specs.declared.config.Config.{Config as ConfigValue};
@@ -36,6 +37,7 @@ ghost use Rattle.pim_locality.specs.Rest.{IsAtRest};
 ghost use Rattle.pim_promises.specs.Bounded.{IsBounded};
 
 mod hosts;
+mod saved;
 
 use crate::plane::{bare_packet, keep, offer};
 use crate::probes::Probes;
@@ -74,11 +76,13 @@ pub struct Router {
 
 impl Model for Router {
     ghost use Rattle.std.specs.List.Sorted.{IsStrictlySortedBy};
-    ghost use Rattle.std.specs.Prelude.{Some, false, if◌then◌else◌, ◌≡◌};
+    ghost use Rattle.std.specs.Prelude.{Ok, Some, false, if◌then◌else◌, ◌≡◌};
     ghost use Rattle.pim_fanout.specs.Refreshing.{touches};
     ghost use Rattle.pim_locality.specs.Rest.{IsAtRest};
     ghost use Rattle.pim_mfc.specs.Laws.{ShowsRows};
     ghost use Rattle.pim_model.specs.Cache.{cached};
+    ghost use Rattle.pim_model.specs.Limits.{config_test};
+    ghost use Rattle.pim_restored.specs.Reload.{config_of};
     ghost use Rattle.pim_router.specs.Standing.{Shown, nothing_shown};
     ghost use Rattle.pim_types.specs.Keys.{key_cmp};
 
@@ -93,7 +97,7 @@ impl Model for Router {
     } };
 
     ghost invariant = { λ r. r.failed ≡ false → IsAtRest r.world × ShowsRows r.cache.mfc.rows (cached r.world)
-        × IsStrictlySortedBy key_cmp r.cache.changed };
+        × IsStrictlySortedBy key_cmp r.cache.changed × (config_test (config_of r.world) ≡ Ok tt) };
 }
 
 impl Router {
@@ -510,6 +514,7 @@ fn take_next(
 ) -> Result<Outcome, Fault>
     requires rest { IsAtRest world.old }
     requires shown { ShowsRows cache.old.mfc.rows (cached world.old) }
+    requires accepted { config_test (config_of world.old) ≡ Ok tt }
     ensures outcome { IfOk result (λ outcome. outcome ≡ outcome_of (step world.old event.now)) }
     ensures state { OnOk result (world.new ≡ (step world.old event.now).state) }
     ensures rest { OnOk result (IsAtRest world.new) }
@@ -521,6 +526,7 @@ fn take_next(
         ≡ event_disturbed world.old event.now) }
     ensures stays { OnOk result (OffersStay (record { touched = cache.new.disturbed; replaced = replaced.new })
         world.old world.new) }
+    ensures accepted { OnOk result (config_test (config_of world.new) ≡ Ok tt) }
     ensures fault { IsOkUnless result Fault.Memory }
     ensures sure { IsTrue (needs_no_memory (step world.old event.now).answer) → IsOk result }
 {
@@ -542,6 +548,7 @@ fn run_world(
     requires rest { IsAtRest world.old }
     requires shown { ShowsRows cache.old.mfc.rows (cached world.old) }
     requires once { IsStrictlySortedBy key_cmp cache.old.changed }
+    requires accepted { config_test (config_of world.old) ≡ Ok tt }
     ensures outcomes { IfOk result (λ outcomes. outcomes.items ≡ run world.old events.now) }
     ensures state { OnOk result (world.new ≡ state_after world.old events.now) }
     ensures rest { OnOk result (IsAtRest world.new) }
@@ -553,6 +560,7 @@ fn run_world(
         (record { touched = cache.new.disturbed; replaced = replaced.new })) }
     ensures stays { OnOk result (LastOffersStay world.old events.now
         (record { touched = cache.new.disturbed; replaced = replaced.new })) }
+    ensures accepted { OnOk result (config_test (config_of world.new) ≡ Ok tt) }
     ensures fault { IsOkUnless result Fault.Memory }
     ensures sure { events.now ≡ [] → IsOk result }
 {

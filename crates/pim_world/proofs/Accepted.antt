@@ -34,7 +34,7 @@ nine true true true true true true false h i = refl
 nine true true true true true true true false i = refl
 nine true true true true true true true true i = refl
 
-in_two_parts : (c : Config) → config_test c
+pub in_two_parts : (c : Config) → config_test c
     ≡ (settings_test c >> expect (are_routes c.interfaces c.routes) Refusal.ConfiguredRoutes >> expect
     (are_rps c.rps) Refusal.ConfiguredRps)
 unfolding config_test settings_test interfaces_test delays_test

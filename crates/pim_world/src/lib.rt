@@ -5,6 +5,7 @@ pub mod facts;
 pub mod groups;
 pub mod hellos;
 mod members;
+mod parts;
 pub mod querying;
 pub mod routes;
 pub mod sending;

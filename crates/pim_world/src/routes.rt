@@ -33,6 +33,20 @@ impl World {
         }
     }
 
+    /// The routes, in the order in which they were given.
+    pub fn routes(&self) -> &[Route]
+        ensures { result.now ≡ self.now.routes }
+    {
+        self.mrib.routes()
+    }
+
+    /// The RP ranges, in the order in which they were given.
+    pub fn ranges(&self) -> &[RpRange]
+        ensures { result.now ≡ self.now.ranges }
+    {
+        self.mrib.ranges()
+    }
+
     /// Whether these are the present routes, in their order.
     pub fn has_routes(&self, routes: &[Route]) -> bool
         ensures { IsTrue result ↔ (self.now.routes ≡ routes.now) }

@@ -11,7 +11,7 @@ use pim_types::{Config, Refusal, Settings};
 const MOST_FACTS: u32 = 1_000_000;
 
 // The longest query interval, in seconds, and response interval, in tenths of a second.
-const LONGEST_INTERVAL: u32 = 31_744;
+pub(crate) const LONGEST_INTERVAL: u32 = 31_744;
 
 /// The settings of a configuration.
 #[tactic(auto, unfolding(pim_model::specs::State::settings_of))]

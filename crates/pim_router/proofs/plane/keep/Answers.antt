@@ -1,4 +1,5 @@
 use Rattle.std.proofs.Common.{ap, is_some, sym, ◌∙◌}
+use Rattle.pim_router.proofs.Accepted.{kept_accepted}
 use Rattle.pim_router.proofs.Offering.{alive_by_end, keep_none, keep_sets, keep_stays, kept_rests, kept_rows, runs_there}
 use Rattle.pim_router.proofs.plane.keep.Goals as goal
 
@@ -52,3 +53,8 @@ returns-in_ok-keep_until-in-Some-clause-shown c =
     (c.in_ok-keep_until-in-Some.ensures.state
     ∙ keep_sets c.args.world.now c.args.name.group.bits c.args.name.source.bits c.args.moment c.in-Some.end
     (sym c.in-Some.is ∙ c.keepalive_end.ensures) c.if-end-later.true)
+
+pub returns-in_ok-keep_until-in-Some-clause-accepted : goal.returns-in_ok-keep_until-in-Some-clause-accepted
+returns-in_ok-keep_until-in-Some-clause-accepted c =
+    kept_accepted c.args.world.now c.args.name.group.bits c.args.name.source.bits _ c.keep_until.new.world
+    c.in_ok-keep_until-in-Some.ensures.state

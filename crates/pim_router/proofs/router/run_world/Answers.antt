@@ -16,6 +16,7 @@ loop-event-init c = (
   tt,
   tt,
   c.requires.once,
+  c.requires.accepted,
 )
 
 pub take_next-requires-clause-rest : goal.take_next-requires-clause-rest
@@ -23,6 +24,9 @@ take_next-requires-clause-rest c = c.loop-event.invariant.0.rest
 
 pub take_next-requires-clause-shown : goal.take_next-requires-clause-shown
 take_next-requires-clause-shown c = c.loop-event.invariant.1
+
+pub take_next-requires-clause-accepted : goal.take_next-requires-clause-accepted
+take_next-requires-clause-accepted c = c.loop-event.invariant.7
 
 pub loop-event-preserved : goal.loop-event-preserved
 loop-event-preserved c = (
@@ -47,6 +51,7 @@ loop-event-preserved c = (
       (record { touched = c.take_next.new.cache.disturbed; replaced = c.take_next.new.replaced }) c.loop-event-test.true c.event-item.is c.loop-event.invariant.2.state_is
       (rw c.of.ensures at c.in_ok-take_next.ensures.disturbed),
   c.in_ok-take_next.ensures.once,
+  c.in_ok-take_next.ensures.accepted,
 )
 
 pub returns-clause-outcomes : goal.returns-clause-outcomes
@@ -77,6 +82,9 @@ returns-clause-cheap c =
 
 pub returns-clause-once : goal.returns-clause-once
 returns-clause-once c = c.loop-event.invariant.6
+
+pub returns-clause-accepted : goal.returns-clause-accepted
+returns-clause-accepted c = c.loop-event.invariant.7
 
 pub returns-clause-disturbed : goal.returns-clause-disturbed
 returns-clause-disturbed c =

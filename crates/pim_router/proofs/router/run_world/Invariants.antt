@@ -1,9 +1,11 @@
-use Rattle.std.proofs.Common.{drop, take}
+use Rattle.std.proofs.Common.{◌≡◌, Ok, drop, take}
 use Rattle.std.specs.List.Sorted.{IsStrictlySortedBy}
 use Rattle.pim_types.specs.Keys.{key_cmp}
 use Rattle.pim_fanout.specs.Refreshing.{touches}
 use Rattle.pim_mfc.specs.Laws.{ShowsRows}
 use Rattle.pim_model.specs.Cache.{cached}
+use Rattle.pim_model.specs.Limits.{config_test}
+use Rattle.pim_restored.specs.Reload.{config_of}
 use Rattle.pim_event.proofs.Costs.{Counted}
 use Rattle.pim_router.proofs.Runs.{Runs}
 use Rattle.pim_event.specs.Disturbing.{IsLastDisturbed}
@@ -20,3 +22,4 @@ invariant-loop-event l =
     × LastOffersStay l.fn.world (take l.event-index l.events) (record { touched = l.cache.disturbed; replaced = l.replaced })
     × IsLastDisturbed l.fn.world (take l.event-index l.events) (record { touched = l.cache.disturbed; replaced = l.replaced })
     × IsStrictlySortedBy key_cmp l.cache.changed
+    × (config_test (config_of l.world) ≡ Ok tt)

@@ -3,6 +3,7 @@ use Rattle.std.proofs.lemmas.Result.{on_ok_weaker}
 use Rattle.pim_fanout.specs.Refreshing.{CacheValue}
 use Rattle.pim_event.proofs.Costs.{none_touched}
 use Rattle.pim_event.proofs.Disturbing.{both_disturb}
+use Rattle.pim_router.proofs.Accepted.{accepted_next}
 use Rattle.pim_router.proofs.router.take_next.Goals as goal
 
 pub take_in-requires-clause-uncounted : goal.take_in-requires-clause-uncounted
@@ -36,3 +37,8 @@ pub returns-clause-disturbed : goal.returns-clause-disturbed
 returns-clause-disturbed c =
     both_disturb c.take_in.result _ _ c.args.world.now c.args.event.now
     (on_ok_weaker c.take_in.result (λ after. after.disturbs) c.take_in.ensures.cache) c.take_in.ensures.replaced
+
+pub returns-clause-accepted : goal.returns-clause-accepted
+returns-clause-accepted c =
+    accepted_next c.args.world.now c.take_in.new.world c.args.event.now c.take_in.result c.requires.accepted
+    c.take_in.ensures.state

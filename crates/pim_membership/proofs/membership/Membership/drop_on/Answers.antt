@@ -1,6 +1,6 @@
 use Rattle.std.proofs.Common.{subst, sym}
 use Rattle.pim_types.specs.Keys.{is_on}
-use Rattle.pim_membership.specs.MembershipTables.{AreRobust}
+use Rattle.pim_membership.specs.MembershipTables.{AreHeld}
 use Rattle.pim_membership.specs.Unrecorded.{HaveRecords}
 use Rattle.pim_membership.proofs.Going.{both_dropped}
 use Rattle.pim_membership.proofs.Robust.{robust_dropped}
@@ -8,7 +8,7 @@ use Rattle.pim_membership.proofs.membership.Membership.drop_on.Goals as goal
 
 pub invariant_of-self : goal.invariant_of-self
 invariant_of-self c = (
-  subst AreRobust (sym c.drop_on.ensures)
+  subst AreHeld (sym c.drop_on.ensures)
       (robust_dropped (is_on c.args.iface.number) c.self.inside.queriers c.self.invariant.0),
   subst (λ r. HaveRecords c.self.inside.unrecorded r c.drop_on-6.new.self) (sym c.drop_on-3.ensures)
       (subst (HaveRecords c.self.inside.unrecorded _) (sym c.drop_on-6.ensures)

@@ -3,17 +3,17 @@ use Rattle.pim_types.specs.Keys.{same_key, star_key}
 use Rattle.pim_model.specs.Tables.{change_row, drop_at}
 use Rattle.pim_tables.proofs.Rows.{dropped_is_changed}
 use Rattle.pim_membership.proofs.Kept.{kept_after_change, kept_without}
-use Rattle.pim_membership.specs.Sources.{NamesNone}
+use Rattle.pim_membership.specs.Sources.{IsStarKind}
 use Rattle.pim_membership.proofs.repeats.Repeats.change.Goals as goal
 
 pub invariant_of-self : goal.invariant_of-self
 unfolding drop_at
 invariant_of-self g c =
-    kept_without NamesNone (same_key c.star-key.result) c.self.inside.rows _ c.self.invariant c.remove.ensures
+    kept_without IsStarKind (same_key c.star-key.result) c.self.inside.rows _ c.self.invariant c.remove.ensures
 
 pub invariant_of-self-2 : goal.invariant_of-self-2
 invariant_of-self-2 g c =
-    kept_after_change NamesNone c.star-key.result c.self.inside.rows _ c.self.invariant g.R.Ends.kinds.1 c.change.result
+    kept_after_change IsStarKind c.star-key.result c.self.inside.rows _ c.self.invariant g.R.Ends.kinds.1 c.change.result
     (λ _. Some c.in-Some.row) c.change.ensures.to c.change.ensures.err
 
 pub returns-in_default : goal.returns-in_default

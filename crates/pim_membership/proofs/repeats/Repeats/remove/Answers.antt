@@ -1,10 +1,10 @@
 use Rattle.pim_types.specs.Keys.{same_key}
 use Rattle.pim_model.specs.Tables.{drop_at}
 use Rattle.pim_membership.proofs.Kept.{kept_without}
-use Rattle.pim_membership.specs.Sources.{NamesNone}
+use Rattle.pim_membership.specs.Sources.{IsStarKind}
 use Rattle.pim_membership.proofs.repeats.Repeats.remove.Goals as goal
 
 pub invariant_of-self : goal.invariant_of-self
 unfolding drop_at
 invariant_of-self g c =
-    kept_without NamesNone (same_key c.star.result) c.self.inside.rows _ c.self.invariant c.remove.ensures
+    kept_without IsStarKind (same_key c.star.result) c.self.inside.rows _ c.self.invariant c.remove.ensures

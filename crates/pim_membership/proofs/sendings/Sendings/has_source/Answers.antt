@@ -2,6 +2,7 @@ use Rattle.std.proofs.Common.{◌<◌, ap, arith, subst, sym, ◌∙◌}
 use Rattle.std.specs.List.{AllByRecursion}
 use Rattle.pim_types.specs.Keys.{iface_in}
 use Rattle.pim_model.specs.Tables.{has_row}
+use Rattle.pim_membership.proofs.OfKind.{plain}
 use Rattle.pim_membership.proofs.Named.{none_named, one_named}
 use Rattle.pim_membership.proofs.sendings.Sendings.has_source.Goals as goal
 
@@ -13,7 +14,7 @@ returns-then-contains c = rw (← c.self.view_is)
 pub returns : goal.returns
 returns c =
     sym (none_named c.args.name.group.bits c.args.name.source.bits c.above_interfaces-number-end.result c.args.self.now
-    c.recall_rising.ensures (rw (← c.self.view_is) c.self.invariant)
+    c.recall_rising.ensures (rw (← c.self.view_is) (plain c.self.inside.rows c.self.invariant))
     (subst (λ t. AllByRecursion (λ e. iface_in e.0 < c.above_interfaces-number-end.result) t)
     (c.iter.ensures ∙ c.self.view_is) c.above_interfaces-number-end.ensures.above)
     (λ i below. c.loop-number.invariant i (omega (arith, below, c.loop-number-test.false))))

@@ -1,10 +1,10 @@
 use Rattle.std.proofs.Common.{None, ap}
-use Rattle.pim_types.specs.declared.fact.Key.{Key}
 use Rattle.pim_membership.proofs.Kept.{kept_after_set}
-use Rattle.pim_membership.specs.Sources.{IsPlain}
+use Rattle.pim_membership.specs.MembershipTables.{is_source_kind}
+use Rattle.pim_membership.specs.Sources.{IsSourceKind}
 use Rattle.pim_membership.proofs.sendings.Sendings.set.Goals as goal
 
 pub invariant_of-self : goal.invariant_of-self
 invariant_of-self c =
-    kept_after_set IsPlain c.source.result c.self.inside.rows _ c.self.invariant None c.set.result c.args.row
-    (ap (λ (k : Key). k.rpt) c.source.ensures) c.set.ensures.ok c.set.ensures.err
+    kept_after_set IsSourceKind c.source.result c.self.inside.rows _ c.self.invariant None c.set.result c.args.row
+    (ap is_source_kind c.source.ensures) c.set.ensures.ok c.set.ensures.err

@@ -8,6 +8,7 @@ use Rattle.pim_model.specs.Cache.{cached}
 use Rattle.pim_model.specs.State.{State}
 use Rattle.pim_locality.proofs.Rest.{opening_is_at_rest}
 use Rattle.pim_locality.specs.Rest.{IsAtRest}
+use Rattle.pim_router.proofs.Accepted.{opening_accepted}
 use Rattle.pim_router.proofs.router.Router.new.Goals as goal
 
 pub invariant_of-result : goal.invariant_of-result
@@ -18,4 +19,5 @@ invariant_of-result c = λ works.
       subst (λ (k : CacheValue). ShowsRows k.mfc.rows (cached c.in-Ok.world)) (sym c.new-in-Ok.ensures)
           (subst (λ (x : State). ShowsRows [] (cached x)) (sym opens.1) (opening_shows_rows c.args.config)),
       subst (λ (k : CacheValue). IsStrictlySortedBy key_cmp k.changed) (sym c.new-in-Ok.ensures) tt,
+      opening_accepted c.args.config c.in-Ok.world opens.0 opens.1,
     )

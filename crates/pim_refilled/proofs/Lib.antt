@@ -1,0 +1,5 @@
+pub mod Filled
+pub mod FilledRecords
+pub mod Made
+pub mod SettledTests
+pub mod Taken

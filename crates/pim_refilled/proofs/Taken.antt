@@ -1,0 +1,70 @@
+-- A world under an accepted configuration can be made again of its rows.
+use Rattle.std.proofs.Common.{◌≡◌, ◌≤◌, ◌&&◌, ◌^◌, ◌∙◌, ℕ, Bool, true, false, Ok, Err, ap, arith, length, nat_le, refl, sym}
+use Rattle.std.proofs.lemmas.Bool.Decides.{nat_tests}
+use Rattle.std.specs.List.{list_all}
+use Rattle.std.specs.Prelude.{Result, is_ok}
+use Rattle.pim_ip.specs.Tests.{expect, ◌>>◌}
+use Rattle.pim_ip.specs.declared.refusal.Refusal.{Refusal}
+use Rattle.pim_ifaces.specs.Interfaces.{interfaces_test, is_up_key}
+use Rattle.pim_membership.specs.MembershipTables as membership
+use Rattle.pim_model.specs.Limits.{are_routes, are_rps, config_test}
+use Rattle.pim_model.specs.State.{State}
+use Rattle.pim_restored.specs.Reload.{config_of}
+use Rattle.pim_store.specs.PimTables as store
+use Rattle.pim_world.proofs.Accepted.{in_two_parts, interfaces_tested}
+use Rattle.pim_world.specs.Configurations.{settings_test}
+use Rattle.pim_world.specs.Lending.{membership_tables}
+use Rattle.pim_world.specs.PartsOf.{are_held}
+use Rattle.pim_refilled.specs.Rows.{can_hold}
+
+first : (a b : Result (Unit {0}) Refusal) → (a >> b) ≡ Ok tt → a ≡ Ok tt
+first (Ok done) b e = refl
+first (Err refusal) b e = cc
+
+second : (a b : Result (Unit {0}) Refusal) → (a >> b) ≡ Ok tt → b ≡ Ok tt
+second (Ok done) b e = e
+second (Err refusal) b e = cc
+
+passed : (b : Bool) (refusal : Refusal) → expect b refusal ≡ Ok tt → b ≡ true
+passed true refusal e = refl
+passed false refusal e = cc
+
+both : (a b : Bool) → a ≡ true → b ≡ true → (a && b) ≡ true
+both true b f g = g
+both false b f g = cc
+
+at_most : (m n : ℕ) → m ≤ n → nat_le m n ≡ true
+at_most m n h = grind (arith, nat_tests, h)
+
+module _ (s : State) where
+  abbrev routes_passed : Bool
+  routes_passed = are_routes s.configured s.routes
+
+  abbrev ranges_passed : Bool
+  ranges_passed = are_rps s.ranges
+
+  pub taken : config_test (config_of s) ≡ Ok tt
+      → list_all (λ e. is_up_key (length s.configured) e.0) s.interfaces ≡ true
+      → membership.are_of_kind (membership_tables s) ≡ true → store.are_of_kind (store.pim_tables s) ≡ true
+      → s.present ≤ 2 ^ 62 → 2 ≤ s.settings.robustness → s.settings.robustness ≤ 7 → s.settings.query_interval ≤ 31744
+      → can_hold s ≡ true
+  unfolding config_of
+  taken accepted up records trees present least most interval =
+      let parts = sym (in_two_parts (config_of s)) ∙ accepted in
+      let settings : settings_test (config_of s) ≡ Ok tt =
+      first (settings_test (config_of s))
+      (expect routes_passed Refusal.ConfiguredRoutes >> expect ranges_passed Refusal.ConfiguredRps) parts in
+      let tables =
+      second (settings_test (config_of s))
+      (expect routes_passed Refusal.ConfiguredRoutes >> expect ranges_passed Refusal.ConfiguredRps) parts in
+      both _ _
+      (both _ _ (ap is_ok (interfaces_tested (config_of s) settings)) up)
+      (both _ _
+      (both _ _
+      (passed routes_passed Refusal.ConfiguredRoutes
+      (first (expect routes_passed Refusal.ConfiguredRoutes) (expect ranges_passed Refusal.ConfiguredRps) tables))
+      (passed ranges_passed Refusal.ConfiguredRps
+      (second (expect routes_passed Refusal.ConfiguredRoutes) (expect ranges_passed Refusal.ConfiguredRps) tables)))
+      (both _ _ records (both _ _ trees
+      (both _ _ (at_most s.present (2 ^ 62) present) (both _ _ (at_most 2 s.settings.robustness least)
+      (both _ _ (at_most s.settings.robustness 7 most) (at_most s.settings.query_interval 31744 interval)))))))

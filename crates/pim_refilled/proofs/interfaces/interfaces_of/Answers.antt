@@ -1,0 +1,16 @@
+use Rattle.std.proofs.Common.{◌≡◌, ◌∙◌, ap}
+use Rattle.pim_types.specs.declared.fact.InterfaceRow.{InterfaceRow}
+use Rattle.pim_model.specs.State.{InterfaceTable}
+use Rattle.pim_model.specs.Tables.{Table}
+use Rattle.pim_refilled.specs.Refilled.{refilled}
+use Rattle.pim_refilled.proofs.Filled.{filled}
+use Rattle.pim_refilled.proofs.interfaces.interfaces_of.Goals as goal
+
+abbrev with_rows : InterfaceTable → Table InterfaceRow → InterfaceTable
+with_rows t rows = record t { rows = rows }
+
+pub returns-clause-made : goal.returns-clause-made
+returns-clause-made c = λ rise.
+    c.in_ok-put_ups.ensures.put c.if-not-branch.false
+    ∙ ap (λ (t : InterfaceTable). with_rows t (refilled t.rows c.args.rows.now)) c.new-interfaces.ensures
+    ∙ ap (with_rows (record { configured = c.args.configured.now; rows = c.args.rows.now })) (filled c.args.rows.now rise)

@@ -1,0 +1,7 @@
+use Rattle.std.proofs.Common.{◌≡◌}
+use Rattle.std.specs.List.{list_all}
+use Rattle.std.specs.Prelude.{is_some, ◌||◌}
+use Rattle.pim_refilled.proofs.settled.are_live.Given as goal
+
+abbrev pub invariant-loop-row : goal.invariant-loop-row
+invariant-loop-row l = list_all (λ e. is_some (e.1).keepalive || (e.1).spt) l.row-iterator ≡ list_all (λ e. is_some (e.1).keepalive || (e.1).spt) l.fn.rows

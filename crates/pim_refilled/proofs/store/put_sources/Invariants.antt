@@ -1,0 +1,12 @@
+use Rattle.std.proofs.Common.{◌≡◌, drop}
+use Rattle.std.specs.List.{list_all}
+use Rattle.pim_store.specs.PimTables.{is_assert_key, is_plain_key, is_rpt_key, is_source_key}
+use Rattle.pim_refilled.specs.Refilled.{refilled}
+use Rattle.pim_refilled.proofs.store.put_sources.Given as goal
+
+abbrev pub invariant-loop-row : goal.invariant-loop-row
+invariant-loop-row l = record {
+  test : list_all (λ e. is_source_key e.0) (drop l.row-index l.rows) ≡ list_all (λ e. is_source_key e.0) l.rows;
+  rest : record l.store { sources = refilled l.store.sources (drop l.row-index l.rows) }
+      ≡ record l.fn.store { sources = refilled l.fn.store.sources l.rows };
+}

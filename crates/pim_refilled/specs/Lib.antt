@@ -1,0 +1,4 @@
+pub mod Recorded
+pub mod Refilled
+pub mod Rows
+pub mod Settled

@@ -1,0 +1,3 @@
+mod Ordered
+pub mod Tests
+mod Unmoved

@@ -1,0 +1,113 @@
+-- The tests of a saved state decide whether a router can be in it.
+use Rattle.std.proofs.Common.{◌≡◌, ◌&&◌, ◌∙◌, Bool, true, false, Ok, Err, ap, refl, sym, length}
+use Rattle.std.specs.List.{list_all}
+use Rattle.std.specs.Prelude.{Result, [], if◌then◌else◌, is_ok, ◌∷◌}
+use Rattle.pim_ip.specs.Tests.{expect, ◌>>◌}
+use Rattle.pim_ip.specs.declared.refusal.Refusal.{Refusal}
+use Rattle.pim_ifaces.specs.Interfaces.{interfaces_test, is_up_key}
+use Rattle.pim_locality.specs.Locality.{IsQuiet}
+use Rattle.pim_model.specs.Limits.{are_routes, are_rps, config_test}
+use Rattle.pim_model.specs.State.{State}
+use Rattle.pim_ready.specs.Ready.{IsOrdered, IsSettled}
+use Rattle.pim_refilled.proofs.SettledTests.{settled_is_decided}
+use Rattle.pim_refilled.specs.Rows.{can_hold}
+use Rattle.pim_refilled.specs.Settled.{is_settled}
+use Rattle.pim_restored.specs.Reload.{config_of}
+use Rattle.pim_restored.specs.Resting.{all_pass, quiet_tests}
+use Rattle.pim_saved.proofs.SpelledStates.{text_is_read}
+use Rattle.pim_world.proofs.Accepted.{all_accepted, in_two_parts}
+use Rattle.pim_world.specs.Configurations.{settings_test}
+use Rattle.pim_rested.specs.Resuming.{IsResumable, ResumableIsDecided, SavedIsResumed, has_settings, is_quiet, read_test, resume_test}
+use Rattle.pim_rested.specs.declared.refusal.RestoreRefusal.{RestoreRefusal}
+
+halves : (a b : Bool) → (a && b) ≡ true → (a ≡ true) × (b ≡ true)
+halves true b e = (refl, e)
+halves false b e = cc
+
+first : (a b : Result (Unit {0}) Refusal) → (a >> b) ≡ Ok tt → a ≡ Ok tt
+first (Ok done) b e = refl
+first (Err refusal) b e = cc
+
+is_done : (r : Result (Unit {0}) Refusal) → is_ok r ≡ true → r ≡ Ok tt
+is_done (Ok done) e = refl
+is_done (Err refusal) e = cc
+
+-- ---- quiet
+
+four : (a b c d : Bool) → all_pass (a ∷ b ∷ c ∷ d ∷ []) ≡ true → (a ≡ true) × ((b ≡ true) × ((c ≡ true) × (d ≡ true)))
+four true true true true e = (refl, (refl, (refl, refl)))
+four true true true false e = cc
+four true true false d e = cc
+four true false c d e = cc
+four false b c d e = cc
+
+all_four : (a b c d : Bool) → a ≡ true → b ≡ true → c ≡ true → d ≡ true → all_pass (a ∷ b ∷ c ∷ d ∷ []) ≡ true
+all_four true true true true f g h i = refl
+all_four true true true false f g h i = cc
+all_four true true false d f g h i = cc
+all_four true false c d f g h i = cc
+all_four false b c d f g h i = cc
+
+quiet_is : (s : State) → is_quiet s ≡ true → IsQuiet s
+quiet_is s e =
+    let p = four _ _ _ _ e in
+    record { clear = record { asserts = p.0; sources = p.1.0 }; sources_settled = p.1.1.0; registers_settled = p.1.1.1 }
+
+quiet_so : (s : State) → IsQuiet s → is_quiet s ≡ true
+quiet_so s h = all_four _ _ _ _ h.clear.asserts h.clear.sources h.sources_settled h.registers_settled
+
+-- ---- accepted
+
+module _ (s : State) where
+  abbrev up : Bool
+  up = list_all (λ e. is_up_key (length s.configured) e.0) s.interfaces
+
+  accepted_is : can_hold s ≡ true → has_settings s ≡ true → config_test (config_of s) ≡ Ok tt
+  unfolding config_of
+  accepted_is held settings =
+      let tables = (halves (is_ok (interfaces_test s.configured) && up) _ held).1 in
+      let mrib = halves (are_routes s.configured s.routes) (are_rps s.ranges) (halves _ _ tables).0 in
+      all_accepted (config_of s) (is_done (settings_test (config_of s)) settings) mrib.0 mrib.1
+
+  settings_so : config_test (config_of s) ≡ Ok tt → has_settings s ≡ true
+  unfolding config_of
+  settings_so accepted =
+      ap is_ok (first (settings_test (config_of s))
+      (expect (are_routes s.configured s.routes) Refusal.ConfiguredRoutes
+      >> expect (are_rps s.ranges) Refusal.ConfiguredRps) (sym (in_two_parts (config_of s)) ∙ accepted))
+
+-- ---- all tests
+
+resumable_is : (s : State) → IsOrdered s → resume_test s ≡ Ok tt → IsResumable s
+unfolding resume_test
+resumable_is s ordered e = go (can_hold s) (has_settings s) (is_settled s) (is_quiet s) refl refl refl refl e
+  where
+    go : (a b c d : Bool) → can_hold s ≡ a → has_settings s ≡ b → is_settled s ≡ c → is_quiet s ≡ d
+        → (if a && b
+        then (if c then (if d then Ok tt else Err RestoreRefusal.NotQuiet) else Err RestoreRefusal.NotSettled)
+        else Err RestoreRefusal.NotHeld) ≡ Ok tt → IsResumable s
+    go true true true true held settings settled quiet e = record {
+      held = held;
+      accepted = accepted_is s held settings;
+      rest = record { quiet = quiet_is s quiet; settled = (settled_is_decided s ordered).0 settled };
+    }
+    go true true true false held settings settled quiet e = cc
+    go true true false d held settings settled quiet e = cc
+    go true false c d held settings settled quiet e = cc
+    go false b c d held settings settled quiet e = cc
+
+resumable_so : (s : State) → IsResumable s → resume_test s ≡ Ok tt
+unfolding resume_test
+resumable_so s h =
+    rw (
+      h.held,
+      settings_so s h.accepted,
+      (settled_is_decided s h.rest.settled.ordered).1 h.rest.settled,
+      quiet_so s h.rest.quiet,
+    ) refl
+
+pub resumable_is_decided : ResumableIsDecided
+resumable_is_decided s ordered = (resumable_is s ordered, resumable_so s)
+
+pub saved_is_resumed : SavedIsResumed
+saved_is_resumed s fits h = ap read_test (text_is_read s fits) ∙ resumable_so s h

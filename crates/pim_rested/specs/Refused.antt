@@ -1,0 +1,10 @@
+-- The numbers of what is refused.
+use Rattle.std.specs.Prelude.{ℕ}
+use Rattle.pim_saved.specs.Refused.{saved_refusal_number}
+use Rattle.pim_rested.specs.declared.refusal.RestoreRefusal.{RestoreRefusal}
+
+unfoldable pub restore_refusal_number : RestoreRefusal → ℕ
+restore_refusal_number (RestoreRefusal.Bytes refusal) = saved_refusal_number refusal
+restore_refusal_number RestoreRefusal.NotHeld = 56
+restore_refusal_number RestoreRefusal.NotSettled = 57
+restore_refusal_number RestoreRefusal.NotQuiet = 58

@@ -1,0 +1,53 @@
+-- Which states a router goes on from, and which bytes are of one.
+use Rattle.std.specs.Prelude.{Bool, Err, List, Ok, Result, if◌then◌else◌, is_ok, true, ℕ, ◌&&◌, ◌≡◌}
+use Rattle.pim_saved.specs.declared.refusal.SavedRefusal.{SavedRefusal}
+use Rattle.pim_locality.specs.Rest.{IsAtRest}
+use Rattle.pim_model.specs.Limits.{config_test}
+use Rattle.pim_model.specs.State.{State}
+use Rattle.pim_ready.specs.Ready.{IsOrdered}
+use Rattle.pim_refilled.specs.Rows.{can_hold}
+use Rattle.pim_refilled.specs.Settled.{is_settled}
+use Rattle.pim_restored.specs.Reload.{config_of}
+use Rattle.pim_restored.specs.Resting.{all_pass, quiet_tests}
+use Rattle.pim_saved.specs.Fits.{FitsState}
+use Rattle.pim_saved.specs.Reading.{reading}
+use Rattle.pim_saved.specs.Text.{text}
+use Rattle.pim_world.specs.Configurations.{settings_test}
+use Rattle.pim_rested.specs.declared.refusal.RestoreRefusal.{RestoreRefusal}
+
+-- A router can be in this state: each fact is under a key of its kind, the configuration is accepted, and the state is at
+-- rest.
+pub record IsResumable (s : State) : Type 0 where
+  pub held : can_hold s ≡ true
+  pub accepted : config_test (config_of s) ≡ Ok tt
+  pub rest : IsAtRest s
+
+-- the configuration is accepted, but for its routes and RP ranges
+abbrev pub has_settings : State → Bool
+has_settings s = is_ok (settings_test (config_of s))
+
+abbrev pub is_quiet : State → Bool
+is_quiet s = all_pass (quiet_tests s)
+
+-- the tests of a state whose keys rise, in their order
+unfoldable pub resume_test : State → Result (Unit {0}) RestoreRefusal
+resume_test s =
+    if can_hold s && has_settings s
+    then (if is_settled s then (if is_quiet s then Ok tt else Err RestoreRefusal.NotQuiet) else Err RestoreRefusal.NotSettled)
+    else Err RestoreRefusal.NotHeld
+
+abbrev pub read_test : Result State SavedRefusal → Result (Unit {0}) RestoreRefusal
+read_test (Ok s) = resume_test s
+read_test (Err refusal) = Err (RestoreRefusal.Bytes refusal)
+
+-- the tests of bytes
+abbrev pub restore_test : List ℕ → Result (Unit {0}) RestoreRefusal
+restore_test bytes = read_test (reading bytes)
+
+-- the tests pass exactly where a router can be in the state
+abbrev pub ResumableIsDecided : Type 0
+ResumableIsDecided = (s : State) → IsOrdered s → (resume_test s ≡ Ok tt → IsResumable s) × (IsResumable s → resume_test s ≡ Ok tt)
+
+-- what a router saves, which fits and is a state that a router can be in, is restored
+abbrev pub SavedIsResumed : Type 0
+SavedIsResumed = (s : State) → FitsState s → IsResumable s → restore_test (text s) ≡ Ok tt

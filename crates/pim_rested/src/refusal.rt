@@ -1,0 +1,32 @@
+//! Why no router is made of bytes.
+use pim_saved::SavedRefusal;
+
+/// Why no router is made of bytes: the first test that fails.
+#[derive(Clone, Copy, PartialEq, Eq, Debug)]
+pub enum RestoreRefusal {
+    /// The bytes are no saved state of this version.
+    Bytes(SavedRefusal),
+    /// The configuration isn't accepted, or a fact is under a key of another kind.
+    NotHeld,
+    /// A timer has expired, or a fact is of an interface that is down.
+    NotSettled,
+    /// An assert or an SPTbit must go, or a register isn't settled.
+    NotQuiet,
+}
+
+impl RestoreRefusal {
+    ghost use Rattle.std.specs.Prelude.{◌≡◌};
+    ghost use Rattle.pim_rested.specs.Refused.{restore_refusal_number};
+
+    /// The number of the refusal, which is none of [`pim_ip::Refusal`]: 50 to 55 for bytes, and then 56, 57 and 58.
+    pub fn number(self) -> u8
+        ensures { result ≡ restore_refusal_number self }
+    {
+        match self {
+            RestoreRefusal::Bytes(refusal) => refusal.number(),
+            RestoreRefusal::NotHeld => 56,
+            RestoreRefusal::NotSettled => 57,
+            RestoreRefusal::NotQuiet => 58,
+        }
+    }
+}

@@ -1,0 +1,96 @@
+//! The world and the forwarding cache of saved bytes.
+ghost use Rattle.std.specs.Prelude.{◌≡◌, Err, IfErr, IfOk, Ok};
+ghost use Rattle.pim_locality.specs.Rest.{IsAtRest};
+ghost use Rattle.pim_model.specs.Limits.{config_test};
+ghost use Rattle.pim_restored.specs.Reload.{config_of};
+ghost use Rattle.pim_fanout.specs.Refreshing.{IsUncounted};
+ghost use Rattle.pim_ip.specs.declared.fault.Fault.{Fault};
+ghost use Rattle.pim_mfc.specs.Laws.{ShowsRows};
+ghost use Rattle.pim_model.specs.Cache.{cached};
+ghost use Rattle.pim_ready.specs.Ready.{IsOrdered};
+ghost use Rattle.pim_saved.specs.Reading.{reading};
+ghost use Rattle.pim_saver.specs.Views.{state_view};
+ghost use Rattle.pim_rested.specs.Resuming.{IsResumable, restore_test, resume_test};
+
+use crate::quiet::is_quiet;
+use crate::refusal::RestoreRefusal;
+use crate::settings::has_settings;
+use pim_fanout::Cache;
+use pim_refilled::{is_settled, recall_held, world_of};
+use pim_saver::{ReadFault, SavedState, read_state};
+use pim_types::Fault;
+use pim_world::{Meter, World};
+use std::alloc::Global;
+
+/// What a router keeps of its state: its world, and the forwarding cache with a row for each source that has a fact.
+#[derive(Drop)]
+pub struct Resumed {
+    pub world: World,
+    pub cache: Cache,
+}
+
+// The world of a state that was read, where a router can be in it; or the first test that fails.
+#[tactic(auto, unfolding(crate::specs::Resuming::resume_test))]
+fn tested_world(
+    alloc: Global,
+    state: &SavedState,
+    meter: &mut Meter,
+) -> Result<Result<World, RestoreRefusal>, Fault>
+    ensures made { IfOk result (λ made. IfOk made (λ world. IsOrdered (state_view state.now)
+        → (world ≡ state_view state.now) × (resume_test (state_view state.now) ≡ Ok tt))) }
+    ensures refused { IfOk result (λ made. IfErr made (λ refusal. IsOrdered (state_view state.now)
+        → resume_test (state_view state.now) ≡ Err refusal)) }
+    ensures memory { IfErr result (λ fault. fault ≡ Fault.Memory) }
+{
+    let Some(world) = world_of(alloc, state, meter)? else {
+        return Ok(Err(RestoreRefusal::NotHeld));
+    };
+    if !has_settings(&world) {
+        return Ok(Err(RestoreRefusal::NotHeld));
+    }
+    if !is_settled(&world) {
+        return Ok(Err(RestoreRefusal::NotSettled));
+    }
+    if !is_quiet(&world, meter) {
+        return Ok(Err(RestoreRefusal::NotQuiet));
+    }
+    Ok(Ok(world))
+}
+
+/// The world that these bytes say, with its forwarding cache, where a router can be in that state; or the first test
+/// that fails. The meter rises by the nodes visited. The fault is want of memory.
+pub fn resumed(
+    alloc: Global,
+    bytes: &[u8],
+    meter: &mut Meter,
+) -> Result<Result<Resumed, RestoreRefusal>, Fault>
+    ensures world { IfOk result (λ made. IfOk made (λ r. reading bytes.now ≡ Ok r.world)) }
+    ensures tested { IfOk result (λ made. IfOk made (λ r. restore_test bytes.now ≡ Ok tt)) }
+    ensures resumable { IfOk result (λ made. IfOk made (λ r. IsResumable r.world)) }
+    ensures shown { IfOk result (λ made. IfOk made (λ r. ShowsRows r.cache.mfc.rows (cached r.world))) }
+    ensures uncounted { IfOk result (λ made. IfOk made (λ r. IsUncounted r.cache)) }
+    ensures refused { IfOk result (λ made. IfErr made (λ refusal. restore_test bytes.now ≡ Err refusal)) }
+    ensures memory { IfErr result (λ fault. fault ≡ Fault.Memory) }
+{
+    let state = match read_state(alloc, bytes) {
+        Ok(state) => state,
+        Err(ReadFault::Memory) => return Err(Fault::Memory),
+        Err(ReadFault::Refused(refusal)) => return Ok(Err(RestoreRefusal::Bytes(refusal))),
+    };
+    let world = match tested_world(alloc, &state, meter)? {
+        Ok(world) => world,
+        Err(refusal) => return Ok(Err(refusal)),
+    };
+    let cache = Cache::of(alloc, &world, meter)?;
+    Ok(Ok(Resumed { world, cache }))
+}
+
+/// For the proof: a world at rest under an accepted configuration is in a state that a router can be in. Does nothing
+/// when it runs.
+pub fn recall_resumable(world: &World)
+    requires accepted { config_test (config_of world.now) ≡ Ok tt }
+    requires rest { IsAtRest world.now }
+    ensures { IsResumable world.now }
+{
+    recall_held(world);
+}

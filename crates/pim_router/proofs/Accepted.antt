@@ -1,0 +1,31 @@
+-- A router stays under a configuration that is accepted.
+use Rattle.std.proofs.Common.{◌≡◌, ℕ, Ok, Result, subst, sym}
+use Rattle.std.proofs.lemmas.Result.{on_ok_weaker}
+use Rattle.std.specs.Prelude.{OnOk}
+use Rattle.pim_types.specs.declared.config.Config.{Config}
+use Rattle.pim_types.specs.declared.event.Event.{Event}
+use Rattle.pim_model.specs.Limits.{config_test}
+use Rattle.pim_model.specs.State.{State, opening, settings_of}
+use Rattle.pim_model.specs.Step.{step}
+use Rattle.pim_offload.specs.Keeping.{kept_until}
+use Rattle.pim_restored.proofs.Accepted.{accepted_stays}
+use Rattle.pim_restored.specs.Reload.{config_of}
+
+abbrev IsAccepted : State → Type 0
+IsAccepted s = config_test (config_of s) ≡ Ok tt
+
+-- the opening is under the configuration that it opens with
+pub opening_accepted : (c : Config) (s : State) → config_test c ≡ Ok tt → s ≡ opening c → IsAccepted s
+unfolding config_of opening settings_of
+opening_accepted c s accepted opens = subst IsAccepted (sym opens) accepted
+
+-- an event that is taken leaves the state under one
+pub accepted_next : {A E : Type 0} (s n : State) (e : Event) (r : Result A E) → IsAccepted s
+    → OnOk r (n ≡ (step s e).state) → OnOk r (IsAccepted n)
+accepted_next s n e r accepted is =
+    on_ok_weaker r (λ same. subst IsAccepted (sym same) (accepted_stays s e accepted)) is
+
+-- a later end of KAT(S,G) leaves the configuration as it is
+pub kept_accepted : (s : State) (g src end : ℕ) (n : State) → n ≡ kept_until s g src end → IsAccepted s → IsAccepted n
+unfolding config_of kept_until
+kept_accepted s g src end n is accepted = subst IsAccepted (sym is) accepted

@@ -1,0 +1,71 @@
+//! A router's state as bytes, and a router made of them.
+ghost use Rattle.std.specs.Prelude.{◌≡◌, ◌++◌, ◌↔◌, Err, IfErr, IfOk, IfSome, IsOkUnless, None, Ok, OnErr, OnOk};
+ghost use Rattle.pim_ip.specs.declared.fault.Fault.{Fault};
+ghost use Rattle.pim_model.specs.State.{State};
+ghost use Rattle.pim_rested.specs.Resuming.{IsResumable, restore_test};
+ghost use Rattle.pim_router.specs.Standing.{begun};
+ghost use Rattle.pim_saved.specs.Fits.{FitsState};
+ghost use Rattle.pim_saved.specs.Reading.{reading};
+ghost use Rattle.pim_saved.specs.Text.{text};
+
+use super::Router;
+use crate::probes::Probes;
+use pim_fanout::Cache;
+use pim_messages::Room;
+use pim_refilled::write_world;
+use pim_rested::{Resumed, RestoreRefusal, recall_resumable, resumed};
+use pim_types::Fault;
+use std::alloc::Global;
+
+impl Router {
+    /// Adds the bytes of the router's state after those that are there: the one text of the state, of which `restore`
+    /// makes a router that is in this state. After a fault the bytes are as they were. The only fault of a router that
+    /// hasn't failed is want of memory.
+    pub fn save(&self, out: &mut Vec<u8>) -> Result<(), Fault>
+        ensures saved { IfSome self.now.standing (λ r. OnOk result (out.new.items ≡ out.old.items ++ text r.state)) }
+        ensures fitting { IfSome self.now.standing (λ r. OnOk result (FitsState r.state)) }
+        ensures resumable { IfSome self.now.standing (λ r. IsResumable r.state) }
+        ensures silent { OnErr result (out.new.items ≡ out.old.items) }
+        ensures failed { (result ≡ Err Fault.Failed) ↔ (self.now.standing ≡ None) }
+        ensures fault { IfSome self.now.standing (λ r. IsOkUnless result Fault.Memory) }
+    {
+        if self.failed {
+            return Err(Fault::Failed);
+        }
+        recall_resumable(&self.world);
+        let mut outside = self.probes.outside();
+        let mut bytes = Vec::new(self.room.alloc);
+        write_world(&self.world, &mut bytes, &mut outside.meter)?;
+        out.append(&mut bytes)?;
+        Ok(())
+    }
+
+    /// The router that is in the state that these bytes say: they are those of `save`, and of a router that hasn't
+    /// failed. It goes on as that one would: it begins no event and sends nothing. `copies`, `probes`, `touched` and
+    /// `changed` are those of a new router. Other bytes are refused for the first test that fails. The fault is want of
+    /// memory.
+    pub fn restore(alloc: Global, bytes: &[u8]) -> Result<Result<Router, RestoreRefusal>, Fault>
+        ensures restored { IfOk result (λ made. IfOk made (λ router. (s : State) → reading bytes.now ≡ Ok s
+            → router ≡ begun s)) }
+        ensures tested { IfOk result (λ made. IfOk made (λ router. restore_test bytes.now ≡ Ok tt)) }
+        ensures refused { IfOk result (λ made. IfErr made (λ refusal. restore_test bytes.now ≡ Err refusal)) }
+        ensures memory { IfErr result (λ fault. fault ≡ Fault.Memory) }
+    {
+        let probes = Probes::new();
+        let made = {
+            let mut outside = probes.outside();
+            resumed(alloc, bytes, &mut outside.meter)?
+        };
+        match made {
+            Ok(Resumed { world, cache }) => Ok(Ok(Router {
+                failed: false,
+                world,
+                cache,
+                room: Room::new(alloc),
+                copies: 0,
+                probes,
+            })),
+            Err(refusal) => Ok(Err(refusal)),
+        }
+    }
+}
