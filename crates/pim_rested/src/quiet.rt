@@ -69,7 +69,7 @@ fn source_goes(world: &World, sight: &SourceSight, iface: IfaceId, row: AssertRo
 }
 
 // Whether the assert must go.
-#[tactic(auto, unfolding(pim_model::specs::Clearing::assert_must_go, pim_model::specs::Clearing::loser_must_go))]
+#[tactic(auto, unfolding(pim_model::specs::Clearing::assert_must_go))]
 fn assert_goes(world: &World, key: Key, row: AssertRow, meter: &mut Meter) -> bool
     requires { nat_lt (iface_in key) 120 ≡ true }
     ensures { result ≡ assert_must_go world.now world.now (key, row) }
