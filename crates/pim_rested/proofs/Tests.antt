@@ -41,7 +41,7 @@ four true true false d e = cc
 four true false c d e = cc
 four false b c d e = cc
 
-all_four : (a b c d : Bool) → a ≡ true → b ≡ true → c ≡ true → d ≡ true → all_pass (a ∷ b ∷ c ∷ d ∷ []) ≡ true
+pub all_four : (a b c d : Bool) → a ≡ true → b ≡ true → c ≡ true → d ≡ true → all_pass (a ∷ b ∷ c ∷ d ∷ []) ≡ true
 all_four true true true true f g h i = refl
 all_four true true true false f g h i = cc
 all_four true true false d f g h i = cc
