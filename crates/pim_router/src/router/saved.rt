@@ -10,6 +10,7 @@ ghost use Rattle.pim_saved.specs.Text.{text};
 
 use super::Router;
 use crate::probes::Probes;
+use pim_event::Replaced;
 use pim_fanout::Cache;
 use pim_messages::Room;
 use pim_refilled::write_world;
