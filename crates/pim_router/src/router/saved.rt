@@ -10,10 +10,11 @@ ghost use Rattle.pim_saved.specs.Text.{text};
 
 use super::Router;
 use crate::probes::Probes;
+use pim_event::Replaced;
 use pim_fanout::Cache;
 use pim_messages::Room;
 use pim_refilled::write_world;
-use pim_rested::{Resumed, RestoreRefusal, recall_resumable, resumed};
+use pim_rested::{RestoreRefusal, Resumed, recall_resumable, resumed};
 use pim_types::Fault;
 use std::alloc::Global;
 
