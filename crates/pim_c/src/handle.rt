@@ -179,14 +179,21 @@ impl Handle {
         answer
     }
 
+    // Puts a session in, in place of the one in the handle, which is freed.
+    fn renew(&mut self, alloc: Global, made: Box<Session>)
+        ensures { self.new.place.inside ≡ Some made.value }
+    {
+        let _ended = self.take(alloc);
+        self.put(made);
+    }
+
     /// Makes a router of a configuration, in place of the one in the handle. The result is the number of the answer.
     pub fn make(&mut self, alloc: Global, config: Config) -> u32
         ensures { Made self.old.place.inside config result self.new.place.inside }
     {
         match boxed(alloc, config) {
             Ok(Ok(session)) => {
-                let _ended = self.take(alloc);
-                self.put(session);
+                self.renew(alloc, session);
                 DONE
             }
             Ok(Err(refusal)) => u32::from(refusal.number()),
@@ -200,8 +207,7 @@ impl Handle {
     {
         match restored(alloc, bytes) {
             Ok(Ok(session)) => {
-                let _ended = self.take(alloc);
-                self.put(session);
+                self.renew(alloc, session);
                 DONE
             }
             Ok(Err(refusal)) => u32::from(refusal.number()),
