@@ -12,7 +12,7 @@ use crate::trouble::Trouble;
 use igmp_older::Presence;
 use pim_net::{Move, Net, NetLog, Node, Router, Wire};
 use pim_scenario::{RouterText, ScenarioMove};
-use pim_types::{Emission, Event, Fault, Outcome, Series, Table};
+use pim_types::{Emission, Event, Fault, Outcome, Series, Table, Verdict};
 use std::alloc::{AllocError, Global};
 
 /// How many deliveries one settle makes at most.
@@ -101,7 +101,26 @@ impl<W: Wire> Lab<W> {
                 self.step(number, router, step, lines)
             }
             ScenarioMove::Settle { draw } => self.settle(number, draw, lines),
+            ScenarioMove::Restart { router } => self.restart(number, router, lines),
         }
+    }
+
+    // Saves a router, and makes it anew of its bytes. Its front stays.
+    fn restart(
+        &mut self,
+        number: usize,
+        router: usize,
+        lines: &mut Lines,
+    ) -> Result<(), Trouble>
+        ensures { IfErr result (λ t. IsFault t) }
+    {
+        self.net.restart(router)?;
+        let outcome = Outcome {
+            answer: Ok(Verdict::Done),
+            emissions: Series::new(self.alloc),
+            copies: 0,
+        };
+        self.print_with_tables(number, router, outcome, lines)
     }
 
     // An event at a router, behind its front.
@@ -147,10 +166,24 @@ impl<W: Wire> Lab<W> {
         ensures { IfErr result (λ t. IsFault t) }
     {
         for outcome in log {
-            self.print(number, router, outcome, lines)?;
-            if self.tables_each {
-                self.print_tables_at(router, lines)?;
-            }
+            self.print_with_tables(number, router, outcome, lines)?;
+        }
+        Ok(())
+    }
+
+    // What became of a move, with the tables if they are printed.
+    fn print_with_tables(
+        &mut self,
+        number: usize,
+        router: usize,
+        outcome: Outcome,
+        lines: &mut Lines,
+    ) -> Result<(), Trouble>
+        ensures { IfErr result (λ t. IsFault t) }
+    {
+        self.print(number, router, outcome, lines)?;
+        if self.tables_each {
+            self.print_tables_at(router, lines)?;
         }
         Ok(())
     }

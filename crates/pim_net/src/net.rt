@@ -1,5 +1,5 @@
 //! A network over a wire: moves in, outcomes out.
-ghost use Rattle.std.specs.Prelude.{Err, IfErr, IfNone, IfOk, IfSome, IsOk, IsSome, List, None, Ok, OnOk, Some, [], get_or, is_some, map, option_map, true, ℕ, ◌↔◌, ◌≡◌};
+ghost use Rattle.std.specs.Prelude.{Err, IfErr, IfNone, IfOk, IfSome, IsOk, IsOkUnless, IsSome, List, None, Ok, OnOk, Some, [], get_or, is_some, map, option_map, true, ℕ, ◌↔◌, ◌≡◌};
 ghost use Rattle.pim_ip.specs.declared.fault.Fault.{Fault};
 ghost use Rattle.pim_asked.specs.Networks.{MovesAreAsked};
 ghost use Rattle.pim_model.specs.Network.{network, network_ran, nodes_test};
@@ -113,6 +113,19 @@ impl<W: Wire> Net<W> {
         );
         self.failed = matches!(ran, Err(Fault::Memory));
         ran
+    }
+
+    /// Saves a router, counted from 0, and puts one that is made of its bytes in its place: nothing is sent, and the net
+    /// is as it was, also after a fault. An unknown router is left alone. The only fault of a net that works is want of
+    /// memory.
+    pub fn restart(&mut self, router: usize) -> Result<(), Fault>
+        ensures same { self.new ≡ self.old }
+        ensures fault { IfSome self.old.network (λ n. IsOkUnless result Fault.Memory) }
+    {
+        if self.failed {
+            return Err(Fault::Failed);
+        }
+        self.network.restart(router)
     }
 
     /// Router `n`, counted from 0. `None` for an unknown one, and once an allocation failed in a run. Takes no memory.

@@ -165,6 +165,18 @@ impl Network {
         )
     }
 
+    /// Puts a router that is made of the bytes of a router's state in its place. An unknown router is left alone. The
+    /// error is want of memory.
+    pub(crate) fn restart(&mut self, router: usize) -> Result<(), Fault>
+        ensures same { self.new ≡ self.old }
+        ensures fault { IfSome self.old (λ net. IsOkUnless result Fault.Memory) }
+    {
+        if router >= self.stations.len() {
+            return Ok(());
+        }
+        self.stations[router].restart(self.alloc)
+    }
+
     /// What comes to a router, as an event. The error is want of memory.
     pub(crate) fn receive(
         &mut self,

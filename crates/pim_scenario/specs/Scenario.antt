@@ -17,7 +17,7 @@ use Rattle.igmp_older.specs.declared.setting.OlderHosts.{OlderHosts}
 use Rattle.pim_scenario.specs.declared.scenario.Link.{Link}
 use Rattle.pim_scenario.specs.declared.scenario.RouterText.{RouterText}
 use Rattle.pim_scenario.specs.declared.scenario.ScenarioMove.{ScenarioMove}
-use Rattle.pim_scenario.specs.declared.scenario.ScenarioMove.TheVariants.{Event, Deliver, Carry, Settle}
+use Rattle.pim_scenario.specs.declared.scenario.ScenarioMove.TheVariants.{Event, Deliver, Carry, Restart, Settle}
 use Rattle.pim_scenario.specs.declared.scenario.Scenario.{Scenario}
 use Rattle.pim_scenario.specs.Fields.{has_only, text_at, optional_text, number_at, number_or, moment_at, list_at, list_or_empty}
 use Rattle.pim_scenario.specs.Texts.{IsNumberText, IsAddressText, IsPrefixText, hex_of}
@@ -188,6 +188,9 @@ carry_keys = codes "do" ∷ codes "router" ∷ codes "draw" ∷ codes "frame" �
 abbrev pub settle_keys : List (List ℕ)
 settle_keys = codes "do" ∷ codes "draw" ∷ []
 
+abbrev pub restart_keys : List (List ℕ)
+restart_keys = codes "do" ∷ codes "router" ∷ []
+
 abbrev pub bytes_at : Members → Option (List ℕ)
 bytes_at ms = option_and_then hex_of (text_at (codes "hex") ms)
 
@@ -269,13 +272,18 @@ abbrev pub IsSettle : Members → ScenarioMove → Type 0
 IsSettle ms (Settle draw) = (has_only settle_keys ms ≡ true) × (draw_at ms ≡ Some draw)
 IsSettle ms _ = ⊥
 
+abbrev pub IsRestart : List RouterText → Members → ScenarioMove → Type 0
+IsRestart routers ms (Restart router) = (has_only restart_keys ms ≡ true) × (router_at routers ms ≡ Some router)
+IsRestart routers ms _ = ⊥
+
 -- what the scenario asks for, by the name at `do`
 abbrev pub IsMove : List RouterText → Members → ScenarioMove → Type 0
 IsMove routers ms m =
     IsNamed (codes "deliver") (IsDeliver routers) ms m
     ⊎ (IsNamed (codes "carry") (IsCarry routers) ms m
     ⊎ (IsNamed (codes "settle") IsSettle ms m
-    ⊎ IsEvent routers ms m))
+    ⊎ (IsNamed (codes "restart") (IsRestart routers) ms m
+    ⊎ IsEvent routers ms m)))
 
 -- ---- the scenario
 

@@ -67,6 +67,10 @@ pub enum ScenarioMove {
     Settle {
         draw: u32,
     },
+    /// A router is saved, and one that is made of its bytes takes its place.
+    Restart {
+        router: usize,
+    },
 }
 
 /// The content of a scenario file.

@@ -5,7 +5,7 @@ ghost use Rattle.std.specs.Result.{result_ok};
 ghost use Rattle.toml.specs.View.{view, table_view};
 ghost use Rattle.pim_scenario.specs.Fields.{number_at};
 ghost use Rattle.pim_scenario.specs.Scenario.{IsAdvance, IsCarry, IsDeliver, IsDown, IsEvent, IsFrame, IsKind, IsMove};
-ghost use Rattle.pim_scenario.specs.Scenario.{IsRoutes, IsRps, IsSettle, IsTable, IsUnicast, IsUp, bytes_at, draw_at, router_at};
+ghost use Rattle.pim_scenario.specs.Scenario.{IsRestart, IsRoutes, IsRps, IsSettle, IsTable, IsUnicast, IsUp, bytes_at, draw_at, router_at};
 ghost use Rattle.pim_scenario.specs.Texts.{Reads, ReadsExactly};
 
 use super::{RouterText, ScenarioMove, Unread, Wrong, field, hex, router, routes};
@@ -39,6 +39,7 @@ pub(super) fn move_in(
         "deliver" => deliver_in(table, routers),
         "carry" => carry_in(table, routers),
         "settle" => settle_in(table),
+        "restart" => restart_in(table, routers),
         _ => event_in(alloc, table, routers),
     }
 }
@@ -72,6 +73,15 @@ fn settle_in(table: &Table) -> Result<ScenarioMove, Unread>
     field::only(table, &["do", "draw"])?;
     Ok(ScenarioMove::Settle {
         draw: draw_in(table)?,
+    })
+}
+
+fn restart_in(table: &Table, routers: &[RouterText]) -> Result<ScenarioMove, Unread>
+    ensures { ReadsExactly (IsRestart routers.now (table_view table.now)) result }
+{
+    field::only(table, &["do", "router"])?;
+    Ok(ScenarioMove::Restart {
+        router: router_of(table, routers)?,
     })
 }
 
