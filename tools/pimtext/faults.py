@@ -27,6 +27,7 @@ MOVE_KEYS = {
     "deliver": ["router", "iface", "frame", "draw"],
     "carry": ["router", "frame", "draw"],
     "settle": ["draw"],
+    "restart": ["router"],
 }
 ROUTE_FORM = '"PREFIX NEXTHOP IFACE PREFERENCE METRIC", as "10.1.0.0/24 10.0.0.1 0 110 20"'
 RP_FORM = '"PREFIX RP", as "239.0.0.0/8 10.0.0.1"'

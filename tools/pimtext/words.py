@@ -175,6 +175,8 @@ def move(did: dict[str, Any], router: Router | None, brought: Sent | None = None
             return f"takes on {place(router, did['iface'])}: packet {did['frame']}{of(brought)}"
         case "carry":
             return f"takes as a unicast: packet {did['frame']}{of(brought)}"
+        case "restart":
+            return "is saved, and made anew of its bytes"
     return did["do"]
 
 

@@ -123,9 +123,10 @@ impl<W: Wire> Net<W> {
         ensures fault { IfSome self.old.network (λ n. IsOkUnless result Fault.Memory) }
     {
         if self.failed {
-            return Err(Fault::Failed);
+            Err(Fault::Failed)
+        } else {
+            self.network.restart(router)
         }
-        self.network.restart(router)
     }
 
     /// Router `n`, counted from 0. `None` for an unknown one, and once an allocation failed in a run. Takes no memory.
