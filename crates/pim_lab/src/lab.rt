@@ -106,12 +106,7 @@ impl<W: Wire> Lab<W> {
     }
 
     // Saves a router, and makes it anew of its bytes. Its front stays.
-    fn restart(
-        &mut self,
-        number: usize,
-        router: usize,
-        lines: &mut Lines,
-    ) -> Result<(), Trouble>
+    fn restart(&mut self, number: usize, router: usize, lines: &mut Lines) -> Result<(), Trouble>
         ensures { IfErr result (λ t. IsFault t) }
     {
         self.net.restart(router)?;
