@@ -19,6 +19,7 @@ impl RestoreRefusal {
     ghost use Rattle.pim_rested.specs.Refused.{restore_refusal_number};
 
     /// The number of the refusal, which is none of [`pim_ip::Refusal`]: 50 to 55 for bytes, and then 56, 57 and 58.
+    #[tactic(auto, unfolding(crate::specs::Refused::restore_refusal_number))]
     pub fn number(self) -> u8
         ensures { result ≡ restore_refusal_number self }
     {
