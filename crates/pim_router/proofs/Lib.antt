@@ -1,4 +1,5 @@
 mod Accepted
 mod Offering
+mod Restored
 mod Runs
 mod Shown
