@@ -1,5 +1,4 @@
 mod Accepted
 mod Offering
-mod Restored
 mod Runs
 mod Shown
