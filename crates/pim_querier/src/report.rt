@@ -4,6 +4,7 @@ ghost use Rattle.pim_world.specs.Turns.{saying};
 ghost use Rattle.pim_model.specs.Querier.{is_skipped, record_seen, report_seen};
 ghost use Rattle.pim_model.specs.Records.{with_record};
 ghost use Rattle.pim_querier.specs.Changes.{applied};
+ghost use Rattle.pim_querier.specs.Reports.{AsksAlike};
 ghost use Rattle.igmp_wire.specs.Written.{bits_of};
 
 use crate::applying::{SeenRecord, apply};
@@ -40,7 +41,8 @@ fn apply_record(
     requires { iface.number < 120 }
     ensures state { OnOk result (world.new ≡ with_record world.old iface.number group_record.now.group
         (applied world.old iface.number group_record.now).0) }
-    ensures asked { IfOk result (λ asked. asked ≡ (applied world.old iface.number group_record.now).1) }
+    ensures asked { IfOk result (λ asked. AsksAlike world.old iface.number group_record.now.group
+        (applied world.old iface.number group_record.now) asked) }
 {
     let full = world.present() + group_membership_interval(world, iface);
     let sources = sources_of(alloc, group_record)?;
