@@ -61,6 +61,7 @@ impl Router {
                 failed: false,
                 world,
                 cache,
+                replaced: Replaced::none(),
                 room: Room::new(alloc),
                 copies: 0,
                 probes,
