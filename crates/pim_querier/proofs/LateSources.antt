@@ -1,6 +1,6 @@
 -- A record that asks for sources that it doesn't name. A query is of those alone whose timers expire late enough, so that
 -- the others need not be asked for.
-use Rattle.std.proofs.Common.{◌≡◌, ◌≤◌, ℕ, ◌==◌, ◌&&◌, ◌||◌, ◌++◌, Bool, true, false, not, nat_lt, cond, List, [], ◌∷◌, fold, map, option_and_then, Option, Some, None, is_some, eqb-true, append-nil, refl, ap, sym, subst, ◌∙◌, arith}
+use Rattle.std.proofs.Common.{◌≡◌, ℕ, ◌==◌, ◌&&◌, ◌||◌, ◌++◌, Bool, true, false, not, nat_lt, cond, List, [], ◌∷◌, fold, map, option_and_then, Option, Some, None, is_some, eqb-true, append-nil, refl, ap, sym, subst, ◌∙◌, arith}
 use Rattle.std.specs.Cmp.{second_so}
 use Rattle.std.specs.List.{AllByRecursion, filter}
 use Rattle.std.specs.List.Sorted.{IsStrictlySortedBy}
@@ -15,7 +15,7 @@ use Rattle.pim_types.specs.declared.fact.SourceRecordRow.{SourceRecordRow}
 use Rattle.pim_types.specs.Keys.{key_cmp, source_in, source_key}
 use Rattle.pim_model.specs.Messages.{Message}
 use Rattle.pim_model.specs.Querier.{each_in_turn, exceeds, group_end, last_member_query_time, lower_sources, query_asked, query_end, query_sources, robustness, send_sources, source_end}
-use Rattle.pim_model.specs.Records.{AskSources, Asked, Excluded, Fate, Gone, GroupRecord, Member, Until, apply_record, is_at_group, is_running, members_of, put_member, record_of, with_members, with_record, with_repeats_of_rows}
+use Rattle.pim_model.specs.Records.{Asked, Excluded, Fate, Gone, GroupRecord, Member, Until, apply_record, is_at_group, is_running, members_of, put_member, record_of, with_members, with_record, with_repeats_of_rows}
 use Rattle.pim_model.specs.State.{State}
 use Rattle.pim_model.specs.Tables.{Table, drop_where, is_among, is_empty_list, keys_in, put, row_at}
 use Rattle.pim_filters.specs.Asking.{asked_in_order}
@@ -27,7 +27,7 @@ use Rattle.pim_filters.proofs.Merging.{fate_among}
 use Rattle.pim_filters.proofs.Orders.{Rises, Rises-ascending, Rises-from_sorted, none_below, same_rising}
 use Rattle.pim_querier.specs.Reports.{AsksAlike, asks_named, keeps_others}
 use Rattle.pim_querier.proofs.NamedRecords.{all_among, among_filter, fates, gone_of, is_member, members_among, neither, record_made, rises_filtered, told}
-use Rattle.pim_querier.proofs.NamedSources.{anew_row, known, made, row_of}
+use Rattle.pim_querier.proofs.NamedSources.{anew_row, known, row_of}
 use Rattle.pim_querier.proofs.OneSource.{AreSources}
 use Rattle.pim_querier.proofs.Reported.{numbers_of_rows}
 use Rattle.pim_tables.proofs.RisingRows.{up_of_sorted}

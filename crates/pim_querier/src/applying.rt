@@ -279,28 +279,30 @@ fn asks_named(record_type: RecordType) -> bool
 }
 
 /// Applies a record of a report, on an interface below 120, with when its timers expire, in ms, if they are set. The
-/// result is the queries that the record requests, perhaps without sources that are then not queried, since their timers
-/// expire soon enough. If it deletes no source, the records of sources that it doesn't name aren't written. The meter
-/// rises by the nodes visited.
+/// result is the queries that the record requests, if the router sends them, perhaps without sources that are then not
+/// queried, since their timers expire soon enough. If the record deletes no source, the records of sources that it
+/// doesn't name aren't written, and they aren't read but for such queries. The meter rises by the nodes visited.
 pub fn apply(
     world: &mut World,
     meter: &mut Meter,
     alloc: Global,
     seen: SeenRecord,
     sources: &[Addr],
+    queries: bool,
 ) -> Result<Asking, AllocError>
     requires { seen.place.iface.number < 120 }
     ensures state { OnOk result (world.new ≡ with_record world.old seen.place.iface.number seen.place.group.bits
         (apply_record seen.full (record_of world.old seen.place.iface.number seen.place.group.bits) seen.record_type
         (bits_of sources.now)).0) }
-    ensures asked { IfOk result (λ asked. AsksAlike world.old seen.place.iface.number seen.place.group.bits
+    ensures asked { queries ≡ true → IfOk result (λ asked. AsksAlike world.old seen.place.iface.number
+        seen.place.group.bits
         (apply_record seen.full (record_of world.old seen.place.iface.number seen.place.group.bits) seen.record_type
         (bits_of sources.now)) asked) }
 {
     if !keeps_others(seen.record_type) {
         return apply_to_all(world, meter, alloc, seen, sources);
     }
-    if asks_named(seen.record_type) {
+    if asks_named(seen.record_type) || !queries {
         return apply_to_named(world, meter, alloc, seen, sources);
     }
     let asked = asked_of_running(world, alloc, seen, sources)?;

@@ -1,7 +1,5 @@
-use Rattle.std.proofs.Common.{◌≡◌, ap, filter, subst, sym, ◌∙◌}
+use Rattle.std.proofs.Common.{subst, sym}
 use Rattle.pim_filters.specs.Members.{IsAscending, member_entries}
-use Rattle.pim_model.specs.Querier.{exceeds, group_end}
-use Rattle.pim_model.specs.Records.{record_of}
 use Rattle.pim_querier.proofs.NamedRecords.{made_so}
 use Rattle.pim_querier.proofs.applying.record_past.Goals as goal
 
