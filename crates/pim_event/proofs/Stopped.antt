@@ -5,7 +5,7 @@ use Rattle.std.specs.Prelude.{if◌then◌else◌}
 use Rattle.pim_types.specs.declared.fact.Key.{Key}
 use Rattle.pim_types.specs.declared.fact.RegisterRow.{RegisterRow}
 use Rattle.pim_types.specs.declared.fact.RegisterState.{RegisterState}
-use Rattle.pim_types.specs.Keys.{group_in, is_of_group, source_key}
+use Rattle.pim_types.specs.Keys.{is_of_group, source_key}
 use Rattle.pim_wire.specs.declared.register.RegisterStop.{RegisterStop}
 use Rattle.pim_ip.specs.declared.addr.Addr.{Addr}
 use Rattle.pim_model.specs.Registers.{is_meant, register_stop_seen, state_after_stop}
@@ -28,8 +28,11 @@ module _ (g end : ℕ) where
   abbrev Rows : Type 0
   Rows = Table RegisterRow
 
-  abbrev stops : Key × RegisterRow → Bool
-  stops e = is_of_group g e.0 && is_stoppable (e.1).state
+  abbrev of_group : Rows → Rows
+  of_group t = filter (λ e. is_of_group g e.0) t
+
+  abbrev stopping : Rows → Rows
+  stopping t = filter (λ e. is_stoppable (e.1).state) t
 
   abbrev stopped : Key × RegisterRow → Key × RegisterRow
   stopped e = if is_meant g 0 e then (e.0, record { state = state_after_stop end (e.1).state }) else e
@@ -49,8 +52,8 @@ module _ (g end : ℕ) where
   head_same q x t u rest = ap (λ (v : Rows). cond (reads q x.0) (x ∷ v) v) rest
 
   stop_step : (q k : Key) (state : RegisterState) (t : Rows) (b : Bool) → is_of_group g k ≡ b
-      → list_any (reads q) (keys_in (cond (b && is_stoppable state) ((k, record { state = state }) ∷ filter stops t) (filter stops t))) ≡ false
-      → (list_any (reads q) (keys_in (filter stops t)) ≡ false → Unread q (map stopped t) t)
+      → list_any (reads q) (keys_in (stopping (cond b ((k, record { state = state }) ∷ of_group t) (of_group t)))) ≡ false
+      → (list_any (reads q) (keys_in (stopping (of_group t))) ≡ false → Unread q (map stopped t) t)
       → Unread q (map stopped ((k, record { state = state }) ∷ t)) ((k, record { state = state }) ∷ t)
   unfolding keys_in
   stop_step q k state t false is unread rest =
@@ -58,15 +61,15 @@ module _ (g end : ℕ) where
   stop_step q k (RegisterState.Prune old) t true is unread rest =
       rw is (head_same q (k, record { state = RegisterState.Prune old }) (map stopped t) t (rest unread))
   stop_step q k RegisterState.Join t true is unread rest =
-      let none = neither (reads q k) (list_any (reads q) (keys_in (filter stops t))) unread in
+      let none = neither (reads q k) (list_any (reads q) (keys_in (stopping (of_group t)))) unread in
       rw is (head_unread q (k, record { state = RegisterState.Prune end }) (k, record { state = RegisterState.Join })
       (map stopped t) t (reads q k) refl none.0 refl (rest none.1))
   stop_step q k (RegisterState.JoinPending old) t true is unread rest =
-      let none = neither (reads q k) (list_any (reads q) (keys_in (filter stops t))) unread in
+      let none = neither (reads q k) (list_any (reads q) (keys_in (stopping (of_group t)))) unread in
       rw is (head_unread q (k, record { state = RegisterState.Prune end }) (k, record { state = RegisterState.JoinPending old })
       (map stopped t) t (reads q k) refl none.0 refl (rest none.1))
 
-  stop_unread : (q : Key) (t : Rows) → list_any (reads q) (keys_in (filter stops t)) ≡ false → Unread q (map stopped t) t
+  stop_unread : (q : Key) (t : Rows) → list_any (reads q) (keys_in (stopping (of_group t))) ≡ false → Unread q (map stopped t) t
   stop_unread q [] unread = refl
   stop_unread q (e ∷ t) unread =
       stop_step q e.0 (e.1).state t (is_of_group g e.0) refl unread (stop_unread q t)

@@ -13,7 +13,8 @@ is_stoppable _ = true
 
 -- The keys of those of the group's registers that a Register-Stop changes.
 unfoldable pub stoppable_keys : State → ℕ → List Key
-stoppable_keys s g = keys_in (filter (λ e. is_of_group g e.0 && is_stoppable (e.1).state) s.registers)
+stoppable_keys s g =
+    keys_in (filter (λ e. is_stoppable (e.1).state) (filter (λ e. is_of_group g e.0) s.registers))
 
 -- The keys that a Register-Stop touches: the source that it names. One of 0.0.0.0, which is for all sources of the
 -- group, touches those of which it changes the register, or all where these are more than 256.

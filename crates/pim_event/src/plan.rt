@@ -372,6 +372,7 @@ fn is_stoppable(state: RegisterState) -> bool
 }
 
 // The keys of those of the group's registers that a Register-Stop changes.
+#[tactic(auto, unfolding(pim_model::specs::Tables::keys_in, crate::specs::Tunnels::stoppable_keys))]
 fn stoppable_keys(world: &World, alloc: Global, group: Addr) -> Result<Vec<Key>, AllocError>
     ensures { IfOk result (λ keys. keys.items ≡ stoppable_keys world.now group.bits) }
 {
