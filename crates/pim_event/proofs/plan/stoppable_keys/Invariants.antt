@@ -1,5 +1,4 @@
-use Rattle.std.proofs.Common.{◌≡◌, ◌++◌, ◌&&◌, filter}
-use Rattle.pim_types.specs.Keys.{is_of_group}
+use Rattle.std.proofs.Common.{◌≡◌, ◌++◌, filter}
 use Rattle.pim_model.specs.Tables.{keys_in}
 use Rattle.pim_event.specs.Tunnels.{is_stoppable, stoppable_keys}
 use Rattle.pim_event.proofs.plan.stoppable_keys.Given as goal
