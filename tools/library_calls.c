@@ -91,6 +91,9 @@ static void without_a_router(void) {
     is("keep without a router", viq_keep(NULL, 0x0a000305, 0xe1010101, 1), VIQ_NO_ROUTER);
     is("probes without a router", viq_probes(NULL), 0);
     is("touched without a router", viq_touched(NULL), 0);
+    size_t size = 7;
+    is("save without a router", viq_save(NULL, room, 2, &size), VIQ_NO_ROUTER);
+    is("what isn't written of it", size == 7 && room[0] == 7 && room[1] == 7, true);
     viq_end(NULL);
 }
 
@@ -558,13 +561,108 @@ static void older_versions(void) {
     viq_end(router);
 }
 
+/* ---- saved and restored */
+
+static uint8_t saved[4096], again[4096];
+
+/* Whether bytes are refused; a router of them is ended. */
+static uint32_t restored(const uint8_t *bytes, size_t length) {
+    struct viq_router *router = (struct viq_router *)&wrong;
+    uint32_t answer = viq_restore(&router, VIQ_ABI, bytes, length);
+    is("a router where there is one", router != NULL, answer == VIQ_DONE);
+    viq_end(router);
+    return answer;
+}
+
+static void sizes(struct viq_router *router) {
+    size_t size = 7, other = 7;
+    is("the size", viq_save(router, NULL, 0, &size), VIQ_DONE);
+    is("it fits", size > 100 && size < sizeof saved, true);
+    memset(saved, 7, sizeof saved);
+    is("save into too little", viq_save(router, saved, 6, &other), VIQ_DONE);
+    is("the same size", other, size);
+    is("as many as fit", memcmp(saved, "VQST\0\1", 6) == 0 && saved[6] == 7, true);
+    is("save into more", viq_save(router, saved, sizeof saved, &other), VIQ_DONE);
+    is("the same size again", other, size);
+    is("the rest stays", saved[size], 7);
+    is("save again", viq_save(router, again, size, &other), VIQ_DONE);
+    is("the same bytes", memcmp(saved, again, size), 0);
+}
+
+/* What a router goes on with is what one sends that was never saved. */
+static void goes_on(struct viq_router *router) {
+    struct viq_router *other = NULL;
+    struct viq_forwarding told;
+    size_t size = 0, size_again = 0;
+    is("save", viq_save(router, saved, sizeof saved, &size), VIQ_DONE);
+    is("restore", viq_restore(&other, VIQ_ABI, saved, size), VIQ_DONE);
+    is("nothing to send", viq_packets(other), 0);
+    is("no rows", viq_rows(other), 0);
+    is("no costs", viq_probes(other) + viq_touched(other), 0);
+    is("nothing changed", viq_changed(other), 0);
+    is("nothing may differ", viq_may_differ(other, 0x0a000305, 0xe1010101), false);
+    is("the same next moment", viq_next_moment(other), viq_next_moment(router));
+    is("its forwarding cache", viq_cached(other, 0x0a000305, 0xe1010101, &told) && told.immediate.low == 1 << 1, true);
+    is("data of the saved one", frame(router, 0, data), VIQ_DONE);
+    is("data of the restored one", frame(other, 0, data), VIQ_DONE);
+    is("copies of both", viq_copies(router) == 1 && viq_copies(other) == 1, true);
+    is("time of the saved one", viq_advance(router, 100000, viq_draw(9)), VIQ_DONE);
+    is("time of the restored one", viq_advance(other, 100000, viq_draw(9)), VIQ_DONE);
+    is("packets of both", viq_packets(router), viq_packets(other));
+    is("save of the saved one", viq_save(router, saved, sizeof saved, &size), VIQ_DONE);
+    is("save of the restored one", viq_save(other, again, sizeof again, &size_again), VIQ_DONE);
+    is("the same state", size == size_again && memcmp(saved, again, size) == 0, true);
+    is("older hosts, which it may hear", viq_older(other, 1, VIQ_OLDER_ALL), VIQ_DONE);
+    viq_end(other);
+}
+
+/* Bytes of no router. */
+static void refused_bytes(struct viq_router *router) {
+    struct viq_router *other = (struct viq_router *)&wrong;
+    size_t size = 0;
+    is("save for what is refused", viq_save(router, saved, sizeof saved, &size), VIQ_DONE);
+    is("no bytes", restored(NULL, 0), VIQ_CUT_SHORT);
+    is("one byte", restored(saved, 1), VIQ_CUT_SHORT);
+    for (size_t length = 0; length < size; length++) is("cut short", restored(saved, length), VIQ_CUT_SHORT);
+    saved[size] = 0;
+    is("one byte more", restored(saved, size + 1), VIQ_LEFT_OVER);
+    saved[0] ^= 1;
+    is("another beginning", restored(saved, size), VIQ_NOT_OURS);
+    saved[0] ^= 1;
+    saved[5] = 2;
+    is("another version", restored(saved, size), VIQ_OTHER_VERSION);
+    saved[5] = 1;
+    saved[10] = 2;
+    is("no such switch", restored(saved, size), VIQ_OUT_OF_RANGE);
+    saved[10] = 0;
+    memset(saved + 6, 0, 4);
+    is("no limit", restored(saved, size), VIQ_NOT_HELD);
+    saved[7] = 1;
+    is("as it was", restored(saved, size), VIQ_DONE);
+    is("another ABI", viq_restore(&other, VIQ_ABI + 1, saved, size), VIQ_OTHER_ABI);
+    is("no router of it", other == NULL, true);
+}
+
+static void saved_routers(void) {
+    struct viq_router *router = NULL;
+    is("new that is saved", made(&router, &usual), VIQ_DONE);
+    sizes(router);
+    refused_bytes(router);
+    moments_and_interfaces(router);
+    packets(router);
+    sizes(router);
+    refused_bytes(router);
+    goes_on(router);
+    viq_end(router);
+}
+
 static void texts(void) {
     is("the version", strncmp(viq_version(), VIQ_VERSION " ", sizeof VIQ_VERSION), 0);
     is("how it was built", strstr(viq_version(), "proved") != NULL, true);
     is("done", strcmp(viq_answer_text(VIQ_DONE), "done"), 0);
     is("no answer", strcmp(viq_answer_text(10), "no answer of this library"), 0);
     is("refused", viq_is_refused(VIQ_FULL) && viq_is_refused(38) && !viq_is_refused(VIQ_DONE) && !viq_is_refused(VIQ_MEMORY), true);
-    is("ignored", viq_is_ignored(VIQ_OWN) && viq_is_ignored(VIQ_ALREADY) && !viq_is_ignored(VIQ_NO_TIMER) && !viq_is_ignored(VIQ_IGNORED), true);
+    is("ignored", viq_is_ignored(VIQ_OWN) && viq_is_ignored(VIQ_ALREADY) && !viq_is_ignored(VIQ_NO_TIMER) && !viq_is_ignored(VIQ_NOT_QUIET) && !viq_is_ignored(VIQ_IGNORED), true);
     is("lost", viq_is_lost(VIQ_LOST) && viq_is_lost(VIQ_FAILED) && !viq_is_lost(VIQ_MEMORY), true);
     is("the last reason", strcmp(viq_answer_text(VIQ_ALREADY), viq_answer_text(VIQ_ALREADY + 1)) != 0, true);
 }
@@ -584,6 +682,7 @@ int main(void) {
     full();
     moved_sources();
     older_versions();
+    saved_routers();
     texts();
     is("the other's moment", viq_next_moment(other), VIQ_NEVER);
     is("the other's packets", viq_packets(other), 0);

@@ -44,6 +44,19 @@ uint32_t viq_new(struct viq_router **router, uint32_t abi, const struct viq_sett
     return answer;
 }
 
+uint32_t viq_restore(struct viq_router **router, uint32_t abi, const uint8_t *bytes, size_t length) {
+    struct viq_core core = {NULL, false};
+    *router = NULL;
+    if (abi != VIQ_ABI) return VIQ_OTHER_ABI;
+    uint32_t answer = viq_core_restore(&core, bytes, length);
+    if (core.is_there) *router = (struct viq_router *)core.place;
+    return answer;
+}
+
+uint32_t viq_save(const struct viq_router *router, uint8_t *room, size_t room_length, size_t *size) {
+    return viq_core_save(CORE(router), room, room_length, size);
+}
+
 void viq_end(struct viq_router *router) { viq_core_end(CORE(router)); }
 
 uint32_t viq_advance(struct viq_router *router, uint64_t moment, struct viq_draw draw) {

@@ -45,6 +45,15 @@ const char *viq_answer_text(uint32_t answer) {
     case VIQ_NO_TIMER: return "no keepalive timer of the source runs";
     case VIQ_OTHER_ABI: return "the program was compiled for another version of the library";
     case VIQ_NO_SETTING: return "no setting has this number";
+    case VIQ_NOT_OURS: return "the bytes are no saved state";
+    case VIQ_OTHER_VERSION: return "the state was saved in another version of its format";
+    case VIQ_CUT_SHORT: return "the saved state is cut short";
+    case VIQ_OUT_OF_RANGE: return "a flag or a tag of the saved state is none that there is";
+    case VIQ_KEYS_DONT_RISE: return "the keys of a table of the saved state don't rise";
+    case VIQ_LEFT_OVER: return "bytes follow the saved state";
+    case VIQ_NOT_HELD: return "no router has the saved configuration, or a fact under such a key";
+    case VIQ_NOT_SETTLED: return "a timer of the saved state has expired, or a fact is of an interface that is down";
+    case VIQ_NOT_QUIET: return "an assert or an SPTbit of the saved state would go, or a register isn't as it has to be";
     case VIQ_OWN: return "ignored: the router's own packet";
     case VIQ_NOT_FOR_ME: return "ignored: not for this router";
     case VIQ_OTHER_TYPE: return "ignored: a PIM message of another type";

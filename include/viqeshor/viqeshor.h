@@ -63,9 +63,9 @@ extern "C" {
 #define VIQ_VERSION_PATCH 0
 
 /* The number of what a compiled program and a library have to agree on: the values, the calls and the numbers of this
- * header and of plane.h. Wherever one of them changes, this number changes. A program passes it to viq_new, which
- * refuses any other. */
-#define VIQ_ABI 2
+ * header and of plane.h. Wherever one of them changes, this number changes. A program passes it to viq_new and
+ * viq_restore, which refuse any other. */
+#define VIQ_ABI 3
 
 /* The library's number: VIQ_ABI as it was built with. */
 uint32_t viq_abi(void);
@@ -73,7 +73,7 @@ uint32_t viq_abi(void);
 /* The version of the library, a blank, and `proved` or `not proved`: how it was built. */
 const char *viq_version(void);
 
-/* A router. Whoever made it by viq_new frees it by viq_end. */
+/* A router. Whoever made it by viq_new or viq_restore frees it by viq_end. */
 struct viq_router;
 
 /* A draw. It has a type of its own, so that a compiler finds another number of an event in its place. */
@@ -86,8 +86,9 @@ static inline struct viq_draw viq_draw(uint32_t bits) {
     return draw;
 }
 
-/* Answers. Refusals are 1 to 39 and change nothing; reasons to ignore an event are above VIQ_IGNORED and change nothing
- * either. SCENARIOS.md has each ("Refusals", "Reasons to ignore"). */
+/* Answers. Refusals are 1 to 39, and those of saved bytes 60 to 68; reasons to ignore an event are above VIQ_IGNORED.
+ * After all of these nothing has changed. SCENARIOS.md has each ("Refusals", "Reasons to ignore"), and SAVED.md those of
+ * saved bytes ("What is refused"). */
 enum {
     VIQ_DONE = 0,
 
@@ -130,6 +131,17 @@ enum {
     VIQ_NO_TIMER = 52,  /* no keepalive timer of the source runs, and none was started */
     VIQ_OTHER_ABI = 53, /* the program was compiled for another library than this one */
     VIQ_NO_SETTING = 54, /* no setting has this number */
+
+    /* of saved bytes */
+    VIQ_NOT_OURS = 60,
+    VIQ_OTHER_VERSION = 61,
+    VIQ_CUT_SHORT = 62,
+    VIQ_OUT_OF_RANGE = 63,
+    VIQ_KEYS_DONT_RISE = 64,
+    VIQ_LEFT_OVER = 65,
+    VIQ_NOT_HELD = 66,
+    VIQ_NOT_SETTLED = 67,
+    VIQ_NOT_QUIET = 68,
 
     VIQ_IGNORED = 100, /* no answer: the reasons to ignore an event are the numbers above it */
     VIQ_OWN = 101,
@@ -208,6 +220,28 @@ uint32_t viq_new(struct viq_router **router, uint32_t abi, const struct viq_sett
 
 /* Frees the router and its memory. With NULL it does nothing. */
 void viq_end(struct viq_router *router);
+
+/* ---- a state as bytes; SAVED.md describes them */
+
+/* Saves the router's state, which stays as it is: its configuration, its time, its routes and ranges, and all its facts
+ * with the expiries of their timers. `size` gets how many bytes there are. As many of them as room_length allows are
+ * written into `room`, and the rest of `room` is unchanged. So the call tells the size where room_length is 0; the size
+ * is the same until the next event, viq_seen or viq_keep. It answers VIQ_DONE; VIQ_MEMORY, VIQ_FAILED or VIQ_NO_ROUTER,
+ * where nothing is written.
+ *
+ * These aren't saved, and a program keeps what it needs of them: what the clock showed at time 0, the source of draws,
+ * packets that weren't sent, rows that were read, and what viq_older and viq_query_version set and the groups in an
+ * older mode. */
+VIQ_READ_ANSWER VIQ_NOT_NULL(4)
+uint32_t viq_save(const struct viq_router *router, uint8_t *room, size_t room_length, size_t *size);
+
+/* Makes a router of saved bytes, which goes on from their state as the router that was saved: the same events and draws
+ * bring the same answers and packets. It has nothing to send and no rows that were read, and hears no older version of
+ * IGMP. All that viq_save wrote is restored, by a library that writes the same version of the format. Bytes may be
+ * anything: all others are refused. The second argument is VIQ_ABI. It answers VIQ_DONE, a refusal of 60 to 68,
+ * VIQ_MEMORY or VIQ_OTHER_ABI. It writes what `router` points to as viq_new does. */
+VIQ_READ_ANSWER VIQ_NOT_NULL(1)
+uint32_t viq_restore(struct viq_router **router, uint32_t abi, const uint8_t *bytes, size_t length);
 
 /* ---- events: each answers VIQ_DONE, a reason to ignore, a refusal of 1 to 26, VIQ_LOST, VIQ_FAILED or VIQ_NO_ROUTER
  *

@@ -243,6 +243,37 @@ static int read_all(struct viq_router *router, uint64_t *sum, int *was_refused) 
     return 1;
 }
 
+static uint8_t saved[1 << 20], again[sizeof saved];
+
+/* The bytes of a router's state. Where memory is refused nothing is written, and they are asked for once more. */
+static int save(const struct viq_router *router, uint8_t *room, size_t *size, int *was_refused) {
+    *size = SIZE_MAX;
+    uint32_t answer = viq_save(router, room, sizeof saved, size);
+    if (answer == VIQ_MEMORY) {
+        *was_refused = UNCHANGED;
+        if (*size != SIZE_MAX) return 0;
+        answer = viq_save(router, room, sizeof saved, size);
+    }
+    return answer == VIQ_DONE && *size <= sizeof saved;
+}
+
+/* Whether a router of these bytes saves the same. Where memory is refused there is none, and it is made once more. */
+static int is_restored(const struct viq_router *router, int *was_refused) {
+    struct viq_router *other = (struct viq_router *)&again;
+    size_t size, size_again;
+    if (!save(router, saved, &size, was_refused)) return 0;
+    uint32_t answer = viq_restore(&other, VIQ_ABI, saved, size);
+    if (answer == VIQ_MEMORY) {
+        *was_refused = UNCHANGED;
+        if (other != NULL) return 0;
+        answer = viq_restore(&other, VIQ_ABI, saved, size);
+    }
+    if (answer != VIQ_DONE) return 0;
+    int is_same = save(other, again, &size_again, was_refused) && size == size_again && memcmp(saved, again, size) == 0;
+    viq_end(other);
+    return is_same;
+}
+
 static struct seen full[MOST_EVENTS];
 static uint64_t full_rows;
 
@@ -255,6 +286,8 @@ static int is_lost(struct viq_router *router, uint64_t rows) {
                           viq_seen(router, 0, 0x0a000009, 0xe8010101, viq_draw(1)), viq_keep(router, 0x0a000009, 0xe8010101, 1)};
     struct viq_plane_row offered;
     struct viq_source_group name;
+    size_t size;
+    if (viq_save(router, saved, sizeof saved, &size) != VIQ_FAILED) return 0;
     for (size_t at = 0; at < sizeof answers / sizeof *answers; at++)
         if (answers[at] != VIQ_FAILED) return 0;
     for (const char *table = tables; *table; table++)
@@ -329,7 +362,7 @@ static int run_on(struct viq_router *router, int is_first) {
             if (!same(look(router, answer), now) || viq_read(router, (uint8_t)tables[at / 8 % 8]) != VIQ_DONE) return OTHER;
         }
     }
-    if (!read_all(router, &sum, &was_refused)) return OTHER;
+    if (!read_all(router, &sum, &was_refused) || !is_restored(router, &was_refused)) return OTHER;
     if (is_first) full_rows = sum;
     else if (sum != full_rows) return OTHER;
     return was_refused;

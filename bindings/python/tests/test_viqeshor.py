@@ -262,6 +262,39 @@ class Routers(unittest.TestCase):
             router.set_query_version(2, 1)
         self.assertEqual(caught.exception.answer, Answer.NO_SETTING)
 
+    def test_it_goes_on_from_saved_bytes(self):
+        router = self.joined()
+        router.frame(0, bytes.fromhex(DATA))
+        saved = router.save()
+        with Router.restore(saved) as other:
+            self.assertEqual((other.packets(), other.changed(), other.older_rows()), ([], [], []))
+            self.assertEqual(list(other.tables()), list(router.tables()))
+            self.assertEqual((other.next_moment(), other.save()), (router.next_moment(), saved))
+            self.assertEqual(other.cached("10.0.3.5", "225.1.1.1"), router.cached("10.0.3.5", "225.1.1.1"))
+            answers = [one.advance(100_000, draw=9) for one in (router, other)]
+            self.assertEqual(answers, [Answer.DONE] * 2)
+            self.assertEqual((router.packets(), router.save()), (other.packets(), other.save()))
+            self.assertNotEqual(router.save(), saved)
+        for kind in (bytearray, memoryview):
+            Router.restore(kind(saved)).end()
+        self.assertRaises(Closed, other.save)
+
+    def test_bytes_of_no_router(self):
+        saved = self.joined().save()
+        for given, answer in (
+            (b"", Answer.CUT_SHORT),
+            (saved[:-1], Answer.CUT_SHORT),
+            (b"other" + saved, Answer.NOT_OURS),
+            (saved[:4] + b"\0\2" + saved[6:], Answer.OTHER_VERSION),
+            (saved[:10] + b"\2" + saved[11:], Answer.OUT_OF_RANGE),
+            (saved + b"\0", Answer.LEFT_OVER),
+            (saved[:6] + bytes(4) + saved[10:], Answer.NOT_HELD),
+        ):
+            with self.assertRaises(Refused) as caught:
+                Router.restore(given)
+            self.assertEqual(caught.exception.answer, answer)
+        self.assertRaises(TypeError, Router.restore, "00")
+
     def test_texts(self):
         self.assertRegex(viqeshor.version(), r"^0\.1\.0 (not )?proved$")
         self.assertEqual(viqeshor.answer_text(0), "done")

@@ -40,7 +40,7 @@ pub const REGISTER_JOINED: u32 = 1;
 pub const REGISTER_JOIN_PENDING: u32 = 2;
 pub const REGISTER_PRUNED: u32 = 3;
 /// What this crate and the library have to agree on: `VIQ_ABI` of `viqeshor.h`.
-pub const ABI: u32 = 2;
+pub const ABI: u32 = 3;
 
 const DONE: u32 = 0;
 const MEMORY: u32 = 40;
@@ -209,7 +209,8 @@ macro_rules! numbered {
 }
 
 numbered! {
-    /// A refusal, which changed nothing. `docs/SCENARIOS.md` has each.
+    /// A refusal, which changed nothing. `docs/SCENARIOS.md` has each, and `docs/SAVED.md` those of saved bytes, from
+    /// `NotOurs` on.
     Refusal {
         Short = 1,
         BadVersion = 2,
@@ -236,6 +237,15 @@ numbered! {
         BadDelay = 36,
         ConfiguredRoutes = 37,
         ConfiguredRanges = 38,
+        NotOurs = 60,
+        OtherVersion = 61,
+        CutShort = 62,
+        OutOfRange = 63,
+        KeysDontRise = 64,
+        LeftOver = 65,
+        NotHeld = 66,
+        NotSettled = 67,
+        NotQuiet = 68,
     }
 }
 
@@ -264,7 +274,7 @@ pub enum Verdict {
 #[derive(Clone, Copy, Debug, PartialEq, Eq, Hash)]
 #[non_exhaustive]
 pub enum Error {
-    /// The event or the configuration was refused, and nothing has changed.
+    /// The event, the configuration or the saved state was refused, and nothing has changed.
     Refused(Refusal),
     /// Memory was refused, and nothing has changed: the call may be made again.
     Memory,
@@ -661,6 +671,8 @@ extern "C" {
         ranges: *const raw::Range,
         range_count: usize,
     ) -> u32;
+    fn viq_save(router: *const c_void, room: *mut u8, room_length: usize, size: *mut usize) -> u32;
+    fn viq_restore(router: *mut *mut c_void, abi: u32, bytes: *const u8, length: usize) -> u32;
     fn viq_end(router: *mut c_void);
     fn viq_advance(router: *mut c_void, moment: u64, draw: Draw) -> u32;
     fn viq_frame(router: *mut c_void, iface: u32, packet: *const u8, length: usize, draw: Draw) -> u32;
@@ -720,7 +732,7 @@ pub fn answer_text(answer: u32) -> &'static str {
 }
 
 /// A router, which is freed when it is dropped.
-// The pointer is of a router that `viq_new` made, until it is dropped: this is what makes each call below safe. Those
+// The pointer is of a router that `viq_new` or `viq_restore` made, until it is dropped: this is what makes each call below safe. Those
 // that change it borrow it alone.
 pub struct Router(NonNull<c_void>);
 
@@ -763,10 +775,42 @@ impl Router {
                 ranges.len(),
             )
         };
+        Router::made(made, answer)
+    }
+
+    /// Makes a router that goes on from the state that `save` returned: the same events and draws bring the same answers
+    /// and packets. It has nothing to send, and hears no older version of IGMP. Bytes that are no saved state of a
+    /// router are refused, whatever they are.
+    pub fn restore(saved: &[u8]) -> Result<Router, Error> {
+        let mut made = null_mut();
+        // SAFETY: the bytes are passed as their pointer and their length, and what points to the router is only written.
+        let answer = unsafe { viq_restore(&mut made, ABI, saved.as_ptr(), saved.len()) };
+        Router::made(made, answer)
+    }
+
+    fn made(made: *mut c_void, answer: u32) -> Result<Router, Error> {
         match NonNull::new(made) {
             Some(router) if answer == DONE => Ok(Router(router)),
             _ => Err(Error::of(answer)),
         }
+    }
+
+    /// The state of the router as bytes, of which `restore` makes a router that goes on from it. What isn't in them:
+    /// what the clock showed at timestamp 0, packets that weren't sent, and what `set_older_hosts` and
+    /// `set_query_version` set and the groups in an older mode.
+    pub fn save(&self) -> Result<Vec<u8>, Error> {
+        let size = self.save_into(&mut [])?;
+        let mut saved = vec![0; size];
+        self.save_into(&mut saved)?;
+        Ok(saved)
+    }
+
+    /// Saves the state into `room`, as many of its bytes as it holds. Returns how many there are.
+    pub fn save_into(&self, room: &mut [u8]) -> Result<usize, Error> {
+        let mut size = 0;
+        // SAFETY: the router is there; the room is passed as its pointer and its length.
+        done(unsafe { viq_save(self.at(), room.as_mut_ptr(), room.len(), &mut size) })?;
+        Ok(size)
     }
 
     fn at(&self) -> *const c_void {

@@ -201,6 +201,48 @@ fn time_passes_timer_by_timer() {
 }
 
 #[test]
+fn it_goes_on_from_saved_bytes() {
+    let mut router = joined();
+    assert_eq!(router.frame(0, &bytes_of(DATA), 0), DONE);
+    let saved = router.save().unwrap();
+    let mut other = Router::restore(&saved).unwrap();
+    assert_eq!((other.packet_count(), other.changed(), other.older_rows()), (0, vec![], Ok(vec![])));
+    assert_eq!((other.next_moment(), other.save()), (router.next_moment(), Ok(saved.clone())));
+    for table in Table::ALL {
+        assert_eq!(other.rows(table), router.rows(table));
+    }
+    let (source, group) = (address([10, 0, 3, 5]), address([225, 1, 1, 1]));
+    assert_eq!(other.cached(source, group), router.cached(source, group));
+    assert_eq!((router.advance(100_000, 9), other.advance(100_000, 9)), (DONE, DONE));
+    assert_eq!((router.packets(), router.save()), (other.packets(), other.save()));
+    let mut room = [7; 6];
+    assert_eq!(router.save_into(&mut room), Ok(router.save().unwrap().len()));
+    assert_eq!(&room, b"VQST\0\x01");
+}
+
+#[test]
+fn bytes_of_no_router() {
+    let saved = joined().save().unwrap();
+    let changed = |place: usize, value: u8| {
+        let mut given = saved.clone();
+        given[place] = value;
+        given
+    };
+    for (given, refusal) in [
+        (vec![], Refusal::CutShort),
+        (saved[..saved.len() - 1].to_vec(), Refusal::CutShort),
+        (changed(0, 0), Refusal::NotOurs),
+        (changed(5, 2), Refusal::OtherVersion),
+        (changed(10, 2), Refusal::OutOfRange),
+        ([&saved[..], &[0]].concat(), Refusal::LeftOver),
+        (changed(7, 0), Refusal::NotHeld),
+    ] {
+        assert_eq!(Router::restore(&given).err(), Some(Error::Refused(refusal)));
+    }
+    assert_eq!(Error::Refused(Refusal::NotQuiet).number(), 68);
+}
+
+#[test]
 fn what_is_shown_of_it() {
     assert!(format!("{:?}", joined()).starts_with("Router { next_moment: Some("));
 }

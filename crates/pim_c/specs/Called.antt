@@ -11,7 +11,7 @@ use Rattle.pim_model.specs.Judging.{last_moment}
 use Rattle.pim_model.specs.Limits.{config_test}
 use Rattle.pim_model.specs.Printed.{rows}
 use Rattle.pim_model.specs.Sets.{Set, is_kept_alive}
-use Rattle.pim_model.specs.State.{opening}
+use Rattle.pim_model.specs.State.{State, opening}
 use Rattle.pim_model.specs.Step.{step}
 use Rattle.pim_model.specs.Unicast.{rpf_interface_rp}
 use Rattle.pim_offload.specs.Keeping.{keep}
@@ -22,6 +22,12 @@ use Rattle.pim_event.specs.Disturbing.{event_disturbed}
 use Rattle.pim_event.specs.Listing.{ListsSame}
 use Rattle.pim_event.specs.Replacing.{may_differ}
 use Rattle.pim_event.specs.Staying.{OffersStay}
+use Rattle.pim_rested.specs.Refused.{restore_refusal_number}
+use Rattle.pim_rested.specs.Resuming.{IsResumable, restore_test}
+use Rattle.pim_rested.specs.declared.refusal.RestoreRefusal.{RestoreRefusal}
+use Rattle.pim_saved.specs.Fits.{FitsState}
+use Rattle.pim_saved.specs.Reading.{reading}
+use Rattle.pim_saved.specs.Text.{text}
 use Rattle.pim_router.specs.Standing.{Standing, begun, nothing_shown, standing, with_state}
 use Rattle.pim_session.specs.Front.{emissions_left, front_after, given, hosts_set, interface_test, is_sure, older_rows, version_set}
 use Rattle.pim_session.specs.Session.{ShownSession}
@@ -43,9 +49,13 @@ use Rattle.pim_c.specs.declared.told.Packet.{Packet}
 use Rattle.pim_c.specs.declared.told.PlaneRow.{PlaneRow}
 use Rattle.pim_c.specs.declared.told.TableRow.{TableRow}
 
+-- What a session shows of a router that goes on from a state: nothing stands before it, and nothing is kept.
+abbrev pub restored_shown : State → ShownSession
+restored_shown s = record { router = begun s; front = None; sent = []; rows = []; older_rows = [] }
+
 -- What a session shows of a new router.
 abbrev pub new_shown : Config → ShownSession
-new_shown config = record { router = begun (opening config); front = None; sent = []; rows = []; older_rows = [] }
+new_shown config = restored_shown (opening config)
 
 -- What a session shows after an allocation failed.
 abbrev pub lost : ShownSession → ShownSession
@@ -306,3 +316,22 @@ MadeBy (Err refusal) old config answer left = (answer ≡ refusal_number refusal
 -- A router was made of the configuration, or the configuration was refused, or an allocation failed.
 abbrev pub Made : Option ShownSession → Config → ℕ → Option ShownSession → Type 0
 Made old config answer left = MadeBy (config_test config) old config answer left ⊎ ((answer ≡ 40) × (left ≡ old))
+
+abbrev pub RestoredBy : Result (Unit {0}) RestoreRefusal → List ℕ → Option ShownSession → ℕ → Option ShownSession → Type 0
+RestoredBy (Ok _) bytes old answer left = (answer ≡ 0) × ((s : State) → reading bytes ≡ Ok s → left ≡ Some (restored_shown s))
+RestoredBy (Err refusal) bytes old answer left = (answer ≡ restore_refusal_number refusal) × (left ≡ old)
+
+-- A router was made that is in the state that the bytes say, or the bytes were refused, or an allocation failed.
+abbrev pub Restored : Option ShownSession → List ℕ → ℕ → Option ShownSession → Type 0
+Restored old bytes answer left = RestoredBy (restore_test bytes) bytes old answer left ⊎ ((answer ≡ 40) × (left ≡ old))
+
+abbrev pub SavedFrom : Option Standing → ℕ → ℕ → ℕ → List ℕ → List ℕ → Type 0
+SavedFrom None answer size told room filled = (answer ≡ 41) × (told ≡ size) × (filled ≡ room)
+SavedFrom (Some r) answer size told room filled =
+    ((answer ≡ 0) × (told ≡ length (text r.state)) × (filled ≡ written_into room (text r.state)) × FitsState r.state × IsResumable r.state)
+    ⊎ ((answer ≡ 40) × (told ≡ size) × (filled ≡ room))
+
+-- The text of the router's state was written, as much as fits, with its length, or an allocation failed.
+abbrev pub Saved : Option ShownSession → ℕ → ℕ → ℕ → List ℕ → List ℕ → Type 0
+Saved None answer size told room filled = (answer ≡ 50) × (told ≡ size) × (filled ≡ room)
+Saved (Some s) answer size told room filled = SavedFrom s.router.standing answer size told room filled

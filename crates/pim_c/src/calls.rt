@@ -6,7 +6,7 @@ ghost use Rattle.pim_model.specs.Judging.{last_moment};
 ghost use Rattle.pim_model.specs.Timers.{next_moment};
 ghost use Rattle.pim_offload.specs.Seen.{seen_event};
 ghost use Rattle.pim_types.specs.declared.event.EventKind.{EventKind};
-ghost use Rattle.pim_c.specs.Called.{CachedTold, Copied, HostsSetBy, KeepAnswered, Made, NameTold, OffloadTold, OlderRead, OlderTold, PacketTold, ReadBy, RowTold, Seen, Stepped, VersionSetBy, changed_in, copies_in, is_copy, may_differ_in, older_rows_in, packets_in, probes_in, rows_in, standing_in, touched_in};
+ghost use Rattle.pim_c.specs.Called.{CachedTold, Copied, HostsSetBy, KeepAnswered, Made, NameTold, OffloadTold, OlderRead, OlderTold, PacketTold, ReadBy, Restored, RowTold, Saved, Seen, Stepped, VersionSetBy, changed_in, copies_in, is_copy, may_differ_in, older_rows_in, packets_in, probes_in, rows_in, standing_in, touched_in};
 ghost use Rattle.pim_ifset.specs.Members.{iface_of};
 ghost use Rattle.pim_c.specs.Given.{config_of, given_event, range_of, route_of};
 ghost use Rattle.pim_c.specs.Told.{never, older_hosts_of, query_version_of, table_of_letter};
@@ -37,6 +37,29 @@ pub extern "C" fn viq_core_new(
         Ok(config) => router.make(alloc, config),
         Err(_) => MEMORY,
     }
+}
+
+/// Makes a router of saved bytes, which goes on from their state. If the handle had a router and the new one is made, the
+/// old one is freed.
+#[unsafe(no_mangle)]
+pub extern "C" fn viq_core_restore(alloc: Global, router: &mut Handle, bytes: &[u8]) -> u32
+    ensures { Restored router.old.place.inside bytes.now result router.new.place.inside }
+{
+    router.restore(alloc, bytes)
+}
+
+/// Saves a router's state: as many of its bytes as the buffer holds are written into it, and how many there are.
+#[unsafe(no_mangle)]
+pub extern "C" fn viq_core_save(
+    alloc: Global,
+    router: &mut Handle,
+    room: &mut [u8],
+    size: &mut usize,
+) -> u32
+    ensures told { Saved router.old.place.inside result size.old size.new room.old room.new }
+    ensures stays { router.new.place.inside ≡ router.old.place.inside }
+{
+    router.save(alloc, room, size)
 }
 
 /// Frees a router with its memory. The handle then has none.

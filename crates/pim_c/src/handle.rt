@@ -9,12 +9,15 @@ ghost use Rattle.pim_macros.specs.Rows.{number_of};
 ghost use Rattle.pim_mfc.specs.Laws.{TellsRow};
 ghost use Rattle.pim_model.specs.Cache.{Answers};
 ghost use Rattle.pim_model.specs.Cause.{is_on_link};
+ghost use Rattle.pim_model.specs.State.{State};
 ghost use Rattle.pim_model.specs.Timers.{next_moment};
 ghost use Rattle.pim_offload.specs.Offered.{Offered as OfferedValue};
 ghost use Rattle.pim_offload.specs.Seen.{seen_event};
 ghost use Rattle.pim_offrow.specs.Shown.{TellsOffload};
+ghost use Rattle.pim_rested.specs.Resuming.{restore_test};
+ghost use Rattle.pim_saved.specs.Reading.{reading};
 ghost use Rattle.pim_c.specs.Told.{never};
-ghost use Rattle.pim_c.specs.Called.{AnswersTold, CachedTold, HostsSet, HostsSetFrom, SourceKept, SourceKeptFrom, Made, NameTold, OfferTold, OffloadTold, OlderRead, OlderReadFrom, OlderTold, PacketTold, Read, ReadFrom, Refused, RowTold, Seen, SeenFrom, Stepped, SteppedFrom, VersionSet, VersionSetFrom, changed_in, copies_in, is_copy, lost, may_differ_in, new_shown, older_rows_in, packets_in, probes_in, refused_number, rows_in, standing_in, to_send, touched_in};
+ghost use Rattle.pim_c.specs.Called.{AnswersTold, CachedTold, HostsSet, HostsSetFrom, SourceKept, SourceKeptFrom, Made, NameTold, OfferTold, OffloadTold, OlderRead, OlderReadFrom, OlderTold, PacketTold, Read, ReadFrom, Refused, Restored, RowTold, Saved, SavedFrom, Seen, SeenFrom, Stepped, SteppedFrom, VersionSet, VersionSetFrom, changed_in, copies_in, is_copy, lost, may_differ_in, new_shown, older_rows_in, packets_in, probes_in, refused_number, restored_shown, rows_in, standing_in, to_send, touched_in};
 
 use crate::place::Place;
 use crate::told::{
@@ -25,6 +28,7 @@ use igmp_older::{OlderHosts, OlderRow, QueryVersion};
 use pim_intake::LentEvent;
 use pim_mfc::CacheRow;
 use pim_offrow::Offered;
+use pim_router::RestoreRefusal;
 use pim_session::Session;
 use pim_types::{Addr, Config, Emission, Event, Fault, IfaceId, Refusal, Row, SourceGroup, Table};
 use std::alloc::{AllocError, Global};
@@ -175,19 +179,54 @@ impl Handle {
         answer
     }
 
+    // Puts a session in, in place of the one in the handle, which is freed.
+    fn renew(&mut self, alloc: Global, made: Box<Session>)
+        ensures { self.new.place.inside ≡ Some made.value }
+    {
+        let _ended = self.take(alloc);
+        self.put(made);
+    }
+
     /// Makes a router of a configuration, in place of the one in the handle. The result is the number of the answer.
     pub fn make(&mut self, alloc: Global, config: Config) -> u32
         ensures { Made self.old.place.inside config result self.new.place.inside }
     {
         match boxed(alloc, config) {
             Ok(Ok(session)) => {
-                let _ended = self.take(alloc);
-                self.put(session);
+                self.renew(alloc, session);
                 DONE
             }
             Ok(Err(refusal)) => u32::from(refusal.number()),
             Err(fault) => u32::from(fault.number()),
         }
+    }
+
+    /// Makes a router of saved bytes, in place of the one in the handle. The result is the number of the answer.
+    pub fn restore(&mut self, alloc: Global, bytes: &[u8]) -> u32
+        ensures { Restored self.old.place.inside bytes.now result self.new.place.inside }
+    {
+        match restored(alloc, bytes) {
+            Ok(Ok(session)) => {
+                self.renew(alloc, session);
+                DONE
+            }
+            Ok(Err(refusal)) => u32::from(refusal.number()),
+            Err(fault) => u32::from(fault.number()),
+        }
+    }
+
+    /// Writes the bytes of the router's state into a buffer, as many as fit, and how many there are. The result is the
+    /// number of the answer.
+    pub fn save(&mut self, alloc: Global, room: &mut [u8], size: &mut usize) -> u32
+        ensures told { Saved self.old.place.inside result size.old size.new room.old room.new }
+        ensures stays { self.new.place.inside ≡ self.old.place.inside }
+    {
+        let Some(session) = self.take(alloc) else {
+            return NO_ROUTER;
+        };
+        let answer = save(alloc, &session, room, size);
+        self.put(session);
+        answer
     }
 
     /// How many packets the last event sent that wasn't answered with a fault.
@@ -414,6 +453,20 @@ fn boxed(alloc: Global, config: Config) -> Result<Result<Box<Session>, Refusal>,
     }
 }
 
+// A session of saved bytes, behind a box.
+fn restored(alloc: Global, bytes: &[u8]) -> Result<Result<Box<Session>, RestoreRefusal>, Fault>
+    ensures restored { IfOk result (λ made. IfOk made (λ held. (s : State) → reading bytes.now ≡ Ok s
+        → held.value ≡ restored_shown s)) }
+    ensures tested { IfOk result (λ made. IfOk made (λ held. restore_test bytes.now ≡ Ok tt)) }
+    ensures refused { IfOk result (λ made. IfErr made (λ refusal. restore_test bytes.now ≡ Err refusal)) }
+    ensures memory { IfErr result (λ fault. fault ≡ Fault.Memory) }
+{
+    match Session::restore(alloc, bytes)? {
+        Ok(session) => Ok(Ok(Box::new(alloc, session)?)),
+        Err(refusal) => Ok(Err(refusal)),
+    }
+}
+
 // What is to be sent: nothing once the router has failed.
 fn to_send(session: &Session) -> &[Emission]
     ensures { result.now ≡ to_send session.now.sent session.now.router.standing }
@@ -582,6 +635,21 @@ fn read(session: &mut Session, table: Table) -> u32
 {
     match session.read(table) {
         Ok(()) => DONE,
+        Err(fault) => u32::from(fault.number()),
+    }
+}
+
+// Writes the bytes of a session's router into a buffer, as many as fit, and how many there are.
+fn save(alloc: Global, session: &Session, room: &mut [u8], size: &mut usize) -> u32
+    ensures { SavedFrom session.now.router.standing result size.old size.new room.old room.new }
+{
+    let mut bytes = Vec::new(alloc);
+    match session.save(&mut bytes) {
+        Ok(()) => {
+            *size = bytes.len();
+            told::write(room, bytes.as_slice());
+            DONE
+        }
         Err(fault) => u32::from(fault.number()),
     }
 }

@@ -1,6 +1,7 @@
 -- A cache in which all sources with a fact were evaluated has all rows.
 use Rattle.std.proofs.Common.{◌≡◌, ◌||◌, ℕ, Bool, true, false, List, [], ◌∷◌, Some, None, ap, cond, refl, subst, sym, ◌∙◌}
-use Rattle.std.specs.List.{list_any, map}
+use Rattle.std.specs.List.{list_any}
+use Rattle.std.specs.Prelude.{map}
 use Rattle.pim_types.proofs.Keys.{equal_keys, same_key_same}
 use Rattle.pim_types.specs.Keys.{group_in, same_key, source_in, source_key}
 use Rattle.pim_types.specs.declared.fact.Key.{Key}

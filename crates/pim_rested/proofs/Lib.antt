@@ -1,3 +1,4 @@
 mod Ordered
+mod Read
 pub mod Tests
 mod Unmoved

@@ -41,7 +41,7 @@ four true true false d e = cc
 four true false c d e = cc
 four false b c d e = cc
 
-all_four : (a b c d : Bool) → a ≡ true → b ≡ true → c ≡ true → d ≡ true → all_pass (a ∷ b ∷ c ∷ d ∷ []) ≡ true
+pub all_four : (a b c d : Bool) → a ≡ true → b ≡ true → c ≡ true → d ≡ true → all_pass (a ∷ b ∷ c ∷ d ∷ []) ≡ true
 all_four true true true true f g h i = refl
 all_four true true true false f g h i = cc
 all_four true true false d f g h i = cc
@@ -78,23 +78,27 @@ module _ (s : State) where
 
 -- ---- all tests
 
+abbrev outcome : (a b c d : Bool) → Result (Unit {0}) RestoreRefusal
+outcome a b c d =
+    if a && b then (if c then (if d then Ok tt else Err RestoreRefusal.NotQuiet) else Err RestoreRefusal.NotSettled)
+    else Err RestoreRefusal.NotHeld
+
+passed : (a b c d : Bool) → outcome a b c d ≡ Ok tt → (a ≡ true) × ((b ≡ true) × ((c ≡ true) × (d ≡ true)))
+passed true true true true e = (refl, (refl, (refl, refl)))
+passed true true true false e = cc
+passed true true false d e = cc
+passed true false c d e = cc
+passed false b c d e = cc
+
 resumable_is : (s : State) → IsOrdered s → resume_test s ≡ Ok tt → IsResumable s
 unfolding resume_test
-resumable_is s ordered e = go (can_hold s) (has_settings s) (is_settled s) (is_quiet s) refl refl refl refl e
-  where
-    go : (a b c d : Bool) → can_hold s ≡ a → has_settings s ≡ b → is_settled s ≡ c → is_quiet s ≡ d
-        → (if a && b
-        then (if c then (if d then Ok tt else Err RestoreRefusal.NotQuiet) else Err RestoreRefusal.NotSettled)
-        else Err RestoreRefusal.NotHeld) ≡ Ok tt → IsResumable s
-    go true true true true held settings settled quiet e = record {
-      held = held;
-      accepted = accepted_is s held settings;
-      rest = record { quiet = quiet_is s quiet; settled = (settled_is_decided s ordered).0 settled };
+resumable_is s ordered e =
+    let p = passed (can_hold s) (has_settings s) (is_settled s) (is_quiet s) e in
+    record {
+      held = p.0;
+      accepted = accepted_is s p.0 p.1.0;
+      rest = record { quiet = quiet_is s p.1.1.1; settled = (settled_is_decided s ordered).0 p.1.1.0 };
     }
-    go true true true false held settings settled quiet e = cc
-    go true true false d held settings settled quiet e = cc
-    go true false c d held settings settled quiet e = cc
-    go false b c d held settings settled quiet e = cc
 
 resumable_so : (s : State) → IsResumable s → resume_test s ≡ Ok tt
 unfolding resume_test

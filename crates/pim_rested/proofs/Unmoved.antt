@@ -19,7 +19,6 @@ never_both true true false false = refl
 pub goes_unmoved : (s : State) (k : Key) (r : AssertRow) → loser_must_go s s k r
     ≡ (not (is_neighbour s (iface_in k) r.winner.address.bits) || not (is_tracking_at s k)
     || is_better (my_metric_at s k) r.winner)
-unfolding loser_must_go
 goes_unmoved s k r =
     never_both (is_neighbour s (iface_in k) r.winner.address.bits) (is_tracking_at s k)
     (is_better (my_metric_at s k) r.winner) (is_rpf_at s k)

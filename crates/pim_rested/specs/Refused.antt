@@ -5,6 +5,6 @@ use Rattle.pim_rested.specs.declared.refusal.RestoreRefusal.{RestoreRefusal}
 
 unfoldable pub restore_refusal_number : RestoreRefusal → ℕ
 restore_refusal_number (RestoreRefusal.Bytes refusal) = saved_refusal_number refusal
-restore_refusal_number RestoreRefusal.NotHeld = 56
-restore_refusal_number RestoreRefusal.NotSettled = 57
-restore_refusal_number RestoreRefusal.NotQuiet = 58
+restore_refusal_number RestoreRefusal.NotHeld = 66
+restore_refusal_number RestoreRefusal.NotSettled = 67
+restore_refusal_number RestoreRefusal.NotQuiet = 68

@@ -1,7 +1,7 @@
 //! Whether nothing follows of the facts of a world: no assert (RFC 7761, sections 4.6.1 and 4.6.2) and no SPTbit (4.5.5)
 //! must go, and all registers are settled (4.4.1).
 ghost use Rattle.std.specs.List.{list_all};
-ghost use Rattle.std.specs.Prelude.{◌≡◌, ◌<◌, ◌||◌, None, Some, nat_lt, not, true};
+ghost use Rattle.std.specs.Prelude.{◌≡◌, ◌<◌, ◌||◌, None, Some, false, nat_lt, not, true};
 ghost use Rattle.pim_locality.specs.Locality.{is_register_settled};
 ghost use Rattle.pim_macros.specs.Sights.{IsSourceSight, IsStarSight};
 ghost use Rattle.pim_model.specs.Clearing.{assert_must_go, spt_must_go};
@@ -69,7 +69,7 @@ fn source_goes(world: &World, sight: &SourceSight, iface: IfaceId, row: AssertRo
 }
 
 // Whether the assert must go.
-#[tactic(auto, unfolding(pim_model::specs::Clearing::assert_must_go, pim_model::specs::Clearing::loser_must_go))]
+#[tactic(auto, unfolding(pim_model::specs::Clearing::assert_must_go))]
 fn assert_goes(world: &World, key: Key, row: AssertRow, meter: &mut Meter) -> bool
     requires { nat_lt (iface_in key) 120 ≡ true }
     ensures { result ≡ assert_must_go world.now world.now (key, row) }

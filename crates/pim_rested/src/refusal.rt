@@ -18,15 +18,16 @@ impl RestoreRefusal {
     ghost use Rattle.std.specs.Prelude.{◌≡◌};
     ghost use Rattle.pim_rested.specs.Refused.{restore_refusal_number};
 
-    /// The number of the refusal, which is none of [`pim_ip::Refusal`]: 50 to 55 for bytes, and then 56, 57 and 58.
+    /// The number of the refusal, which is none of [`pim_ip::Refusal`]: 60 to 65 for bytes, and then 66, 67 and 68.
+    #[tactic(auto, unfolding(crate::specs::Refused::restore_refusal_number))]
     pub fn number(self) -> u8
         ensures { result ≡ restore_refusal_number self }
     {
         match self {
             RestoreRefusal::Bytes(refusal) => refusal.number(),
-            RestoreRefusal::NotHeld => 56,
-            RestoreRefusal::NotSettled => 57,
-            RestoreRefusal::NotQuiet => 58,
+            RestoreRefusal::NotHeld => 66,
+            RestoreRefusal::NotSettled => 67,
+            RestoreRefusal::NotQuiet => 68,
         }
     }
 }

@@ -59,7 +59,7 @@ fn tested_world(
 
 /// The world that these bytes say, with its forwarding cache, where a router can be in that state; or the first test
 /// that fails. The meter rises by the nodes visited. The fault is want of memory.
-pub fn resumed(
+pub fn resume(
     alloc: Global,
     bytes: &[u8],
     meter: &mut Meter,

@@ -17,6 +17,7 @@ use Rattle.pim_model.specs.State.{State, opening}
 use Rattle.pim_model.specs.Step.{outcome_of, ran, run, state_after, step}
 use Rattle.pim_restored.proofs.Restarts.{later_run_is_asked, later_state_is_reached}
 use Rattle.pim_router.specs.Standing.{IsLedTo, Shown, Standing, nothing_shown}
+use Rattle.pim_router.proofs.Shown.{stands}
 
 -- what was told with what is left is all of it, and the router is at rest
 pub record Runs (first : State) (events : List Event) (s : State) (told : List Outcome)
@@ -67,15 +68,6 @@ module _ (first : State) (events : List Event) where
       → (told ≡ run first events) × (s ≡ state_after first events)
   runs_end i s told le runs =
       ended s told (subst (λ (es : List Event). Runs first events s told es) (drop_of_length-le events le) runs)
-
--- a router that works stands as it shows: what holds of its state, holds of the one that it shows
-stands : (shown : Shown) (failed : Bool) (r : Standing) (probes touched : ℕ) (changed : List Key) (disturbed : Disturbance)
-    → (if failed then nothing_shown
-    else record { standing = Some r; probes = probes; touched = touched; changed = changed; disturbed = disturbed }) ≡ shown
-    → failed ≡ false → (P : State → Type 0) → P r.state → IfSome shown.standing (λ x. P x.state)
-stands shown failed r probes touched changed disturbed shows works P holds =
-    let some = ap (λ (x : Shown). x.standing) (rw works at shows) in
-    rw (← some) holds
 
 -- the outcomes of a run are asked for, whatever events came before it
 pub is_asked : (shown : Shown) (failed : Bool) (r : Standing) (probes touched : ℕ) (changed : List Key) (disturbed : Disturbance)

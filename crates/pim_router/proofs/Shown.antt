@@ -8,6 +8,7 @@ use Rattle.pim_types.specs.declared.outcome.Outcome.{Outcome}
 use Rattle.pim_types.specs.declared.timer.Timer.{Timer}
 use Rattle.pim_model.specs.Cache.{cached}
 use Rattle.pim_model.specs.Judging.{judged}
+use Rattle.pim_model.specs.State.{State}
 use Rattle.pim_model.specs.Step.{outcome_of, step}
 use Rattle.pim_model.specs.Sure.{needs_no_memory}
 use Rattle.pim_model.specs.Timers.{Ending, next_ending, next_moment}
@@ -17,6 +18,17 @@ use Rattle.pim_tables.specs.Ends.{due_of}
 use Rattle.pim_event.specs.Replacing.{Disturbance}
 use Rattle.pim_event.proofs.Taking.{concluded_silently}
 use Rattle.pim_router.specs.Standing.{Shown, Standing, nothing_shown}
+
+-- ---- its state
+
+-- what holds of its state holds of the state that it shows
+pub stands : (shown : Shown) (failed : Bool) (r : Standing) (probes touched : ℕ) (changed : List Key) (disturbed : Disturbance)
+    → (if failed then nothing_shown
+    else record { standing = Some r; probes = probes; touched = touched; changed = changed; disturbed = disturbed }) ≡ shown
+    → failed ≡ false → (P : State → Type 0) → P r.state → IfSome shown.standing (λ (x : Standing). P x.state)
+stands shown failed r probes touched changed disturbed shows works P holds =
+    let some = ap (λ (x : Shown). x.standing) (rw works at shows) in
+    rw (← some) holds
 
 -- ---- the row of a source
 

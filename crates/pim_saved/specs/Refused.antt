@@ -4,9 +4,9 @@ use Rattle.pim_saved.specs.declared.refusal.SavedRefusal.{SavedRefusal}
 use Rattle.pim_saved.specs.declared.refusal.SavedRefusal.TheVariants.{NotOurs, OtherVersion, CutShort, OutOfRange, KeysDontRise, LeftOver}
 
 abbrev pub saved_refusal_number : SavedRefusal → ℕ
-saved_refusal_number NotOurs = 50
-saved_refusal_number OtherVersion = 51
-saved_refusal_number CutShort = 52
-saved_refusal_number OutOfRange = 53
-saved_refusal_number KeysDontRise = 54
-saved_refusal_number LeftOver = 55
+saved_refusal_number NotOurs = 60
+saved_refusal_number OtherVersion = 61
+saved_refusal_number CutShort = 62
+saved_refusal_number OutOfRange = 63
+saved_refusal_number KeysDontRise = 64
+saved_refusal_number LeftOver = 65

@@ -1,7 +1,7 @@
 //! A router in a box, with what stands before it, and what its last calls returned.
 ghost use Rattle.std.specs.List.Sorted.{IsStrictlySortedBy};
 ghost use Rattle.std.specs.Option.{option_map_or};
-ghost use Rattle.std.specs.Prelude.{◌≡◌, ◌↔◌, [], Err, IfErr, IfOk, IfSome, IsOk, IsOkUnless, IsSome, IsTrue, None, Ok, OnErr, OnOk, Some, min, option_and_then};
+ghost use Rattle.std.specs.Prelude.{◌≡◌, ◌++◌, ◌↔◌, [], Err, IfErr, IfOk, IfSome, IsOk, IsOkUnless, IsSome, IsTrue, None, Ok, OnErr, OnOk, Some, min, option_and_then};
 ghost use Rattle.pim_ip.specs.declared.fault.Fault.{Fault};
 ghost use Rattle.pim_fanout.specs.Named.{keys_of};
 ghost use Rattle.pim_macros.specs.Rows.{number_of};
@@ -11,7 +11,7 @@ ghost use Rattle.pim_model.specs.Judging.{last_moment};
 ghost use Rattle.pim_model.specs.Limits.{config_test};
 ghost use Rattle.pim_model.specs.Printed.{rows};
 ghost use Rattle.pim_model.specs.Sets.{is_kept_alive};
-ghost use Rattle.pim_model.specs.State.{opening};
+ghost use Rattle.pim_model.specs.State.{State, opening};
 ghost use Rattle.pim_model.specs.Step.{step};
 ghost use Rattle.pim_model.specs.Timers.{next_moment};
 ghost use Rattle.pim_model.specs.Unicast.{rpf_interface_rp};
@@ -25,7 +25,11 @@ ghost use Rattle.pim_event.specs.Disturbing.{event_disturbed};
 ghost use Rattle.pim_event.specs.Replacing.{may_differ};
 ghost use Rattle.pim_event.specs.Listing.{ListsSame};
 ghost use Rattle.pim_event.specs.Staying.{OffersStay};
+ghost use Rattle.pim_rested.specs.Resuming.{IsResumable, restore_test};
 ghost use Rattle.pim_router.specs.Standing.{begun, nothing_shown, standing, with_state};
+ghost use Rattle.pim_saved.specs.Fits.{FitsState};
+ghost use Rattle.pim_saved.specs.Reading.{reading};
+ghost use Rattle.pim_saved.specs.Text.{text};
 ghost use Rattle.pim_types.specs.Keys.{key_cmp};
 ghost use Rattle.pim_session.specs.Front.{emissions_left, front_after, given, hosts_set, interface_test, is_sure, older_rows, version_set};
 
@@ -35,7 +39,7 @@ use igmp_older::{OlderHosts, OlderRow, QueryVersion};
 use pim_intake::LentEvent;
 use pim_mfc::CacheRow;
 use pim_offrow::Offered;
-use pim_router::Router;
+use pim_router::{RestoreRefusal, Router};
 use pim_types::{
     Addr, Config, Emission, Fault, IfaceId, Refusal, Row, SourceGroup, Table, Verdict,
 };
@@ -99,6 +103,23 @@ impl Session {
         ensures memory { IfErr result (λ fault. fault ≡ Fault.Memory) }
     {
         match Router::new(alloc, config)? {
+            Ok(router) => Ok(Ok(Session::of(alloc, Box::new(alloc, router)?))),
+            Err(refusal) => Ok(Err(refusal)),
+        }
+    }
+
+    /// A session of the router that is in the state that these bytes say, as `Router::restore` makes it. Nothing stands
+    /// before it, and no packets and no rows are kept. The fault is want of memory.
+    pub fn restore(alloc: Global, bytes: &[u8]) -> Result<Result<Session, RestoreRefusal>, Fault>
+        ensures restored { IfOk result (λ made. IfOk made (λ s. (state : State) → reading bytes.now ≡ Ok state
+            → s.router ≡ begun state)) }
+        ensures tested { IfOk result (λ made. IfOk made (λ s. restore_test bytes.now ≡ Ok tt)) }
+        ensures rest { IfOk result (λ made. IfOk made (λ s. (s.front ≡ None) × (s.sent ≡ []) × (s.rows ≡ [])
+            × (s.older_rows ≡ []))) }
+        ensures refused { IfOk result (λ made. IfErr made (λ refusal. restore_test bytes.now ≡ Err refusal)) }
+        ensures memory { IfErr result (λ fault. fault ≡ Fault.Memory) }
+    {
+        match Router::restore(alloc, bytes)? {
             Ok(router) => Ok(Ok(Session::of(alloc, Box::new(alloc, router)?))),
             Err(refusal) => Ok(Err(refusal)),
         }
@@ -273,6 +294,24 @@ impl Session {
         }
         self.rows = self.router.rows(table)?;
         Ok(())
+    }
+
+    /// Adds the bytes of the router's state after those that are there, as `Router::save` does. They are of the router
+    /// alone: what stands before it isn't in them, nor are the packets and the rows that are kept. After a fault the
+    /// bytes are as they were.
+    pub fn save(&self, out: &mut Vec<u8>) -> Result<(), Fault>
+        ensures saved { IfSome self.now.router.standing (λ r. OnOk result
+            (out.new.items ≡ out.old.items ++ text r.state)) }
+        ensures fitting { IfSome self.now.router.standing (λ r. OnOk result (FitsState r.state)) }
+        ensures resumable { IfSome self.now.router.standing (λ r. IsResumable r.state) }
+        ensures silent { OnErr result (out.new.items ≡ out.old.items) }
+        ensures failed { (result ≡ Err Fault.Failed) ↔ (self.now.router.standing ≡ None) }
+        ensures fault { IfSome self.now.router.standing (λ r. IsOkUnless result Fault.Memory) }
+    {
+        if self.is_lost {
+            return Err(Fault::Failed);
+        }
+        self.router.save(out)
     }
 
     /// Sets which hosts of older versions an interface hears from then on, and forgets what it heard before. The

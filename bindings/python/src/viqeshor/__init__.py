@@ -54,7 +54,7 @@ __all__ = [
 Buffer: TypeAlias = bytes | bytearray | memoryview
 
 # What this package and the library have to agree on: VIQ_ABI of viqeshor.h.
-ABI = 2
+ABI = 3
 NEVER, NO_INTERFACE, MOST_BYTES = 2**64 - 1, 2**32 - 1, 1528
 # The letters of the tables.
 TABLES = "NGSDAURF"
@@ -65,7 +65,8 @@ JOINED, REGISTERS = ["", "join", "pending", "prune"], ["-", "join", "pending", "
 
 class Answer(enum.IntEnum):
     """What became of an event. `docs/SCENARIOS.md` has the refusals, 1 to 39, and the reasons to ignore, from 101.
-    Those of 40 to 51, of 53 and of 54 are raised as an `Error`."""
+    Those of 40 to 51, of 53 and of 54 are raised as an `Error`, and so are the refusals of saved bytes, 60 to 68, which
+    `docs/SAVED.md` has."""
     DONE = 0
     SHORT = 1
     BAD_VERSION = 2
@@ -100,6 +101,15 @@ class Answer(enum.IntEnum):
     NO_TIMER = 52
     OTHER_ABI = 53
     NO_SETTING = 54
+    NOT_OURS = 60
+    OTHER_VERSION = 61
+    CUT_SHORT = 62
+    OUT_OF_RANGE = 63
+    KEYS_DONT_RISE = 64
+    LEFT_OVER = 65
+    NOT_HELD = 66
+    NOT_SETTLED = 67
+    NOT_QUIET = 68
     OWN = 101
     NOT_FOR_ME = 102
     OTHER_TYPE = 103
@@ -127,7 +137,7 @@ class Error(Exception):
 
 
 class Refused(Error):
-    """A configuration or a table that was refused."""
+    """A configuration, a table or a saved state that was refused."""
 
 
 class NoMemory(Error, MemoryError):
@@ -350,6 +360,7 @@ SOURCE: list[Any] = [c_uint32, c_uint32]
 # What each call takes behind the router, and what it answers.
 CALLS: dict[str, tuple[list[Any], Any]] = {
     "end": ([], None),
+    "save": ([POINTER(c_uint8), c_size_t, POINTER(c_size_t)], c_uint32),
     "advance": ([c_uint64, Draw], c_uint32),
     "frame": ([c_uint32, c_char_p, c_size_t, Draw], c_uint32),
     "unicast": ([c_char_p, c_size_t, Draw], c_uint32),
@@ -389,8 +400,9 @@ def load(path: str) -> ctypes.CDLL:
         call = getattr(library, f"viq_{name}")
         call.argtypes, call.restype = [c_void_p, *takes], answers
     library.viq_new.argtypes = [POINTER(c_void_p), c_uint32, POINTER(Settings), *LIST, *LIST, *LIST]
+    library.viq_restore.argtypes = [POINTER(c_void_p), c_uint32, c_char_p, c_size_t]
     library.viq_answer_text.argtypes = [c_uint32]
-    for name, answers in (("new", c_uint32), ("abi", c_uint32), ("version", c_char_p), ("answer_text", c_char_p)):
+    for name, answers in (("new", c_uint32), ("restore", c_uint32), ("abi", c_uint32), ("version", c_char_p), ("answer_text", c_char_p)):
         getattr(library, f"viq_{name}").restype = answers
     if library.viq_abi() != ABI:
         raise OtherVersion(Answer.OTHER_ABI, f"{path} is {library.viq_version().decode()}, of another ABI than {ABI}")
@@ -481,8 +493,7 @@ class Router:
         stays_on_shared_tree: bool = False,
         library: str | os.PathLike[str] | None = None,
     ) -> None:
-        self.lock = threading.RLock()
-        self._library = load(os.fspath(library or found()))
+        self._begin(library)
         times = (query_interval, query_response_interval, last_member_query_interval)
         whole = [number(value, 32, name) for value, (name, _) in zip((limit, robustness, *times), Settings._fields_)]
         settings, given = Settings(*whole, bool(stays_on_shared_tree)), array(
@@ -492,6 +503,24 @@ class Router:
         self._must(
             self._library.viq_new(byref(made), ABI, byref(settings), *given, *routes_of(routes), *ranges_of(ranges))
         )
+        self._keep(made)
+
+    @classmethod
+    def restore(cls, saved: Buffer, *, library: str | os.PathLike[str] | None = None) -> Self:
+        """A router that goes on from the state that `save` returned: the same events and draws bring the same answers
+        and packets. It has nothing to send, and hears no older version of IGMP. Raises `Refused` where the bytes are
+        no saved state of a router, whatever they are."""
+        router, made, data = cls.__new__(cls), c_void_p(), bytes_of(saved)
+        router._begin(library)
+        router._must(router._library.viq_restore(byref(made), ABI, data, len(data)))
+        router._keep(made)
+        return router
+
+    def _begin(self, library: str | os.PathLike[str] | None) -> None:
+        self.lock = threading.RLock()
+        self._library = load(os.fspath(library or found()))
+
+    def _keep(self, made: c_void_p) -> None:
         self._router: c_void_p | None = made
         self._finalizer = weakref.finalize(self, self._library.viq_end, made)
 
@@ -528,6 +557,17 @@ class Router:
         with self.lock:
             self._router = None
             self._finalizer()
+
+    def save(self) -> bytes:
+        """The state of the router as bytes, of which `restore` makes a router that goes on from it. What isn't in them:
+        what the clock showed at timestamp 0, packets that weren't sent, and what `set_older_hosts` and
+        `set_query_version` set and the groups in an older mode."""
+        size = c_size_t()
+        with self.lock:
+            self._must(self._call("save", None, 0, byref(size)))
+            room = (c_uint8 * size.value)()
+            self._must(self._call("save", room, size, byref(size)))
+        return bytes(room)
 
     # ---- events
 

@@ -14,7 +14,7 @@ use pim_event::Replaced;
 use pim_fanout::Cache;
 use pim_messages::Room;
 use pim_refilled::write_world;
-use pim_rested::{Resumed, RestoreRefusal, recall_resumable, resumed};
+use pim_rested::{RestoreRefusal, Resumed, recall_resumable, resume};
 use pim_types::Fault;
 use std::alloc::Global;
 
@@ -55,7 +55,7 @@ impl Router {
         let probes = Probes::new();
         let made = {
             let mut outside = probes.outside();
-            resumed(alloc, bytes, &mut outside.meter)?
+            resume(alloc, bytes, &mut outside.meter)?
         };
         match made {
             Ok(Resumed { world, cache }) => Ok(Ok(Router {

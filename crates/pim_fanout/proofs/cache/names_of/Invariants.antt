@@ -1,5 +1,5 @@
 use Rattle.std.proofs.Common.{◌≡◌, ◌++◌}
-use Rattle.std.specs.List.{map}
+use Rattle.std.specs.Prelude.{map}
 use Rattle.pim_types.specs.Keys.{group_in, source_in, source_key}
 use Rattle.pim_fanout.specs.Named.{keys_of}
 use Rattle.pim_fanout.proofs.cache.names_of.Given as goal

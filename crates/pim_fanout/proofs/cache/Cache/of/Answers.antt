@@ -12,7 +12,7 @@ returns-clause-shown c =
     (all_shown c.args.world.now (keys_of c.in_ok-names.names.items) c.refresh_rows.new.self.mfc.rows
     (rw (rw c.store.ensures at c.source_rows.ensures) at c.in_ok-names.ensures)
     (subst (λ (k : CacheValue). Refreshes (keys_of c.in_ok-names.names.items) c.args.world.now k.mfc.rows
-    c.refresh_rows.new.self.mfc.rows) c.new-cache.ensures (rw c.as_slice.ensures at c.in_ok-refresh_rows.ensures.shown)))
+    c.refresh_rows.new.self.mfc.rows) c.new-cache.ensures (rw c.as_slice.ensures.value at c.in_ok-refresh_rows.ensures.shown)))
 
 pub returns-clause-uncounted : goal.returns-clause-uncounted
-returns-clause-uncounted c = none_counted _ c.reset.new.self c.reset.ensures
+returns-clause-uncounted c = none_counted c.refresh_rows.new.self c.reset.new.self c.reset.ensures
