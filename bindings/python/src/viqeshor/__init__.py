@@ -402,8 +402,9 @@ def load(path: str) -> ctypes.CDLL:
     library.viq_new.argtypes = [POINTER(c_void_p), c_uint32, POINTER(Settings), *LIST, *LIST, *LIST]
     library.viq_restore.argtypes = [POINTER(c_void_p), c_uint32, c_char_p, c_size_t]
     library.viq_answer_text.argtypes = [c_uint32]
-    for name, answers in (("new", c_uint32), ("restore", c_uint32), ("abi", c_uint32), ("version", c_char_p), ("answer_text", c_char_p)):
-        getattr(library, f"viq_{name}").restype = answers
+    for names, answers in ((("new", "restore", "abi"), c_uint32), (("version", "answer_text"), c_char_p)):
+        for name in names:
+            getattr(library, f"viq_{name}").restype = answers
     if library.viq_abi() != ABI:
         raise OtherVersion(Answer.OTHER_ABI, f"{path} is {library.viq_version().decode()}, of another ABI than {ABI}")
     return library
