@@ -3,3 +3,4 @@ pub mod FilledRecords
 pub mod Made
 pub mod SettledTests
 pub mod Taken
+pub mod Tests

@@ -164,10 +164,7 @@ fn is_tidy(world: &World) -> bool
     if !are_up(world, store.assert_rows()) {
         return false;
     }
-    if !are_live(store.source_rows()) {
-        return false;
-    }
-    true
+    are_live(store.source_rows())
 }
 
 /// Whether a world whose keys rise is settled: no robustness and no interval is 0, all ends are later than the present,

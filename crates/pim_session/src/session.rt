@@ -1,7 +1,7 @@
 //! A router in a box, with what stands before it, and what its last calls returned.
 ghost use Rattle.std.specs.List.Sorted.{IsStrictlySortedBy};
 ghost use Rattle.std.specs.Option.{option_map_or};
-ghost use Rattle.std.specs.Prelude.{◌≡◌, ◌++◌, ◌↔◌, [], Err, IfErr, IfOk, IfSome, IsOk, IsOkUnless, IsSome, IsTrue, None, Ok, OnErr, OnOk, Some, min, option_and_then};
+ghost use Rattle.std.specs.Prelude.{◌≡◌, ◌++◌, ◌↔◌, [], Err, IfErr, IfOk, IfSome, IsOk, IsOkUnless, IsSome, IsTrue, None, Ok, OnErr, OnOk, Some, min, option_and_then, true};
 ghost use Rattle.pim_ip.specs.declared.fault.Fault.{Fault};
 ghost use Rattle.pim_fanout.specs.Named.{keys_of};
 ghost use Rattle.pim_macros.specs.Rows.{number_of};

@@ -8,15 +8,15 @@ use Rattle.pim_event.proofs.change.take_ranges.Goals as goal
 pub returns-then-has_ranges-clause-state : goal.returns-then-has_ranges-clause-state
 returns-then-has_ranges-clause-state c =
     let same : c.args.world.now.ranges ≡ c.args.next.ranges =
-    c.has_ranges.ensures.0 c.if-has_ranges.true ∙ c.ranges.ensures in
+    c.has_ranges.ensures.0 c.if-has_ranges.true ∙ c.ranges-2.ensures in
     subst (λ (rs : List RpRange). c.args.world.now ≡ rps_replaced c.args.world.now rs) same
     (same_rps_replaced c.args.world.now)
 
 pub returns-then-has_ranges-clause-replaced : goal.returns-then-has_ranges-clause-replaced
 returns-then-has_ranges-clause-replaced c =
     let same : c.args.world.now.ranges ≡ c.args.next.ranges =
-    c.has_ranges.ensures.0 c.if-has_ranges.true ∙ c.ranges.ensures in
+    c.has_ranges.ensures.0 c.if-has_ranges.true ∙ c.ranges-2.ensures in
     c.keep_ranges.ensures ∙ ap RangesReplaced (sym same)
 
 pub returns-clause-replaced : goal.returns-clause-replaced
-returns-clause-replaced c = c.keep_ranges.ensures ∙ ap RangesReplaced c.in_ok-before.ensures.back
+returns-clause-replaced c = c.keep_ranges-2.ensures ∙ ap RangesReplaced c.in_ok-before.ensures.back

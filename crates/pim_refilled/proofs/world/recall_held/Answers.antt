@@ -5,4 +5,5 @@ pub returns : goal.returns
 returns c = λ accepted.
     taken c.args.world.now accepted (rw c.interfaces.ensures at c.recall_kinds.ensures)
     (rw c.membership.ensures at c.recall_kinds-2.ensures) (rw c.store.ensures at c.recall_kinds-3.ensures)
-    c.present.ensures.within c.settings.ensures.least c.settings.ensures.most c.settings.ensures.interval
+    (rw c.present.ensures.present at c.present.ensures.within) (rw c.settings.ensures.value at c.settings.ensures.least)
+    (rw c.settings.ensures.value at c.settings.ensures.most) (rw c.settings.ensures.value at c.settings.ensures.interval)

@@ -12,4 +12,4 @@ returns-clause-ok c =
     c.write_list-3.new.out.items (rw c.settings.ensures.value at c.in_ok-write.ensures.ok)
     (rw (rw c.interfaces.ensures at c.configured.ensures) at c.in_ok-write_list.ensures.ok)
     (rw c.present.ensures.present at c.in_ok-write-2.ensures.ok)
-    (rw c.routes.ensures at c.in_ok-write_list-2.ensures.ok) (rw c.ranges.ensures at c.in_ok-write_list-3.ensures.ok)
+    (rw c.routes.ensures at c.in_ok-write_list-2.ensures.ok) (rw c.ranges-2.ensures at c.in_ok-write_list-3.ensures.ok)
