@@ -5,7 +5,7 @@ use Rattle.std.specs.List.{list_all}
 use Rattle.std.specs.Prelude.{Result, is_ok}
 use Rattle.pim_ip.specs.Tests.{expect, ◌>>◌}
 use Rattle.pim_ip.specs.declared.refusal.Refusal.{Refusal}
-use Rattle.pim_ifaces.specs.Interfaces.{interfaces_test, is_up_key}
+use Rattle.pim_ifaces.specs.Interfaces.{is_up_key}
 use Rattle.pim_membership.specs.MembershipTables as membership
 use Rattle.pim_model.specs.Limits.{are_routes, are_rps, config_test}
 use Rattle.pim_model.specs.State.{State}
@@ -14,7 +14,6 @@ use Rattle.pim_store.specs.PimTables as store
 use Rattle.pim_world.proofs.Accepted.{in_two_parts, interfaces_tested}
 use Rattle.pim_world.specs.Configurations.{settings_test}
 use Rattle.pim_world.specs.Lending.{membership_tables}
-use Rattle.pim_world.specs.PartsOf.{are_held}
 use Rattle.pim_refilled.specs.Rows.{can_hold}
 
 first : (a b : Result (Unit {0}) Refusal) → (a >> b) ≡ Ok tt → a ≡ Ok tt

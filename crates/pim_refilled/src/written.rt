@@ -1,6 +1,6 @@
 //! A world written as a saved state.
 ghost use Rattle.std.specs.List.{AllByRecursion, flat_map};
-ghost use Rattle.std.specs.Prelude.{◌≡◌, ◌++◌, OnOk, length};
+ghost use Rattle.std.specs.Prelude.{◌≡◌, ◌++◌, OnOk};
 ghost use Rattle.pim_saved.specs.Fits.{FitsEntry, FitsGround, FitsJoinTimer, FitsLink, FitsList, FitsRecord, FitsSource, FitsState, FitsTree};
 ghost use Rattle.pim_saved.specs.Text.{entry_text, ground_text, join_timer_text, links_text, records_text, source_text, table_text, text, trees_text};
 ghost use Rattle.pim_saved.specs.Parts.{ground_of, links_of, records_of, trees_of};

@@ -1,4 +1,4 @@
-use Rattle.std.proofs.Common.{◌≡◌, ◌∙◌, ap}
+use Rattle.std.proofs.Common.{◌∙◌, ap}
 use Rattle.pim_membership.specs.MembershipTables.{MembershipTables}
 use Rattle.pim_refilled.specs.Recorded.{all_refilled, tables_in}
 use Rattle.pim_refilled.proofs.FilledRecords.{all_filled}

@@ -1,4 +1,3 @@
-use Rattle.std.proofs.Common.{◌≡◌}
 use Rattle.pim_refilled.proofs.Tests.{ten_tests}
 use Rattle.pim_refilled.proofs.settled.is_tidy.Goals as goal
 

@@ -1,6 +1,6 @@
 use Rattle.std.proofs.Common.{◌≡◌, drop}
 use Rattle.std.specs.List.{list_all}
-use Rattle.pim_store.specs.PimTables.{is_assert_key, is_plain_key, is_rpt_key, is_source_key}
+use Rattle.pim_store.specs.PimTables.{is_source_key}
 use Rattle.pim_refilled.specs.Refilled.{refilled}
 use Rattle.pim_refilled.proofs.store.put_sources.Given as goal
 

@@ -1,4 +1,4 @@
-use Rattle.std.proofs.Common.{◌≡◌, ◌∙◌, ap}
+use Rattle.std.proofs.Common.{◌∙◌, ap}
 use Rattle.pim_store.specs.PimTables.{PimTables}
 use Rattle.pim_refilled.specs.Refilled.{all_refilled, tables_in}
 use Rattle.pim_refilled.proofs.Filled.{all_filled}
