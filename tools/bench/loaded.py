@@ -16,8 +16,10 @@ PROGRAM = TOP / "crates" / "pimlab" / "out" / "pimlab"
 FIRST_GROUP = 0xE1010000
 FIRST_SOURCE = 0x0A800000
 RP = 0x0A090909
+# The router's own address on interface 0.
+ROUTER = 0x0A000002
 STAR, SOURCE = 7, 4
-TO_IN, IS_EX, ALLOW = 3, 2, 5
+IS_IN, IS_EX, TO_IN, ALLOW = 1, 2, 3, 5
 GROUPS_A_FRAME, SOURCES_A_FRAME = 70, 180
 RECORDS_A_REPORT = 183
 
@@ -40,6 +42,12 @@ def igmp_packet(source: int, destination: int, message: bytes, is_right: bool = 
 def data_packet(source: int, group: int, is_right: bool = True) -> bytes:
     """Data without a payload."""
     return summed(packets.write(packets.UDP, dotted(source), dotted(group), 16, b""), 10, is_right)
+
+
+def register_stop(rp: int, router: int, group: int, is_right: bool = True) -> bytes:
+    """A Register-Stop of all sources of the group."""
+    content = packets.encoded_group(dotted(group), 32) + packets.encoded_unicast("0.0.0.0")
+    return summed(packets.write_pim(packets.REGISTER_STOP, dotted(rp), dotted(router), 64, content), 22, is_right)
 
 
 def addresses(sources: Iterable[int]) -> bytes:
@@ -82,6 +90,10 @@ def move(**values: int | str) -> str:
 
 def frame(iface: int, data: bytes) -> str:
     return move(do="frame", router="r", iface=iface, hex=data.hex())
+
+
+def unicast(data: bytes) -> str:
+    return move(do="unicast", router="r", hex=data.hex())
 
 
 def star(number: int) -> GroupEntries:

@@ -23,6 +23,7 @@ mod Sending
 pub mod Staying
 mod Settling
 mod SourceEnds
+mod Stopped
 pub mod Taking
 mod OtherRoutes
 mod Packets

@@ -62,7 +62,9 @@ use Rattle.pim_ready.specs.Ready.{IsSettled}
 use Rattle.pim_querier.specs.Reports.{all_keep_modes, moved_sources}
 use Rattle.pim_event.proofs.IgmpFacts.{query_leaves_facts, report_names_facts, star_names_none}
 use Rattle.pim_event.proofs.MovedReports.{report_touches_moved, reported_known}
+use Rattle.pim_event.proofs.Stopped.{stop_agrees}
 use Rattle.pim_event.proofs.Tunnelled.{routes_leave_facts, rps_leave_facts, stop_leaves_facts}
+use Rattle.pim_event.specs.Tunnels.{keys_of_stop}
 use Rattle.pim_model.specs.Registers.{register_stop_seen}
 use Rattle.pim_ip.specs.Ipv4.{Packet}
 use Rattle.pim_event.proofs.Direct.{direct_touches}
@@ -253,15 +255,15 @@ module _ (s : State) where
       })
 
   pub stop_covered : (from : Addr) (r : RegisterStopValue) (keys : List Key)
-      → keys ≡ source_key 0 r.group.bits r.source.bits ∷ [] → (w : ℕ) → Concerns keys s (change s w (Accepted.RegisterStop from r)).state
-  unfolding touched_by_event change
+      → keys ≡ keys_of_stop s r.group.bits r.source.bits → (w : ℕ) → Concerns keys s (change s w (Accepted.RegisterStop from r)).state
+  unfolding change
   stop_covered from r keys those w =
-      let key : Key = source_key 0 r.group.bits r.source.bits in
       let s' : State = register_stop_seen s w r.group.bits r.source.bits in
       subst (λ ks. Concerns ks s s') (sym those)
       (record {
-        agrees = change_touches s w (Accepted.RegisterStop from r) (key ∷ []) refl;
-        named = λ g src there. or_left (has_facts s g src) (list_any (names_source g src) (key ∷ []))
+        agrees = stop_agrees s w from r;
+        named = λ g src there. or_left (has_facts s g src)
+            (list_any (names_source g src) (keys_of_stop s r.group.bits r.source.bits))
             ((stop_leaves_facts s w r.group.bits r.source.bits).passed (names_source g src) there);
       })
 

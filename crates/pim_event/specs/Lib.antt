@@ -13,4 +13,5 @@ pub mod Planning
 pub mod Sending
 pub mod Settling
 pub mod Stops
+pub mod Tunnels
 pub mod Repeats

@@ -18,6 +18,7 @@ use Rattle.pim_model.specs.Sets.{is_kept_alive}
 use Rattle.pim_event.specs.Ends.{few_or_all}
 use Rattle.pim_event.specs.Repeats.{is_assert_known, keys_of_packet}
 use Rattle.pim_event.specs.OtherRoutes.{with_routes}
+use Rattle.pim_event.specs.Tunnels.{keys_of_stop}
 use Rattle.pim_event.specs.Acting.{HasRead, act_event}
 use Rattle.pim_event.specs.declared.plan.Plan.{Plan}
 use Rattle.pim_event.specs.declared.plan.Planning.{Planning}
@@ -42,7 +43,7 @@ touched_of s (Accepted.Data i p) = Touched.Keys (keys_of_packet s p.destination 
 touched_of s (Accepted.Register p r) =
     Touched.Keys (if is_kept_alive s (registered_group r) (registered_source r) then []
     else source_key 0 (registered_group r) (registered_source r) ∷ [])
-touched_of s (Accepted.RegisterStop from stop) = Touched.Keys (source_key 0 stop.group.bits stop.source.bits ∷ [])
+touched_of s (Accepted.RegisterStop from stop) = Touched.Keys (keys_of_stop s stop.group.bits stop.source.bits)
 touched_of s (Accepted.Routes routes) = Touched.Keys (keys_by_routes s (with_routes s routes))
 touched_of s (Accepted.Rps ranges) = Touched.Keys (keys_by_rps s (rps_replaced s ranges))
 touched_of s _ = Touched.All

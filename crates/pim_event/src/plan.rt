@@ -11,6 +11,7 @@ ghost use Rattle.pim_macros.specs.Sights.{IsSourceSight};
 ghost use Rattle.pim_event.specs.Repeats.{keys_of_packet};
 ghost use Rattle.pim_event.specs.Naming.{Brings, IsConfigured};
 ghost use Rattle.pim_event.specs.Planning.{IsPlanned};
+ghost use Rattle.pim_event.specs.Tunnels.{is_stoppable, keys_of_stop, stoppable_keys};
 ghost use Rattle.pim_event.specs.declared.act.Act.{Act as ActValue};
 ghost use Rattle.pim_event.specs.declared.act.Control.{Control as ControlValue};
 ghost use Rattle.pim_event.specs.declared.plan.Planning.{Planning as PlanningValue};
@@ -18,7 +19,7 @@ ghost use Rattle.pim_world.specs.declared.touched.Touched.{Touched as TouchedVal
 
 use crate::act::{Act, Control};
 use crate::again::{is_assert_known, is_direct, is_kept_alive, packet_moves_end};
-use crate::few::few_or_all;
+use crate::few::{are_many, few_or_all};
 use crate::rerouted::{touched_by_routes, touched_by_rps};
 use igmp_wire::{QueryView, ReportView};
 use pim_downstream::{Effect, Named};
@@ -28,6 +29,7 @@ use pim_macros::{SourceSight, StarSight};
 use pim_model::Accepted;
 use pim_mrib::Mrib;
 use pim_register::source_is_full;
+use pim_types::fact::RegisterState;
 use pim_types::{Addr, IfaceId, Key, Route, RpRange, Series, SourceGroup};
 use pim_wire::{Assert, Hello, JoinPruneView, RegisterStop, RegisterView};
 use pim_world::{Meter, Touched, Turn, World};
@@ -362,7 +364,46 @@ fn plan_register<'a>(
     Ok(Planning::of_keys(keys, Act::Register { packet, register }))
 }
 
-// Plans a Register-Stop: it touches the source that it names, and makes no facts.
+// Whether a Register-Stop changes a register in this state: not one in Prune.
+fn is_stoppable(state: RegisterState) -> bool
+    ensures { result ≡ is_stoppable state }
+{
+    !matches!(state, RegisterState::Prune { .. })
+}
+
+// The keys of those of the group's registers that a Register-Stop changes.
+#[tactic(auto, unfolding(pim_model::specs::Tables::keys_in, crate::specs::Tunnels::stoppable_keys))]
+fn stoppable_keys(world: &World, alloc: Global, group: Addr) -> Result<Vec<Key>, AllocError>
+    ensures { IfOk result (λ keys. keys.items ≡ stoppable_keys world.now group.bits) }
+{
+    let mut keys = Vec::new(alloc);
+    for (key, row) in world.store().registers_of(group) {
+        if is_stoppable(row.state) {
+            keys.push(*key)?;
+        }
+    }
+    Ok(keys)
+}
+
+// The keys that a Register-Stop touches.
+fn keys_of_stop(
+    world: &World,
+    alloc: Global,
+    stopped: SourceGroup,
+) -> Result<Series<Key>, AllocError>
+    ensures { IfOk result (λ keys. keys ≡ keys_of_stop world.now stopped.group.bits stopped.source.bits) }
+{
+    if stopped.source == Addr::NONE {
+        let keys = stoppable_keys(world, alloc, stopped.group)?;
+        if !are_many(&keys) {
+            return Ok(Series::from_vec(keys));
+        }
+    }
+    only(alloc, stopped.key())
+}
+
+// Plans a Register-Stop: it touches the source that it names, or the registers of its group that it changes where it
+// names 0.0.0.0, and makes no facts.
 fn plan_stop<'a>(
     world: &World,
     turn: &Turn,
@@ -375,7 +416,7 @@ fn plan_stop<'a>(
         source: stop.source,
         group: stop.group,
     };
-    let keys = only(turn.alloc, stopped.key())?;
+    let keys = keys_of_stop(world, turn.alloc, stopped)?;
     Ok(Planning::of_keys(keys, Act::Control(Control::RegisterStop { from, stop })))
 }
 

@@ -224,10 +224,7 @@ impl Cache {
 }
 
 // The sources that have a fact.
-fn names_of(
-    alloc: Global,
-    rows: PlacedRows<'_, SourceRow>,
-) -> Result<Vec<SourceGroup>, AllocError>
+fn names_of(alloc: Global, rows: PlacedRows<'_, SourceRow>) -> Result<Vec<SourceGroup>, AllocError>
     ensures { IfOk result (λ names. keys_of names.items
         ≡ map (λ e. source_key 0 (group_in e.0) (source_in e.0)) rows.entry) }
 {

@@ -2,6 +2,7 @@ mod EachOnce
 mod Electing
 mod Expired
 mod InTurn
+mod LateSources
 mod Lowered
 mod Missing
 pub mod NamedRecords

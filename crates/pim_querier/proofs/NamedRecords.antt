@@ -116,7 +116,7 @@ member_step : (src : ℕ) (m : Member) (es : List Member) (b : Bool)
 member_step src m es true rest = sym (by_end m.1)
 member_step src m es false rest = rest
 
-members_among : (src : ℕ) (es : List Member)
+pub members_among : (src : ℕ) (es : List Member)
     → is_among src (map (λ (e : Member). e.0) es) ≡ is_member (fate_among es src)
 unfolding is_among
 members_among src [] = refl
@@ -271,11 +271,11 @@ among_where k p [] = sym (none (p k))
     none false = refl
 among_where k p (m ∷ ms) = among_filter_step k m p ms (m == k) refl (among_where k p ms)
 
-among_filter : (k : ℕ) (p : ℕ → Bool) (ms : List ℕ) → is_among k (filter p ms) ≡ (p k && is_among k ms)
+pub among_filter : (k : ℕ) (p : ℕ → Bool) (ms : List ℕ) → is_among k (filter p ms) ≡ (p k && is_among k ms)
 unfolding is_among
 among_filter k p ms = any_in_filter p (λ n. n == k) ms ∙ among_where k p ms
 
-rises_filtered : (p : ℕ → Bool) (ms : List ℕ) → Rises ms → Rises (filter p ms)
+pub rises_filtered : (p : ℕ → Bool) (ms : List ℕ) → Rises ms → Rises (filter p ms)
 rises_filtered p ms rises =
     Rises-from_sorted (filter p ms) (IsStrictlySortedBy-filter nat_cmp p ms (sorted_from_Rises ms rises))
 

@@ -14,6 +14,7 @@ use Rattle.pim_model.specs.Records.{Asked, Member as Entry, members_of, with_rec
 use Rattle.pim_model.specs.State.{State}
 use Rattle.pim_model.specs.Tables.{Table}
 use Rattle.pim_querier.specs.Changes.{applied}
+use Rattle.pim_querier.specs.Reports.{AsksAlike}
 
 -- the numbers of the members are the sources of the rows
 pub numbers_of_rows : (rows : Table SourceRecordRow)
@@ -52,10 +53,10 @@ module _ (s : State) (i : ℕ) (r : Record) where
   written = with_record s i r.group (applied s i r).0
 
   pub seen_by_querier : (w : State) (g : ℕ) (asked : List Asked) → is_querier s i ≡ true → g ≡ r.group → w ≡ written
-      → asked ≡ (applied s i r).1 → each_in_turn (query_asked i g) w asked ≡ record_seen i s r
+      → AsksAlike s i r.group (applied s i r) asked → each_in_turn (query_asked i g) w asked ≡ record_seen i s r
   unfolding record_seen
-  seen_by_querier w g asked queries group is those =
-      (λ j. each_in_turn (query_asked i (group j)) (is j) (those j)) ∙ rw queries refl
+  seen_by_querier w g asked queries group is alike =
+      (λ j. each_in_turn (query_asked i (group j)) (is j) asked) ∙ alike ∙ rw queries refl
 
   pub seen_by_other : is_querier s i ≡ false → record_seen i s r ≡ (written, [])
   unfolding record_seen

@@ -2,15 +2,15 @@
 -- which sources they move.
 use Rattle.std.specs.List.{filter_map, flat_map, list_all, list_any}
 use Rattle.std.specs.Option.{option_map_or}
-use Rattle.std.specs.Prelude.{Bool, List, Option, [], ◌∷◌, false, filter, if◌then◌else◌, is_some, length, map, not, option_map, true, ℕ, ◌&&◌, ◌++◌, ◌+◌, ◌||◌}
+use Rattle.std.specs.Prelude.{Bool, List, Option, [], ◌∷◌, false, filter, if◌then◌else◌, is_some, length, map, not, option_map, true, ℕ, ◌&&◌, ◌++◌, ◌+◌, ◌||◌, ◌≡◌}
 use Rattle.igmp_wire.specs.Values.{Record}
 use Rattle.igmp_wire.specs.declared.report.RecordType.{RecordType}
 use Rattle.pim_types.specs.declared.fact.Key.{Key}
 use Rattle.pim_types.specs.declared.fact.SourceRecordRow.{SourceRecordRow}
 use Rattle.pim_types.specs.Keys.{source_key, star_key}
 use Rattle.pim_model.specs.Cause.{is_including}
-use Rattle.pim_model.specs.Querier.{group_end, is_skipped}
-use Rattle.pim_model.specs.Records.{GroupRecord, Member, is_at_group}
+use Rattle.pim_model.specs.Querier.{each_in_turn, group_end, is_skipped, query_asked}
+use Rattle.pim_model.specs.Records.{Asked, GroupRecord, Member, is_at_group, with_record}
 use Rattle.pim_model.specs.State.{State}
 use Rattle.pim_model.specs.Tables.{Table, ascending, has_row, row_at}
 
@@ -39,6 +39,14 @@ members_named i g t ns = filter_map (member_named i g t) ns
 unfoldable pub record_named : State → ℕ → ℕ → List ℕ → GroupRecord
 record_named s i g sources =
     record { timer = group_end s i g; members = members_named i g s.source_records (ascending sources) }
+
+-- ---- what a record asks for
+
+-- In the state with the record after it, these queries change and send what those do that the record requests.
+abbrev pub AsksAlike : State → ℕ → ℕ → GroupRecord × List Asked → List Asked → Type 0
+AsksAlike s i g applied asked =
+    each_in_turn (query_asked i g) (with_record s i g applied.0) asked
+    ≡ each_in_turn (query_asked i g) (with_record s i g applied.0) applied.1
 
 -- ---- the sources that a report moves
 

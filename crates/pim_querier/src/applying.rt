@@ -1,14 +1,15 @@
 //! A record of a report, applied to what is known of its group (RFC 3376, section 6.4).
 ghost use Rattle.std.specs.List.{list_any};
-ghost use Rattle.std.specs.Prelude.{◌≡◌, ◌<◌, ◌&&◌, ℕ, IfOk, OnOk, if◌then◌else◌, is_none, not, option_map, true};
+ghost use Rattle.std.specs.Prelude.{◌≡◌, ◌<◌, ◌&&◌, ℕ, IfOk, OnOk, false, filter, if◌then◌else◌, is_none, not, option_map, true};
 ghost use Rattle.pim_filters.specs.Members.{IsAscending, member_entries, member_entry, is_named_source};
-ghost use Rattle.pim_model.specs.Querier.{group_end};
+ghost use Rattle.pim_model.specs.Querier.{exceeds, group_end};
 ghost use Rattle.pim_model.specs.Records.{Gone, apply_record, fate_in, is_at_group, record_of, with_record};
 ghost use Rattle.pim_model.specs.Tables.{is_among};
 ghost use Rattle.pim_querier.specs.Changes.{beside};
 ghost use Rattle.igmp_wire.specs.Written.{bits_of};
-ghost use Rattle.pim_querier.specs.Reports.{asks_named, keeps_others, member_named, members_named, record_named};
+ghost use Rattle.pim_querier.specs.Reports.{AsksAlike, asks_named, keeps_others, member_named, members_named, record_named};
 
+use crate::intervals::{exceeds, query_end};
 use crate::place::IfaceGroup;
 use crate::records::{drop_empty, drop_repeats, has_sources, put_members, record_of, set_record};
 use igmp_wire::RecordType;
@@ -101,6 +102,51 @@ fn named_record(
     GroupRecord::with(alloc, world.group_end(place.iface, place.group), &members)
 }
 
+// ---- what is known of the sources that a query lowers
+
+// The sources of the group's record on the interface whose timers expire after the timestamp, in ms, by rising source.
+#[tactic(auto, unfolding(pim_model::specs::Records::record_of, pim_model::specs::Records::members_of))]
+fn members_past(
+    world: &World,
+    alloc: Global,
+    place: IfaceGroup,
+    moment: u64,
+) -> Result<Vec<Member>, AllocError>
+    ensures members { IfOk result (λ members. member_entries members.items
+        ≡ filter (λ m. exceeds moment m.1) (record_of world.now place.iface.number place.group.bits).members) }
+    ensures ascending { IfOk result (λ members. IsAscending (member_entries members.items)) }
+{
+    let mut members = Vec::new(alloc);
+    for (key, row) in world
+        .membership()
+        .source_records_at(place.iface, place.group)
+    {
+        if exceeds(moment, row.end) {
+            members.push(Member {
+                source: key.address(),
+                end: row.end,
+            })?;
+        }
+    }
+    Ok(members)
+}
+
+// The group's record on the interface, with those of its sources alone whose timers expire after the timestamp, in ms.
+fn record_past(
+    world: &World,
+    alloc: Global,
+    place: IfaceGroup,
+    moment: u64,
+) -> Result<GroupRecord, AllocError>
+    ensures timer { IfOk result (λ known. known.timer ≡ group_end world.now place.iface.number place.group.bits) }
+    ensures members { IfOk result (λ known. known.members
+        ≡ filter (λ m. exceeds moment m.1) (record_of world.now place.iface.number place.group.bits).members) }
+    ensures ascending { IfOk result (λ known. IsAscending known.members) }
+{
+    let members = members_past(world, alloc, place, moment)?;
+    GroupRecord::with(alloc, world.group_end(place.iface, place.group), &members)
+}
+
 // ---- what is written
 
 // Whether a group with this timer and its sources as they are has no record: INCLUDE of no source.
@@ -165,18 +211,28 @@ fn apply_to_named(
     Ok(asked)
 }
 
-// The queries that a record of a report requests, by all that is known of its group.
-fn asked_of_all(
+// The queries that a record of a report requests, by those of its group's sources whose timers expire later than a query
+// lets them: of the others none is queried. Those sources are read alone that are to be queried.
+fn asked_of_running(
     world: &World,
     alloc: Global,
     seen: SeenRecord,
     sources: &[Addr],
 ) -> Result<Asking, AllocError>
-    ensures { IfOk result (λ asked. asked
-        ≡ (apply_record seen.full (record_of world.now seen.place.iface.number seen.place.group.bits) seen.record_type
-        (bits_of sources.now)).1) }
+    requires keeps { keeps_others seen.record_type ≡ true }
+    requires others { asks_named seen.record_type ≡ false }
+    ensures { IfOk result (λ asked. AsksAlike world.now seen.place.iface.number seen.place.group.bits
+        (apply_record seen.full (record_of world.now seen.place.iface.number seen.place.group.bits) seen.record_type
+        (bits_of sources.now)) asked) }
 {
-    let mut known = record_of(world, alloc, seen.place)?;
+    // For the proof: each source has one record, under its own key, and the sources rise.
+    world.membership().recall_rising_source_records();
+    world.membership().recall_keyed_source_records();
+    let _ = world
+        .membership()
+        .source_records_at(seen.place.iface, seen.place.group);
+    let end = query_end(world, seen.place.iface);
+    let mut known = record_past(world, alloc, seen.place, end)?;
     let mut asked = Asking::new();
     known.apply(seen.record_type, sources, seen.full, &mut asked)?;
     Ok(asked)
@@ -223,30 +279,33 @@ fn asks_named(record_type: RecordType) -> bool
 }
 
 /// Applies a record of a report, on an interface below 120, with when its timers expire, in ms, if they are set. The
-/// result is the queries that the record requests. If it deletes no source, the records of sources that it doesn't name
-/// aren't written. The meter rises by the nodes visited.
+/// result is the queries that the record requests, if the router sends them, perhaps without sources that are then not
+/// queried, since their timers expire soon enough. If the record deletes no source, the records of sources that it
+/// doesn't name aren't written, and they aren't read but for such queries. The meter rises by the nodes visited.
 pub fn apply(
     world: &mut World,
     meter: &mut Meter,
     alloc: Global,
     seen: SeenRecord,
     sources: &[Addr],
+    queries: bool,
 ) -> Result<Asking, AllocError>
     requires { seen.place.iface.number < 120 }
     ensures state { OnOk result (world.new ≡ with_record world.old seen.place.iface.number seen.place.group.bits
         (apply_record seen.full (record_of world.old seen.place.iface.number seen.place.group.bits) seen.record_type
         (bits_of sources.now)).0) }
-    ensures asked { IfOk result (λ asked. asked
-        ≡ (apply_record seen.full (record_of world.old seen.place.iface.number seen.place.group.bits) seen.record_type
-        (bits_of sources.now)).1) }
+    ensures asked { queries ≡ true → IfOk result (λ asked. AsksAlike world.old seen.place.iface.number
+        seen.place.group.bits
+        (apply_record seen.full (record_of world.old seen.place.iface.number seen.place.group.bits) seen.record_type
+        (bits_of sources.now)) asked) }
 {
     if !keeps_others(seen.record_type) {
         return apply_to_all(world, meter, alloc, seen, sources);
     }
-    if asks_named(seen.record_type) {
+    if asks_named(seen.record_type) || !queries {
         return apply_to_named(world, meter, alloc, seen, sources);
     }
-    let asked = asked_of_all(world, alloc, seen, sources)?;
+    let asked = asked_of_running(world, alloc, seen, sources)?;
     apply_to_named(world, meter, alloc, seen, sources)?;
     Ok(asked)
 }

@@ -1,9 +1,10 @@
 //! A report of a host (RFC 3376, sections 4.2 and 6.4).
-ghost use Rattle.std.specs.Prelude.{◌≡◌, ◌<◌, IfOk, OnOk};
+ghost use Rattle.std.specs.Prelude.{◌≡◌, ◌<◌, IfOk, OnOk, true};
 ghost use Rattle.pim_world.specs.Turns.{saying};
 ghost use Rattle.pim_model.specs.Querier.{is_skipped, record_seen, report_seen};
 ghost use Rattle.pim_model.specs.Records.{with_record};
 ghost use Rattle.pim_querier.specs.Changes.{applied};
+ghost use Rattle.pim_querier.specs.Reports.{AsksAlike};
 ghost use Rattle.igmp_wire.specs.Written.{bits_of};
 
 use crate::applying::{SeenRecord, apply};
@@ -29,18 +30,20 @@ fn sources_of(alloc: Global, group_record: &RecordView<'_>) -> Result<Vec<Addr>,
 }
 
 // Changes the group's record on the interface by a record of a report, whose timers are set to [Group Membership
-// Interval] (RFC 3376, sections 6.4.1 and 6.4.2). The result is the queries that are requested.
+// Interval] (RFC 3376, sections 6.4.1 and 6.4.2). The result is the queries that are requested, if the router sends them.
 fn apply_record(
     world: &mut World,
     meter: &mut Meter,
     alloc: Global,
     iface: IfaceId,
     group_record: &RecordView<'_>,
+    queries: bool,
 ) -> Result<Asking, AllocError>
     requires { iface.number < 120 }
     ensures state { OnOk result (world.new ≡ with_record world.old iface.number group_record.now.group
         (applied world.old iface.number group_record.now).0) }
-    ensures asked { IfOk result (λ asked. asked ≡ (applied world.old iface.number group_record.now).1) }
+    ensures asked { queries ≡ true → IfOk result (λ asked. AsksAlike world.old iface.number group_record.now.group
+        (applied world.old iface.number group_record.now) asked) }
 {
     let full = world.present() + group_membership_interval(world, iface);
     let sources = sources_of(alloc, group_record)?;
@@ -52,7 +55,7 @@ fn apply_record(
         record_type: group_record.record_type(),
         full,
     };
-    apply(world, meter, alloc, seen, &sources)
+    apply(world, meter, alloc, seen, &sources, queries)
 }
 
 // Takes a group record; the queries that it requests are sent, if the router is the querier.
@@ -69,7 +72,7 @@ fn record_seen(
         ≡ saying turn.old (record_seen iface.number world.old group_record.now).1) }
 {
     let queries = is_querier(world, iface);
-    let asked = apply_record(world, meter, turn.alloc, iface, group_record)?;
+    let asked = apply_record(world, meter, turn.alloc, iface, group_record, queries)?;
     if !queries {
         return Ok(());
     }

@@ -8,12 +8,12 @@ use Rattle.pim_ifaces.specs.Interfaces.{interfaces_test, is_up_key}
 use Rattle.pim_locality.specs.Locality.{IsQuiet}
 use Rattle.pim_model.specs.Limits.{are_routes, are_rps, config_test}
 use Rattle.pim_model.specs.State.{State}
-use Rattle.pim_ready.specs.Ready.{IsOrdered, IsSettled}
+use Rattle.pim_ready.specs.Ready.{IsOrdered}
 use Rattle.pim_refilled.proofs.SettledTests.{settled_is_decided}
 use Rattle.pim_refilled.specs.Rows.{can_hold}
 use Rattle.pim_refilled.specs.Settled.{is_settled}
 use Rattle.pim_restored.specs.Reload.{config_of}
-use Rattle.pim_restored.specs.Resting.{all_pass, quiet_tests}
+use Rattle.pim_restored.specs.Resting.{all_pass}
 use Rattle.pim_saved.proofs.SpelledStates.{text_is_read}
 use Rattle.pim_world.proofs.Accepted.{all_accepted, in_two_parts}
 use Rattle.pim_world.specs.Configurations.{settings_test}

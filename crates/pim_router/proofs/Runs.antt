@@ -1,23 +1,23 @@
 -- Runs, event after event.
-use Rattle.std.proofs.Common.{◌≡◌, ℕ, Bool, false, Some, Ok, suc, ◌+◌, ◌<◌, ◌≤◌, List, [], ◌∷◌, ◌++◌, length, drop, get_or, refl, ap, sym, subst, ◌∙◌, append_assoc, append-nil, add-one}
+use Rattle.std.proofs.Common.{◌≡◌, ℕ, Bool, false, Some, suc, ◌+◌, ◌<◌, ◌≤◌, List, [], ◌∷◌, ◌++◌, length, drop, get_or, refl, ap, sym, subst, ◌∙◌, append_assoc, append-nil, add-one}
 use Rattle.std.proofs.Math.ListN.{drop_of_length-le}
 use Rattle.std.proofs.Math.Seq.{drop-cons}
 use Rattle.pim_types.specs.declared.event.Event.{Event}
 use Rattle.pim_types.specs.declared.fact.Key.{Key}
 use Rattle.pim_types.specs.declared.outcome.Outcome.{Outcome}
 use Rattle.pim_locality.specs.Rest.{IsAtRest}
-use Rattle.std.specs.Prelude.{if◌then◌else◌}
+use Rattle.std.specs.Prelude.{IfSome, if◌then◌else◌}
 use Rattle.pim_types.specs.declared.config.Config.{Config}
-use Rattle.pim_asked.proofs.Steps.{run_is_asked}
 use Rattle.pim_promises.proofs.Bounded.{run_stays_within}
 use Rattle.pim_promises.proofs.Few.{counted_stay_bounded}
 use Rattle.pim_promises.specs.Bounded.{IsBounded}
 use Rattle.pim_event.specs.Replacing.{Disturbance}
-use Rattle.pim_model.specs.Cause.{OutcomesAreAsked}
-use Rattle.pim_model.specs.Limits.{config_test}
+use Rattle.pim_model.specs.Cause.{OutcomesAreAsked, past_after}
 use Rattle.pim_model.specs.State.{State, opening}
 use Rattle.pim_model.specs.Step.{outcome_of, ran, run, state_after, step}
-use Rattle.pim_router.specs.Standing.{Shown, Standing, beginning, nothing_shown}
+use Rattle.pim_restored.proofs.Restarts.{later_run_is_asked, later_state_is_reached}
+use Rattle.pim_router.specs.Standing.{IsLedTo, Shown, Standing, nothing_shown}
+use Rattle.pim_router.proofs.Shown.{stands}
 
 -- what was told with what is left is all of it, and the router is at rest
 pub record Runs (first : State) (events : List Event) (s : State) (told : List Outcome)
@@ -69,42 +69,35 @@ module _ (first : State) (events : List Event) where
   runs_end i s told le runs =
       ended s told (subst (λ (es : List Event). Runs first events s told es) (drop_of_length-le events le) runs)
 
--- a router that shows this and works stands as the configuration opens, where that is what is shown
-is_opening : (shown : Shown) (failed : Bool) (r : Standing) (probes touched : ℕ) (changed : List Key) (disturbed : Disturbance)
-    → (if failed then nothing_shown
-    else record { standing = Some r; probes = probes; touched = touched; changed = changed; disturbed = disturbed }) ≡ shown
-    → failed ≡ false → (s : State) → shown.standing ≡ Some (beginning s) → r.state ≡ s
-is_opening shown failed r probes touched changed disturbed shows works s opens =
-    let some = rw works at shows in
-    let new : Some r ≡ Some (beginning s) = ap (λ (x : Shown). x.standing) some ∙ opens in
-    let alike : r ≡ beginning s = cc new in
-    ap (λ (x : Standing). x.state) alike
-
--- the outcomes of a new router's run are asked for
+-- the outcomes of a run are asked for, whatever events came before it
 pub is_asked : (shown : Shown) (failed : Bool) (r : Standing) (probes touched : ℕ) (changed : List Key) (disturbed : Disturbance)
-    (events : List Event)
-    (outcomes : List Outcome)
+    (events : List Event) (outcomes : List Outcome)
     → (if failed then nothing_shown
     else record { standing = Some r; probes = probes; touched = touched; changed = changed; disturbed = disturbed }) ≡ shown
     → failed ≡ false → outcomes ≡ run r.state events
-    → (c : Config) → config_test c ≡ Ok tt → shown.standing ≡ Some (beginning (opening c))
-    → OutcomesAreAsked [] (opening c) events outcomes
-is_asked shown failed r probes touched changed disturbed events outcomes shows works are c accepted opens =
-    let same : r.state ≡ opening c = is_opening shown failed r probes touched changed disturbed shows works (opening c) opens in
-    subst (λ (os : List Outcome). OutcomesAreAsked [] (opening c) events os)
-    (sym (are ∙ ap (λ (s : State). run s events) same)) (run_is_asked c events accepted)
+    → IfSome shown.standing (λ x. (c : Config) (before : List Event) → IsLedTo c before x.state
+    → OutcomesAreAsked (past_after [] (opening c) before) x.state events outcomes)
+is_asked shown failed r probes touched changed disturbed events outcomes shows works are =
+    stands shown failed r probes touched changed disturbed shows works
+    (λ (s : State). (c : Config) (before : List Event) → IsLedTo c before s
+    → OutcomesAreAsked (past_after [] (opening c) before) s events outcomes)
+    (λ c before is. subst (λ (os : List Outcome). OutcomesAreAsked (past_after [] (opening c) before) r.state events os) (sym are)
+    (subst (λ (s : State). OutcomesAreAsked (past_after [] (opening c) before) s events (run s events)) (sym is.led)
+    (later_run_is_asked c before events is.accepted)))
 
--- after a new router's run the limit bounds its facts
+-- after a run the limit bounds the facts, whatever events came before it
 pub is_bounded : (shown : Shown) (failed : Bool) (r : Standing) (probes touched : ℕ) (changed : List Key) (disturbed : Disturbance)
     (events : List Event) (after : State)
     → (if failed then nothing_shown
     else record { standing = Some r; probes = probes; touched = touched; changed = changed; disturbed = disturbed }) ≡ shown
     → failed ≡ false → after ≡ state_after r.state events
-    → (c : Config) → config_test c ≡ Ok tt → shown.standing ≡ Some (beginning (opening c)) → IsBounded c after
-is_bounded shown failed r probes touched changed disturbed events after shows works are c accepted opens =
-    let same : r.state ≡ opening c = is_opening shown failed r probes touched changed disturbed shows works (opening c) opens in
-    subst (λ (s : State). IsBounded c s) (sym (are ∙ ap (λ (s : State). state_after s events) same))
+    → IfSome shown.standing (λ x. (c : Config) (before : List Event) → IsLedTo c before x.state → IsBounded c after)
+is_bounded shown failed r probes touched changed disturbed events after shows works are =
+    stands shown failed r probes touched changed disturbed shows works
+    (λ (s : State). (c : Config) (before : List Event) → IsLedTo c before s → IsBounded c after)
+    (λ c before is. subst (λ (s : State). IsBounded c s)
+    (sym (are ∙ ap (λ (s : State). state_after s events) is.led ∙ later_state_is_reached (opening c) before events))
     (record {
-      beside_asserts = run_stays_within c events accepted;
-      counted_facts = counted_stay_bounded c events accepted;
-    })
+      beside_asserts = run_stays_within c (before ++ events) is.accepted;
+      counted_facts = counted_stay_bounded c (before ++ events) is.accepted;
+    }))

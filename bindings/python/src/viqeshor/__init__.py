@@ -24,7 +24,7 @@ import os
 import random
 import threading
 import weakref
-from collections.abc import Iterable, Iterator
+from collections.abc import Callable, Iterable, Iterator
 from ctypes import POINTER, Structure, byref, c_bool, c_char_p, c_size_t, c_uint8, c_uint32, c_uint64, c_void_p
 from functools import cache
 from ipaddress import IPv4Address
@@ -402,8 +402,9 @@ def load(path: str) -> ctypes.CDLL:
     library.viq_new.argtypes = [POINTER(c_void_p), c_uint32, POINTER(Settings), *LIST, *LIST, *LIST]
     library.viq_restore.argtypes = [POINTER(c_void_p), c_uint32, c_char_p, c_size_t]
     library.viq_answer_text.argtypes = [c_uint32]
-    for name, answers in (("new", c_uint32), ("restore", c_uint32), ("abi", c_uint32), ("version", c_char_p), ("answer_text", c_char_p)):
-        getattr(library, f"viq_{name}").restype = answers
+    for names, answers in ((("new", "restore", "abi"), c_uint32), (("version", "answer_text"), c_char_p)):
+        for name in names:
+            getattr(library, f"viq_{name}").restype = answers
     if library.viq_abi() != ABI:
         raise OtherVersion(Answer.OTHER_ABI, f"{path} is {library.viq_version().decode()}, of another ABI than {ABI}")
     return library
@@ -522,6 +523,7 @@ class Router:
 
     def _keep(self, made: c_void_p) -> None:
         self._router: c_void_p | None = made
+        self._took: Callable[[str, int, tuple[Any, ...], Answer], None] | None = None
         self._finalizer = weakref.finalize(self, self._library.viq_end, made)
 
     def __enter__(self) -> Self:
@@ -543,14 +545,19 @@ class Router:
                 self._raise(Answer.NO_ROUTER)
             return getattr(self._library, f"viq_{name}")(self._router, *values)
 
-    def _answer(self, name: str, *values: Any) -> Answer:
-        answer = Answer(self._call(name, *values))
+    def _event(self, name: str, draw: int | None, *values: Any) -> Answer:
+        bits = random.getrandbits(32) if draw is None else number(draw, 32, "a draw")
+        return self._recorded(name, bits, values, Draw(bits))
+
+    def _recorded(self, name: str, draw: int, values: tuple[Any, ...], *more: Any) -> Answer:
+        """What a call answers, which a recorder is told, if there is one (`viqeshor.recording`)."""
+        with self.lock:
+            answer = Answer(self._call(name, *values, *more))
+            if self._took is not None:
+                self._took(name, draw, values, answer)
         if answer in RAISED:
             self._raise(answer)
         return answer
-
-    def _event(self, name: str, draw: int | None, *values: Any) -> Answer:
-        return self._answer(name, *values, Draw(random.getrandbits(32) if draw is None else number(draw, 32, "a draw")))
 
     def end(self) -> None:
         """Frees the router and its memory. From then on each call but this one raises `Closed`."""
@@ -661,12 +668,13 @@ class Router:
         it heard before. A new router hears none of them, and refuses their messages by OLD_VERSION. It is no event."""
         if hosts not in OLDER_HOSTS:
             raise ValueError(f"none of {', '.join(OLDER_HOSTS)}: {hosts}")
-        self._must(self._call("older", number(iface, 32, "an interface"), OLDER_HOSTS[hosts]))
+        self._must(self._recorded("older", 0, (number(iface, 32, "an interface"), OLDER_HOSTS[hosts])))
 
     def set_query_version(self, iface: int, version: int) -> None:
         """Sets the version in which an interface queries, 2 or 3. It is no event. All routers of a link have to query
         in one version."""
-        self._must(self._call("query_version", number(iface, 32, "an interface"), number(version, 32, "a version")))
+        values = number(iface, 32, "an interface"), number(version, 32, "a version")
+        self._must(self._recorded("query_version", 0, values))
 
     def older_rows(self) -> list[OlderRow]:
         """The groups that are in an older mode, ascending by interface and then by group."""
@@ -713,7 +721,7 @@ class Router:
         """A data plane forwarded a packet of a source to a group at the timestamp `moment`. Where the source's
         keepalive timer runs, its expiry moves to 210 s after that, unless it is later already. The answer is NO_TIMER
         where no such timer runs: only `seen` starts one."""
-        return self._answer("keep", address(source), address(group), number(moment, 64, "a moment"))
+        return self._recorded("keep", 0, (address(source), address(group), number(moment, 64, "a moment")))
 
     # ---- costs
 

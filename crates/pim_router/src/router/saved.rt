@@ -11,7 +11,6 @@ ghost use Rattle.pim_saved.specs.Text.{text};
 use super::Router;
 use crate::probes::Probes;
 use pim_event::Replaced;
-use pim_fanout::Cache;
 use pim_messages::Room;
 use pim_refilled::write_world;
 use pim_rested::{RestoreRefusal, Resumed, recall_resumable, resume};

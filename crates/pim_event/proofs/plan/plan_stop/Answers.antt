@@ -1,5 +1,4 @@
-use Rattle.std.proofs.Common.{◌∷◌, [], ap, refl, ◌∙◌}
-use Rattle.pim_types.specs.declared.fact.Key.{Key}
+use Rattle.std.proofs.Common.{ap, refl}
 use Rattle.pim_model.specs.declared.accepted.Accepted.{Accepted}
 use Rattle.pim_model.specs.Full.{is_full}
 use Rattle.pim_world.specs.declared.touched.Touched.{Touched}
@@ -13,7 +12,7 @@ use Rattle.pim_event.proofs.plan.plan_stop.Goals as goal
 pub returns : goal.returns
 unfolding is_full touched_of
 returns c =
-    let those = c.in_ok-keys.ensures ∙ ap (λ (k : Key). k ∷ []) c.key.ensures in
     keys_fit c.args.world.now (Accepted.RegisterStop c.args.from c.args.stop) c.of_keys.result
     (Act.Control (Control.RegisterStop c.args.from c.args.stop)) refl tt refl c.in_ok-keys.keys c.of_keys.ensures
-    (ap Touched.Keys those) (stop_covered c.args.world.now c.args.from c.args.stop c.in_ok-keys.keys those)
+    (ap Touched.Keys c.in_ok-keys.ensures)
+    (stop_covered c.args.world.now c.args.from c.args.stop c.in_ok-keys.keys c.in_ok-keys.ensures)

@@ -25,7 +25,7 @@ returns-clause-state c =
     ∙ ap (λ p. p.0)
     (seen_by_querier c.args.world.now c.args.iface.number c.args.group_record.now c.apply_record.new.world
     c.group.result.bits c.in_ok-asked.asked (sym c.is_querier-queries.ensures ∙ c.if-not-queries.false) c.group.ensures
-    c.in_ok-asked.ensures.state c.in_ok-asked.ensures.asked))
+    c.in_ok-asked.ensures.state (c.in_ok-asked.ensures.asked c.if-not-queries.false)))
     c.query_asked.ensures.state
 
 pub returns-clause-messages : goal.returns-clause-messages
@@ -34,5 +34,5 @@ returns-clause-messages c =
     (λ e. said_as _ _ _ _ _ e refl
     (seen_by_querier c.args.world.now c.args.iface.number c.args.group_record.now c.apply_record.new.world
     c.group.result.bits c.in_ok-asked.asked (sym c.is_querier-queries.ensures ∙ c.if-not-queries.false) c.group.ensures
-    c.in_ok-asked.ensures.state c.in_ok-asked.ensures.asked))
+    c.in_ok-asked.ensures.state (c.in_ok-asked.ensures.asked c.if-not-queries.false)))
     c.query_asked.ensures.messages

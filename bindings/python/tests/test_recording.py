@@ -1,0 +1,102 @@
+"""What a recorder keeps of a router, and that it plays once more."""
+import os
+import struct
+import tempfile
+import unittest
+from pathlib import Path
+
+from viqeshor import Answer, Router, hosts, recording
+from viqeshor.recording import Recorder
+
+LINKS = [("10.0.0.2", 24), ("10.0.1.1", 24)]
+GROUP = "239.1.1.1"
+
+
+class Recordings(unittest.TestCase):
+    def setUp(self):
+        room = tempfile.TemporaryDirectory()
+        self.addCleanup(room.cleanup)
+        self.path = Path(room.name) / "router"
+        self.router = Router(LINKS, [("224.0.0.0/4", "10.0.0.2")], [("10.9.0.0/16", "10.0.0.1", 0, 110, 20)])
+        self.addCleanup(self.router.end)
+
+    def use(self, count=1):
+        """Each call that a recorder is told of."""
+        router = self.router
+        router.up(0)
+        router.up(1)
+        for number in range(count):
+            router.advance(1000 * number)
+            router.frame(1, hosts.join("10.0.1.9", GROUP))
+            router.frame(0, hosts.data("10.0.0.7", GROUP, b"word"))
+            router.unicast(b"")
+            router.seen(0, "10.0.0.7", GROUP)
+            router.keep("10.0.0.7", GROUP, 1000 * number)
+        router.set_routes([("10.8.0.0/16", "10.0.1.2", 1, 110, 20)])
+        router.set_ranges([])
+        router.down(0)
+
+    def played(self, path):
+        """The records that differ where a file is played."""
+        told = recording.read(path)
+        with Router.restore(told.state) as router:
+            return [
+                record for record in told.records if recording.take(router, record) != (record.answer, record.total)
+            ], told
+
+    def test_it_plays_once_more(self):
+        with Recorder(self.router, self.path):
+            self.router.set_older_hosts(1, "all")
+            self.router.set_query_version(1, 2)
+            self.use()
+        self.router.up(0)
+        differ, told = self.played(f"{self.path}.0")
+        self.assertEqual((differ, len(told.records), told.older_groups), ([], 13, 0))
+        self.assertEqual({record.name for record in told.records}, set(recording.KINDS))
+        self.assertEqual(told.records[4].answer, Answer.DONE)
+        self.assertTrue(any(record.total for record in told.records))
+
+    def test_it_begins_at_any_time(self):
+        self.use(3)
+        with Recorder(self.router, self.path):
+            self.use(2)
+        self.assertEqual(self.played(f"{self.path}.0")[0], [])
+
+    def test_another_outcome_is_noticed(self):
+        with Recorder(self.router, self.path):
+            self.use()
+        told = recording.read(f"{self.path}.0")
+        changed = [record for record in told.records if record.data != hosts.join("10.0.1.9", GROUP)]
+        wanted = [(record.answer, record.total) for record in changed]
+        with Router.restore(told.state) as router:
+            results = [recording.take(router, record) for record in changed]
+        self.assertEqual(len(changed), len(told.records) - 1)
+        self.assertNotEqual(results, wanted)
+
+    def test_two_files_in_turn(self):
+        with Recorder(self.router, self.path, most=4096):
+            self.router.set_older_hosts(1, "v2")
+            self.use(200)
+        files = recording.newest(self.path)
+        self.assertEqual(len(files), 2)
+        self.assertEqual(len(os.listdir(self.path.parent)), 2)
+        for path in files:
+            differ, told = self.played(path)
+            self.assertEqual(differ, [])
+            self.assertEqual(told.records[0].name, "older")
+            self.assertLess(path.stat().st_size, 2 * 4096)
+
+    def test_what_is_cut_off(self):
+        with Recorder(self.router, self.path):
+            self.use()
+        path = Path(f"{self.path}.0")
+        whole, data = recording.read(path).records, path.read_bytes()
+        path.write_bytes(data[:-1])
+        self.assertEqual(recording.read(path).records, whole[:-1])
+        for given in (b"", data[:10], b"other" + data, data[:4] + struct.pack(">H", 2) + data[6:], data + b"?"):
+            path.write_bytes(given)
+            self.assertRaises(recording.Unreadable, recording.read, path)
+
+
+if __name__ == "__main__":
+    unittest.main()

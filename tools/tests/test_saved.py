@@ -1,0 +1,66 @@
+"""pimtext.saved reads the bytes of docs/SAVED.md, and refuses others by its numbers."""
+import re
+import subprocess
+import sys
+import tempfile
+import unittest
+from pathlib import Path
+
+from pimtext import saved
+
+TOP = Path(__file__).resolve().parent.parent.parent
+KNOWN = TOP / "crates" / "pim_known" / "src" / "tests" / "saved_states.rt"
+
+
+def known():
+    """The example's bytes, as crates/pim_known has them."""
+    text = KNOWN.read_text()
+    body = re.search(r"const STATE: &\[u8\] = &\[(.*?)\];", text, re.S)[1]
+    return bytes(int(byte, 16) for byte in re.findall(r"0x([0-9A-Fa-f]{2})\b", re.sub(r"//.*", "", body)))
+
+
+class Saved(unittest.TestCase):
+    data = known()
+
+    def test_the_example(self):
+        state = saved.read(self.data)
+        self.assertEqual(state.present, 1000)
+        self.assertEqual(state.interfaces, [("10.0.0.1", 24, 1, 500, 2500)])
+        lines = list(saved.lines(state))
+        for line in (
+            "downstream 0 225.1.1.1 * 210000 -",
+            "downstream 0 225.1.1.1 10.0.2.5 rpt 210000 4000",
+            "register 0 225.1.1.1 10.0.2.5 2 60000",
+        ):
+            self.assertIn(line, lines)
+        self.assertIn("D 0 225.1.1.1 10.0.2.5 rpt pending 210000 4000", list(saved.printed(state)))
+
+    def test_what_is_refused(self):
+        swapped = saved.read(self.data).tables["downstream"]
+        self.assertEqual([key.source for key, _ in swapped], [None, 0x0A000205])
+        star = bytes.fromhex("00000000e1010101000001000000000003345000")
+        for given, number in (
+            (b"", 62),
+            (self.data[:-1], 62),
+            (b"VQSS" + self.data[4:], 60),
+            (self.data[:5] + b"\2" + self.data[6:], 61),
+            (self.data[:10] + b"\2" + self.data[11:], 63),
+            (self.data.replace(star, star.replace(b"\xe1\1\1\1", b"\xe1\1\1\2")), 64),
+            (self.data + b"\0", 65),
+        ):
+            with self.assertRaises(saved.Unreadable) as caught:
+                saved.read(given)
+            self.assertEqual(caught.exception.number, number)
+
+    def test_the_tool(self):
+        with tempfile.TemporaryDirectory() as room:
+            path = Path(room) / "state"
+            for given, status in ((self.data, 0), (self.data[1:], 1)):
+                path.write_bytes(given)
+                ran = subprocess.run([sys.executable, TOP / "tools" / "saved", path], capture_output=True, text=True)
+                self.assertEqual(ran.returncode, status)
+        self.assertEqual(ran.stderr, "saved: the first four bytes aren't VQST (60)\n")
+
+
+if __name__ == "__main__":
+    unittest.main()
