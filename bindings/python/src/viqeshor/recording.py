@@ -12,12 +12,10 @@ written anew. `docs/LIBRARY.md` has what is in a file ("A recording").
 import os
 import struct
 import zlib
-from collections.abc import Callable, Iterator
 from pathlib import Path
-from types import TracebackType
 from typing import Any, BinaryIO, NamedTuple, Self
 
-from . import NEVER, Answer, Draw, Error, Router, ToldRange, ToldRoute
+from . import Answer, Draw, Error, Router, ToldRange, ToldRoute
 
 MAGIC, VERSION = b"VQRC", 1
 # Of each kind of record: its letter, and the numbers that it has behind its draw. Bytes and lists follow these.

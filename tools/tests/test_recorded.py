@@ -1,0 +1,82 @@
+"""tools/recorded plays a recording, and parts of it."""
+import os
+import shutil
+import subprocess
+import sys
+import tempfile
+import tomllib
+import unittest
+from pathlib import Path
+
+from pimtext.library import Library
+
+TOOLS = Path(__file__).resolve().parent.parent
+sys.path.insert(0, str(TOOLS.parent / "bindings" / "python" / "src"))
+from viqeshor import Router, hosts, recording  # noqa: E402
+
+CC = os.environ.get("CC", "cc")
+
+
+@unittest.skipUnless(shutil.which(CC) and shutil.which("rt"), "there is no C compiler, or no kit")
+class Recorded(unittest.TestCase):
+    @classmethod
+    def setUpClass(cls):
+        library = Library(is_proved=False)
+        cls.archive, cls.shared = library.archive, library.shared()
+
+    def setUp(self):
+        room = tempfile.TemporaryDirectory()
+        self.addCleanup(room.cleanup)
+        self.room = Path(room.name)
+        ways = [("10.9.0.0/16", "10.0.0.1", 0, 110, 20)]
+        with Router([("10.0.0.2", 24), ("10.0.1.1", 24)], [("224.0.0.0/4", "10.0.0.2")], ways, library=self.shared) as router:
+            with recording.Recorder(router, self.room / "router"):
+                router.up(0)
+                router.up(1)
+                router.advance(2000)
+                router.frame(1, hosts.join("10.0.1.9", "239.1.1.1"))
+                router.frame(0, hosts.data("10.0.0.7", "239.1.1.1", b"word"))
+                router.set_routes([])
+                router.advance(50_000)
+
+    def run_tool(self, *words):
+        ran = subprocess.run(
+            [sys.executable, TOOLS / "recorded", "--archive", self.archive, *words], capture_output=True, text=True
+        )
+        return ran.returncode, ran.stdout + ran.stderr
+
+    def test_all_of_it(self):
+        self.assertEqual(self.run_tool(self.room / "router.0"), (0, "7 records, each as it was recorded\n"))
+
+    def test_a_part(self):
+        part = self.room / "part"
+        told = self.run_tool(self.room / "router.0", "--from", "4", "--to", "6", "--write", part)
+        self.assertEqual(told, (0, "3 records, each as it was recorded\n"))
+        self.assertEqual([record.name for record in recording.read(part).records], ["frame", "frame", "routes"])
+        self.assertEqual(self.run_tool(part), (0, "3 records, each as it was recorded\n"))
+
+    def test_a_scenario(self):
+        path = self.room / "part.toml"
+        self.assertEqual(self.run_tool(self.room / "router.0", "--from", "4", "--scenario", path)[0], 0)
+        told = tomllib.loads(path.read_text())
+        self.assertEqual([move["do"] for move in told["move"]], ["frame", "frame", "routes", "advance"])
+        self.assertEqual([each["address"] for each in told["router"][0]["iface"]], ["10.0.0.2/24", "10.0.1.1/24"])
+        self.assertEqual(told["router"][0]["routes"], ["10.9.0.0/16 10.0.0.1 0 110 20"])
+        Router.restore(path.with_suffix(".saved").read_bytes(), library=self.shared).end()
+
+    def test_what_differs(self):
+        path = self.room / "router.0"
+        told = recording.read(path)
+        changed = [record._replace(total=record.total ^ 1) if number == 4 else record
+                   for number, record in enumerate(told.records)]
+        data = path.read_bytes()
+        path.write_bytes(data[:18 + len(told.state)] + b"".join(map(recording.bytes_of, changed)))
+        status, text = self.run_tool(path)
+        self.assertEqual(status, 1)
+        self.assertIn("record 5, frame 0 ", text)
+        path.write_bytes(b"other")
+        self.assertEqual(self.run_tool(path), (1, "recorded: no recording\n"))
+
+
+if __name__ == "__main__":
+    unittest.main()
