@@ -29,7 +29,8 @@ class Recorded(unittest.TestCase):
         self.addCleanup(room.cleanup)
         self.room = Path(room.name)
         ways = [("10.9.0.0/16", "10.0.0.1", 0, 110, 20)]
-        with Router([("10.0.0.2", 24), ("10.0.1.1", 24)], [("224.0.0.0/4", "10.0.0.2")], ways, library=self.shared) as router:
+        interfaces, ranges = [("10.0.0.2", 24), ("10.0.1.1", 24)], [("224.0.0.0/4", "10.0.0.2")]
+        with Router(interfaces, ranges, ways, library=self.shared) as router:
             with recording.Recorder(router, self.room / "router"):
                 router.up(0)
                 router.up(1)
