@@ -95,8 +95,8 @@ class Spoilt(unittest.TestCase):
     def test_a_meter_that_is_set_back_at_the_end(self):
         self.spoil(
             "pim_router/src/router.rt",
-            "    take_in(room, world, cache, event, &mut probes.meter)\n",
-            "    let outcome = take_in(room, world, cache, event, &mut probes.meter);\n"
+            "    take_in(room, world, cache, replaced, event, &mut probes.meter)\n",
+            "    let outcome = take_in(room, world, cache, replaced, event, &mut probes.meter);\n"
             "    probes.begin();\n    outcome\n",
         )
         self.refused("a count begins anew in take_next")
@@ -104,16 +104,16 @@ class Spoilt(unittest.TestCase):
     def test_an_event_with_a_meter_of_its_own(self):
         self.spoil(
             "pim_router/src/router.rt",
-            "    take_in(room, world, cache, event, &mut probes.meter)\n",
-            "    let mut outside = probes.outside();\n    take_in(room, world, cache, event, &mut outside.meter)\n",
+            "    take_in(room, world, cache, replaced, event, &mut probes.meter)\n",
+            "    let mut outside = probes.outside();\n    take_in(room, world, cache, replaced, event, &mut outside.meter)\n",
         )
         self.refused("a meter is made beside that of events in take_next")
 
     def test_an_event_with_an_auditor_of_its_own(self):
         self.spoil(
             "pim_router/src/router.rt",
-            "    take_in(room, world, cache, event, &mut probes.meter)\n",
-            "    take_in(room, world, cache, event, &mut Probes::new().meter)\n",
+            "    take_in(room, world, cache, replaced, event, &mut probes.meter)\n",
+            "    take_in(room, world, cache, replaced, event, &mut Probes::new().meter)\n",
         )
         self.refused("a meter is made beside that of events in take_next")
 
