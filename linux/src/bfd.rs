@@ -1,6 +1,7 @@
 //! A session of Bidirectional Forwarding Detection (RFC 5880) in asynchronous mode, without authentication and echo.
 //! It neither sends nor reads a clock: who has it gives it packets and the time, in ms.
 use rand::Rng;
+use serde::{Deserialize, Serialize};
 
 /// Sessions send to this port (RFC 5881, 4), from one of these.
 pub const PORT: u16 = 3784;
@@ -21,7 +22,7 @@ const NEIGHBOUR_SIGNALED_DOWN: u8 = 3;
 const ADMINISTRATIVELY_DOWN: u8 = 7;
 
 /// As the settings have them.
-#[derive(Clone, Copy, Debug, PartialEq, Eq)]
+#[derive(Clone, Copy, Debug, PartialEq, Eq, Serialize, Deserialize)]
 pub struct Times {
     /// Between two packets of either side, in ms.
     pub interval: u32,
@@ -29,7 +30,7 @@ pub struct Times {
     pub multiplier: u8,
 }
 
-#[derive(Clone, Copy, Debug, PartialEq, Eq)]
+#[derive(Clone, Copy, Debug, PartialEq, Eq, Serialize, Deserialize)]
 pub enum State {
     AdminDown,
     Down,
@@ -95,7 +96,7 @@ pub struct Change {
     pub is_lost: bool,
 }
 
-#[derive(Clone, Debug)]
+#[derive(Clone, Debug, PartialEq, Eq, Serialize, Deserialize)]
 pub struct Session {
     times: Times,
     pub state: State,

@@ -5,9 +5,11 @@ use nix::sys::stat::{umask, Mode};
 use nix::unistd::{chown, Group};
 use socket2::{Domain, SockAddr, Socket, Type};
 use std::io::{self, Read, Write};
+use std::mem::ManuallyDrop;
 use std::ops::{Deref, DerefMut};
 use std::os::unix::fs::PermissionsExt;
-use std::os::unix::net::UnixStream;
+use std::os::unix::io::{AsRawFd, FromRawFd};
+use std::os::unix::net::{UnixListener, UnixStream};
 use std::path::{Path, PathBuf};
 
 const LINE: Protocol = Protocol { whole: line, longest: 256 };
@@ -59,6 +61,21 @@ pub struct Control {
 }
 
 impl Control {
+    /// The listener of the router before this one, where that listened there; else it answers the listener.
+    pub fn resume(place: &Place, listener: Socket) -> io::Result<Control> {
+        // SAFETY: the descriptor is open, and isn't closed here.
+        let at = ManuallyDrop::new(unsafe { UnixListener::from_raw_fd(listener.as_raw_fd()) }).local_addr()?;
+        if at.as_pathname() != Some(place.path.as_path()) {
+            return Err(io::Error::new(
+                io::ErrorKind::AddrNotAvailable,
+                "the router before this one listened elsewhere",
+            ));
+        }
+        let control = Control { server: Server::new(listener, LINE)?, path: place.path.clone() };
+        place.open_up()?;
+        Ok(control)
+    }
+
     /// A socket that a router left behind, and that nobody listens on any more, is replaced.
     pub fn open(place: &Place) -> io::Result<Control> {
         let path = &place.path;

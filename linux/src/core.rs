@@ -1,9 +1,12 @@
 //! The library's router, with the random numbers that it draws: what of the daemon calls the library is here.
 use crate::error::Fatal;
+use crate::left::Told;
 use crate::mroute::Key;
 use crate::older::Speech;
 use crate::plane::Row;
+use crate::recorder::{answer_of, Place, Recorder};
 use crate::settings::{RpSettings, Settings};
+use log::{error, info};
 use rand::rngs::{OsRng, StdRng};
 use rand::{RngCore, SeedableRng};
 use std::collections::BTreeMap;
@@ -37,11 +40,29 @@ pub enum Answer {
 
 pub struct Core {
     router: Router,
+    /// By which it was made.
+    pub told: Told,
     draws: StdRng,
     /// What the router was told of how its interfaces speak IGMP.
     speech: BTreeMap<u32, Speech>,
     /// How often memory was refused for a table that was to be read.
     pub refused_memory: u64,
+    recorder: Option<Recorder>,
+}
+
+/// As far as the library is told when its router is made.
+pub fn told_of(settings: &Settings, interfaces: &[viqeshor::Interface]) -> Told {
+    let interface =
+        |it: &viqeshor::Interface| (it.address, it.length, it.priority, it.propagation_delay, it.override_interval);
+    Told {
+        limit: settings.limit,
+        robustness: settings.robustness,
+        query_interval: settings.query_interval,
+        query_response: settings.query_response,
+        last_member_query: settings.last_member_query,
+        stays_on_shared_tree: settings.stays_on_shared_tree,
+        interfaces: interfaces.iter().map(interface).collect(),
+    }
 }
 
 pub fn ranges_of(rps: &[RpSettings]) -> Vec<Range> {
@@ -63,12 +84,61 @@ impl Core {
     /// A router without routes, at moment 0 and with every interface down.
     pub fn new(settings: &Settings, interfaces: &[viqeshor::Interface]) -> Result<Core, Fatal> {
         let router = Router::new(&settings_of(settings), interfaces, &[], &ranges_of(&settings.rps));
+        Core::of(router.map_err(Fatal::Settings)?, told_of(settings, interfaces))
+    }
+
+    fn of(router: Router, told: Told) -> Result<Core, Fatal> {
         Ok(Core {
-            router: router.map_err(Fatal::Settings)?,
+            router,
+            told,
             draws: StdRng::from_rng(OsRng)?,
             speech: BTreeMap::new(),
             refused_memory: 0,
+            recorder: None,
         })
+    }
+
+    /// The router whose state the bytes are, which goes on from there.
+    pub fn restore(saved: &[u8], told: Told) -> Result<Core, Fatal> {
+        Core::of(Router::restore(saved).map_err(Fatal::Settings)?, told)
+    }
+
+    /// The router's state as bytes. What the last event sent isn't in them.
+    pub fn save(&self) -> Result<Vec<u8>, Error> {
+        self.router.save()
+    }
+
+    // ---- recorded
+
+    /// Events are recorded from here on, or no more.
+    pub fn record(&mut self, place: Option<&Place>) {
+        if self.recorder.as_ref().map(Recorder::place) == place {
+            return;
+        }
+        self.recorder = None;
+        if let Some(place) = place {
+            match Recorder::begin(place, &mut self.router, &self.speech) {
+                Ok(recorder) => {
+                    info!("events are recorded in {}", place.folder.display());
+                    self.recorder = Some(recorder);
+                }
+                Err(error) => error!("events can't be recorded in {}: {error}", place.folder.display()),
+            }
+        }
+    }
+
+    /// What was recorded in this turn is written.
+    pub fn end_turn(&mut self) {
+        let Core { router, recorder, speech, .. } = self;
+        let written = recorder.as_mut().map_or(Ok(()), |recorder| recorder.end_turn(router, speech));
+        self.was_recorded(written);
+    }
+
+    fn was_recorded(&mut self, written: std::io::Result<()>) {
+        if let Err(error) = written {
+            error!("events are recorded no more: {error}");
+            self.recorder = None;
+        }
     }
 
     /// How an interface speaks IGMP from here on. Where it is to hear other older hosts, those are forgotten that were
@@ -76,12 +146,22 @@ impl Core {
     pub fn speak(&mut self, iface: u32, wanted: Speech) -> Result<(), Fatal> {
         let told = self.speech.entry(iface).or_insert(Speech::NEW);
         let mut answer = Ok(());
+        let mut set = Vec::new();
         if told.older_hosts != wanted.older_hosts {
             answer = self.router.set_older_hosts(iface, wanted.older_hosts);
+            set.push((b'o', wanted.older_hosts as u32, answer));
         }
-        if told.queries != wanted.queries {
-            answer = answer.and_then(|()| self.router.set_query_version(iface, wanted.queries));
+        if told.queries != wanted.queries && answer.is_ok() {
+            answer = self.router.set_query_version(iface, wanted.queries);
+            set.push((b'q', wanted.queries as u32, answer));
         }
+        if let Some(recorder) = &mut self.recorder {
+            let number = |answer: Result<(), Error>| answer.map_or_else(Error::number, |()| 0);
+            let note = |(letter, value, answer)| recorder.set(letter, iface, value, number(answer));
+            let written = set.into_iter().try_for_each(note);
+            self.was_recorded(written);
+        }
+        let told = self.speech.entry(iface).or_insert(Speech::NEW);
         match answer {
             Ok(()) => *told = wanted,
             Err(Error::Refused(Refusal::BadInterface)) => {}
@@ -104,6 +184,10 @@ impl Core {
             Event::Ranges(ranges) => router.set_ranges(ranges, draw),
             Event::Seen(iface, key) => router.seen(iface, key.source, key.group, draw),
         };
+        if let Some(recorder) = &mut self.recorder {
+            let written = recorder.event(router, &event, draw, answer_of(&verdict));
+            self.was_recorded(written);
+        }
         match verdict {
             Ok(Verdict::Done) => Ok(Answer::Done),
             Ok(Verdict::Ignored(_)) => Ok(Answer::Ignored),
@@ -145,7 +229,12 @@ impl Core {
     /// The kernel forwarded a packet of a source at a moment, in ms. It tells whether the source's keepalive timer
     /// runs.
     pub fn keep(&mut self, key: Key, moment: u64) -> Result<bool, Fatal> {
-        Ok(self.router.keep(key.source, key.group, moment)?)
+        let runs = self.router.keep(key.source, key.group, moment)?;
+        if let Some(recorder) = &mut self.recorder {
+            let written = recorder.kept(key, moment, runs);
+            self.was_recorded(written);
+        }
+        Ok(runs)
     }
 
     pub fn rows(&mut self, table: Table) -> Result<Vec<viqeshor::Row>, Fatal> {

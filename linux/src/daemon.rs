@@ -6,7 +6,9 @@ mod cleared;
 mod forwarding;
 mod heard;
 mod machine;
+mod resumed;
 mod turns;
+mod upgrade;
 
 use crate::bfd::Session;
 use crate::core::{Answer, Core, Event};
@@ -128,6 +130,8 @@ struct Rates {
     older_queries: Rate,
 }
 
+pub use resumed::Way;
+
 pub struct Daemon {
     /// The process of the router; what answers clients is another one.
     pub process: u32,
@@ -152,6 +156,8 @@ pub struct Daemon {
     pace: Pace,
     /// The source of the data packet that the router has in hand, and where it came.
     in_hand: Option<(Key, Option<u32>)>,
+    /// What is kept for a router that begins after this one died.
+    keeping: upgrade::Keeping,
 }
 
 /// The policy's view of the router.
@@ -186,10 +192,24 @@ impl Daemon {
             info!("{} has {subnet}, and is told to the router as a subnet of two addresses", port.settings.name);
         }
         let told: Vec<_> = ports.iter().map(Port::told).collect();
-        let mut daemon = Daemon {
+        let core = Core::new(&settings, &told)?;
+        let mut daemon = Daemon::of(file, settings, (kernel, machine), ports, core);
+        daemon.set_policy();
+        daemon.speak()?;
+        Ok(daemon)
+    }
+
+    fn of(
+        file: &Path,
+        settings: Settings,
+        (kernel, machine): (Box<dyn Kernel>, Machine),
+        ports: Vec<Port>,
+        core: Core,
+    ) -> Daemon {
+        Daemon {
             process: std::process::id(),
             file: file.to_path_buf(),
-            core: Core::new(&settings, &told)?,
+            core,
             kernel,
             policy: Policy::default(),
             ports,
@@ -205,11 +225,9 @@ impl Daemon {
             rates: Rates::default(),
             pace: Pace::default(),
             in_hand: None,
+            keeping: upgrade::Keeping::default(),
             settings,
-        };
-        daemon.set_policy();
-        daemon.speak()?;
-        Ok(daemon)
+        }
     }
 
     /// The library's router speaks IGMP as the settings say.

@@ -1,6 +1,8 @@
 //! What the router asks of the machine that it runs on. It is a trait, so that the router has tests without a machine.
 use crate::error::Fatal;
-use crate::mroute::{Carried, Forwarded, Key, Mroute, Upcall};
+use crate::inherited::Inherited;
+use crate::left::clock;
+use crate::mroute::{Carried, Forwarded, Key, Mroute, Upcall, MROUTE};
 use crate::netlink::{Change, Link, Netlink, Used};
 use crate::packet::{Packet, IGMP};
 use crate::plane::Cache;
@@ -9,12 +11,12 @@ use crate::settings::Subnet;
 use crate::stand_in::fragments;
 use crate::tables::{Domain, Tables};
 use crate::wire::{Links, Liveness, OwnReports, Unicasts};
+use log::debug;
 use std::collections::HashMap;
 use std::io;
 use std::mem::MaybeUninit;
 use std::net::Ipv4Addr;
 use std::os::unix::io::{AsRawFd, RawFd};
-use std::time::Instant;
 
 const ROOM: usize = 65_536;
 const IGMP_QUERY: u8 = 0x11;
@@ -57,6 +59,12 @@ pub enum Event {
 pub trait Kernel: Cache {
     /// In ms, since the router began.
     fn now(&self) -> u64;
+    /// What the machine's clock showed then, in ns.
+    fn began(&self) -> u64;
+    /// What a router may go on with that takes this one's place, by names.
+    fn sockets(&self) -> Vec<(String, RawFd)>;
+    /// The kernel forgets the virtual interfaces and the entries, though others may have the socket too.
+    fn end(&mut self);
     /// The next of what waits at a place, or `None`.
     fn hear(&mut self, from: Source) -> io::Result<Option<Event>>;
     /// What becomes readable where something waits.
@@ -73,6 +81,8 @@ pub trait Kernel: Cache {
     fn is_filter_strict(&self, name: &str) -> bool;
 
     fn add_vif(&mut self, vif: u16, index: u32) -> io::Result<()>;
+    /// One that the router before this one had: it is added where it isn't there any more.
+    fn resume_vif(&mut self, vif: u16, index: u32) -> io::Result<()>;
     fn remove_vif(&mut self, vif: u16) -> io::Result<()>;
     /// What the entries of the forwarding cache have forwarded.
     fn used(&mut self) -> io::Result<Vec<Used>>;
@@ -92,7 +102,8 @@ pub trait Kernel: Cache {
 
 /// Linux.
 pub struct Linux {
-    began: Instant,
+    /// In ns.
+    began: u64,
     mroute: Mroute,
     links: Links,
     unicasts: Unicasts,
@@ -107,17 +118,22 @@ pub struct Linux {
 }
 
 impl Linux {
-    pub fn open(domain: &Domain) -> Result<Linux, Fatal> {
+    /// With the sockets of the router before this one, where there are some, and its timestamp 0, in ns.
+    pub fn open(domain: &Domain, began: Option<u64>, inherited: &mut Inherited) -> Result<Linux, Fatal> {
         let mut netlink = Netlink::open().map_err(Fatal::Netlink)?;
         let tables = Tables::of(domain, &mut netlink).map_err(Fatal::Netlink)?;
         let scope = tables.scope();
+        let mroute = match inherited.take(MROUTE) {
+            Some(socket) => Mroute::of(socket),
+            None => Mroute::open(tables.asked(), &scope).map_err(Fatal::MulticastRouting)?,
+        };
         let mut linux = Linux {
-            began: Instant::now(),
-            mroute: Mroute::open(tables.asked(), &scope).map_err(Fatal::MulticastRouting)?,
-            links: Links::open().map_err(Fatal::Socket)?,
-            own_reports: OwnReports::open(&scope).map_err(Fatal::Socket)?,
-            liveness: Liveness::default(),
-            unicasts: Unicasts::open(scope).map_err(Fatal::Socket)?,
+            began: began.unwrap_or_else(clock),
+            mroute,
+            links: Links::open(inherited).map_err(Fatal::Socket)?,
+            own_reports: OwnReports::open(&scope, inherited).map_err(Fatal::Socket)?,
+            liveness: Liveness::open(inherited),
+            unicasts: Unicasts::open(scope, inherited).map_err(Fatal::Socket)?,
             netlink,
             tables,
             names: HashMap::new(),
@@ -170,7 +186,23 @@ impl Cache for Linux {
 
 impl Kernel for Linux {
     fn now(&self) -> u64 {
-        self.began.elapsed().as_millis() as u64
+        clock().saturating_sub(self.began) / 1_000_000
+    }
+
+    fn began(&self) -> u64 {
+        self.began
+    }
+
+    fn sockets(&self) -> Vec<(String, RawFd)> {
+        let fixed = self.links.sockets().into_iter().chain(self.unicasts.sockets());
+        let fixed = fixed.chain([(MROUTE, self.mroute.as_raw_fd())]).map(|(name, fd)| (name.to_string(), fd));
+        fixed.chain(self.own_reports.sockets()).chain(self.liveness.sockets()).collect()
+    }
+
+    fn end(&mut self) {
+        if let Err(error) = self.mroute.end() {
+            debug!("the kernel's multicast routing was ended: {error}");
+        }
     }
 
     fn hear(&mut self, from: Source) -> io::Result<Option<Event>> {
@@ -237,6 +269,19 @@ impl Kernel for Linux {
             self.tables.lead(&mut self.netlink, vif, name)?;
         }
         self.own_reports.hear_from(index)
+    }
+
+    fn resume_vif(&mut self, vif: u16, index: u32) -> io::Result<()> {
+        if self.mroute.carried(vif).is_err() {
+            return self.add_vif(vif, index);
+        }
+        if let Some(name) = self.names.get(&index) {
+            self.tables.lead(&mut self.netlink, vif, name)?;
+        }
+        match self.own_reports.hears_from(index) {
+            true => Ok(()),
+            false => self.own_reports.hear_from(index),
+        }
     }
 
     fn remove_vif(&mut self, vif: u16) -> io::Result<()> {

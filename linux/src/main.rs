@@ -7,17 +7,22 @@ mod counters;
 mod daemon;
 mod error;
 mod import;
+mod inherited;
 mod kernel;
+mod left;
 mod log;
 mod metrics;
 mod mroute;
 mod netlink;
+mod notify;
 mod older;
 mod packed;
 mod packet;
 mod plane;
 mod policy;
 mod ports;
+mod program;
+mod recorder;
 mod routes;
 mod server;
 mod settings;
@@ -30,7 +35,10 @@ mod words;
 
 use clap::{Args, Parser, Subcommand};
 use client::{Cleared, Shown};
+use daemon::Way;
 use error::Fatal;
+use inherited::Inherited;
+use left::Left;
 use settings::{usual_socket, Settings};
 use show::Topic;
 use std::io::Write;
@@ -58,6 +66,9 @@ enum What {
         /// Only check the settings: print each problem with its line
         #[arg(long)]
         check: bool,
+        /// Answers whether this program can go on with what a router hands over
+        #[arg(long, hide = true, requires = "check")]
+        takes_over: bool,
     },
     /// Print what a running router knows
     Show {
@@ -153,9 +164,43 @@ fn absent(settings: &Settings) -> std::io::Result<Vec<&str>> {
     Ok(settings.interfaces.iter().map(|interface| interface.name.as_str()).filter(is_absent).collect())
 }
 
+/// What a router before this one left, and how; its sockets too.
+fn left(settings: &Settings) -> (Option<(Left, Vec<u8>, Way)>, Inherited) {
+    let (read, mut inherited, fresh, way) = match Inherited::by_exec() {
+        Some(mut inherited) => (Ok(inherited.left()), inherited, u64::MAX, Way::Exec),
+        None => {
+            let path = settings.state_file();
+            let read = std::fs::read(&path).map(|bytes| Left::read(&bytes));
+            // One that dies of it isn't to be followed by another one.
+            let _ = std::fs::remove_file(path);
+            (read, Inherited::by_manager(), settings.restart.fresh, Way::Death)
+        }
+    };
+    let domain = settings.domain.name();
+    let usable =
+        read.map(|read| read.and_then(|(left, saved)| left.check(domain.as_deref(), fresh).map(|()| (left, saved))));
+    match usable {
+        Ok(Ok((left, saved))) => return (Some((left, saved, way)), inherited),
+        Ok(Err(why)) => {
+            ::log::warn!("the router begins anew, since what is left of the one before it can't be taken: {why}")
+        }
+        Err(_) => {}
+    }
+    inherited.end_routing();
+    (None, inherited)
+}
+
 fn route(file: &Path, settings: Settings) -> Result<(), Fatal> {
-    let kernel = Box::new(kernel::Linux::open(&settings.domain)?);
-    daemon::Daemon::new(file, settings, kernel)?.run()
+    let (left, mut inherited) = left(&settings);
+    let began = left.as_ref().map(|(left, ..)| left.began);
+    let kernel = Box::new(kernel::Linux::open(&settings.domain, began, &mut inherited)?);
+    match left {
+        Some((mut left, saved, way)) => {
+            let answers = std::mem::take(&mut left.answers);
+            daemon::Daemon::resume(file, settings, kernel, (left, &saved), way)?.run(&mut inherited, answers)
+        }
+        None => daemon::Daemon::new(file, settings, kernel)?.run(&mut inherited, Vec::new()),
+    }
 }
 
 fn run(file: &Path, only_check: bool) -> ExitCode {
@@ -196,7 +241,7 @@ fn import(file: &Path, vrf: Option<&str>) -> ExitCode {
 
 fn main() -> ExitCode {
     match Asked::parse().what {
-        What::Run { file, check } => run(&file, check),
+        What::Run { file, check, .. } => run(&file, check),
         What::Show { topic, address, json, watch, at } => {
             let shown = Shown { topic, address, is_json: json };
             match watch {

@@ -23,6 +23,14 @@ fn first_line(written: &[u8]) -> Option<String> {
     is_whole.then_some(line)
 }
 
+/// Goes on with the listener of the router before this one, where that listened there.
+pub fn resume(at: SocketAddr, listener: Socket) -> io::Result<Server> {
+    match listener.local_addr()?.as_socket() == Some(at) {
+        true => Server::new(listener, HEAD),
+        false => Err(io::ErrorKind::AddrNotAvailable.into()),
+    }
+}
+
 /// Listens where the settings say.
 pub fn listen(at: SocketAddr) -> io::Result<Server> {
     let socket = Socket::new(Domain::for_address(at), Type::STREAM, None)?;

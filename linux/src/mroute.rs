@@ -13,6 +13,7 @@ const VIFS: usize = 32;
 
 // linux/mroute.h
 const MRT_INIT: i32 = 200;
+const MRT_DONE: i32 = 201;
 const MRT_ADD_VIF: i32 = 202;
 const MRT_DEL_VIF: i32 = 203;
 const MRT_ADD_MFC: i32 = 204;
@@ -126,7 +127,20 @@ pub struct Mroute {
     socket: Socket,
 }
 
+/// The socket's name among those that another router may go on with.
+pub const MROUTE: &str = "mroute";
+
 impl Mroute {
+    /// That of the router before this one, which the kernel's interfaces and entries are still of.
+    pub fn of(socket: Socket) -> Mroute {
+        Mroute { socket }
+    }
+
+    /// The kernel forgets all of it, though others may have the socket too.
+    pub fn end(&self) -> io::Result<()> {
+        self.set(MRT_DONE, &1i32)
+    }
+
     /// Of a table, or of the usual one.
     pub fn open(table: Option<u32>, scope: &Scope) -> io::Result<Mroute> {
         let socket = Socket::new(Domain::IPV4, Type::RAW, Some(Protocol::from(i32::from(crate::packet::IGMP))))?;

@@ -309,6 +309,12 @@ impl Plane {
         self.entries.values_mut().for_each(|entry| entry.is_kept = true);
     }
 
+    /// An entry of the router before this one: it stands as it is, or is to be set again.
+    pub fn take_up(&mut self, key: Key, entry: Entry) {
+        self.list(key, entry.row.as_ref());
+        self.entries.insert(key, entry);
+    }
+
     /// Those that are kept.
     pub fn kept(&self) -> Vec<(Key, Entry)> {
         self.entries.iter().filter(|(_, entry)| entry.is_kept).map(|(key, entry)| (*key, *entry)).collect()

@@ -125,6 +125,12 @@ impl Policy {
         self.stream_counts.clear();
     }
 
+    /// The router goes on with what another one held: it is read anew.
+    pub fn resume(&mut self, books: &mut dyn Books) {
+        self.read_due = 0;
+        self.read(books);
+    }
+
     pub fn is_passive(&self, iface: u32) -> bool {
         self.gates.get(&iface).map_or(false, |gate| gate.policy.is_passive)
     }

@@ -1,5 +1,6 @@
 //! The interfaces of the router, and what the kernel has of them.
 use crate::counters::Passing;
+use crate::left::LeftPort;
 use crate::netlink::{Change, Link};
 use crate::settings::{not_a_host, InterfaceSettings, Subnet};
 use std::collections::HashMap;
@@ -141,6 +142,38 @@ impl Port {
             hello_due: None,
             bfd_index: None,
             passed: Passed::default(),
+        }
+    }
+
+    /// One of the router before this one, as it stood.
+    pub fn resumed(number: u32, left: LeftPort) -> Port {
+        let subnet = left.subnet.map(|(address, length)| Subnet { address, length });
+        let why = || Standing::Down("it was down before".to_string());
+        Port {
+            subnet,
+            index: left.index,
+            vif: left.vif,
+            is_loopback: left.is_loopback,
+            standing: if left.is_up { Standing::Up } else { why() },
+            since: left.since,
+            hello: left.hello,
+            hello_due: left.hello_due,
+            ..Port::new(number, &InterfaceSettings::usual(&left.name))
+        }
+    }
+
+    /// What another router goes on with.
+    pub fn left(&self) -> LeftPort {
+        LeftPort {
+            name: self.settings.name.clone(),
+            subnet: self.subnet.map(|subnet| (subnet.address, subnet.length)),
+            index: self.index,
+            vif: self.vif,
+            is_loopback: self.is_loopback,
+            is_up: self.standing.is_up(),
+            since: self.since,
+            hello: self.hello.clone(),
+            hello_due: self.hello_due,
         }
     }
 

@@ -111,6 +111,21 @@ impl Server {
         Ok(Server { listener, protocol, clients: Vec::new(), answers: Vec::new() })
     }
 
+    /// Where clients come, for another router to go on with.
+    pub fn listener(&self) -> RawFd {
+        self.listener.as_raw_fd()
+    }
+
+    /// The processes that write answers.
+    pub fn answers(&self) -> &[libc::pid_t] {
+        &self.answers
+    }
+
+    /// Those of the router before this one.
+    pub fn take_answers(&mut self, answers: Vec<libc::pid_t>) {
+        self.answers.extend(answers);
+    }
+
     /// What is to be waited for.
     pub fn waits(&self) -> Vec<RawFd> {
         let is_free = self.answers.len() < MOST_ANSWERS;

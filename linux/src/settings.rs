@@ -6,6 +6,7 @@ use crate::older::Speech;
 use crate::policy::lists::{
     reserve, InterfacePolicy, List, PolicySettings, Rule, UsualQuotas, MOST_NEIGHBOURS, USUAL_NEIGHBOURS, USUAL_SOURCES,
 };
+use crate::recorder;
 use crate::tables::Domain;
 use log::LevelFilter;
 use serde::Deserialize;
@@ -175,6 +176,19 @@ pub struct Settings {
     pub metrics: Option<SocketAddr>,
     /// Join/Prunes to a neighbour leave together.
     pub packs: bool,
+    pub restart: RestartSettings,
+    /// Where events are recorded.
+    pub recorder: Option<recorder::Place>,
+}
+
+/// What is kept for a router that begins after this one died.
+#[derive(Clone, Debug, PartialEq, Eq)]
+pub struct RestartSettings {
+    pub saves: bool,
+    /// In ms.
+    pub save_every: u64,
+    /// A state that is older isn't taken, in ms.
+    pub fresh: u64,
 }
 
 // ---- the file as it stands
@@ -197,6 +211,10 @@ struct File {
     #[serde(default)]
     metrics: MetricsTable,
     #[serde(default)]
+    restart: RestartTable,
+    #[serde(default)]
+    recorder: RecorderTable,
+    #[serde(default)]
     igmp: IgmpTable,
     #[serde(default)]
     policy: PolicyTable,
@@ -212,6 +230,21 @@ struct File {
 #[serde(deny_unknown_fields)]
 struct MetricsTable {
     listen: Text,
+}
+
+#[derive(Deserialize, Default)]
+#[serde(deny_unknown_fields)]
+struct RestartTable {
+    save: Option<bool>,
+    save_every: Option<Spanned<f64>>,
+    fresh: Option<Spanned<f64>>,
+}
+
+#[derive(Deserialize, Default)]
+#[serde(deny_unknown_fields)]
+struct RecorderTable {
+    folder: Option<PathBuf>,
+    size: Whole,
 }
 
 #[derive(Deserialize, Default)]
@@ -654,6 +687,23 @@ impl Check<'_> {
         Place { path, group, mode }
     }
 
+    fn restart(&mut self, table: &RestartTable) -> RestartSettings {
+        const MOST: u32 = 6_000;
+        let ms = |tenths: u32| u64::from(tenths) * 100;
+        RestartSettings {
+            saves: table.save.unwrap_or(true),
+            save_every: ms(self.tenths("save_every", &table.save_every, 20, MOST)),
+            fresh: ms(self.tenths("fresh", &table.fresh, 100, MOST)),
+        }
+    }
+
+    fn recorder(&mut self, table: &RecorderTable, domain: &Domain) -> Option<recorder::Place> {
+        const MEGABYTE: u64 = 1_000_000;
+        let size = u64::from(self.within("size", &table.size, 64, 1, 1_000_000)) * MEGABYTE;
+        let name = domain.name().unwrap_or_else(|| "router".to_string());
+        table.folder.clone().map(|folder| recorder::Place { folder, name, size })
+    }
+
     fn listen(&mut self, given: &Text) -> Option<SocketAddr> {
         let given = given.as_ref()?;
         let read = given.get_ref().parse().ok();
@@ -696,9 +746,11 @@ impl Check<'_> {
             routes: self.routes(&file.routes),
             level: self.one_of("log", &file.log, &LEVELS),
             control: self.control(file, &domain),
-            domain,
             metrics: self.listen(&file.metrics.listen),
             packs: file.pack.unwrap_or(true),
+            restart: self.restart(&file.restart),
+            recorder: self.recorder(&file.recorder, &domain),
+            domain,
         }
     }
 }
@@ -742,7 +794,25 @@ pub fn read(text: &str) -> Result<Settings, Vec<Problem>> {
     Err(check.problems)
 }
 
+impl InterfaceSettings {
+    /// Those of an interface of which a file says nothing but its name.
+    pub fn usual(name: &str) -> InterfaceSettings {
+        let (text, mut name) = ("[[interface]]\nname = \"any\"\n", name.to_string());
+        let mut found = read(text).map(|settings| settings.interfaces).unwrap_or_default();
+        let mut usual = found.remove(0);
+        std::mem::swap(&mut usual.name, &mut name);
+        usual
+    }
+}
+
 impl Settings {
+    /// Where the state is kept for a router that begins after this one died: beside the control socket.
+    pub fn state_file(&self) -> PathBuf {
+        let mut path = self.control.path.clone().into_os_string();
+        path.push(".state");
+        path.into()
+    }
+
     /// What is of the library's router, which is made anew where it differs: all but the lists, the quotas and the
     /// lines.
     pub fn differs_in_router(&self, other: &Settings) -> bool {

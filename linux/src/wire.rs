@@ -1,5 +1,6 @@
 //! The sockets by which packets come and leave.
 use crate::bfd;
+use crate::inherited::Inherited;
 use crate::packet::{Packet, IGMP, PIM};
 use rand::Rng;
 use socket2::{Domain, Protocol, SockAddr, Socket, Type};
@@ -108,7 +109,18 @@ pub fn group_hardware(packet: &[u8]) -> [u8; 6] {
 }
 
 impl Links {
-    pub fn open() -> io::Result<Links> {
+    pub fn open(inherited: &mut Inherited) -> io::Result<Links> {
+        let socket = inherited.take("links").map_or_else(Links::hearing, Ok)?;
+        let shared = inherited.take("links-shared").map_or_else(Links::shared, Ok)?;
+        Ok(Links { socket, shared })
+    }
+
+    /// What another router may go on with, by names.
+    pub fn sockets(&self) -> [(&'static str, RawFd); 2] {
+        [("links", self.socket.as_raw_fd()), ("links-shared", self.shared.as_raw_fd())]
+    }
+
+    fn hearing() -> io::Result<Socket> {
         let socket = Socket::new(Domain::PACKET, Type::DGRAM, Some(Protocol::from(0)))?;
         socket.attach_filter(&[
             instruction(LOAD_WORD, 0, 0, SKF_AD_PKTTYPE),
@@ -128,7 +140,7 @@ impl Links {
         socket.bind(&link_address(0, [0; 6]))?;
         // A group of one, so that the kernel reassembles fragments before they come here.
         set_option(&socket, libc::SOL_PACKET, PACKET_FANOUT, &FANOUT_DEFRAG_UNIQUE)?;
-        Ok(Links { socket, shared: Links::shared()? })
+        Ok(socket)
     }
 
     fn shared() -> io::Result<Socket> {
@@ -170,8 +182,24 @@ pub struct OwnReports {
     members: HashMap<u32, Socket>,
 }
 
+/// Of a membership, before the kernel's number of its interface.
+const MEMBER: &str = "member-";
+
 impl OwnReports {
-    pub fn open(scope: &Scope) -> io::Result<OwnReports> {
+    pub fn open(scope: &Scope, inherited: &mut Inherited) -> io::Result<OwnReports> {
+        let socket = inherited.take("own-reports").map_or_else(|| OwnReports::hearing(scope), Ok)?;
+        let indices = inherited.names(MEMBER).into_iter().filter_map(|index| index.parse().ok());
+        let members = indices.filter_map(|index| Some((index, inherited.take(&format!("{MEMBER}{index}"))?)));
+        Ok(OwnReports { socket, members: members.collect() })
+    }
+
+    /// What another router may go on with, by names.
+    pub fn sockets(&self) -> Vec<(String, RawFd)> {
+        let members = self.members.iter().map(|(index, socket)| (format!("{MEMBER}{index}"), socket.as_raw_fd()));
+        members.chain([("own-reports".to_string(), self.socket.as_raw_fd())]).collect()
+    }
+
+    fn hearing(scope: &Scope) -> io::Result<Socket> {
         let socket = Socket::new(Domain::IPV4, Type::RAW, Some(Protocol::from(i32::from(IGMP))))?;
         scope.limit(&socket)?;
         // What the machine sent itself, and no message of its multicast routing, which has the protocol 0.
@@ -184,17 +212,22 @@ impl OwnReports {
             instruction(RETURN, 0, 0, 0),
         ])?;
         socket.set_nonblocking(true)?;
-        Ok(OwnReports { socket, members: HashMap::new() })
+        Ok(socket)
     }
 
     /// An interface from which they are to be heard.
     pub fn hear_from(&mut self, index: u32) -> io::Result<()> {
+        self.members.remove(&index);
         let member = Socket::new(Domain::IPV4, Type::DGRAM, None)?;
         for group in OF_ROUTERS {
             set_option(&member, libc::IPPROTO_IP, libc::IP_ADD_MEMBERSHIP, &by_index(group, index))?;
         }
         self.members.insert(index, member);
         Ok(())
+    }
+
+    pub fn hears_from(&self, index: u32) -> bool {
+        self.members.contains_key(&index)
     }
 
     pub fn hear<'a>(&self, room: &'a mut [MaybeUninit<u8>]) -> io::Result<Option<&'a [u8]>> {
@@ -230,7 +263,18 @@ pub struct Unicasts {
 }
 
 impl Unicasts {
-    pub fn open(scope: Scope) -> io::Result<Unicasts> {
+    pub fn open(scope: Scope, inherited: &mut Inherited) -> io::Result<Unicasts> {
+        let heard = inherited.take("unicasts").map_or_else(|| Unicasts::hearing(&scope), Ok)?;
+        let sent = inherited.take("unicasts-sent").map_or_else(|| Unicasts::sending(&scope), Ok)?;
+        Ok(Unicasts { heard, sent, scope })
+    }
+
+    /// What another router may go on with, by names.
+    pub fn sockets(&self) -> [(&'static str, RawFd); 2] {
+        [("unicasts", self.heard.as_raw_fd()), ("unicasts-sent", self.sent.as_raw_fd())]
+    }
+
+    fn hearing(scope: &Scope) -> io::Result<Socket> {
         let heard = Socket::new(Domain::IPV4, Type::RAW, Some(Protocol::from(i32::from(PIM))))?;
         scope.limit(&heard)?;
         heard.attach_filter(&[
@@ -242,10 +286,14 @@ impl Unicasts {
         ])?;
         heard.set_nonblocking(true)?;
         room_for_bursts(&heard);
+        Ok(heard)
+    }
+
+    fn sending(scope: &Scope) -> io::Result<Socket> {
         let sent = Socket::new(Domain::IPV4, Type::RAW, Some(Protocol::from(libc::IPPROTO_RAW)))?;
         scope.limit(&sent)?;
         sent.set_nonblocking(true)?;
-        Ok(Unicasts { heard, sent, scope })
+        Ok(sent)
     }
 
     pub fn hear<'a>(&self, room: &'a mut [MaybeUninit<u8>]) -> io::Result<Option<&'a [u8]>> {
@@ -291,11 +339,44 @@ pub struct Liveness {
     senders: HashMap<(u32, Ipv4Addr), Socket>,
 }
 
+/// Of what BFD has, before the kernel's number of an interface, and the other side.
+const BFD: &str = "bfd-";
+
 impl Liveness {
+    pub fn open(inherited: &mut Inherited) -> Liveness {
+        let mut liveness = Liveness::default();
+        for name in inherited.names(BFD) {
+            let socket = inherited.take(&format!("{BFD}{name}"));
+            let (index, to) = name.split_once('-').unwrap_or((&name, ""));
+            match (index.parse(), to.parse(), socket) {
+                (Ok(index), Ok(to), Some(socket)) => {
+                    liveness.senders.insert((index, to), socket);
+                }
+                (Ok(index), Err(_), Some(socket)) => {
+                    liveness.listeners.insert(index, socket);
+                }
+                _ => {}
+            }
+        }
+        liveness
+    }
+
+    /// What another router may go on with, by names.
+    pub fn sockets(&self) -> Vec<(String, RawFd)> {
+        let listeners = self.listeners.iter().map(|(index, socket)| (format!("{BFD}{index}"), socket.as_raw_fd()));
+        let sender =
+            |((index, to), socket): (&(u32, Ipv4Addr), &Socket)| (format!("{BFD}{index}-{to}"), socket.as_raw_fd());
+        listeners.chain(self.senders.iter().map(sender)).collect()
+    }
+
     /// An interface on which it is to be heard: what a router between might have sent on isn't.
     pub fn hear_on(&mut self, index: u32, name: &str) -> io::Result<()> {
         const SKF_NET_OFF: u32 = -0x10_0000i32 as u32;
         const TTL_AT: u32 = 8;
+        // Of the router before this one.
+        if self.listeners.contains_key(&index) {
+            return Ok(());
+        }
         let socket = Socket::new(Domain::IPV4, Type::DGRAM, None)?;
         socket.bind_device(Some(name.as_bytes()))?;
         socket.attach_filter(&[

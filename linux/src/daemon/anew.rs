@@ -74,6 +74,8 @@ impl Daemon {
         self.counters.made_anew += 1;
         self.core = core;
         self.speak()?;
+        self.core.record(self.settings.recorder.as_ref());
+        self.keeping.changed();
         self.forget();
         self.begin_again()
     }

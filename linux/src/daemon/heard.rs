@@ -195,11 +195,13 @@ impl Daemon {
         let gone: Vec<_> = self.neighbours.known.keys().filter(|key| !there.contains(key)).copied().collect();
         for key in gone {
             self.neighbours.known.remove(&key);
+            self.keeping.changed();
             info!("the neighbour {} on {} is gone", key.1, self.name(key.0));
         }
         let hellos = std::mem::take(&mut self.neighbours.hellos);
         for (key, (said, priority)) in hellos.into_iter().filter(|(key, _)| there.contains(key)) {
             if !self.neighbours.known.contains_key(&key) {
+                self.keeping.changed();
                 info!("a neighbour on {}: {said}", self.name(key.0));
             }
             let since = self.neighbours.known.get(&key).map_or(now, |known| known.since);

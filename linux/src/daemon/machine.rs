@@ -63,6 +63,7 @@ impl Daemon {
         let name = self.ports[number].settings.name.clone();
         self.ports[number].standing = Standing::Up;
         self.ports[number].since = self.now();
+        self.keeping.changed();
         info!("{name} goes up, with {}", self.ports[number].told_subnet());
         if self.kernel.is_filter_strict(&name) {
             warn!(
@@ -83,6 +84,7 @@ impl Daemon {
         self.ports[number].standing = Standing::Down(why);
         self.ports[number].hello_due = None;
         self.neighbours.are_stale = true;
+        self.keeping.changed();
         if let Some(vif) = self.ports[number].vif.take() {
             // The kernel has let it go by itself where the link is gone.
             let _ = self.kernel.remove_vif(vif);

@@ -25,6 +25,12 @@ struct Fake {
     sent: RefCell<Vec<(u32, Vec<u8>)>>,
     bfd: RefCell<Vec<(Ipv4Addr, Vec<u8>)>>,
     unicasts: RefCell<Vec<Vec<u8>>>,
+    /// Virtual interfaces that were added, and those that were taken over.
+    vifs: RefCell<Vec<u16>>,
+    resumed_vifs: RefCell<Vec<(u16, u32)>>,
+    /// How often an entry was set.
+    puts: Cell<usize>,
+    is_ended: Cell<bool>,
 }
 
 struct Handle(Rc<Fake>);
@@ -34,6 +40,7 @@ impl Cache for Handle {
         if self.0.has_no_memory.get() {
             return Err(io::Error::from_raw_os_error(libc::ENOMEM));
         }
+        self.0.puts.set(self.0.puts.get() + 1);
         self.0.entries.borrow_mut().insert(key, forwarded);
         Ok(())
     }
@@ -50,6 +57,18 @@ const ETH1: u32 = 3;
 impl Kernel for Handle {
     fn now(&self) -> u64 {
         self.0.now.get()
+    }
+
+    fn began(&self) -> u64 {
+        crate::left::clock() - self.now() * 1_000_000
+    }
+
+    fn sockets(&self) -> Vec<(String, RawFd)> {
+        Vec::new()
+    }
+
+    fn end(&mut self) {
+        self.0.is_ended.set(true);
     }
 
     fn hear(&mut self, from: Source) -> io::Result<Option<kernel::Event>> {
@@ -92,7 +111,13 @@ impl Kernel for Handle {
         false
     }
 
-    fn add_vif(&mut self, _: u16, _: u32) -> io::Result<()> {
+    fn add_vif(&mut self, vif: u16, _: u32) -> io::Result<()> {
+        self.0.vifs.borrow_mut().push(vif);
+        Ok(())
+    }
+
+    fn resume_vif(&mut self, vif: u16, index: u32) -> io::Result<()> {
+        self.0.resumed_vifs.borrow_mut().push((vif, index));
         Ok(())
     }
 
@@ -457,4 +482,5 @@ fn the_unknown_are_asked_for_anew_where_their_group_moves() {
 
 mod liveness;
 mod older;
+mod restarted;
 mod shown;

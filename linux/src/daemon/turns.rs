@@ -1,18 +1,21 @@
 //! The loop: what waits at the sockets, what is due by the clock, and what signals ask for.
 use super::cleared::Lines;
+use super::upgrade::Keeping;
 use super::{Answer, Daemon, Event, Fatal};
 use crate::bfd::Session;
 use crate::control::Control;
 use crate::core::ranges_of;
+use crate::inherited::Inherited;
 use crate::kernel::{self, Source};
 use crate::packet::with_holdtime;
+use crate::program::{hold_signals, Program};
 use crate::server::Server;
 use crate::{metrics, settings, words};
 use log::{debug, error, info, warn};
 use nix::poll::{poll, PollFd, PollFlags};
-use signal_hook::consts::{SIGHUP, SIGINT, SIGTERM};
+use signal_hook::consts::{SIGHUP, SIGINT, SIGTERM, SIGUSR2};
 use std::net::SocketAddr;
-use std::os::unix::io::AsRawFd;
+use std::os::unix::io::{AsRawFd, RawFd};
 use std::os::unix::net::UnixStream;
 use std::sync::atomic::{AtomicBool, Ordering};
 use std::sync::Arc;
@@ -31,6 +34,7 @@ const TURN: usize = 256;
 struct Asked {
     end: Arc<AtomicBool>,
     reload: Arc<AtomicBool>,
+    upgrade: Arc<AtomicBool>,
     wakes: UnixStream,
 }
 
@@ -38,11 +42,14 @@ impl Asked {
     fn new() -> std::io::Result<Asked> {
         let (wakes, other) = UnixStream::pair()?;
         wakes.set_nonblocking(true)?;
-        let asked = Asked { end: Arc::default(), reload: Arc::default(), wakes };
-        for (signal, flag) in [(SIGTERM, &asked.end), (SIGINT, &asked.end), (SIGHUP, &asked.reload)] {
+        let asked = Asked { end: Arc::default(), reload: Arc::default(), upgrade: Arc::default(), wakes };
+        let flags = [(SIGTERM, &asked.end), (SIGINT, &asked.end), (SIGHUP, &asked.reload), (SIGUSR2, &asked.upgrade)];
+        for (signal, flag) in flags {
             signal_hook::flag::register(signal, Arc::clone(flag))?;
             signal_hook::low_level::pipe::register(signal, other.try_clone()?)?;
         }
+        // The router before this one may have had them wait.
+        hold_signals(false);
         Ok(asked)
     }
 
@@ -53,17 +60,42 @@ impl Asked {
 }
 
 /// Where clients ask.
-struct Servers {
+pub(super) struct Servers {
     control: Control,
     metrics: Option<(SocketAddr, Server)>,
 }
 
+const CONTROL: &str = "control";
+const METRICS: &str = "metrics";
+
 impl Servers {
-    fn open(settings: &settings::Settings) -> Result<Servers, Fatal> {
+    /// With the listeners of the router before this one, where it listened there.
+    fn open(settings: &settings::Settings, inherited: &mut Inherited) -> Result<Servers, Fatal> {
         let path = || settings.control.path.clone();
-        let control = Control::open(&settings.control).map_err(|error| Fatal::Control { path: path(), error })?;
-        let listen = |at| metrics::listen(at).map(|server| (at, server)).map_err(|error| Fatal::Metrics { at, error });
-        Ok(Servers { control, metrics: settings.metrics.map(listen).transpose()? })
+        let before = inherited.take(CONTROL).and_then(|listener| Control::resume(&settings.control, listener).ok());
+        let control = match before {
+            Some(control) => control,
+            None => Control::open(&settings.control).map_err(|error| Fatal::Control { path: path(), error })?,
+        };
+        let mut before = inherited.take(METRICS);
+        let mut listen = |at| {
+            let resumed = before.take().and_then(|listener| metrics::resume(at, listener).ok());
+            let listened = resumed.map_or_else(|| metrics::listen(at), Ok);
+            listened.map(|server| (at, server)).map_err(|error| Fatal::Metrics { at, error })
+        };
+        let metrics = settings.metrics.map(&mut listen).transpose()?;
+        Ok(Servers { control, metrics })
+    }
+
+    /// What another router may go on with, by names.
+    pub(super) fn sockets(&self) -> Vec<(String, RawFd)> {
+        let metrics = self.metrics.iter().map(|(_, server)| (METRICS.to_string(), server.listener()));
+        metrics.chain([(CONTROL.to_string(), self.control.listener())]).collect()
+    }
+
+    /// The processes that write answers.
+    pub(super) fn answers(&self) -> Vec<i32> {
+        self.each().flat_map(|server| server.answers().iter().copied()).collect()
     }
 
     /// Listens for Prometheus where other settings say. Where it can't, nobody is answered.
@@ -129,6 +161,7 @@ impl Daemon {
             self.set_ranges()?;
         }
         self.speak()?;
+        self.core.record(self.settings.recorder.as_ref());
         self.place_all();
         // What was refused may be permitted now: the next packet asks.
         self.plane.unknown().into_iter().for_each(|key| self.withdraw(key));
@@ -147,10 +180,13 @@ impl Daemon {
         Ok(())
     }
 
-    /// Until it is asked to end, or can't go on.
-    pub fn run(&mut self) -> Result<(), Fatal> {
+    /// Until it is asked to end, or can't go on; with what else the router before this one had.
+    pub fn run(&mut self, inherited: &mut Inherited, answers: Vec<i32>) -> Result<(), Fatal> {
+        let program = Program::running();
         let asked = Asked::new().map_err(Fatal::Signals)?;
-        let mut servers = Servers::open(&self.settings)?;
+        let mut servers = Servers::open(&self.settings, inherited)?;
+        servers.control.take_answers(answers);
+        self.keeping = Keeping::new();
         info!(
             "the router begins in {}: {} interfaces, {} RP ranges, the library {}",
             self.settings.domain,
@@ -162,19 +198,26 @@ impl Daemon {
         while !asked.end.load(Ordering::Relaxed) {
             self.wait(&asked, &servers)?;
             asked.forget_wakes();
-            if asked.reload.swap(false, Ordering::Relaxed) {
+            let [reload, upgrade] = [&asked.reload, &asked.upgrade].map(|flag| flag.swap(false, Ordering::Relaxed));
+            if upgrade || (reload && program.has_changed()) {
+                self.upgrade(&program, &servers);
+            }
+            if reload {
                 self.reload()?;
                 servers.take_settings(&self.settings);
             }
             self.turn()?;
             self.house_keeping()?;
             servers.serve(self);
+            self.keep();
         }
         self.say_goodbye();
+        self.keep_no_more();
         Ok(())
     }
 
     pub(super) fn begin(&mut self) -> Result<(), Fatal> {
+        self.core.record(self.settings.recorder.as_ref());
         self.settle_ports()?;
         if !self.ports.iter().any(|port| port.standing.is_up()) {
             warn!("no interface is up: the router waits for one");
@@ -196,6 +239,7 @@ impl Daemon {
             due.unset,
             due.anew,
             due.learned,
+            Some(self.keeping.due(self.now())).filter(|_| self.settings.restart.saves),
             servers.each().filter_map(Server::due).min().map(|left| self.kernel.now() + left),
             self.ports.iter().filter_map(|port| port.hello_due).min(),
             self.sessions.values().map(Session::due).min(),
@@ -281,6 +325,7 @@ impl Daemon {
             self.watch_neighbours()?;
             self.watch_sessions();
         }
+        self.core.end_turn();
         Ok(())
     }
 

@@ -1,0 +1,223 @@
+//! A router in the place of another one: it goes on where that was, or says why it can't.
+use super::*;
+use crate::bfd::{Control, Session, State, Times};
+use crate::left::Left;
+
+const GROUP: Ipv4Addr = Ipv4Addr::new(239, 1, 1, 1);
+
+/// What a daemon leaves.
+fn left_by(daemon: &Daemon) -> (Left, Vec<u8>) {
+    (daemon.left(), daemon.core.save().expect("it is saved"))
+}
+
+/// A machine as another one, of which no event waits and nothing was sent.
+fn same_machine(fake: &Fake) -> Rc<Fake> {
+    let other = Fake::default();
+    other.now.set(fake.now.get());
+    *other.addresses.borrow_mut() = fake.addresses.borrow().clone();
+    *other.entries.borrow_mut() = fake.entries.borrow().clone();
+    *other.used.borrow_mut() = fake.used.borrow().clone();
+    Rc::new(other)
+}
+
+fn resumed(settings: &str, fake: &Rc<Fake>, left: (Left, Vec<u8>), way: Way) -> Daemon {
+    let settings = settings::read(settings).expect("they are in order");
+    let kernel = Box::new(Handle(Rc::clone(fake)));
+    let mut daemon = Daemon::resume(Path::new("none"), settings, kernel, (left.0, &left.1), way).expect("it goes on");
+    daemon.begin().expect("it begins");
+    daemon.house_keeping().expect("it goes on");
+    daemon
+}
+
+/// A router with a stream that flows, a source that nobody asks for, and a group that a host asks for.
+fn at_work() -> (Daemon, Rc<Fake>, Key, Key) {
+    let (mut daemon, fake) = begun(TWO, &both());
+    happens(&mut daemon, &fake, report(ETH1, [10, 5, 0, 77], GROUP));
+    let (flows, idle) = (key([10, 1, 0, 50].into(), GROUP.octets()), key(NEAR, [239, 2, 1, 1]));
+    happens(&mut daemon, &fake, no_cache(0, flows));
+    happens(&mut daemon, &fake, no_cache(1, idle));
+    passes(&mut daemon, &fake, 6_000);
+    (daemon, fake, flows, idle)
+}
+
+fn tables(daemon: &mut Daemon) -> Vec<Vec<viqeshor::Row>> {
+    Table::ALL.iter().map(|table| daemon.core.rows(*table).expect("it tells")).collect()
+}
+
+#[test]
+fn it_goes_on_and_nobody_notices() {
+    let (mut daemon, fake, flows, _) = at_work();
+    let (before, entries) = (tables(&mut daemon), fake.entries.borrow().clone());
+    assert_eq!(fake.entry(flows), Some(Forwarded { parent: 0, outgoing: 0b10 }));
+    let other = same_machine(&fake);
+    let mut next = resumed(TWO, &other, left_by(&daemon), Way::Exec);
+    assert_eq!(tables(&mut next), before);
+    // Nothing leaves, and nothing is set in the kernel.
+    assert!(other.sent.borrow().is_empty() && other.unicasts.borrow().is_empty());
+    assert_eq!((other.puts.get(), other.entries.borrow().clone()), (0, entries));
+    assert_eq!((other.vifs.borrow().clone(), other.resumed_vifs.borrow().clone()), (vec![], vec![(0, 2), (1, 3)]));
+    assert_eq!(next.neighbours.known.len(), 1);
+    // It follows events as the one before it does.
+    for (daemon, fake) in [(&mut daemon, &fake), (&mut next, &other)] {
+        happens(daemon, fake, report(ETH0, [10, 1, 0, 77], GROUP));
+        passes(daemon, fake, 1_000);
+    }
+    let after = tables(&mut daemon);
+    assert_eq!(tables(&mut next), after);
+    assert_eq!(other.entries.borrow().clone(), fake.entries.borrow().clone());
+    // Its own timers end as they would have.
+    let hellos = |fake: &Fake| fake.sent.borrow().iter().filter(|(_, it)| it[9] == PIM && it[20] == 0x20).count();
+    let sent = hellos(&fake);
+    passes(&mut daemon, &fake, 40_000);
+    passes(&mut next, &other, 40_000);
+    assert_eq!(hellos(&fake) - sent, hellos(&other));
+}
+
+#[test]
+fn a_source_keeps_its_quota() {
+    let (daemon, fake, ..) = at_work();
+    let settings = format!("{TWO}[policy]\nmax_streams = 1\n");
+    let other = same_machine(&fake);
+    let mut next = resumed(&settings, &other, left_by(&daemon), Way::Exec);
+    let second = key([10, 1, 0, 51].into(), GROUP.octets());
+    happens(&mut next, &other, no_cache(0, second));
+    assert!(next.core.offload(second).map_or(true, |row| !row.is_known));
+    assert!(next.policy.refusals.counts().any(|(_, count)| count == 1));
+}
+
+#[test]
+fn after_a_death_each_entry_is_set_again_and_strangers_go() {
+    let (daemon, fake, flows, idle) = at_work();
+    let left = left_by(&daemon);
+    let other = same_machine(&fake);
+    // What came after the state was saved.
+    let stranger = key(NEAR, [239, 2, 9, 9]);
+    let nowhere = Forwarded { parent: REGISTER_VIF, outgoing: 0 };
+    other.entries.borrow_mut().insert(stranger, nowhere);
+    other.entries.borrow_mut().insert(flows, nowhere);
+    other.entries.borrow_mut().remove(&idle);
+    let keys: Vec<_> = other.entries.borrow().keys().copied().collect();
+    let used = |key| Used { key, packets: 1, bytes: 1, stray: 0, idle: 0 };
+    *other.used.borrow_mut() = keys.into_iter().map(used).collect();
+    other.now.set(fake.now.get() + 3_000);
+    let next = resumed(TWO, &other, left, Way::Death);
+    assert_eq!(other.entries.borrow().clone(), fake.entries.borrow().clone());
+    assert_eq!(next.neighbours.known.len(), 1);
+}
+
+#[test]
+fn what_changed_on_the_machine_is_taken() {
+    let (daemon, fake, flows, _) = at_work();
+    let other = same_machine(&fake);
+    other.addresses.borrow_mut().retain(|(index, _)| *index != ETH1);
+    let mut next = resumed(TWO, &other, left_by(&daemon), Way::Exec);
+    assert!(next.ports[0].standing.is_up() && !next.ports[1].standing.is_up());
+    assert!(next.core.rows(Table::Groups).expect("it tells").is_empty());
+    assert_ne!(other.entry(flows), Some(Forwarded { parent: 0, outgoing: 0b10 }));
+}
+
+#[test]
+fn other_settings_and_spoilt_bytes_have_it_made_anew_while_the_kernel_forwards() {
+    let limit = format!("limit = 3000\n{TWO}");
+    let (daemon, fake, flows, idle) = at_work();
+    for (settings, is_spoilt) in [(limit.as_str(), false), (TWO, true)] {
+        for way in [Way::Exec, Way::Death] {
+            let (left, mut saved) = left_by(&daemon);
+            saved[4] ^= u8::from(is_spoilt);
+            let other = same_machine(&fake);
+            let mut next = resumed(settings, &other, (left, saved), way);
+            assert_eq!(next.counters.made_anew, 1);
+            assert!(next.ports.iter().all(|port| port.standing.is_up()));
+            assert_eq!(other.entry(flows), fake.entry(flows));
+            assert_eq!(other.entry(idle), None);
+            // It learns what it needs.
+            happens(&mut next, &other, hello());
+            happens(&mut next, &other, report(ETH1, [10, 5, 0, 77], GROUP));
+            passes(&mut next, &other, 13_000);
+            assert_eq!(other.entry(flows).map(|it| it.outgoing), Some(0b10));
+        }
+    }
+}
+
+#[test]
+fn an_interface_less_goes_down_and_one_more_has_it_made_anew() {
+    let (daemon, fake, ..) = at_work();
+    let one = TWO.replace("[[interface]]\nname = \"eth1\"\n", "");
+    let next = resumed(&one, &same_machine(&fake), left_by(&daemon), Way::Exec);
+    assert!(next.ports[0].standing.is_up() && next.ports[1].is_removed && !next.ports[1].standing.is_up());
+    let three = format!("{TWO}[[interface]]\nname = \"eth7\"\n");
+    let next = resumed(&three, &same_machine(&fake), left_by(&daemon), Way::Exec);
+    assert_eq!((next.counters.made_anew, next.ports.len()), (1, 3));
+}
+
+#[test]
+fn other_ranges_are_taken() {
+    let (daemon, fake, ..) = at_work();
+    let other = TWO.replace("10.9.0.1", "10.9.0.2");
+    let mut next = resumed(&other, &same_machine(&fake), left_by(&daemon), Way::Exec);
+    let (mut usual, _) = begun(&other, &both());
+    for daemon in [&mut next, &mut usual] {
+        daemon.core.take(Event::Seen(1, key(NEAR, [239, 2, 1, 9]))).expect("it goes on");
+    }
+    assert_eq!(next.counters.made_anew, 0);
+    let told = |daemon: &mut Daemon| daemon.core.packets().into_iter().map(|it| it.packet.destination).collect::<Vec<_>>();
+    assert_eq!(told(&mut next), told(&mut usual));
+}
+
+#[test]
+fn a_session_goes_on_by_exec_and_begins_anew_after_a_death() {
+    let settings = TWO.replace("name = \"eth0\"\n", "name = \"eth0\"\nbfd = true\n");
+    let (mut daemon, fake) = begun(&settings, &both());
+    let place = (0, Ipv4Addr::new(10, 1, 0, 2));
+    let mut other_side = Session::new(Times { interval: 300, multiplier: 3 }, 77, 0);
+    for _ in 0..200 {
+        fake.now.set(fake.now.get() + 20);
+        daemon.house_keeping().expect("it goes on");
+        let sent: Vec<_> = fake.bfd.borrow_mut().drain(..).collect();
+        let heard = sent.iter().filter_map(|(_, packet)| Control::read(packet));
+        let answers: Vec<_> = heard.filter_map(|control| other_side.heard(&control, fake.now.get()).packet).collect();
+        for packet in answers.into_iter().chain(other_side.passes(fake.now.get()).packet) {
+            let event = kernel::Event::Bfd { index: ETH0, from: place.1, packet };
+            happens(&mut daemon, &fake, (Source::Bfd, event));
+        }
+    }
+    assert_eq!(daemon.bfd_state(&place), Some(State::Up));
+    let next = resumed(&settings, &same_machine(&fake), left_by(&daemon), Way::Exec);
+    assert_eq!(next.sessions.get(&place), daemon.sessions.get(&place));
+    let next = resumed(&settings, &same_machine(&fake), left_by(&daemon), Way::Death);
+    assert_eq!(next.bfd_state(&place), Some(State::Down));
+    assert_eq!(next.neighbours.known.len(), 1);
+}
+
+#[test]
+fn the_state_is_saved_in_a_file() {
+    let (daemon, _, flows, _) = at_work();
+    let path = std::env::temp_dir().join(format!("viqeshord-state-{}", std::process::id()));
+    daemon.save(&path).expect("it is saved");
+    let (left, saved) = Left::read(&std::fs::read(&path).expect("it is there")).expect("it is whole");
+    assert_eq!(saved, daemon.core.save().expect("it is saved"));
+    assert!(left.entries.iter().any(|entry| entry.key() == flows));
+    assert_eq!((left.told, left.ports.len()), (daemon.core.told.clone(), 2));
+    std::fs::remove_file(&path).expect("it is there");
+}
+
+#[test]
+fn a_recorded_router_goes_on_in_its_files() {
+    let folder = std::env::temp_dir().join(format!("viqeshord-recorded-{}", std::process::id()));
+    std::fs::create_dir_all(&folder).expect("it is made");
+    let settings = format!("{TWO}[recorder]\nfolder = \"{}\"\n", folder.display());
+    let (mut daemon, fake) = begun(&settings, &both());
+    happens(&mut daemon, &fake, report(ETH1, [10, 5, 0, 77], GROUP));
+    let size = |number: u32| std::fs::metadata(folder.join(format!("router.{number}"))).map_or(0, |it| it.len());
+    let first = size(0);
+    assert!(first > 0 && size(1) == 0);
+    std::thread::sleep(Duration::from_millis(20));
+    let mut next = resumed(&settings, &same_machine(&fake), left_by(&daemon), Way::Exec);
+    happens(&mut next, &fake, report(ETH1, [10, 5, 0, 77], GROUP));
+    assert!(size(0) == first && size(1) > 0);
+    next.take_settings(settings::read(TWO).expect("they are in order")).expect("it goes on");
+    let second = size(1);
+    happens(&mut next, &fake, report(ETH1, [10, 5, 0, 77], GROUP));
+    assert_eq!(size(1), second);
+    std::fs::remove_dir_all(&folder).expect("it is there");
+}

@@ -1,0 +1,302 @@
+//! A flight recorder: the state of the library's router, each event that it took from then on with its moment and its
+//! draw, what it answered, and a sum of what it sent.
+//!
+//! It writes the format of `viqeshor.recording` (docs/LIBRARY.md, "A recording"), so `tools/recorded` plays it. Two
+//! files are written in turn, each from a state of its own on.
+use crate::core::Event;
+use crate::mroute::Key;
+use crate::older::Speech;
+use std::collections::BTreeMap;
+use std::fs::File;
+use std::io::{self, BufWriter, Write};
+use std::path::PathBuf;
+use viqeshor::{Error, Kind, Packet, Range, Route, Router, Verdict, MOST_BYTES};
+
+const MAGIC: &[u8; 4] = b"VQRC";
+const VERSION: u16 = 1;
+const DONE: u32 = 0;
+/// What `viq_keep` answers where the source's timer doesn't run.
+const NO_TIMER: u32 = 52;
+/// What waits to be written at most; it is written after each turn.
+const ROOM: usize = 1 << 16;
+
+/// Where it writes.
+#[derive(Clone, Debug, PartialEq, Eq)]
+pub struct Place {
+    pub folder: PathBuf,
+    /// Of the router, before the number of the file.
+    pub name: String,
+    /// The most bytes of both files.
+    pub size: u64,
+}
+
+pub struct Recorder {
+    place: Place,
+    number: usize,
+    file: BufWriter<File>,
+    written: u64,
+    /// With so many the other file is begun: where no groups of older hosts would be lost, and else with more.
+    full: u64,
+    overfull: u64,
+}
+
+pub fn answer_of(verdict: &Result<Verdict, Error>) -> u32 {
+    match verdict {
+        Ok(Verdict::Done) => DONE,
+        Ok(Verdict::Ignored(reason)) => *reason as u32,
+        Err(error) => error.number(),
+    }
+}
+
+/// The CRC-32 of what is to be sent: of each packet a letter, where it goes, its length and its bytes.
+fn sum_of(router: &Router) -> u32 {
+    let mut hasher = crc32fast::Hasher::new();
+    if router.packet_count() == 0 {
+        return hasher.finalize();
+    }
+    router.each_packet(&mut [0; MOST_BYTES], |packet: &Packet, bytes| {
+        let (letter, place) = match packet.kind {
+            Kind::Unicast => (b'u', packet.destination.to_string()),
+            Kind::Copy => (b'c', packet.iface.to_string()),
+            _ => (b'f', packet.iface.to_string()),
+        };
+        hasher.update(&[letter, place.len() as u8]);
+        hasher.update(&(bytes.len() as u32).to_be_bytes());
+        hasher.update(place.as_bytes());
+        hasher.update(bytes);
+    });
+    hasher.finalize()
+}
+
+fn words(numbers: &[u32]) -> impl Iterator<Item = u8> + '_ {
+    numbers.iter().flat_map(|number| number.to_be_bytes())
+}
+
+fn of_routes(routes: &[Route]) -> Vec<u8> {
+    let fields = |it: &Route| {
+        [it.prefix.into(), it.length, it.next_hop.into(), it.iface, it.preference, it.metric].map(u32::to_be_bytes)
+    };
+    routes.iter().flat_map(fields).flatten().collect()
+}
+
+fn of_ranges(ranges: &[Range]) -> Vec<u8> {
+    let fields = |it: &Range| [it.prefix.into(), it.length, it.rp.into()].map(u32::to_be_bytes);
+    ranges.iter().flat_map(fields).flatten().collect()
+}
+
+/// A record, as far as it is known before the answer.
+#[derive(Default)]
+struct Record<'a> {
+    letter: u8,
+    draw: u32,
+    numbers: Vec<u8>,
+    data: &'a [u8],
+}
+
+impl Record<'_> {
+    fn write(&self, to: &mut impl Write, answer: u32, sum: u32) -> io::Result<u64> {
+        to.write_all(&[self.letter])?;
+        to.write_all(&self.draw.to_be_bytes())?;
+        to.write_all(&self.numbers)?;
+        to.write_all(&(self.data.len() as u32).to_be_bytes())?;
+        to.write_all(self.data)?;
+        to.write_all(&answer.to_be_bytes())?;
+        to.write_all(&sum.to_be_bytes())?;
+        Ok((17 + self.numbers.len() + self.data.len()) as u64)
+    }
+}
+
+fn addresses(key: Key) -> [u32; 2] {
+    [key.source.into(), key.group.into()]
+}
+
+impl Place {
+    fn path(&self, number: usize) -> PathBuf {
+        self.folder.join(format!("{}.{number}", self.name))
+    }
+
+    /// The file that was written last.
+    fn newest(&self) -> usize {
+        let written = |number| std::fs::metadata(self.path(number)).and_then(|it| it.modified()).ok();
+        usize::from(written(1) >= written(0))
+    }
+}
+
+impl Recorder {
+    /// Begins with the state that the router has. The file is written last that wasn't the last one before.
+    pub fn begin(place: &Place, router: &mut Router, speech: &BTreeMap<u32, Speech>) -> io::Result<Recorder> {
+        let number = 1 - place.newest();
+        let (file, written) = Recorder::file(place, number, router, speech)?;
+        let mut recorder = Recorder { place: place.clone(), number, file, written, full: 0, overfull: 0 };
+        recorder.set_sizes();
+        Ok(recorder)
+    }
+
+    /// Writes what is before the first event.
+    fn file(
+        place: &Place,
+        number: usize,
+        router: &mut Router,
+        speech: &BTreeMap<u32, Speech>,
+    ) -> io::Result<(BufWriter<File>, u64)> {
+        let refused = |error: Error| io::Error::new(io::ErrorKind::Other, error);
+        let older = router.older_rows().map_err(refused)?.len() as u32;
+        let state = router.save().map_err(refused)?;
+        let beside = place.folder.join(format!("{}.new", place.name));
+        let mut file = BufWriter::with_capacity(ROOM, File::create(&beside)?);
+        file.write_all(MAGIC)?;
+        file.write_all(&VERSION.to_be_bytes())?;
+        file.write_all(&older.to_be_bytes())?;
+        file.write_all(&(state.len() as u64).to_be_bytes())?;
+        file.write_all(&state)?;
+        let mut written = 18 + state.len() as u64;
+        for (iface, set) in speech {
+            for (letter, value) in [(b'o', set.older_hosts as u32), (b'q', set.queries as u32)] {
+                let record = Record { letter, numbers: words(&[*iface, value]).collect(), ..Record::default() };
+                written += record.write(&mut file, DONE, 0)?;
+            }
+        }
+        file.flush()?;
+        std::fs::rename(&beside, place.path(number))?;
+        Ok((file, written))
+    }
+
+    /// A state that is nearly as long as a file may be is followed by as many bytes of events.
+    fn set_sizes(&mut self) {
+        let most = self.place.size / 2;
+        self.overfull = most.max(2 * self.written);
+        self.full = self.overfull - self.overfull / 4;
+    }
+
+    pub fn place(&self) -> &Place {
+        &self.place
+    }
+
+    fn note(&mut self, record: &Record, answer: u32, sum: u32) -> io::Result<()> {
+        self.written += record.write(&mut self.file, answer, sum)?;
+        Ok(())
+    }
+
+    /// What the router answered to an event.
+    pub fn event(&mut self, router: &Router, event: &Event, draw: u32, answer: u32) -> io::Result<()> {
+        let list;
+        let (letter, numbers, data): (u8, Vec<u8>, &[u8]) = match event {
+            Event::Advance(moment) => (b'a', moment.to_be_bytes().to_vec(), &[]),
+            Event::Frame(iface, packet) => (b'f', words(&[*iface]).collect(), packet),
+            Event::Unicast(packet) => (b'u', Vec::new(), packet),
+            Event::Up(iface) => (b'+', words(&[*iface]).collect(), &[]),
+            Event::Down(iface) => (b'-', words(&[*iface]).collect(), &[]),
+            Event::Routes(routes) => {
+                list = of_routes(routes);
+                (b'r', Vec::new(), &list)
+            }
+            Event::Ranges(ranges) => {
+                list = of_ranges(ranges);
+                (b'g', Vec::new(), &list)
+            }
+            Event::Seen(iface, key) => {
+                let [source, group] = addresses(*key);
+                (b's', words(&[*iface, source, group]).collect(), &[])
+            }
+        };
+        let sum = if answer == DONE { sum_of(router) } else { 0 };
+        self.note(&Record { letter, draw, numbers, data }, answer, sum)
+    }
+
+    pub fn kept(&mut self, key: Key, moment: u64, runs: bool) -> io::Result<()> {
+        let numbers = words(&addresses(key)).chain(moment.to_be_bytes()).collect();
+        let record = Record { letter: b'k', numbers, ..Record::default() };
+        self.note(&record, if runs { DONE } else { NO_TIMER }, 0)
+    }
+
+    /// A setting of older versions, by its letter.
+    pub fn set(&mut self, letter: u8, iface: u32, value: u32, answer: u32) -> io::Result<()> {
+        let record = Record { letter, numbers: words(&[iface, value]).collect(), ..Record::default() };
+        self.note(&record, answer, 0)
+    }
+
+    /// After a turn: what waits is written, and where the file is full the other one begins.
+    pub fn end_turn(&mut self, router: &mut Router, speech: &BTreeMap<u32, Speech>) -> io::Result<()> {
+        self.file.flush()?;
+        let is_full = self.written >= self.full
+            && (self.written >= self.overfull || router.older_rows().map_or(false, |rows| rows.is_empty()));
+        if is_full {
+            self.number = 1 - self.number;
+            (self.file, self.written) = Recorder::file(&self.place, self.number, router, speech)?;
+            self.set_sizes();
+        }
+        Ok(())
+    }
+}
+
+#[cfg(test)]
+mod tests {
+    use super::*;
+    use std::net::Ipv4Addr;
+
+    const OWN: Ipv4Addr = Ipv4Addr::new(10, 1, 0, 1);
+
+    fn router() -> Router {
+        let interfaces = [viqeshor::Interface::new(OWN, 24)];
+        Router::new(&viqeshor::Settings::default(), &interfaces, &[], &[]).unwrap()
+    }
+
+    fn place(name: &str, size: u64) -> Place {
+        let folder = std::env::temp_dir().join(format!("viqeshord-recorder-{name}-{}", std::process::id()));
+        std::fs::create_dir_all(&folder).unwrap();
+        Place { folder, name: "router".to_string(), size }
+    }
+
+    #[test]
+    fn records_are_as_the_library_writes_them() {
+        let (place, mut router) = (place("form", 1 << 20), router());
+        let speech = BTreeMap::from([(0, Speech::NEW)]);
+        let state = router.save().unwrap();
+        let mut recorder = Recorder::begin(&place, &mut router, &speech).unwrap();
+        let answer = answer_of(&router.up(0, 7));
+        recorder.event(&router, &Event::Up(0), 7, answer).unwrap();
+        let sum = sum_of(&router);
+        assert_ne!(sum, 0);
+        let routes = [Route::new(Ipv4Addr::new(10, 9, 0, 0), 16, Ipv4Addr::new(10, 1, 0, 2), 0)];
+        let answer = answer_of(&router.set_routes(&routes, 8));
+        recorder.event(&router, &Event::Routes(&routes), 8, answer).unwrap();
+        let key = Key { source: OWN, group: Ipv4Addr::new(239, 1, 1, 1) };
+        recorder.kept(key, 5, false).unwrap();
+        recorder.end_turn(&mut router, &speech).unwrap();
+        let mut wanted = [b"VQRC\0\x01\0\0\0\0".as_slice(), &(state.len() as u64).to_be_bytes(), &state].concat();
+        let setting =
+            |letter: u8, value: u32| [vec![letter], words(&[0, 0, value, 0, 0, 0]).collect::<Vec<_>>()].concat();
+        wanted.extend(setting(b'o', 0));
+        wanted.extend(setting(b'q', 3));
+        wanted.push(b'+');
+        wanted.extend(words(&[7, 0, 0, 0, sum]));
+        wanted.push(b'r');
+        wanted.extend(words(&[8, 24, 0x0a09_0000, 16, 0x0a01_0002, 0, 110, 20, 0, 0]));
+        wanted.push(b'k');
+        wanted.extend(words(&[0, OWN.into(), 0xef01_0101, 0, 5, 0, 52, 0]));
+        assert_eq!(std::fs::read(place.path(0)).unwrap(), wanted);
+        std::fs::remove_dir_all(&place.folder).unwrap();
+    }
+
+    #[test]
+    fn two_files_are_written_in_turn_and_bounded() {
+        let (place, mut router) = (place("ring", 4_000), router());
+        let speech = BTreeMap::new();
+        let mut recorder = Recorder::begin(&place, &mut router, &speech).unwrap();
+        for moment in 1..1_000 {
+            let answer = answer_of(&router.advance(moment, 0));
+            recorder.event(&router, &Event::Advance(moment), 0, answer).unwrap();
+            recorder.end_turn(&mut router, &speech).unwrap();
+            let sizes = [0, 1].map(|number| std::fs::metadata(place.path(number)).map_or(0, |it| it.len()));
+            assert!(sizes.iter().sum::<u64>() <= 4_100, "{sizes:?}");
+        }
+        // Another one leaves the newest file, and begins with the other one.
+        let last = recorder.number;
+        drop(recorder);
+        std::thread::sleep(std::time::Duration::from_millis(20));
+        let (before, after) = (std::fs::read(place.path(last)).unwrap(), Recorder::begin(&place, &mut router, &speech));
+        assert_eq!(after.unwrap().number, 1 - last);
+        assert_eq!(std::fs::read(place.path(last)).unwrap(), before);
+        std::fs::remove_dir_all(&place.folder).unwrap();
+    }
+}

@@ -1,0 +1,286 @@
+"""A router that takes the place of another one: an upgrade while it runs, its death, and what was recorded."""
+from __future__ import annotations
+
+import os
+import shutil
+import signal
+import subprocess
+import sys
+import time
+from typing import TYPE_CHECKING
+
+from trials.network import (AS_SERVICE, HERE, HOST, NOBODY, SOURCE, Failed, ended, goes_on, inside, received, run,
+                            until)
+
+if TYPE_CHECKING:
+    from collections.abc import Callable
+    from pathlib import Path
+
+    from trials.network import Network
+
+MANAGER = HERE / "trials" / "manager.py"
+VIEWER = "10.6.0.77"
+THREE = {"10.2.0.1", "10.3.0.1", "10.7.0.2"}
+GOES_ON = "the router goes on where the one before it was"
+# Packets a second, where the machine keeps up; else a tenth.
+RATES = (20_000, 2_000)
+SECONDS = 12
+
+
+class Streams:
+    """Two streams by the router: as last hop of a tree of FRR's RP, and as the RP itself of one that FRR's viewer has."""
+
+    def __init__(self, net: Network, number: int, rate: int, seconds: int) -> None:
+        self.net, self.rate, count = net, rate, rate * seconds
+        self.groups = (f"239.1.20.{number}", f"239.2.20.{number}")
+        warm = [net.receive("hosts", self.groups[0], HOST, 30, 30), net.receive("hosts", self.groups[1], HOST, 30, 30)]
+        time.sleep(2)
+        for group in self.groups:
+            net.send("source", group, SOURCE, 40, 10).wait()
+        ended_at = 60 + 2 * seconds
+        self.receivers = [net.receive("hosts", group, HOST, count, ended_at) for group in self.groups]
+        for receiver in warm:
+            ended(receiver)
+        self.senders = [net.send("source", group, SOURCE, count, rate) for group in self.groups]
+        for group in self.groups:
+            until("the kernel forwards", 20, lambda: net.entry(SOURCE, group)["outgoing"] == ["to-hosts"])
+
+    def came(self) -> str:
+        """That all came, and none twice; what is to be said of them."""
+        sent = [sender.communicate()[0].split() for sender in self.senders]
+        rates = [int(words[words.index("s,") + 1]) for words in sent]
+        said = []
+        for receiver, rate in zip(self.receivers, rates):
+            came, of, twice = received(receiver)
+            said.append(f"{came} of {of} came, {twice} twice, at {rate} a second")
+            if came < of or twice:
+                raise Failed("; ".join(said))
+        return "; ".join(said)
+
+
+def at_a_rate(net: Network, number: int, act: Callable[[], None]) -> str:
+    """Something is done while streams flow, at the highest rate that the machine keeps up with before."""
+    quiet = None
+    for rate in RATES:
+        quiet = Streams(net, number, rate, 4)
+        try:
+            quiet.came()
+            break
+        except Failed:
+            number += 1
+    streams = Streams(net, number + 1, rate, SECONDS)
+    time.sleep(1)
+    act()
+    return streams.came()
+
+
+def generation(net: Network) -> list[str]:
+    said = [net.frr("first", "show ip pim neighbor 10.2.0.2 json"), net.frr("second", "show ip pim neighbor 10.3.0.2 json")]
+    return [line.strip() for text in said for line in text.splitlines() if "eneration" in line]
+
+
+def upgrade(net: Network) -> str:
+    """SIGUSR2 puts another program in the router's place under two streams: none is lost, none comes twice"""
+    until("the router knows three neighbours", 40, lambda: net.neighbours() >= THREE)
+    before, process = generation(net), net.router.pid
+    times = []
+
+    def act() -> None:
+        for _ in range(3):
+            count = net.log().count(GOES_ON)
+            shutil.copy(net.room / "viqeshord", net.room / "viqeshord.new")
+            os.rename(net.room / "viqeshord.new", net.room / "viqeshord")
+            began = time.monotonic()
+            net.router.send_signal(signal.SIGUSR2)
+            until("the other one goes on", 30, lambda: net.log().count(GOES_ON) > count)
+            times.append(time.monotonic() - began)
+            until("it answers", 10, lambda: net.neighbours() >= THREE)
+
+    said = at_a_rate(net, 1, act)
+    if net.router.pid != process or net.router.poll() is not None:
+        raise Failed("it is another process")
+    if generation(net) != before:
+        raise Failed(f"neighbours saw it begin anew: {before}, {generation(net)}")
+    return f"{said}; three upgrades took {', '.join(f'{it:.1f}' for it in times)} s each"
+
+
+def upgrade_by_reload(net: Network) -> None:
+    """SIGHUP does the same where the program has changed, takes the settings, and refuses a program that can't go on"""
+    count = net.log().count(GOES_ON)
+    program, settings = net.room / "viqeshord", net.room / "router.toml"
+    net.reload(net.settings)
+    if net.log().count(GOES_ON) > count:
+        raise Failed("it was replaced though the program is the same")
+    other = net.room / "viqeshord.new"
+    other.write_text("#!/bin/sh\necho 'not today' >&2\nexit 2\n")
+    other.chmod(0o755)
+    shutil.copy(program, net.room / "viqeshord.good")
+    os.rename(other, program)
+    net.reload(net.settings)
+    if "viqeshord can't take over: not today" not in net.log():
+        raise Failed("it doesn't say that the other program refuses")
+    os.rename(net.room / "viqeshord.good", program)
+    range_of_more = '[[rp]]\ngroups = "239.9.0.0/16"\naddress = "10.4.0.2"\n'
+    settings.write_text(net.settings + range_of_more)
+    net.router.send_signal(signal.SIGHUP)
+    until("the other one goes on", 30, lambda: net.log().count(GOES_ON) > count)
+    until("it has the settings", 10, lambda: any(row["groups"] == "239.9.0.0/16" for row in net.show("rp")))
+    net.reload(net.settings)
+
+
+def another_limit(net: Network) -> str:
+    """an upgrade with a setting under which the state can't be restored learns anew, and a stream loses nothing"""
+    group = "239.1.20.77"
+    warm = net.receive("hosts", group, HOST, 30, 20)
+    time.sleep(2)
+    net.send("source", group, SOURCE, 30, 10).wait()
+    receiver = net.receive("hosts", group, HOST, 2500, 60)
+    ended(warm)
+    sender = net.send("source", group, SOURCE, 2500, 100)
+    until("the kernel forwards", 15, lambda: net.entry(SOURCE, group)["outgoing"] == ["to-hosts"])
+    count = net.log().count("the router is made anew (the settings differ)")
+    (net.room / "router.toml").write_text("limit = 30000\n" + net.settings)
+    net.router.send_signal(signal.SIGUSR2)
+    until("it is said", 20, lambda: net.log().count("the router is made anew (the settings differ)") > count)
+    until("it has learned", 40, lambda: net.entry(SOURCE, group)["forwarding"] == "kernel")
+    sender.wait()
+    came, of, twice = received(receiver)
+    net.reload(net.settings)
+    until("the router knows three neighbours", 40, lambda: net.neighbours() >= THREE)
+    if came < of:
+        raise Failed(f"{came} of {of} came, {twice} twice")
+    return f"{came} of {of} came, {twice} twice"
+
+
+def managed(net: Network, seconds: float) -> Path:
+    """The router begins again, with a service manager that starts it again so many seconds after it died."""
+    net.stop_router()
+    said = net.room / "manager.log"
+    notify = net.room / "notify"
+    if notify.exists():
+        notify.unlink()
+    with open(net.room / "router.log", "a") as log, open(said, "w") as told:
+        words = [sys.executable, MANAGER, notify, seconds, *AS_SERVICE, net.room / "viqeshord", "run",
+                 net.room / "router.toml"]
+        net.router = net.start("router", *words, stderr=log, stdout=told)
+    until("the router answers", 20, lambda: net.show("interfaces"))
+    until("the router knows three neighbours", 60, lambda: net.neighbours() >= THREE)
+    return said
+
+
+def the_router(net: Network) -> int:
+    """The number of the router's process, below its manager."""
+    words = ["pgrep", "-P", str(net.router.pid), "viqeshord"]
+    return int(subprocess.run(words, capture_output=True, text=True, check=True).stdout.split()[0])
+
+
+def killed(net: Network) -> str:
+    """kill -9 while the service manager keeps the sockets: no packet is lost or comes twice, and neighbours notice nothing"""
+    told = managed(net, 0.5)
+    before, times = generation(net), []
+
+    def act() -> None:
+        for _ in range(2):
+            # The last state was saved by now.
+            time.sleep(3)
+            count = net.log().count(GOES_ON)
+            began = time.monotonic()
+            os.kill(the_router(net), signal.SIGKILL)
+            until("the next one goes on", 30, lambda: net.log().count(GOES_ON) > count)
+            times.append(time.monotonic() - began)
+
+    said = at_a_rate(net, 11, act)
+    if generation(net) != before:
+        raise Failed(f"neighbours saw it begin anew: {before}, {generation(net)}")
+    lines = told.read_text().splitlines()
+    if len(lines) != 3 or "mroute" not in lines[1]:
+        raise Failed(f"the manager said {lines}")
+    return f"{said}; it went on {', '.join(f'{it:.1f}' for it in times)} s after"
+
+
+def join_while_dead(net: Network) -> str:
+    """what comes while the router is dead waits at the sockets: a host's report then brings its stream, and a Join"""
+    group, theirs = "239.2.20.90", "239.2.20.91"
+    sender = net.send("source", group, SOURCE, 3000, 100)
+    other = net.send("hosts", theirs, HOST, 3000, 100)
+    time.sleep(4)
+    os.kill(the_router(net), signal.SIGKILL)
+    receiver = net.receive("hosts", group, HOST, 50, 20)
+    viewer = net.receive("viewer", theirs, VIEWER, 50, 20)
+    found = [received(it)[0] for it in (receiver, viewer)]
+    ended(sender)
+    ended(other)
+    if min(found) < 50:
+        raise Failed(f"{found} of 50 came")
+    return f"{found} of 50 came"
+
+
+def killed_long_ago(net: Network) -> None:
+    """a state that isn't fresh isn't taken: the router says so, begins anew, and gets its neighbours and its stream"""
+    (net.room / "router.toml").write_text(net.settings + "[restart]\nfresh = 0.1\n")
+    managed(net, 1)
+    time.sleep(3)
+    os.kill(the_router(net), signal.SIGKILL)
+    said = "the router begins anew, since what is left of the one before it can't be taken: it is"
+    until("it is said", 20, lambda: said in net.log())
+    until("the router knows three neighbours", 60, lambda: net.neighbours() >= THREE)
+    group = "239.1.20.92"
+    receiver = net.receive("hosts", group, HOST, 300, 40)
+    sender = net.send("source", group, SOURCE, 600, 20)
+    goes_on_late(net, group)
+    ended(sender)
+    ended(receiver)
+
+
+def goes_on_late(net: Network, group: str) -> None:
+    until("the kernel forwards", 30, lambda: net.entry(SOURCE, group)["outgoing"] == ["to-hosts"])
+    goes_on(net, group, "after a beginning anew")
+
+
+def ends_in_order(net: Network) -> None:
+    """after SIGTERM nobody keeps anything: no socket, no state, no entry"""
+    net.router.send_signal(signal.SIGTERM)
+    net.router.wait(20)
+    lines = (net.room / "manager.log").read_text().splitlines()
+    if lines[-1] != "ended with nothing":
+        raise Failed(f"the manager said {lines}")
+    if (net.room / "router" / "control.state").exists():
+        raise Failed("the state is there")
+    found = subprocess.run(inside("router", "ip", "mroute", "show"), capture_output=True, text=True).stdout
+    if found:
+        raise Failed(f"the kernel has {found}")
+    (net.room / "router.toml").write_text(net.settings)
+    net.start_router()
+    until("the router knows three neighbours", 60, lambda: net.neighbours() >= THREE)
+
+
+def recorded(net: Network) -> str:
+    """what the router did is played by tools/recorded, record by record the same; also after an upgrade, and as a scenario"""
+    folder = net.room / "recorded"
+    folder.mkdir(exist_ok=True)
+    os.chown(folder, NOBODY, NOBODY)
+    net.reload(net.settings + f'[recorder]\nfolder = "{folder}"\nsize = 4\n')
+    group = "239.1.20.99"
+    for _ in range(2):
+        receiver = net.receive("hosts", group, HOST, 300, 40)
+        until("second is asked", 15, lambda: group in net.frr("second", "show ip pim join"))
+        net.send("source", group, SOURCE, 300, 50).wait()
+        ended(receiver)
+        time.sleep(4)
+        net.router.send_signal(signal.SIGUSR2)
+        time.sleep(4)
+    net.reload(net.settings)
+    archive = os.environ.get("VIQESHOR_ARCHIVE")
+    library = ["--archive", archive] if archive else ["--unproved"]
+    said = []
+    for number in (0, 1):
+        tool = HERE.parent / "tools" / "recorded"
+        scenario = folder / f"part{number}.toml"
+        played = run(tool, *library, "--scenario", scenario, folder / f"router.{number}", capture_output=True, text=True)
+        said.append(played.stdout.strip().splitlines()[-1])
+        if "each as it was recorded" not in said[-1] or "[[move]]" not in scenario.read_text():
+            raise Failed(f"{played.stdout}")
+    return "; ".join(said)
+
+
+TRIALS = [upgrade, upgrade_by_reload, another_limit, recorded, killed, join_while_dead, killed_long_ago, ends_in_order]
