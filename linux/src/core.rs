@@ -127,10 +127,21 @@ impl Core {
         }
     }
 
-    /// What was recorded in this turn is written.
-    pub fn end_turn(&mut self) {
+    /// After a turn, at a moment in ms, what was recorded is written where it has waited for long.
+    pub fn end_turn(&mut self, now: u64) {
         let Core { router, recorder, speech, .. } = self;
-        let written = recorder.as_mut().map_or(Ok(()), |recorder| recorder.end_turn(router, speech));
+        let written = recorder.as_mut().map_or(Ok(()), |recorder| recorder.end_turn(router, speech, now));
+        self.was_recorded(written);
+    }
+
+    /// When it is to be written, in ms.
+    pub fn record_due(&self) -> Option<u64> {
+        self.recorder.as_ref().and_then(Recorder::due)
+    }
+
+    /// What was recorded is written.
+    pub fn flush_record(&mut self) {
+        let written = self.recorder.as_mut().map_or(Ok(()), Recorder::flush);
         self.was_recorded(written);
     }
 

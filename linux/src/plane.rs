@@ -309,9 +309,8 @@ impl Plane {
         self.entries.values_mut().for_each(|entry| entry.is_kept = true);
     }
 
-    /// An entry of the router before this one: it stands as it is, or is to be set again.
+    /// An entry of the router before this one: it stands as it is, or is to be set again, until its row is told.
     pub fn take_up(&mut self, key: Key, entry: Entry) {
-        self.list(key, entry.row.as_ref());
         self.entries.insert(key, entry);
     }
 

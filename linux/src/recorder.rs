@@ -17,8 +17,9 @@ const VERSION: u16 = 1;
 const DONE: u32 = 0;
 /// What `viq_keep` answers where the source's timer doesn't run.
 const NO_TIMER: u32 = 52;
-/// What waits to be written at most; it is written after each turn.
+/// What waits to be written: at most so many bytes, and after a turn for so long, in ms.
 const ROOM: usize = 1 << 16;
+const WAITS: u64 = 200;
 
 /// Where it writes.
 #[derive(Clone, Debug, PartialEq, Eq)]
@@ -38,6 +39,8 @@ pub struct Recorder {
     /// With so many the other file is begun: where no groups of older hosts would be lost, and else with more.
     full: u64,
     overfull: u64,
+    /// When what waits is written, in ms.
+    due: Option<u64>,
 }
 
 pub fn answer_of(verdict: &Result<Verdict, Error>) -> u32 {
@@ -127,7 +130,7 @@ impl Recorder {
     pub fn begin(place: &Place, router: &mut Router, speech: &BTreeMap<u32, Speech>) -> io::Result<Recorder> {
         let number = 1 - place.newest();
         let (file, written) = Recorder::file(place, number, router, speech)?;
-        let mut recorder = Recorder { place: place.clone(), number, file, written, full: 0, overfull: 0 };
+        let mut recorder = Recorder { place: place.clone(), number, file, written, full: 0, overfull: 0, due: None };
         recorder.set_sizes();
         Ok(recorder)
     }
@@ -215,12 +218,26 @@ impl Recorder {
         self.note(&record, answer, 0)
     }
 
-    /// After a turn: what waits is written, and where the file is full the other one begins.
-    pub fn end_turn(&mut self, router: &mut Router, speech: &BTreeMap<u32, Speech>) -> io::Result<()> {
-        self.file.flush()?;
+    /// When what waits is to be written, in ms.
+    pub fn due(&self) -> Option<u64> {
+        self.due
+    }
+
+    /// What waits is written.
+    pub fn flush(&mut self) -> io::Result<()> {
+        self.due = None;
+        self.file.flush()
+    }
+
+    /// After a turn, at a moment in ms: what waits for long is written, and where the file is full the other one begins.
+    pub fn end_turn(&mut self, router: &mut Router, speech: &BTreeMap<u32, Speech>, now: u64) -> io::Result<()> {
+        if !self.file.buffer().is_empty() && *self.due.get_or_insert(now + WAITS) <= now {
+            self.flush()?;
+        }
         let is_full = self.written >= self.full
             && (self.written >= self.overfull || router.older_rows().map_or(false, |rows| rows.is_empty()));
         if is_full {
+            self.flush()?;
             self.number = 1 - self.number;
             (self.file, self.written) = Recorder::file(&self.place, self.number, router, speech)?;
             self.set_sizes();
@@ -262,7 +279,10 @@ mod tests {
         recorder.event(&router, &Event::Routes(&routes), 8, answer).unwrap();
         let key = Key { source: OWN, group: Ipv4Addr::new(239, 1, 1, 1) };
         recorder.kept(key, 5, false).unwrap();
-        recorder.end_turn(&mut router, &speech).unwrap();
+        recorder.end_turn(&mut router, &speech, 0).unwrap();
+        assert_eq!(recorder.due(), Some(WAITS));
+        recorder.end_turn(&mut router, &speech, WAITS).unwrap();
+        assert_eq!(recorder.due(), None);
         let mut wanted = [b"VQRC\0\x01\0\0\0\0".as_slice(), &(state.len() as u64).to_be_bytes(), &state].concat();
         let setting =
             |letter: u8, value: u32| [vec![letter], words(&[0, 0, value, 0, 0, 0]).collect::<Vec<_>>()].concat();
@@ -286,7 +306,7 @@ mod tests {
         for moment in 1..1_000 {
             let answer = answer_of(&router.advance(moment, 0));
             recorder.event(&router, &Event::Advance(moment), 0, answer).unwrap();
-            recorder.end_turn(&mut router, &speech).unwrap();
+            recorder.end_turn(&mut router, &speech, moment).unwrap();
             let sizes = [0, 1].map(|number| std::fs::metadata(place.path(number)).map_or(0, |it| it.len()));
             assert!(sizes.iter().sum::<u64>() <= 4_100, "{sizes:?}");
         }

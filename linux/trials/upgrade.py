@@ -11,6 +11,7 @@ from typing import TYPE_CHECKING
 
 from trials.network import (AS_SERVICE, HERE, HOST, NOBODY, SOURCE, Failed, ended, goes_on, inside, received, run,
                             until)
+from trials.with_frr import FEWER_BYTES
 
 if TYPE_CHECKING:
     from collections.abc import Callable
@@ -28,43 +29,41 @@ SECONDS = 12
 
 
 class Streams:
-    """Two streams by the router: as last hop of a tree of FRR's RP, and as the RP itself of one that FRR's viewer has."""
+    """Two streams that the router's host has: one of a tree of FRR's RP, and one of which the router is the RP."""
 
     def __init__(self, net: Network, number: int, rate: int, seconds: int) -> None:
-        self.net, self.rate, count = net, rate, rate * seconds
-        self.groups = (f"239.1.20.{number}", f"239.2.20.{number}")
-        warm = [net.receive("hosts", self.groups[0], HOST, 30, 30), net.receive("hosts", self.groups[1], HOST, 30, 30)]
+        count, groups = rate * seconds, (f"239.1.20.{number}", f"239.2.20.{number}")
+        # They keep the groups, and so the trees that the first packets of another size made.
+        self.keepers = [net.receive("hosts", group, HOST, 1000, 600, FEWER_BYTES) for group in groups]
         time.sleep(2)
-        for group in self.groups:
-            net.send("source", group, SOURCE, 40, 10).wait()
-        ended_at = 60 + 2 * seconds
-        self.receivers = [net.receive("hosts", group, HOST, count, ended_at) for group in self.groups]
-        for receiver in warm:
-            ended(receiver)
-        self.senders = [net.send("source", group, SOURCE, count, rate) for group in self.groups]
-        for group in self.groups:
-            until("the kernel forwards", 20, lambda: net.entry(SOURCE, group)["outgoing"] == ["to-hosts"])
+        for group in groups:
+            net.send("source", group, SOURCE, 30, 10, FEWER_BYTES).wait()
+        self.receivers = [net.receive("hosts", group, HOST, count, 60 + 2 * seconds) for group in groups]
+        for group in groups:
+            until("the kernel forwards", 15, lambda: net.entry(SOURCE, group)["forwarding"] == "kernel")
+        time.sleep(1)
+        self.senders = [net.send("source", group, SOURCE, count, rate) for group in groups]
 
     def came(self) -> str:
         """That all came, and none twice; what is to be said of them."""
         sent = [sender.communicate()[0].split() for sender in self.senders]
-        rates = [int(words[words.index("s,") + 1]) for words in sent]
-        said = []
-        for receiver, rate in zip(self.receivers, rates):
+        said, is_whole = [], True
+        for receiver, words in zip(self.receivers, sent):
             came, of, twice = received(receiver)
-            said.append(f"{came} of {of} came, {twice} twice, at {rate} a second")
-            if came < of or twice:
-                raise Failed("; ".join(said))
+            said.append(f"{came} of {of} came, {twice} twice, at {words[words.index('a') - 1]} a second")
+            is_whole &= came == of and not twice
+        for keeper in self.keepers:
+            ended(keeper)
+        if not is_whole:
+            raise Failed("; ".join(said))
         return "; ".join(said)
 
 
 def at_a_rate(net: Network, number: int, act: Callable[[], None]) -> str:
     """Something is done while streams flow, at the highest rate that the machine keeps up with before."""
-    quiet = None
     for rate in RATES:
-        quiet = Streams(net, number, rate, 4)
         try:
-            quiet.came()
+            Streams(net, number, rate, 4).came()
             break
         except Failed:
             number += 1

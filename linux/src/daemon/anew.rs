@@ -1,9 +1,8 @@
 //! The library's router made anew, where its interfaces, their addresses or its settings change.
 //!
-//! The library takes these when its router is made, and has no call that hands the state of one router to another. So
-//! the new router learns again from Hellos, Joins and reports, which it asks for at once. Meanwhile the kernel
-//! forwards as it did: its entries stay until the new router has had the time to learn. Where the library gets calls
-//! to save and restore its state, they belong between the two routers in `make_anew`.
+//! The library takes these when its router is made, and a saved state has them in it: no router is restored with others.
+//! So the new router learns again from Hellos, Joins and reports, which it asks for at once. Meanwhile the kernel
+//! forwards as it did: its entries stay until the new router has had the time to learn.
 use super::{Core, Daemon, Event, Fatal};
 use crate::ports::{self, Port, Standing};
 use crate::settings::Subnet;

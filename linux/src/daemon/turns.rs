@@ -239,6 +239,7 @@ impl Daemon {
             due.unset,
             due.anew,
             due.learned,
+            self.core.record_due(),
             Some(self.keeping.due(self.now())).filter(|_| self.settings.restart.saves),
             servers.each().filter_map(Server::due).min().map(|left| self.kernel.now() + left),
             self.ports.iter().filter_map(|port| port.hello_due).min(),
@@ -325,7 +326,7 @@ impl Daemon {
             self.watch_neighbours()?;
             self.watch_sessions();
         }
-        self.core.end_turn();
+        self.core.end_turn(self.now());
         Ok(())
     }
 

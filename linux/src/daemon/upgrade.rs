@@ -68,7 +68,7 @@ impl Daemon {
 
     /// What another program gets: the state, and the sockets by names.
     fn handed(&mut self, servers: &Servers) -> io::Result<(std::fs::File, Vec<(String, RawFd)>)> {
-        self.core.end_turn();
+        self.core.flush_record();
         let saved = self.core.save().map_err(|error| io::Error::new(io::ErrorKind::Other, error))?;
         let mut left = self.left();
         left.answers = servers.answers();

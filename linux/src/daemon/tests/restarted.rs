@@ -208,16 +208,68 @@ fn a_recorded_router_goes_on_in_its_files() {
     let settings = format!("{TWO}[recorder]\nfolder = \"{}\"\n", folder.display());
     let (mut daemon, fake) = begun(&settings, &both());
     happens(&mut daemon, &fake, report(ETH1, [10, 5, 0, 77], GROUP));
+    passes(&mut daemon, &fake, 300);
     let size = |number: u32| std::fs::metadata(folder.join(format!("router.{number}"))).map_or(0, |it| it.len());
     let first = size(0);
     assert!(first > 0 && size(1) == 0);
     std::thread::sleep(Duration::from_millis(20));
-    let mut next = resumed(&settings, &same_machine(&fake), left_by(&daemon), Way::Exec);
-    happens(&mut next, &fake, report(ETH1, [10, 5, 0, 77], GROUP));
+    let other = same_machine(&fake);
+    let mut next = resumed(&settings, &other, left_by(&daemon), Way::Exec);
+    happens(&mut next, &other, report(ETH1, [10, 5, 0, 77], GROUP));
+    passes(&mut next, &other, 300);
     assert!(size(0) == first && size(1) > 0);
     next.take_settings(settings::read(TWO).expect("they are in order")).expect("it goes on");
     let second = size(1);
-    happens(&mut next, &fake, report(ETH1, [10, 5, 0, 77], GROUP));
+    happens(&mut next, &other, report(ETH1, [10, 5, 0, 77], GROUP));
+    passes(&mut next, &other, 300);
     assert_eq!(size(1), second);
+    std::fs::remove_dir_all(&folder).expect("it is there");
+}
+
+/// The time of the processor that this thread has had, in ns.
+fn own_time() -> u64 {
+    let mut time = libc::timespec { tv_sec: 0, tv_nsec: 0 };
+    // SAFETY: the place is one such structure.
+    unsafe { libc::clock_gettime(libc::CLOCK_THREAD_CPUTIME_ID, &mut time) };
+    time.tv_sec as u64 * 1_000_000_000 + time.tv_nsec as u64
+}
+
+/// How long an event takes at the median of some rounds, in ns: of the daemon and the library, without the machine.
+fn event_takes(settings: &str, event: &dyn Fn(u32) -> (Source, kernel::Event)) -> u64 {
+    const EVENTS: u32 = 2_000;
+    let (mut daemon, fake) = begun(settings, &both());
+    happens(&mut daemon, &fake, report(ETH1, [10, 5, 0, 77], GROUP));
+    let mut rounds: Vec<_> = (0..15)
+        .map(|round| {
+            let began = own_time();
+            for number in 0..EVENTS {
+                happens(&mut daemon, &fake, event(round * EVENTS + number));
+            }
+            fake.sent.borrow_mut().clear();
+            (own_time() - began) / u64::from(EVENTS)
+        })
+        .collect();
+    rounds.sort_unstable();
+    rounds[rounds.len() / 2]
+}
+
+#[test]
+#[ignore = "it measures, and prints what it found"]
+fn what_recording_costs() {
+    let folder = std::env::temp_dir().join(format!("viqeshord-cost-{}", std::process::id()));
+    std::fs::create_dir_all(&folder).expect("it is made");
+    let recorded = format!("{TWO}[recorder]\nfolder = \"{}\"\n", folder.display());
+    let data = data([10, 1, 0, 50].into(), GROUP, 0, 1_000);
+    let flows = key([10, 1, 0, 50].into(), GROUP.octets());
+    let kinds: [(&str, &dyn Fn(u32) -> (Source, kernel::Event)); 4] = [
+        ("a report of a known group", &|_| report(ETH1, [10, 5, 0, 77], GROUP)),
+        ("a report of a new group", &|number| report(ETH1, [10, 5, 0, 77], (0xef01_0200 + number % 7_000).into())),
+        ("a Hello", &|_| hello()),
+        ("a packet of 1,000 bytes that the router copies", &|_| whole(flows, data.clone())),
+    ];
+    for (what, event) in kinds {
+        let [without, with] = [TWO, &recorded].map(|settings| event_takes(settings, event));
+        println!("{what}: {without} ns, {with} ns recorded");
+    }
     std::fs::remove_dir_all(&folder).expect("it is there");
 }
