@@ -110,14 +110,14 @@ impl Core {
 
     // ---- recorded
 
-    /// Events are recorded from here on, or no more.
-    pub fn record(&mut self, place: Option<&Place>) {
+    /// Events are recorded from here on, a moment in ms, or no more.
+    pub fn record(&mut self, place: Option<&Place>, now: u64) {
         if self.recorder.as_ref().map(Recorder::place) == place {
             return;
         }
         self.recorder = None;
         if let Some(place) = place {
-            match Recorder::begin(place, &mut self.router, &self.speech) {
+            match Recorder::begin(place, &mut self.router, &self.speech, now) {
                 Ok(recorder) => {
                     info!("events are recorded in {}", place.folder.display());
                     self.recorder = Some(recorder);

@@ -252,6 +252,12 @@ impl Daemon {
         self.kernel.now()
     }
 
+    /// Events are recorded, where the settings say so.
+    fn record(&mut self) {
+        let now = self.now();
+        self.core.record(self.settings.recorder.as_ref(), now);
+    }
+
     pub fn port_of_index(&self, index: u32) -> Option<&Port> {
         self.ports.iter().find(|port| port.index == Some(index))
     }

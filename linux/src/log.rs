@@ -41,7 +41,7 @@ pub fn begin(level: LevelFilter) {
     log::set_max_level(level);
 }
 
-fn wall_time(moment: OffsetDateTime) -> String {
+pub fn wall_time(moment: OffsetDateTime) -> String {
     moment.format(WALL_TIME).unwrap_or_default()
 }
 

@@ -4,12 +4,15 @@
 //! It writes the format of `viqeshor.recording` (docs/LIBRARY.md, "A recording"), so `tools/recorded` plays it. Two
 //! files are written in turn, each from a state of its own on.
 use crate::core::Event;
+use crate::log::wall_time;
 use crate::mroute::Key;
 use crate::older::Speech;
 use std::collections::BTreeMap;
 use std::fs::File;
 use std::io::{self, BufWriter, Write};
 use std::path::PathBuf;
+use std::time::Duration;
+use time::OffsetDateTime;
 use viqeshor::{Error, Kind, Packet, Range, Route, Router, Verdict, MOST_BYTES};
 
 const MAGIC: &[u8; 4] = b"VQRC";
@@ -126,8 +129,11 @@ impl Place {
 }
 
 impl Recorder {
-    /// Begins with the state that the router has. The file is written last that wasn't the last one before.
-    pub fn begin(place: &Place, router: &mut Router, speech: &BTreeMap<u32, Speech>) -> io::Result<Recorder> {
+    /// Begins with the state that the router has, at a moment in ms. The file is written that wasn't the last one before.
+    pub fn begin(place: &Place, router: &mut Router, speech: &BTreeMap<u32, Speech>, now: u64) -> io::Result<Recorder> {
+        // So that the moments of the records can be told as times.
+        let began = OffsetDateTime::now_utc() - Duration::from_millis(now);
+        std::fs::write(place.folder.join(format!("{}.clock", place.name)), wall_time(began) + "\n")?;
         let number = 1 - place.newest();
         let (file, written) = Recorder::file(place, number, router, speech)?;
         let mut recorder = Recorder { place: place.clone(), number, file, written, full: 0, overfull: 0, due: None };
@@ -269,7 +275,7 @@ mod tests {
         let (place, mut router) = (place("form", 1 << 20), router());
         let speech = BTreeMap::from([(0, Speech::NEW)]);
         let state = router.save().unwrap();
-        let mut recorder = Recorder::begin(&place, &mut router, &speech).unwrap();
+        let mut recorder = Recorder::begin(&place, &mut router, &speech, 0).unwrap();
         let answer = answer_of(&router.up(0, 7));
         recorder.event(&router, &Event::Up(0), 7, answer).unwrap();
         let sum = sum_of(&router);
@@ -302,7 +308,7 @@ mod tests {
     fn two_files_are_written_in_turn_and_bounded() {
         let (place, mut router) = (place("ring", 4_000), router());
         let speech = BTreeMap::new();
-        let mut recorder = Recorder::begin(&place, &mut router, &speech).unwrap();
+        let mut recorder = Recorder::begin(&place, &mut router, &speech, 0).unwrap();
         for moment in 1..1_000 {
             let answer = answer_of(&router.advance(moment, 0));
             recorder.event(&router, &Event::Advance(moment), 0, answer).unwrap();
@@ -314,8 +320,10 @@ mod tests {
         let last = recorder.number;
         drop(recorder);
         std::thread::sleep(std::time::Duration::from_millis(20));
-        let (before, after) = (std::fs::read(place.path(last)).unwrap(), Recorder::begin(&place, &mut router, &speech));
-        assert_eq!(after.unwrap().number, 1 - last);
+        let before = std::fs::read(place.path(last)).unwrap();
+        assert_eq!(Recorder::begin(&place, &mut router, &speech, 999).unwrap().number, 1 - last);
+        let clock = std::fs::read_to_string(place.folder.join("router.clock")).unwrap();
+        assert!(clock < wall_time(OffsetDateTime::now_utc()) && clock.ends_with("Z\n"));
         assert_eq!(std::fs::read(place.path(last)).unwrap(), before);
         std::fs::remove_dir_all(&place.folder).unwrap();
     }

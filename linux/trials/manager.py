@@ -4,9 +4,9 @@
     manager.py NOTIFY SECONDS PROGRAM ..
 
 It listens at the socket NOTIFY, keeps the descriptors that the program sends (FDSTORE=1), drops those that it names
-(FDSTOREREMOVE=1), and starts the program again SECONDS after it died, with the descriptors that it keeps (LISTEN_FDS). It
-ends where the program ends in order, and hands SIGTERM, SIGHUP and SIGUSR2 on to it. It prints a line for each start, and
-what it keeps then.
+(FDSTOREREMOVE=1), and starts the program again SECONDS after it died, with the descriptors that it keeps (LISTEN_FDS).
+It ends where the program ends in order, and hands SIGTERM, SIGHUP and SIGUSR2 on to it. It prints a line for each
+start, and what it keeps then.
 """
 import array
 import os

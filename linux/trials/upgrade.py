@@ -9,8 +9,8 @@ import sys
 import time
 from typing import TYPE_CHECKING
 
-from trials.network import (AS_SERVICE, HERE, HOST, NOBODY, SOURCE, Failed, ended, goes_on, inside, received, run,
-                            until)
+from trials.network import (AS_SERVICE, HERE, HOST, NOBODY, SOURCE, Failed, ended, first_after, goes_on, inside,
+                            received, run, until)
 from trials.with_frr import FEWER_BYTES
 
 if TYPE_CHECKING:
@@ -74,8 +74,13 @@ def at_a_rate(net: Network, number: int, act: Callable[[], None]) -> str:
 
 
 def generation(net: Network) -> list[str]:
-    said = [net.frr("first", "show ip pim neighbor 10.2.0.2 json"), net.frr("second", "show ip pim neighbor 10.3.0.2 json")]
-    return [line.strip() for text in said for line in text.splitlines() if "eneration" in line]
+    """By which generations FRR knows the router."""
+    places = (("first", "10.2.0.2"), ("second", "10.3.0.2"))
+    said = [net.frr(place, f"show ip pim neighbor {address} json") for place, address in places]
+    found = [line.strip() for text in said for line in text.splitlines() if "eneration" in line]
+    if len(found) < len(places):
+        raise Failed(f"FRR doesn't tell the generation: {said}")
+    return found
 
 
 def upgrade(net: Network) -> str:
@@ -155,7 +160,7 @@ def managed(net: Network, seconds: float) -> Path:
     """The router begins again, with a service manager that starts it again so many seconds after it died."""
     net.stop_router()
     said = net.room / "manager.log"
-    notify = net.room / "notify"
+    notify = net.room / "notify.sock"
     if notify.exists():
         notify.unlink()
     with open(net.room / "router.log", "a") as log, open(said, "w") as told:
@@ -174,7 +179,7 @@ def the_router(net: Network) -> int:
 
 
 def killed(net: Network) -> str:
-    """kill -9 while the service manager keeps the sockets: no packet is lost or comes twice, and neighbours notice nothing"""
+    """kill -9 while the service manager keeps the sockets: no packet is lost, none comes twice, no neighbour notices"""
     told = managed(net, 0.5)
     before, times = generation(net), []
 
@@ -204,14 +209,13 @@ def join_while_dead(net: Network) -> str:
     other = net.send("hosts", theirs, HOST, 3000, 100)
     time.sleep(4)
     os.kill(the_router(net), signal.SIGKILL)
-    receiver = net.receive("hosts", group, HOST, 50, 20)
-    viewer = net.receive("viewer", theirs, VIEWER, 50, 20)
-    found = [received(it)[0] for it in (receiver, viewer)]
+    receivers = [net.receive("hosts", group, HOST, 1, 15), net.receive("viewer", theirs, VIEWER, 1, 15)]
+    times = [first_after(receiver) for receiver in receivers]
     ended(sender)
     ended(other)
-    if min(found) < 50:
-        raise Failed(f"{found} of 50 came")
-    return f"{found} of 50 came"
+    if any(it is None or it > 5_000 for it in times):
+        raise Failed(f"the first packets came after {times} ms")
+    return f"the first packets came after {times} ms"
 
 
 def killed_long_ago(net: Network) -> None:
@@ -254,7 +258,7 @@ def ends_in_order(net: Network) -> None:
 
 
 def recorded(net: Network) -> str:
-    """what the router did is played by tools/recorded, record by record the same; also after an upgrade, and as a scenario"""
+    """tools/recorded plays what the router did before and after upgrades, record by record the same"""
     folder = net.room / "recorded"
     folder.mkdir(exist_ok=True)
     os.chown(folder, NOBODY, NOBODY)
@@ -275,7 +279,8 @@ def recorded(net: Network) -> str:
     for number in (0, 1):
         tool = HERE.parent / "tools" / "recorded"
         scenario = folder / f"part{number}.toml"
-        played = run(tool, *library, "--scenario", scenario, folder / f"router.{number}", capture_output=True, text=True)
+        file = folder / f"router.{number}"
+        played = run(tool, *library, "--scenario", scenario, file, capture_output=True, text=True)
         said.append(played.stdout.strip().splitlines()[-1])
         if "each as it was recorded" not in said[-1] or "[[move]]" not in scenario.read_text():
             raise Failed(f"{played.stdout}")

@@ -56,6 +56,15 @@ class Recorded(unittest.TestCase):
         self.assertEqual([record.name for record in recording.read(part).records], ["frame", "frame", "routes"])
         self.assertEqual(self.run_tool(part), (0, "3 records, each as it was recorded\n"))
 
+    def test_lines(self):
+        words = (self.room / "router.0", "--list", "--from", "4", "--to", "5")
+        lines = ["4 2000 ms frame 1 10.0.1.9 > 224.0.0.22: IGMP report: TO_EX 239.1.1.1 {}: done",
+                 "5 2000 ms frame 0 10.0.0.7 > 239.1.1.1: data, UDP to port 5000, 4 bytes, TTL 16: done", ""]
+        self.assertEqual(self.run_tool(*words), (0, "\n".join(lines)))
+        (self.room / "router.clock").write_text("2026-11-28T03:12:00.500Z\n")
+        timed = "\n".join(lines).replace("2000 ms", "2026-11-28 03:12:02.500")
+        self.assertEqual(self.run_tool(*words), (0, timed))
+
     def test_a_scenario(self):
         path = self.room / "part.toml"
         self.assertEqual(self.run_tool(self.room / "router.0", "--from", "4", "--scenario", path)[0], 0)

@@ -73,7 +73,7 @@ impl Daemon {
         self.counters.made_anew += 1;
         self.core = core;
         self.speak()?;
-        self.core.record(self.settings.recorder.as_ref());
+        self.record();
         self.keeping.changed();
         self.forget();
         self.begin_again()

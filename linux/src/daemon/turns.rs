@@ -161,7 +161,7 @@ impl Daemon {
             self.set_ranges()?;
         }
         self.speak()?;
-        self.core.record(self.settings.recorder.as_ref());
+        self.record();
         self.place_all();
         // What was refused may be permitted now: the next packet asks.
         self.plane.unknown().into_iter().for_each(|key| self.withdraw(key));
@@ -217,7 +217,7 @@ impl Daemon {
     }
 
     pub(super) fn begin(&mut self) -> Result<(), Fatal> {
-        self.core.record(self.settings.recorder.as_ref());
+        self.record();
         self.settle_ports()?;
         if !self.ports.iter().any(|port| port.standing.is_up()) {
             warn!("no interface is up: the router waits for one");
