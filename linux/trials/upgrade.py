@@ -9,6 +9,7 @@ import sys
 import time
 from typing import TYPE_CHECKING
 
+from trials import liveness
 from trials.network import (AS_SERVICE, HERE, HOST, NOBODY, SOURCE, Failed, ended, first_after, goes_on, inside,
                             received, run, until)
 from trials.with_frr import FEWER_BYTES
@@ -130,6 +131,30 @@ def upgrade_by_reload(net: Network) -> None:
     until("the other one goes on", 30, lambda: net.log().count(GOES_ON) > count)
     until("it has the settings", 10, lambda: any(row["groups"] == "239.9.0.0/16" for row in net.show("rp")))
     net.reload(net.settings)
+
+
+def session_goes_on(net: Network) -> str:
+    """a session of BFD goes on over an upgrade: FRR sees the same one, and no loss"""
+    bfdd = liveness.start_bfdd(net, "first")
+    until("bfdd answers", 10, lambda: "bfd" in net.frr("first", "show daemons"))
+    liveness.configure(net, "first", "interface to-lan", "ip pim bfd")
+    try:
+        net.reload_interface("to-lan", "bfd = true\n")
+        liveness.came_up(net)
+        time.sleep(2)
+        before, count = liveness.peer(net), net.log().count(GOES_ON)
+        net.router.send_signal(signal.SIGUSR2)
+        until("the other one goes on", 30, lambda: net.log().count(GOES_ON) > count)
+        time.sleep(3)
+        after = liveness.peer(net)
+    finally:
+        liveness.configure(net, "first", "interface to-lan", "no ip pim bfd")
+        ended(bfdd)
+    net.reload(net.settings)
+    told = [(it.get("remote-id"), it["status"], it.get("uptime", 0)) for it in (before, after)]
+    if told[0][:2] != told[1][:2] or told[0][1] != "up" or told[1][2] < told[0][2]:
+        raise Failed(f"bfdd tells {told}")
+    return f"up for {told[0][2]} s before, and for {told[1][2]} s after"
 
 
 def another_limit(net: Network) -> str:
@@ -287,4 +312,5 @@ def recorded(net: Network) -> str:
     return "; ".join(said)
 
 
-TRIALS = [upgrade, upgrade_by_reload, another_limit, recorded, killed, join_while_dead, killed_long_ago, ends_in_order]
+TRIALS = [upgrade, upgrade_by_reload, session_goes_on, another_limit, recorded, killed, join_while_dead,
+          killed_long_ago, ends_in_order]

@@ -130,7 +130,8 @@ fn other_settings_and_spoilt_bytes_have_it_made_anew_while_the_kernel_forwards()
             assert!(next.ports.iter().all(|port| port.standing.is_up()));
             assert_eq!(other.entry(flows), fake.entry(flows));
             assert_eq!(other.entry(idle), None);
-            // It learns what it needs.
+            // It learns what it needs, while packets flow.
+            *other.used.borrow_mut() = vec![Used { key: flows, packets: 9, bytes: 900, stray: 0, idle: 0 }];
             happens(&mut next, &other, hello());
             happens(&mut next, &other, report(ETH1, [10, 5, 0, 77], GROUP));
             passes(&mut next, &other, 13_000);
