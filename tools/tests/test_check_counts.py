@@ -105,7 +105,8 @@ class Spoilt(unittest.TestCase):
         self.spoil(
             "pim_router/src/router.rt",
             "    take_in(room, world, cache, replaced, event, &mut probes.meter)\n",
-            "    let mut outside = probes.outside();\n    take_in(room, world, cache, replaced, event, &mut outside.meter)\n",
+            "    let mut outside = probes.outside();\n"
+            "    take_in(room, world, cache, replaced, event, &mut outside.meter)\n",
         )
         self.refused("a meter is made beside that of events in take_next")
 
