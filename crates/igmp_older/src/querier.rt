@@ -1,11 +1,12 @@
 //! What the front asks of the querier of version 3 behind it.
 ghost use Rattle.std.specs.Prelude.{◌≡◌, ℕ};
-ghost use Rattle.pim_model.specs.Tables.{Table, has_row};
+ghost use Rattle.pim_model.specs.Tables.{Table, has_row, row_at};
 ghost use Rattle.pim_types.specs.Keys.{star_key};
 ghost use Rattle.pim_types.specs.declared.fact.GroupRecordRow.{GroupRecordRow};
 
 use pim_ip::Addr;
 use pim_types::IfaceId;
+use pim_types::fact::GroupRecordRow;
 
 /// The querier of version 3 behind the front. It keeps a record for each group on an interface that has members.
 pub trait Querier {
@@ -22,4 +23,8 @@ pub trait Querier {
     /// Whether it has a record of a group on an interface.
     fn has_group_record(&self, iface: IfaceId, group: Addr) -> bool
         ensures { result ≡ has_row (group_records self.now) (star_key iface.number group.bits) };
+
+    /// Its record of a group on an interface, if it has one.
+    fn group_record(&self, iface: IfaceId, group: Addr) -> Option<GroupRecordRow>
+        ensures { result ≡ row_at (group_records self.now) (star_key iface.number group.bits) };
 }

@@ -71,6 +71,10 @@ impl Querier for Records {
     fn has_group_record(&self, iface: IfaceId, group: Addr) -> bool {
         self.rows.contains(Key::star(iface, group))
     }
+
+    fn group_record(&self, iface: IfaceId, group: Addr) -> Option<GroupRecordRow> {
+        self.rows.get(Key::star(iface, group))
+    }
 }
 
 fn no_records(alloc: Global) -> Records {
@@ -125,9 +129,16 @@ fn a_report_is_translated_and_remembered(rt: HostRuntime) -> Result<(), Fail> {
         Key::star(LINK, GROUP),
         GroupRecordRow { end: Some(261_000) },
     )?;
-    note_answered(&mut presence, LINK, given, Err(Refusal::Full), 261_000)?;
+    note_answered(
+        &mut presence,
+        LINK,
+        given,
+        &out,
+        Err(Refusal::Full),
+        261_000,
+    )?;
     is_in_three(&rt, &presence, &records);
-    note_answered(&mut presence, LINK, given, Ok(Verdict::Done), 261_000)?;
+    note_answered(&mut presence, LINK, given, &out, Ok(Verdict::Done), 261_000)?;
     is_in_two(&rt, &presence, &records);
     has_rows(&rt, &presence, 1);
     Ok(())
@@ -144,11 +155,40 @@ fn a_row_goes_with_its_group_record(rt: HostRuntime) -> Result<(), Fail> {
         Key::star(LINK, GROUP),
         GroupRecordRow { end: Some(261_000) },
     )?;
-    note_answered(&mut presence, LINK, given, Ok(Verdict::Done), 261_000)?;
+    note_answered(&mut presence, LINK, given, &out, Ok(Verdict::Done), 261_000)?;
     presence.forget(&records, 260_999);
     has_rows(&rt, &presence, 1);
+    presence.forget(&records, 261_000);
+    has_rows(&rt, &presence, 0);
+    Ok(())
+}
+
+#[test]
+fn a_row_is_looked_at_after_a_message_of_its_group(rt: HostRuntime) -> Result<(), Fail> {
+    let alloc = rt.alloc();
+    let mut records = no_records(alloc);
+    let mut presence = nobody_known(alloc)?;
+    let mut out = Vec::new(alloc);
+    let given = translate(alloc, &presence, &records, LINK, REPORT_TWO, &mut out)?;
+    records.rows.put(
+        Key::star(LINK, GROUP),
+        GroupRecordRow { end: Some(261_000) },
+    )?;
+    note_answered(&mut presence, LINK, given, &out, Ok(Verdict::Done), 261_000)?;
+    // The querier isn't asked before the group timer expires.
     records.rows.remove(Key::star(LINK, GROUP));
     is_in_three(&rt, &presence, &records);
+    presence.forget(&records, 1000);
+    has_rows(&rt, &presence, 1);
+    // A report of the group that passes as it came.
+    note_answered(
+        &mut presence,
+        LINK,
+        Given::Same,
+        IS_EX,
+        Ok(Verdict::Done),
+        261_000,
+    )?;
     presence.forget(&records, 1000);
     has_rows(&rt, &presence, 0);
     Ok(())

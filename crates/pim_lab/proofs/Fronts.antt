@@ -2,7 +2,7 @@
 use Rattle.std.proofs.Common.{◌≡◌, ◌∙◌, ℕ, suc, zero, Bool, false, List, [], ◌∷◌, Option, Some, None, Ok, Err, refl, sym, ap, subst}
 use Rattle.std.specs.List.{slice_get}
 use Rattle.std.specs.Option.{option_map_or}
-use Rattle.std.specs.Prelude.{IfSome, set}
+use Rattle.std.specs.Prelude.{IfSome, option_and_then, set}
 use Rattle.pim_types.specs.Keys.{star_key}
 use Rattle.pim_types.specs.declared.config.IfaceId.{IfaceId}
 use Rattle.pim_types.specs.declared.event.Event.{Event}
@@ -43,6 +43,13 @@ pub asked_record : (standing : Option Standing) (i g : ℕ)
 unfolding has_row row_at
 asked_record None i g = refl
 asked_record (Some r) i g = refl
+
+pub asked_row : (standing : Option Standing) (i g : ℕ)
+    → option_and_then (λ (r : Standing). row_at r.state.group_records (star_key i g)) standing
+    ≡ row_at (option_map_or (λ (r : Standing). r.state.group_records) standing []) (star_key i g)
+unfolding row_at
+asked_row None i g = refl
+asked_row (Some r) i g = refl
 
 pub of_some : {A : Type 0} (o : Option A) (P : A → Type 0) (x : A) → o ≡ Some x → IfSome o P → P x
 of_some None P x e p = cc e
@@ -90,15 +97,30 @@ module _ (b : Both) (draw : ℕ) (i : IfaceId) (bytes : List ℕ) where
   packet_rewritten Given.Same older out is gives = cc is
   packet_rewritten (Given.Rewritten o) older out is gives = ap on_link (sym (given_rewritten given_of o bytes out gives))
 
+  -- the bytes that the router is given
+  abbrev pub content : List ℕ
+  content = bytes_given (rows_of b) b.state.present i.number (hosts_on b.present i.number) bytes
+
+  pub content_same : (given : Given) (out : List ℕ) → given ≡ Given.Same → Gives given given_of [] out → bytes ≡ content
+  unfolding bytes_given
+  content_same Given.Same out is gives = sym (given_same given_of bytes out gives)
+  content_same (Given.Rewritten older) out is gives = cc is
+
+  pub content_rewritten : (given : Given) (older : Option Older) (out : List ℕ) → given ≡ Given.Rewritten older
+      → Gives given given_of [] out → out ≡ content
+  unfolding bytes_given
+  content_rewritten Given.Same older out is gives = cc is
+  content_rewritten (Given.Rewritten o) older out is gives = sym (given_rewritten given_of o bytes out gives)
+
   -- with the end of a membership that begins at the present time, the packet's mark
-  pub packet_mark : (given : Given) (end : ℕ) (out : List ℕ) → end ≡ present_end b.state i.number
+  pub packet_mark : (given : Given) (end : ℕ) (out packet : List ℕ) → end ≡ present_end b.state i.number → packet ≡ content
       → Gives given given_of [] out
-      → IsMarkOf b (EventKind.Frame i bytes) (Mark.Note i given end)
+      → IsMarkOf b (EventKind.Frame i bytes) (Mark.Note i given end) packet
   unfolding marked known_if known_after
-  packet_mark given end out ends gives after (Ok Verdict.Done) =
-      rw (given_older given given_of out gives, ends) refl
-  packet_mark given end out ends gives after (Ok (Verdict.Ignored reason)) = refl
-  packet_mark given end out ends gives after (Err refusal) = refl
+  packet_mark given end out packet ends told gives after (Ok Verdict.Done) =
+      rw (given_older given given_of out gives, ends, told) refl
+  packet_mark given end out packet ends told gives after (Ok (Verdict.Ignored reason)) = refl
+  packet_mark given end out packet ends told gives after (Err refusal) = refl
 
 -- ---- one event of a network
 
@@ -150,8 +172,8 @@ module _ (n : Network) (r : ℕ) (st : Station) (here : station_at n r ≡ Some 
     unfolding stepped joined_step
     outcome_behind = rw given refl
 
-    pub known_behind : (mark : Mark) → IsMarkOf (behind p st.state) came.kind mark
-        → marked p (step st.state e).state.group_records mark ((stepped n r e st).0).answer
+    pub known_behind : (mark : Mark) (packet : List ℕ) → IsMarkOf (behind p st.state) came.kind mark packet
+        → marked p (step st.state e).state.group_records mark packet ((stepped n r e st).0).answer
         ≡ (joined_step (behind p st.state) came).1.present
     unfolding stepped joined_step
-    known_behind mark is = rw given (is _ _)
+    known_behind mark packet is = rw given (is _ _)

@@ -1,5 +1,5 @@
 -- Routers behind their fronts for older hosts.
-use Rattle.std.specs.Prelude.{◌≡◌, Option, Some, option_map, Result, Ok, map}
+use Rattle.std.specs.Prelude.{◌≡◌, ℕ, List, Option, Some, option_map, Result, Ok, map}
 use Rattle.pim_ip.specs.declared.refusal.Refusal.{Refusal}
 use Rattle.pim_types.specs.declared.config.Config.{Config}
 use Rattle.pim_types.specs.declared.event.EventKind.{EventKind}
@@ -10,7 +10,7 @@ use Rattle.pim_model.specs.Tables.{Table}
 use Rattle.pim_net.specs.Showing.{Standing}
 use Rattle.igmp_older.specs.Joined.{Both, known_if, noted_answered, older_in}
 use Rattle.igmp_older.specs.Laws.{none_known}
-use Rattle.igmp_older.specs.Presence.{Present, forgotten, left}
+use Rattle.igmp_older.specs.Presence.{Present, left, looked}
 use Rattle.igmp_older.specs.declared.setting.OlderHosts.{OlderHosts}
 use Rattle.pim_lab.specs.declared.front.Mark.{Mark}
 
@@ -28,7 +28,7 @@ nobody_behind c hosts = none_known c.limit (map (λ _. hosts) c.interfaces)
 
 abbrev pub marked_done : Present → Table GroupRecordRow → Mark → Present
 marked_done p groups (Mark.Note i given end) = p
-marked_done p groups (Mark.Forget moment) = forgotten groups moment p
+marked_done p groups (Mark.Forget moment) = looked groups moment p
 marked_done p groups (Mark.Leave i) = left i.number p
 marked_done p groups Mark.Stay = p
 
@@ -36,15 +36,16 @@ abbrev pub marked_if : Present → Table GroupRecordRow → Mark → Result Verd
 marked_if p groups mark (Ok Verdict.Done) = marked_done p groups mark
 marked_if p groups mark _ = p
 
--- What is known after an answer, by the group records that the router then has.
-unfoldable pub marked : Present → Table GroupRecordRow → Mark → Result Verdict Refusal → Present
-marked p groups (Mark.Note i given end) answer = noted_answered p i.number end (older_in given) answer
-marked p groups (Mark.Forget moment) answer = marked_if p groups (Mark.Forget moment) answer
-marked p groups (Mark.Leave i) answer = marked_if p groups (Mark.Leave i) answer
-marked p groups Mark.Stay answer = p
+-- What is known after an answer, by the group records that the router then has, where a packet that was given is of
+-- these bytes.
+unfoldable pub marked : Present → Table GroupRecordRow → Mark → List ℕ → Result Verdict Refusal → Present
+marked p groups (Mark.Note i given end) packet answer = noted_answered p i.number end packet (older_in given) answer
+marked p groups (Mark.Forget moment) packet answer = marked_if p groups (Mark.Forget moment) answer
+marked p groups (Mark.Leave i) packet answer = marked_if p groups (Mark.Leave i) answer
+marked p groups Mark.Stay packet answer = p
 
 -- With this mark the rows become what is known after an event of this kind, whatever the router answers.
-abbrev pub IsMarkOf : Both → EventKind → Mark → Type 0
-IsMarkOf b kind mark =
+abbrev pub IsMarkOf : Both → EventKind → Mark → List ℕ → Type 0
+IsMarkOf b kind mark packet =
     (after : State) (answer : Result Verdict Refusal)
-    → marked b.present after.group_records mark answer ≡ known_if b after kind answer
+    → marked b.present after.group_records mark packet answer ≡ known_if b after kind answer

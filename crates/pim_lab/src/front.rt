@@ -11,6 +11,7 @@ ghost use Rattle.pim_lab.specs.Fronts.{IsMarkOf, Stands, behind, marked};
 
 use igmp_older::{Given, Presence, Querier, note_answered, translate};
 use pim_net::{Move, Net, NetLog, Router, Wire};
+use pim_types::fact::GroupRecordRow;
 use pim_types::{Addr, Event, EventKind, Fault, IfaceId, Outcome, Refusal, Series, Verdict};
 use std::alloc::{AllocError, Global};
 
@@ -35,18 +36,23 @@ impl Querier for Asked<'_> {
     fn has_group_record(&self, iface: IfaceId, group: Addr) -> bool {
         self.router.has_group_record(iface, group)
     }
+
+    fn group_record(&self, iface: IfaceId, group: Addr) -> Option<GroupRecordRow> {
+        self.router.group_record(iface, group)
+    }
 }
 
 /// What becomes of the rows of older hosts once the router has answered.
 #[derive(Clone, Copy)]
 pub(crate) enum Mark {
-    /// The older message that a packet on the interface was is remembered until a timestamp, in ms.
+    /// The older message that a packet on the interface was is remembered until a timestamp, in ms, and the groups that
+    /// any other names are looked at when time passes.
     Note {
         iface: IfaceId,
         given: Given,
         end: u64,
     },
-    /// The rows that end by a timestamp, in ms, go.
+    /// Time passed to a timestamp, in ms.
     Forget {
         moment: u64,
     },
@@ -58,21 +64,22 @@ pub(crate) enum Mark {
 }
 
 impl Mark {
-    // Changes the rows by the router's answer, which this router gave.
+    // Changes the rows by the router's answer, which this router gave, to a packet if it was one.
     #[tactic(auto, using(crate::proofs::Fronts::asked_records), unfolding(crate::specs::Fronts::marked))]
     fn keep(
         self,
         presence: &mut Presence,
         router: &Router,
+        packet: &[u8],
         answer: Result<Verdict, Refusal>,
     ) -> Result<(), AllocError>
         ensures ok { (s : State) → Stands router.now.standing s
-            → OnOk result (presence.new ≡ marked presence.old s.group_records self answer) }
+            → OnOk result (presence.new ≡ marked presence.old s.group_records self packet.now answer) }
         ensures err { OnErr result (presence.new ≡ presence.old) }
     {
         match (self, answer) {
             (Mark::Note { iface, given, end }, answer) => {
-                note_answered(presence, iface, given, answer, end)
+                note_answered(presence, iface, given, packet, answer, end)
             }
             (Mark::Forget { moment }, Ok(Verdict::Done)) => {
                 presence.forget(&Asked { router }, moment);
@@ -92,11 +99,12 @@ impl Mark {
         presence: &mut Presence,
         net: &Net<W>,
         router: usize,
+        packet: &[u8],
         log: &[Outcome],
     ) -> Result<(), AllocError>
         ensures ok { (n : Network) (st : Station) (o : OutcomeValue) → net.now.network ≡ Some n
             → station_at n router ≡ Some st → log.now ≡ o ∷ []
-            → OnOk result (presence.new ≡ marked presence.old st.state.group_records self o.answer) }
+            → OnOk result (presence.new ≡ marked presence.old st.state.group_records self packet.now o.answer) }
         ensures err { OnErr result (presence.new ≡ presence.old) }
     {
         let Some(asked) = net.router(router) else {
@@ -105,25 +113,28 @@ impl Mark {
         let Some(outcome) = log.first() else {
             return Ok(());
         };
-        self.keep(presence, asked, outcome.answer)
+        self.keep(presence, asked, packet, outcome.answer)
     }
 }
 
-/// An event as the router is given it.
+/// An event as the router is given it, and a packet in it once more.
 #[derive(Drop)]
 struct Passed {
     event: Event,
     mark: Mark,
+    packet: Vec<u8>,
 }
 
 impl Passed {
-    // An event of this kind, given as it came.
-    fn same(draw: u32, kind: EventKind, mark: Mark) -> Passed
-        ensures { result ≡ record { event = record { draw = draw; kind = kind }; mark = mark } }
+    // An event of this kind that isn't a packet on a link, given as it came.
+    fn same(alloc: Global, draw: u32, kind: EventKind, mark: Mark) -> Passed
+        ensures event { result.event ≡ record { draw = draw; kind = kind } }
+        ensures mark { result.mark ≡ mark }
     {
         Passed {
             event: Event { draw, kind },
             mark,
+            packet: Vec::new(alloc),
         }
     }
 }
@@ -156,7 +167,7 @@ fn pass_packet(
     ensures event { (s : State) → Stands router.now.standing s → IfOk result (λ passed. passed.event
         ≡ event_given (behind presence.now s) (record { draw = draw; kind = Kind.Frame iface bytes })) }
     ensures mark { (s : State) → Stands router.now.standing s → IfOk result (λ passed.
-        IsMarkOf (behind presence.now s) (Kind.Frame iface bytes) passed.mark) }
+        IsMarkOf (behind presence.now s) (Kind.Frame iface bytes) passed.mark passed.packet.items) }
 {
     let end = router.membership_end(iface);
     let mut written = Vec::new(alloc);
@@ -169,24 +180,33 @@ fn pass_packet(
         &mut written,
     )?;
     let mark = Mark::Note { iface, given, end };
+    let mut packet = Vec::new(alloc);
     match given {
-        Given::Same => Ok(Passed {
-            event: Event {
-                draw,
-                kind: EventKind::Frame { iface, bytes },
-            },
-            mark,
-        }),
-        Given::Rewritten(_) => Ok(Passed {
-            event: Event {
-                draw,
-                kind: EventKind::Frame {
-                    iface,
-                    bytes: Series::from_vec(written),
+        Given::Same => {
+            packet.extend_from_slice(bytes.as_slice())?;
+            Ok(Passed {
+                event: Event {
+                    draw,
+                    kind: EventKind::Frame { iface, bytes },
                 },
-            },
-            mark,
-        }),
+                mark,
+                packet,
+            })
+        }
+        Given::Rewritten(_) => {
+            packet.extend_from_slice(&written)?;
+            Ok(Passed {
+                event: Event {
+                    draw,
+                    kind: EventKind::Frame {
+                        iface,
+                        bytes: Series::from_vec(written),
+                    },
+                },
+                mark,
+                packet,
+            })
+        }
     }
 }
 
@@ -201,7 +221,7 @@ fn pass(
     ensures event { (s : State) → Stands router.now.standing s
         → IfOk result (λ passed. passed.event ≡ event_given (behind presence.now s) event) }
     ensures mark { (s : State) → Stands router.now.standing s
-        → IfOk result (λ passed. IsMarkOf (behind presence.now s) event.kind passed.mark) }
+        → IfOk result (λ passed. IsMarkOf (behind presence.now s) event.kind passed.mark passed.packet.items) }
 {
     let Event { draw, kind } = event;
     match kind {
@@ -210,22 +230,27 @@ fn pass(
         }
         EventKind::Advance { moment } => {
             let kind = EventKind::Advance { moment };
-            Ok(Passed::same(draw, kind, Mark::Forget { moment }))
+            Ok(Passed::same(alloc, draw, kind, Mark::Forget { moment }))
         }
         EventKind::Down { iface } => {
             let kind = EventKind::Down { iface };
-            Ok(Passed::same(draw, kind, Mark::Leave { iface }))
+            Ok(Passed::same(alloc, draw, kind, Mark::Leave { iface }))
         }
         EventKind::Unicast { bytes } => {
             let kind = EventKind::Unicast { bytes };
-            Ok(Passed::same(draw, kind, Mark::Stay))
+            Ok(Passed::same(alloc, draw, kind, Mark::Stay))
         }
-        EventKind::Up { iface } => Ok(Passed::same(draw, EventKind::Up { iface }, Mark::Stay)),
+        EventKind::Up { iface } => Ok(Passed::same(
+            alloc,
+            draw,
+            EventKind::Up { iface },
+            Mark::Stay,
+        )),
         EventKind::Routes { routes } => {
             let kind = EventKind::Routes { routes };
-            Ok(Passed::same(draw, kind, Mark::Stay))
+            Ok(Passed::same(alloc, draw, kind, Mark::Stay))
         }
-        EventKind::Rps { rps } => Ok(Passed::same(draw, EventKind::Rps { rps }, Mark::Stay)),
+        EventKind::Rps { rps } => Ok(Passed::same(alloc, draw, EventKind::Rps { rps }, Mark::Stay)),
     }
 }
 
@@ -249,8 +274,12 @@ pub(crate) fn run_behind<W: Wire>(
     let Some(asked) = net.router(router) else {
         return net.run(&[Move::Event { router, event }]);
     };
-    let Passed { event, mark } = pass(alloc, presence, asked, event)?;
+    let Passed {
+        event,
+        mark,
+        packet,
+    } = pass(alloc, presence, asked, event)?;
     let log = net.run(&[Move::Event { router, event }])?;
-    mark.keep_logged(presence, net, router, &log)?;
+    mark.keep_logged(presence, net, router, &packet, &log)?;
     Ok(log)
 }

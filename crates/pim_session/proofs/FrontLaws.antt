@@ -10,7 +10,7 @@ use Rattle.pim_types.specs.declared.outcome.Verdict.{Verdict}
 use Rattle.pim_model.specs.State.{State}
 use Rattle.pim_model.specs.Step.{outcome_of, ran, run, state_after, step}
 use Rattle.igmp_older.specs.Joined.{Both, joined, joined_step, known_after, known_if, noted_if, older_of, present_end, rows_of}
-use Rattle.igmp_older.specs.Presence.{Present, forgotten, has_room, hosts_on, left, noted_of, report_noted, setting_or_nobody}
+use Rattle.igmp_older.specs.Presence.{Present, doubted, has_room, hosts_on, left, looked, noted_of, report_noted, setting_or_nobody}
 use Rattle.igmp_older.specs.Routers.{queried, query_packet}
 use Rattle.igmp_older.specs.Translation.{translation}
 use Rattle.igmp_older.specs.declared.older.Older.{Older}
@@ -39,18 +39,20 @@ unfolding report_noted
 report_hosts p i older end = room_hosts (has_room p i older.group.bits) p _ refl
 
 noted_of_hosts : (kind : OlderKind) (p : Present) (i : ℕ) (older : Older) (end : ℕ) → (noted_of kind p i older end).hosts ≡ p.hosts
+unfolding doubted
 noted_of_hosts OlderKind.ReportOne p i older end = report_hosts p i older end
 noted_of_hosts OlderKind.ReportTwo p i older end = report_hosts p i older end
 noted_of_hosts OlderKind.Leave p i older end = refl
 
-noted_if_hosts : (p : Present) (i : ℕ) (end : ℕ) (o : Option Older) → (noted_if p i end o).hosts ≡ p.hosts
-noted_if_hosts p i end None = refl
-noted_if_hosts p i end (Some older) = noted_of_hosts older.kind p i older end
+noted_if_hosts : (p : Present) (i : ℕ) (end : ℕ) (bytes : List ℕ) (o : Option Older) → (noted_if p i end bytes o).hosts ≡ p.hosts
+unfolding doubted
+noted_if_hosts p i end bytes None = refl
+noted_if_hosts p i end bytes (Some older) = noted_of_hosts older.kind p i older end
 
 after_hosts : (b : Both) (after : State) (kind : EventKind) → (known_after b after kind).hosts ≡ b.present.hosts
-unfolding known_after forgotten left
+unfolding known_after looked left
 after_hosts b after (EventKind.Frame i bytes) =
-    noted_if_hosts b.present i.number (present_end b.state i.number)
+    noted_if_hosts b.present i.number (present_end b.state i.number) _
     (older_of (translation (rows_of b) b.state.present i.number (hosts_on b.present i.number) bytes))
 after_hosts b after (EventKind.Advance moment) = refl
 after_hosts b after (EventKind.Down i) = refl

@@ -1,6 +1,7 @@
 -- What a router and what stands before it make of an event.
 use Rattle.std.specs.Option.{option_map_or}
 use Rattle.std.proofs.Common.{◌≡◌, ◌∙◌, ◌++◌, ◌&&◌, ◌+◌, ap, refl, sym, subst, ℕ, Bool, true, false, is_none, nat_lt, List, [], map, Option, Some, None, option_map, Result, Ok, Err, IfOk, IfSome, IsTrue, IsOk, if◌then◌else◌}
+use Rattle.std.specs.Prelude.{option_and_then}
 use Rattle.pim_ip.specs.declared.fault.Fault.{Fault}
 use Rattle.pim_ip.specs.declared.refusal.Refusal.{Refusal}
 use Rattle.pim_types.specs.declared.config.IfaceId.{IfaceId}
@@ -22,7 +23,7 @@ use Rattle.pim_event.specs.Listing.{ListsSame}
 use Rattle.pim_router.specs.Standing.{Shown as RouterShown, Standing, standing}
 use Rattle.pim_event.specs.Staying.{OffersStay}
 use Rattle.igmp_older.specs.Joined.{bytes_given, event_given, joined_step, kind_given, known_after, known_if, noted_answered, noted_if, older_in, older_of, present_end, rows_of}
-use Rattle.igmp_older.specs.Presence.{Present, forgotten, hosts_on, left, live_rows, rows_told}
+use Rattle.igmp_older.specs.Presence.{Present, hosts_on, left, live_rows, looked, rows_told}
 use Rattle.igmp_older.specs.Routers.{OlderQueried, Wrote, queried, query_packet}
 use Rattle.igmp_older.specs.Translation.{Gives, Translation, packet_given, translation}
 use Rattle.igmp_older.specs.declared.front.Given.{Given}
@@ -39,6 +40,12 @@ pub has_record_of : (o : Option Standing) (k : Key)
 unfolding has_row row_at
 has_record_of None k = refl
 has_record_of (Some r) k = refl
+
+pub record_of : (o : Option Standing) (k : Key)
+    → option_and_then (λ r. row_at r.state.group_records k) o ≡ row_at (option_map_or (λ r. r.state.group_records) o []) k
+unfolding row_at
+record_of None k = refl
+record_of (Some r) k = refl
 
 -- ---- the router took an event
 
@@ -78,16 +85,25 @@ unfolding event_given kind_given bytes_given
 event_so f s draw iface given bytes written h =
     ap (λ (xs : List ℕ). frame_event draw iface xs) (sym (bytes_so given _ bytes written h))
 
-known_so : (f : Front) (s after : State) (iface : IfaceId) (bytes : List ℕ) (end : ℕ) (older : Option Older) (answer : Result Verdict Refusal)
+known_so : (f : Front) (s after : State) (iface : IfaceId) (bytes packet : List ℕ) (end : ℕ) (older : Option Older) (answer : Result Verdict Refusal)
     → end ≡ present_end s iface.number
+    → packet ≡ bytes_given (live_rows s.group_records f.present.rows) s.present iface.number (hosts_on f.present iface.number) bytes
     → older ≡ older_of (translation (live_rows s.group_records f.present.rows) s.present iface.number (hosts_on f.present iface.number) bytes)
-    → noted_answered f.present iface.number end older answer ≡ known_if (both f s) after (EventKind.Frame iface bytes) answer
+    → noted_answered f.present iface.number end packet older answer ≡ known_if (both f s) after (EventKind.Frame iface bytes) answer
 unfolding known_if known_after
-known_so f s after iface bytes end older (Ok Verdict.Done) late is =
-    ap (λ (n : ℕ). noted_if f.present iface.number n older) late
-    ∙ ap (λ (o : Option Older). noted_if f.present iface.number (present_end s iface.number) o) is
-known_so f s after iface bytes end older (Ok (Verdict.Ignored reason)) late is = refl
-known_so f s after iface bytes end older (Err refusal) late is = refl
+known_so f s after iface bytes packet end older (Ok Verdict.Done) late told is =
+    ap (λ (n : ℕ). noted_if f.present iface.number n packet older) late
+    ∙ (ap (λ (xs : List ℕ). noted_if f.present iface.number (present_end s iface.number) xs older) told
+    ∙ ap (λ (o : Option Older). noted_if f.present iface.number (present_end s iface.number) (bytes_given (live_rows s.group_records f.present.rows) s.present iface.number (hosts_on f.present iface.number) bytes) o) is)
+known_so f s after iface bytes packet end older (Ok (Verdict.Ignored reason)) late told is = refl
+known_so f s after iface bytes packet end older (Err refusal) late told is = refl
+
+-- what is given is the packet of the definition
+packet_so : (f : Front) (s : State) (iface : IfaceId) (given : Given) (bytes written : List ℕ)
+    → Gives given (translation (live_rows s.group_records f.present.rows) s.present iface.number (hosts_on f.present iface.number) bytes) [] written
+    → packet_of given bytes written ≡ bytes_given (live_rows s.group_records f.present.rows) s.present iface.number (hosts_on f.present iface.number) bytes
+unfolding bytes_given
+packet_so f s iface given bytes written h = sym (bytes_so given _ bytes written h)
 
 abbrev with_present : Front → Present → Front
 with_present f p = record f { present = p }
@@ -102,23 +118,25 @@ known_step f s e answered p a k =
     ap (with_present f)
     (k ∙ ap (λ (x : Result Verdict Refusal). known_if (both f s) (step s (event_given (both f s) e)).state e.kind x) a)
 
-pub packet_took : (o : Option Standing) (f : Front) (draw : ℕ) (iface : IfaceId) (bytes written : List ℕ) (given : Given) (event : Event) (before : List Emission) (answered : Result Verdict Refusal) (shown : RouterShown) (after : List Emission) (end : ℕ) (known : Front)
+pub packet_took : (o : Option Standing) (f : Front) (draw : ℕ) (iface : IfaceId) (bytes written packet : List ℕ) (given : Given) (event : Event) (before : List Emission) (answered : Result Verdict Refusal) (shown : RouterShown) (after : List Emission) (end : ℕ) (known : Front)
     → Gives given (translation (live_rows (option_map_or (λ r. r.state.group_records) o []) f.present.rows)
     (option_map_or (λ r. r.state.present) o 0) iface.number (hosts_on f.present iface.number) bytes) [] written
     → event ≡ frame_event draw iface (packet_of given bytes written)
     → IfSome o (λ r. Gave r.state event before answered shown after)
     → end ≡ option_map_or (λ r. r.state.present + group_membership_interval r.state iface.number) o 0
-    → known ≡ with_present f (noted_answered f.present iface.number end (older_in given) answered)
+    → packet ≡ packet_of given bytes written
+    → known ≡ with_present f (noted_answered f.present iface.number end packet (older_in given) answered)
     → IfSome o (λ r. Took f r.state (frame_event draw iface bytes) before answered shown after known)
-packet_took None f draw iface bytes written given event before answered shown after end known gives is gave late k = tt
-packet_took (Some r) f draw iface bytes written given event before answered shown after end known gives is gave late k =
+packet_took None f draw iface bytes written packet given event before answered shown after end known gives is gave late told k = tt
+packet_took (Some r) f draw iface bytes written packet given event before answered shown after end known gives is gave late told k =
     let same = is ∙ event_so f r.state draw iface given bytes written gives in
     let went = subst (λ (x : Event). Gave r.state x before answered shown after) same gave in
     record {
       gave = went;
       knows = k ∙ known_step f r.state (frame_event draw iface bytes) answered
-          (noted_answered f.present iface.number end (older_in given) answered) went.is_answer
-          (known_so f r.state _ iface bytes end (older_in given) answered late (older_so given _ written gives));
+          (noted_answered f.present iface.number end packet (older_in given) answered) went.is_answer
+          (known_so f r.state _ iface bytes packet end (older_in given) answered late (told ∙ packet_so f r.state iface given bytes written gives)
+          (older_so given _ written gives));
     }
 
 -- ---- an older query
@@ -204,18 +222,18 @@ other_took (Some r) f e before answered shown after p known so is gave k =
 
 -- time passed
 advance_knows : (f : Front) (moment : ℕ) (answered : Result Verdict Refusal) (shown : RouterShown) (p : Present)
-    → p ≡ (if is_done answered then forgotten (option_map_or (λ r. r.state.group_records) shown.standing []) moment f.present else f.present)
+    → p ≡ (if is_done answered then looked (option_map_or (λ r. r.state.group_records) shown.standing []) moment f.present else f.present)
     → (s : State) (a : Answered) → shown.standing ≡ Some (standing a)
     → p ≡ known_if (both f s) a.state (EventKind.Advance moment) answered
 unfolding known_if known_after
 advance_knows f moment (Ok Verdict.Done) shown p e s a is =
-    e ∙ ap (λ (o : Option Standing). forgotten (option_map_or (λ r. r.state.group_records) o []) moment f.present) is
+    e ∙ ap (λ (o : Option Standing). looked (option_map_or (λ r. r.state.group_records) o []) moment f.present) is
 advance_knows f moment (Ok (Verdict.Ignored reason)) shown p e s a is = e
 advance_knows f moment (Err refusal) shown p e s a is = e
 
 pub advance_took : (o : Option Standing) (f : Front) (e : Event) (moment : ℕ) (before : List Emission) (answered : Result Verdict Refusal) (shown : RouterShown) (after : List Emission) (p : Present) (known : Front)
     → known ≡ with_present f p → e.kind ≡ EventKind.Advance moment → IfSome o (λ r. Gave r.state e before answered shown after)
-    → p ≡ (if is_done answered then forgotten (option_map_or (λ r. r.state.group_records) shown.standing []) moment f.present else f.present)
+    → p ≡ (if is_done answered then looked (option_map_or (λ r. r.state.group_records) shown.standing []) moment f.present else f.present)
     → IfSome o (λ r. Took f r.state (event_queried f e) before answered shown after known)
 advance_took o f e moment before answered shown after p known so is gave k =
     other_took o f e before answered shown after p known so (ap is_frame is) gave

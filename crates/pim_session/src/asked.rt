@@ -3,6 +3,7 @@ ghost use Rattle.std.specs.Prelude.{◌≡◌};
 
 use igmp_older::Querier;
 use pim_router::Router;
+use pim_types::fact::GroupRecordRow;
 use pim_types::{Addr, IfaceId};
 use std::marker::Model;
 
@@ -42,5 +43,9 @@ impl<'a> Querier for Asked<'a> {
 
     fn has_group_record(&self, iface: IfaceId, group: Addr) -> bool {
         self.router.has_group_record(iface, group)
+    }
+
+    fn group_record(&self, iface: IfaceId, group: Addr) -> Option<GroupRecordRow> {
+        self.router.group_record(iface, group)
     }
 }

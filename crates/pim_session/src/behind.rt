@@ -76,7 +76,7 @@ fn take_packet(
     let given = front.translate(alloc, &Asked::of(router), iface, bytes, &mut written)?;
     let packet = packet_of(given, bytes, written.as_slice());
     let answer = give(router, &LentEvent::frame(draw, iface, packet), sent)?;
-    front.note(iface, given, answer, end)?;
+    front.note(iface, given, packet, answer, end)?;
     Ok(answer)
 }
 

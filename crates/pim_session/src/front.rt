@@ -1,7 +1,7 @@
 //! What stands before a router for hosts and routers of older versions of IGMP.
 ghost use Rattle.std.specs.Prelude.{◌≡◌, [], IfOk, IsOk, IsTrue, OnErr, OnOk, None, map, replicate, slice_set};
 ghost use Rattle.igmp_older.specs.Joined.{noted_answered, older_in};
-ghost use Rattle.igmp_older.specs.Presence.{forgotten, hosts_on, left, live_rows, rows_told, with_hosts};
+ghost use Rattle.igmp_older.specs.Presence.{hosts_on, left, live_rows, looked, rows_told, with_hosts};
 ghost use Rattle.igmp_older.specs.Translation.{translation, Gives};
 ghost use Rattle.pim_model.specs.Sure.{needs_no_memory};
 ghost use Rattle.pim_session.specs.Front.{bytes_left, emission_left, hears_queries, version_on};
@@ -118,26 +118,29 @@ impl Front {
         translate(alloc, &self.presence, querier, iface, bytes, out)
     }
 
-    /// Remembers the older message that the querier was given, until an end in ms, where the answer is that it is done.
+    /// What is known after the querier answered a packet that it was given: where the answer is that it is done, the
+    /// older message that it was is remembered, until an end in ms, and the groups that any other names are looked at when
+    /// time passes.
     pub(crate) fn note(
         &mut self,
         iface: IfaceId,
         given: Given,
+        packet: &[u8],
         answer: Result<Verdict, Refusal>,
         end: u64,
     ) -> Result<(), AllocError>
         ensures ok { OnOk result (self.new ≡ record self.old {
-          present = noted_answered self.old.present iface.number end (older_in given) answer;
+          present = noted_answered self.old.present iface.number end packet.now (older_in given) answer;
         }) }
         ensures sure { IsTrue (needs_no_memory answer) → IsOk result }
     {
-        note_answered(&mut self.presence, iface, given, answer, end)
+        note_answered(&mut self.presence, iface, given, packet, answer, end)
     }
 
     /// Forgets whose timers expired by a timestamp in ms, and the groups of which the querier has no record.
     pub(crate) fn forget<Q: Querier>(&mut self, querier: &Q, moment: u64)
         ensures { self.new ≡ record self.old {
-          present = forgotten (Q.group_records querier.now) moment self.old.present;
+          present = looked (Q.group_records querier.now) moment self.old.present;
         } }
     {
         self.presence.forget(querier, moment);

@@ -1,13 +1,14 @@
 //! What a front for hosts and routers of older versions of IGMP asks of the router.
 ghost use Rattle.std.specs.Option.{option_map_or};
-ghost use Rattle.std.specs.Prelude.{◌≡◌, ◌+◌, false};
+ghost use Rattle.std.specs.Prelude.{◌≡◌, ◌+◌, false, option_and_then};
 ghost use Rattle.pim_model.specs.Querier.{group_membership_interval};
 ghost use Rattle.pim_model.specs.State.{iface_count};
-ghost use Rattle.pim_model.specs.Tables.{has_row};
+ghost use Rattle.pim_model.specs.Tables.{has_row, row_at};
 ghost use Rattle.pim_types.specs.Keys.{star_key};
 
 use super::Router;
 use pim_querier::intervals::group_membership_interval;
+use pim_types::fact::GroupRecordRow;
 use pim_types::{Addr, IfaceId};
 
 impl Router {
@@ -64,5 +65,16 @@ impl Router {
             return false;
         }
         self.world.has_group_record(iface, group)
+    }
+
+    /// The group record of the group on the interface; none where the router has failed. No memory is taken.
+    pub fn group_record(&self, iface: IfaceId, group: Addr) -> Option<GroupRecordRow>
+        ensures { result ≡ option_and_then
+            (λ r. row_at r.state.group_records (star_key iface.number group.bits)) self.now.standing }
+    {
+        if self.failed {
+            return None;
+        }
+        self.world.membership().group_record(iface, group)
     }
 }

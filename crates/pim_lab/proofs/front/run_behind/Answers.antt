@@ -1,9 +1,10 @@
 -- One event of the network, which the front gives.
-use Rattle.std.proofs.Common.{◌∙◌, ◌∷◌, [], Some, ap, sym}
+use Rattle.std.proofs.Common.{◌∙◌, ℕ, List, ◌∷◌, [], Some, ap, sym}
 use Rattle.pim_types.specs.declared.event.Event.{Event}
 use Rattle.pim_types.specs.declared.outcome.Outcome.{Outcome}
 use Rattle.pim_model.specs.Network.{Network, moved_at, stepped}
 use Rattle.pim_model.specs.Step.{step}
+use Rattle.pim_lab.specs.Fronts.{marked}
 use Rattle.pim_lab.proofs.Fronts.{known_behind, moved_at_is, of_some, one_event, outcome_behind, shown, station_after}
 use Rattle.pim_lab.proofs.front.run_behind.Goals as goal
 
@@ -33,6 +34,9 @@ returns-clause-presence g c n st is here =
     c.in_ok-keep_logged.ensures.ok (stepped n c.args.router c.in_ok-event.field-0.event st).1
     (record st { state = (step st.state c.in_ok-event.field-0.event).state })
     (stepped n c.args.router c.in_ok-event.field-0.event st).0 done.1
-    (station_after n c.args.router st here c.in_ok-event.field-0.event) (c.deref.ensures.value ∙ done.0)
+    (station_after n c.args.router st here c.in_ok-event.field-0.event) (c.deref-2.ensures.value ∙ done.0)
+    ∙ ap (λ (xs : List ℕ). marked c.args.presence.now (step st.state c.in_ok-event.field-0.event).state.group_records c.in_ok-event.field-0.mark xs
+    ((stepped n c.args.router c.in_ok-event.field-0.event st).0).answer) c.deref.ensures.value
     ∙ known_behind n c.args.router st here c.args.presence.now c.args.event c.in_ok-event.field-0.event
-    (c.in_ok-event.ensures.event st.state stands) c.in_ok-event.field-0.mark (c.in_ok-event.ensures.mark st.state stands)
+    (c.in_ok-event.ensures.event st.state stands) c.in_ok-event.field-0.mark c.in_ok-event.field-0.packet.items
+    (c.in_ok-event.ensures.mark st.state stands)
