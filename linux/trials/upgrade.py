@@ -2,6 +2,7 @@
 from __future__ import annotations
 
 import os
+import re
 import shutil
 import signal
 import subprocess
@@ -74,14 +75,16 @@ def at_a_rate(net: Network, number: int, act: Callable[[], None]) -> str:
     return streams.came()
 
 
-def generation(net: Network) -> list[str]:
+def generation(net: Network) -> list[int]:
     """By which generations FRR knows the router."""
     places = (("first", "10.2.0.2"), ("second", "10.3.0.2"))
-    said = [net.frr(place, f"show ip pim neighbor {address} json") for place, address in places]
-    found = [line.strip() for text in said for line in text.splitlines() if "eneration" in line]
-    if len(found) < len(places):
-        raise Failed(f"FRR doesn't tell the generation: {said}")
-    return found
+
+    def told() -> list[int]:
+        said = [net.frr(place, f"show ip pim neighbor {address} json") for place, address in places]
+        return [int(number) for text in said for number in re.findall(r'"generationId": *(\d+)', text)]
+
+    until("FRR knows the router", 40, lambda: len(told()) == len(places))
+    return told()
 
 
 def upgrade(net: Network) -> str:
