@@ -9,7 +9,7 @@ use crate::mroute::Key;
 use crate::older::Speech;
 use std::collections::BTreeMap;
 use std::fs::File;
-use std::io::{self, BufWriter, Write};
+use std::io::{self, Write};
 use std::path::PathBuf;
 use std::time::Duration;
 use time::OffsetDateTime;
@@ -37,8 +37,9 @@ pub struct Place {
 pub struct Recorder {
     place: Place,
     number: usize,
-    file: BufWriter<File>,
+    file: File,
     written: u64,
+    waiting: Vec<u8>,
     /// With so many the other file is begun: where no groups of older hosts would be lost, and else with more.
     full: u64,
     overfull: u64,
@@ -74,10 +75,6 @@ fn sum_of(router: &Router) -> u32 {
     hasher.finalize()
 }
 
-fn words(numbers: &[u32]) -> impl Iterator<Item = u8> + '_ {
-    numbers.iter().flat_map(|number| number.to_be_bytes())
-}
-
 fn of_routes(routes: &[Route]) -> Vec<u8> {
     let fields = |it: &Route| {
         [it.prefix.into(), it.length, it.next_hop.into(), it.iface, it.preference, it.metric].map(u32::to_be_bytes)
@@ -90,30 +87,38 @@ fn of_ranges(ranges: &[Range]) -> Vec<u8> {
     ranges.iter().flat_map(fields).flatten().collect()
 }
 
-/// A record, as far as it is known before the answer.
-#[derive(Default)]
-struct Record<'a> {
-    letter: u8,
-    draw: u32,
-    numbers: Vec<u8>,
-    data: &'a [u8],
+/// Puts a record behind others: its letter and its draw, then its numbers, then the rest.
+fn put_head(to: &mut Vec<u8>, letter: u8, draw: u32) {
+    to.push(letter);
+    put(to, draw);
 }
 
-impl Record<'_> {
-    fn write(&self, to: &mut impl Write, answer: u32, sum: u32) -> io::Result<u64> {
-        to.write_all(&[self.letter])?;
-        to.write_all(&self.draw.to_be_bytes())?;
-        to.write_all(&self.numbers)?;
-        to.write_all(&(self.data.len() as u32).to_be_bytes())?;
-        to.write_all(self.data)?;
-        to.write_all(&answer.to_be_bytes())?;
-        to.write_all(&sum.to_be_bytes())?;
-        Ok((17 + self.numbers.len() + self.data.len()) as u64)
-    }
+fn put(to: &mut Vec<u8>, number: u32) {
+    to.extend_from_slice(&number.to_be_bytes());
 }
 
-fn addresses(key: Key) -> [u32; 2] {
-    [key.source.into(), key.group.into()]
+fn put_key(to: &mut Vec<u8>, key: Key) {
+    to.extend_from_slice(&key.source.octets());
+    to.extend_from_slice(&key.group.octets());
+}
+
+fn put_data(to: &mut Vec<u8>, data: &[u8]) {
+    put(to, data.len() as u32);
+    to.extend_from_slice(data);
+}
+
+fn put_end(to: &mut Vec<u8>, answer: u32, sum: u32) {
+    put(to, answer);
+    put(to, sum);
+}
+
+/// A setting of older versions, by its letter.
+fn put_setting(to: &mut Vec<u8>, letter: u8, iface: u32, value: u32, answer: u32) {
+    put_head(to, letter, 0);
+    put(to, iface);
+    put(to, value);
+    put_data(to, &[]);
+    put_end(to, answer, 0);
 }
 
 impl Place {
@@ -136,7 +141,8 @@ impl Recorder {
         std::fs::write(place.folder.join(format!("{}.clock", place.name)), wall_time(began) + "\n")?;
         let number = 1 - place.newest();
         let (file, written) = Recorder::file(place, number, router, speech)?;
-        let mut recorder = Recorder { place: place.clone(), number, file, written, full: 0, overfull: 0, due: None };
+        let (place, waiting) = (place.clone(), Vec::with_capacity(2 * ROOM));
+        let mut recorder = Recorder { place, number, file, written, waiting, full: 0, overfull: 0, due: None };
         recorder.set_sizes();
         Ok(recorder)
     }
@@ -147,27 +153,23 @@ impl Recorder {
         number: usize,
         router: &mut Router,
         speech: &BTreeMap<u32, Speech>,
-    ) -> io::Result<(BufWriter<File>, u64)> {
+    ) -> io::Result<(File, u64)> {
         let refused = |error: Error| io::Error::new(io::ErrorKind::Other, error);
         let older = router.older_rows().map_err(refused)?.len() as u32;
         let state = router.save().map_err(refused)?;
-        let beside = place.folder.join(format!("{}.new", place.name));
-        let mut file = BufWriter::with_capacity(ROOM, File::create(&beside)?);
-        file.write_all(MAGIC)?;
-        file.write_all(&VERSION.to_be_bytes())?;
-        file.write_all(&older.to_be_bytes())?;
-        file.write_all(&(state.len() as u64).to_be_bytes())?;
-        file.write_all(&state)?;
-        let mut written = 18 + state.len() as u64;
+        let mut bytes = [MAGIC.as_slice(), &VERSION.to_be_bytes()].concat();
+        put(&mut bytes, older);
+        bytes.extend_from_slice(&(state.len() as u64).to_be_bytes());
+        bytes.extend_from_slice(&state);
         for (iface, set) in speech {
-            for (letter, value) in [(b'o', set.older_hosts as u32), (b'q', set.queries as u32)] {
-                let record = Record { letter, numbers: words(&[*iface, value]).collect(), ..Record::default() };
-                written += record.write(&mut file, DONE, 0)?;
-            }
+            put_setting(&mut bytes, b'o', *iface, set.older_hosts as u32, DONE);
+            put_setting(&mut bytes, b'q', *iface, set.queries as u32, DONE);
         }
-        file.flush()?;
+        let beside = place.folder.join(format!("{}.new", place.name));
+        let mut file = File::create(&beside)?;
+        file.write_all(&bytes)?;
         std::fs::rename(&beside, place.path(number))?;
-        Ok((file, written))
+        Ok((file, bytes.len() as u64))
     }
 
     /// A state that is nearly as long as a file may be is followed by as many bytes of events.
@@ -181,47 +183,70 @@ impl Recorder {
         &self.place
     }
 
-    fn note(&mut self, record: &Record, answer: u32, sum: u32) -> io::Result<()> {
-        self.written += record.write(&mut self.file, answer, sum)?;
-        Ok(())
+    /// A record was put.
+    fn was_put(&mut self) -> io::Result<()> {
+        match self.waiting.len() {
+            waiting if waiting >= ROOM => self.flush(),
+            _ => Ok(()),
+        }
     }
 
     /// What the router answered to an event.
     pub fn event(&mut self, router: &Router, event: &Event, draw: u32, answer: u32) -> io::Result<()> {
-        let list;
-        let (letter, numbers, data): (u8, Vec<u8>, &[u8]) = match event {
-            Event::Advance(moment) => (b'a', moment.to_be_bytes().to_vec(), &[]),
-            Event::Frame(iface, packet) => (b'f', words(&[*iface]).collect(), packet),
-            Event::Unicast(packet) => (b'u', Vec::new(), packet),
-            Event::Up(iface) => (b'+', words(&[*iface]).collect(), &[]),
-            Event::Down(iface) => (b'-', words(&[*iface]).collect(), &[]),
+        let to = &mut self.waiting;
+        match event {
+            Event::Advance(moment) => {
+                put_head(to, b'a', draw);
+                to.extend_from_slice(&moment.to_be_bytes());
+                put_data(to, &[]);
+            }
+            Event::Frame(iface, packet) => {
+                put_head(to, b'f', draw);
+                put(to, *iface);
+                put_data(to, packet);
+            }
+            Event::Unicast(packet) => {
+                put_head(to, b'u', draw);
+                put_data(to, packet);
+            }
+            Event::Up(iface) | Event::Down(iface) => {
+                put_head(to, if matches!(event, Event::Up(_)) { b'+' } else { b'-' }, draw);
+                put(to, *iface);
+                put_data(to, &[]);
+            }
             Event::Routes(routes) => {
-                list = of_routes(routes);
-                (b'r', Vec::new(), &list)
+                put_head(to, b'r', draw);
+                put_data(to, &of_routes(routes));
             }
             Event::Ranges(ranges) => {
-                list = of_ranges(ranges);
-                (b'g', Vec::new(), &list)
+                put_head(to, b'g', draw);
+                put_data(to, &of_ranges(ranges));
             }
             Event::Seen(iface, key) => {
-                let [source, group] = addresses(*key);
-                (b's', words(&[*iface, source, group]).collect(), &[])
+                put_head(to, b's', draw);
+                put(to, *iface);
+                put_key(to, *key);
+                put_data(to, &[]);
             }
-        };
-        let sum = if answer == DONE { sum_of(router) } else { 0 };
-        self.note(&Record { letter, draw, numbers, data }, answer, sum)
+        }
+        put_end(to, answer, if answer == DONE { sum_of(router) } else { 0 });
+        self.was_put()
     }
 
     pub fn kept(&mut self, key: Key, moment: u64, runs: bool) -> io::Result<()> {
-        let numbers = words(&addresses(key)).chain(moment.to_be_bytes()).collect();
-        let record = Record { letter: b'k', numbers, ..Record::default() };
-        self.note(&record, if runs { DONE } else { NO_TIMER }, 0)
+        let to = &mut self.waiting;
+        put_head(to, b'k', 0);
+        put_key(to, key);
+        to.extend_from_slice(&moment.to_be_bytes());
+        put_data(to, &[]);
+        put_end(to, if runs { DONE } else { NO_TIMER }, 0);
+        self.was_put()
     }
 
     /// A setting of older versions, by its letter.
     pub fn set(&mut self, letter: u8, iface: u32, value: u32, answer: u32) -> io::Result<()> {
-        let record = Record { letter, numbers: words(&[iface, value]).collect(), ..Record::default() };
-        self.note(&record, answer, 0)
+        put_setting(&mut self.waiting, letter, iface, value, answer);
+        self.was_put()
     }
 
     /// When what waits is to be written, in ms.
@@ -232,16 +257,20 @@ impl Recorder {
     /// What waits is written.
     pub fn flush(&mut self) -> io::Result<()> {
         self.due = None;
-        self.file.flush()
+        self.written += self.waiting.len() as u64;
+        let written = self.file.write_all(&self.waiting);
+        self.waiting.clear();
+        written
     }
 
     /// After a turn, at a moment in ms: what waits for long is written, and where the file is full the other one begins.
     pub fn end_turn(&mut self, router: &mut Router, speech: &BTreeMap<u32, Speech>, now: u64) -> io::Result<()> {
-        if !self.file.buffer().is_empty() && *self.due.get_or_insert(now + WAITS) <= now {
+        if !self.waiting.is_empty() && *self.due.get_or_insert(now + WAITS) <= now {
             self.flush()?;
         }
-        let is_full = self.written >= self.full
-            && (self.written >= self.overfull || router.older_rows().map_or(false, |rows| rows.is_empty()));
+        let size = self.written + self.waiting.len() as u64;
+        let is_full =
+            size >= self.full && (size >= self.overfull || router.older_rows().map_or(false, |rows| rows.is_empty()));
         if is_full {
             self.flush()?;
             self.number = 1 - self.number;
@@ -249,6 +278,12 @@ impl Recorder {
             self.set_sizes();
         }
         Ok(())
+    }
+}
+
+impl Drop for Recorder {
+    fn drop(&mut self) {
+        let _ = self.flush();
     }
 }
 
@@ -290,8 +325,8 @@ mod tests {
         recorder.end_turn(&mut router, &speech, WAITS).unwrap();
         assert_eq!(recorder.due(), None);
         let mut wanted = [b"VQRC\0\x01\0\0\0\0".as_slice(), &(state.len() as u64).to_be_bytes(), &state].concat();
-        let setting =
-            |letter: u8, value: u32| [vec![letter], words(&[0, 0, value, 0, 0, 0]).collect::<Vec<_>>()].concat();
+        let words = |numbers: &[u32]| numbers.iter().flat_map(|number| number.to_be_bytes()).collect::<Vec<_>>();
+        let setting = |letter: u8, value: u32| [vec![letter], words(&[0, 0, value, 0, 0, 0])].concat();
         wanted.extend(setting(b'o', 0));
         wanted.extend(setting(b'q', 3));
         wanted.push(b'+');
