@@ -88,6 +88,8 @@ def bfd(net: Network) -> str:
     finally:
         configure(net, "first", "interface to-lan", "no ip pim bfd", "no ip pim drpriority 50", "no ip igmp")
         ended(bfdd)
+    # It would go on as one that doesn't query, as long as FRR would have.
+    net.forget_state()
     net.start_router()
     until("the router knows three neighbours", 40, lambda: len(net.neighbours()) == 3)
     if gap >= 2_000:

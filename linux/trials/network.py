@@ -198,6 +198,10 @@ class Network:
         self.router.send_signal(signal.SIGTERM)
         self.router.wait(10)
 
+    def forget_state(self) -> None:
+        """The next router begins anew, though the last one was killed just now."""
+        (self.room / "router" / "control.state").unlink(missing_ok=True)
+
     def reload(self, settings: str) -> None:
         """Other settings, by SIGHUP, once the router has taken them."""
         before = self.log().count("the settings are read anew")

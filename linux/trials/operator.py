@@ -31,6 +31,7 @@ def metrics(net: Network) -> str:
     """with `listen` SIGHUP has the router answer Prometheus, with counts that rise, and without it no more"""
     if metrics_of(net):
         raise Failed("it answers where the settings don't say so")
+    until("the router knows three neighbours", 40, lambda: len(net.neighbours()) == 3)
     net.reload(net.settings + f'[metrics]\nlisten = "{AT}"\n')
     until("it answers", 10, lambda: metrics_of(net))
     before = metrics_of(net)
