@@ -1,8 +1,8 @@
 -- What clearing leaves makes facts of no group and no source that had none.
-use Rattle.std.proofs.Common.{◌≡◌, ◌||◌, Bool, true, false, cond, List, [], ◌∷◌, ◌++◌, fold, refl, sym, ap, ◌∙◌}
+use Rattle.std.proofs.Common.{◌≡◌, ◌||◌, Bool, true, false, not, cond, List, [], ◌∷◌, ◌++◌, fold, refl, sym, ap, ◌∙◌}
 use Rattle.std.proofs.lemmas.Bool.{or_left, or_right}
 use Rattle.std.proofs.lemmas.List.Folds.{list_any-append}
-use Rattle.std.specs.List.{list_any}
+use Rattle.std.specs.List.{list_all, list_any}
 use Rattle.pim_types.specs.declared.fact.Key.{Key}
 use Rattle.pim_types.specs.declared.fact.RegisterRow.{RegisterRow}
 use Rattle.pim_types.specs.declared.fact.RegisterState.{RegisterState}
@@ -19,6 +19,18 @@ use Rattle.pim_laws.proofs.Parts.{Asserts, Sources}
 use Rattle.pim_laws.proofs.RowLaws.{any_of_put}
 use Rattle.pim_laws.proofs.TableLaws.{any_of_map}
 use Rattle.pim_laws.proofs.TurnLaws.{kept_to_the_end}
+use Rattle.pim_reach.proofs.Reached.{all_of_none}
+use Rattle.pim_reach.proofs.Told.{none_fails}
+
+-- where no more fails, all pass
+pub all_stay : {X : Type 0} (p : X → Bool) (xs ys : List X)
+    → (list_any (λ x. not (p x)) ys ≡ true → list_any (λ x. not (p x)) xs ≡ true) → list_all p xs ≡ true
+    → list_all p ys ≡ true
+all_stay p xs ys less all = all_of_none p ys (none (list_any (λ x. not (p x)) ys) refl)
+  where
+    none : (b : Bool) → list_any (λ x. not (p x)) ys ≡ b → b ≡ false
+    none true e = sym (less e) ∙ none_fails p xs all
+    none false e = refl
 
 -- ---- registers
 
@@ -62,7 +74,7 @@ module _ (s : State) (p : Key → Bool) where
       later false false f g = cc
 
   -- the facts but sources and registers
-  abbrev others : List Key
+  abbrev pub others : List Key
   others =
       keys_in s.group_records ++ keys_in s.source_records ++ keys_in s.group_repeats ++ keys_in s.source_repeats
       ++ keys_in s.sendings ++ keys_in s.downstream ++ keys_in s.asserts ++ keys_in s.join_timers
@@ -77,7 +89,7 @@ module _ (s : State) (p : Key → Bool) where
       (λ f. later (or_right (some ss) (some rs) f))
       (sym (list_any-append p (xs ++ ss) rs) ∙ e)
 
-  in_three : (xs ss rs : List Key) → (some ss || some rs) ≡ true → some (xs ++ ss ++ rs) ≡ true
+  pub in_three : (xs ss rs : List Key) → (some ss || some rs) ≡ true → some (xs ++ ss ++ rs) ≡ true
   in_three xs ss rs e =
       list_any-append p (xs ++ ss) rs
       ∙ either (some ss) (some rs)

@@ -1,42 +1,49 @@
 -- What goes after a change of neighbours, and which registers are settled, is of the touched keys. With the neighbours
 -- that there were each state on the way agrees with the opening on all other keys.
-use Rattle.std.proofs.Common.{◌≡◌, ◌&&◌, ◌||◌, ℕ, Bool, true, false, not, cond, List, ◌++◌, filter, fold, Some, option_map, refl, sym, ap, ◌∙◌}
+use Rattle.std.proofs.Common.{◌≡◌, ◌&&◌, ◌||◌, ℕ, Bool, true, false, not, cond, List, ◌++◌, Some, option_map, refl, sym, ap, ◌∙◌, eq-eqb}
+use Rattle.std.proofs.lemmas.List.Folds.{list_all-append, list_any-append}
 use Rattle.std.specs.Cmp.{first_so, second_so}
 use Rattle.std.specs.Cmp.Derive.{both_true}
 use Rattle.std.specs.List.{list_all}
-use Rattle.std.specs.Option.{option_or}
+use Rattle.std.specs.Option.{option_map_or, option_or}
 use Rattle.pim_types.specs.declared.config.InterfaceConfig.{InterfaceConfig}
 use Rattle.pim_types.specs.declared.fact.AssertRow.{AssertRow}
 use Rattle.pim_types.specs.declared.fact.Key.{Key}
 use Rattle.pim_types.specs.declared.fact.NeighbourRow.{NeighbourRow}
-use Rattle.pim_types.specs.declared.fact.RegisterRow.{RegisterRow}
-use Rattle.pim_types.specs.declared.fact.RegisterState.{RegisterState}
 use Rattle.pim_types.specs.declared.fact.SourceRow.{SourceRow}
-use Rattle.pim_types.specs.Keys.{group_in, iface_in, neighbour_key, source_in}
+use Rattle.pim_types.specs.declared.path.Path.{Path}
+use Rattle.pim_types.specs.Keys.{group_in, iface_in, is_star, neighbour_key, source_in, source_key, star_key}
 use Rattle.pim_model.specs.Asserts.{assert_forgotten, without_spt_bit}
 use Rattle.pim_model.specs.Clearing.{ClearAssert, ClearSptBit, Cleared, assert_must_go, assert_to_clear, clear, clear_all, clearable_count, cleared, first_by, is_assert_first, is_rpf_at, spt_must_go, spt_to_clear, to_clear}
 use Rattle.pim_model.specs.Neighbours.{is_dr, is_dr_among, is_neighbour}
-use Rattle.pim_model.specs.Registers.{settle_registers, settled_register}
+use Rattle.pim_model.specs.Receivers.{is_exclude, local_receiver_include}
+use Rattle.pim_model.specs.Registers.{could_register, settle_registers}
 use Rattle.pim_model.specs.Sets.{is_better, is_winner}
 use Rattle.pim_model.specs.State.{State, address_among, value_among}
-use Rattle.pim_model.specs.Tables.{Table, drop_at, has_row, keys_in, put, rows_on}
+use Rattle.pim_model.specs.Tables.{Table, has_row, keys_in, rows_on, same_bool}
+use Rattle.pim_model.specs.Unicast.{route}
+use Rattle.pim_model.specs.Upstream.{fact_keys}
 use Rattle.pim_laws.proofs.ListLaws.{each_both, each_of_list, list_of_each}
 use Rattle.pim_laws.proofs.TurnLaws.{kept_to_the_end}
-use Rattle.pim_locality.specs.Locality.{AgreesBut, IsQuiet, touched_assert, touched_clear, touched_registers, touched_spt, touched_to_clear, touching}
+use Rattle.pim_locality.specs.Locality.{AgreesBut, IsQuiet, is_register_settled, touched_assert, touched_clear, touched_registers, touched_spt, touched_to_clear, touching}
 use Rattle.pim_locality.specs.Scopes.{reads, scope}
-use Rattle.pim_locality.proofs.Asserts.{assert_must_go_local, spt_must_go_local}
+use Rattle.pim_locality.proofs.Asserts.{assert_must_go_local, could_register_here, place_read, spt_must_go_local, stars_read}
 use Rattle.pim_locality.proofs.Clearing.{all_agreed, found_narrowed, narrowed}
-use Rattle.pim_locality.proofs.Registers.{registers_agree, registers_of_touched}
-use Rattle.pim_locality.proofs.SourceMacros.{cut_kept}
-use Rattle.pim_locality.proofs.StarMacros.{cut_assert}
+use Rattle.pim_locality.proofs.Registers.{all_keys}
+use Rattle.pim_locality.proofs.SharedMacros.{route_local}
+use Rattle.pim_locality.proofs.SourceMacros.{cut_kept, cut_register, local_include_local}
+use Rattle.pim_locality.proofs.StarMacros.{cut_assert, is_exclude_local}
+use Rattle.pim_locality.proofs.TouchedUpstream.{reads_star}
 use Rattle.pim_locality.proofs.TouchedClearing.{chosen_is_touched, cleared_agrees}
 use Rattle.pim_locality.proofs.Touches.{touching_is_closed}
 use Rattle.pim_locality.proofs.Turns.{same_repetition}
 use Rattle.pim_locality.proofs.UntoldKeys.{same_by_scope}
 use Rattle.pim_reach.proofs.Configured.{configured_beside}
-use Rattle.pim_locality.proofs.SameRows.{flags}
-use Rattle.pim_adjacent.specs.Adjacent.{AdjoinsAlone, keeps_winner, with_neighbour_rows}
-use Rattle.pim_adjacent.proofs.OtherNeighbours.{could_at_so, could_register_so, desired_so, metric_at_so, rpf_at_so, tracking_at_so}
+use Rattle.pim_locality.proofs.SameRows.{flags, flags_same}
+use Rattle.pim_adjacent.specs.Adjacent.{AdjoinsAlone, has_link_dr, is_touched_where_link_differs, keeps_winner, with_neighbour_rows}
+use Rattle.pim_adjacent.proofs.Fewer.{all_stay, in_three, others}
+use Rattle.pim_adjacent.proofs.OtherNeighbours.{SameLinkDr, SameSourceDr, SameStarDr, could_at_so, could_register_so, desired_so, exclude_as, local_include_as, metric_at_so, route_as, rpf_at_so, tracking_at_so}
+use Rattle.pim_adjacent.proofs.Registered.{Stays, idles, settled_of_touched, stays_all}
 
 -- ---- a lost assert
 
@@ -44,11 +51,27 @@ lost_same : (b : Bool) (x y x' y' : Bool) → x ≡ x' → (b ≡ false → y �
 lost_same true x y x' y' e f = e
 lost_same false x y x' y' e f = f refl
 
-third_of : (a b c : Bool) → (a || b || c) ≡ true → a ≡ false → b ≡ false → c ≡ true
+pub third_of : (a b c : Bool) → (a || b || c) ≡ true → a ≡ false → b ≡ false → c ≡ true
 third_of true b c e f g = cc
 third_of false true c e f g = cc
 third_of false false true e f g = refl
 third_of false false false e f g = cc
+
+-- what isn't touched is of no touched group
+pub star_out : (keys : List Key) (k : Key) → touching keys k ≡ false → touching keys (star_key 0 (group_in k)) ≡ false
+star_out keys k out = go (touching keys (star_key 0 (group_in k))) refl
+  where
+    go : (b : Bool) → touching keys (star_key 0 (group_in k)) ≡ b → b ≡ false
+    go true e =
+        sym (touching_is_closed keys (star_key 0 (group_in k)) k e
+        (reads_star (group_in k) k (eq-eqb (group_in k) (group_in k) refl)))
+        ∙ out
+    go false e = refl
+
+pub own_out : (keys : List Key) (k : Key) → touching keys k ≡ false
+    → touching keys (source_key 0 (group_in k) (source_in k)) ≡ false
+unfolding touching reads
+own_out keys k out = out
 
 module _ (keys : List Key) (o c : State) (quiet : IsQuiet o) (adjoins : AdjoinsAlone keys o c) where
   abbrev touched : Key → Bool
@@ -72,12 +95,52 @@ module _ (keys : List Key) (o c : State) (quiet : IsQuiet o) (adjoins : AdjoinsA
     dr_of configs rows i =
         is_dr_among (value_among (λ c. c.priority) configs i) (address_among configs i) (rows_on i rows)
 
-    pub dr_now : (i : ℕ) → is_dr t i ≡ is_dr (before t) i
+    dr_there : (i : ℕ) → is_dr t i ≡ is_dr c i
     unfolding is_dr
-    dr_now i =
-        (λ j. dr_of (sym way.configured j) (sym way.neighbours j) i)
-        ∙ sym (adjoins.dr i)
-        ∙ (λ j. dr_of ((configured_as ∙ way.configured) j) o.neighbours i)
+    dr_there i = λ j. dr_of (sym way.configured j) (sym way.neighbours j) i
+
+    dr_back : (i : ℕ) → is_dr (before t) i ≡ is_dr o i
+    unfolding is_dr
+    dr_back i = λ j. dr_of (sym (configured_as ∙ way.configured) j) o.neighbours i
+
+    -- where the router is the DR of the same interfaces
+    pub dr_now : ((i : ℕ) → is_dr o i ≡ is_dr c i) → (i : ℕ) → is_dr t i ≡ is_dr (before t) i
+    dr_now same i = dr_there i ∙ sym (same i) ∙ sym (dr_back i)
+
+    -- and else of the interfaces that what isn't touched asks for
+    pub star_now : (g : ℕ) → touching keys (star_key 0 g) ≡ false → SameStarDr t o.neighbours g
+    star_now g out i =
+        let k : Key = star_key 0 g in
+        let there : is_exclude o g i ≡ is_exclude t g i =
+        ap (λ (f : ℕ → Bool). f i)
+        (same_by_scope k (λ s. is_exclude s g) (λ s. is_exclude_local (reads k) s g (stars_read k)) o (before t) (way.agrees k out)
+        ∙ sym (exclude_as t o.neighbours g)) in
+        (λ j. dr_there i j && sym there j) ∙ sym (adjoins.serves.stars g i out) ∙ (λ j. sym (dr_back i) j && there j)
+
+    pub source_now : (g src : ℕ) → touching keys (source_key 0 g src) ≡ false → SameSourceDr t o.neighbours g src
+    source_now g src out i =
+        let k : Key = source_key 0 g src in
+        let there : local_receiver_include o g src i ≡ local_receiver_include t g src i =
+        ap (λ (f : ℕ → Bool). f i)
+        (same_by_scope k (λ s. local_receiver_include s g src) (λ s. local_include_local (reads k) s g src (place_read k)) o
+        (before t) (way.agrees k out)
+        ∙ sym (local_include_as t o.neighbours g src)) in
+        (λ j. dr_there i j && sym there j) ∙ sym (adjoins.serves.sources g src i out)
+        ∙ (λ j. sym (dr_back i) j && there j)
+
+    pub link_now : (src : ℕ) (k : Key) → touching keys k ≡ false
+        → has_link_dr o (route o src) ≡ has_link_dr c (route o src) → SameLinkDr t o.neighbours src
+    link_now src k out same =
+        let there : route o src ≡ route t src =
+        same_by_scope k (λ s. route s src) (λ s. route_local (reads k) s src) o (before t) (way.agrees k out)
+        ∙ sym (route_as t o.neighbours src) in
+        (λ j. option_map_or (λ (p : Path). p.is_connected && dr_there p.iface.number j) (sym there j) false)
+        ∙ sym same
+        ∙ (λ j. option_map_or (λ (p : Path). p.is_connected && sym (dr_back p.iface.number) j) (there j) false)
+
+    pub link_by_dr : ((i : ℕ) → is_dr o i ≡ is_dr c i) → (src : ℕ) → SameLinkDr t o.neighbours src
+    link_by_dr same src =
+        λ j. option_map_or (λ (p : Path). p.is_connected && dr_now same p.iface.number j) (route t src) false
 
     neighbour_now : (i address : ℕ) → is_neighbour t i address ≡ is_neighbour c i address
     neighbour_now i address =
@@ -85,17 +148,19 @@ module _ (keys : List Key) (o c : State) (quiet : IsQuiet o) (adjoins : AdjoinsA
 
     -- ---- what must go of keys that aren't touched
 
-    must_go_as : (e : Key × AssertRow)
+    must_go_as : (e : Key × AssertRow) → touched e.0 ≡ false
         → (is_winner (Some e.1) ≡ false
         → is_neighbour t (iface_in e.0) (e.1).winner.address.bits ≡ is_neighbour o (iface_in e.0) (e.1).winner.address.bits)
         → assert_must_go o t e ≡ assert_must_go o (before t) e
     unfolding assert_must_go
-    must_go_as e same =
+    must_go_as e out same =
+        let stars = star_now (group_in e.0) (star_out keys e.0 out) in
+        let sources = source_now (group_in e.0) (source_in e.0) (own_out keys e.0 out) in
         lost_same (is_winner (Some e.1)) _ _ _ _
-        (λ j. not (could_at_so t o.neighbours dr_now e.0 j))
-        (λ lost j. not (same lost j) || not (tracking_at_so t o.neighbours dr_now e.0 j)
-        || is_better (metric_at_so t o.neighbours dr_now e.0 j) (e.1).winner
-        || (is_rpf_at o e.0 && not (rpf_at_so t o.neighbours dr_now e.0 j)))
+        (λ j. not (could_at_so t o.neighbours e.0 stars sources j))
+        (λ lost j. not (same lost j) || not (tracking_at_so t o.neighbours e.0 stars sources j)
+        || is_better (metric_at_so t o.neighbours e.0 stars sources j) (e.1).winner
+        || (is_rpf_at o e.0 && not (rpf_at_so t o.neighbours e.0 j)))
 
     -- an assert that doesn't go at the opening, and whose winner is a neighbour as before
     abbrev stays : Key × AssertRow → Bool
@@ -104,7 +169,7 @@ module _ (keys : List Key) (o c : State) (quiet : IsQuiet o) (adjoins : AdjoinsA
     still_stays : (e : Key × AssertRow) → touched e.0 ≡ false → stays e ≡ true → not (assert_must_go o t e) ≡ true
     still_stays e out f =
         ap not
-        (must_go_as e (λ lost. neighbour_now (iface_in e.0) (e.1).winner.address.bits
+        (must_go_as e out (λ lost. neighbour_now (iface_in e.0) (e.1).winner.address.bits
         ∙ sym (flags _ _ (third_of (touched e.0) (is_winner (Some e.1)) _
         (second_so (not (assert_must_go o o e)) (keeps_winner keys o c e) f) out lost)))
         ∙ sym (same_by_scope e.0 (λ s. assert_must_go o s e) (λ s. assert_must_go_local o s e) o (before t)
@@ -121,14 +186,17 @@ module _ (keys : List Key) (o c : State) (quiet : IsQuiet o) (adjoins : AdjoinsA
         (each_of_list (λ e. not (assert_must_go o o e)) o.asserts quiet.clear.asserts)
         (each_of_list (keeps_winner keys o c) o.asserts adjoins.winners)))
 
-    spt_as : (e : Key × SourceRow) → spt_must_go t e ≡ spt_must_go (before t) e
-    spt_as e = λ j. (e.1).spt && not (desired_so t o.neighbours dr_now (group_in e.0) (source_in e.0) j)
+    spt_as : (e : Key × SourceRow) → touched e.0 ≡ false → spt_must_go t e ≡ spt_must_go (before t) e
+    spt_as e out =
+        let stars = star_now (group_in e.0) (star_out keys e.0 out) in
+        let sources = source_now (group_in e.0) (source_in e.0) (own_out keys e.0 out) in
+        λ j. (e.1).spt && not (desired_so t o.neighbours (group_in e.0) stars (source_in e.0) sources j)
 
     spts_narrow : list_all (λ e. touched e.0 || not (spt_must_go t e)) t.sources ≡ true
     unfolding scope
     spts_narrow =
         all_agreed touched cut_kept (λ e. not (spt_must_go o e)) (λ e. not (spt_must_go t e)) (λ e. refl)
-        (λ e out f. ap not (spt_as e ∙ sym (same_by_scope e.0 (λ s. spt_must_go s e) (λ s. spt_must_go_local s e) o
+        (λ e out f. ap not (spt_as e out ∙ sym (same_by_scope e.0 (λ s. spt_must_go s e) (λ s. spt_must_go_local s e) o
         (before t) (way.agrees e.0 out))) ∙ f)
         o.sources t.sources (λ k out. ap (λ (s : State). s.sources) (way.agrees k out)) quiet.clear.sources
 
@@ -169,37 +237,93 @@ module _ (keys : List Key) (o c : State) (quiet : IsQuiet o) (adjoins : AdjoinsA
   begun : OnTheWay c
   begun = record { agrees = adjoins.agrees; configured = refl; neighbours = refl }
 
-  register_as : (k : Key) (u : Table RegisterRow) → settled_register c k u ≡ settled_register (before c) k u
-  unfolding settled_register
-  register_as k u = λ j.
-      cond (could_register_so c o.neighbours (dr_now c begun) (group_in k) (source_in k) j)
-      (cond (has_row u k) u (put u k (record { state = RegisterState.Join }))) (drop_at u k)
+  -- whether a source that isn't touched can be registered is as it was
+  could_as : (k : Key) → is_touched_where_link_differs keys o c k ≡ true → not (is_star k) ≡ true → touched k ≡ false
+      → could_register c (group_in k) (source_in k) ≡ could_register o (group_in k) (source_in k)
+  could_as k is own out =
+      could_register_so c o.neighbours (group_in k) (source_in k)
+      (link_now c begun (source_in k) k out
+      (flags _ _ (third_of (is_star k) (touching keys (source_key 0 (group_in k) (source_in k))) _ is (not_so (is_star k) own)
+      (own_out keys k out))))
+      ∙ sym (same_by_scope k (λ s. could_register s (group_in k) (source_in k)) (λ s. could_register_here k s) o (before c)
+      (adjoins.agrees k out))
+    where
+      not_so : (b : Bool) → not b ≡ true → b ≡ false
+      not_so true e = cc
+      not_so false e = refl
 
-  registers_as : settle_registers c ≡ with_neighbour_rows (settle_registers (before c)) c.neighbours
-  unfolding settle_registers
-  registers_as = λ j. record c {
-    registers = fold (λ t k. register_as k t j) c.registers (keys_in c.sources ++ keys_in c.registers);
-  }
+  stays_registered : Stays keys o c c.registers
+  unfolding scope
+  stays_registered q out = sym (ap (λ (s : State). s.registers) (adjoins.agrees q out))
 
-  touched_registers_as : touched_registers touched c
-      ≡ with_neighbour_rows (touched_registers touched (before c)) c.neighbours
-  unfolding touched_registers
-  touched_registers_as = λ j. record c {
-    registers = fold (λ t k. register_as k t j) c.registers (filter touched (keys_in c.sources ++ keys_in c.registers));
-  }
+  abbrev idle : Key → Bool
+  idle = idles keys o c
+
+  one_idle : (k : Key) → (touched k || is_register_settled o k) ≡ true → is_touched_where_link_differs keys o c k ≡ true
+      → not (is_star k) ≡ true → idle k ≡ true
+  one_idle k held is own = go (touched k) refl held
+    where
+      go : (b : Bool) → touched k ≡ b → (b || is_register_settled o k) ≡ true
+          → (b || (is_register_settled o k
+          && same_bool (could_register c (group_in k) (source_in k)) (could_register o (group_in k) (source_in k)))) ≡ true
+      go true out held = refl
+      go false out held = both_true held (flags_same _ _ (could_as k is own out))
+
+  abbrev sources_now : List Key
+  sources_now = keys_in c.sources ++ keys_in c.registers
+
+  abbrev held : Key → Bool
+  held k = touched k || is_register_settled o k
+
+  all_held : list_all held sources_now ≡ true
+  unfolding scope
+  all_held =
+      list_all-append held (keys_in c.sources) (keys_in c.registers)
+      ∙ both_true
+      (all_keys held c.sources
+      ∙ all_agreed touched cut_kept (λ e. is_register_settled o e.0) (λ e. is_register_settled o e.0) (λ e. refl)
+      (λ e f g. g) o.sources c.sources
+      (λ k out. ap (λ (s : State). s.sources) (adjoins.agrees k out)) quiet.sources_settled)
+      (all_keys held c.registers
+      ∙ all_agreed touched cut_register (λ e. is_register_settled o e.0) (λ e. is_register_settled o e.0) (λ e. refl)
+      (λ e f g. g) o.registers c.registers
+      (λ k out. ap (λ (s : State). s.registers) (adjoins.agrees k out)) quiet.registers_settled)
+
+  abbrev link : Key → Bool
+  link = is_touched_where_link_differs keys o c
+
+  all_linked : list_all link sources_now ≡ true
+  unfolding fact_keys
+  all_linked =
+      all_stay link (fact_keys c) sources_now
+      (λ e. in_three c (λ k. not (link k)) (others c (λ k. not (link k))) (keys_in c.sources) (keys_in c.registers)
+      (sym (list_any-append (λ k. not (link k)) (keys_in c.sources) (keys_in c.registers)) ∙ e))
+      (all_stay link (fact_keys o) (fact_keys c) (adjoins.facts (λ k. not (link k))) adjoins.linked)
+
+  all_idle : list_all idle sources_now ≡ true
+  all_idle =
+      list_of_each idle sources_now
+      (each_both (λ k. (held k ≡ true) × (link k ≡ true)) (λ k. not (is_star k) ≡ true) (λ k. idle k ≡ true)
+      (λ k both own. one_idle k both.0 both.1 own) sources_now
+      (each_both (λ k. held k ≡ true) (λ k. link k ≡ true) (λ k. (held k ≡ true) × (link k ≡ true)) (λ k f h. (f, h)) sources_now
+      (each_of_list held sources_now all_held) (each_of_list link sources_now all_linked))
+      (each_of_list (λ k. not (is_star k)) sources_now adjoins.sourced))
 
   registers_so : settle_registers c ≡ touched_registers touched c
-  registers_so =
-      registers_as
-      ∙ ap (λ (t : State). with_neighbour_rows t c.neighbours)
-      (registers_of_touched touched (touching_is_closed keys) o quiet (before c) adjoins.agrees)
-      ∙ sym touched_registers_as
+  unfolding settle_registers touched_registers
+  registers_so = λ j. record c {
+    registers = settled_of_touched keys o c (keys_in c.sources ++ keys_in c.registers) c.registers stays_registered all_idle j;
+  }
 
   pub after_registers : OnTheWay (settle_registers c)
-  unfolding settle_registers touched_registers
+  unfolding settle_registers touched_registers scope
   after_registers = record {
-    agrees = λ k out. registers_agree touched (touching_is_closed keys) o (before c) adjoins.agrees k out
-        ∙ ap (λ (t : State). scope (reads k) (before t)) (sym (registers_so ∙ touched_registers_as));
+    agrees = λ k out. adjoins.agrees k out
+        ∙ (λ j. record (scope (reads k) (before c)) {
+          registers = (stays_registered k out
+              ∙ sym (stays_all keys o c (keys_in c.sources ++ keys_in c.registers) c.registers stays_registered k out)) j;
+        })
+        ∙ ap (λ (t : State). scope (reads k) (before t)) (sym registers_so);
     configured = refl;
     neighbours = refl;
   }

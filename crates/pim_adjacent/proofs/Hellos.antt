@@ -1,6 +1,7 @@
--- What a Hello that leaves the DR moves, and a neighbour's end.
-use Rattle.std.proofs.Common.{◌≡◌, ◌==◌, ◌||◌, ◌+◌, ℕ, Bool, true, false, not, cond, List, [], ◌∷◌, filter, map, min, Option, Some, None, refl, sym, ap, subst, ◌∙◌}
-use Rattle.std.proofs.lemmas.Bool.{or_left}
+-- What a Hello moves, and a neighbour's end.
+use Rattle.std.proofs.Common.{◌≡◌, ◌==◌, ◌||◌, ◌+◌, ◌++◌, ℕ, Bool, true, false, not, cond, List, [], ◌∷◌, filter, map, min, Option, Some, None, refl, sym, ap, subst, ◌∙◌}
+use Rattle.std.proofs.lemmas.Bool.{or_left, or_right}
+use Rattle.std.proofs.lemmas.List.Folds.{list_any-append}
 use Rattle.std.specs.Cmp.{first_so, second_so}
 use Rattle.std.specs.Cmp.Derive.{both_true}
 use Rattle.std.specs.List.{list_all, list_any}
@@ -31,28 +32,55 @@ use Rattle.pim_laws.proofs.Parts.{Asserts, JoinTimers}
 use Rattle.pim_laws.proofs.RowLaws.{has_row_put}
 use Rattle.pim_locality.specs.Locality.{AgreesBut, touching}
 use Rattle.pim_locality.specs.Scopes.{only_up, only_winner, reads, scope}
-use Rattle.pim_adjacent.specs.Adjacent.{AdjoinsAlone, end_keeps_dr, has_same_hop, hello_keeps_dr, is_still_neighbour, is_touched_where_hop_differs, keys_of_hello, keys_towards, lost_keys, with_neighbour_rows}
+use Rattle.pim_adjacent.specs.Adjacent.{AdjoinsAlone, AreSourced, dr_keys, end_keeps_dr, has_same_hop, hello_keeps_dr, is_still_neighbour, is_touched_where_hop_differs, keys_of_end, keys_of_hello, keys_of_neighbour, keys_towards, lost_keys, with_neighbour_rows}
+use Rattle.pim_adjacent.proofs.LinkKeys.{dr_served}
 use Rattle.pim_adjacent.proofs.OneRow.{SetsOne, dr_kept, same_next_hop}
 use Rattle.pim_adjacent.proofs.Towards.{all_taken, all_winners, led_among, lost_among}
 
 -- ---- a neighbour's end
 
-pub end_adjoins : (s : State) (e : Ending) → e.timer.kind ≡ TimerKind.Neighbour → end_keeps_dr s e.timer.key ≡ true
-    → AdjoinsAlone (keys_towards s (iface_in e.timer.key) (source_in e.timer.key)) s (own_firing s e)
-unfolding own_firing fired neighbour_due end_keeps_dr set_row scope fact_keys is_dr
-end_adjoins s e is same =
+-- what is touched by some of the keys is touched by all of them
+pub first_among : (xs ys : List Key) (q : Key) → touching xs q ≡ true → touching (xs ++ ys) q ≡ true
+unfolding touching
+first_among xs ys q e = list_any-append (reads q) xs ys ∙ or_left (list_any (reads q) xs) (list_any (reads q) ys) e
+
+pub second_among : (xs ys : List Key) (q : Key) → touching ys q ≡ true → touching (xs ++ ys) q ≡ true
+unfolding touching
+second_among xs ys q e = list_any-append (reads q) xs ys ∙ or_right (list_any (reads q) xs) (list_any (reads q) ys) e
+
+pub end_adjoins : (s : State) (e : Ending) → e.timer.kind ≡ TimerKind.Neighbour → AreSourced s
+    → AdjoinsAlone (keys_of_end s e.timer.key) s (own_firing s e)
+unfolding own_firing fired neighbour_due end_keeps_dr set_row scope fact_keys is_dr keys_of_end
+end_adjoins s e is sourced =
     let k : Key = e.timer.key in
     let c : State = (fired (record s { present = e.end }) TimerKind.Neighbour k).0 in
     let sets : SetsOne k s c = record { row = None; neighbours = refl; configured = refl } in
-    let keys : List Key = keys_towards s (iface_in k) (source_in k) in
+    let towards : List Key = keys_towards s (iface_in k) (source_in k) in
+    let kept : Bool = end_keeps_dr s k in
+    let keys : List Key = towards ++ dr_keys kept s (iface_in k) in
+    let served = dr_served s c k sets keys kept refl (second_among towards (dr_keys kept s (iface_in k))) in
     subst (λ (kind : TimerKind). AdjoinsAlone keys s (fired (record s { present = e.end }) kind k).0) (sym is)
     (record {
       agrees = λ q out. refl;
-      dr = dr_kept s c k sets same;
-      winners = all_winners s c k sets keys (lost_among s (iface_in k) (source_in k));
-      taken = all_taken s c k sets keys (led_among s (iface_in k) (source_in k));
+      serves = served.0;
+      linked = served.1;
+      sourced = sourced;
+      winners = all_winners s c k sets keys
+          (λ q e. first_among towards (dr_keys kept s (iface_in k)) q (lost_among s (iface_in k) (source_in k) q e));
+      taken = all_taken s c k sets keys
+          (λ q e. first_among towards (dr_keys kept s (iface_in k)) q (led_among s (iface_in k) (source_in k) q e));
       facts = λ p there. there;
     })
+
+pub end_dr : (s : State) (e : Ending) → e.timer.kind ≡ TimerKind.Neighbour → end_keeps_dr s e.timer.key ≡ true → (i : ℕ)
+    → is_dr s i ≡ is_dr (own_firing s e) i
+unfolding own_firing fired neighbour_due end_keeps_dr set_row is_dr
+end_dr s e is same i =
+    let k : Key = e.timer.key in
+    let c : State = (fired (record s { present = e.end }) TimerKind.Neighbour k).0 in
+    let sets : SetsOne k s c = record { row = None; neighbours = refl; configured = refl } in
+    subst (λ (kind : TimerKind). is_dr s i ≡ is_dr (fired (record s { present = e.end }) kind k).0 i) (sym is)
+    (dr_kept s c k sets same i)
 
 -- ---- the interfaces, on which a Hello is owed
 
@@ -195,6 +223,13 @@ module _ (s : State) (i a w : ℕ) (h : HelloValue) where
   dr_there false true = refl
   dr_there false false = refl
 
+  sourced_by : (triggers restarts : Bool) → AreSourced s → AreSourced (after triggers restarts)
+  unfolding hello_triggered neighbour_replaced neighbour_restarted
+  sourced_by true true sourced = sourced
+  sourced_by true false sourced = sourced
+  sourced_by false true sourced = sourced
+  sourced_by false false sourced = sourced
+
   module _ (triggers restarts : Bool) where
     abbrev c : State
     c = after triggers restarts
@@ -227,9 +262,19 @@ module _ (s : State) (i a w : ℕ) (h : HelloValue) where
         (neighbours_after triggers restarts ∙ ap (λ (gone : Bool). set_row s.neighbours (neighbour_key i a) (if gone then None else Some lasting)) lasts)
         ∙ row_stays lasting n b known)
 
-    keys_touch_lost : (q : Key) → touching (lost_keys s i a) q ≡ true → touching (keys_of_hello s i a h) q ≡ true
+    -- the Hello's keys are those of its neighbour, and those of the DR
+    own_among : (q : Key) → touching (keys_of_neighbour s i a h) q ≡ true → touching (keys_of_hello s i a h) q ≡ true
     unfolding keys_of_hello
-    keys_touch_lost q e = go (is_still_neighbour s i a h)
+    own_among = first_among (keys_of_neighbour s i a h) (dr_keys (hello_keeps_dr s i a h) s i)
+
+    dr_among : (q : Key) → touching (dr_keys (hello_keeps_dr s i a h) s i) q ≡ true
+        → touching (keys_of_hello s i a h) q ≡ true
+    unfolding keys_of_hello
+    dr_among = second_among (keys_of_neighbour s i a h) (dr_keys (hello_keeps_dr s i a h) s i)
+
+    keys_touch_lost : (q : Key) → touching (lost_keys s i a) q ≡ true → touching (keys_of_hello s i a h) q ≡ true
+    unfolding keys_of_neighbour
+    keys_touch_lost q e = own_among q (go (is_still_neighbour s i a h))
       where
         go : (b : Bool) → touching (if b then lost_keys s i a else keys_towards s i a) q ≡ true
         go true = e
@@ -261,7 +306,7 @@ module _ (s : State) (i a w : ℕ) (h : HelloValue) where
 
     taken_by : (still : Bool) → is_still_neighbour s i a h ≡ still
         → list_all (is_touched_where_hop_differs (keys_of_hello s i a h) s c) (fact_keys s) ≡ true
-    unfolding keys_of_hello
+    unfolding keys_of_neighbour
     taken_by true is =
         with_hops (λ path. same_next_hop s c path
         (λ p e. stays_there (first_so (is_neighbour s i a) _ is)
@@ -273,21 +318,37 @@ module _ (s : State) (i a w : ℕ) (h : HelloValue) where
         lasting_so false e = refl
     taken_by false isnt =
         all_taken s c (neighbour_key i a) sets (keys_of_hello s i a h)
-        (λ q e. ap (λ (still : Bool). touching (if still then lost_keys s i a else keys_towards s i a) q) isnt
-        ∙ led_among s i a q e)
+        (λ q e. own_among q
+        (ap (λ (still : Bool). touching (if still then lost_keys s i a else keys_towards s i a) q) isnt
+        ∙ led_among s i a q e))
 
-    adjoins : IsFewer s c → hello_keeps_dr s i a h ≡ true → AdjoinsAlone (keys_of_hello s i a h) s c
+    keeps_as : same_bool (is_dr s i) (is_dr c i) ≡ hello_keeps_dr s i a h
     unfolding hello_keeps_dr
-    adjoins fewer same = record {
-      agrees = λ q out. agrees triggers restarts q (fewer_touched _ _ keys_touch_lost q out);
-      dr = dr_kept s c (neighbour_key i a) sets
-          (ap (same_bool (is_dr s i)) (sym (dr_there triggers restarts)) ∙ same);
-      winners = all_winners s c (neighbour_key i a) sets (keys_of_hello s i a h) keys_touch_lost;
-      taken = taken_by (is_still_neighbour s i a h) refl;
-      facts = fewer.passed;
-    }
+    keeps_as = ap (same_bool (is_dr s i)) (sym (dr_there triggers restarts))
 
-  pub hello_adjoins : hello_keeps_dr s i a h ≡ true → AdjoinsAlone (keys_of_hello s i a h) s (hello_received s i a h w)
+    sourced_after : AreSourced s → AreSourced c
+    sourced_after = sourced_by triggers restarts
+
+    adjoins : IsFewer s c → AreSourced s → AdjoinsAlone (keys_of_hello s i a h) s c
+    adjoins fewer sourced =
+        let served = dr_served s c (neighbour_key i a) sets (keys_of_hello s i a h) (hello_keeps_dr s i a h) keeps_as dr_among in
+        record {
+          agrees = λ q out. agrees triggers restarts q (fewer_touched _ _ keys_touch_lost q out);
+          serves = served.0;
+          linked = served.1;
+          sourced = sourced_after sourced;
+          winners = all_winners s c (neighbour_key i a) sets (keys_of_hello s i a h) keys_touch_lost;
+          taken = taken_by (is_still_neighbour s i a h) refl;
+          facts = fewer.passed;
+        }
+
+  pub hello_adjoins : AreSourced s → AdjoinsAlone (keys_of_hello s i a h) s (hello_received s i a h w)
   unfolding hello_received
-  hello_adjoins same =
-      adjoins (changed || not (is_neighbour s i a)) changed (hello_leaves_facts s i a w h) same
+  hello_adjoins sourced =
+      adjoins (changed || not (is_neighbour s i a)) changed (hello_leaves_facts s i a w h) sourced
+
+  pub hello_dr : hello_keeps_dr s i a h ≡ true → (n : ℕ) → is_dr s n ≡ is_dr (hello_received s i a h w) n
+  unfolding hello_received
+  hello_dr same =
+      let triggers : Bool = changed || not (is_neighbour s i a) in
+      dr_kept s (after triggers changed) (neighbour_key i a) (sets triggers changed) (keeps_as triggers changed ∙ same)

@@ -2,9 +2,11 @@ pub mod Answers
 pub mod Fewer
 pub mod Goes
 pub mod Hellos
+pub mod LinkKeys
 pub mod Nowhere
 pub mod OneRow
 pub mod OtherNeighbours
+pub mod Registered
 pub mod Settles
 pub mod Stays
 pub mod Towards

@@ -82,14 +82,18 @@ module _ (s c : State) (k : Key) (sets : SetsOne k s c) where
   rows_elsewhere i apart =
       sym (ap (rows_on i) sets.neighbours ∙ set_elsewhere (is_on i) k apart s.neighbours sets.row)
 
-  pub dr_kept : same_bool (is_dr s (iface_in k)) (is_dr c (iface_in k)) ≡ true → (i : ℕ) → is_dr s i ≡ is_dr c i
+  -- of another interface the router is the DR as before
+  pub dr_elsewhere : (i : ℕ) → (iface_in k == i) ≡ false → is_dr s i ≡ is_dr c i
   unfolding is_dr
+  dr_elsewhere i apart = λ j.
+      is_dr_among (value_among (λ c. c.priority) (sets.configured j) i) (address_among (sets.configured j) i)
+      (rows_elsewhere i apart j)
+
+  pub dr_kept : same_bool (is_dr s (iface_in k)) (is_dr c (iface_in k)) ≡ true → (i : ℕ) → is_dr s i ≡ is_dr c i
   dr_kept same i = go (is_on i k) refl
     where
       go : (b : Bool) → is_on i k ≡ b → is_dr s i ≡ is_dr c i
       go true here =
           let at : iface_in k ≡ i = eqb-true (iface_in k) i here in
           (λ j. is_dr s (sym at j)) ∙ flags _ _ same ∙ (λ j. is_dr c (at j))
-      go false apart = λ j.
-          is_dr_among (value_among (λ c. c.priority) (sets.configured j) i) (address_among (sets.configured j) i)
-          (rows_elsewhere i apart j)
+      go false apart = dr_elsewhere i apart

@@ -1,6 +1,6 @@
--- The macros of a state with other neighbours: all are as they were where the router is the DR of the same interfaces,
--- but for the upstream neighbours, which are where the next hops are.
-use Rattle.std.proofs.Common.{◌≡◌, ℕ, Bool, false, not, ◌||◌, ◌&&◌, cond, refl, ap, ◌∙◌}
+-- The macros of a state with other neighbours: all are as they were where the router is the DR of the same interfaces
+-- among those where a receiver or the source is, but for the upstream neighbours, which are where the next hops are.
+use Rattle.std.proofs.Common.{◌≡◌, ℕ, Bool, Option, false, not, ◌||◌, ◌&&◌, cond, refl, ap, ◌∙◌}
 use Rattle.std.specs.Option.{option_map_or, option_or}
 use Rattle.pim_types.specs.declared.fact.Key.{Key}
 use Rattle.pim_types.specs.declared.fact.NeighbourRow.{NeighbourRow}
@@ -14,12 +14,13 @@ use Rattle.pim_model.specs.Clearing.{is_rpf_at}
 use Rattle.pim_model.specs.Desires.{is_immediate_empty, is_inherited_empty, join_desired, join_desired_star, prune_desired, rpf_rpt, rpf_source, rpf_star, tree_state, winner_hop}
 use Rattle.pim_model.specs.Forwarding.{has_local_receivers}
 use Rattle.pim_model.specs.Neighbours.{is_dr, nbr}
-use Rattle.pim_model.specs.Receivers.{is_exclude, local_receiver_exclude, local_receiver_include}
-use Rattle.pim_model.specs.Registers.{could_register, has_other_rp}
+use Rattle.pim_model.specs.Receivers.{is_exclude, local_receiver_exclude, local_receiver_exclude_among, local_receiver_include}
+use Rattle.pim_model.specs.Registers.{could_register, has_other_rp, is_dr_of_path}
 use Rattle.pim_model.specs.Sets.{assert_source, assert_star, immediate_olist, immediate_olist_star, inherited_olist, inherited_olist_rpt, is_beaten, is_empty, is_kept_alive, is_winner, joins, joins_star, lost_assert, lost_assert_rpt, lost_assert_star, pim_exclude, pim_include, pim_include_star, prunes, rpt_metric, serves, serves_star, spt_bit, spt_metric, tunnel, ◌∖◌, ◌∪◌}
 use Rattle.pim_model.specs.State.{State}
 use Rattle.pim_model.specs.Tables.{Table, same_hop}
 use Rattle.pim_model.specs.Unicast.{is_connected, is_rpf_interface, is_rpf_interface_rp, route, rp_of, rp_route, rpf_interface, rpf_interface_rp}
+use Rattle.pim_reach.proofs.Kept.{narrower, served, tracked}
 use Rattle.pim_adjacent.specs.Adjacent.{with_neighbour_rows}
 
 module _ (t : State) (rows : Table NeighbourRow) where
@@ -133,54 +134,91 @@ module _ (t : State) (rows : Table NeighbourRow) where
 
   -- ---- what reads where the router is the DR
 
-  module _ (dr : (i : ℕ) → is_dr t i ≡ is_dr u i) where
-    pub dr_so : is_dr t ≡ is_dr u
-    dr_so = λ j i. dr i j
+  -- of the interfaces with a receiver of (*,G) the router is the DR with both tables of neighbours, or with neither
+  abbrev pub SameStarDr : ℕ → Type 0
+  SameStarDr g = (i : ℕ) → (is_dr t i && is_exclude t g i) ≡ (is_dr u i && is_exclude t g i)
 
-    module _ (g : ℕ) where
-      serves_star_so : serves_star t g ≡ serves_star u g
-      unfolding serves_star
-      serves_star_so = λ j i. (dr i j && not (lost_star_as g j i)) || is_winner (assert_star t g i)
+  -- and of those with a receiver of the source
+  abbrev pub SameSourceDr : ℕ → ℕ → Type 0
+  SameSourceDr g src =
+      (i : ℕ) → (is_dr t i && local_receiver_include t g src i) ≡ (is_dr u i && local_receiver_include t g src i)
 
-      pub include_star_so : pim_include_star t g ≡ pim_include_star u g
-      unfolding pim_include_star
-      include_star_so = λ j i. serves_star_so j i && exclude_as g j i
+  -- and of the source's own link
+  abbrev pub SameLinkDr : ℕ → Type 0
+  SameLinkDr src =
+      option_map_or (is_dr_of_path t) (route t src) false ≡ option_map_or (is_dr_of_path u) (route t src) false
 
-      immediate_star_so : immediate_olist_star t g ≡ immediate_olist_star u g
-      unfolding immediate_olist_star
-      immediate_star_so = λ j. joins_star_as g j ∪ include_star_so j ∖ lost_star_as g j
+  module _ (g : ℕ) (star_dr : SameStarDr g) where
+    -- among some of the receivers of (*,G)
+    serves_star_so : (i : ℕ) (x : Bool) → (is_dr t i && x) ≡ (is_dr u i && x)
+        → (serves_star t g i && x) ≡ (serves_star u g i && x)
+    unfolding serves_star
+    serves_star_so i x here =
+        (λ j. ((is_dr t i && not (lost_star_as g j i)) || is_winner (assert_star t g i)) && x)
+        ∙ served (is_dr t i) (is_dr u i) (not (lost_assert_star u g i)) (is_winner (assert_star u g i)) x here
 
-      pub desired_star_so : join_desired_star t g ≡ join_desired_star u g
-      unfolding join_desired_star
-      desired_star_so = ap not (empty_so _ _ immediate_star_so)
+    include_star_at : (i : ℕ) → pim_include_star t g i ≡ pim_include_star u g i
+    unfolding pim_include_star
+    include_star_at i =
+        serves_star_so i (is_exclude t g i) (star_dr i) ∙ (λ j. serves_star u g i && exclude_as g j i)
 
-      pub could_star_so : (i : ℕ) → could_assert_star t g i ≡ could_assert_star u g i
-      unfolding could_assert_star
-      could_star_so i = λ j. (joins_star_as g j ∪ include_star_so j) i && not (rpf_rp_as g i j)
+    pub include_star_so : pim_include_star t g ≡ pim_include_star u g
+    include_star_so = λ j i. include_star_at i j
 
-      tracking_star_so : (i : ℕ) → is_tracking_desired_star t g i ≡ is_tracking_desired_star u g i
-      unfolding is_tracking_desired_star
-      tracking_star_so i = λ j.
-          could_star_so i j
-          || (exclude_as g j i && (dr i j || is_winner (assert_star t g i)))
-          || (rpf_rp_as g i j && desired_star_so j)
+    immediate_star_so : immediate_olist_star t g ≡ immediate_olist_star u g
+    unfolding immediate_olist_star
+    immediate_star_so = λ j. joins_star_as g j ∪ include_star_so j ∖ lost_star_as g j
 
-      metric_star_so : (i : ℕ) → my_metric_star t g i ≡ my_metric_star u g i
-      unfolding my_metric_star
-      metric_star_so i = λ j. cond (could_star_so i j) (rpt_metric_as g i j) infinite
+    pub desired_star_so : join_desired_star t g ≡ join_desired_star u g
+    unfolding join_desired_star
+    desired_star_so = ap not (empty_so _ _ immediate_star_so)
 
-    module _ (g src : ℕ) where
-      serves_so : serves t g src ≡ serves u g src
-      unfolding serves
-      serves_so = λ j i. (dr i j && not (lost_as g src j i)) || is_winner (assert_source t g src i)
+    pub could_star_so : (i : ℕ) → could_assert_star t g i ≡ could_assert_star u g i
+    unfolding could_assert_star
+    could_star_so i = λ j. (joins_star_as g j ∪ include_star_so j) i && not (rpf_rp_as g i j)
+
+    asked_star_so : (i : ℕ) → (is_exclude t g i && (is_dr t i || is_winner (assert_star t g i)))
+        ≡ (is_exclude u g i && (is_dr u i || is_winner (assert_star u g i)))
+    asked_star_so i =
+        tracked (is_dr t i) (is_dr u i) (is_winner (assert_star t g i)) (is_exclude t g i) (star_dr i)
+        ∙ (λ j. exclude_as g j i && (is_dr u i || is_winner (assert_star t g i)))
+
+    tracking_star_so : (i : ℕ) → is_tracking_desired_star t g i ≡ is_tracking_desired_star u g i
+    unfolding is_tracking_desired_star
+    tracking_star_so i = λ j.
+        could_star_so i j || asked_star_so i j || (rpf_rp_as g i j && desired_star_so j)
+
+    metric_star_so : (i : ℕ) → my_metric_star t g i ≡ my_metric_star u g i
+    unfolding my_metric_star
+    metric_star_so i = λ j. cond (could_star_so i j) (rpt_metric_as g i j) infinite
+
+    module _ (src : ℕ) (source_dr : SameSourceDr g src) where
+      include_at : (i : ℕ) → pim_include t g src i ≡ pim_include u g src i
+      unfolding pim_include serves
+      include_at i =
+          (λ j. ((is_dr t i && not (lost_as g src j i)) || is_winner (assert_source t g src i))
+          && local_receiver_include t g src i)
+          ∙ served (is_dr t i) (is_dr u i) (not (lost_assert u g src i)) (is_winner (assert_source u g src i))
+          (local_receiver_include t g src i) (source_dr i)
+          ∙ (λ j. ((is_dr u i && not (lost_assert u g src i)) || is_winner (assert_source u g src i))
+          && local_include_as g src j i)
 
       pub include_so : pim_include t g src ≡ pim_include u g src
-      unfolding pim_include
-      include_so = λ j i. serves_so j i && local_include_as g src j i
+      include_so = λ j i. include_at i j
+
+      -- receivers that exclude the source are receivers of (*,G)
+      excluded_dr : (i : ℕ) → (is_dr t i && local_receiver_exclude t g src i) ≡ (is_dr u i && local_receiver_exclude t g src i)
+      unfolding is_exclude local_receiver_exclude local_receiver_exclude_among
+      excluded_dr i = narrower (is_dr t i) (is_dr u i) (is_exclude t g i) _ (star_dr i)
+
+      exclude_at : (i : ℕ) → pim_exclude t g src i ≡ pim_exclude u g src i
+      unfolding pim_exclude
+      exclude_at i =
+          serves_star_so i (local_receiver_exclude t g src i) (excluded_dr i)
+          ∙ (λ j. serves_star u g i && local_exclude_as g src j i)
 
       pub exclude_so : pim_exclude t g src ≡ pim_exclude u g src
-      unfolding pim_exclude
-      exclude_so = λ j i. serves_star_so g j i && local_exclude_as g src j i
+      exclude_so = λ j i. exclude_at i j
 
       pub immediate_so : immediate_olist t g src ≡ immediate_olist u g src
       unfolding immediate_olist
@@ -189,7 +227,7 @@ module _ (t : State) (rows : Table NeighbourRow) where
       pub inherited_rpt_so : inherited_olist_rpt t g src ≡ inherited_olist_rpt u g src
       unfolding inherited_olist_rpt
       inherited_rpt_so = λ j.
-          (joins_star_as g j ∖ prunes_as g src j) ∪ (include_star_so g j ∖ exclude_so j)
+          (joins_star_as g j ∖ prunes_as g src j) ∪ (include_star_so j ∖ exclude_so j)
           ∖ (lost_star_as g j ∪ lost_rpt_as g src j)
 
       pub inherited_so : inherited_olist t g src ≡ inherited_olist u g src
@@ -214,102 +252,116 @@ module _ (t : State) (rows : Table NeighbourRow) where
       forwarding_so : forwarding_set t g src ≡ forwarding_set u g src
       unfolding forwarding_set
       forwarding_so = λ j.
-          (joins_star_as g j ∖ prunes_as g src j) ∪ (include_star_so g j ∖ exclude_so j)
+          (joins_star_as g j ∖ prunes_as g src j) ∪ (include_star_so j ∖ exclude_so j)
           ∖ lost_star_as g j ∪ joins_as g src j
 
       pub could_so : (i : ℕ) → could_assert t g src i ≡ could_assert u g src i
       unfolding could_assert
       could_so i = λ j. spt_as g src j && not (rpf_as src i j) && (forwarding_so j ∪ include_so j) i
 
+      asked_so : (i : ℕ) → (local_receiver_include t g src i && (is_dr t i || is_winner (assert_source t g src i)))
+          ≡ (local_receiver_include u g src i && (is_dr u i || is_winner (assert_source u g src i)))
+      asked_so i =
+          tracked (is_dr t i) (is_dr u i) (is_winner (assert_source t g src i)) (local_receiver_include t g src i)
+          (source_dr i)
+          ∙ (λ j. local_include_as g src j i && (is_dr u i || is_winner (assert_source t g src i)))
+
       tracking_so : (i : ℕ) → is_tracking_desired t g src i ≡ is_tracking_desired u g src i
       unfolding is_tracking_desired
       tracking_so i = λ j.
           forwarding_so j i
-          || (local_include_as g src j i && (dr i j || is_winner (assert_source t g src i)))
+          || asked_so i j
           || (rpf_as src i j && desired_so j)
-          || (rpf_rp_as g i j && desired_star_so g j && not (spt_as g src j))
+          || (rpf_rp_as g i j && desired_star_so j && not (spt_as g src j))
 
       metric_so : (i : ℕ) → my_metric t g src i ≡ my_metric u g src i
       unfolding my_metric
-      metric_so i = λ j. cond (could_so i j) (spt_metric_as src i j) (metric_star_so g i j)
-
-      pub may_register_so : may_register t g src ≡ may_register u g src
-      unfolding may_register
-      may_register_so = λ j.
-          option_map_or (λ (p : Path). p.is_connected && dr p.iface.number j) (route_as src j) false && other_rp_as g j
-
-      pub could_register_so : could_register t g src ≡ could_register u g src
-      unfolding could_register
-      could_register_so = λ j.
-          option_map_or (λ (p : Path). p.is_connected && dr p.iface.number j) (route_as src j) false
-          && kept_alive_as g src j && other_rp_as g j
+      metric_so i = λ j. cond (could_so i j) (spt_metric_as src i j) (metric_star_so i j)
 
       pub has_receivers_so : has_local_receivers t g src ≡ has_local_receivers u g src
       unfolding has_local_receivers
       has_receivers_so =
-          ap not (empty_so _ _ (λ j. (include_star_so g j ∖ exclude_so j) ∪ include_so j))
+          ap not (empty_so _ _ (λ j. (include_star_so j ∖ exclude_so j) ∪ include_so j))
 
-    -- ---- by the key of an assert
+      -- ---- which tree is joined
 
-    pub could_at_so : (k : Key) → could_assert_at t k ≡ could_assert_at u k
-    could_at_so k = λ j.
-        cond (is_star k) (could_star_so (group_in k) (iface_in k) j) (could_so (group_in k) (source_in k) (iface_in k) j)
+      module _ (star_up : rpf_star t g ≡ rpf_star u g) (source_up : rpf_source t g src ≡ rpf_source u g src) where
+        prune_desired_so : prune_desired t g src ≡ prune_desired u g src
+        unfolding prune_desired
+        prune_desired_so = λ j.
+            desired_star_so j
+            && (inherited_rpt_empty_so j || (spt_as g src j && not (same_hop (star_up j) (source_up j))))
 
-    pub tracking_at_so : (k : Key) → is_tracking_at t k ≡ is_tracking_at u k
-    tracking_at_so k = λ j.
-        cond (is_star k) (tracking_star_so (group_in k) (iface_in k) j)
-        (tracking_so (group_in k) (source_in k) (iface_in k) j)
+        pub tree_state_so : tree_state t g src ≡ tree_state u g src
+        unfolding tree_state
+        tree_state_so = λ j.
+            cond (desired_star_so j) (cond (prune_desired_so j) TreeState.Pruned TreeState.NotPruned)
+            TreeState.NotJoined
 
-    pub metric_at_so : (k : Key) → my_metric_at t k ≡ my_metric_at u k
-    metric_at_so k = λ j.
-        cond (is_star k) (metric_star_so (group_in k) (iface_in k) j)
-        (metric_so (group_in k) (source_in k) (iface_in k) j)
+  -- ---- registers
 
-    pub rpf_at_so : (k : Key) → is_rpf_at t k ≡ is_rpf_at u k
-    rpf_at_so k = λ j. cond (is_star k) (rpf_rp_as (group_in k) (iface_in k) j) (rpf_as (source_in k) (iface_in k) j)
+  module _ (g src : ℕ) (link_dr : SameLinkDr src) where
+    link_so : option_map_or (is_dr_of_path t) (route t src) false ≡ option_map_or (is_dr_of_path u) (route u src) false
+    link_so = link_dr ∙ ap (λ (path : Option Path). option_map_or (is_dr_of_path u) path false) (route_as src)
 
-    -- ---- upstream neighbours
+    pub may_register_so : may_register t g src ≡ may_register u g src
+    unfolding may_register
+    may_register_so = λ j. link_so j && other_rp_as g j
 
-    pub star_winner_as : (g : ℕ) → winner_hop (rpf_interface_rp t g) (assert_star t g) ≡ winner_hop (rpf_interface_rp u g) (assert_star u g)
-    unfolding rpf_interface_rp rp_route rp_of route
-    star_winner_as g = refl
+    pub could_register_so : could_register t g src ≡ could_register u g src
+    unfolding could_register
+    could_register_so = λ j. link_so j && kept_alive_as g src j && other_rp_as g j
 
-    pub rpt_winner_as : (g src : ℕ)
-        → winner_hop (rpf_interface_rp t g) (assert_source t g src)
-        ≡ winner_hop (rpf_interface_rp u g) (assert_source u g src)
-    unfolding rpf_interface_rp rp_route rp_of route
-    rpt_winner_as g src = refl
+  -- ---- by the key of an assert
 
-    pub source_winner_as : (g src : ℕ)
-        → winner_hop (rpf_interface t src) (assert_source t g src)
-        ≡ winner_hop (rpf_interface u src) (assert_source u g src)
-    unfolding rpf_interface route
-    source_winner_as g src = refl
+  module _ (k : Key) (star_dr : SameStarDr (group_in k)) (source_dr : SameSourceDr (group_in k) (source_in k)) where
+    pub could_at_so : could_assert_at t k ≡ could_assert_at u k
+    could_at_so = λ j.
+        cond (is_star k) (could_star_so (group_in k) star_dr (iface_in k) j)
+        (could_so (group_in k) star_dr (source_in k) source_dr (iface_in k) j)
 
-    module _ (g : ℕ) (rp_hop : nbr t (rp_route t g) ≡ nbr u (rp_route u g)) where
-      pub rpf_star_so : rpf_star t g ≡ rpf_star u g
-      unfolding rpf_star
-      rpf_star_so = λ j. option_or (star_winner_as g j) (rp_hop j)
+    pub tracking_at_so : is_tracking_at t k ≡ is_tracking_at u k
+    tracking_at_so = λ j.
+        cond (is_star k) (tracking_star_so (group_in k) star_dr (iface_in k) j)
+        (tracking_so (group_in k) star_dr (source_in k) source_dr (iface_in k) j)
 
-      module _ (src : ℕ) where
-        pub rpf_rpt_so : rpf_rpt t g src ≡ rpf_rpt u g src
-        unfolding rpf_rpt
-        rpf_rpt_so = λ j. option_or (rpt_winner_as g src j) (rpf_star_so j)
+    pub metric_at_so : my_metric_at t k ≡ my_metric_at u k
+    metric_at_so = λ j.
+        cond (is_star k) (metric_star_so (group_in k) star_dr (iface_in k) j)
+        (metric_so (group_in k) star_dr (source_in k) source_dr (iface_in k) j)
 
-        module _ (hop : nbr t (route t src) ≡ nbr u (route u src)) where
-          pub rpf_source_so : rpf_source t g src ≡ rpf_source u g src
-          unfolding rpf_source
-          rpf_source_so = λ j. option_or (source_winner_as g src j) (hop j)
+  pub rpf_at_so : (k : Key) → is_rpf_at t k ≡ is_rpf_at u k
+  rpf_at_so k = λ j. cond (is_star k) (rpf_rp_as (group_in k) (iface_in k) j) (rpf_as (source_in k) (iface_in k) j)
 
-          prune_desired_so : prune_desired t g src ≡ prune_desired u g src
-          unfolding prune_desired
-          prune_desired_so = λ j.
-              desired_star_so g j
-              && (inherited_rpt_empty_so g src j
-              || (spt_as g src j && not (same_hop (rpf_star_so j) (rpf_source_so j))))
+  -- ---- upstream neighbours
 
-          pub tree_state_so : tree_state t g src ≡ tree_state u g src
-          unfolding tree_state
-          tree_state_so = λ j.
-              cond (desired_star_so g j) (cond (prune_desired_so j) TreeState.Pruned TreeState.NotPruned)
-              TreeState.NotJoined
+  pub star_winner_as : (g : ℕ) → winner_hop (rpf_interface_rp t g) (assert_star t g) ≡ winner_hop (rpf_interface_rp u g) (assert_star u g)
+  unfolding rpf_interface_rp rp_route rp_of route
+  star_winner_as g = refl
+
+  pub rpt_winner_as : (g src : ℕ)
+      → winner_hop (rpf_interface_rp t g) (assert_source t g src)
+      ≡ winner_hop (rpf_interface_rp u g) (assert_source u g src)
+  unfolding rpf_interface_rp rp_route rp_of route
+  rpt_winner_as g src = refl
+
+  pub source_winner_as : (g src : ℕ)
+      → winner_hop (rpf_interface t src) (assert_source t g src)
+      ≡ winner_hop (rpf_interface u src) (assert_source u g src)
+  unfolding rpf_interface route
+  source_winner_as g src = refl
+
+  module _ (g : ℕ) (rp_hop : nbr t (rp_route t g) ≡ nbr u (rp_route u g)) where
+    pub rpf_star_so : rpf_star t g ≡ rpf_star u g
+    unfolding rpf_star
+    rpf_star_so = λ j. option_or (star_winner_as g j) (rp_hop j)
+
+    module _ (src : ℕ) where
+      pub rpf_rpt_so : rpf_rpt t g src ≡ rpf_rpt u g src
+      unfolding rpf_rpt
+      rpf_rpt_so = λ j. option_or (rpt_winner_as g src j) (rpf_star_so j)
+
+      module _ (hop : nbr t (route t src) ≡ nbr u (route u src)) where
+        pub rpf_source_so : rpf_source t g src ≡ rpf_source u g src
+        unfolding rpf_source
+        rpf_source_so = λ j. option_or (source_winner_as g src j) (hop j)

@@ -12,7 +12,7 @@ use Rattle.pim_types.specs.Keys.{group_in, is_star, source_in, source_key, star_
 use Rattle.pim_model.specs.Clearing.{clear}
 use Rattle.pim_model.specs.Firing.{settled}
 use Rattle.pim_model.specs.Messages.{Message}
-use Rattle.pim_model.specs.Neighbours.{is_dr, nbr, nbr_among}
+use Rattle.pim_model.specs.Neighbours.{nbr, nbr_among}
 use Rattle.pim_model.specs.State.{State}
 use Rattle.pim_model.specs.Tables.{Table}
 use Rattle.pim_model.specs.Unicast.{route, rp_route}
@@ -25,25 +25,12 @@ use Rattle.pim_locality.proofs.Touches.{touching_is_closed}
 use Rattle.pim_locality.proofs.TouchedUpstream.{reads_star}
 use Rattle.pim_locality.proofs.UntoldKeys.{same_by_scope, source_untold_where_agreed, source_view_at, star_untold_where_agreed, star_view_at}
 use Rattle.pim_reach.proofs.FactsThere.{isnt_star}
-use Rattle.pim_reach.proofs.Told.{IsTaken, none_fails, own_told, settles_as, swap}
-use Rattle.pim_reach.proofs.Reached.{all_of_none}
+use Rattle.pim_reach.proofs.Told.{IsTaken, own_told, settles_as, swap}
 use Rattle.pim_reach.proofs.Kept.{hop_equal}
 use Rattle.pim_adjacent.specs.Adjacent.{AdjoinsAlone, has_same_hop, is_touched_where_hop_differs, with_neighbour_rows}
-use Rattle.pim_adjacent.proofs.Fewer.{clearing_fewer}
-use Rattle.pim_adjacent.proofs.Goes.{OnTheWay, adjoins_goes, dr_now, end_is_on_the_way}
-use Rattle.pim_adjacent.proofs.OtherNeighbours.{desired_so, desired_star_so, rpf_rpt_so, rpf_source_so, route_as, rp_as, rp_route_as, rpf_star_so, tree_state_so}
-
--- ---- next hops
-
--- where no more fails, all pass
-all_stay : {X : Type 0} (p : X → Bool) (xs ys : List X)
-    → (list_any (λ x. not (p x)) ys ≡ true → list_any (λ x. not (p x)) xs ≡ true) → list_all p xs ≡ true
-    → list_all p ys ≡ true
-all_stay p xs ys less all = all_of_none p ys (none (list_any (λ x. not (p x)) ys) refl)
-  where
-    none : (b : Bool) → list_any (λ x. not (p x)) ys ≡ b → b ≡ false
-    none true e = sym (less e) ∙ none_fails p xs all
-    none false e = refl
+use Rattle.pim_adjacent.proofs.Fewer.{all_stay, clearing_fewer}
+use Rattle.pim_adjacent.proofs.Goes.{OnTheWay, adjoins_goes, end_is_on_the_way, source_now, star_now, star_out}
+use Rattle.pim_adjacent.proofs.OtherNeighbours.{SameSourceDr, SameStarDr, desired_so, desired_star_so, rpf_rpt_so, rpf_source_so, route_as, rp_as, rp_route_as, rpf_star_so, tree_state_so}
 
 module _ (keys : List Key) (o c : State) (quiet : IsQuiet o) (adjoins : AdjoinsAlone keys o c) where
   -- ---- a state on the way
@@ -51,9 +38,6 @@ module _ (keys : List Key) (o c : State) (quiet : IsQuiet o) (adjoins : AdjoinsA
   module _ (t : State) (way : OnTheWay keys o c quiet adjoins t) where
     abbrev back : State
     back = with_neighbour_rows t o.neighbours
-
-    dr : (i : ℕ) → is_dr t i ≡ is_dr back i
-    dr i = dr_now keys o c quiet adjoins t way i
 
     -- a path has the same next hop with both tables of neighbours
     hop_now : (path : Option Path) → has_same_hop o c path ≡ true → nbr t path ≡ nbr back path
@@ -90,41 +74,43 @@ module _ (keys : List Key) (o c : State) (quiet : IsQuiet o) (adjoins : AdjoinsA
           hop_now (route t src) (ap (has_same_hop o c) (sym (route_now src)) ∙ same)
           ∙ ap (nbr back) (route_as t o.neighbours src)
 
-    star_view_so : (g : ℕ) → nbr t (rp_route t g) ≡ nbr back (rp_route back g) → star_view t g ≡ star_view back g
+    star_view_so : (g : ℕ) → SameStarDr t o.neighbours g → nbr t (rp_route t g) ≡ nbr back (rp_route back g) → star_view t g ≡ star_view back g
     unfolding star_view
-    star_view_so g rp_hop = λ j. record {
-      is_desired = desired_star_so t o.neighbours dr g j;
+    star_view_so g stars rp_hop = λ j. record {
+      is_desired = desired_star_so t o.neighbours g stars j;
       rp = option_map addr (rp_as t o.neighbours g j);
       iface = option_map (λ (p : Path). p.iface) (rp_route_as t o.neighbours g j);
       next_hop = rp_hop j;
-      upstream = rpf_star_so t o.neighbours dr g rp_hop j;
+      upstream = rpf_star_so t o.neighbours g rp_hop j;
     }
 
-    source_view_so : (g src : ℕ) → nbr t (rp_route t g) ≡ nbr back (rp_route back g)
+    source_view_so : (g src : ℕ) → SameStarDr t o.neighbours g → SameSourceDr t o.neighbours g src → nbr t (rp_route t g) ≡ nbr back (rp_route back g)
         → nbr t (route t src) ≡ nbr back (route back src) → source_view t g src ≡ source_view back g src
     unfolding source_view
-    source_view_so g src rp_hop hop = λ j. record {
-      is_desired = desired_so t o.neighbours dr g src j;
+    source_view_so g src stars sources rp_hop hop = λ j. record {
+      is_desired = desired_so t o.neighbours g stars src sources j;
       iface = option_map (λ (p : Path). p.iface) (route_as t o.neighbours src j);
       next_hop = hop j;
-      upstream = rpf_source_so t o.neighbours dr g rp_hop src hop j;
-      star_upstream = rpf_star_so t o.neighbours dr g rp_hop j;
-      tree_upstream = rpf_rpt_so t o.neighbours dr g rp_hop src j;
-      tree = tree_state_so t o.neighbours dr g rp_hop src hop j;
+      upstream = rpf_source_so t o.neighbours g rp_hop src hop j;
+      star_upstream = rpf_star_so t o.neighbours g rp_hop j;
+      tree_upstream = rpf_rpt_so t o.neighbours g rp_hop src j;
+      tree = tree_state_so t o.neighbours g stars src sources (rpf_star_so t o.neighbours g rp_hop)
+          (rpf_source_so t o.neighbours g rp_hop src hop) j;
     }
 
     star_same : (g : ℕ) → touching keys (star_key 0 g) ≡ false → has_same_hop o c (rp_route o g) ≡ true
         → star_view o g ≡ star_view t g
     star_same g out same =
         same_by_scope (star_key 0 g) (λ u. star_view u g) (star_view_at g) o back (way.agrees (star_key 0 g) out)
-        ∙ sym (star_view_so g (rp_hop_now (star_key 0 g) out g same))
+        ∙ sym (star_view_so g (star_now keys o c quiet adjoins t way g out) (rp_hop_now (star_key 0 g) out g same))
 
     source_same : (g src : ℕ) → touching keys (source_key 0 g src) ≡ false → has_same_hop o c (rp_route o g) ≡ true
         → has_same_hop o c (route o src) ≡ true → source_view o g src ≡ source_view t g src
     source_same g src out rp_same same =
         let k : Key = source_key 0 g src in
         same_by_scope k (λ u. source_view u g src) (λ u. source_view_at g u src) o back (way.agrees k out)
-        ∙ sym (source_view_so g src (rp_hop_now k out g rp_same) (source_hop_now k out src same))
+        ∙ sym (source_view_so g src (star_now keys o c quiet adjoins t way g (star_out keys k out))
+        (source_now keys o c quiet adjoins t way g src out) (rp_hop_now k out g rp_same) (source_hop_now k out src same))
 
   -- ---- what is told
 

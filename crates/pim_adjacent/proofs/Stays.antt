@@ -4,7 +4,7 @@ use Rattle.std.proofs.Common.{◌≡◌, ◌==◌, ◌&&◌, ◌||◌, ℕ, Bool
 use Rattle.std.specs.Cmp.{first_so, second_so}
 use Rattle.std.specs.List.{list_any}
 use Rattle.pim_types.specs.declared.fact.Key.{Key}
-use Rattle.pim_types.specs.Keys.{group_in, names_source, source_in, source_key}
+use Rattle.pim_types.specs.Keys.{group_in, is_star, names_source, source_in, source_key}
 use Rattle.pim_model.specs.Cache.{answers}
 use Rattle.pim_model.specs.Clearing.{clear}
 use Rattle.pim_model.specs.Desires.{join_desired}
@@ -12,12 +12,14 @@ use Rattle.pim_model.specs.Firing.{settled}
 use Rattle.pim_model.specs.Messages.{Message}
 use Rattle.pim_model.specs.Neighbours.{is_dr, nbr}
 use Rattle.pim_model.specs.State.{State}
+use Rattle.pim_model.specs.Tables.{same_bool}
 use Rattle.pim_model.specs.Unicast.{route, rp_route}
 use Rattle.pim_model.specs.Upstream.{fact_keys, upstream}
 use Rattle.pim_laws.proofs.ListLaws.{any_among_all, each_of_list}
 use Rattle.pim_locality.specs.Locality.{AgreesBut, IsQuiet, touching}
 use Rattle.pim_locality.specs.Scopes.{only_priority, scope}
 use Rattle.pim_locality.proofs.QuietStates.{frame_packets, frame_upstream}
+use Rattle.pim_locality.proofs.SameRows.{flags}
 use Rattle.pim_locality.proofs.Touches.{agrees_then}
 use Rattle.pim_locality.proofs.UntoldKeys.{join_desired_at, same_by_scope}
 use Rattle.pim_reach.specs.Named.{is_source_named}
@@ -25,11 +27,13 @@ use Rattle.pim_reach.proofs.AbsentSources.{absent_unwanted}
 use Rattle.pim_reach.proofs.Agreed.{agreed_is_unnamed}
 use Rattle.pim_reach.proofs.Calm.{settled_same}
 use Rattle.pim_reach.proofs.Configured.{configured_beside}
+use Rattle.pim_reach.proofs.FactsThere.{isnt_star}
 use Rattle.pim_reach.proofs.Told.{second_left}
-use Rattle.pim_adjacent.specs.Adjacent.{AdjoinsAlone, is_touched_where_hop_differs, with_neighbour_rows}
+use Rattle.pim_adjacent.specs.Adjacent.{AdjoinsAlone, has_link_dr, is_touched_where_hop_differs, is_touched_where_link_differs, with_neighbour_rows}
 use Rattle.pim_adjacent.proofs.Answers.{answers_so, hops_reach, named_so, reaches, unwanted_reaches}
 use Rattle.pim_adjacent.proofs.Fewer.{clearing_fewer}
-use Rattle.pim_adjacent.proofs.Goes.{OnTheWay, dr_now}
+use Rattle.pim_adjacent.proofs.Goes.{OnTheWay, link_by_dr, link_now, source_now, star_now, star_out, third_of}
+use Rattle.pim_adjacent.proofs.OtherNeighbours.{SameLinkDr, SameSourceDr, SameStarDr}
 use Rattle.pim_adjacent.proofs.Settles.{calm, calm_star, rp_hop_now, source_hop_now, taken_so, way_end}
 
 module _ (keys : List Key) (o c : State) (quiet : IsQuiet o) (adjoins : AdjoinsAlone keys o c) where
@@ -59,15 +63,40 @@ module _ (keys : List Key) (o c : State) (quiet : IsQuiet o) (adjoins : AdjoinsA
           (eqb-true (source_in k) src (second_so ((group_in k == g) && is_some k.source) (source_in k == src) e))
           ((taken_so keys o c quiet adjoins 0 k is).source (second_so (group_in k == g) (is_some k.source) both))
 
+  -- and the router is the DR of its link in both states, or in neither
+  link_fact : (g src : ℕ) → list_any (names_source g src) (fact_keys o) ≡ true
+      → touching keys (source_key 0 g src) ≡ false → has_link_dr o (route o src) ≡ has_link_dr c (route o src)
+  unfolding names_source
+  link_fact g src there out =
+      flags (has_link_dr o (route o src)) (has_link_dr c (route o src))
+      (any_among_all (λ k. is_touched_where_link_differs keys o c k ≡ true) (names_source g src) of_key (fact_keys o)
+      (each_of_list (is_touched_where_link_differs keys o c) (fact_keys o) adjoins.linked) there)
+    where
+      of_key : (k : Key) → is_touched_where_link_differs keys o c k ≡ true → names_source g src k ≡ true
+          → same_bool (has_link_dr o (route o src)) (has_link_dr c (route o src)) ≡ true
+      of_key k is e =
+          let both : ((group_in k == g) && is_some k.source) ≡ true =
+          first_so ((group_in k == g) && is_some k.source) (source_in k == src) e in
+          let group : group_in k ≡ g = eqb-true (group_in k) g (first_so (group_in k == g) (is_some k.source) both) in
+          let source : source_in k ≡ src =
+          eqb-true (source_in k) src (second_so ((group_in k == g) && is_some k.source) (source_in k == src) e) in
+          (λ j. same_bool (has_link_dr o (route o (sym source j))) (has_link_dr c (route o (sym source j))))
+          ∙ third_of (is_star k) (touching keys (source_key 0 (group_in k) (source_in k))) _ is
+          (isnt_star k.source (second_so (group_in k == g) (is_some k.source) both))
+          ((λ j. touching keys (source_key 0 (group j) (source j))) ∙ out)
+
   -- ---- a state on the way
 
   module _ (t : State) (way : OnTheWay keys o c quiet adjoins t) (g src : ℕ)
-      (out : touching keys (source_key 0 g src) ≡ false) where
+      (out : touching keys (source_key 0 g src) ≡ false) (link_dr : SameLinkDr t o.neighbours src) where
     abbrev back : State
     back = with_neighbour_rows t o.neighbours
 
-    dr : (i : ℕ) → is_dr t i ≡ is_dr back i
-    dr i = dr_now keys o c quiet adjoins t way i
+    pub star_dr : SameStarDr t o.neighbours g
+    star_dr = star_now keys o c quiet adjoins t way g (star_out keys (source_key 0 g src) out)
+
+    pub source_dr : SameSourceDr t o.neighbours g src
+    source_dr = source_now keys o c quiet adjoins t way g src out
 
     unnamed_before : is_source_named g src o back ≡ false
     unnamed_before = agreed_is_unnamed g src o back (way.agrees (source_key 0 g src) out)
@@ -84,19 +113,23 @@ module _ (keys : List Key) (o c : State) (quiet : IsQuiet o) (adjoins : AdjoinsA
           (second_so (calm_star keys o c quiet adjoins g) _ same)
 
       unnamed : is_source_named g src o t ≡ false
-      unnamed = named_so t o.neighbours dr g src rp_hop hop o ∙ unnamed_before
+      unnamed = named_so t o.neighbours g src star_dr source_dr link_dr rp_hop hop o ∙ unnamed_before
 
-      reached : reaches t o.neighbours dr g src t ≡ reaches t o.neighbours dr g src back
-      reached = hops_reach t o.neighbours dr g src rp_hop hop
+      reached : reaches t o.neighbours g src star_dr source_dr link_dr t
+          ≡ reaches t o.neighbours g src star_dr source_dr link_dr back
+      reached = hops_reach t o.neighbours g src star_dr source_dr link_dr rp_hop hop
 
   pub adjoins_names : (g src : ℕ) → list_any (names_source g src) (fact_keys o) ≡ true
       → touching keys (source_key 0 g src) ≡ false → is_source_named g src o (clear o c).0 ≡ false
   adjoins_names g src there out =
-      unnamed (clear o c).0 (way_end keys o c quiet adjoins) g src out (calm_fact g src there out)
+      let way = way_end keys o c quiet adjoins in
+      unnamed (clear o c).0 way g src out
+      (link_now keys o c quiet adjoins (clear o c).0 way src (source_key 0 g src) out (link_fact g src there out))
+      (calm_fact g src there out)
 
   -- ---- the end
 
-  module _ (messages : List Message) (w : ℕ) where
+  module _ (same_dr : (i : ℕ) → is_dr o i ≡ is_dr c i) (messages : List Message) (w : ℕ) where
     abbrev after : State
     after = (clear o c).0
 
@@ -122,6 +155,15 @@ module _ (keys : List Key) (o c : State) (quiet : IsQuiet o) (adjoins : AdjoinsA
     }
 
     module _ (g src : ℕ) (out : touching keys (source_key 0 g src) ≡ false) where
+      link : SameLinkDr last o.neighbours src
+      link = link_by_dr keys o c quiet adjoins last way_last same_dr src
+
+      abbrev stars : SameStarDr last o.neighbours g
+      stars = star_dr last way_last g src out link
+
+      abbrev sources : SameSourceDr last o.neighbours g src
+      sources = source_dr last way_last g src out link
+
       absent_after : list_any (names_source g src) (fact_keys o) ≡ false
           → list_any (names_source g src) (fact_keys after) ≡ false
       absent_after none = go (list_any (names_source g src) (fact_keys after)) refl
@@ -139,16 +181,16 @@ module _ (keys : List Key) (o c : State) (quiet : IsQuiet o) (adjoins : AdjoinsA
           ∙ absent_unwanted g src after (absent_after none)
 
       same_reaches : (b : Bool) → list_any (names_source g src) (fact_keys o) ≡ b
-          → reaches last o.neighbours (dr last way_last g src out) g src last
-          ≡ reaches last o.neighbours (dr last way_last g src out) g src (with_neighbour_rows last o.neighbours)
-      same_reaches true there = reached last way_last g src out (calm_fact g src there out)
+          → reaches last o.neighbours g src stars sources link last
+          ≡ reaches last o.neighbours g src stars sources link (with_neighbour_rows last o.neighbours)
+      same_reaches true there = reached last way_last g src out link (calm_fact g src there out)
       same_reaches false none =
-          unwanted_reaches last o.neighbours (dr last way_last g src out) g src (unwanted none)
+          unwanted_reaches last o.neighbours g src stars sources link (unwanted none)
 
       pub adjoins_stays : (is_source_named g src o (with_neighbour_rows last o.neighbours) ≡ false)
           × (answers (with_neighbour_rows last o.neighbours) g src ≡ answers last g src)
       adjoins_stays = (
-        unnamed_before last way_last g src out,
-        sym (answers_so last o.neighbours (dr last way_last g src out) g src
+        unnamed_before last way_last g src out link,
+        sym (answers_so last o.neighbours g src stars sources link
             (same_reaches (list_any (names_source g src) (fact_keys o)) refl)),
       )

@@ -17,17 +17,20 @@ pub fn adjoins_names()
     ensures { AdjoinsNames }
 {}
 
-/// A source that the keys of what is moved don't touch has the same answers in the end.
+/// A source that the keys of what is moved don't touch has the same answers in the end, where the router is the DR of the
+/// same interfaces.
 pub fn adjoins_stays()
     ensures { AdjoinsStays }
 {}
 
-/// A Hello that doesn't change the DR moves only what depends on its neighbour.
+/// A Hello moves only what depends on its neighbour, and what asks whether the router is the DR of its interface, where
+/// that changes.
 pub fn hello_adjoins()
     ensures { HelloAdjoins }
 {}
 
-/// The expiry of a neighbour that doesn't change the DR moves only what depends on that neighbour.
+/// The expiry of a neighbour moves only what depends on that neighbour, and what asks whether the router is the DR of its
+/// interface, where that changes.
 pub fn end_adjoins()
     ensures { EndAdjoins }
 {}

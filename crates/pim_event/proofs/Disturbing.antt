@@ -21,8 +21,8 @@ use Rattle.pim_laws.specs.Laws.{IsFirable, IsReady, ends_from}
 use Rattle.pim_cached.specs.Decided.{decided_by_answers}
 use Rattle.pim_world.specs.declared.touched.Touched.{Touched}
 use Rattle.pim_fanout.specs.Disturbed.{joined}
-use Rattle.pim_event.specs.Disturbing.{IsLastDisturbed, disturbed_of, disturbed_with_room, ended_all, ended_instant, event_disturbed, event_touched, goes_by_answers, joined_all, touched_at, where_disturbed}
-use Rattle.pim_event.specs.Ends.{touched_by_end}
+use Rattle.pim_event.specs.Disturbing.{IsLastDisturbed, disturbed_of, disturbed_with_room, ended_all, ended_instant, event_disturbed, event_touched, goes_by_answers, joined_all, disturbed_at, where_disturbed}
+use Rattle.pim_event.specs.Ends.{disturbed_by_end}
 use Rattle.pim_event.specs.Planning.{touched_of}
 use Rattle.pim_event.specs.Replacing.{Disturbance, Replaced, event_replaced}
 use Rattle.pim_event.specs.Staying.{disturbed_by}
@@ -77,55 +77,55 @@ module _ (first : Touched) (whole : List Touched) where
 
 module _ (w : ℕ) (o : State) (e : Ending) (first : Touched) where
   abbrev pub InstantDisturbs : State → Touched → Type 0
-  InstantDisturbs s now = Disturbs first (ended_instant touched_at w o e).1 now (ended_instant touched_at w s e).1
+  InstantDisturbs s now = Disturbs first (ended_instant disturbed_at w o e).1 now (ended_instant disturbed_at w s e).1
 
   pub instant_disturbs_none : InstantDisturbs o first
   instant_disturbs_none = refl
 
   pub firing_disturbs : (s : State) (now : Touched) (d : Ending) → IsFirable s → ends_from e.end s ≡ true
       → next_due e.end s ≡ Some d → (t : State) (more : Touched) → t ≡ (fire_once w s d).0
-      → more ≡ joined now (touched_by_end s d.timer.kind d.timer.key) → InstantDisturbs s now → InstantDisturbs t more
+      → more ≡ joined now (disturbed_by_end s d.timer.kind d.timer.key) → InstantDisturbs s now → InstantDisturbs t more
   firing_disturbs s now d firable from there t more is touches within =
       subst (λ (u : State). InstantDisturbs u more) (sym is)
-      (further first (ended_instant touched_at w o e).1 now more (touched_at s d)
-      (ended_instant touched_at w (fire_once w s d).0 e).1
-      (touches ∙ ap (joined now) (sym (joined_one (touched_by_end s d.timer.kind d.timer.key))))
-      (subst (λ (ts : List Touched). Disturbs first (ended_instant touched_at w o e).1 now ts)
-      (instant_ended touched_at w s e d firable from there) within))
+      (further first (ended_instant disturbed_at w o e).1 now more (disturbed_at s d)
+      (ended_instant disturbed_at w (fire_once w s d).0 e).1
+      (touches ∙ ap (joined now) (sym (joined_one (disturbed_by_end s d.timer.kind d.timer.key))))
+      (subst (λ (ts : List Touched). Disturbs first (ended_instant disturbed_at w o e).1 now ts)
+      (instant_ended disturbed_at w s e d firable from there) within))
 
-  pub instant_disturbed : (s : State) (now : Touched) → (ended_instant touched_at w s e).1 ≡ [] → InstantDisturbs s now
-      → now ≡ joined first (joined_all (ended_instant touched_at w o e).1)
+  pub instant_disturbed : (s : State) (now : Touched) → (ended_instant disturbed_at w s e).1 ≡ [] → InstantDisturbs s now
+      → now ≡ joined first (joined_all (ended_instant disturbed_at w o e).1)
   instant_disturbed s now none within =
-      none_left first (ended_instant touched_at w o e).1 now
-      (subst (λ (ts : List Touched). Disturbs first (ended_instant touched_at w o e).1 now ts) none within)
+      none_left first (ended_instant disturbed_at w o e).1 now
+      (subst (λ (ts : List Touched). Disturbs first (ended_instant disturbed_at w o e).1 now ts) none within)
 
 module _ (w m : ℕ) (o : State) (first : Touched) where
   abbrev pub AllDisturbs : State → Touched → Type 0
-  AllDisturbs s now = Disturbs first (ended_all touched_at w m o).1 now (ended_all touched_at w m s).1
+  AllDisturbs s now = Disturbs first (ended_all disturbed_at w m o).1 now (ended_all disturbed_at w m s).1
 
   pub all_disturbs_none : AllDisturbs o first
   all_disturbs_none = refl
 
   pub instant_disturbs : (s : State) (now : Touched) (e : Ending) → IsReady s.present s → next_due m s ≡ Some e
       → (t : State) (more : Touched) → t ≡ (fire_instant w s e).0
-      → more ≡ joined now (joined_all (ended_instant touched_at w s e).1) → AllDisturbs s now → AllDisturbs t more
+      → more ≡ joined now (joined_all (ended_instant disturbed_at w s e).1) → AllDisturbs s now → AllDisturbs t more
   instant_disturbs s now e ready there t more is touches within =
       subst (λ (u : State). AllDisturbs u more) (sym is)
-      (further first (ended_all touched_at w m o).1 now more (ended_instant touched_at w s e).1
-      (ended_all touched_at w m (fire_instant w s e).0).1 touches
-      (subst (λ (ts : List Touched). Disturbs first (ended_all touched_at w m o).1 now ts)
-      (all_ended touched_at w m s e ready there) within))
+      (further first (ended_all disturbed_at w m o).1 now more (ended_instant disturbed_at w s e).1
+      (ended_all disturbed_at w m (fire_instant w s e).0).1 touches
+      (subst (λ (ts : List Touched). Disturbs first (ended_all disturbed_at w m o).1 now ts)
+      (all_ended disturbed_at w m s e ready there) within))
 
-  pub all_disturbed : (s : State) (now : Touched) → (ended_all touched_at w m s).1 ≡ [] → AllDisturbs s now
-      → now ≡ joined first (joined_all (ended_all touched_at w m o).1)
+  pub all_disturbed : (s : State) (now : Touched) → (ended_all disturbed_at w m s).1 ≡ [] → AllDisturbs s now
+      → now ≡ joined first (joined_all (ended_all disturbed_at w m o).1)
   all_disturbed s now none within =
-      none_left first (ended_all touched_at w m o).1 now
-      (subst (λ (ts : List Touched). Disturbs first (ended_all touched_at w m o).1 now ts) none within)
+      none_left first (ended_all disturbed_at w m o).1 now
+      (subst (λ (ts : List Touched). Disturbs first (ended_all disturbed_at w m o).1 now ts) none within)
 
 -- ---- what was accepted
 
 module _ (s : State) (w : ℕ) where
-  disturbed_timeless : (a : Accepted) → ((m : ℕ) → ¬ (a ≡ Accepted.Advance m)) → disturbed_of s w a ≡ disturbed_by a (touched_of s a)
+  disturbed_timeless : (a : Accepted) → ((m : ℕ) → ¬ (a ≡ Accepted.Advance m)) → disturbed_of s w a ≡ disturbed_by s a (touched_of s a)
   unfolding disturbed_of
   disturbed_timeless (Accepted.Up i) timeless = refl
   disturbed_timeless (Accepted.Down i) timeless = refl
@@ -136,12 +136,12 @@ module _ (s : State) (w : ℕ) where
 
 module _ (s : State) (w : ℕ) (a : Accepted) where
   pub disturbed_after : ((m : ℕ) → ¬ (a ≡ Accepted.Advance m)) → (touched before after : Touched)
-      → touched ≡ touched_of s a → after ≡ joined before (disturbed_by a touched) → after ≡ joined before (disturbed_of s w a)
+      → touched ≡ touched_of s a → after ≡ joined before (disturbed_by s a touched) → after ≡ joined before (disturbed_of s w a)
   disturbed_after timeless touched before after touches is =
-      is ∙ ap (joined before) (ap (disturbed_by a) touches ∙ sym (disturbed_timeless s w a timeless))
+      is ∙ ap (joined before) (ap (disturbed_by s a) touches ∙ sym (disturbed_timeless s w a timeless))
 
   pub disturbed_in_time : (m : ℕ) → a ≡ Accepted.Advance m
-      → joined_all (ended_all touched_at w m s).1 ≡ where_disturbed s (disturbed_of s w) (Ok a)
+      → joined_all (ended_all disturbed_at w m s).1 ≡ where_disturbed s (disturbed_of s w) (Ok a)
   unfolding is_full disturbed_of
   disturbed_in_time m is = rw is refl
 

@@ -135,12 +135,12 @@ module _ (s : State) (due : ℕ × Timer) where
   after_end = fired at_end due.1.kind due.1.key
 
   pub fired_in_turn : (moved t : State) (touched : Touched) (opening : List GroupOpening) (first opened ended : Taking)
-      → IsLawful s → IsQuiet s → AreKeyed (pim_tables t) → touched ≡ touched_by_end s due.1.kind due.1.key
+      → IsLawful s → IsQuiet s → AreKeyed (pim_tables s) → AreKeyed (pim_tables t) → touched ≡ touched_by_end s due.1.kind due.1.key
       → opening ≡ opening_of s touched → first.messages ≡ [] → opened ≡ first → moved ≡ at_end
       → t ≡ (fired moved due.1.kind due.1.key).0 → ended ≡ saying opened (fired moved due.1.kind due.1.key).1
       → settled_by opening t ended.messages ended.draw ≡ fire_once first.draw s (ending_of due)
   unfolding fire_once
-  fired_in_turn moved t touched opening first opened ended lawful quiet keyed touches opens none silent moves is said =
+  fired_in_turn moved t touched opening first opened ended lawful quiet keyed_before keyed touches opens none silent moves is said =
       let those : Touched = touched_by_end s due.1.kind due.1.key in
       let state : t ≡ after_end.0 = is ∙ ap (λ (x : State). (fired x due.1.kind due.1.key).0) moves in
       let told : ended ≡ saying first after_end.1 =
@@ -155,13 +155,13 @@ module _ (s : State) (due : ℕ × Timer) where
       ∙ ap (λ (ms : List Message). settled_by (opening_of s those) after_end.0 ms ended.draw) sent
       ∙ ap (λ (w : ℕ). settled_by (opening_of s those) after_end.0 after_end.1 w) drawn
       ∙ sym (settled_as_opened s after_end.0 quiet (subst (λ (x : State). AreKeyed (pim_tables x)) state keyed)
-      after_end.1 first.draw those (end_covered s lawful (ending_of due)))
+      after_end.1 first.draw those (end_covered s lawful keyed_before (ending_of due)))
 
-  pub end_touched : (touched : Touched) → IsLawful s → touched ≡ touched_by_end s due.1.kind due.1.key
+  pub end_touched : (touched : Touched) → IsLawful s → AreKeyed (pim_tables s) → touched ≡ touched_by_end s due.1.kind due.1.key
       → Contains touched s (own_firing s (ending_of due))
   unfolding own_firing
-  end_touched touched lawful touches =
-      subst (λ (t : Touched). Contains t s after_end.0) (sym touches) (end_covered s lawful (ending_of due))
+  end_touched touched lawful keyed touches =
+      subst (λ (t : Touched). Contains t s after_end.0) (sym touches) (end_covered s lawful keyed (ending_of due))
 
   pub end_fired : (moved t : State) → moved ≡ at_end → t ≡ (fired moved due.1.kind due.1.key).0
       → t ≡ own_firing s (ending_of due)

@@ -22,6 +22,7 @@ mod Rows
 mod Sending
 pub mod Staying
 mod Settling
+mod Serving
 mod SourceEnds
 mod Stopped
 pub mod Taking

@@ -79,14 +79,8 @@ pub keys_where : (on : Bool) (keys none : List Key) (otherwise : Touched) → on
     → Touched.Keys keys ≡ (if on then Touched.Keys none else otherwise)
 keys_where on keys none otherwise is are = rw is (ap Touched.Keys are)
 
--- what is touched on two
-pub touched_where : (on too : Bool) (touched these none : Touched) → on ≡ false → too ≡ true → touched ≡ these
-    → touched ≡ (if on then none else (if too then these else Touched.All))
-touched_where on too touched these none is also are = rw (is, also) are
-
-pub all_where : (on too : Bool) (none these : Touched) → on ≡ false → too ≡ false
-    → Touched.All ≡ (if on then none else (if too then these else Touched.All))
-all_where on too none these is also = rw (is, also) refl
+pub else_where : (on : Bool) (none otherwise : Touched) → on ≡ false → otherwise ≡ (if on then none else otherwise)
+else_where on none otherwise isnt = rw isnt refl
 
 pub these_where : (on : Bool) (keys first second : List Key) → on ≡ true → keys ≡ first
     → Touched.Keys keys ≡ Touched.Keys (if on then first else second)

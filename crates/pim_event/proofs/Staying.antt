@@ -42,7 +42,11 @@ use Rattle.pim_offload.specs.Offered.{offered}
 use Rattle.pim_offload.specs.Staying.{KeepsRoutes, OffersAlike, SourceStays, is_rerouting}
 use Rattle.pim_offload.proofs.Routed.{event_keeps_routes, firing_keeps_routes}
 use Rattle.pim_offload.proofs.Staying.{firing_source_stays, offer_stays, plain_offer_stays, stays_in_turn, stays_itself, time_source_stays, unnamed_source_stays}
-use Rattle.pim_event.specs.Staying.{LastOffersStay, OffersStay, UntouchedOffersStay, StaysBeside, disturbed_by}
+use Rattle.pim_event.specs.Ends.{end_moves_dr}
+use Rattle.pim_event.specs.Staying.{LastOffersStay, OffersStay, UntouchedOffersStay, StaysBeside, disturbed_by, moves_all, moves_dr}
+use Rattle.pim_event.proofs.Serving.{event_dr, firing_dr}
+use Rattle.pim_model.specs.Neighbours.{is_dr}
+use Rattle.std.specs.Prelude.{if◌then◌else◌}
 use Rattle.pim_event.specs.Replacing.{Disturbance}
 use Rattle.pim_event.proofs.Taking.{taken_is_done}
 
@@ -64,10 +68,11 @@ not_joined : (t u : Touched) (g src : ℕ) → is_disturbed (joined t u) g src �
 not_joined t u g src out =
     or_parts (is_disturbed t g src) (is_disturbed u g src) (sym (joined_disturbs t u g src) ∙ out)
 
-not_disturbed : (a : Accepted) (touched : Touched) (g src : ℕ) → is_disturbed (disturbed_by a touched) g src ≡ false
-    → (is_rerouting a ≡ false) × (is_disturbed touched g src ≡ false)
+not_disturbed : (all : Bool) (touched : Touched) (g src : ℕ)
+    → is_disturbed (if all then Touched.All else touched) g src ≡ false
+    → (all ≡ false) × (is_disturbed touched g src ≡ false)
 unfolding is_disturbed
-not_disturbed a touched g src out = go (is_rerouting a) out
+not_disturbed all touched g src out = go all out
   where
     go : (b : Bool) → is_disturbed (cond b Touched.All touched) g src ≡ false
         → (b ≡ false) × (is_disturbed touched g src ≡ false)
@@ -86,7 +91,7 @@ either_way (inr b) first second = second b
 
 -- a change of neighbours
 module _ (s c : State) (quiet : IsQuiet s) (few : length s.configured ≤ 120) (keys : List Key)
-    (adjoins : AdjoinsAlone keys s c) (messages : List Message) (w g src : ℕ)
+    (adjoins : AdjoinsAlone keys s c) (same_dr : (i : ℕ) → is_dr s i ≡ is_dr c i) (messages : List Message) (w g src : ℕ)
     (out : touching keys (source_key 0 g src) ≡ false) where
   abbrev last : State
   last = (settled s (c, messages) w).0
@@ -95,7 +100,7 @@ module _ (s c : State) (quiet : IsQuiet s) (few : length s.configured ≤ 120) (
   before = with_neighbour_rows last s.neighbours
 
   stays_there : (is_source_named g src s before ≡ false) × (answers before g src ≡ answers last g src)
-  stays_there = adjoins_stays keys s c quiet adjoins messages w g src out
+  stays_there = adjoins_stays keys s c quiet adjoins same_dr messages w g src out
 
   before_configured : IsConfigured s before
   before_configured =
@@ -125,52 +130,60 @@ module _ (s c : State) (quiet : IsQuiet s) (few : length s.configured ≤ 120) (
   }
 
 adjoined_event_stays : (s : State) (w : ℕ) (a : Accepted) → IsQuiet s → length s.configured ≤ 120 → (touched : Touched)
-    → Adjoins touched s (change s w a).state → (g src : ℕ) → is_disturbed touched g src ≡ false
+    → Adjoins touched s (change s w a).state → ((i : ℕ) → is_dr s i ≡ is_dr (change s w a).state i) → (g src : ℕ)
+    → is_disturbed touched g src ≡ false
     → SourceStays g src s (done s w (change s w a)).state
 unfolding done is_disturbed
-adjoined_event_stays s w a quiet few Touched.All none g src out = absurd none
-adjoined_event_stays s w a quiet few (Touched.Keys keys) adjoins g src out =
-    adjoined_stays s (change s w a).state quiet few keys adjoins (change s w a).messages w g src out
+adjoined_event_stays s w a quiet few Touched.All none same_dr g src out = absurd none
+adjoined_event_stays s w a quiet few (Touched.Keys keys) adjoins same_dr g src out =
+    adjoined_stays s (change s w a).state quiet few keys adjoins same_dr (change s w a).messages w g src out
 
 adjoined_firing_stays : (s : State) (w : ℕ) (e : Ending) → IsQuiet s → length s.configured ≤ 120 → (touched : Touched)
-    → Adjoins touched s (own_firing s e) → (g src : ℕ) → is_disturbed touched g src ≡ false
+    → Adjoins touched s (own_firing s e) → ((i : ℕ) → is_dr s i ≡ is_dr (own_firing s e) i) → (g src : ℕ)
+    → is_disturbed touched g src ≡ false
     → SourceStays g src s (fire_once w s e).0
 unfolding fire_once own_firing is_disturbed
-adjoined_firing_stays s w e quiet few Touched.All none g src out = absurd none
-adjoined_firing_stays s w e quiet few (Touched.Keys keys) adjoins g src out =
+adjoined_firing_stays s w e quiet few Touched.All none same_dr g src out = absurd none
+adjoined_firing_stays s w e quiet few (Touched.Keys keys) adjoins same_dr g src out =
     let changed : State × List Message = fired (record s { present = e.end }) e.timer.kind e.timer.key in
-    adjoined_stays s changed.0 quiet few keys adjoins changed.1 w g src out
+    adjoined_stays s changed.0 quiet few keys adjoins same_dr changed.1 w g src out
 
 pub stays_after : (o s t : State) (w : ℕ) (a : Accepted) → ((m : ℕ) → ¬ (a ≡ Accepted.Advance m)) → (touched : Touched)
     → Contains touched s (change s w a).state → IsQuiet s → (lent : InterfaceTable) → lent ≡ interfaces_of s
     → length lent.configured ≤ 120 → t ≡ (taken s w a).state → (before after : Touched)
-    → after ≡ joined before (disturbed_by a touched) → StaysBeside before o s → StaysBeside after o t
+    → after ≡ joined before (disturbed_by s a touched) → StaysBeside before o s → StaysBeside after o t
 stays_after o s t w a timeless touched covers quiet lent lends few is before after joins stays g src out =
-    let parts = not_joined before (disturbed_by a touched) g src
+    let parts = not_joined before (disturbed_by s a touched) g src
     (ap (λ (d : Touched). is_disturbed d g src) (sym joins) ∙ out) in
-    let calm = not_disturbed a touched g src parts.1 in
-    let routed : KeepsRoutes s (change s w a).state = event_keeps_routes s w a calm.0 in
+    let calm = not_disturbed (moves_all s a) touched g src parts.1 in
+    let still = or_parts (is_rerouting a) (moves_dr s a) calm.0 in
+    let routed : KeepsRoutes s (change s w a).state = event_keeps_routes s w a still.0 in
     let same : t ≡ (done s w (change s w a)).state = is ∙ ap (λ x. x.state) (taken_is_done s w a timeless) in
     subst (λ (u : State). SourceStays g src o u) (sym same)
     (stays_in_turn o s (done s w (change s w a)).state g src (stays g src parts.0)
     (either_way covers
     (λ known. unnamed_source_stays s w a (few_of s lent lends few) g src
     (untouched_is_unnamed s (change s w a).state quiet touched known g src routed.routes routed.ranges calm.1))
-    (λ adjoins. adjoined_event_stays s w a quiet (few_of s lent lends few) touched adjoins g src calm.1)))
+    (λ adjoins. adjoined_event_stays s w a quiet (few_of s lent lends few) touched adjoins (event_dr s w a still.1) g src
+    calm.1)))
 
 pub stays_fired : (o s t : State) (w : ℕ) (e : Ending) (touched : Touched) → Contains touched s (own_firing s e)
     → IsQuiet s → (lent : InterfaceTable) → lent ≡ interfaces_of s → length lent.configured ≤ 120
-    → t ≡ (fire_once w s e).0 → (before after : Touched) → after ≡ joined before touched → StaysBeside before o s
-    → StaysBeside after o t
-stays_fired o s t w e touched covers quiet lent lends few is before after joins stays g src out =
-    let parts = not_joined before touched g src (ap (λ (d : Touched). is_disturbed d g src) (sym joins) ∙ out) in
+    → t ≡ (fire_once w s e).0 → (moves : Bool) → moves ≡ end_moves_dr s e.timer.kind e.timer.key
+    → (before after : Touched) → after ≡ joined before (if moves then Touched.All else touched)
+    → StaysBeside before o s → StaysBeside after o t
+stays_fired o s t w e touched covers quiet lent lends few is moves moving before after joins stays g src out =
+    let all : Touched = (if moves then Touched.All else touched) in
+    let parts = not_joined before all g src (ap (λ (d : Touched). is_disturbed d g src) (sym joins) ∙ out) in
+    let calm = not_disturbed moves touched g src parts.1 in
     let routed : KeepsRoutes s (own_firing s e) = firing_keeps_routes s e in
     subst (λ (u : State). SourceStays g src o u) (sym is)
     (stays_in_turn o s (fire_once w s e).0 g src (stays g src parts.0)
     (either_way covers
     (λ known. firing_source_stays s w e (few_of s lent lends few) g src
-    (untouched_is_unnamed s (own_firing s e) quiet touched known g src routed.routes routed.ranges parts.1))
-    (λ adjoins. adjoined_firing_stays s w e quiet (few_of s lent lends few) touched adjoins g src parts.1)))
+    (untouched_is_unnamed s (own_firing s e) quiet touched known g src routed.routes routed.ranges calm.1))
+    (λ adjoins. adjoined_firing_stays s w e quiet (few_of s lent lends few) touched adjoins
+    (firing_dr s e (sym moving ∙ calm.0)) g src calm.1)))
 
 pub stays_present : (o s t : State) (m : ℕ) (disturbed : Touched) → t ≡ record s { present = m }
     → StaysBeside disturbed o s → StaysBeside disturbed o t

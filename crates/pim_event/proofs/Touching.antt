@@ -42,7 +42,7 @@ use Rattle.pim_locality.specs.Events.{touched_by_event}
 use Rattle.pim_locality.specs.JoinPrunes.{moved_among, moved_keys}
 use Rattle.pim_locality.specs.Locality.{AgreesBut, touching}
 use Rattle.pim_locality.specs.Touches.{isnt_neighbour, packet_keys, touched_by}
-use Rattle.pim_adjacent.specs.Adjacent.{AdjoinsAlone, end_keeps_dr, hello_keeps_dr, keys_of_hello, keys_towards}
+use Rattle.pim_adjacent.specs.Adjacent.{AdjoinsAlone, keys_of_end, keys_of_hello}
 use Rattle.pim_adjacent.proofs.Hellos.{end_adjoins, hello_adjoins, hello_leaves_facts}
 use Rattle.pim_fanout.specs.Contains.{Contains}
 use Rattle.pim_world.specs.declared.touched.Touched.{Touched}
@@ -62,7 +62,9 @@ use Rattle.pim_ready.specs.Ready.{IsSettled}
 use Rattle.pim_querier.specs.Reports.{all_keep_modes, moved_sources}
 use Rattle.pim_event.proofs.IgmpFacts.{query_leaves_facts, report_names_facts, star_names_none}
 use Rattle.pim_event.proofs.MovedReports.{report_touches_moved, reported_known}
+use Rattle.pim_event.proofs.Serving.{keyed_sourced}
 use Rattle.pim_event.proofs.Stopped.{stop_agrees}
+use Rattle.pim_store.specs.PimTables.{AreKeyed, pim_tables}
 use Rattle.pim_event.proofs.Tunnelled.{routes_leave_facts, rps_leave_facts, stop_leaves_facts}
 use Rattle.pim_event.specs.Tunnels.{keys_of_stop}
 use Rattle.pim_model.specs.Registers.{register_stop_seen}
@@ -224,12 +226,12 @@ module _ (s : State) where
             ((hello_leaves_facts s i.number from.bits w h).passed (names_source g src) there);
       })
 
-  pub hello_moves : (i : IfaceId) (from : Addr) (h : HelloValue) → hello_keeps_dr s i.number from.bits h ≡ true → (w : ℕ)
+  pub hello_moves : (i : IfaceId) (from : Addr) (h : HelloValue) → AreKeyed (pim_tables s) → (w : ℕ)
       → Contains (few_or_all (keys_of_hello s i.number from.bits h)) s (change s w (Accepted.Hello i from h)).state
   unfolding change
-  hello_moves i from h keeps w =
+  hello_moves i from h keyed w =
       few_contain (keys_of_hello s i.number from.bits h) s (hello_received s i.number from.bits h w)
-      (hello_adjoins s i.number from.bits w h keeps) (within_so s _ (hello_leaves_facts s i.number from.bits w h)) _
+      (hello_adjoins s i.number from.bits w h (keyed_sourced s keyed)) (within_so s _ (hello_leaves_facts s i.number from.bits w h)) _
 
   pub seen_covered : (i : IfaceId) (m : JoinPrune) (pruned keys : List Key) → pruned ≡ pruned_keys i.number m
       → keys ≡ filter (λ k. not (is_star k)) pruned
@@ -418,7 +420,7 @@ facts_covered s w (Accepted.RegisterStop from r) none = absurd none
 
 -- ---- the expiry of a timer
 
-module _ (s : State) (lawful : IsLawful s) (e : Ending) where
+module _ (s : State) (lawful : IsLawful s) (keyed : AreKeyed (pim_tables s)) (e : Ending) where
   abbrev opened : State
   opened = record s { present = e.end }
 
@@ -456,20 +458,17 @@ module _ (s : State) (lawful : IsLawful s) (e : Ending) where
             (ended_leaves_facts.passed (names_source g src) there);
       }
 
-  neighbour_covered : e.timer.kind ≡ TimerKind.Neighbour → (b : Bool) → end_keeps_dr s e.timer.key ≡ b
-      → Contains (if b then few_or_all (keys_towards s (iface_in e.timer.key) (source_in e.timer.key)) else Touched.All) s
-      ended
+  neighbour_covered : e.timer.kind ≡ TimerKind.Neighbour → Contains (few_or_all (keys_of_end s e.timer.key)) s ended
   unfolding own_firing
-  neighbour_covered is true keeps =
-      few_contain (keys_towards s (iface_in e.timer.key) (source_in e.timer.key)) s ended (end_adjoins s e is keeps)
+  neighbour_covered is =
+      few_contain (keys_of_end s e.timer.key) s ended (end_adjoins s e is (keyed_sourced s keyed))
       (within_so s ended ended_leaves_facts) _
-  neighbour_covered is false keeps = inl (inl (within_so s ended ended_leaves_facts))
 
   pub end_covered : Contains (touched_by_end s e.timer.kind e.timer.key) s ended
   end_covered = go e.timer.kind refl
     where
       go : (kind : TimerKind) → e.timer.kind ≡ kind → Contains (touched_by_end s kind e.timer.key) s ended
-      go TimerKind.Neighbour is = neighbour_covered is (end_keeps_dr s e.timer.key) refl
+      go TimerKind.Neighbour is = neighbour_covered is
       go TimerKind.SourceRecord is = inl (inl (source_concerns is))
       go _ is = inl (inl (subst (λ (kind : TimerKind). Concerns (touched_by kind e.timer.key) s ended) is
           (end_concerns (ap isnt_neighbour is))))

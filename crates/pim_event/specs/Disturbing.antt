@@ -1,5 +1,6 @@
 -- What an event disturbs, exactly: what its change touches, by key or by group, what a timer of an Advance touches when it
--- expires, and the routes or RP ranges that it replaces.
+-- expires, all sources where the router becomes the DR of an interface, or is no more, and the routes or RP ranges that it
+-- replaces.
 use Rattle.std.specs.Prelude.{Bool, Err, List, Ok, [], false, if◌then◌else◌, is_some, length, ℕ, ◌&&◌, ◌+◌, ◌-◌, ◌∷◌, ◌≡◌}
 use Rattle.pim_types.specs.declared.event.Event.{Event}
 use Rattle.pim_model.specs.declared.accepted.Accepted.{Accepted}
@@ -15,7 +16,7 @@ use Rattle.pim_model.specs.Timers.{Ending, next_due, timers}
 use Rattle.pim_cached.specs.Decided.{decided_by_answers}
 use Rattle.pim_world.specs.declared.touched.Touched.{Touched}
 use Rattle.pim_fanout.specs.Disturbed.{joined}
-use Rattle.pim_event.specs.Ends.{touched_by_end}
+use Rattle.pim_event.specs.Ends.{disturbed_by_end}
 use Rattle.pim_event.specs.Planning.{touched_of}
 use Rattle.pim_event.specs.Replacing.{Disturbance, event_replaced}
 use Rattle.pim_event.specs.Staying.{disturbed_by}
@@ -34,11 +35,11 @@ module _ {X : Type 0} (told : State → Ending → List X) (w : ℕ) where
   unfoldable pub ended_all : ℕ → State → State × List X
   ended_all moment s = until_none (next_due moment) ended_instant (moment + 2 - s.present) s
 
--- What one firing touches, as a list of one.
-abbrev pub touched_at : State → Ending → List Touched
-touched_at s e = touched_by_end s e.timer.kind e.timer.key ∷ []
+-- What one firing disturbs, as a list of one.
+abbrev pub disturbed_at : State → Ending → List Touched
+disturbed_at s e = disturbed_by_end s e.timer.kind e.timer.key ∷ []
 
--- What several firings touch together.
+-- What several firings disturb together.
 unfoldable pub joined_all : List Touched → Touched
 joined_all [] = Touched.Keys []
 joined_all (touched ∷ later) = joined touched (joined_all later)
@@ -47,8 +48,8 @@ joined_all (touched ∷ later) = joined touched (joined_all later)
 
 -- What an accepted event disturbs, if there is room for it.
 unfoldable pub disturbed_of : State → ℕ → Accepted → Touched
-disturbed_of s w (Accepted.Advance moment) = joined_all (ended_all touched_at w moment s).1
-disturbed_of s w a = disturbed_by a (touched_of s a)
+disturbed_of s w (Accepted.Advance moment) = joined_all (ended_all disturbed_at w moment s).1
+disturbed_of s w a = disturbed_by s a (touched_of s a)
 
 -- An event that is refused or ignored, or for which there is no room, disturbs nothing.
 abbrev pub where_disturbed : State → (Accepted → Touched) → Judged → Touched

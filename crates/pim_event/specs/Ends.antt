@@ -1,6 +1,6 @@
 -- The expiry of timers, as the router takes it.
 use Rattle.std.specs.List.{list_any}
-use Rattle.std.specs.Prelude.{Bool, List, [], if◌then◌else◌, is_some, length, nat_lt, not, ℕ, ◌&&◌, ◌==◌, ◌∷◌, ◌||◌}
+use Rattle.std.specs.Prelude.{Bool, List, [], false, if◌then◌else◌, is_some, length, nat_lt, not, ℕ, ◌&&◌, ◌==◌, ◌∷◌, ◌||◌}
 use Rattle.pim_types.specs.declared.fact.Key.{Key}
 use Rattle.pim_types.specs.declared.timer.Timer.{Timer}
 use Rattle.pim_types.specs.declared.timer.TimerKind.{TimerKind}
@@ -10,7 +10,7 @@ use Rattle.pim_model.specs.Records.{is_at_group}
 use Rattle.pim_model.specs.State.{State}
 use Rattle.pim_model.specs.Timers.{Ending}
 use Rattle.pim_locality.specs.Touches.{touched_by}
-use Rattle.pim_adjacent.specs.Adjacent.{end_keeps_dr, keys_towards}
+use Rattle.pim_adjacent.specs.Adjacent.{end_keeps_dr, keys_of_end}
 use Rattle.pim_world.specs.declared.touched.Touched.{Touched}
 
 abbrev pub ending_of : ℕ × Timer → Ending
@@ -35,13 +35,23 @@ touched_by_source s k =
 abbrev pub few_or_all : List Key → Touched
 few_or_all keys = if nat_lt 256 (length keys) then Touched.All else Touched.Keys keys
 
--- The expiry of a neighbour touches what depends on it, or all where the router is the DR after it and wasn't before.
+-- The expiry of a neighbour touches what depends on it, and what asks whether the router is the DR of its interface, where
+-- that changes.
 abbrev pub touched_by_neighbour : State → Key → Touched
-touched_by_neighbour s k =
-    if end_keeps_dr s k then few_or_all (keys_towards s (iface_in k) (source_in k)) else Touched.All
+touched_by_neighbour s k = few_or_all (keys_of_end s k)
 
 -- The keys that the expiry of a timer touches.
 abbrev pub touched_by_end : State → TimerKind → Key → Touched
 touched_by_end s TimerKind.Neighbour k = touched_by_neighbour s k
 touched_by_end s TimerKind.SourceRecord k = Touched.Keys (touched_by_source s k ∷ [])
 touched_by_end s kind k = Touched.Keys (touched_by kind k)
+
+-- The router becomes the DR of an interface by the expiry of a timer, or is no more.
+unfoldable pub end_moves_dr : State → TimerKind → Key → Bool
+end_moves_dr s TimerKind.Neighbour k = not (end_keeps_dr s k)
+end_moves_dr s kind k = false
+
+-- What the expiry of a timer disturbs: all sources where the router becomes the DR, or is no more, since a source without
+-- a fact on its link may then be registered, or no more; else what it touches.
+abbrev pub disturbed_by_end : State → TimerKind → Key → Touched
+disturbed_by_end s kind k = if end_moves_dr s kind k then Touched.All else touched_by_end s kind k

@@ -9,7 +9,7 @@ use Rattle.pim_model.specs.State.{State}
 use Rattle.pim_model.specs.Step.{change, rps_replaced}
 use Rattle.pim_locality.specs.JoinPrunes.{moved_keys}
 use Rattle.pim_reach.specs.Moved.{keys_by_routes, keys_by_rps}
-use Rattle.pim_adjacent.specs.Adjacent.{hello_keeps_dr, keys_of_hello}
+use Rattle.pim_adjacent.specs.Adjacent.{keys_of_hello}
 use Rattle.pim_neighbours.specs.Refreshed.{is_refreshed}
 use Rattle.pim_querier.specs.Reports.{all_keep_modes, moved_sources}
 use Rattle.pim_world.specs.declared.touched.Touched.{Touched}
@@ -24,13 +24,11 @@ use Rattle.pim_event.specs.declared.plan.Plan.{Plan}
 use Rattle.pim_event.specs.declared.plan.Planning.{Planning}
 
 -- What an accepted event touches: the keys that it names, or that it moves. It touches none where it changes only when
--- timers expire. An interface that goes up or down may touch all, and so may a Hello that changes whether the router is
--- the DR there.
+-- timers expire. An interface that goes up or down may touch all.
 unfoldable pub touched_of : State → Accepted → Touched
 touched_of s (Accepted.Hello i from h) =
     if is_refreshed s.neighbours i.number from.bits h then Touched.Keys []
-    else (if hello_keeps_dr s i.number from.bits h then few_or_all (keys_of_hello s i.number from.bits h)
-    else Touched.All)
+    else few_or_all (keys_of_hello s i.number from.bits h)
 touched_of s (Accepted.JoinPruneToMe i m) = Touched.Keys (moved_keys s i.number m)
 touched_of s (Accepted.JoinPruneSeen i m) = Touched.Keys (filter (λ k. not (is_star k)) (pruned_keys i.number m))
 touched_of s (Accepted.Assert i from a) =

@@ -1,19 +1,31 @@
 -- Which sources are unchanged, whether they have a fact or not: all that aren't disturbed.
-use Rattle.std.specs.Prelude.{List, [], false, if◌then◌else◌, ℕ, ◌∷◌, ◌≡◌}
+use Rattle.std.specs.Prelude.{Bool, List, [], false, if◌then◌else◌, not, true, ℕ, ◌||◌, ◌∷◌, ◌≡◌}
 use Rattle.pim_types.specs.declared.event.Event.{Event}
 use Rattle.pim_model.specs.declared.accepted.Accepted.{Accepted}
 use Rattle.pim_model.specs.State.{State}
 use Rattle.pim_model.specs.Step.{step}
+use Rattle.pim_adjacent.specs.Adjacent.{hello_keeps_dr}
 use Rattle.pim_world.specs.declared.touched.Touched.{Touched}
 use Rattle.pim_fanout.specs.Disturbed.{is_disturbed}
 use Rattle.pim_offload.specs.Offered.{offered}
 use Rattle.pim_offload.specs.Staying.{OffersAlike, SourceStays, is_rerouting}
 use Rattle.pim_event.specs.Replacing.{Disturbance, may_differ}
 
--- What an event touches of what is offered: all sources where it brings new routes or RP ranges, since these move also
--- sources without facts; else what it touches.
-abbrev pub disturbed_by : Accepted → Touched → Touched
-disturbed_by a touched = if is_rerouting a then Touched.All else touched
+-- The event may change of which interfaces the router is the DR: one goes up or down, or a Hello changes it.
+unfoldable pub moves_dr : State → Accepted → Bool
+moves_dr s (Accepted.Up i) = true
+moves_dr s (Accepted.Down i) = true
+moves_dr s (Accepted.Hello i from h) = not (hello_keeps_dr s i.number from.bits h)
+moves_dr s a = false
+
+-- The event may move sources without facts: by new routes or RP ranges, or on a link of which the router becomes the DR,
+-- or is no more.
+abbrev pub moves_all : State → Accepted → Bool
+moves_all s a = is_rerouting a || moves_dr s a
+
+-- What an event touches of what is offered: all sources where it may move those without facts; else what it touches.
+abbrev pub disturbed_by : State → Accepted → Touched → Touched
+disturbed_by s a touched = if moves_all s a then Touched.All else touched
 
 -- Of a source that isn't touched the fact and the answers are the same in both states.
 abbrev pub StaysBeside : Touched → State → State → Type 0

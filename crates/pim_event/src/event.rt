@@ -28,7 +28,7 @@ ghost use Rattle.pim_event.specs.Caching.{CacheAfter, CacheFollows};
 ghost use Rattle.pim_event.specs.Naming.{Brings, IsConfigured};
 ghost use Rattle.pim_event.specs.Planning.{Fits};
 ghost use Rattle.pim_event.specs.Replacing.{NoneReplaced, event_replaced, replaced_after};
-ghost use Rattle.pim_event.specs.Staying.{OffersStay};
+ghost use Rattle.pim_event.specs.Staying.{OffersStay, moves_all, moves_dr};
 ghost use Rattle.pim_event.specs.Settling.{AreNames};
 ghost use Rattle.pim_offload.specs.Staying.{is_rerouting};
 ghost use Rattle.pim_event.specs.Stops.{stop_outcome};
@@ -45,6 +45,7 @@ use crate::settle::settle;
 use crate::time::advance;
 use pim_data::Leaving;
 use pim_fanout::{Cache, Gathered};
+use pim_hello::hello_keeps_dr;
 use pim_intake::{Admitted, LentEvent, judge};
 use pim_ip::Ipv4View;
 use pim_messages::Room;
@@ -149,12 +150,50 @@ fn is_rerouting(act: &Act<'_>) -> bool
     }
 }
 
-// What a change touches of what is offered: all sources where there are new routes or RP ranges, since these move also
-// sources without facts; else what the change touches.
-fn disturbed_where(reroutes: bool, touched: Touched) -> Touched
-    ensures { result ≡ (if reroutes then TouchedValue.All else touched) }
+// Whether an event that forwards no packet may change of which interfaces the router is the DR.
+#[tactic(auto, unfolding(crate::specs::Staying::moves_dr))]
+fn control_moves_dr(world: &World, control: &Control<'_>) -> bool
+    ensures { result ≡ moves_dr world.now (control_event control.now) }
 {
-    if reroutes { Touched::All } else { touched }
+    match control {
+        Control::Up { .. } => true,
+        Control::Down { .. } => true,
+        Control::Hello { iface, from, hello } => !hello_keeps_dr(world, *iface, *from, hello),
+        Control::Routes { .. } => false,
+        Control::Ranges { .. } => false,
+        Control::JoinPruneToMe { .. } => false,
+        Control::JoinPruneSeen { .. } => false,
+        Control::Assert { .. } => false,
+        Control::Query { .. } => false,
+        Control::Report { .. } => false,
+        Control::RegisterStop { .. } => false,
+    }
+}
+
+// Whether the event may change of which interfaces the router is the DR.
+#[tactic(auto, unfolding(crate::specs::Staying::moves_dr))]
+fn moves_dr(world: &World, act: &Act<'_>) -> bool
+    ensures { result ≡ moves_dr world.now (act_event act.now) }
+{
+    match act {
+        Act::Data { .. } => false,
+        Act::Register { .. } => false,
+        Act::Control(control) => control_moves_dr(world, control),
+    }
+}
+
+// Whether the event may move sources without facts.
+fn moves_all(world: &World, act: &Act<'_>) -> bool
+    ensures { result ≡ moves_all world.now (act_event act.now) }
+{
+    is_rerouting(act) || moves_dr(world, act)
+}
+
+// What a change touches of what is offered: all sources where it may move those without facts; else what it touches.
+fn disturbed_where(moves_all: bool, touched: Touched) -> Touched
+    ensures { result ≡ (if moves_all then TouchedValue.All else touched) }
+{
+    if moves_all { Touched::All } else { touched }
 }
 
 // Makes a change, and then evaluates the rows of the named sources again.
@@ -189,9 +228,9 @@ fn take_change(
     // For the proof: there are at most 120 interfaces.
     world.interfaces().recall_few();
     let Plan { touched, act } = plan;
-    let reroutes = is_rerouting(&act);
+    let moves = moves_all(world, &act);
     let Changed { outcome, names } = change_world(world, turn, meter, replaced, &touched, act)?;
-    cache.refresh(world, meter, names, disturbed_where(reroutes, touched))?;
+    cache.refresh(world, meter, names, disturbed_where(moves, touched))?;
     Ok(outcome)
 }
 

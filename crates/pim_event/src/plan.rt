@@ -23,7 +23,7 @@ use crate::few::{are_many, few_or_all};
 use crate::rerouted::{touched_by_routes, touched_by_rps};
 use igmp_wire::{QueryView, ReportView};
 use pim_downstream::{Effect, Named};
-use pim_hello::{hello_keeps_dr, keys_of_hello};
+use pim_hello::keys_of_hello;
 use pim_ip::Ipv4View;
 use pim_macros::{SourceSight, StarSight};
 use pim_model::Accepted;
@@ -104,7 +104,7 @@ fn only(alloc: Global, key: Key) -> Result<Series<Key>, AllocError>
 }
 
 // Plans a Hello. One that changes only when its neighbour expires touches nothing. Any other touches what depends on
-// the neighbour, or all where it changes whether the router is the DR.
+// the neighbour, and what asks whether the router is the DR there, where that changes.
 fn plan_hello<'a>(
     world: &World,
     turn: &Turn,
@@ -123,12 +123,11 @@ fn plan_hello<'a>(
         let act = Act::Control(Control::Hello { iface, from, hello });
         return Ok(Planning::of_nothing(turn.alloc, act));
     }
-    if hello_keeps_dr(world, iface, from, &hello) {
-        let touched = few_or_all(keys_of_hello(world, turn, meter, iface, from, &hello)?);
-        let act = Act::Control(Control::Hello { iface, from, hello });
-        return Ok(Planning::Change(Plan { touched, act }));
-    }
-    Ok(Planning::of_all(Act::Control(Control::Hello { iface, from, hello })))
+    // For the proof: sources and registers are under keys of sources.
+    world.recall_keyed();
+    let touched = few_or_all(keys_of_hello(world, turn, meter, iface, from, &hello)?);
+    let act = Act::Control(Control::Hello { iface, from, hello });
+    Ok(Planning::Change(Plan { touched, act }))
 }
 
 // Plans a Join/Prune to the router: it touches the keys of which it changes more than when a timer expires.

@@ -21,15 +21,16 @@ ghost use Rattle.pim_model.specs.Step.{advanced, outcome_of};
 ghost use Rattle.pim_model.specs.Timers.{next_due};
 ghost use Rattle.pim_ready.specs.Ready.{IsLawful};
 ghost use Rattle.pim_event.specs.Caching.{CacheFollows};
-ghost use Rattle.pim_event.specs.Disturbing.{ended_all, ended_instant, joined_all, touched_at};
-ghost use Rattle.pim_event.specs.Ends.{ending_of, has_other_sources, keeps_group, touched_by_end, touched_by_neighbour, touched_by_source};
+ghost use Rattle.pim_event.specs.Disturbing.{ended_all, ended_instant, joined_all, disturbed_at};
+ghost use Rattle.pim_world.specs.declared.touched.Touched.{Touched as TouchedValue};
+ghost use Rattle.pim_event.specs.Ends.{disturbed_by_end, end_moves_dr, ending_of, has_other_sources, keeps_group, touched_by_end, touched_by_neighbour, touched_by_source};
 ghost use Rattle.pim_tables.specs.Ends.{due_of};
 ghost use Rattle.pim_types.specs.Keys.{key_cmp};
 
 use crate::few::few_or_all;
 use crate::settle::settle;
 use pim_fanout::{Cache, Gathered};
-use pim_hello::{end_keeps_dr, keys_towards};
+use pim_hello::{end_keeps_dr, keys_of_end};
 use pim_messages::Outbox;
 use pim_types::{
     Emission, Fault, IfaceId, Key, Outcome, Series, SourceGroup, Timer, TimerKind, Verdict,
@@ -80,8 +81,8 @@ fn touched_by_source(world: &World, key: Key) -> Key
     }
 }
 
-// What the expiry of the neighbour with this key touches: what depends on the neighbour, or all where it changes
-// whether the router is the DR.
+// What the expiry of the neighbour with this key touches: what depends on the neighbour, and what asks whether the router
+// is the DR of its interface, where that changes.
 fn touched_by_neighbour(
     world: &World,
     turn: &Turn,
@@ -90,11 +91,26 @@ fn touched_by_neighbour(
 ) -> Result<Touched, AllocError>
     ensures { IfOk result (λ touched. touched ≡ touched_by_neighbour world.now key) }
 {
-    if end_keeps_dr(world, key) {
-        let keys = keys_towards(world, turn, meter, key.hop())?;
-        return Ok(few_or_all(keys));
+    let keys = keys_of_end(world, turn, meter, key)?;
+    Ok(few_or_all(keys))
+}
+
+// Whether the router becomes the DR of an interface by the expiry of the timer, or is no more.
+#[tactic(auto, unfolding(crate::specs::Ends::end_moves_dr))]
+fn end_moves_dr(world: &World, timer: Timer) -> bool
+    ensures { result ≡ end_moves_dr world.now timer.kind timer.key }
+{
+    match timer.kind {
+        TimerKind::Neighbour => !end_keeps_dr(world, timer.key),
+        _ => false,
     }
-    Ok(Touched::All)
+}
+
+// What the expiry of a timer disturbs: all sources where the router becomes the DR, or is no more; else what it touches.
+fn disturbed_where(moves_dr: bool, touched: Touched) -> Touched
+    ensures { result ≡ (if moves_dr then TouchedValue.All else touched) }
+{
+    if moves_dr { Touched::All } else { touched }
 }
 
 // The keys that the expiry of a timer touches.
@@ -181,6 +197,8 @@ fn fire_world(
     ensures draw { OnOk result (turn.new.draw ≡ turn.old.draw) }
     ensures fault { IsOkUnless result Fault.Memory }
 {
+    // For the proof: sources and registers are under keys of sources.
+    world.recall_keyed();
     let gathered = Gathered::of(world, turn.alloc, touched, meter)?;
     world.set_present(due.0);
     fired(world, turn, meter, due.1)?;
@@ -209,7 +227,7 @@ fn fire_once(
     ensures cache { OnOk result (CacheFollows world.old world.new
         (named_by world.old (own_firing world.old (ending_of due))) cache.old cache.new) }
     ensures disturbed { OnOk result (cache.new.disturbed
-        ≡ joined cache.old.disturbed (touched_by_end world.old due.1.kind due.1.key)) }
+        ≡ joined cache.old.disturbed (disturbed_by_end world.old due.1.kind due.1.key)) }
     ensures touched { OnOk result (touches cache.new ≡ raised (touches cache.old) (touches_in world.new
         (names_of world.old (own_firing world.old (ending_of due)) (touched_by_end world.old due.1.kind due.1.key)))) }
     ensures draw { OnOk result (turn.new.draw ≡ turn.old.draw) }
@@ -219,8 +237,9 @@ fn fire_once(
     world.interfaces().recall_few();
     turn.out = Outbox::new(turn.alloc);
     let touched = touched_by_end(world, turn, meter, due.1)?;
+    let moves_dr = end_moves_dr(world, due.1);
     let names = fire_world(world, turn, meter, due, &touched, emissions)?;
-    cache.refresh(world, meter, names, touched)?;
+    cache.refresh(world, meter, names, disturbed_where(moves_dr, touched))?;
     Ok(())
 }
 
@@ -244,7 +263,7 @@ fn fire_instant(
     ensures cache { OnOk result (CacheFollows world.old world.new
         (told_instant named_by turn.old.draw world.old (ending_of first)).1 cache.old cache.new) }
     ensures disturbed { OnOk result (cache.new.disturbed ≡ joined cache.old.disturbed
-        (joined_all (ended_instant touched_at turn.old.draw world.old (ending_of first)).1)) }
+        (joined_all (ended_instant disturbed_at turn.old.draw world.old (ending_of first)).1)) }
     ensures draw { OnOk result (turn.new.draw ≡ turn.old.draw) }
     ensures fault { IsOkUnless result Fault.Memory }
 {
@@ -274,7 +293,7 @@ fn fire_all(
     ensures cache { OnOk result (CacheFollows world.old world.new
         (told_all named_by turn.old.draw moment world.old).1 cache.old cache.new) }
     ensures disturbed { OnOk result (cache.new.disturbed ≡ joined cache.old.disturbed
-        (joined_all (ended_all touched_at turn.old.draw moment world.old).1)) }
+        (joined_all (ended_all disturbed_at turn.old.draw moment world.old).1)) }
     ensures fault { IsOkUnless result Fault.Memory }
 {
     'instants: while let Some(first) = next_due(world, moment) {
@@ -300,7 +319,7 @@ pub(crate) fn advance(
     ensures cache { OnOk result (CacheFollows world.old world.new
         (told_all named_by turn.old.draw moment world.old).1 cache.old cache.new) }
     ensures disturbed { OnOk result (cache.new.disturbed ≡ joined cache.old.disturbed
-        (joined_all (ended_all touched_at turn.old.draw moment world.old).1)) }
+        (joined_all (ended_all disturbed_at turn.old.draw moment world.old).1)) }
     ensures once { OnOk result (IsStrictlySortedBy key_cmp cache.new.changed) }
     ensures fault { IsOkUnless result Fault.Memory }
 {

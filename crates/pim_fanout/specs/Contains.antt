@@ -11,8 +11,7 @@ abbrev pub Moves : Touched → State → State → Type 0
 Moves Touched.All o a = ⊥
 Moves (Touched.Keys keys) o a = MovesAlone keys o a
 
--- A change of neighbours after which the router is the DR of the same interfaces moves what has facts under the touched
--- keys, and nothing else.
+-- A change of neighbours moves what has facts under the touched keys, and nothing else.
 abbrev pub Adjoins : Touched → State → State → Type 0
 Adjoins Touched.All o a = ⊥
 Adjoins (Touched.Keys keys) o a = AdjoinsAlone keys o a
@@ -22,7 +21,7 @@ Adjoins (Touched.Keys keys) o a = AdjoinsAlone keys o a
 abbrev pub CoversOrMoves : Touched → State → State → Type 0
 CoversOrMoves touched o a = Covers touched o a ⊎ Moves touched o a
 
--- The change concerns or moves no keys but the touched ones; or it is one of neighbours, leaves the
--- DRs, and moves no keys but the touched ones.
+-- The change concerns or moves no keys but the touched ones; or it is one of neighbours, and moves no keys but the touched
+-- ones.
 abbrev pub Contains : Touched → State → State → Type 0
 Contains touched o a = CoversOrMoves touched o a ⊎ Adjoins touched o a

@@ -1,6 +1,7 @@
 -- Two sights of one source, compared field by field. What is configured never changes, and isn't compared.
 use Rattle.std.specs.Prelude.{Bool, ◌&&◌, ◌==◌}
-use Rattle.pim_ifset.specs.Members.{Members}
+use Rattle.pim_ifset.specs.Members.{Members, has}
+use Rattle.pim_reach.specs.Named.{same_set}
 use Rattle.pim_model.specs.Rows.{same_both, same_path, same_register_state}
 use Rattle.pim_model.specs.Tables.{same_address, same_bool, same_hop}
 use Rattle.pim_macros.specs.declared.sight.SourceSight.{SourceSight}
@@ -11,6 +12,10 @@ use Rattle.pim_fanout.specs.declared.before.KnownSource.{KnownSource}
 abbrev pub same_members : Members → Members → Bool
 same_members s t = s.mask == t.mask
 
+-- Both pairs of sets have the same interfaces in common.
+abbrev pub same_common : Members → Members → Members → Members → Bool
+same_common s t u v = same_set (λ q. has s q && has t q) (λ q. has u q && has v q)
+
 unfoldable pub same_star_routes : StarSight → StarSight → Bool
 same_star_routes x y =
     same_address x.rp y.rp && same_both same_path x.rp_path y.rp_path && same_hop x.next_hop y.next_hop
@@ -19,7 +24,7 @@ same_star_routes x y =
 unfoldable pub same_star : StarSight → StarSight → Bool
 same_star x y =
     same_star_routes x y && same_members x.joined y.joined && same_members x.lost y.lost && same_members x.won y.won
-    && same_members x.receivers y.receivers && same_members x.dr y.dr
+    && same_members x.receivers y.receivers && same_common x.dr x.receivers y.dr y.receivers
 
 unfoldable pub same_routes : SourceSight → SourceSight → Bool
 same_routes x y =
@@ -34,7 +39,8 @@ same_asserts x y =
 unfoldable pub same_sight : SourceSight → SourceSight → Bool
 same_sight x y =
     same_asserts x y && same_members x.beaten y.beaten && same_members x.included y.included
-    && same_members x.excluded y.excluded && same_bool x.spt y.spt
+    && same_members x.excluded y.excluded
+    && same_common x.star.dr x.included y.star.dr y.included && same_bool x.spt y.spt
 
 unfoldable pub same_beside : KnownSource → KnownSource → Bool
 same_beside x y =

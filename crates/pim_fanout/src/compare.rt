@@ -1,6 +1,6 @@
 //! Two sights of one source, compared field by field. What is configured never changes, and isn't compared.
 ghost use Rattle.std.specs.Prelude.{◌≡◌};
-ghost use Rattle.pim_fanout.specs.Same.{same_asserts, same_beside, same_members, same_routes, same_sight, same_source, same_star, same_star_routes};
+ghost use Rattle.pim_fanout.specs.Same.{same_asserts, same_beside, same_common, same_members, same_routes, same_sight, same_source, same_star, same_star_routes};
 ghost use Rattle.pim_model.specs.Rows.{same_both, same_path, same_register_state};
 ghost use Rattle.pim_model.specs.Tables.{same_address};
 
@@ -60,6 +60,15 @@ fn is_same_set(before: IfSet, after: IfSet) -> bool
     before.minus(after).union(after.minus(before)).is_empty()
 }
 
+// Whether both pairs of sets have the same interfaces in common.
+fn has_same_common(before: IfSet, among: IfSet, after: IfSet, among_after: IfSet) -> bool
+    ensures { result ≡ same_common before among after among_after }
+{
+    let common = before.intersection(among).without_tunnel();
+    let common_after = after.intersection(among_after).without_tunnel();
+    is_same_set(common, common_after)
+}
+
 // Whether RP(G), the route to it and the neighbours there are the same.
 #[tactic(auto, unfolding(crate::specs::Same::same_star_routes))]
 fn has_same_star_routes(before: &StarSight, after: &StarSight) -> bool
@@ -71,7 +80,7 @@ fn has_same_star_routes(before: &StarSight, after: &StarSight) -> bool
         && is_same_hop(before.winner, after.winner)
 }
 
-// Whether the macros of (*,G) read the same.
+// Whether the macros of (*,G) read the same. Whether the router is the DR they read where a receiver of (*,G) is.
 #[tactic(auto, unfolding(crate::specs::Same::same_star))]
 fn is_same_star(before: &StarSight, after: &StarSight) -> bool
     ensures { result ≡ same_star before.now after.now }
@@ -81,7 +90,7 @@ fn is_same_star(before: &StarSight, after: &StarSight) -> bool
         && is_same_set(before.lost, after.lost)
         && is_same_set(before.won, after.won)
         && is_same_set(before.receivers, after.receivers)
-        && is_same_set(before.dr, after.dr)
+        && has_same_common(before.dr, before.receivers, after.dr, after.receivers)
 }
 
 // Whether what is read of the group, the route to S and the neighbours on it are the same.
@@ -108,7 +117,8 @@ fn has_same_asserts(before: &SourceSight, after: &SourceSight) -> bool
         && is_same_set(before.won, after.won)
 }
 
-// Whether the macros of (S,G) and of (S,G,rpt) read the same, but for KAT(S,G) and the register tunnel.
+// Whether the macros of (S,G) and of (S,G,rpt) read the same, but for KAT(S,G) and the register tunnel. Whether the router
+// is the DR they read where a receiver of (*,G) or of S is.
 #[tactic(auto, unfolding(crate::specs::Same::same_sight))]
 fn is_same_sight(before: &SourceSight, after: &SourceSight) -> bool
     ensures { result ≡ same_sight before.now after.now }
@@ -117,6 +127,12 @@ fn is_same_sight(before: &SourceSight, after: &SourceSight) -> bool
         && is_same_set(before.beaten, after.beaten)
         && is_same_set(before.included, after.included)
         && is_same_set(before.excluded, after.excluded)
+        && has_same_common(
+            before.star.dr,
+            before.included,
+            after.star.dr,
+            after.included,
+        )
         && before.spt == after.spt
 }
 

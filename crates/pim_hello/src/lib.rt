@@ -7,6 +7,7 @@ pub mod full;
 pub mod hello;
 pub mod hello_timers;
 mod restarted;
+mod served;
 pub mod towards;
 
 pub use election::{end_keeps_dr, hello_keeps_dr};
@@ -14,4 +15,4 @@ pub use full::is_full;
 pub use hello::{received, triggered_end};
 pub use hello_timers::fired;
 pub use restarted::asserts_lost_to;
-pub use towards::{keys_of_hello, keys_towards};
+pub use towards::{keys_of_end, keys_of_hello};

@@ -2,12 +2,14 @@
 //! the asserts that the router lost to it.
 ghost use Rattle.std.specs.List.{flat_map};
 ghost use Rattle.std.specs.Prelude.{◌≡◌, ◌++◌, IfOk, OnOk, filter, map};
-ghost use Rattle.pim_adjacent.specs.Adjacent.{keys_of_hello, keys_towards, leads_to, led_keys, led_of_group, may_lead};
+ghost use Rattle.pim_adjacent.specs.Adjacent.{keys_of_end, keys_of_hello, keys_of_neighbour, keys_towards, leads_to, led_keys, led_of_group, may_lead};
 ghost use Rattle.pim_model.specs.Unicast.{route, rp_route};
 ghost use Rattle.pim_types.specs.Keys.{source_key};
 ghost use Rattle.pim_world.specs.Groups.{numbers_of};
 
+use crate::election::{end_keeps_dr, hello_keeps_dr};
 use crate::restarted::asserts_lost_to;
+use crate::served::put_keys_of_dr;
 use pim_adjacent::laws::leads_nowhere;
 use pim_types::{Addr, Hop, IfaceId, Key, Path, SourceGroup};
 use pim_wire::{DEFAULT_HOLDTIME, Hello};
@@ -135,9 +137,9 @@ fn keys_by_paths(
     keys_of_groups(world, alloc, meter, neighbour, &groups)
 }
 
-/// The keys with facts of what depends on the neighbour. The meter rises by the nodes visited.
+// The keys with facts of what depends on the neighbour.
 #[tactic(auto, unfolding(pim_adjacent::specs::Adjacent::keys_towards))]
-pub fn keys_towards(
+fn keys_towards(
     world: &World,
     turn: &Turn,
     meter: &mut Meter,
@@ -152,10 +154,33 @@ pub fn keys_towards(
     Ok(keys)
 }
 
-/// The keys of what a Hello moves that doesn't change whether the router is the DR. For a neighbour that stays they are
-/// the asserts that the router lost to it, which are removed where it restarted; for one that comes or goes they are
-/// all that depends on it. The meter rises by the nodes visited.
-#[tactic(auto, unfolding(pim_adjacent::specs::Adjacent::keys_of_hello))]
+// The keys of what a Hello moves but for what asks for the DR. For a neighbour that stays they are the asserts that the
+// router lost to it, which are removed where it restarted; for one that comes or goes they are all that depends on it.
+#[tactic(auto, unfolding(pim_adjacent::specs::Adjacent::keys_of_neighbour))]
+fn keys_of_neighbour(
+    world: &World,
+    turn: &Turn,
+    meter: &mut Meter,
+    iface: IfaceId,
+    from: Addr,
+    hello: &Hello,
+) -> Result<Vec<Key>, AllocError>
+    ensures { IfOk result (λ keys. keys.items
+        ≡ keys_of_neighbour world.now iface.number from.bits hello.now) }
+{
+    let neighbour = Hop {
+        iface,
+        address: from,
+    };
+    let lasts = hello.holdtime.unwrap_or(DEFAULT_HOLDTIME) != 0;
+    if world.neighbours().contains(iface, from) && lasts {
+        return asserts_lost_to(world, turn, neighbour);
+    }
+    keys_towards(world, turn, meter, neighbour)
+}
+
+/// The keys of what a Hello moves: what depends on its neighbour, and what asks whether the router is the DR of the
+/// interface, where that changes. The meter rises by the nodes visited.
 pub fn keys_of_hello(
     world: &World,
     turn: &Turn,
@@ -167,13 +192,28 @@ pub fn keys_of_hello(
     ensures { IfOk result (λ keys. keys.items
         ≡ keys_of_hello world.now iface.number from.bits hello.now) }
 {
-    let neighbour = Hop {
-        iface,
-        address: from,
-    };
-    let lasts = hello.holdtime.unwrap_or(DEFAULT_HOLDTIME) != 0;
-    if world.neighbours().contains(iface, from) && lasts {
-        return asserts_lost_to(world, turn, neighbour);
+    let mut keys = keys_of_neighbour(world, turn, meter, iface, from, hello)?;
+    if hello_keeps_dr(world, iface, from, hello) {
+        return Ok(keys);
     }
-    keys_towards(world, turn, meter, neighbour)
+    put_keys_of_dr(world, turn, meter, iface, &mut keys)?;
+    Ok(keys)
+}
+
+/// The keys of what the expiry of the neighbour with this key moves: what depends on it, and what asks whether the router
+/// is the DR of its interface, where that changes. The meter rises by the nodes visited.
+pub fn keys_of_end(
+    world: &World,
+    turn: &Turn,
+    meter: &mut Meter,
+    key: Key,
+) -> Result<Vec<Key>, AllocError>
+    ensures { IfOk result (λ keys. keys.items ≡ keys_of_end world.now key) }
+{
+    let mut keys = keys_towards(world, turn, meter, key.hop())?;
+    if end_keeps_dr(world, key) {
+        return Ok(keys);
+    }
+    put_keys_of_dr(world, turn, meter, key.iface, &mut keys)?;
+    Ok(keys)
 }

@@ -1,6 +1,6 @@
 -- A source that isn't named keeps its answers: each macro is its own body, with the laws of its parts. A set is the
 -- same on the interfaces that can be configured.
-use Rattle.std.proofs.Common.{◌≡◌, ◌==◌, ℕ, zero, suc, ◌+◌, ◌<◌, ◌≤◌, Bool, true, false, not, ◌&&◌, ◌||◌, cond, nat_lt, length, Option, Some, None, option_map, refl, ap, ◌∙◌, arith, eqb-true, subst}
+use Rattle.std.proofs.Common.{◌≡◌, ◌==◌, ℕ, zero, suc, ◌+◌, ◌<◌, ◌≤◌, Bool, true, false, not, ◌&&◌, ◌||◌, cond, nat_lt, length, Option, Some, None, option_map, refl, ap, sym, ◌∙◌, arith, eqb-true, subst}
 use Rattle.std.proofs.lemmas.Bool.Decides.{nat_tests}
 use Rattle.std.specs.Cmp.{first_so, second_so}
 use Rattle.std.specs.List.{list_all, list_any, range_with_len}
@@ -16,7 +16,7 @@ use Rattle.pim_model.specs.Desires.{is_immediate_empty, is_inherited_empty, join
 use Rattle.pim_model.specs.Forwarding.{has_local_receivers}
 use Rattle.pim_model.specs.Limits.{most_ifaces}
 use Rattle.pim_model.specs.Neighbours.{is_dr, nbr}
-use Rattle.pim_model.specs.Receivers.{is_exclude, local_receiver_exclude, local_receiver_include}
+use Rattle.pim_model.specs.Receivers.{is_exclude, local_receiver_exclude, local_receiver_exclude_among, local_receiver_include}
 use Rattle.pim_model.specs.Registers.{could_register}
 use Rattle.pim_model.specs.Rows.{same_both, same_path, same_register_state}
 use Rattle.pim_model.specs.Sets.{Set, assert_source, assert_star, immediate_olist, immediate_olist_star, inherited_olist, inherited_olist_rpt, is_beaten, is_empty, is_loser, is_winner, joins, joins_star, lost_assert, lost_assert_rpt, lost_assert_star, pim_exclude, pim_include, pim_include_star, prunes, register_state, route_metric, rpt_metric, serves, serves_star, spt_bit, spt_metric, tunnel}
@@ -79,12 +79,12 @@ record SameStar (g : ℕ) (o a : State) : Type 0 where
   losers : (i : ℕ) → Low i → is_loser (assert_star o g i) ≡ is_loser (assert_star a g i)
   winners : (i : ℕ) → Low i → is_winner (assert_star o g i) ≡ is_winner (assert_star a g i)
   receivers : (i : ℕ) → Low i → is_exclude o g i ≡ is_exclude a g i
-  dr : (i : ℕ) → Low i → is_dr o i ≡ is_dr a i
+  serving : (i : ℕ) → Low i → (is_dr o i && is_exclude o g i) ≡ (is_dr a i && is_exclude a g i)
 
 same_star : (g : ℕ) (o a : State) → is_same_star g o a ≡ true → SameStar g o a
 unfolding is_same_star
 same_star g o a e =
-    let e8 : _ = first_so _ (same_set (is_dr o) (is_dr a)) e in
+    let e8 : _ = first_so _ (same_set (λ i. is_dr o i && is_exclude o g i) (λ i. is_dr a i && is_exclude a g i)) e in
     let e7 : _ = first_so _ (same_set (is_exclude o g) (is_exclude a g)) e8 in
     let e6 : _ = first_so _ (same_set (λ i. is_winner (assert_star o g i)) (λ i. is_winner (assert_star a g i))) e7 in
     let e5 : _ = first_so _ (same_set (λ i. is_loser (assert_star o g i)) (λ i. is_loser (assert_star a g i))) e6 in
@@ -100,7 +100,7 @@ same_star g o a e =
       losers = set_at _ _ (second_so _ _ e6);
       winners = set_at _ _ (second_so _ _ e7);
       receivers = set_at _ _ (second_so _ _ e8);
-      dr = set_at _ _ (second_so _ _ e);
+      serving = set_at _ _ (second_so _ _ e);
     }
 
 record SameSource (g src : ℕ) (o a : State) : Type 0 where
@@ -118,12 +118,15 @@ record SameSource (g src : ℕ) (o a : State) : Type 0 where
   beaten : (i : ℕ) → Low i → is_beaten o g src i ≡ is_beaten a g src i
   included : (i : ℕ) → Low i → local_receiver_include o g src i ≡ local_receiver_include a g src i
   excluded : (i : ℕ) → Low i → local_receiver_exclude o g src i ≡ local_receiver_exclude a g src i
+  serving : (i : ℕ) → Low i
+      → (is_dr o i && local_receiver_include o g src i) ≡ (is_dr a i && local_receiver_include a g src i)
   spt : spt_bit o g src ≡ spt_bit a g src
 
 same_source : (g src : ℕ) (o a : State) → is_same_sight g src o a ≡ true → SameSource g src o a
 unfolding is_same_sight
 same_source g src o a e =
-    let e12 : _ = first_so _ (same_bool (spt_bit o g src) (spt_bit a g src)) e in
+    let e13 : _ = first_so _ (same_bool (spt_bit o g src) (spt_bit a g src)) e in
+    let e12 : _ = first_so _ (same_set (λ i. is_dr o i && local_receiver_include o g src i) (λ i. is_dr a i && local_receiver_include a g src i)) e13 in
     let e11 : _ = first_so _ (same_set (local_receiver_exclude o g src) (local_receiver_exclude a g src)) e12 in
     let e10 : _ = first_so _ (same_set (local_receiver_include o g src) (local_receiver_include a g src)) e11 in
     let e9 : _ = first_so _ (same_set (is_beaten o g src) (is_beaten a g src)) e10 in
@@ -147,8 +150,38 @@ same_source g src o a e =
       beaten = set_at _ _ (second_so _ _ e10);
       included = set_at _ _ (second_so _ _ e11);
       excluded = set_at _ _ (second_so _ _ e12);
+      serving = set_at _ _ (second_so _ _ e13);
       spt = flags _ _ (second_so _ _ e);
     }
+
+-- ---- where the router serves receivers
+
+no_matter : (b : Bool) → (b && false) ≡ false
+no_matter true = refl
+no_matter false = refl
+
+-- what is asked of the DR where there are receivers is the same
+pub served : (d e l w x : Bool) → (d && x) ≡ (e && x) → (((d && l) || w) && x) ≡ (((e && l) || w) && x)
+served true true l w x same = refl
+served false false l w x same = refl
+served true false l w true same = cc
+served false true l w true same = cc
+served true false l w false same = no_matter ((true && l) || w) ∙ sym (no_matter ((false && l) || w))
+served false true l w false same = no_matter ((false && l) || w) ∙ sym (no_matter ((true && l) || w))
+
+pub tracked : (d e w x : Bool) → (d && x) ≡ (e && x) → (x && (d || w)) ≡ (x && (e || w))
+tracked d e w false same = refl
+tracked true true w true same = refl
+tracked false false w true same = refl
+tracked true false w true same = cc
+tracked false true w true same = cc
+
+pub narrower : (d e x z : Bool) → (d && x) ≡ (e && x) → (d && (x && z)) ≡ (e && (x && z))
+narrower d e false z same = no_matter d ∙ sym (no_matter e)
+narrower true true true z same = refl
+narrower false false true z same = refl
+narrower true false true z same = cc
+narrower false true true z same = cc
 
 -- ---- (*,G)
 
@@ -178,13 +211,22 @@ module _ (g : ℕ) (o a : State) (config : IsConfigured o a) (few : length o.con
     unfolding lost_assert_star
     lost_star_at i low = λ j. not (rp_at i j) && same.losers i low j
 
-    serves_star_at : (i : ℕ) → Low i → serves_star o g i ≡ serves_star a g i
+    star_dr_at : (i : ℕ) → Low i → (is_dr o i && is_exclude a g i) ≡ (is_dr a i && is_exclude a g i)
+    star_dr_at i low = (λ j. is_dr o i && sym (same.receivers i low) j) ∙ same.serving i low
+
+    -- among receivers of a part of those of (*,G)
+    serves_star_at : (i : ℕ) → Low i → (x : Bool) → (is_dr o i && x) ≡ (is_dr a i && x)
+        → (serves_star o g i && x) ≡ (serves_star a g i && x)
     unfolding serves_star
-    serves_star_at i low = λ j. (same.dr i low j && not (lost_star_at i low j)) || same.winners i low j
+    serves_star_at i low x here =
+        (λ j. ((is_dr o i && not (lost_star_at i low j)) || same.winners i low j) && x)
+        ∙ served (is_dr o i) (is_dr a i) (not (lost_assert_star a g i)) (is_winner (assert_star a g i)) x here
 
     include_star_at : (i : ℕ) → Low i → pim_include_star o g i ≡ pim_include_star a g i
     unfolding pim_include_star
-    include_star_at i low = λ j. serves_star_at i low j && same.receivers i low j
+    include_star_at i low =
+        (λ j. serves_star o g i && same.receivers i low j)
+        ∙ serves_star_at i low (is_exclude a g i) (star_dr_at i low)
 
     immediate_star_at : (i : ℕ) → Low i → immediate_olist_star o g i ≡ immediate_olist_star a g i
     unfolding immediate_olist_star
@@ -208,12 +250,17 @@ module _ (g : ℕ) (o a : State) (config : IsConfigured o a) (few : length o.con
     unfolding could_assert_star
     could_star_at i low = λ j. (same.joined i low j || include_star_at i low j) && not (rp_at i j)
 
+    asked_star_at : (i : ℕ) → Low i
+        → (is_exclude o g i && (is_dr o i || is_winner (assert_star o g i)))
+        ≡ (is_exclude a g i && (is_dr a i || is_winner (assert_star a g i)))
+    asked_star_at i low =
+        (λ j. same.receivers i low j && (is_dr o i || same.winners i low j))
+        ∙ tracked (is_dr o i) (is_dr a i) (is_winner (assert_star a g i)) (is_exclude a g i) (star_dr_at i low)
+
     tracking_star_at : (i : ℕ) → Low i → is_tracking_desired_star o g i ≡ is_tracking_desired_star a g i
     unfolding is_tracking_desired_star
     tracking_star_at i low = λ j.
-        could_star_at i low j
-        || (same.receivers i low j && (same.dr i low j || same.winners i low j))
-        || (rp_at i j && desired_star_same j)
+        could_star_at i low j || asked_star_at i low j || (rp_at i j && desired_star_same j)
 
     metric_star_at : (i : ℕ) → Low i → my_metric_star o g i ≡ my_metric_star a g i
     unfolding my_metric_star
@@ -254,17 +301,27 @@ module _ (g : ℕ) (o a : State) (config : IsConfigured o a) (few : length o.con
     unfolding lost_assert_rpt
     lost_rpt_at i low = λ j. not (rp_at star i j || (rpf_at i j && sees.spt j)) && sees.losers i low j
 
-    serves_at : (i : ℕ) → Low i → serves o g src i ≡ serves a g src i
-    unfolding serves
-    serves_at i low = λ j. (star.dr i low j && not (lost_at i low j)) || sees.winners i low j
+    dr_at : (i : ℕ) → Low i
+        → (is_dr o i && local_receiver_include a g src i) ≡ (is_dr a i && local_receiver_include a g src i)
+    dr_at i low = (λ j. is_dr o i && sym (sees.included i low) j) ∙ sees.serving i low
+
+    excluded_dr_at : (i : ℕ) → Low i
+        → (is_dr o i && local_receiver_exclude a g src i) ≡ (is_dr a i && local_receiver_exclude a g src i)
+    unfolding is_exclude local_receiver_exclude local_receiver_exclude_among
+    excluded_dr_at i low = narrower (is_dr o i) (is_dr a i) (is_exclude a g i) _ (star_dr_at star i low)
 
     include_at : (i : ℕ) → Low i → pim_include o g src i ≡ pim_include a g src i
-    unfolding pim_include
-    include_at i low = λ j. serves_at i low j && sees.included i low j
+    unfolding pim_include serves
+    include_at i low =
+        (λ j. ((is_dr o i && not (lost_at i low j)) || sees.winners i low j) && sees.included i low j)
+        ∙ served (is_dr o i) (is_dr a i) (not (lost_assert a g src i)) (is_winner (assert_source a g src i))
+        (local_receiver_include a g src i) (dr_at i low)
 
     exclude_at : (i : ℕ) → Low i → pim_exclude o g src i ≡ pim_exclude a g src i
     unfolding pim_exclude
-    exclude_at i low = λ j. serves_star_at star i low j && sees.excluded i low j
+    exclude_at i low =
+        (λ j. serves_star o g i && sees.excluded i low j)
+        ∙ serves_star_at star i low (local_receiver_exclude a g src i) (excluded_dr_at i low)
 
     immediate_at : (i : ℕ) → Low i → immediate_olist o g src i ≡ immediate_olist a g src i
     unfolding immediate_olist
@@ -328,11 +385,19 @@ module _ (g : ℕ) (o a : State) (config : IsConfigured o a) (few : length o.con
     unfolding could_assert
     could_at i low = λ j. sees.spt j && not (rpf_at i j) && (forwarding_at i low j || include_at i low j)
 
+    asked_at : (i : ℕ) → Low i
+        → (local_receiver_include o g src i && (is_dr o i || is_winner (assert_source o g src i)))
+        ≡ (local_receiver_include a g src i && (is_dr a i || is_winner (assert_source a g src i)))
+    asked_at i low =
+        (λ j. sees.included i low j && (is_dr o i || sees.winners i low j))
+        ∙ tracked (is_dr o i) (is_dr a i) (is_winner (assert_source a g src i)) (local_receiver_include a g src i)
+        (dr_at i low)
+
     tracking_at : (i : ℕ) → Low i → is_tracking_desired o g src i ≡ is_tracking_desired a g src i
     unfolding is_tracking_desired
     tracking_at i low = λ j.
         forwarding_at i low j
-        || (sees.included i low j && (star.dr i low j || sees.winners i low j))
+        || asked_at i low j
         || (rpf_at i j && desired j)
         || (rp_at star i j && desired_star_same star j && not (sees.spt j))
 

@@ -66,7 +66,7 @@ star_sight g o a same =
     (sets_same _ _ same.losers))
     (sets_same _ _ same.winners))
     (sets_same _ _ (λ i. ap (λ (f : Set). f i) same.excluding)))
-    (sets_same _ _ (λ i. ap (λ (f : Set). f i) same.dr))
+    (sets_same _ _ (λ i j. same.dr j i && same.excluding j i))
 
 module _ (g src : ℕ) (o a : State) (sees : SeesSource g src o a) where
   beaten_same : (i : ℕ) → is_beaten o g src i ≡ is_beaten a g src i
@@ -84,7 +84,7 @@ module _ (g src : ℕ) (o a : State) (sees : SeesSource g src o a) where
   unfolding is_same_sight
   source_sight =
       both_true (both_true (both_true (both_true (both_true (both_true (both_true (both_true (both_true (both_true
-      (both_true (both_true
+      (both_true (both_true (both_true
       (star_sight g o a sees.star)
       (paths_same _ _ sees.path))
       (hops_same _ _ sees.nbr))
@@ -99,6 +99,7 @@ module _ (g src : ℕ) (o a : State) (sees : SeesSource g src o a) where
       (sets_same _ _ beaten_same))
       (sets_same _ _ (λ i. ap (λ (f : Set). f i) (local_include_same g src o a sees))))
       (sets_same _ _ excluded_same))
+      (sets_same _ _ (λ i j. sees.star.dr j i && local_include_same g src o a sees j i)))
       (flags_same _ _ sees.spt)
 
   can_same : may_register o g src ≡ may_register a g src

@@ -33,7 +33,7 @@ same_set a b = list_all (λ i. same_bool (a i) (b i)) (below most_ifaces)
 abbrev pub IsMask : ℕ → Set → Type 0
 IsMask mask test = (i : ℕ) → (bit_at mask i == 1) ≡ (nat_lt i most_ifaces && test i)
 
--- The macros of (*,G) read the same in both states.
+-- The macros of (*,G) read the same in both states. Whether the router is the DR they read where a receiver of (*,G) is.
 unfoldable pub is_same_star : ℕ → State → State → Bool
 is_same_star g o a =
     same_option (rp_of o g) (rp_of a g)
@@ -45,10 +45,10 @@ is_same_star g o a =
     && same_set (λ i. is_loser (assert_star o g i)) (λ i. is_loser (assert_star a g i))
     && same_set (λ i. is_winner (assert_star o g i)) (λ i. is_winner (assert_star a g i))
     && same_set (is_exclude o g) (is_exclude a g)
-    && same_set (is_dr o) (is_dr a)
+    && same_set (λ i. is_dr o i && is_exclude o g i) (λ i. is_dr a i && is_exclude a g i)
 
 -- The macros of (S,G) and of (S,G,rpt) read the same in both states, but for the keepalive timer and the register
--- tunnel.
+-- tunnel. Whether the router is the DR they read where a receiver of (*,G) or of S is.
 unfoldable pub is_same_sight : ℕ → ℕ → State → State → Bool
 is_same_sight g src o a =
     is_same_star g o a
@@ -65,6 +65,7 @@ is_same_sight g src o a =
     && same_set (is_beaten o g src) (is_beaten a g src)
     && same_set (local_receiver_include o g src) (local_receiver_include a g src)
     && same_set (local_receiver_exclude o g src) (local_receiver_exclude a g src)
+    && same_set (λ i. is_dr o i && local_receiver_include o g src i) (λ i. is_dr a i && local_receiver_include a g src i)
     && same_bool (spt_bit o g src) (spt_bit a g src)
 
 -- ---- named sources

@@ -31,7 +31,7 @@ returns-clause-cache c = record {
       c.interfaces.ensures c.recall_few.ensures c.in_ok-outcome.ensures.state c.args.cache.now.disturbed
       c.refresh.new.self.disturbed (c.in_ok-refresh.ensures.disturbed
       ∙ ap (λ (t : Touched). joined c.args.cache.now.disturbed t) (c.disturbed_where.ensures
-      ∙ ap (λ (b : Bool). if b then Touched.All else c.args.plan.touched) c.is_rerouting-reroutes.ensures))
+      ∙ ap (λ (b : Bool). if b then Touched.All else c.args.plan.touched) c.moves_all-moves.ensures))
       stays;
 }
 
@@ -42,7 +42,7 @@ returns-clause-disturbed c =
     c.refresh.new.self.disturbed c.requires.plan.touches
     (c.in_ok-refresh.ensures.disturbed
     ∙ ap (λ (t : Touched). joined c.args.cache.now.disturbed t) (c.disturbed_where.ensures
-    ∙ ap (λ (b : Bool). if b then Touched.All else c.args.plan.touched) c.is_rerouting-reroutes.ensures))
+    ∙ ap (λ (b : Bool). if b then Touched.All else c.args.plan.touched) c.moves_all-moves.ensures))
 
 pub returns-clause-once : goal.returns-clause-once
 returns-clause-once c =

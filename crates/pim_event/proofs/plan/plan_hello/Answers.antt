@@ -11,7 +11,7 @@ use Rattle.pim_world.specs.declared.touched.Touched.{Touched}
 use Rattle.pim_event.specs.Planning.{touched_of}
 use Rattle.pim_event.specs.declared.act.Act.{Act}
 use Rattle.pim_event.specs.declared.act.Control.{Control}
-use Rattle.pim_event.proofs.Plans.{adjoins_fit, all_fit, all_where, keys_fit, keys_where, touched_where}
+use Rattle.pim_event.proofs.Plans.{adjoins_fit, else_where, keys_fit, keys_where}
 use Rattle.pim_event.proofs.Touching.{hello_moves, refreshed_covered}
 use Rattle.pim_event.proofs.plan.plan_hello.Goals as goal
 
@@ -32,29 +32,16 @@ returns-then-is_refreshed c =
     (refreshed_covered c.args.world.now c.args.iface c.args.from c.args.hello [] c.is_refreshed.result
     c.requires.settled.ordered.neighbours tested c.if-is_refreshed.true refl)
 
-pub returns-then-hello_keeps_dr : goal.returns-then-hello_keeps_dr
-unfolding is_full touched_of
-returns-then-hello_keeps_dr c =
-    let tested = c.is_refreshed.ensures
-    ∙ ap (λ (t : Table NeighbourRow). is_refreshed t c.args.iface.number c.args.from.bits c.args.hello)
-    c.neighbours.ensures in
-    let keeps = sym c.hello_keeps_dr.ensures ∙ c.if-hello_keeps_dr.true in
-    let s = c.args.world.now in
-    let keys = keys_of_hello s c.args.iface.number c.args.from.bits c.args.hello in
-    adjoins_fit s (Act.Control (Control.Hello c.args.iface c.args.from c.args.hello)) keys c.few_or_all-touched.result tt
-    (c.few_or_all-touched.ensures ∙ ap (λ (ks : List Key). few_or_all ks) c.in_ok-keys_of_hello.ensures)
-    (touched_where _ _ (few_or_all keys) _ (Touched.Keys []) (sym tested ∙ c.if-is_refreshed.false) keeps refl)
-    (sym c.is_full.ensures ∙ c.if-is_full.false)
-    (hello_moves s c.args.iface c.args.from c.args.hello keeps)
-
 pub returns : goal.returns
 unfolding is_full touched_of
 returns c =
     let tested = c.is_refreshed.ensures
     ∙ ap (λ (t : Table NeighbourRow). is_refreshed t c.args.iface.number c.args.from.bits c.args.hello)
     c.neighbours.ensures in
-    all_fit c.args.world.now (Accepted.Hello c.args.iface c.args.from c.args.hello) c.of_all.result
-    (Act.Control (Control.Hello c.args.iface c.args.from c.args.hello)) refl tt
-    (sym c.is_full.ensures ∙ c.if-is_full.false) c.of_all.ensures
-    (all_where _ _ (Touched.Keys []) _ (sym tested ∙ c.if-is_refreshed.false)
-    (sym c.hello_keeps_dr.ensures ∙ c.if-hello_keeps_dr.false)) tt
+    let s = c.args.world.now in
+    let keys = keys_of_hello s c.args.iface.number c.args.from.bits c.args.hello in
+    adjoins_fit s (Act.Control (Control.Hello c.args.iface c.args.from c.args.hello)) keys c.few_or_all-touched.result tt
+    (c.few_or_all-touched.ensures ∙ ap (λ (ks : List Key). few_or_all ks) c.in_ok-keys_of_hello.ensures)
+    (else_where _ (Touched.Keys []) (few_or_all keys) (sym tested ∙ c.if-is_refreshed.false))
+    (sym c.is_full.ensures ∙ c.if-is_full.false)
+    (hello_moves s c.args.iface c.args.from c.args.hello c.recall_keyed.ensures)

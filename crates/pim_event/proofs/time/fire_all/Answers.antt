@@ -3,7 +3,7 @@ use Rattle.pim_fanout.specs.Refreshing.{touches}
 use Rattle.pim_model.specs.Reach.{told_instant}
 use Rattle.pim_reach.specs.Named.{named_by}
 use Rattle.pim_fanout.specs.Disturbed.{joined}
-use Rattle.pim_event.specs.Disturbing.{ended_instant, joined_all, touched_at}
+use Rattle.pim_event.specs.Disturbing.{ended_instant, joined_all, disturbed_at}
 use Rattle.pim_event.proofs.Disturbing.{all_disturbed, all_disturbs_none, instant_disturbs}
 use Rattle.pim_event.proofs.Firings.{all_cost, all_costs_none, all_ended_silently, all_silent, instant_costs}
 use Rattle.pim_event.proofs.Listing.{all_listed, all_lists_none, instant_lists}
@@ -78,7 +78,7 @@ instants-preserved c = (
       (c.in_ok-fire_instant.ensures.state
       ∙ ap (λ w. (fire_instant w c.instants.world (ending_of c.in-Some.first)).0) c.instants.invariant.1)
       (subst (λ w. c.fire_instant.new.cache.disturbed ≡ joined c.instants.cache.disturbed
-      (joined_all (ended_instant touched_at w c.instants.world (ending_of c.in-Some.first)).1))
+      (joined_all (ended_instant disturbed_at w c.instants.world (ending_of c.in-Some.first)).1))
       c.instants.invariant.1 c.in_ok-fire_instant.ensures.disturbed) c.instants.invariant.6,
 )
 
@@ -98,7 +98,7 @@ pub returns-clause-disturbed : goal.returns-clause-disturbed
 returns-clause-disturbed c =
     all_disturbed c.args.turn.now.draw c.args.moment c.args.world.now c.args.cache.now.disturbed c.instants.world
     c.instants.cache.disturbed
-    (all_ended_silently touched_at c.args.turn.now.draw c.args.moment c.instants.world
+    (all_ended_silently disturbed_at c.args.turn.now.draw c.args.moment c.instants.world
     (none_told (next_due c.args.moment c.instants.world) (sym c.next_due.ensures ∙ c.in_default.is)))
     c.instants.invariant.6
 

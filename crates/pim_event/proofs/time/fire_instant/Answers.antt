@@ -10,7 +10,7 @@ use Rattle.pim_model.specs.Firing.{fire_once}
 use Rattle.pim_model.specs.Timers.{next_due}
 use Rattle.pim_event.proofs.Instants.{ending_told, fewer_after, firing_follows, instant_begins, instant_ends, none_told}
 use Rattle.pim_event.proofs.time.fire_instant.Goals as goal
-use Rattle.pim_event.specs.Disturbing.{touched_at}
+use Rattle.pim_event.specs.Disturbing.{disturbed_at}
 use Rattle.pim_event.specs.Ends.{ending_of}
 
 pub firings-init : goal.firings-init
@@ -88,7 +88,7 @@ pub returns-clause-disturbed : goal.returns-clause-disturbed
 returns-clause-disturbed c =
     instant_disturbed c.args.turn.now.draw c.args.world.now (ending_of c.args.first) c.args.cache.now.disturbed
     c.firings.world c.firings.cache.disturbed
-    (instant_ended_silently touched_at c.args.turn.now.draw c.firings.world (ending_of c.args.first)
+    (instant_ended_silently disturbed_at c.args.turn.now.draw c.firings.world (ending_of c.args.first)
     (none_told (next_due c.args.first.0 c.firings.world) (sym c.next_due.ensures ∙ c.in_default.is)))
     c.firings.invariant.6
 

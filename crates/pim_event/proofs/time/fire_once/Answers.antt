@@ -1,4 +1,5 @@
 use Rattle.std.proofs.Common.{ap, ◌∙◌}
+use Rattle.std.specs.Prelude.{if◌then◌else◌}
 use Rattle.pim_model.specs.Firing.{fire_once}
 use Rattle.pim_model.specs.Reach.{own_firing}
 use Rattle.pim_world.specs.Turns.{Taking}
@@ -34,15 +35,18 @@ returns-clause-cache c = record {
       c.requires.quiet c.interfaces.result.now c.interfaces.ensures c.recall_few.ensures
       (c.in_ok-names.ensures.state ∙ ap (λ w. (fire_once w c.args.world.now (ending_of c.args.due)).0)
       (ap (λ (t : Taking). t.draw) c.turn.view_is))
-      c.args.cache.now.disturbed c.refresh.new.self.disturbed
-      (c.in_ok-refresh.ensures.disturbed ∙ ap (λ (t : Touched). joined c.args.cache.now.disturbed t) c.in_ok-touched.ensures)
+      c.end_moves_dr-moves_dr.result c.end_moves_dr-moves_dr.ensures c.args.cache.now.disturbed c.refresh.new.self.disturbed
+      (c.in_ok-refresh.ensures.disturbed
+      ∙ ap (λ (t : Touched). joined c.args.cache.now.disturbed t) (c.disturbed_where.ensures
+      ∙ ap (λ (t : Touched). if c.end_moves_dr-moves_dr.result then Touched.All else t) c.in_ok-touched.ensures))
       stays;
 }
 
 pub returns-clause-disturbed : goal.returns-clause-disturbed
 returns-clause-disturbed c =
     c.in_ok-refresh.ensures.disturbed
-    ∙ ap (λ (t : Touched). joined c.args.cache.now.disturbed t) c.in_ok-touched.ensures
+    ∙ ap (λ (t : Touched). joined c.args.cache.now.disturbed t) (c.disturbed_where.ensures
+    ∙ (λ j. if c.end_moves_dr-moves_dr.ensures j then Touched.All else c.in_ok-touched.ensures j))
 
 pub returns-clause-touched : goal.returns-clause-touched
 returns-clause-touched c =

@@ -1,0 +1,13 @@
+use Rattle.std.proofs.Common.{◌≡◌, ◌++◌, filter, map}
+use Rattle.pim_types.specs.Keys.{source_key}
+use Rattle.pim_model.specs.Unicast.{route}
+use Rattle.pim_adjacent.specs.Adjacent.{is_linked}
+use Rattle.pim_world.specs.Groups.{numbers_of}
+use Rattle.pim_hello.proofs.served.put_linked.Given as goal
+
+abbrev pub invariant-loop-source : goal.invariant-loop-source
+invariant-loop-source l =
+    l.keys.items ++ map (source_key 0 l.group.bits)
+    (filter (λ src. is_linked l.iface.number (route l.world src)) (numbers_of l.source-iterator))
+    ≡ l.fn.keys.items ++ map (source_key 0 l.group.bits)
+    (filter (λ src. is_linked l.iface.number (route l.world src)) (numbers_of l.fn.sources.entries))
