@@ -23,6 +23,7 @@ mod Sending
 pub mod Staying
 mod Settling
 mod Serving
+mod SightStays
 mod SourceEnds
 mod Stopped
 pub mod Taking

@@ -1,23 +1,25 @@
 //! One event: its tests, its change where there is room for its facts, and what follows of the change.
 ghost use Rattle.std.specs.List.Sorted.{IsStrictlySortedBy};
-ghost use Rattle.std.specs.Prelude.{◌≡◌, ◌<◌, [], IfOk, IsOk, IsOkUnless, IsTrue, Ok, OnOk, false, if◌then◌else◌, not, true};
+ghost use Rattle.std.specs.Prelude.{◌≡◌, ◌<◌, [], IfOk, IfSome, IsOk, IsOkUnless, IsTrue, Ok, OnOk, false, if◌then◌else◌, not, true};
 ghost use Rattle.pim_fanout.specs.Disturbed.{joined};
 ghost use Rattle.pim_fanout.specs.Laws.{names_of};
 ghost use Rattle.pim_fanout.specs.Refreshing.{touches, touches_in};
 ghost use Rattle.pim_fanout.specs.Named.{keys_of};
 ghost use Rattle.pim_ip.specs.declared.fault.Fault.{Fault};
 ghost use Rattle.pim_locality.specs.Rest.{IsAtRest};
+ghost use Rattle.pim_macros.specs.Sights.{IsSourceSight};
 ghost use Rattle.pim_mfc.specs.Laws.{ShowsRows};
 ghost use Rattle.pim_model.specs.Cache.{cached};
 ghost use Rattle.pim_model.specs.declared.accepted.Accepted.{Accepted};
 ghost use Rattle.pim_model.specs.Reach.{where_accepted};
+ghost use Rattle.pim_model.specs.State.{State};
 ghost use Rattle.pim_model.specs.Step.{change, outcome_of, step, taken, taken_unless_full};
 ghost use Rattle.pim_model.specs.Sure.{needs_no_memory};
 ghost use Rattle.pim_reach.specs.Named.{named_of};
 ghost use Rattle.pim_mfc.specs.Kept.{ForwardsAs, decided};
 ghost use Rattle.pim_model.specs.Plain.{IsPlainEvent, fact_key};
 ghost use Rattle.pim_model.specs.Tables.{has_row, same_bool};
-ghost use Rattle.pim_event.specs.Acting.{control_event, act_event};
+ghost use Rattle.pim_event.specs.Acting.{HasRead, control_event, act_event};
 ghost use Rattle.pim_event.specs.Costs.{IsWithinPath};
 ghost use Rattle.pim_event.specs.Disturbing.{disturbed_of, goes_by_answers, where_disturbed};
 ghost use Rattle.pim_intake.specs.Memory.{is_frame};
@@ -48,6 +50,7 @@ use pim_fanout::{Cache, Gathered};
 use pim_hello::hello_keeps_dr;
 use pim_intake::{Admitted, LentEvent, judge};
 use pim_ip::Ipv4View;
+use pim_macros::SourceSight;
 use pim_messages::Room;
 use pim_mfc::Forward;
 use pim_model::Accepted;
@@ -79,6 +82,17 @@ struct Changed {
     names: Series<SourceGroup>,
 }
 
+// The sight that was gathered for the plan, if the event is a packet of data.
+fn planned_sight<'a>(act: &'a Act<'_>) -> Option<&'a SourceSight>
+    ensures { (s : State) → HasRead s act.now → IfSome result (λ sight. IsSourceSight s sight.now) }
+{
+    match act {
+        Act::Data { sight, .. } => Some(sight),
+        Act::Register { .. } => None,
+        Act::Control(_) => None,
+    }
+}
+
 // What an event does: its own change, what follows of that, and last the packets that are forwarded.
 fn change_world(
     world: &mut World,
@@ -87,6 +101,7 @@ fn change_world(
     replaced: &mut Replaced,
     touched: &Touched,
     act: Act<'_>,
+    last: &mut Option<SourceSight>,
 ) -> Result<Changed, Fault>
     requires rest { IsAtRest world.old }
     requires begun { turn.old.messages ≡ [] }
@@ -97,10 +112,12 @@ fn change_world(
     ensures state { OnOk result (world.new ≡ (taken world.old turn.old.draw (act_event act.entry)).state) }
     ensures names { IfOk result (λ changed. AreNames world.old (change world.old turn.old.draw (act_event act.entry)).state
         touched.now (keys_of changed.names)) }
+    ensures last { OnOk result (IfSome last.new (IsSourceSight world.new)) }
     ensures replaced { OnOk result (replaced.new ≡ replaced_after world.old (act_event act.entry) replaced.old) }
     ensures fault { IsOkUnless result Fault.Memory }
 {
-    let gathered = Gathered::of(world, turn.alloc, touched, meter)?;
+    let given = planned_sight(&act);
+    let gathered = Gathered::of(world, turn.alloc, touched, given, meter)?;
     let Leaving {
         mut copies,
         mut registered,
@@ -109,7 +126,7 @@ fn change_world(
     world.recall_keyed();
     let count = copies.len() as u32;
     let mut emissions = Vec::new(turn.alloc);
-    let names = settle(world, turn, meter, &gathered, &mut emissions)?;
+    let names = settle(world, turn, meter, &gathered, &mut emissions, last)?;
     emissions.append(&mut copies)?;
     emissions.append(&mut registered)?;
     let outcome = Outcome {
@@ -229,8 +246,11 @@ fn take_change(
     world.interfaces().recall_few();
     let Plan { touched, act } = plan;
     let moves = moves_all(world, &act);
-    let Changed { outcome, names } = change_world(world, turn, meter, replaced, &touched, act)?;
-    cache.refresh(world, meter, names, disturbed_where(moves, touched))?;
+    let mut last = None;
+    let Changed { outcome, names } = change_world(
+        world, turn, meter, replaced, &touched, act, &mut last,
+    )?;
+    cache.refresh(world, meter, names, disturbed_where(moves, touched), &last)?;
     Ok(outcome)
 }
 

@@ -1,7 +1,8 @@
 //! What follows of an event's own change: registers, asserts and SPTbits that must go, and messages upstream.
-ghost use Rattle.std.specs.Prelude.{◌≡◌, ◌++◌, ◌∷◌, [], IfOk, IsOkUnless, IsTrue, OnOk, false};
+ghost use Rattle.std.specs.Prelude.{◌≡◌, ◌++◌, ◌∷◌, [], IfOk, IfSome, IsOkUnless, IsTrue, OnOk, false};
 ghost use Rattle.pim_fanout.specs.Named.{keys_of};
 ghost use Rattle.pim_ip.specs.declared.fault.Fault.{Fault};
+ghost use Rattle.pim_macros.specs.Sights.{IsSourceSight};
 ghost use Rattle.pim_opening.specs.After.{IsAfter, opening_in};
 ghost use Rattle.pim_event.specs.Settling.{AreNamed, cleared_by, followed_by, settled_by};
 ghost use Rattle.pim_world.specs.Turns.{saying};
@@ -28,8 +29,8 @@ fn clear(
     pim_asserts::clear(world, turn, meter, opening)
 }
 
-// Does what follows, group after group of the opening. The result is the sources whose rows of the forwarding cache are
-// to be evaluated again, found between the clearing and the messages upstream.
+// Does what follows, group after group of the opening. The sources whose rows of the forwarding cache are to be
+// evaluated again are found between the clearing and the messages upstream.
 #[tactic(auto, unfolding(crate::specs::Settling::followed_by))]
 fn follow_all(
     world: &mut World,
@@ -67,6 +68,7 @@ fn follow_source(
     group: &GroupOpening,
     opened: SourceOpening,
     before: &Before,
+    last: &mut Option<SourceSight>,
 ) -> Result<Series<SourceGroup>, AllocError>
     requires whole { group.now.is_whole ≡ false }
     requires alone { group.now.sources ≡ opened ∷ [] }
@@ -74,6 +76,7 @@ fn follow_source(
     ensures messages { OnOk result (turn.new
         ≡ saying turn.old (followed_by (group.now ∷ []) world.old turn.old.draw).1) }
     ensures named { IfOk result (λ names. AreNamed before.now (cleared_by (group.now ∷ []) world.old).0 (keys_of names)) }
+    ensures last { OnOk result (IfSome last.new (IsSourceSight world.new)) }
 {
     let star = StarSight::of(world, group.group, meter);
     let mut sight = SourceSight::of(world, star, opened.source, meter);
@@ -82,6 +85,7 @@ fn follow_source(
     let seen = [seen_alone(opened, &sight)];
     let names = named_by_sights(world, turn.alloc, meter, before, &sight.star, &seen)?;
     pim_upstream::changed_alone(world, turn, meter, group, opened, &sight)?;
+    *last = Some(sight);
     Ok(names)
 }
 
@@ -151,13 +155,16 @@ fn follow(
     meter: &mut Meter,
     opening: &Opening,
     before: &Before,
+    last: &mut Option<SourceSight>,
 ) -> Result<Series<SourceGroup>, AllocError>
     ensures state { OnOk result (world.new ≡ (followed_by opening.now world.old turn.old.draw).0) }
     ensures messages { OnOk result (turn.new ≡ saying turn.old (followed_by opening.now world.old turn.old.draw).1) }
     ensures named { IfOk result (λ names. AreNamed before.now (cleared_by opening.now world.old).0 (keys_of names)) }
+    ensures last { OnOk result (IfSome last.new (IsSourceSight world.new)) }
 {
+    *last = None;
     if let Some((group, opened)) = opening.only_source() {
-        return follow_source(world, turn, meter, group, opened, before);
+        return follow_source(world, turn, meter, group, opened, before, last);
     }
     let [group] = opening.groups() else {
         return follow_all(world, turn, meter, opening, before);
@@ -166,7 +173,8 @@ fn follow(
 }
 
 /// Settles a change: does what follows of it, and then writes the packets of all messages after the emissions, those of
-/// the change first. The result is the sources whose rows of the forwarding cache are to be evaluated again.
+/// the change first. The result is the sources whose rows of the forwarding cache are to be evaluated again; the last
+/// sight is that of the source that alone was opened, where it is so.
 #[tactic(auto, unfolding(crate::specs::Settling::settled_by))]
 pub(crate) fn settle(
     world: &mut World,
@@ -174,15 +182,24 @@ pub(crate) fn settle(
     meter: &mut Meter,
     gathered: &Gathered,
     emissions: &mut Vec<Emission>,
+    last: &mut Option<SourceSight>,
 ) -> Result<Series<SourceGroup>, Fault>
     ensures state { OnOk result (world.new ≡ (settled_by gathered.now.opening world.old turn.old.messages turn.old.draw).0) }
     ensures sent { OnOk result (emissions.new.items ≡ emissions.old.items
         ++ (settled_by gathered.now.opening world.old turn.old.messages turn.old.draw).1) }
     ensures named { IfOk result (λ names. AreNamed gathered.now.before (cleared_by gathered.now.opening world.old).0 (keys_of names)) }
+    ensures last { OnOk result (IfSome last.new (IsSourceSight world.new)) }
     ensures draw { OnOk result (turn.new.draw ≡ turn.old.draw) }
     ensures fault { IsOkUnless result Fault.Memory }
 {
-    let names = follow(world, turn, meter, &gathered.opening, &gathered.before)?;
+    let names = follow(
+        world,
+        turn,
+        meter,
+        &gathered.opening,
+        &gathered.before,
+        last,
+    )?;
     world.write(&mut turn.room, &turn.out, emissions)?;
     Ok(names)
 }

@@ -1,12 +1,13 @@
 //! Time that passes: timers expire one after the other, and what follows of each is settled before the next.
 ghost use Rattle.std.specs.List.Sorted.{IsStrictlySortedBy};
-ghost use Rattle.std.specs.Prelude.{◌≡◌, ◌≤◌, ◌^◌, ◌++◌, [], IfOk, IsOkUnless, OnOk, option_map, true};
+ghost use Rattle.std.specs.Prelude.{◌≡◌, ◌≤◌, ◌^◌, ◌++◌, [], IfOk, IfSome, IsOkUnless, OnOk, option_map, true};
 ghost use Rattle.pim_fanout.specs.Disturbed.{joined};
 ghost use Rattle.pim_fanout.specs.Laws.{names_of};
 ghost use Rattle.pim_fanout.specs.Refreshing.{touches, touches_in};
 ghost use Rattle.pim_fanout.specs.Named.{keys_of};
 ghost use Rattle.pim_ip.specs.declared.fault.Fault.{Fault};
 ghost use Rattle.pim_laws.specs.Laws.{IsReady, ends_from};
+ghost use Rattle.pim_macros.specs.Sights.{IsSourceSight};
 ghost use Rattle.pim_mfc.specs.Laws.{ShowsRows};
 ghost use Rattle.pim_model.specs.Cache.{cached};
 ghost use Rattle.pim_model.specs.Reach.{own_firing, told_all, told_instant};
@@ -31,6 +32,7 @@ use crate::few::few_or_all;
 use crate::settle::settle;
 use pim_fanout::{Cache, Gathered};
 use pim_hello::{end_keeps_dr, keys_of_end};
+use pim_macros::SourceSight;
 use pim_messages::Outbox;
 use pim_types::{
     Emission, Fault, IfaceId, Key, Outcome, Series, SourceGroup, Timer, TimerKind, Verdict,
@@ -175,7 +177,7 @@ fn fired(
 }
 
 // Lets a timer expire, and does what follows. The result is the sources whose rows of the forwarding cache are to be
-// evaluated again.
+// evaluated again; the last sight is that of the source that alone was opened, where it is so.
 fn fire_world(
     world: &mut World,
     turn: &mut Turn,
@@ -183,6 +185,7 @@ fn fire_world(
     due: (u64, Timer),
     touched: &Touched,
     emissions: &mut Vec<Emission>,
+    last: &mut Option<SourceSight>,
 ) -> Result<Series<SourceGroup>, Fault>
     requires touched { touched.now ≡ touched_by_end world.old due.1.kind due.1.key }
     requires lawful { IsLawful world.old }
@@ -194,17 +197,18 @@ fn fire_world(
         ≡ emissions.old.items ++ (fire_once turn.old.draw world.old (ending_of due)).1) }
     ensures names { IfOk result (λ names. AreNames world.old (own_firing world.old (ending_of due))
         (touched_by_end world.old due.1.kind due.1.key) (keys_of names)) }
+    ensures last { OnOk result (IfSome last.new (IsSourceSight world.new)) }
     ensures draw { OnOk result (turn.new.draw ≡ turn.old.draw) }
     ensures fault { IsOkUnless result Fault.Memory }
 {
     // For the proof: sources and registers are under keys of sources.
     world.recall_keyed();
-    let gathered = Gathered::of(world, turn.alloc, touched, meter)?;
+    let gathered = Gathered::of(world, turn.alloc, touched, None, meter)?;
     world.set_present(due.0);
     fired(world, turn, meter, due.1)?;
     // For the proof: asserts, sources and registers are under keys of their kind.
     world.recall_keyed();
-    settle(world, turn, meter, &gathered, emissions)
+    settle(world, turn, meter, &gathered, emissions, last)
 }
 
 // Lets a timer expire, and then evaluates the rows of the named sources again. Messages of an earlier turn are dropped
@@ -238,8 +242,9 @@ fn fire_once(
     turn.out = Outbox::new(turn.alloc);
     let touched = touched_by_end(world, turn, meter, due.1)?;
     let moves_dr = end_moves_dr(world, due.1);
-    let names = fire_world(world, turn, meter, due, &touched, emissions)?;
-    cache.refresh(world, meter, names, disturbed_where(moves_dr, touched))?;
+    let mut last = None;
+    let names = fire_world(world, turn, meter, due, &touched, emissions, &mut last)?;
+    cache.refresh(world, meter, names, disturbed_where(moves_dr, touched), &last)?;
     Ok(())
 }
 

@@ -97,20 +97,23 @@ impl Before {
 }
 
 impl Gathered {
-    /// What the event touches, in the present state: one sight is gathered of each touched group and source. The meter
-    /// rises by the nodes visited.
+    /// What the event touches, in the present state: one sight is gathered of each touched group and source. The sight
+    /// that is given, if there is one, is taken for its source where that alone is touched. The meter rises by the nodes
+    /// visited.
     pub fn of(
         world: &World,
         alloc: Global,
         touched: &Touched,
+        given: Option<&SourceSight>,
         meter: &mut Meter,
     ) -> Result<Gathered, AllocError>
+        requires { IfSome given (λ sight. IsSourceSight world.now sight.now) }
         ensures opening { IfOk result (λ gathered. gathered.opening ≡ opening_of world.now touched.now) }
         ensures before { IfOk result (λ gathered. IsBefore world.now touched.now gathered.before) }
     {
         match only_source(touched) {
             Some(name) => {
-                let gathered = gather_source(world, alloc, name, meter)?;
+                let gathered = gather_source(world, alloc, name, given, meter)?;
                 Ok(gathered)
             }
             None => gather_groups(world, alloc, touched, meter),
@@ -152,23 +155,42 @@ fn alone<T: Drop>(alloc: Global, value: T) -> Result<Vec<T>, AllocError>
     Ok(list)
 }
 
+/// The sight of a source: the given one if it is of this source, else a new one. The meter rises by the nodes visited.
+pub(crate) fn sight_of(
+    world: &World,
+    name: SourceGroup,
+    given: Option<&SourceSight>,
+    meter: &mut Meter,
+) -> SourceSight
+    requires { IfSome given (λ sight. IsSourceSight world.now sight.now) }
+    ensures sight { IsSourceSight world.now result }
+    ensures group { result.star.group ≡ name.group }
+    ensures source { result.source ≡ name.source }
+{
+    match given {
+        Some(sight) if sight.star.group == name.group && sight.source == name.source => *sight,
+        _ => SourceSight::with_star(world, name, meter),
+    }
+}
+
 // Gathers one source alone, without ordering anything.
 fn gather_source(
     world: &World,
     alloc: Global,
     name: SourceGroup,
+    given: Option<&SourceSight>,
     meter: &mut Meter,
 ) -> Result<Gathered, AllocError>
+    requires { IfSome given (λ sight. IsSourceSight world.now sight.now) }
     ensures opening { IfOk result (λ gathered. gathered.opening ≡ opening_alone world.now name ∷ []) }
     ensures keys { IfOk result (λ gathered. map key_before gathered.before ≡ name_key name ∷ []) }
     ensures each { IfOk result (λ gathered. AreBefore world.now gathered.before) }
 {
-    let star = StarSight::of(world, name.group, meter);
-    let sight = SourceSight::of(world, star, name.source, meter);
+    let sight = sight_of(world, name, given, meter);
     let group = GroupOpening {
         group: name.group,
         is_whole: false,
-        star: star.view(),
+        star: sight.star.view(),
         sources: Series::from_vec(alone(alloc, opened_by_sight(world, &sight, meter))?),
     };
     let before = alone(alloc, compared_by_sight(world, &sight))?;

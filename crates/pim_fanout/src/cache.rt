@@ -1,21 +1,22 @@
 //! The forwarding cache, with the count of what an event costs it.
 ghost use Rattle.std.specs.List.Sorted.{IsStrictlySortedBy};
-ghost use Rattle.std.specs.Prelude.{◌≡◌, ℕ, ◌++◌, [], IfOk, OnOk, if◌then◌else◌, map};
+ghost use Rattle.std.specs.Prelude.{◌≡◌, ℕ, ◌++◌, [], IfOk, IfSome, OnOk, if◌then◌else◌, map};
 ghost use Rattle.pim_cached.specs.Kept.{is_listed};
 ghost use Rattle.pim_fanout.specs.Before.{name_key};
 ghost use Rattle.pim_fanout.specs.Disturbed.{joined};
 ghost use Rattle.pim_fanout.specs.Refreshing.{IsUncounted, Refreshes, RefreshesOne, nothing_cached, touches, touches_in, touches_of, uncounted};
 ghost use Rattle.pim_fanout.specs.Named.{keys_of};
+ghost use Rattle.pim_macros.specs.Sights.{IsSourceSight};
 ghost use Rattle.pim_mfc.specs.Laws.{ShowsRows};
 ghost use Rattle.pim_model.specs.Cache.{cached};
 ghost use Rattle.pim_trie.specs.Meter.{raised};
 ghost use Rattle.pim_types.specs.Keys.{group_in, key_cmp, source_in, source_key};
 ghost use Rattle.pim_world.specs.declared.touched.Touched.{Touched as TouchedValue};
 
-use crate::before::has_fact;
+use crate::before::{has_fact, sight_of};
 use crate::disturbed::Disturbed;
 use crate::once::each_once;
-use pim_macros::{Evaluations, row};
+use pim_macros::{Evaluations, SourceSight, row_by_sight};
 use pim_mfc::Mfc;
 use pim_tables::PlacedRows;
 use pim_trie::Meter;
@@ -85,7 +86,7 @@ impl Cache {
     {
         let names = names_of(alloc, world.store().source_rows())?;
         let mut cache = Cache::new(alloc);
-        cache.refresh_rows(world, meter, names.as_slice())?;
+        cache.refresh_rows(world, meter, names.as_slice(), &None)?;
         cache.reset();
         Ok(cache)
     }
@@ -156,7 +157,9 @@ impl Cache {
         world: &World,
         meter: &mut Meter,
         name: SourceGroup,
+        given: &Option<SourceSight>,
     ) -> Result<(), AllocError>
+        requires { IfSome given.now (IsSourceSight world.now) }
         ensures shown { OnOk result (RefreshesOne (name_key name) world.now self.old.mfc.rows self.new.mfc.rows) }
         ensures few { OnOk result (touches self.new ≡ raised (touches self.old) (touches_of world.now (name_key name))) }
         ensures listed { OnOk result ((self.new.changed ≡ self.old.changed) × (self.new.disturbed ≡ self.old.disturbed)) }
@@ -165,7 +168,8 @@ impl Cache {
             self.mfc.remove(name, meter);
             return Ok(());
         }
-        let made = row(world, name, meter, &mut self.evaluated);
+        let sight = sight_of(world, name, given.as_ref(), meter);
+        let made = row_by_sight(world, &sight, &mut self.evaluated);
         self.mfc.put(made, meter)?;
         Ok(())
     }
@@ -176,13 +180,15 @@ impl Cache {
         world: &World,
         meter: &mut Meter,
         names: &[SourceGroup],
+        given: &Option<SourceSight>,
     ) -> Result<(), AllocError>
+        requires { IfSome given.now (IsSourceSight world.now) }
         ensures shown { OnOk result (Refreshes (keys_of names.now) world.now self.old.mfc.rows self.new.mfc.rows) }
         ensures few { OnOk result (touches self.new ≡ raised (touches self.old) (touches_in world.now (keys_of names.now))) }
         ensures listed { OnOk result ((self.new.changed ≡ self.old.changed) × (self.new.disturbed ≡ self.old.disturbed)) }
     {
         for name in names {
-            self.refresh_one(world, meter, *name)?;
+            self.refresh_one(world, meter, *name, given)?;
         }
         Ok(())
     }
@@ -205,20 +211,23 @@ impl Cache {
 
     /// Evaluates the row of each named source that has a fact, once, and puts it in; takes out the row of each other
     /// named source; and lists them all as changed. The sources that the touched keys name, alone or with their group,
-    /// become disturbed. The meter rises by the nodes visited. After an error nothing is known of the rows.
+    /// become disturbed. The sight that is given, if there is one, is taken for its source. The meter rises by the nodes
+    /// visited. After an error nothing is known of the rows.
     pub fn refresh(
         &mut self,
         world: &World,
         meter: &mut Meter,
         names: Series<SourceGroup>,
         touched: Touched,
+        given: &Option<SourceSight>,
     ) -> Result<(), AllocError>
+        requires { IfSome given.now (IsSourceSight world.now) }
         ensures shown { OnOk result (Refreshes (keys_of names) world.now self.old.mfc.rows self.new.mfc.rows) }
         ensures few { OnOk result (touches self.new ≡ raised (touches self.old) (touches_in world.now (keys_of names))) }
         ensures listed { OnOk result (self.new.changed ≡ self.old.changed ++ keys_of names) }
         ensures disturbed { OnOk result (self.new.disturbed ≡ joined self.old.disturbed touched) }
     {
-        self.refresh_rows(world, meter, names.as_slice())?;
+        self.refresh_rows(world, meter, names.as_slice(), given)?;
         self.list(names.into_vec(), touched)
     }
 }

@@ -20,6 +20,7 @@ use crate::asserts::{is_better, route_metric};
 use crate::interfaces::interfaces_where;
 use crate::sight::{SourceSight, StarSight};
 use pim_ifset::IfSet;
+use pim_membership::SourceReceivers;
 use pim_trie::Meter;
 use pim_types::fact::{AssertRole, RegisterState};
 use pim_types::{Addr, Hop, IfaceId, Key, Path, SourceGroup, SptSwitch};
@@ -59,24 +60,16 @@ fn receivers(world: &World, group: Addr, meter: &mut Meter) -> IfSet
         .without_tunnel()
 }
 
-// local_receiver_include(S,G).
-fn included(world: &World, name: SourceGroup, meter: &mut Meter) -> IfSet
-    ensures { Shows result (local_receiver_include world.now name.group.bits name.source.bits) }
+// local_receiver_include(S,G) and local_receiver_exclude(S,G).
+fn receivers_of(world: &World, name: SourceGroup, meter: &mut Meter) -> SourceReceivers
+    ensures included { Shows result.included (local_receiver_include world.now name.group.bits name.source.bits) }
+    ensures excluded { Shows result.excluded (local_receiver_exclude world.now name.group.bits name.source.bits) }
 {
-    world
-        .membership()
-        .receivers_include(name, meter)
-        .without_tunnel()
-}
-
-// local_receiver_exclude(S,G).
-fn excluded(world: &World, name: SourceGroup, meter: &mut Meter) -> IfSet
-    ensures { Shows result (local_receiver_exclude world.now name.group.bits name.source.bits) }
-{
-    world
-        .membership()
-        .receivers_exclude(name, meter)
-        .without_tunnel()
+    let found = world.membership().receivers_of(name, meter);
+    SourceReceivers {
+        included: found.included.without_tunnel(),
+        excluded: found.excluded.without_tunnel(),
+    }
 }
 
 // Whether the winner of the assert of (S,G) on the interface is better than spt_assert_metric(S,I).
@@ -173,6 +166,7 @@ impl SourceSight {
         let path = world.route(source, meter);
         let marks = world.store().marks(star.group, Some(source), meter);
         let asserted = marks.lost.union(marks.won);
+        let hosts = receivers_of(world, name, meter);
         let row = world.store().source(key);
         let register = world.store().register(key);
         SourceSight {
@@ -187,8 +181,8 @@ impl SourceSight {
             lost: marks.lost.without_tunnel(),
             won: marks.won.without_tunnel(),
             beaten: beaten(world, asserted, name, path),
-            included: included(world, name, meter),
-            excluded: excluded(world, name, meter),
+            included: hosts.included,
+            excluded: hosts.excluded,
             spt: row.is_some_and(|row| row.spt),
             is_kept_alive: row.is_some_and(|row| row.keepalive.is_some()),
             tunnel: register.is_some_and(|row| matches!(row.state, RegisterState::Join)),

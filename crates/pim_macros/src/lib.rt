@@ -15,5 +15,5 @@ pub mod updates;
 pub mod views;
 
 pub use gather::upstream_of;
-pub use rows::{Evaluations, Made, SourceAnswers, row};
+pub use rows::{Evaluations, Made, SourceAnswers, row, row_by_sight};
 pub use sight::{SourceSight, StarSight};

@@ -271,6 +271,26 @@ fn is_registered(world: &World, name: SourceGroup) -> bool
     world.store().register(name.key()).is_some()
 }
 
+/// A row of the forwarding cache: the answers of a source of a group in the present state, by its sight. The number of
+/// evaluated rows rises by one.
+pub fn row_by_sight(world: &World, sight: &SourceSight, evaluated: &mut Evaluations) -> Made
+    requires { IsSourceSight world.now sight.now }
+    ensures group { result.group ≡ sight.now.star.group }
+    ensures source { result.source ≡ sight.now.source }
+    ensures answers { ShowsAnswers result.answers (answers world.now sight.now.star.group.bits sight.now.source.bits) }
+    ensures counted { evaluated.new ≡ raised evaluated.old 1 }
+{
+    evaluated.raise();
+    let name = sight.name();
+    let place = world.store().source_place(name);
+    let answers = sight.answers(is_registered(world, name), place);
+    Made {
+        group: name.group,
+        source: name.source,
+        answers,
+    }
+}
+
 /// A row of the forwarding cache: the answers of a source of a group in the present state, evaluated from one sight.
 /// The meter rises by the nodes visited. The number of evaluated rows rises by one.
 pub fn row(world: &World, name: SourceGroup, meter: &mut Meter, evaluated: &mut Evaluations) -> Made
@@ -279,13 +299,6 @@ pub fn row(world: &World, name: SourceGroup, meter: &mut Meter, evaluated: &mut 
     ensures answers { ShowsAnswers result.answers (answers world.now name.group.bits name.source.bits) }
     ensures counted { evaluated.new ≡ raised evaluated.old 1 }
 {
-    evaluated.raise();
     let sight = SourceSight::with_star(world, name, meter);
-    let place = world.store().source_place(name);
-    let answers = sight.answers(is_registered(world, name), place);
-    Made {
-        group: name.group,
-        source: name.source,
-        answers,
-    }
+    row_by_sight(world, &sight, evaluated)
 }

@@ -11,4 +11,4 @@ mod sendings;
 mod sources;
 mod unrecorded;
 
-pub use membership::Membership;
+pub use membership::{Membership, SourceReceivers};

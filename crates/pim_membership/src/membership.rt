@@ -35,6 +35,15 @@ use std::collections::BTreeMap;
 use std::collections::btree_map::Iter;
 use std::marker::Model;
 
+/// The interfaces with receivers of a source of a group.
+#[derive(Clone, Copy)]
+pub struct SourceReceivers {
+    /// The group is in INCLUDE mode there, and lists the source.
+    pub included: IfSet,
+    /// The group is in EXCLUDE mode there, and the source is excluded.
+    pub excluded: IfSet,
+}
+
 /// The IGMP membership facts of the router (RFC 3376, sections 4 and 6). After want of memory in a call that changes
 /// them, nothing is promised of their values, but all that is stated of every membership still holds. A call that is
 /// lent a meter raises it by the trie nodes that it visits.
@@ -649,12 +658,14 @@ impl Membership {
             .without_tunnel()
     }
 
-    /// The interfaces with receivers of this source of the group: the group is in INCLUDE mode there, and lists the
-    /// source. The meter rises by 99 nodes at most.
-    pub fn receivers_include(&self, name: SourceGroup, meter: &mut Meter) -> IfSet
-        ensures interfaces { (i : ℕ) → has result i ≡ local_receiver_include_among self.now.group_records
+    /// The interfaces with receivers that ask for this source of the group, and those with receivers that exclude it.
+    /// The group and the source are each looked up once: the meter rises by 99 nodes at most.
+    pub fn receivers_of(&self, name: SourceGroup, meter: &mut Meter) -> SourceReceivers
+        ensures included { (i : ℕ) → has result.included i ≡ local_receiver_include_among self.now.group_records
             self.now.source_records name.group.bits name.source.bits i }
-        ensures tunnel { result.tunnel ≡ false }
+        ensures excluded { (i : ℕ) → has result.excluded i ≡ local_receiver_exclude_among self.now.group_records
+            self.now.source_records name.group.bits name.source.bits i }
+        ensures tunnel { (result.included.tunnel ≡ false) × (result.excluded.tunnel ≡ false) }
         ensures at_most { meter.new ≤ meter.old + 99 }
     {
         let groups = self.group_records.listed(name.group, None, meter);
@@ -662,22 +673,10 @@ impl Membership {
             .source_records
             .listed(name.group, Some(name.source), meter);
         let include = groups.there.minus(groups.running);
-        include.intersection(sources.there).without_tunnel()
-    }
-
-    /// The interfaces with receivers of the group that exclude this source: the group is in EXCLUDE mode there, and the
-    /// source is excluded. The meter rises by 99 nodes at most.
-    pub fn receivers_exclude(&self, name: SourceGroup, meter: &mut Meter) -> IfSet
-        ensures interfaces { (i : ℕ) → has result i ≡ local_receiver_exclude_among self.now.group_records
-            self.now.source_records name.group.bits name.source.bits i }
-        ensures tunnel { result.tunnel ≡ false }
-        ensures at_most { meter.new ≤ meter.old + 99 }
-    {
-        let groups = self.group_records.listed(name.group, None, meter);
-        let sources = self
-            .source_records
-            .listed(name.group, Some(name.source), meter);
-        let excluded = sources.there.minus(sources.running);
-        groups.running.intersection(excluded).without_tunnel()
+        let stopped = sources.there.minus(sources.running);
+        SourceReceivers {
+            included: include.intersection(sources.there).without_tunnel(),
+            excluded: groups.running.intersection(stopped).without_tunnel(),
+        }
     }
 }

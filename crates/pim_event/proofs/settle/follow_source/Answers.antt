@@ -1,9 +1,12 @@
-use Rattle.std.proofs.Common.{◌≡◌, ◌∷◌, [], ap, ◌∙◌}
+use Rattle.std.proofs.Common.{◌≡◌, ◌∷◌, [], ap, subst, sym, ◌∙◌}
 use Rattle.pim_ip.specs.declared.addr.Addr.{Addr}
+use Rattle.pim_macros.specs.Sights.{IsSourceSight}
 use Rattle.pim_macros.specs.declared.sight.StarSight.{StarSight}
+use Rattle.pim_model.specs.State.{State}
 use Rattle.pim_register.specs.Settling.{registers_by}
 use Rattle.pim_fanout.specs.Named.{keys_of}
 use Rattle.pim_event.proofs.Following.{followed_messages, followed_state, named_there, registered_alone}
+use Rattle.pim_event.proofs.SightStays.{told_sight}
 use Rattle.pim_event.proofs.settle.follow_source.Goals as goal
 
 pub returns-clause-state : goal.returns-clause-state
@@ -41,3 +44,10 @@ returns-clause-named c =
     c.clear_alone.new.turn registered c.in_ok-clear_alone.ensures.state
     c.in_ok-clear_alone.ensures.messages
     c.args.before.now (keys_of c.in_ok-names.names) c.in_ok-names.ensures
+
+pub returns-clause-last : goal.returns-clause-last
+returns-clause-last c =
+    let sight = c.clear_alone.new.sight in
+    subst (λ (s : State). IsSourceSight s sight) (sym c.in_ok-changed_alone.ensures.state)
+    (told_sight sight.star.group.bits sight.source.bits sight c.clear_alone.new.world c.clear_alone.new.turn.draw
+    (c.args.group.now ∷ []) c.in_ok-clear_alone.ensures.sight)

@@ -45,8 +45,8 @@ returns-clause-sight c =
           (λ i. marks.won i ∙ ap (λ t. is_winner (row_at t (source_key i g src))) asserts)
           c.without_tunnel-4.ensures.limit;
       beaten = c.beaten.ensures;
-      included = c.included.ensures;
-      excluded = c.excluded.ensures;
+      included = c.receivers_of-hosts.ensures.included;
+      excluded = c.receivers_of-hosts.ensures.excluded;
       spt = grind (arith, common_steps);
       is_kept_alive = grind (arith, common_steps);
       tunnel = grind (arith, common_steps);
