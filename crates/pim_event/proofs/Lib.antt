@@ -21,8 +21,8 @@ mod Plainly
 mod Rows
 mod Sending
 pub mod Staying
-mod Settling
 mod Serving
+pub mod Settling
 mod SightStays
 mod SourceEnds
 mod Stopped
@@ -33,4 +33,4 @@ mod Plans
 mod Repeats
 mod Direct
 mod Touching
-mod Tunnelled
+pub mod Tunnelled

@@ -176,7 +176,7 @@ fn follow(
 /// the change first. The result is the sources whose rows of the forwarding cache are to be evaluated again; the last
 /// sight is that of the source that alone was opened, where it is so.
 #[tactic(auto, unfolding(crate::specs::Settling::settled_by))]
-pub(crate) fn settle(
+pub fn settle(
     world: &mut World,
     turn: &mut Turn,
     meter: &mut Meter,

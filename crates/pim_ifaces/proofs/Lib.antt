@@ -3,3 +3,4 @@ mod Links
 pub mod Rows
 mod Tested
 mod UpKeys
+mod Reconfigured

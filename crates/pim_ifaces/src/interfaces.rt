@@ -1,7 +1,7 @@
 //! The interfaces of a router.
 ghost use Rattle.std.specs.List.{list_all};
 ghost use Rattle.std.specs.List.Sorted.{IsStrictlySortedBy};
-ghost use Rattle.std.specs.Prelude.{◌≡◌, ◌<◌, ◌≤◌, [], length, slice_get, option_map, IfSome, IsTrue, Ok, OnOk, OnErr, Some};
+ghost use Rattle.std.specs.Prelude.{◌≡◌, ◌<◌, ◌≤◌, [], length, nat_lt, slice_get, option_map, true, IfSome, IsTrue, Ok, OnOk, OnErr, Some};
 ghost use Rattle.pim_model.specs.Hellos.{hellos_triggered};
 ghost use Rattle.pim_model.specs.State.{is_own_among};
 ghost use Rattle.pim_model.specs.Clearing.{first_by};
@@ -9,7 +9,7 @@ ghost use Rattle.pim_model.specs.Timers.{endings, is_ending_first};
 ghost use Rattle.pim_tables.specs.Ends.{due_of};
 ghost use Rattle.pim_types.specs.declared.timer.TimerKind.{TimerKind as Kind};
 ghost use Rattle.pim_model.specs.Tables.{change_row, drop_where, has_row, keys_in, put, row_at};
-ghost use Rattle.pim_types.specs.Keys.{iface_key, is_on, key_cmp};
+ghost use Rattle.pim_types.specs.Keys.{iface_in, iface_key, is_on, key_cmp};
 ghost use Rattle.pim_model.specs.Unicast.{link_among};
 ghost use Rattle.pim_ifaces.specs.Interfaces.{interfaces_test, is_up_key};
 ghost use Rattle.pim_model.specs.Writing.{hellos_paid};
@@ -186,6 +186,18 @@ impl Interfaces {
         ensures err { OnErr result (self.new ≡ self.old) }
     {
         self.rows.change(key, row)
+    }
+
+    /// Takes the configured interfaces of another, each row being of one that the other has. The rows stay.
+    pub fn reconfigure(&mut self, other: Interfaces)
+        requires { list_all (λ e. nat_lt (iface_in e.0) (length other.configured)) self.old.rows ≡ true }
+        ensures { self.new ≡ record self.old { configured = other.configured } }
+    {
+        let Interfaces {
+            configured,
+            rows: _,
+        } = other;
+        self.configured = configured;
     }
 
     /// Makes the interface down: its row goes, if it has one.

@@ -2,3 +2,4 @@ mod Accepted
 mod Offering
 mod Runs
 mod Shown
+pub mod Reloaded

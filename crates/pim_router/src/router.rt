@@ -38,6 +38,7 @@ ghost use Rattle.pim_locality.specs.Rest.{IsAtRest};
 ghost use Rattle.pim_promises.specs.Bounded.{IsBounded};
 
 mod hosts;
+mod reload;
 mod saved;
 
 use crate::plane::{bare_packet, keep, offer};

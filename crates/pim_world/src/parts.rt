@@ -36,7 +36,7 @@ fn is_dr_among(interfaces: &Interfaces, neighbours: &Neighbours, iface: IfaceId)
 }
 
 // Where the router is the DR.
-fn elected(interfaces: &Interfaces, neighbours: &Neighbours) -> IfSet
+pub(crate) fn elected(interfaces: &Interfaces, neighbours: &Neighbours) -> IfSet
     ensures { Shows result (is_dr_on interfaces.now.configured neighbours.now) }
 {
     let mut dr = IfSet::below(0);

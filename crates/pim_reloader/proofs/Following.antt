@@ -1,0 +1,54 @@
+-- What follows of another configuration, by what was opened.
+use Rattle.std.proofs.Common.{◌≡◌, ◌++◌, List, [], inl, refl, sym, subst, ap, ◌∙◌}
+use Rattle.pim_types.specs.declared.config.Config.{Config}
+use Rattle.pim_types.specs.Keys.{is_of_group, names_source}
+use Rattle.pim_model.specs.Messages.{Message}
+use Rattle.pim_model.specs.State.{State, settings_of}
+use Rattle.pim_model.specs.Upstream.{fact_keys}
+use Rattle.pim_laws.proofs.FewerFacts.{IsFewer, fewer_both, no_other}
+use Rattle.pim_locality.specs.Rest.{IsAtRest}
+use Rattle.pim_store.specs.PimTables.{AreKeyed, pim_tables}
+use Rattle.pim_world.specs.Turns.{Taking, saying}
+use Rattle.pim_world.specs.declared.touched.Touched.{Touched}
+use Rattle.pim_opening.specs.Covers.{IsWithin}
+use Rattle.pim_opening.specs.Openings.{opening_of}
+use Rattle.pim_opening.specs.declared.opening.GroupOpening.{GroupOpening}
+use Rattle.pim_event.specs.Settling.{settled_by}
+use Rattle.pim_event.proofs.Settling.{settled_as_opened}
+use Rattle.pim_event.proofs.Tunnelled.{rps_leave_facts}
+use Rattle.pim_restored.specs.Reload.{config_of}
+use Rattle.pim_reloaded.specs.Reloading.{hellos_anew, replaced, under}
+
+within_so : (s t : State) → IsFewer s t → IsWithin s t
+within_so s t fewer = record {
+  groups = λ g there. fewer.passed (is_of_group g) there;
+  sources = λ g src there. fewer.passed (names_source g src) there;
+}
+
+module _ (o : State) (c : Config) where
+  abbrev moved : State
+  moved = record o { settings = settings_of c; configured = c.interfaces; routes = c.routes }
+
+  moved_leaves_facts : IsFewer o moved
+  unfolding fact_keys
+  moved_leaves_facts = no_other o moved refl
+
+  pub under_within : IsWithin o (under o c)
+  unfolding under
+  under_within =
+      within_so o (under o c) (fewer_both o moved (under o c) moved_leaves_facts (rps_leave_facts moved c.rps))
+
+-- what follows is what follows of what was opened
+pub followed : (o next a : State) (opening : List GroupOpening) (first said : Taking) → IsAtRest o
+    → AreKeyed (pim_tables a) → opening ≡ opening_of o Touched.All → a ≡ under o (config_of next)
+    → said ≡ saying first (hellos_anew o next.configured) → first.messages ≡ []
+    → settled_by opening a said.messages said.draw ≡ replaced o (config_of next) first.draw
+unfolding replaced config_of
+followed o next a opening first said rest keyed opens is says none =
+    let messages : said.messages ≡ hellos_anew o next.configured =
+    ap (λ (t : Taking). t.messages) says ∙ ap (λ (ms : List Message). ms ++ hellos_anew o next.configured) none in
+    let draw : said.draw ≡ first.draw = ap (λ (t : Taking). t.draw) says in
+    (λ j. settled_by (opens j) (is j) (messages j) (draw j))
+    ∙ sym (settled_as_opened o (under o (config_of next)) rest.quiet
+    (subst (λ (x : State). AreKeyed (pim_tables x)) is keyed) (hellos_anew o next.configured) first.draw Touched.All
+    (inl (inl (under_within o (config_of next)))))

@@ -1,0 +1,7 @@
+pub mod Below
+pub mod Changing
+pub mod Following
+pub mod Removing
+pub mod Renewed
+pub mod Together
+pub mod Told

@@ -1,0 +1,18 @@
+-- The removals and what follows are the reload.
+use Rattle.std.proofs.Common.{◌≡◌, ◌++◌, ℕ, List, ap, ◌∙◌}
+use Rattle.pim_types.specs.declared.config.Config.{Config}
+use Rattle.pim_types.specs.declared.outcome.Emission.{Emission}
+use Rattle.pim_model.specs.State.{State}
+use Rattle.pim_model.specs.Step.{run, state_after}
+use Rattle.pim_reloaded.specs.Reloading.{reload, removals, replaced, sent_by}
+
+module _ (s m n : State) (c : Config) (w v : ℕ) (left : m ≡ state_after s (removals s c w)) (same : v ≡ w) where
+  pub whole_state : n ≡ (replaced m c v).0 → n ≡ (reload s c w).0
+  unfolding reload state_after
+  whole_state is = is ∙ (λ j. (replaced (left j) c (same j)).0)
+
+  pub whole_sent : (first later all : List Emission) → first ≡ sent_by (run s (removals s c w))
+      → later ≡ (replaced m c v).1 → all ≡ first ++ later → all ≡ (reload s c w).1
+  unfolding reload state_after run
+  whole_sent first later all goes is both =
+      both ∙ ((λ j. goes j ++ is j) ∙ (λ j. sent_by (run s (removals s c w)) ++ (replaced (left j) c (same j)).1))

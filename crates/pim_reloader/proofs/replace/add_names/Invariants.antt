@@ -1,0 +1,10 @@
+use Rattle.std.proofs.Common.{◌≡◌, ◌++◌}
+use Rattle.std.specs.Prelude.{map}
+use Rattle.pim_types.specs.Keys.{group_in, source_in, source_key}
+use Rattle.pim_fanout.specs.Named.{keys_of}
+use Rattle.pim_reloader.proofs.replace.add_names.Given as goal
+
+abbrev pub invariant-loop-key : goal.invariant-loop-key
+invariant-loop-key l =
+    keys_of l.names.items ++ map (λ e. source_key 0 (group_in e.0) (source_in e.0)) l.key-iterator
+    ≡ keys_of l.fn.names.items ++ map (λ e. source_key 0 (group_in e.0) (source_in e.0)) l.fn.rows

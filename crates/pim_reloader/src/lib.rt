@@ -1,0 +1,9 @@
+//! Another configuration in a router that works, as the specification (pim_reloaded) says.
+#![tactic(auto)]
+
+mod hellos;
+mod remove;
+mod replace;
+mod whole;
+
+pub use whole::reload;

@@ -1,0 +1,120 @@
+//! A configuration replaced: the change, what follows of it, and the rows of the forwarding cache.
+ghost use Rattle.std.specs.List.{list_all};
+ghost use Rattle.std.specs.List.Sorted.{IsStrictlySortedBy};
+ghost use Rattle.std.specs.Prelude.{◌≡◌, ◌++◌, [], IfOk, IsOkUnless, OnOk, length, map, nat_lt, true};
+ghost use Rattle.pim_fanout.specs.Named.{keys_of};
+ghost use Rattle.pim_ip.specs.declared.fault.Fault.{Fault};
+ghost use Rattle.pim_locality.specs.Rest.{IsAtRest};
+ghost use Rattle.pim_mfc.specs.Laws.{ShowsRows};
+ghost use Rattle.pim_model.specs.Cache.{cached};
+ghost use Rattle.pim_reloaded.specs.Reloading.{hellos_anew, replaced, under};
+ghost use Rattle.pim_reloader.specs.Listing.{AreListed, sources_in};
+ghost use Rattle.pim_restored.specs.Reload.{config_of};
+ghost use Rattle.pim_types.specs.Keys.{group_in, iface_in, key_cmp, source_in, source_key};
+ghost use Rattle.pim_world.specs.Turns.{saying};
+ghost use Rattle.pim_world.specs.declared.touched.Touched.{Touched as TouchedValue};
+
+use crate::hellos::tell;
+use pim_event::settle::settle;
+use pim_fanout::{Cache, Gathered};
+use pim_tables::PlacedRows;
+use pim_types::fact::SourceRow;
+use pim_types::{Emission, Fault, Series, SourceGroup};
+use pim_world::{Meter, Touched, Turn, World};
+use std::alloc::AllocError;
+
+// Puts the world under the configuration of the next one, and says the Hellos that leave at once. All facts stay.
+#[tactic(auto, unfolding(pim_reloaded::specs::Reloading::under, pim_restored::specs::Reload::config_of, pim_model::specs::State::settings_of))]
+fn reconfigure(
+    world: &mut World,
+    turn: &mut Turn,
+    meter: &mut Meter,
+    next: World,
+) -> Result<(), AllocError>
+    requires below { list_all (λ e. nat_lt (iface_in e.0) (length next.configured)) world.old.interfaces ≡ true }
+    ensures state { OnOk result (world.new ≡ under world.old (config_of next)) }
+    ensures messages { OnOk result (turn.new ≡ saying turn.old (hellos_anew world.old next.configured)) }
+{
+    tell(world, &mut turn.out, &next)?;
+    let ranges = world.reconfigure(next);
+    pim_register::rps_replaced(world, turn, meter, ranges)?;
+    Ok(())
+}
+
+// Puts the world under the configuration of the next one, and does what follows. The result is what is sent.
+#[tactic(auto, unfolding(pim_reloaded::specs::Reloading::replaced))]
+fn follow(
+    world: &mut World,
+    turn: &mut Turn,
+    meter: &mut Meter,
+    next: World,
+) -> Result<Vec<Emission>, Fault>
+    requires rest { IsAtRest world.old }
+    requires begun { turn.old.messages ≡ [] }
+    requires below { list_all (λ e. nat_lt (iface_in e.0) (length next.configured)) world.old.interfaces ≡ true }
+    ensures state { OnOk result (world.new ≡ (replaced world.old (config_of next) turn.old.draw).0) }
+    ensures sent { IfOk result (λ sent. sent.items ≡ (replaced world.old (config_of next) turn.old.draw).1) }
+    ensures fault { IsOkUnless result Fault.Memory }
+{
+    let gathered = Gathered::of(world, turn.alloc, &Touched::All, meter)?;
+    reconfigure(world, turn, meter, next)?;
+    // For the proof: asserts, sources and registers are under keys of their kind.
+    world.recall_keyed();
+    let mut sent = Vec::new(turn.alloc);
+    settle(world, turn, meter, &gathered, &mut sent)?;
+    Ok(sent)
+}
+
+// Adds the names of these sources at the end of the names.
+fn add_names(
+    names: &mut Vec<SourceGroup>,
+    rows: PlacedRows<'_, SourceRow>,
+) -> Result<(), AllocError>
+    ensures { OnOk result (keys_of names.new.items
+        ≡ keys_of names.old.items ++ map (λ e. source_key 0 (group_in e.0) (source_in e.0)) rows.entry) }
+{
+    for (key, _) in rows {
+        names.push(key.name())?;
+    }
+    Ok(())
+}
+
+/// Adds the names of all sources with a fact at the end of the names.
+pub(crate) fn add_sources(names: &mut Vec<SourceGroup>, world: &World) -> Result<(), AllocError>
+    ensures { OnOk result (keys_of names.new.items ≡ keys_of names.old.items ++ sources_in world.now) }
+{
+    add_names(names, world.store().source_rows())
+}
+
+/// Puts a world at rest under the configuration of the next one, and does what follows: the Hellos leave that say
+/// something else, and the rows of the forwarding cache are evaluated again. Only interfaces of that configuration may be
+/// up. All facts stay for which its routes and RPs have a use. The given sources, and all with a fact before or after,
+/// are listed as changed, and all sources as disturbed. The result is what is sent. The fault is want of memory.
+pub(crate) fn replace(
+    world: &mut World,
+    cache: &mut Cache,
+    turn: &mut Turn,
+    meter: &mut Meter,
+    next: World,
+    mut names: Vec<SourceGroup>,
+) -> Result<Vec<Emission>, Fault>
+    requires rest { IsAtRest world.old }
+    requires shown { ShowsRows cache.old.mfc.rows (cached world.old) }
+    requires begun { turn.old.messages ≡ [] }
+    requires below { list_all (λ e. nat_lt (iface_in e.0) (length next.configured)) world.old.interfaces ≡ true }
+    ensures state { OnOk result (world.new ≡ (replaced world.old (config_of next) turn.old.draw).0) }
+    ensures sent { IfOk result (λ sent. sent.items ≡ (replaced world.old (config_of next) turn.old.draw).1) }
+    ensures shown { OnOk result (ShowsRows cache.new.mfc.rows (cached world.new)) }
+    ensures listed { OnOk result (AreListed (keys_of names.items) world.old world.new cache.old.changed
+        cache.new.changed) }
+    ensures once { OnOk result (IsStrictlySortedBy key_cmp cache.new.changed) }
+    ensures disturbed { OnOk result (cache.new.disturbed ≡ TouchedValue.All) }
+    ensures fault { IsOkUnless result Fault.Memory }
+{
+    add_sources(&mut names, world)?;
+    let sent = follow(world, turn, meter, next)?;
+    add_sources(&mut names, world)?;
+    cache.refresh(world, meter, Series::from_vec(names), Touched::All)?;
+    cache.list_once();
+    Ok(sent)
+}

@@ -1,0 +1,26 @@
+-- What a reload leaves in a router.
+use Rattle.std.proofs.Common.{◌≡◌, ℕ, Ok, subst, sym, ap, ◌∙◌}
+use Rattle.pim_types.specs.declared.config.Config.{Config}
+use Rattle.pim_locality.specs.Rest.{IsAtRest}
+use Rattle.pim_model.specs.Limits.{config_test}
+use Rattle.pim_model.specs.State.{State, opening, settings_of}
+use Rattle.pim_reloaded.specs.Reloading.{reload}
+use Rattle.pim_reloaded.proofs.Ground.{reload_is_under}
+use Rattle.pim_reloaded.proofs.Rest.{reload_leaves_rest}
+use Rattle.pim_restored.specs.Reload.{config_of}
+
+-- the configuration of an opening
+pub opens_with : (c : Config) (s : State) → s ≡ opening c → config_of s ≡ c
+unfolding config_of opening settings_of
+opens_with c s is = ap config_of is
+
+module _ (s t n : State) (c : Config) (w : ℕ) (opens : n ≡ opening c) (is : t ≡ (reload s (config_of n) w).0) where
+  pub reloaded_is : t ≡ (reload s c w).0
+  reloaded_is = is ∙ ap (λ (d : Config). (reload s d w).0) (opens_with c n opens)
+
+  pub reloaded_rests : config_test c ≡ Ok tt → IsAtRest s → IsAtRest t
+  reloaded_rests accepted rest = subst IsAtRest (sym reloaded_is) (reload_leaves_rest s c w accepted rest)
+
+  pub reloaded_accepted : config_test c ≡ Ok tt → config_test (config_of t) ≡ Ok tt
+  reloaded_accepted accepted =
+      subst (λ (d : Config). config_test d ≡ Ok tt) (sym (ap config_of reloaded_is ∙ reload_is_under s c w)) accepted
