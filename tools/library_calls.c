@@ -80,6 +80,16 @@ static void without_a_router(void) {
     is("one of them without a router", viq_older_row(NULL, 0, &older_row), false);
     is("what isn't written of it", older_row.iface, 7);
     is("cached without a router", viq_cached(NULL, 0x0a000305, 0xe1010101, &forwarding), false);
+    struct viq_tree tree = {.rpf_cause = 7};
+    struct viq_source_tree source_tree = {.rpf_cause = 7};
+    struct viq_link link = {.dr = 7};
+    struct viq_neighbour neighbour = {.end = 7};
+    is("a tree without a router", viq_tree(NULL, 0xe1010101, &tree), false);
+    is("a source's tree without a router", viq_source_tree(NULL, 0x0a000305, 0xe1010101, &source_tree), false);
+    is("a link without a router", viq_link(NULL, 0, &link), false);
+    is("a neighbour without a router", viq_neighbour(NULL, 0, 0x0a000001, &neighbour), false);
+    is("what isn't told of trees", tree.rpf_cause == 7 && source_tree.rpf_cause == 7, true);
+    is("what isn't told of links", link.dr == 7 && neighbour.end == 7, true);
     is("its forwarding", forwarding.rpf, 7);
     is("offload without a router", viq_offload(NULL, 0x0a000305, 0xe1010101, &plane), false);
     is("its row", plane.incoming, 7);
@@ -321,6 +331,52 @@ static void cached(struct viq_router *router) {
     is("immediate_olist", told.immediate.low == 1 << 1 && told.immediate.high == 0, true);
     is("inherited_olist", told.inherited.low == 1 << 1 && told.inherited.high == 0, true);
     is("inherited_olist on the shared tree", told.shared_tree.low == 0 && told.shared_tree.high == 0, true);
+}
+
+/* ---- trees and links */
+
+static void told_trees(struct viq_router *router) {
+    struct viq_tree tree = {.rpf_cause = 7};
+    is("a group's tree", viq_tree(router, 0xe1010101, &tree), true);
+    is("its RP", tree.rp.is_there && tree.rp.value == 0x0a090909, true);
+    is("the way to it", tree.path.is_there && !tree.path.is_connected && tree.path.iface == 0 && tree.path.next_hop == 0x0a000001, true);
+    is("as the route says", tree.path.preference == 110 && tree.path.metric == 20, true);
+    is("its neighbour", tree.rpf_neighbour.is_there && tree.rpf_neighbour.iface == 0 && tree.rpf_neighbour.address == 0x0a000001, true);
+    is("by the next hop", tree.rpf_cause, VIQ_RPF_NEXT_HOP);
+    is("nobody asks", tree.join_desired || tree.joins.low || tree.immediate_olist.low || tree.pim_include.low, false);
+    is("an SSM group's tree", viq_tree(router, 0xe8010101, &tree), true);
+    is("it has no RP", tree.rp.is_there || tree.path.is_there || tree.rpf_neighbour.is_there, false);
+    is("and so no neighbour", tree.rpf_cause, VIQ_RPF_NO_RP);
+    struct viq_source_tree source = {.rpf_cause = 7};
+    is("a source's tree", viq_source_tree(router, 0x0a000305, 0xe1010101, &source), true);
+    is("it is joined", source.join_desired && source.joins.low == 1 << 1 && source.immediate_olist.low == 1 << 1, true);
+    is("and inherited", source.inherited_olist.low == 1 << 1 && source.inherited_olist_rpt.low == 0, true);
+    is("to its neighbour", source.rpf_neighbour.is_there && source.rpf_neighbour.address == 0x0a000001, true);
+    is("by its next hop", source.rpf_cause, VIQ_RPF_NEXT_HOP);
+    is("its bit and its timer", source.spt_bit && source.is_kept_alive, true);
+    is("no tunnel", source.has_tunnel || source.could_register || source.prune_desired, false);
+    is("the group isn't joined", source.rpt_state, VIQ_RPT_NOT_JOINED);
+    is("another source's tree", viq_source_tree(router, 0x0a000306, 0xe1010101, &source), true);
+    is("nobody joined it", source.join_desired || source.joins.low || source.inherited_olist.low || source.spt_bit, false);
+    is("one on a link of the router", viq_source_tree(router, 0x0a000207, 0xe1010101, &source), true);
+    is("which is no neighbour", source.path.is_connected && source.rpf_cause == VIQ_RPF_CONNECTED, true);
+    is("one of the router's own", viq_source_tree(router, 0x0a000101, 0xe1010101, &source), true);
+    is("which has no way", !source.path.is_there && source.rpf_cause == VIQ_RPF_OWN, true);
+}
+
+static void told_links(struct viq_router *router) {
+    struct viq_link link = {.dr = 7};
+    is("no interface of this number", viq_link(router, 3, &link), false);
+    is("what isn't told", link.dr, 7);
+    is("a link", viq_link(router, 1, &link), true);
+    is("it is up", link.is_up, true);
+    is("the neighbour is the DR", !link.is_dr && link.dr == 0x0a000102, true);
+    is("the router queries", link.querier.role == VIQ_QUERIER_OWN && link.querier.robustness == 2 && link.querier.query_interval == 125, true);
+    struct viq_neighbour neighbour = {.end = 7};
+    is("no neighbour of this address", viq_neighbour(router, 1, 0x0a000103, &neighbour), false);
+    is("nor is it told", neighbour.end, 7);
+    is("a neighbour", viq_neighbour(router, 1, 0x0a000102, &neighbour), true);
+    is("which stays for ever", neighbour.end, VIQ_NEVER);
 }
 
 /* ---- a data plane: the source of the Join, another one, and a third that is on the router's own link */
@@ -676,6 +732,8 @@ int main(void) {
     moments_and_interfaces(router);
     packets(router);
     cached(router);
+    told_trees(router);
+    told_links(router);
     tables(router);
     many_interfaces();
     plane();

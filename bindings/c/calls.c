@@ -129,6 +129,22 @@ bool viq_cached(const struct viq_router *router, uint32_t source, uint32_t group
     return viq_core_cached(CORE(router), source, group, forwarding);
 }
 
+bool viq_tree(const struct viq_router *router, uint32_t group, struct viq_tree *tree) {
+    return viq_core_tree(CORE(router), group, tree);
+}
+
+bool viq_source_tree(const struct viq_router *router, uint32_t source, uint32_t group, struct viq_source_tree *tree) {
+    return viq_core_source_tree(CORE(router), source, group, tree);
+}
+
+bool viq_link(const struct viq_router *router, uint32_t iface, struct viq_link *link) {
+    return viq_core_link(CORE(router), iface, link);
+}
+
+bool viq_neighbour(const struct viq_router *router, uint32_t iface, uint32_t address, struct viq_neighbour *neighbour) {
+    return viq_core_neighbour(CORE(router), iface, address, neighbour);
+}
+
 bool viq_offload(const struct viq_router *router, uint32_t source, uint32_t group, struct viq_plane_row *row) {
     return viq_core_offload(CORE(router), source, group, row);
 }

@@ -65,7 +65,7 @@ extern "C" {
 /* The number of what a compiled program and a library have to agree on: the values, the calls and the numbers of this
  * header and of plane.h. Wherever one of them changes, this number changes. A program passes it to viq_new and
  * viq_restore, which refuse any other. */
-#define VIQ_ABI 3
+#define VIQ_ABI 4
 
 /* The library's number: VIQ_ABI as it was built with. */
 uint32_t viq_abi(void);
@@ -374,6 +374,143 @@ struct viq_forwarding {
  * for a lost router, and for NULL. */
 VIQ_READ_ANSWER VIQ_NOT_NULL(4)
 bool viq_cached(const struct viq_router *router, uint32_t source, uint32_t group, struct viq_forwarding *forwarding);
+
+/* ---- trees and links: the macros of RFC 7761, each evaluated anew in the present state
+ *
+ * The calls of this part answer false, and write nothing, for a lost router, and for NULL. */
+
+/* A number that may not be there; its value is 0 then. */
+struct viq_number {
+    bool is_there;
+    uint32_t value;
+};
+
+/* A neighbour that may not be there; all is 0 then. */
+struct viq_hop {
+    bool is_there;
+    uint32_t iface;
+    uint32_t address;
+};
+
+/* A unicast route that may not be there; all is 0 then. */
+struct viq_path {
+    bool is_there;
+    bool is_connected; /* it leads to a link of the router: the next hop is the address itself */
+    uint32_t iface;    /* RPF_interface */
+    uint32_t next_hop;
+    uint32_t preference;
+    uint32_t metric;
+};
+
+/* Where RPF' comes from, or why there is none. The root is RP(G) of RPF'(*,G), and S of RPF'(S,G). */
+enum {
+    VIQ_RPF_WINNER = 1,       /* the winner of an assert that the router lost on the RPF interface */
+    VIQ_RPF_NEXT_HOP = 2,     /* the next hop of the route to the root */
+    VIQ_RPF_CONNECTED = 3,    /* none: the root is on a link of the router, and is no neighbour */
+    VIQ_RPF_NO_NEIGHBOUR = 4, /* none: the next hop is no neighbour */
+    VIQ_RPF_NO_ROUTE = 5,     /* none: there is no route to the root over an interface that is up */
+    VIQ_RPF_OWN = 6,          /* none: the root is the router itself */
+    VIQ_RPF_NO_RP = 7         /* none: the group has no RP */
+};
+
+/* The macros of (*,G). */
+struct viq_tree {
+    struct viq_number rp;         /* RP(G) */
+    struct viq_path path;         /* the route to RP(G) */
+    struct viq_hop rpf_neighbour; /* RPF'(*,G) */
+    uint32_t rpf_cause;           /* VIQ_RPF_.. */
+    bool join_desired;            /* JoinDesired(*,G) */
+    struct viq_interfaces joins;  /* joins(*,G) */
+    struct viq_interfaces local_receiver_include; /* local_receiver_include(*,G): where hosts want the group */
+    struct viq_interfaces pim_include;     /* pim_include(*,G): where the router serves them */
+    struct viq_interfaces lost_assert;     /* lost_assert(*,G) */
+    struct viq_interfaces won_assert;      /* where AssertWinner(*,G,I) is the router */
+    struct viq_interfaces immediate_olist; /* immediate_olist(*,G) */
+};
+
+/* The macros of any group. */
+VIQ_READ_ANSWER VIQ_NOT_NULL(3)
+bool viq_tree(const struct viq_router *router, uint32_t group, struct viq_tree *tree);
+
+/* The upstream state of (S,G,rpt). */
+enum { VIQ_RPT_NOT_JOINED = 0, VIQ_RPT_PRUNED = 1, VIQ_RPT_NOT_PRUNED = 2 };
+
+/* The macros of (S,G) and of (S,G,rpt). */
+struct viq_source_tree {
+    struct viq_path path;             /* the route to S */
+    struct viq_hop rpf_neighbour;     /* RPF'(S,G) */
+    uint32_t rpf_cause;               /* VIQ_RPF_.. */
+    struct viq_hop rpf_neighbour_rpt; /* RPF'(S,G,rpt) */
+    uint32_t rpt_state;               /* VIQ_RPT_.. */
+    bool spt_bit;                     /* SPTbit(S,G) */
+    bool is_kept_alive;               /* KeepaliveTimer(S,G) is running */
+    bool join_desired;                /* JoinDesired(S,G) */
+    bool prune_desired;               /* PruneDesired(S,G,rpt) */
+    bool could_register;              /* CouldRegister(S,G) */
+    bool has_tunnel;                  /* the register tunnel is in joins, immediate_olist and inherited_olist */
+    struct viq_interfaces joins;      /* joins(S,G) */
+    struct viq_interfaces prunes;     /* prunes(S,G,rpt) */
+    struct viq_interfaces local_receiver_include; /* local_receiver_include(S,G) */
+    struct viq_interfaces local_receiver_exclude; /* local_receiver_exclude(S,G) */
+    struct viq_interfaces pim_include;            /* pim_include(S,G) */
+    struct viq_interfaces pim_exclude;            /* pim_exclude(S,G) */
+    struct viq_interfaces lost_assert;            /* lost_assert(S,G) */
+    struct viq_interfaces lost_assert_rpt;        /* lost_assert(S,G,rpt) */
+    struct viq_interfaces won_assert;             /* where AssertWinner(S,G,I) is the router */
+    struct viq_interfaces immediate_olist;        /* immediate_olist(S,G) */
+    struct viq_interfaces inherited_olist;        /* inherited_olist(S,G) */
+    struct viq_interfaces inherited_olist_rpt;    /* inherited_olist(S,G,rpt) */
+};
+
+/* The macros of any source of any group, whether it has a fact or not. */
+VIQ_READ_ANSWER VIQ_NOT_NULL(4)
+bool viq_source_tree(const struct viq_router *router, uint32_t source, uint32_t group, struct viq_source_tree *tree);
+
+/* Who queries on an interface (RFC 3376, section 6.6.2). */
+enum {
+    VIQ_QUERIER_NONE = 0, /* nobody: the interface is down, and all is 0, or VIQ_NEVER for a time */
+    VIQ_QUERIER_OWN = 1,  /* the router itself */
+    VIQ_QUERIER_OTHER = 2 /* another router, with a lower address */
+};
+struct viq_querier {
+    uint32_t role;           /* VIQ_QUERIER_.. */
+    uint64_t end;            /* ms, when the next general query leaves, or when the router takes over from the other */
+    uint32_t startup_left;   /* startup queries that are still to leave with it; 0 where another router queries */
+    uint32_t robustness;     /* the values in force, which a querier announces to the others */
+    uint32_t query_interval; /* seconds */
+};
+
+/* An interface that is configured. */
+struct viq_link {
+    bool is_up;
+    bool is_dr;  /* I_am_DR(I): the router itself is the DR */
+    uint32_t dr; /* DR(I), an address */
+    struct viq_querier querier;
+};
+
+/* An interface. It answers false also where it isn't configured. */
+VIQ_READ_ANSWER VIQ_NOT_NULL(3)
+bool viq_link(const struct viq_router *router, uint32_t iface, struct viq_link *link);
+
+/* The LAN Prune Delay option of a Hello, which may not be there; all is 0 then. */
+struct viq_lan_delay {
+    bool is_there;
+    bool can_track;             /* the T bit: the neighbour can turn Join suppression off */
+    uint32_t propagation_delay; /* ms */
+    uint32_t override_interval; /* ms */
+};
+
+/* A neighbour with the options of its last Hello. */
+struct viq_neighbour {
+    uint64_t end;                 /* ms, when its holdtime expires, or VIQ_NEVER */
+    struct viq_number priority;   /* DR Priority */
+    struct viq_number generation; /* Generation ID */
+    struct viq_lan_delay lan_delay;
+};
+
+/* A neighbour; the table N lists them. It answers false also where the interface has no neighbour of this address. */
+VIQ_READ_ANSWER VIQ_NOT_NULL(4)
+bool viq_neighbour(const struct viq_router *router, uint32_t iface, uint32_t address, struct viq_neighbour *neighbour);
 
 /* ---- older versions of IGMP (RFC 3376, section 7.3)
  *

@@ -11,7 +11,9 @@ use rand::rngs::{OsRng, StdRng};
 use rand::{RngCore, SeedableRng};
 use std::collections::BTreeMap;
 use std::net::Ipv4Addr;
-use viqeshor::{Error, OlderRow, Packet, Range, Refusal, Route, Router, Sent, Table, Verdict, MOST_BYTES};
+use viqeshor::{
+    Error, Link, OlderRow, Packet, Range, Refusal, Route, Router, Sent, SourceTree, Table, Tree, Verdict, MOST_BYTES,
+};
 
 /// What happens to the router.
 #[derive(Clone, Copy, Debug)]
@@ -259,6 +261,21 @@ impl Core {
         let read = self.router.older_rows();
         self.refused_memory += u64::from(matches!(read, Err(Error::Memory)));
         Ok(read?)
+    }
+
+    /// The macros of (*,G); `None` once the router is lost.
+    pub fn tree(&self, group: Ipv4Addr) -> Option<Tree> {
+        self.router.tree(group)
+    }
+
+    /// The macros of (S,G) and of (S,G,rpt); `None` once the router is lost.
+    pub fn source_tree(&self, key: Key) -> Option<SourceTree> {
+        self.router.source_tree(key.source, key.group)
+    }
+
+    /// An interface with its DR and its querier; `None` once the router is lost.
+    pub fn link(&self, iface: u32) -> Option<Link> {
+        self.router.link(iface)
     }
 
     /// Each neighbour with its interface.

@@ -172,7 +172,7 @@ const OF_PORTS: [OfPort; 7] = [
         u64::from(port.standing.is_up())
     }),
     ("interface_dr", Kind::Gauge, "Whether the router is the designated router of the link.", |daemon, port| {
-        let is_dr = port.standing.is_up() && Some(show::designated(daemon, port)) == port.address();
+        let is_dr = port.standing.is_up() && daemon.core.link(port.number).map_or(false, |link| link.is_dr);
         u64::from(is_dr)
     }),
     ("pim_neighbors", Kind::Gauge, "The PIM neighbours of the interface.", |daemon, port| {

@@ -10,12 +10,12 @@ use crate::older::Version;
 use crate::plane::Entry;
 use crate::ports::{Port, Standing};
 use crate::routes::{longest, Counts};
-use crate::settings::{mask, RpSettings};
+use crate::settings::RpSettings;
 use clap::ValueEnum;
 use serde_json::{json, Map, Value};
 use std::collections::{BTreeMap, BTreeSet, HashMap};
 use std::net::Ipv4Addr;
-use viqeshor::{Interfaces, OlderRow, Row, Table};
+use viqeshor::{Interfaces, OlderRow, Row, Rpf, Table};
 
 /// What can be shown.
 #[derive(Clone, Copy, Debug, PartialEq, Eq, ValueEnum)]
@@ -62,7 +62,6 @@ impl Topic {
         Topic::value_variants().iter().find(|topic| topic.name() == name).copied()
     }
 }
-const SSM: (u32, u8) = (0xe800_0000, 8);
 /// States of `Table::Downstream`.
 const PRUNED: u32 = 3;
 /// The state of `Table::Active` in which data is registered.
@@ -174,11 +173,9 @@ fn address(number: u32) -> Value {
 
 // ---- RPs and ways
 
-/// The RP of a group.
-pub fn rp_of(ranges: &[RpSettings], group: u32) -> Option<Ipv4Addr> {
-    let is_ssm = group & mask(SSM.1) == SSM.0;
-    let fits = ranges.iter().filter(|range| !is_ssm && range.groups.contains(group));
-    fits.max_by_key(|range| range.groups.length).map(|range| range.address)
+/// RP(G).
+pub fn rp_of(daemon: &Daemon, group: u32) -> Option<Ipv4Addr> {
+    daemon.core.tree(group.into())?.rp
 }
 
 /// The interface towards an address, and the next hop, or the address itself on a link of the router.
@@ -199,7 +196,7 @@ fn rp(daemon: &mut Daemon) -> Result<Rows, Fatal> {
     let row = |range: &RpSettings| {
         let is_here = daemon.ports.iter().any(|port| port.address() == Some(range.address));
         let way = way(daemon, range.address).filter(|_| !is_here);
-        let is_used = |group: &&u32| rp_of(ranges, **group) == Some(range.address) && range.groups.contains(**group);
+        let is_used = |group: &&u32| rp_of(daemon, **group) == Some(range.address) && range.groups.contains(**group);
         vec![
             ("groups", json!(range.groups.to_string())),
             ("rp", json!(range.address.to_string())),
@@ -232,14 +229,9 @@ fn neighbours(daemon: &mut Daemon) -> Result<Rows, Fatal> {
     Ok(rows.iter().map(row).collect())
 }
 
-/// By RFC 7761, 4.3.2: the priorities count where all announce one.
-pub fn designated(daemon: &Daemon, port: &Port) -> Ipv4Addr {
-    let here = daemon.neighbours.known.iter().filter(|((iface, _), _)| *iface == port.number);
-    let others: Vec<_> = here.map(|((_, address), known)| (known.priority, *address)).collect();
-    let all_announce = others.iter().all(|(priority, _)| priority.is_some());
-    let weight = |priority: Option<u32>| if all_announce { priority } else { None };
-    let own = (weight(Some(port.settings.priority)), port.told_subnet().address);
-    others.into_iter().map(|(priority, address)| (weight(priority), address)).fold(own, Ord::max).1
+/// DR(I) of an interface that is up.
+pub fn designated(daemon: &Daemon, port: &Port) -> Option<Ipv4Addr> {
+    Some(daemon.core.link(port.number).filter(|link| link.is_up)?.dr)
 }
 
 fn interfaces(daemon: &mut Daemon) -> Result<Rows, Fatal> {
@@ -255,7 +247,7 @@ fn interfaces(daemon: &mut Daemon) -> Result<Rows, Fatal> {
             ("vif", json!(port.vif)),
             ("is_up", json!(is_up)),
             ("up_seconds", if is_up { seconds(daemon.now().saturating_sub(port.since)) } else { Value::Null }),
-            ("dr", if is_up { json!(designated(daemon, port).to_string()) } else { Value::Null }),
+            ("dr", designated(daemon, port).map_or(Value::Null, |dr| json!(dr.to_string()))),
             ("neighbors", json!(neighbours)),
             ("heard", json!(port.passed.heard)),
             ("refused", json!(port.passed.refused)),
@@ -333,27 +325,20 @@ fn leaving(daemon: &Daemon, entry: &Entry) -> Vec<String> {
 /// The interfaces where somebody asks for a group's sources, or for one of them: by group and source, 0 for all.
 type Asking = BTreeMap<(u32, u32), BTreeSet<u32>>;
 
-/// Whether the hosts of an interface are this router's: it is the designated one and lost no assert, or it won one.
-fn serves(daemon: &Daemon, asserts: &[Row], iface: u32, group: u32, source: u32) -> bool {
-    let port = &daemon.ports[iface as usize];
-    let of_it = |row: &&Row| (row.iface, u32::from(row.group), u32::from(row.source)) == (iface, group, source);
-    asserts.iter().find(of_it).map_or_else(|| Some(designated(daemon, port)) == port.address(), |row| !row.is_set)
-}
-
-/// Hosts that the router serves.
+/// Hosts that the router serves: pim_include(*,G) and pim_include(S,G).
 fn asking_hosts(daemon: &mut Daemon) -> Result<Asking, Fatal> {
     let (groups, sources) = (rows_of(daemon, Table::Groups)?, rows_of(daemon, Table::Sources)?);
-    let asserts = rows_of(daemon, Table::Asserts)?;
-    let excluding: BTreeSet<_> =
-        groups.iter().filter(|row| row.is_set).map(|row| (row.iface, u32::from(row.group))).collect();
-    let of_all = excluding.iter().map(|(iface, group)| (*iface, *group, 0));
-    // A source that has no time is excluded; where a group is excluded the others are asked for with it.
-    let is_asked = |row: &&Row| row.end != u64::MAX && !excluding.contains(&(row.iface, u32::from(row.group)));
-    let of_one = sources.iter().filter(is_asked).map(|row| (row.iface, u32::from(row.group), u32::from(row.source)));
     let mut asking = Asking::new();
-    for (iface, group, source) in of_all.chain(of_one).filter(|it| serves(daemon, &asserts, it.0, it.1, it.2)) {
-        asking.entry((group, source)).or_default().insert(iface);
+    for row in &groups {
+        let served = daemon.core.tree(row.group).map(|tree| tree.pim_include);
+        asking.insert((row.group.into(), 0), served.iter().flat_map(|set| set.iter()).collect());
     }
+    for row in &sources {
+        let key = Key { source: row.source, group: row.group };
+        let served = daemon.core.source_tree(key).map(|tree| tree.pim_include);
+        asking.insert((row.group.into(), row.source.into()), served.iter().flat_map(|set| set.iter()).collect());
+    }
+    asking.retain(|_, ifaces| !ifaces.is_empty());
     Ok(asking)
 }
 
@@ -416,37 +401,33 @@ impl Flags {
     }
 }
 
-/// The shared trees: each group that a host or a router asked for.
+/// The shared trees: each group that a host or a router asked for. Its packets leave on immediate_olist(*,G).
 fn shared_trees(daemon: &Daemon, askers: &Askers) -> BTreeMap<(u32, u32), Cells> {
-    let mut wanted: BTreeMap<u32, BTreeSet<u32>> = BTreeMap::new();
-    for ((group, _), ifaces) in askers.hosts.iter().chain(&askers.routers).filter(|((_, source), _)| *source == 0) {
-        wanted.entry(*group).or_default().extend(ifaces);
-    }
-    let row = |(group, outgoing): (&u32, &BTreeSet<u32>)| {
-        let rp = rp_of(&daemon.settings.rps, *group);
-        let is_here = daemon.ports.iter().any(|port| port.address() == rp);
-        let way = rp.filter(|_| !is_here).and_then(|rp| way(daemon, rp)).map(|(iface, _)| iface);
-        let leaves: BTreeSet<_> =
-            outgoing.iter().filter(|iface| Some(**iface) != way).map(|iface| daemon.name(*iface)).collect();
-        let place = (*group, 0);
+    let asked = askers.hosts.keys().chain(askers.routers.keys());
+    let groups: BTreeSet<_> = asked.filter(|(_, source)| *source == 0).map(|(group, _)| *group).collect();
+    let row = |group: u32| {
+        let tree = daemon.core.tree(group.into())?;
+        let way = tree.path.map(|path| path.iface);
+        let leaves: BTreeSet<_> = tree.immediate_olist.iter().filter(|iface| Some(*iface) != way).collect();
+        let place = (group, 0);
         let has_hosts = Askers::is_asked(&askers.hosts, place);
         let flags = Flags { has_hosts, is_sent: !leaves.is_empty(), ..Flags::default() };
         let cells = vec![
             ("source", json!("*")),
-            ("group", address(*group)),
+            ("group", address(group)),
             ("flags", json!(flags.letters())),
             ("asked_by", json!(askers.in_words(place))),
             ("incoming", way.map_or(Value::Null, |iface| json!(daemon.name(iface)))),
-            ("outgoing", json!(leaves)),
-            ("forwarding", json!(if is_here { "this is the RP" } else { "by each source's entry" })),
+            ("outgoing", json!(leaves.iter().map(|iface| daemon.name(*iface)).collect::<BTreeSet<_>>())),
+            ("forwarding", json!(if tree.rpf == Rpf::Own { "this is the RP" } else { "by each source's entry" })),
             ("up_seconds", Value::Null),
             ("packets", Value::Null),
             ("bytes", Value::Null),
             ("stray", Value::Null),
         ];
-        (place, cells)
+        Some((place, cells))
     };
-    wanted.iter().map(row).collect()
+    groups.into_iter().filter_map(row).collect()
 }
 
 /// Who forwards packets of an entry.
@@ -616,18 +597,6 @@ mod tests {
         assert_eq!(as_text(&Vec::new()), "none\n");
         let read: Value = serde_json::from_str(&as_json("things", rows)).unwrap();
         assert_eq!(read["things"][1], json!({"name": "long", "is_up": false, "out": []}));
-    }
-
-    #[test]
-    fn the_longest_range_gives_the_rp_and_ssm_has_none() {
-        let range = |text: &str, last| {
-            let (address, length) = text.split_once('/').unwrap();
-            let groups = crate::settings::Subnet { address: address.parse().unwrap(), length: length.parse().unwrap() };
-            RpSettings { groups, address: Ipv4Addr::new(10, 0, 0, last) }
-        };
-        let ranges = [range("224.0.0.0/4", 1), range("239.0.0.0/8", 2)];
-        let rp = |text: &str| rp_of(&ranges, text.parse::<Ipv4Addr>().unwrap().into()).map(|rp| rp.octets()[3]);
-        assert_eq!([rp("239.1.1.1"), rp("225.1.1.1"), rp("232.1.1.1")], [Some(2), Some(1), None]);
     }
 
     #[test]

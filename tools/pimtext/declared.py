@@ -15,7 +15,9 @@ NAMES = {
     "Handle": "viq_core", "GivenInterface": "viq_interface", "GivenRoute": "viq_route", "GivenRange": "viq_range",
     "GivenSettings": "viq_settings", "Packet": "viq_packet", "TableRow": "viq_row", "Interfaces": "viq_interfaces",
     "Forwarding": "viq_forwarding", "PlaneRow": "viq_plane_row", "OlderGroup": "viq_older_row",
-    "NamedSource": "viq_source_group",
+    "NamedSource": "viq_source_group", "ToldNumber": "viq_number", "ToldHop": "viq_hop", "ToldPath": "viq_path",
+    "ToldTree": "viq_tree", "ToldSourceTree": "viq_source_tree", "ToldQuerier": "viq_querier", "ToldLink": "viq_link",
+    "ToldLanDelay": "viq_lan_delay", "ToldNeighbour": "viq_neighbour",
 }
 # `Place` is a pointer beside what takes no room.
 TYPES = {"u8": "uint8_t", "u32": "uint32_t", "u64": "uint64_t", "usize": "size_t", "bool": "bool", "Place": "void *"}
@@ -32,7 +34,7 @@ C_NUMBER = re.compile(r"^#define (VIQ_(?:MOST|NEVER|NO|USUAL)\w*) (.+)$", re.M)
 
 def structs() -> dict[str, list[tuple[str, str]]]:
     """The crate's values that C sees: each with its fields, a name and a type of C."""
-    text = "".join((SOURCES / name).read_text() for name in ("handle.rt", "given.rt", "told.rt"))
+    text = "".join((SOURCES / name).read_text() for name in ("handle.rt", "given.rt", "told.rt", "trees.rt"))
     found = {name: FIELD.findall(body) for name, body in STRUCT.findall(text)}
     return {NAMES[name]: [(field, c_type(kind)) for field, kind in found[name]] for name in NAMES}
 

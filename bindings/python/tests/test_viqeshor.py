@@ -87,6 +87,28 @@ class Routers(unittest.TestCase):
         router.set_ranges([])
         self.assertIsNone(router.cached("10.0.3.5", "225.1.1.1").shared_rpf)
 
+    def test_what_the_trees_are(self):
+        router = self.joined()
+        tree = router.tree("225.1.1.1")
+        self.assertEqual((tree.rp, tree.rpf_neighbour, tree.rpf_cause), ("10.9.9.9", (0, "10.0.0.1"), "next hop"))
+        self.assertEqual((tree.path.iface, tree.path.is_connected, tree.join_desired), (0, False, False))
+        self.assertEqual((tree.joins, tree.immediate_olist, tree.lost_assert), (set(), set(), set()))
+        self.assertEqual(router.tree("232.1.1.1")[:4], (None, None, None, "no rp"))
+        source = router.source_tree("10.0.3.5", "225.1.1.1")
+        self.assertEqual((source.joins, source.immediate_olist, source.inherited_olist), ({1}, {1}, {1}))
+        self.assertEqual((source.rpf_neighbour, source.rpt_state), ((0, "10.0.0.1"), "notjoined"))
+        self.assertEqual((source.join_desired, source.spt_bit, source.has_tunnel), (True, False, False))
+        self.assertEqual(router.source_tree("10.0.1.1", "225.1.1.1").rpf_cause, "own")
+
+    def test_what_the_links_are(self):
+        router = self.joined()
+        link = router.link(1)
+        self.assertEqual((link.is_up, link.is_dr, link.dr), (True, False, "10.0.1.2"))
+        self.assertEqual((link.querier.role, link.querier.robustness, link.querier.query_interval), ("own", 2, 125))
+        self.assertIsNone(router.link(9))
+        self.assertIsNotNone(router.neighbour(1, "10.0.1.2"))
+        self.assertIsNone(router.neighbour(1, "10.0.1.3"))
+
     def test_what_a_data_plane_is_told(self):
         router, name = self.joined(), ("10.0.3.5", "225.1.1.1")
         unknown = router.offload(*name)

@@ -28,6 +28,10 @@ use std::net::Ipv4Addr;
 use std::os::raw::{c_char, c_void};
 use std::ptr::{null_mut, NonNull};
 
+mod trees;
+
+pub use trees::{Hop, LanDelay, Link, Neighbour, Path, Querier, Querying, Rpf, RptState, SourceTree, Tree};
+
 /// The most bytes that a packet has.
 pub const MOST_BYTES: usize = 1528;
 /// The states of a row of the table of Joins.
@@ -40,7 +44,7 @@ pub const REGISTER_JOINED: u32 = 1;
 pub const REGISTER_JOIN_PENDING: u32 = 2;
 pub const REGISTER_PRUNED: u32 = 3;
 /// What this crate and the library have to agree on: `VIQ_ABI` of `viqeshor.h`.
-pub const ABI: u32 = 3;
+pub const ABI: u32 = 4;
 
 const DONE: u32 = 0;
 const MEMORY: u32 = 40;
@@ -700,6 +704,10 @@ extern "C" {
     fn viq_older_rows(router: *const c_void) -> usize;
     fn viq_older_row(router: *const c_void, index: usize, row: *mut raw::OlderRow) -> bool;
     fn viq_cached(router: *const c_void, source: u32, group: u32, forwarding: *mut Forwarding) -> bool;
+    fn viq_tree(router: *const c_void, group: u32, tree: *mut trees::raw::Tree) -> bool;
+    fn viq_source_tree(router: *const c_void, source: u32, group: u32, tree: *mut trees::raw::SourceTree) -> bool;
+    fn viq_link(router: *const c_void, iface: u32, link: *mut trees::raw::Link) -> bool;
+    fn viq_neighbour(router: *const c_void, iface: u32, address: u32, neighbour: *mut trees::raw::Neighbour) -> bool;
     fn viq_offload(router: *const c_void, source: u32, group: u32, row: *mut PlaneRow) -> bool;
     fn viq_changed(router: *const c_void) -> usize;
     fn viq_changed_source(router: *const c_void, index: usize, name: *mut SourceGroup) -> bool;
@@ -962,6 +970,37 @@ impl Router {
         let mut told = Forwarding::default();
         // SAFETY: the router is there.
         unsafe { viq_cached(self.at(), source.into(), group.into(), &mut told) }.then_some(told)
+    }
+
+    // ---- trees and links: each macro of RFC 7761, evaluated anew; all are `None` for a lost router
+
+    /// The macros of (\*,G) of any group.
+    pub fn tree(&self, group: Ipv4Addr) -> Option<Tree> {
+        let mut told = trees::raw::Tree::default();
+        // SAFETY: the router is there.
+        unsafe { viq_tree(self.at(), group.into(), &mut told) }.then(|| Tree::told(told))
+    }
+
+    /// The macros of (S,G) and of (S,G,rpt) of any source of any group, whether it has a fact or not.
+    pub fn source_tree(&self, source: Ipv4Addr, group: Ipv4Addr) -> Option<SourceTree> {
+        let mut told = trees::raw::SourceTree::default();
+        // SAFETY: the router is there.
+        unsafe { viq_source_tree(self.at(), source.into(), group.into(), &mut told) }.then(|| SourceTree::told(told))
+    }
+
+    /// An interface with its DR and its querier; `None` also where it isn't configured.
+    pub fn link(&self, iface: u32) -> Option<Link> {
+        let mut told = trees::raw::Link::default();
+        // SAFETY: the router is there.
+        unsafe { viq_link(self.at(), iface, &mut told) }.then(|| Link::told(told))
+    }
+
+    /// A neighbour with the options of its last Hello; `None` also where there is none of this address. The table of
+    /// neighbours lists them.
+    pub fn neighbour(&self, iface: u32, address: Ipv4Addr) -> Option<Neighbour> {
+        let mut told = trees::raw::Neighbour::default();
+        // SAFETY: the router is there.
+        unsafe { viq_neighbour(self.at(), iface, address.into(), &mut told) }.then(|| Neighbour::told(told))
     }
 
     // ---- older versions of IGMP

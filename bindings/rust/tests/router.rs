@@ -1,8 +1,8 @@
 //! Each call of the crate once, and what it answers: a Join of 10.0.1.2 comes and a packet of its source, as in `examples/library`.
 use std::net::Ipv4Addr;
 use viqeshor::{
-    Error, Interface, Kind, OlderHosts, OlderRow, QueryVersion, Range, Reason, Refusal, Route, Router, Settings, Table,
-    Verdict, JOINED,
+    Error, Hop, Interface, Kind, OlderHosts, OlderRow, Querier, QueryVersion, Range, Reason, Refusal, Route, Router,
+    Rpf, RptState, Settings, Table, Verdict, JOINED,
 };
 
 const HELLO_ABOVE: &str = "45C0001E000000000167CEAB0A000001E000000D2000DFFC00010002FFFF";
@@ -131,6 +131,37 @@ fn how_data_goes() {
     assert_eq!((told.rpf(), told.shared_rpf()), (Some(0), Some(1)));
     assert_eq!(router.set_ranges(&[], 0), DONE);
     assert_eq!(router.cached(source, group).unwrap().shared_rpf(), None);
+}
+
+#[test]
+fn what_the_trees_are() {
+    let router = joined();
+    let (source, group) = (address([10, 0, 3, 5]), address([225, 1, 1, 1]));
+    let next_hop = Hop { iface: 0, address: address([10, 0, 0, 1]) };
+    let tree = router.tree(group).unwrap();
+    assert_eq!((tree.rp, tree.rpf), (Some(address([10, 9, 9, 9])), Rpf::NextHop(next_hop)));
+    assert_eq!((tree.path.unwrap().iface, tree.join_desired), (0, false));
+    assert_eq!(tree.immediate_olist.iter().count(), 0);
+    assert_eq!(router.tree(address([232, 1, 1, 1])).unwrap().rpf, Rpf::NoRp);
+    let tree = router.source_tree(source, group).unwrap();
+    assert_eq!(tree.immediate_olist.iter().collect::<Vec<_>>(), [1]);
+    assert_eq!((tree.joins, tree.inherited_olist), (tree.immediate_olist, tree.immediate_olist));
+    assert_eq!((tree.rpf.neighbour(), tree.rpt_state), (Some(next_hop), RptState::NotJoined));
+    assert!(tree.join_desired && !tree.spt_bit && !tree.has_tunnel);
+    assert_eq!(router.source_tree(address([10, 0, 1, 1]), group).unwrap().rpf, Rpf::Own);
+}
+
+#[test]
+fn what_the_links_are() {
+    let router = joined();
+    let link = router.link(1).unwrap();
+    assert_eq!((link.is_up, link.is_dr, link.dr), (true, false, address([10, 0, 1, 2])));
+    let querying = link.querying.unwrap();
+    assert!(matches!(querying.querier, Querier::Own { .. }));
+    assert_eq!((querying.robustness, querying.query_interval), (2, 125));
+    assert_eq!(router.link(9), None);
+    assert!(router.neighbour(1, address([10, 0, 1, 2])).is_some());
+    assert_eq!(router.neighbour(1, address([10, 0, 1, 3])), None);
 }
 
 #[test]

@@ -2,4 +2,5 @@ pub mod Called
 pub mod Given
 pub mod Kept
 pub mod Told
+pub mod Trees
 pub use Rattle.pim_session.specs.Session

@@ -7,6 +7,7 @@ ghost use Rattle.pim_model.specs.Timers.{next_moment};
 ghost use Rattle.pim_offload.specs.Seen.{seen_event};
 ghost use Rattle.pim_types.specs.declared.event.EventKind.{EventKind};
 ghost use Rattle.pim_c.specs.Called.{CachedTold, Copied, HostsSetBy, KeepAnswered, Made, NameTold, OffloadTold, OlderRead, OlderTold, PacketTold, ReadBy, Restored, RowTold, Saved, Seen, Stepped, VersionSetBy, changed_in, copies_in, is_copy, may_differ_in, older_rows_in, packets_in, probes_in, rows_in, standing_in, touched_in};
+ghost use Rattle.pim_c.specs.Trees.{ValueTold, link_in, link_of, neighbour_in, neighbour_of, source_tree_in, source_tree_of, tree_in, tree_of};
 ghost use Rattle.pim_ifset.specs.Members.{iface_of};
 ghost use Rattle.pim_c.specs.Given.{config_of, given_event, range_of, route_of};
 ghost use Rattle.pim_c.specs.Told.{never, older_hosts_of, query_version_of, table_of_letter};
@@ -17,8 +18,9 @@ use crate::told::{
     self, Forwarding, LAST_MOMENT, MEMORY, MOMENT_FAR, NO_SETTING, NO_TABLE, NamedSource,
     OlderGroup, Packet, PlaneRow, TableRow,
 };
+use crate::trees::{ToldLink, ToldNeighbour, ToldSourceTree, ToldTree};
 use pim_intake::LentEvent;
-use pim_types::{Addr, Event, EventKind, IfaceId};
+use pim_types::{Addr, Event, EventKind, IfaceId, SourceGroup};
 use std::alloc::Global;
 
 /// Makes a router of a configuration. If the handle had a router and the new one is made, the old one is freed.
@@ -331,6 +333,71 @@ pub extern "C" fn viq_core_offload(
     let source = Addr { bits: source };
     let group = Addr { bits: group };
     router.offload(alloc, source, group, row)
+}
+
+/// The macros of (*,G) of any group, each evaluated anew. False where there is no router that works.
+#[unsafe(no_mangle)]
+pub extern "C" fn viq_core_tree(
+    alloc: Global,
+    router: &mut Handle,
+    group: u32,
+    tree: &mut ToldTree,
+) -> bool
+    ensures told { ValueTold tree_of (tree_in (standing_in router.old.place.inside) group) result tree.old tree.new }
+    ensures stays { router.new.place.inside ≡ router.old.place.inside }
+{
+    router.tree(alloc, Addr { bits: group }, tree)
+}
+
+/// The macros of (S,G) and of (S,G,rpt) of any source and group, each evaluated anew. False where there is no router
+/// that works.
+#[unsafe(no_mangle)]
+pub extern "C" fn viq_core_source_tree(
+    alloc: Global,
+    router: &mut Handle,
+    source: u32,
+    group: u32,
+    tree: &mut ToldSourceTree,
+) -> bool
+    ensures told { ValueTold source_tree_of (source_tree_in (standing_in router.old.place.inside) group source)
+        result tree.old tree.new }
+    ensures stays { router.new.place.inside ≡ router.old.place.inside }
+{
+    let source = Addr { bits: source };
+    let group = Addr { bits: group };
+    router.source_tree(alloc, SourceGroup { source, group }, tree)
+}
+
+/// An interface with its DR and its querier. False where it isn't configured.
+#[unsafe(no_mangle)]
+pub extern "C" fn viq_core_link(
+    alloc: Global,
+    router: &mut Handle,
+    iface: u32,
+    link: &mut ToldLink,
+) -> bool
+    ensures told { ValueTold link_of (link_in (standing_in router.old.place.inside) iface) result link.old link.new }
+    ensures stays { router.new.place.inside ≡ router.old.place.inside }
+{
+    router.link(alloc, IfaceId { number: iface }, link)
+}
+
+/// A neighbour on an interface with the options of its last Hello. False where there is none with the address.
+#[unsafe(no_mangle)]
+pub extern "C" fn viq_core_neighbour(
+    alloc: Global,
+    router: &mut Handle,
+    iface: u32,
+    address: u32,
+    neighbour: &mut ToldNeighbour,
+) -> bool
+    ensures told { ValueTold neighbour_of (neighbour_in (standing_in router.old.place.inside) iface address)
+        result neighbour.old neighbour.new }
+    ensures stays { router.new.place.inside ≡ router.old.place.inside }
+{
+    let iface = IfaceId { number: iface };
+    let address = Addr { bits: address };
+    router.neighbour(alloc, iface, address, neighbour)
 }
 
 /// How many sources the last event listed as changed in the forwarding cache.

@@ -8,3 +8,4 @@ pub mod handle;
 pub mod place;
 pub mod pointed;
 pub mod told;
+pub mod trees;

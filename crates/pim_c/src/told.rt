@@ -506,7 +506,7 @@ fn word(set: IfSet, from: u32, count: u32) -> u64
 }
 
 // The two words that have a set's interfaces as bits.
-fn words(set: IfSet) -> Interfaces
+pub(crate) fn words(set: IfSet) -> Interfaces
     ensures shown { (p : Set) → Shows set p → result ≡ interface_bits p }
     ensures below { (p : Set) → ((i : ℕ) → nat_lt i 120 ≡ true → has set i ≡ p i) → result ≡ interface_bits p }
 {

@@ -7,4 +7,5 @@ pub mod router;
 
 pub use pim_offrow::{Offered, OffloadRow};
 pub use pim_rested::RestoreRefusal;
+pub use pim_trees::{Link, Neighbour, RpfCause, SourceTree, Tree};
 pub use router::Router;

@@ -40,6 +40,7 @@ ghost use Rattle.pim_promises.specs.Bounded.{IsBounded};
 mod hosts;
 mod reload;
 mod saved;
+mod trees;
 
 use crate::plane::{bare_packet, keep, offer};
 use crate::probes::Probes;

@@ -150,6 +150,6 @@ impl Daemon {
     }
 
     fn is_rp_of(&self, group: Ipv4Addr) -> bool {
-        rp_of(&self.settings.rps, group.into()).map_or(false, |rp| self.is_own(rp))
+        rp_of(self, group.into()).map_or(false, |rp| self.is_own(rp))
     }
 }

@@ -1,12 +1,13 @@
 //! Joins and asserts, and the ways to RPs and sources.
-use super::{address, rows_of, rp_of, seconds, until, way, Cells, Rows};
+use super::{address, rows_of, seconds, until, way, Cells, Rows};
 use crate::daemon::Daemon;
 use crate::error::Fatal;
+use crate::mroute::Key;
 use crate::routes::longest_route;
 use serde_json::{json, Value};
 use std::collections::{BTreeMap, BTreeSet};
 use std::net::Ipv4Addr;
-use viqeshor::{Row, Table, JOINED, PRUNED, PRUNE_PENDING};
+use viqeshor::{Hop, Path, Row, Rpf, SourceTree, Table, Tree, JOINED, PRUNED, PRUNE_PENDING};
 
 /// Of a row of Joins.
 pub fn kind(row: &Row) -> &'static str {
@@ -75,76 +76,81 @@ pub fn asserts(daemon: &mut Daemon) -> Result<Rows, Fatal> {
 
 // ---- upstream
 
-/// Where Joins of a tree go (RFC 7761, 4.1.6): to the winner where the router lost an assert, else to the next hop.
-#[derive(Clone, Copy)]
+/// Where Joins of a tree go: RPF', whether it is the winner of an assert, and RPF_interface.
+#[derive(Clone, Copy, Default)]
 struct Upstream {
-    iface: u32,
-    neighbour: Ipv4Addr,
+    iface: Option<u32>,
+    neighbour: Option<Ipv4Addr>,
     is_by_assert: bool,
 }
 
-/// The asserts that the router lost: the winner by interface, group and source.
-type Lost = BTreeMap<(u32, Ipv4Addr, Ipv4Addr), Ipv4Addr>;
+impl Upstream {
+    fn of(path: Option<Path>, neighbour: Option<Hop>, is_by_assert: bool) -> Upstream {
+        Upstream { iface: path.map(|path| path.iface), neighbour: neighbour.map(|hop| hop.address), is_by_assert }
+    }
 
-fn lost(daemon: &mut Daemon) -> Result<Lost, Fatal> {
-    let rows = rows_of(daemon, Table::Asserts)?;
-    Ok(rows.iter().filter(|row| row.is_set).map(|row| ((row.iface, row.group, row.source), row.winner)).collect())
+    /// RPF'(*,G).
+    fn of_group(tree: &Tree) -> Upstream {
+        Upstream::of(tree.path, tree.rpf.neighbour(), matches!(tree.rpf, Rpf::Winner(_)))
+    }
+
+    /// RPF'(S,G).
+    fn of_source(tree: &SourceTree) -> Upstream {
+        Upstream::of(tree.path, tree.rpf.neighbour(), matches!(tree.rpf, Rpf::Winner(_)))
+    }
+
+    /// RPF'(S,G,rpt): RPF'(*,G), unless an assert of (S,G) was lost on its interface.
+    fn of_pruned(shared: &Tree, tree: &SourceTree) -> Upstream {
+        let is_own = tree.rpf_rpt != shared.rpf.neighbour();
+        Upstream {
+            is_by_assert: is_own || matches!(shared.rpf, Rpf::Winner(_)),
+            ..Upstream::of(shared.path, tree.rpf_rpt, false)
+        }
+    }
 }
 
 fn is_here(daemon: &Daemon, address: Ipv4Addr) -> bool {
     daemon.ports.iter().any(|port| port.address() == Some(address))
 }
 
-/// `sources` are those whose asserts count, the first one first.
-fn upstream_to(
-    daemon: &Daemon,
-    lost: &Lost,
-    root: Ipv4Addr,
-    group: Ipv4Addr,
-    sources: &[Ipv4Addr],
-) -> Option<Upstream> {
-    let (iface, next_hop) = way(daemon, root).filter(|_| !is_here(daemon, root))?;
-    let winner = sources.iter().find_map(|source| lost.get(&(iface, group, *source)));
-    Some(Upstream { iface, neighbour: winner.copied().unwrap_or(next_hop), is_by_assert: winner.is_some() })
-}
-
 fn upstream_cells(daemon: &Daemon, row: &Row, state: &str, upstream: Option<Upstream>, next_join: Value) -> Cells {
-    let interface = upstream.map_or(Value::Null, |it| json!(daemon.name(it.iface)));
+    let it = upstream.unwrap_or_default();
     vec![
         ("source", source(row)),
         ("group", address(row.group.into())),
         ("type", json!(kind(row))),
         ("state", json!(state)),
-        ("rpf_interface", interface),
-        ("rpf_neighbor", upstream.map_or(Value::Null, |it| json!(it.neighbour.to_string()))),
-        ("by_assert", json!(upstream.map_or(false, |it| it.is_by_assert))),
+        ("rpf_interface", it.iface.map_or(Value::Null, |iface| json!(daemon.name(iface)))),
+        ("rpf_neighbor", it.neighbour.map_or(Value::Null, |neighbour| json!(neighbour.to_string()))),
+        ("by_assert", json!(it.is_by_assert)),
         ("next_join_seconds", next_join),
     ]
 }
 
 /// The trees that the router has joined, and the sources of shared ones, each with RPF'.
 pub fn upstream(daemon: &mut Daemon) -> Result<Rows, Fatal> {
-    const ALL: Ipv4Addr = Ipv4Addr::UNSPECIFIED;
-    let (now, lost) = (daemon.now(), lost(daemon)?);
+    let now = daemon.now();
     let (joined, trees) = (rows_of(daemon, Table::Upstream)?, rows_of(daemon, Table::Trees)?);
+    let tree = |group| daemon.core.tree(group);
+    let source_tree = |row: &Row| daemon.core.source_tree(Key { source: row.source, group: row.group });
     let mut all = BTreeMap::new();
     for row in &joined {
-        let root = if row.source.is_unspecified() { rp_of_group(daemon, row.group) } else { Some(row.source) };
-        let found = root.and_then(|root| upstream_to(daemon, &lost, root, row.group, &[row.source]));
+        let found = if row.source.is_unspecified() {
+            tree(row.group).map(|tree| Upstream::of_group(&tree))
+        } else {
+            source_tree(row).map(|tree| Upstream::of_source(&tree))
+        };
         let cells = upstream_cells(daemon, row, "joined", found, until(row.end, now));
         all.insert((row.group, row.source, false), cells);
     }
     for row in &trees {
-        let (rp, state) = (rp_of_group(daemon, row.group), if row.is_set { "pruned" } else { "not pruned" });
-        let found = rp.and_then(|rp| upstream_to(daemon, &lost, rp, row.group, &[row.source, ALL]));
+        let state = if row.is_set { "pruned" } else { "not pruned" };
+        let both = tree(row.group).zip(source_tree(row));
+        let found = both.map(|(shared, tree)| Upstream::of_pruned(&shared, &tree));
         let row = Row { is_rpt: true, ..*row };
         all.insert((row.group, row.source, true), upstream_cells(daemon, &row, state, found, Value::Null));
     }
     Ok(all.into_values().collect())
-}
-
-fn rp_of_group(daemon: &Daemon, group: Ipv4Addr) -> Option<Ipv4Addr> {
-    rp_of(&daemon.settings.rps, group.into())
 }
 
 // ---- ways

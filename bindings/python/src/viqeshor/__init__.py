@@ -30,12 +30,17 @@ from functools import cache
 from ipaddress import IPv4Address
 from typing import Any, NamedTuple, Self, SupportsIndex, TypeAlias
 
+from viqeshor import trees
+from viqeshor.trees import Link, Neighbour, SourceTree, Tree, Words
+
 __all__ = [
     "Answer",
     "Closed",
     "Error",
     "Forwarding",
+    "Link",
     "Lost",
+    "Neighbour",
     "NoMemory",
     "OLDER_HOSTS",
     "OlderRow",
@@ -45,7 +50,9 @@ __all__ = [
     "Router",
     "Row",
     "Sent",
+    "SourceTree",
     "TABLES",
+    "Tree",
     "answer_text",
     "version",
 ]
@@ -54,7 +61,7 @@ __all__ = [
 Buffer: TypeAlias = bytes | bytearray | memoryview
 
 # What this package and the library have to agree on: VIQ_ABI of viqeshor.h.
-ABI = 3
+ABI = 4
 NEVER, NO_INTERFACE, MOST_BYTES = 2**64 - 1, 2**32 - 1, 1528
 # The letters of the tables.
 TABLES = "NGSDAURF"
@@ -215,14 +222,6 @@ class ToldOlderRow(Structure):
     _fields_ = [*numbers("iface", "group", "mode"), ("one_end", c_uint64), ("two_end", c_uint64)]
 
 
-class Words(Structure):
-    _fields_ = [("low", c_uint64), ("high", c_uint64)]
-
-    def interfaces(self) -> frozenset[int]:
-        bits = self.high << 64 | self.low
-        return frozenset(number for number in range(128) if bits >> number & 1)
-
-
 class ToldForwarding(Structure):
     _fields_ = [
         ("rpf", c_uint32),
@@ -381,6 +380,10 @@ CALLS: dict[str, tuple[list[Any], Any]] = {
     "older_rows": ([], c_size_t),
     "older_row": ([c_size_t, POINTER(ToldOlderRow)], c_bool),
     "cached": ([*SOURCE, POINTER(ToldForwarding)], c_bool),
+    "tree": ([c_uint32, POINTER(trees.ToldTree)], c_bool),
+    "source_tree": ([*SOURCE, POINTER(trees.ToldSourceTree)], c_bool),
+    "link": ([c_uint32, POINTER(trees.ToldLink)], c_bool),
+    "neighbour": ([c_uint32, c_uint32, POINTER(trees.ToldNeighbour)], c_bool),
     "offload": ([*SOURCE, POINTER(ToldPlaneRow)], c_bool),
     "changed": ([], c_size_t),
     "changed_source": ([c_size_t, POINTER(ToldName)], c_bool),
@@ -660,6 +663,32 @@ class Router:
         ways = (there(way, NO_INTERFACE) for way in (told.rpf, told.shared_rpf))
         lists = (each.interfaces() for each in (told.immediate, told.inherited, told.shared_tree))
         return Forwarding(*ways, told.has_spt_bit, told.has_tunnel, *lists)
+
+    # ---- trees and links: each macro of RFC 7761, evaluated anew; all are None for a lost router
+
+    def tree(self, group: str) -> Tree | None:
+        """The macros of (*,G) of any group."""
+        told = trees.ToldTree()
+        return trees.tree_of(told) if self._call("tree", address(group), byref(told)) else None
+
+    def source_tree(self, source: str, group: str) -> SourceTree | None:
+        """The macros of (S,G) and of (S,G,rpt) of any source of any group, whether it has a fact or not."""
+        told = trees.ToldSourceTree()
+        is_there = self._call("source_tree", address(source), address(group), byref(told))
+        return trees.source_tree_of(told) if is_there else None
+
+    def link(self, iface: int) -> Link | None:
+        """An interface with its DR and its querier; None also where it isn't configured."""
+        told = trees.ToldLink()
+        is_there = self._call("link", number(iface, 32, "an interface"), byref(told))
+        return trees.link_of(told) if is_there else None
+
+    def neighbour(self, iface: int, at: str) -> Neighbour | None:
+        """A neighbour with the options of its last Hello; None also where there is none of this address. The table N
+        lists them."""
+        told = trees.ToldNeighbour()
+        is_there = self._call("neighbour", number(iface, 32, "an interface"), address(at), byref(told))
+        return trees.neighbour_of(told) if is_there else None
 
     # ---- older versions of IGMP
 

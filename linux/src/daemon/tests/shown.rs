@@ -5,7 +5,7 @@ use crate::metrics::{text, Http};
 use crate::server::Answers;
 use crate::show::{answer, Topic};
 use clap::ValueEnum;
-use serde_json::Value;
+use serde_json::{json, Value};
 
 const ROUTER: Ipv4Addr = Ipv4Addr::new(10, 1, 0, 1);
 const SHARED: u8 = 7;
@@ -176,6 +176,33 @@ fn a_tree_is_joined_at_the_next_hop_or_at_the_winner_of_an_assert() {
     passes(&mut daemon, &fake, 5_000);
     let to_winner = |bytes: &Vec<u8>| bytes[9] == PIM && bytes[20] == 0x23 && bytes[26..30] == [10, 1, 0, 3];
     assert!(fake.sent.borrow().iter().any(|(_, bytes)| to_winner(bytes)));
+}
+
+/// Of a neighbour on the second interface.
+fn on_eth1(from: [u8; 4], content: &[u8]) -> (Source, kernel::Event) {
+    frame(ETH1, packet(PIM, from.into(), [224, 0, 0, 13].into(), &summed(content)))
+}
+
+#[test]
+fn a_lost_assert_takes_its_interface_off_the_shared_tree() {
+    let (mut daemon, fake) = begun(TWO, &both());
+    let group = [239, 2, 1, 1];
+    let hello = [0x20, 0, 0, 0, 0, 1, 0, 2, 0, 105, 0, 19, 0, 4, 0, 0, 0, 0];
+    let to_router = [0x23, 0, 0, 0, 1, 0, 10, 5, 0, 1, 0, 1, 0, 210, 1, 0, 0, 32];
+    let join = [&to_router[..], &group, &[0, 1, 0, 0, 1, 0, SHARED, 32, 10, 9, 0, 1]].concat();
+    let best = [0x80, 0, 0, 0, 0, 0, 0, 0];
+    let assert = [&[0x25, 0, 0, 0, 1, 0, 0, 32][..], &group, &[1, 0, 0, 0, 0, 0], &best].concat();
+    let told = |daemon: &mut Daemon| {
+        let row = shown(daemon, "mroute").remove(0);
+        assert_eq!(row["asked_by"], json!(["routers"]));
+        row["outgoing"].clone()
+    };
+    for event in [on_eth1([10, 5, 0, 2], &hello), on_eth1([10, 5, 0, 3], &hello), on_eth1([10, 5, 0, 2], &join)] {
+        happens(&mut daemon, &fake, event);
+    }
+    assert_eq!(told(&mut daemon), json!(["eth1"]));
+    happens(&mut daemon, &fake, on_eth1([10, 5, 0, 3], &assert));
+    assert_eq!(told(&mut daemon), json!([]));
 }
 
 #[test]

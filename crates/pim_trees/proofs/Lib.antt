@@ -1,0 +1,3 @@
+mod Addresses
+mod Causes
+mod Elected
