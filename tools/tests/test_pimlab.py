@@ -73,6 +73,34 @@ class Called(unittest.TestCase):
             ran = subprocess.run([sys.executable, PIMLAB, "check", ONE_JOIN], stdout=full, stderr=subprocess.PIPE)
         self.assertEqual((ran.returncode, ran.stderr), (3, b"pimlab: wire fault\n"))
 
+    def test_a_saved_state_goes_on(self):
+        """A run that is cut in two, its second part begun in the state saved after the first, ends as the whole run."""
+        text = (stored.DATA / "to_the_shortest_path_tree.toml").read_text()
+        head, *moves = text.split("[[move]]")
+        parts = [head + "".join("[[move]]" + move for move in part) for part in (moves, moves[:7], moves[7:])]
+        with tempfile.TemporaryDirectory() as room:
+            whole, first, last = (f"{room}/{name}" for name in ("whole", "first", "last"))
+            _, lines, _ = called("run", "-", "--save", f"r={whole}", input=parts[0].encode())
+            called("run", "-", "--save", f"r={first}", input=parts[1].encode())
+            said = called("run", "-", "--from", f"r={first}", "--save", f"r={last}", input=parts[2].encode())
+            # The packet and the move are counted anew.
+            wanted = lines[lines.index(b"move 8 "):].replace(b"move 8 ", b"move 1 ").replace(b"copy 8 ", b"copy 1 ")
+            self.assertEqual(said, (0, wanted, b""))
+            self.assertEqual(Path(last).read_bytes(), Path(whole).read_bytes())
+            self.assertNotEqual(Path(first).read_bytes(), Path(whole).read_bytes())
+
+    def test_saved_states_that_are_refused(self):
+        run = ("run", stored.DATA / "to_the_shortest_path_tree.toml")
+        for words in (("--from", "r"), ("--save", "nobody=/dev/null"), ("--from", "nobody=/dev/null")):
+            self.assertEqual(called(*run, *words), (2, b"", b"pimlab: command line refused\n"))
+        self.assertEqual(called(*run, "--from", "r=/dev/null"), (2, b"", b"pimlab: saved state refused: 62\n"))
+        self.assertEqual(called(*run, "--from", "r=not there"), (2, b"", b"pimlab: cannot read not there\n"))
+        with tempfile.TemporaryDirectory() as room:
+            small = b'[[router]]\nname = "edge"\niface = [{ link = "n", address = "10.0.0.1/24" }]\n'
+            self.assertEqual(called("run", "-", "--save", f"edge={room}/edge", input=small), (0, b"", b""))
+            self.assertEqual(called(*run, "--from", f"r={room}/edge"),
+                             (2, b"", b"pimlab: saved state has other interfaces\n"))
+
     def test_without_a_build_and_without_the_kit_it_says_so_in_one_line(self):
         with tempfile.TemporaryDirectory() as room:
             shutil.copy(PIMLAB, room)

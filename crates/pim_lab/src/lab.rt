@@ -10,7 +10,7 @@ use crate::station::Station;
 use crate::table::{OlderLine, RowLine};
 use crate::trouble::Trouble;
 use igmp_older::Presence;
-use pim_net::{Move, Net, NetLog, Node, Router, Wire};
+use pim_net::{Move, Net, NetLog, Node, Router, Unrestored, Wire};
 use pim_scenario::{RouterText, ScenarioMove};
 use pim_types::{Emission, Event, Fault, Outcome, Series, Table, Verdict};
 use std::alloc::{AllocError, Global};
@@ -102,6 +102,36 @@ impl<W: Wire> Lab<W> {
             }
             ScenarioMove::Settle { draw } => self.settle(number, draw, lines),
             ScenarioMove::Restart { router } => self.restart(number, router, lines),
+        }
+    }
+
+    /// The place of the router of a name.
+    pub(crate) fn place_of(&self, name: &str) -> Option<usize> {
+        self.stations
+            .iter()
+            .position(|station| station.name() == name)
+    }
+
+    /// Puts the router of a name into the state that these bytes say.
+    pub(crate) fn restore(
+        &mut self,
+        name: &str,
+        bytes: &[u8],
+    ) -> Result<Result<(), Unrestored>, Fault> {
+        match self.place_of(name) {
+            Some(place) => self.net.restore(place, bytes),
+            None => Ok(Err(Unrestored::NoRouter)),
+        }
+    }
+
+    /// Adds the bytes of the state of the router of a name after those that are there.
+    pub(crate) fn save(&self, name: &str, out: &mut Vec<u8>) -> Result<(), Fault> {
+        let Some(place) = self.place_of(name) else {
+            return Ok(());
+        };
+        match self.net.router(place) {
+            Some(router) => router.save(out),
+            None => Err(Fault::Failed),
         }
     }
 

@@ -7,6 +7,7 @@ mod lab;
 mod line;
 mod lines;
 pub mod playing;
+pub mod saved;
 mod station;
 mod table;
 mod trouble;
@@ -17,3 +18,4 @@ pub use pim_scenario::{
     fault, load, read_scenario, read_words, refused,
 };
 pub use playing::{check_text, play, play_with};
+pub use saved::{Begin, States, play_saved};

@@ -111,12 +111,12 @@ fn check(alloc: Global, text: &str) -> Result<(), Trouble>
 
 /// The routers and the moves of a scenario that is accepted.
 #[derive(Drop)]
-struct Opened<W> {
-    lab: Lab<W>,
-    moves: Series<ScenarioMove>,
+pub(crate) struct Opened<W> {
+    pub(crate) lab: Lab<W>,
+    pub(crate) moves: Series<ScenarioMove>,
 }
 
-fn open_scenario<W: Wire>(
+pub(crate) fn open_scenario<W: Wire>(
     alloc: Global,
     text: &str,
     wire: W,
@@ -157,7 +157,7 @@ fn run<W: Wire, O: Write>(
     Ok(())
 }
 
-fn make_moves<W: Wire, O: Write>(
+pub(crate) fn make_moves<W: Wire, O: Write>(
     lab: &mut Lab<W>,
     moves: Series<ScenarioMove>,
     lines: &mut Lines,
@@ -186,7 +186,7 @@ fn make_move<W: Wire, O: Write>(
     made
 }
 
-fn print_tables<W: Wire, O: Write>(
+pub(crate) fn print_tables<W: Wire, O: Write>(
     lab: &Lab<W>,
     lines: &mut Lines,
     out: &mut O,

@@ -1,5 +1,6 @@
 -- What a network shows: the network of the specification, and its wire.
-use Rattle.std.specs.Prelude.{List, Option, Some, [], option_and_then, option_map, ℕ, ◌∷◌}
+use Rattle.std.specs.Option.{option_map_or}
+use Rattle.std.specs.Prelude.{List, Option, Some, [], option_and_then, option_map, set, ℕ, ◌∷◌}
 use Rattle.pim_types.specs.declared.config.Config.{Config}
 use Rattle.pim_types.specs.declared.event.Event.{Event}
 use Rattle.pim_types.specs.declared.event.EventKind.{EventKind}
@@ -36,6 +37,11 @@ pub record Wired (W : Type 0) : Type 0 where
   pub network : Option Network
   pub ports : List ℕ
   pub wire : W
+
+-- The network with a router in another state.
+abbrev pub with_state_at : Network → ℕ → State → Network
+with_state_at n r s =
+    option_map_or (λ (st : Station). record n { stations = set n.stations r (record st { state = s }) }) (station_at n r) n
 
 -- the state of a router, if there is such a router
 abbrev pub shown_state : Option Network → ℕ → Option State

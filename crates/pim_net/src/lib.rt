@@ -8,6 +8,7 @@ mod network;
 pub mod node;
 mod station;
 pub mod udp;
+pub mod unrestored;
 pub mod wire;
 
 pub use memory::MemoryWire;
@@ -16,4 +17,5 @@ pub use net::{Net, NetLog};
 pub use node::Node;
 pub use pim_router::Router;
 pub use udp::{UdpWire, failures_after};
+pub use unrestored::Unrestored;
 pub use wire::Wire;

@@ -1,11 +1,16 @@
 //! A network over a wire: moves in, outcomes out.
-ghost use Rattle.std.specs.Prelude.{Err, IfErr, IfNone, IfOk, IfSome, IsOk, IsOkUnless, IsSome, List, None, Ok, OnOk, Some, [], get_or, is_some, map, option_map, true, ℕ, ◌↔◌, ◌≡◌};
+ghost use Rattle.std.specs.Prelude.{Err, IfErr, IfNone, IfOk, IfSome, IsOk, IsOkUnless, IsSome, List, None, Ok, OnErr, OnOk, Some, [], get_or, is_some, map, option_map, true, ℕ, ◌↔◌, ◌≡◌};
 ghost use Rattle.pim_ip.specs.declared.fault.Fault.{Fault};
 ghost use Rattle.pim_asked.specs.Networks.{MovesAreAsked};
 ghost use Rattle.pim_model.specs.Network.{network, network_ran, nodes_test};
 ghost use Rattle.pim_net.specs.Carried.{HasMoved, IsCarried, IsPartWay, MovesTo, carried_packet};
 ghost use Rattle.pim_net.specs.Ports.{first_ports};
-ghost use Rattle.pim_net.specs.Showing.{move_of, node_of, shown_state};
+ghost use Rattle.pim_model.specs.State.{State};
+ghost use Rattle.pim_rested.specs.Resuming.{restore_test};
+ghost use Rattle.pim_rested.specs.declared.refusal.RestoreRefusal.{RestoreRefusal};
+ghost use Rattle.pim_saved.specs.Reading.{reading};
+ghost use Rattle.pim_net.specs.Showing.{move_of, node_of, shown_state, with_state_at};
+ghost use Rattle.pim_net.specs.declared.unrestored.Unrestored.{Unrestored};
 ghost use Rattle.pim_net.specs.Wires.{IsFaultOver, failures_after};
 ghost use Rattle.pim_net.specs.declared.moves.Move.{Move};
 ghost use Rattle.pim_types.specs.declared.config.Config.{Config as ConfigValue};
@@ -13,6 +18,7 @@ ghost use Rattle.pim_types.specs.declared.config.Config.{Config as ConfigValue};
 use crate::moves::Move;
 use crate::network::{Network, bad_move};
 use crate::node::Node;
+use crate::unrestored::Unrestored;
 use crate::wire::Wire;
 use pim_router::Router;
 use pim_types::{EventKind, Fault, IfaceId, Outcome, Refusal, Series};
@@ -113,6 +119,27 @@ impl<W: Wire> Net<W> {
         );
         self.failed = matches!(ran, Err(Fault::Memory));
         ran
+    }
+
+    /// Puts a router, counted from 0, into the state that these bytes say: they are those that a router saved that has as
+    /// many interfaces. Its configuration is that of the state, and its links stay. All other routers, the frames, the
+    /// ports and the wire are as they were, and so is the whole net after a fault and where the bytes aren't taken. The
+    /// only fault of a net that works is want of memory.
+    pub fn restore(&mut self, router: usize, bytes: &[u8]) -> Result<Result<(), Unrestored>, Fault>
+        ensures restored { IfOk result (λ made. OnOk made ((s : State) × (reading bytes.now ≡ Ok s)
+            × IfSome self.old.network (λ n. self.new ≡ record self.old { network = Some (with_state_at n router s) }))) }
+        ensures tested { IfOk result (λ made. OnOk made (restore_test bytes.now ≡ Ok tt)) }
+        ensures refused { IfOk result (λ made. IfErr made (λ why. (refusal : RestoreRefusal) → why ≡ Unrestored.Bytes refusal
+            → restore_test bytes.now ≡ Err refusal)) }
+        ensures same { IfOk result (λ made. OnErr made (self.new ≡ self.old)) }
+        ensures fails { OnErr result (self.new ≡ self.old) }
+        ensures fault { IfSome self.old.network (λ n. IfErr result (λ fault. fault ≡ Fault.Memory)) }
+    {
+        if self.failed {
+            Err(Fault::Failed)
+        } else {
+            self.network.restore(router, bytes)
+        }
     }
 
     /// Saves a router, counted from 0, and puts one that is made of its bytes in its place: nothing is sent, and the net

@@ -1,6 +1,6 @@
 //! The routers of a network and every frame that they ever sent, without the wire.
 ghost use Rattle.std.specs.List.{list_all};
-ghost use Rattle.std.specs.Prelude.{Err, IfErr, IfNone, IfOk, IfSome, IsOkUnless, IsSome, None, Ok, OnOk, Some, length, map, nat_le, option_copied, option_map, true, ℕ, ◌&&◌, ◌++◌, ◌≡◌, ◌≤◌};
+ghost use Rattle.std.specs.Prelude.{Err, IfErr, IfNone, IfOk, IfSome, IsOkUnless, IsSome, None, Ok, OnErr, OnOk, Some, length, map, nat_le, option_copied, option_map, true, ℕ, ◌&&◌, ◌++◌, ◌≡◌, ◌≤◌};
 ghost use Rattle.pim_ip.specs.declared.fault.Fault.{Fault};
 ghost use Rattle.pim_model.specs.Limits.{most_ifaces};
 ghost use Rattle.pim_model.specs.Network.{Deliver, DeliverUnicast, configs_test, event_of, frame_at, is_node, most_routers, moved_at, network, nodes_test, sent_by, station_at, station_of};
@@ -8,11 +8,17 @@ ghost use Rattle.pim_model.specs.Network as written;
 ghost use Rattle.pim_model.specs.Step.{outcome_of, step};
 ghost use Rattle.pim_net.specs.Carried.{link_count};
 ghost use Rattle.pim_net.specs.Ports.{first_ports};
-ghost use Rattle.pim_net.specs.Showing.{brought_on, brought_to, node_of, shown_state};
+ghost use Rattle.pim_model.specs.State.{State};
+ghost use Rattle.pim_rested.specs.Resuming.{restore_test};
+ghost use Rattle.pim_rested.specs.declared.refusal.RestoreRefusal.{RestoreRefusal};
+ghost use Rattle.pim_saved.specs.Reading.{reading};
+ghost use Rattle.pim_net.specs.Showing.{brought_on, brought_to, node_of, shown_state, with_state_at};
+ghost use Rattle.pim_net.specs.declared.unrestored.Unrestored.{Unrestored};
 ghost use Rattle.pim_net.specs.declared.node.Node.{Node};
 
 use crate::node::Node;
 use crate::station::{Frame, Station};
+use crate::unrestored::Unrestored;
 use pim_router::Router;
 use pim_types::{Emission, Event, EventKind, Fault, IfaceId, Outcome, Refusal, Series};
 use std::alloc::Global;
@@ -175,6 +181,28 @@ impl Network {
             return Ok(());
         }
         self.stations[router].restart(self.alloc)
+    }
+
+    /// Puts a router into the state that these bytes say. The error is want of memory. After an error and where the bytes
+    /// aren't taken the network is as it was.
+    pub(crate) fn restore(
+        &mut self,
+        router: usize,
+        bytes: &[u8],
+    ) -> Result<Result<(), Unrestored>, Fault>
+        ensures restored { IfOk result (λ made. OnOk made ((s : State) × (reading bytes.now ≡ Ok s)
+            × IfSome self.old (λ net. self.new ≡ Some (with_state_at net router s)))) }
+        ensures tested { IfOk result (λ made. OnOk made (restore_test bytes.now ≡ Ok tt)) }
+        ensures refused { IfOk result (λ made. IfErr made (λ why. (refusal : RestoreRefusal) → why ≡ Unrestored.Bytes refusal
+            → restore_test bytes.now ≡ Err refusal)) }
+        ensures same { IfOk result (λ made. OnErr made (self.new ≡ self.old)) }
+        ensures fails { OnErr result (self.new ≡ self.old) }
+        ensures memory { IfErr result (λ fault. fault ≡ Fault.Memory) }
+    {
+        if router >= self.stations.len() {
+            return Ok(Err(Unrestored::NoRouter));
+        }
+        self.stations[router].restore(self.alloc, bytes)
     }
 
     /// What comes to a router, as an event. The error is want of memory.

@@ -1,12 +1,19 @@
 //! A frame that was sent, and a router with the links and ports of its interfaces.
-ghost use Rattle.std.specs.Prelude.{◌≡◌, ◌≤◌, Err, IfErr, IfOk, IfSome, IsOkUnless, Ok, OnOk, Some, is_some, length, option_map};
+ghost use Rattle.std.specs.Prelude.{◌≡◌, ◌≤◌, Err, IfErr, IfOk, IfSome, IsOkUnless, Ok, OnErr, OnOk, Some, is_some, length, option_map};
 ghost use Rattle.pim_ip.specs.declared.fault.Fault.{Fault};
 ghost use Rattle.pim_model.specs.Limits.{config_test, most_ifaces};
 ghost use Rattle.pim_model.specs.Network.{is_on_frame_link, sent_by, station_of};
 ghost use Rattle.pim_model.specs.Step.{outcome_of, step};
+ghost use Rattle.pim_model.specs.State.{State};
+ghost use Rattle.pim_rested.specs.Resuming.{restore_test};
+ghost use Rattle.pim_rested.specs.declared.refusal.RestoreRefusal.{RestoreRefusal};
+ghost use Rattle.pim_router.specs.Standing.{begun};
+ghost use Rattle.pim_saved.specs.Reading.{reading};
 ghost use Rattle.pim_net.specs.Showing.{node_of};
+ghost use Rattle.pim_net.specs.declared.unrestored.Unrestored.{Unrestored};
 
 use crate::node::Node;
+use crate::unrestored::Unrestored;
 use pim_rested::saved_is_resumed;
 use pim_router::Router;
 use pim_saved::text_is_read;
@@ -127,6 +134,32 @@ impl Station {
         }
     }
 
+    /// Puts the router into the state that these bytes say, if a router is made of them and it has a link for each of its
+    /// interfaces. Its configuration is that of the state. The error is want of memory. After an error and where the
+    /// bytes aren't taken the station is as it was.
+    pub(crate) fn restore(
+        &mut self,
+        alloc: Global,
+        bytes: &[u8],
+    ) -> Result<Result<(), Unrestored>, Fault>
+        ensures restored { IfOk result (λ made. OnOk made ((s : State) × (reading bytes.now ≡ Ok s)
+            × IfSome self.old (λ st. self.new ≡ Some (record st { state = s })))) }
+        ensures tested { IfOk result (λ made. OnOk made (restore_test bytes.now ≡ Ok tt)) }
+        ensures refused { IfOk result (λ made. IfErr made (λ why. (refusal : RestoreRefusal) → why ≡ Unrestored.Bytes refusal
+            → restore_test bytes.now ≡ Err refusal)) }
+        ensures same { IfOk result (λ made. OnErr made (self.new ≡ self.old)) }
+        ensures fails { OnErr result (self.new ≡ self.old) }
+        ensures memory { IfErr result (λ fault. fault ≡ Fault.Memory) }
+    {
+        match made_of(alloc, bytes, self.links.len())? {
+            Ok(router) => {
+                self.router = router;
+                Ok(Ok(()))
+            }
+            Err(why) => Ok(Err(why)),
+        }
+    }
+
     /// An emission as a frame.
     pub(crate) fn frame(&self, alloc: Global, emission: &Emission) -> Result<Frame, AllocError>
         ensures { IfSome self.now (λ s. IfOk result (λ frame. frame ≡ sent_by s.links emission.now)) }
@@ -141,6 +174,31 @@ impl Station {
                 bytes: copied(alloc, bytes)?,
             }),
         }
+    }
+}
+
+// The router that is in the state that these bytes say, if it has as many interfaces.
+fn made_of(
+    alloc: Global,
+    bytes: &[u8],
+    interfaces: usize,
+) -> Result<Result<Router, Unrestored>, Fault>
+    ensures made { IfOk result (λ made. IfOk made (λ router.
+        (s : State) × (reading bytes.now ≡ Ok s) × (router ≡ begun s))) }
+    ensures tested { IfOk result (λ made. OnOk made (restore_test bytes.now ≡ Ok tt)) }
+    ensures refused { IfOk result (λ made. IfErr made (λ why. (refusal : RestoreRefusal) → why ≡ Unrestored.Bytes refusal
+        → restore_test bytes.now ≡ Err refusal)) }
+    ensures memory { IfErr result (λ fault. fault ≡ Fault.Memory) }
+{
+    match Router::restore(alloc, bytes)? {
+        Ok(router) => {
+            if router.interface_count() as usize == interfaces {
+                Ok(Ok(router))
+            } else {
+                Ok(Err(Unrestored::OtherInterfaces))
+            }
+        }
+        Err(refusal) => Ok(Err(Unrestored::Bytes(refusal))),
     }
 }
 

@@ -38,10 +38,25 @@ tables_each_rule = record (new_rule (codes "tables-each")) {
   action = Some SetTrue;
 }
 
-abbrev pub run_app : App
-run_app =
+abbrev pub from_rule : Rule
+from_rule = record (new_rule (codes "from")) {
+  long = Some (codes "from");
+  value_names = 1;
+}
+
+abbrev pub save_rule : Rule
+save_rule = record (new_rule (codes "save")) {
+  long = Some (codes "save");
+  value_names = 1;
+}
+
+abbrev pub shown_app : App
+shown_app =
     with_rule (with_rule (with_rule (with_rule (new_app (codes "run")) file_rule) wire_rule) tables_rule)
     tables_each_rule
+
+abbrev pub run_app : App
+run_app = with_rule (with_rule shown_app from_rule) save_rule
 
 abbrev pub check_app : App
 check_app = with_rule (new_app (codes "check")) file_rule
@@ -51,7 +66,8 @@ top_app =
     let a = new_app (codes "pimlab") in
     record a { top = record a.top { subcommand_required = true } }
 
--- `pimlab run FILE [--wire memory|udp] [--tables] [--tables-each]` and `pimlab check FILE`
+-- `pimlab run FILE [--wire memory|udp] [--tables] [--tables-each] [--from ROUTER=FILE] [--save ROUTER=FILE]` and
+-- `pimlab check FILE`
 abbrev pub pimlab_app : App
 pimlab_app = with_subcommand (with_subcommand top_app run_app.top) check_app.top
 
@@ -62,6 +78,8 @@ pub record Meaning : Type 0 where
   pub file : Text
   pub wire : WireKind
   pub tables : Tables
+  pub from : Option Text
+  pub save : Option Text
 
 abbrev pub command_named : Text → Option Command
 command_named name =
@@ -92,6 +110,8 @@ meant_in name rows =
         after_each = is_set (codes "tables-each") rows;
         at_end = is_set (codes "tables") rows;
       };
+      from = first_of (codes "from") rows;
+      save = first_of (codes "save") rows;
     }) (first_of (codes "FILE") rows))
     (wire_named (first_of (codes "wire") rows)))
     (command_named name)
@@ -111,7 +131,14 @@ meaning_of words =
 
 -- The meaning of words that were accepted.
 abbrev pub meaning_in : Words → Meaning
-meaning_in w = record { command = w.command; file = w.file.now; wire = w.wire; tables = w.tables }
+meaning_in w = record {
+  command = w.command;
+  file = w.file.now;
+  wire = w.wire;
+  tables = w.tables;
+  from = option_map (λ t. t.now) w.from;
+  save = option_map (λ t. t.now) w.save;
+}
 
 -- The words of an answer.
 abbrev pub words_in : Answer → Option Meaning

@@ -1,9 +1,10 @@
-//! The command line: `pimlab run FILE [--wire memory|udp] [--tables] [--tables-each]` and `pimlab check FILE`.
+//! The command line: `pimlab run FILE [--wire memory|udp] [--tables] [--tables-each] [--from ROUTER=FILE]
+//! [--save ROUTER=FILE]` and `pimlab check FILE`.
 ghost use Rattle.std.specs.Prelude.{◌≡◌, ◌≢◌, [], map, option_map, None, IfOk, IfErr, false};
 ghost use Rattle.clap.specs.Words.{app_of, fault_of, rule_of, subcommand_rows_of, HasKind, Kinds};
 ghost use Rattle.clap.specs.Words.{first_of, found_of, new_app, rows_of, with_rule, with_subcommand};
 ghost use Rattle.clap.specs.declared.builder.command.Command.TheViews.{out-Command};
-ghost use Rattle.pim_scenario.specs.CommandLine.{pimlab_app, top_app, run_app, check_app, file_rule, wire_rule, tables_rule, tables_each_rule};
+ghost use Rattle.pim_scenario.specs.CommandLine.{pimlab_app, top_app, run_app, check_app, file_rule, from_rule, save_rule, shown_app, wire_rule, tables_rule, tables_each_rule};
 ghost use Rattle.pim_scenario.specs.CommandLine.{words_in, meaning_in, meaning_of, meant_by, meant_in, CanAnswer};
 ghost use Rattle.pim_scenario.specs.CommandLine.{command_named, wire_named, is_set};
 
@@ -46,6 +47,10 @@ pub struct Words<'a> {
     pub file: &'a str,
     pub wire: WireKind,
     pub tables: Tables,
+    /// The router that begins in a saved state, and the state's file: `ROUTER=FILE`.
+    pub from: Option<&'a str>,
+    /// The router whose state is saved at the end, and the state's file: `ROUTER=FILE`.
+    pub save: Option<&'a str>,
 }
 
 /// What a command line means.
@@ -94,6 +99,16 @@ fn command_with_run<'a>(alloc: Global) -> Result<clap::Command<'a>, AllocError>
 
 fn run_command<'a>(alloc: Global) -> Result<clap::Command<'a>, AllocError>
     ensures app { IfOk result (λ c. app_of c ≡ run_app) }
+    ensures local { IfOk result (λ c. (out-Command c).has_globals ≡ false) }
+{
+    shown_command(alloc)?
+        .arg(from_argument(alloc))?
+        .arg(save_argument(alloc))
+}
+
+/// The command `run`, with what it shows.
+fn shown_command<'a>(alloc: Global) -> Result<clap::Command<'a>, AllocError>
+    ensures app { IfOk result (λ c. app_of c ≡ shown_app) }
     ensures local { IfOk result (λ c. (out-Command c).has_globals ≡ false) }
 {
     file_command(
@@ -167,6 +182,26 @@ fn tables_each_argument<'a>(alloc: Global) -> Arg<'a>
         .help("Prints after each answer the tables of its router")
 }
 
+fn from_argument<'a>(alloc: Global) -> Arg<'a>
+    ensures rule { rule_of result ≡ from_rule }
+    ensures local { result.global ≡ false }
+{
+    Arg::new(alloc, "from")
+        .long("from")
+        .value_name("ROUTER=FILE")
+        .help("The router begins in the state saved in FILE")
+}
+
+fn save_argument<'a>(alloc: Global) -> Arg<'a>
+    ensures rule { rule_of result ≡ save_rule }
+    ensures local { result.global ≡ false }
+{
+    Arg::new(alloc, "save")
+        .long("save")
+        .value_name("ROUTER=FILE")
+        .help("Saves the router's state in FILE at the end")
+}
+
 /// What the matches say. An option's value that clap doesn't judge is refused here.
 fn accepted<'a>(matches: &ArgMatches<'a>) -> Answer<'a>
     ensures meant { words_in result ≡ meant_by (subcommand_rows_of matches.now) }
@@ -196,6 +231,8 @@ fn words_of<'a>(name: &str, matches: &ArgMatches<'a>) -> Option<Words<'a>>
         file,
         wire,
         tables,
+        from: value_of(matches, "from"),
+        save: value_of(matches, "save"),
     })
 }
 

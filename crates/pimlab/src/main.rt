@@ -3,12 +3,12 @@
 #![tactic(auto)]
 
 use pim_lab::{
-    Answer, Command, Complaint, MemoryWire, UdpWire, Wire, WireKind, Words, check_text, load,
-    play_with, read_words,
+    Answer, Begin, Command, Complaint, MemoryWire, States, UdpWire, Wire, WireKind, Words,
+    check_text, load, play_saved, play_with, read_words,
 };
 use pim_types::Fault;
 use std::env;
-use std::fs::File;
+use std::fs::{self, File};
 use std::io::{self, ErrorKind, Write};
 use std::process::ExitCode;
 
@@ -92,6 +92,9 @@ fn run(rt: &HostRuntime, words: &Words<'_>, text: &str) -> u8 {
 }
 
 fn run_over<W: Wire>(rt: &HostRuntime, wire: W, words: &Words<'_>, text: &str) -> u8 {
+    if words.from.is_some() || words.save.is_some() {
+        return run_saved(rt, wire, words, text);
+    }
     play_with(
         rt.alloc(),
         text,
@@ -100,4 +103,88 @@ fn run_over<W: Wire>(rt: &HostRuntime, wire: W, words: &Words<'_>, text: &str) -
         &mut rt.stdout(),
         &mut rt.stderr(),
     )
+}
+
+// A router and a file of its state.
+#[derive(Clone, Copy)]
+struct Kept<'a> {
+    router: &'a str,
+    file: &'a str,
+}
+
+// What `ROUTER=FILE` says.
+fn kept_in(word: &str) -> Option<Kept<'_>> {
+    let (router, file) = word.split_once("=")?;
+    Some(Kept { router, file })
+}
+
+// Does the moves of a scenario in which a router begins in a saved state, or in which one's state is saved.
+fn run_saved<W: Wire>(rt: &HostRuntime, wire: W, words: &Words<'_>, text: &str) -> u8 {
+    let mut err = rt.stderr();
+    let (from, save) = match (kept_of(words.from), kept_of(words.save)) {
+        (Some(from), Some(save)) => (from, save),
+        _ => return Complaint::CommandLine.tell(&mut err),
+    };
+    let bytes = match bytes_of(rt, from) {
+        Ok(bytes) => bytes,
+        Err(_) => return Complaint::File(from.map_or("", |kept| kept.file)).tell(&mut err),
+    };
+    run_between(rt, wire, words, text, from, &bytes, save)
+}
+
+// What a word of an option says; none where it says nothing.
+fn kept_of(word: Option<&str>) -> Option<Option<Kept<'_>>> {
+    match word {
+        Some(word) => kept_in(word).map(Some),
+        None => Some(None),
+    }
+}
+
+// The bytes of the file in which a state is saved; none without a file.
+fn bytes_of(rt: &HostRuntime, from: Option<Kept<'_>>) -> io::Result<Vec<u8>> {
+    match from {
+        Some(kept) => fs::read(rt, kept.file),
+        None => Ok(Vec::new(rt.alloc())),
+    }
+}
+
+fn run_between<W: Wire>(
+    rt: &HostRuntime,
+    wire: W,
+    words: &Words<'_>,
+    text: &str,
+    from: Option<Kept<'_>>,
+    bytes: &[u8],
+    save: Option<Kept<'_>>,
+) -> u8 {
+    let mut saved = Vec::new(rt.alloc());
+    let states = States {
+        from: from.map(|kept| Begin {
+            router: kept.router,
+            bytes,
+        }),
+        save: save.map(|kept| kept.router),
+    };
+    let status = play_saved(
+        rt.alloc(),
+        text,
+        wire,
+        words.tables,
+        states,
+        &mut saved,
+        &mut rt.stdout(),
+        &mut rt.stderr(),
+    );
+    match save {
+        Some(kept) if status == 0 => keep(rt, kept.file, &saved),
+        _ => status,
+    }
+}
+
+// Writes a state into its file. A file that can't be written counts as a fault of the wire.
+fn keep(rt: &HostRuntime, file: &str, saved: &[u8]) -> u8 {
+    match fs::write(rt, file, saved) {
+        Ok(()) => 0,
+        Err(_) => Complaint::Fault(Fault::Wire).tell(&mut rt.stderr()),
+    }
 }
