@@ -9,7 +9,7 @@ use Rattle.pim_model.specs.Cache.{Answers, cached}
 use Rattle.pim_model.specs.Cause.{is_on_link}
 use Rattle.pim_model.specs.Judging.{last_moment}
 use Rattle.pim_model.specs.Limits.{config_test}
-use Rattle.pim_model.specs.Printed.{rows}
+use Rattle.pim_rows.specs.Printed.{rows}
 use Rattle.pim_model.specs.Sets.{Set, is_kept_alive}
 use Rattle.pim_model.specs.State.{State, opening}
 use Rattle.pim_model.specs.Step.{step}
@@ -38,8 +38,8 @@ use Rattle.pim_types.specs.declared.config.Config.{Config}
 use Rattle.pim_types.specs.declared.event.Event.{Event}
 use Rattle.pim_types.specs.declared.fact.Key.{Key}
 use Rattle.pim_types.specs.declared.outcome.Emission.{Emission}
-use Rattle.pim_types.specs.declared.table.Row.{Row}
-use Rattle.pim_types.specs.declared.table.Table.{Table}
+use Rattle.pim_rows.specs.declared.table.Row.{Row}
+use Rattle.pim_rows.specs.declared.table.Table.{Table}
 use Rattle.pim_c.specs.Told.{answer_number, bytes_in, kept_number, name_of, no_interface_number, older_group_of, set_number, told_packet, row_of, written_into}
 use Rattle.pim_c.specs.declared.told.Forwarding.{Forwarding}
 use Rattle.pim_c.specs.declared.told.Interfaces.{Interfaces}

@@ -10,10 +10,10 @@ use Rattle.pim_ip.specs.declared.addr.Addr.{Addr}
 use Rattle.pim_types.specs.declared.config.IfaceId.{IfaceId}
 use Rattle.pim_types.specs.declared.fact.AssertRole.{AssertRole}
 use Rattle.pim_types.specs.declared.fact.Key.{Key}
-use Rattle.pim_types.specs.declared.table.DownstreamState.{DownstreamState}
-use Rattle.pim_types.specs.declared.table.RegisterName.{RegisterName}
-use Rattle.pim_types.specs.declared.table.Row.{Row}
-use Rattle.pim_types.specs.declared.table.Table.{Table}
+use Rattle.pim_rows.specs.declared.table.DownstreamState.{DownstreamState}
+use Rattle.pim_rows.specs.declared.table.RegisterName.{RegisterName}
+use Rattle.pim_rows.specs.declared.table.Row.{Row}
+use Rattle.pim_rows.specs.declared.table.Table.{Table}
 use Rattle.igmp_older.specs.declared.mode.Mode.{Mode}
 use Rattle.igmp_older.specs.declared.mode.OlderRow.{OlderRow}
 use Rattle.igmp_older.specs.declared.setting.OlderHosts.{OlderHosts}

@@ -31,8 +31,9 @@ use pim_intake::LentEvent;
 use pim_mfc::CacheRow;
 use pim_offrow::Offered;
 use pim_router::RestoreRefusal;
+use pim_rows::{Row, Table};
 use pim_session::Session;
-use pim_types::{Addr, Config, Emission, Event, Fault, IfaceId, Refusal, Row, SourceGroup, Table};
+use pim_types::{Addr, Config, Emission, Event, Fault, IfaceId, Refusal, SourceGroup};
 use std::alloc::{AllocError, Global};
 use std::mem::replace;
 

@@ -17,11 +17,10 @@ use igmp_older::{Mode, OlderHosts, OlderRow, QueryVersion};
 use pim_ifset::IfSet;
 use pim_mfc::CacheRow;
 use pim_offrow::Offered;
+use pim_rows::table::{DownstreamState, RegisterName};
+use pim_rows::{Row, Table};
 use pim_types::fact::AssertRole;
-use pim_types::table::{DownstreamState, RegisterName};
-use pim_types::{
-    Addr, Emission, Fault, IfaceId, Ignored, Refusal, Row, SourceGroup, Table, Verdict,
-};
+use pim_types::{Addr, Emission, Fault, IfaceId, Ignored, Refusal, SourceGroup, Verdict};
 
 /// The event was accepted and done.
 pub const DONE: u32 = 0;

@@ -11,8 +11,9 @@ use crate::table::{OlderLine, RowLine};
 use crate::trouble::Trouble;
 use igmp_older::Presence;
 use pim_net::{Move, Net, NetLog, Node, Router, Unrestored, Wire};
+use pim_rows::Table;
 use pim_scenario::{RouterText, ScenarioMove};
-use pim_types::{Emission, Event, Fault, Outcome, Series, Table, Verdict};
+use pim_types::{Emission, Event, Fault, Outcome, Series, Verdict};
 use std::alloc::{AllocError, Global};
 
 /// How many deliveries one settle makes at most.

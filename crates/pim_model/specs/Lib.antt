@@ -31,5 +31,4 @@ pub mod Plain
 pub mod Rows
 pub mod Reach
 pub mod Sure
-pub mod Printed
 pub mod Network

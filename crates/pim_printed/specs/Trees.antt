@@ -1,8 +1,8 @@
 -- The printed (S,G,rpt) states of one group.
 use Rattle.std.specs.Prelude.{List, flat_map, ℕ}
-use Rattle.pim_types.specs.declared.table.Row.{Row}
+use Rattle.pim_rows.specs.declared.table.Row.{Row}
 use Rattle.pim_model.specs.Desires.{tree_state}
-use Rattle.pim_model.specs.Printed.{tree_line}
+use Rattle.pim_rows.specs.Printed.{tree_line}
 use Rattle.pim_model.specs.State.{State}
 use Rattle.pim_model.specs.Upstream.{fact_keys, sources_of}
 

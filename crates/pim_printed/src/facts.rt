@@ -1,12 +1,13 @@
 //! A row for each fact of a table.
 ghost use Rattle.std.specs.Prelude.{◌≡◌, IfOk, map};
-ghost use Rattle.pim_model.specs.Printed.{active_line, register_name, upstream_line};
+ghost use Rattle.pim_rows.specs.Printed.{active_line, register_name, upstream_line};
 
 use crate::line::Printed;
 use pim_store::JoinTimerRows;
 use pim_types::fact::{RegisterRow, RegisterState, SourceRow};
-use pim_types::table::RegisterName;
-use pim_types::{Key, Row};
+use pim_rows::Row;
+use pim_rows::table::RegisterName;
+use pim_types::Key;
 use pim_world::World;
 use std::alloc::{AllocError, Global};
 use std::collections::btree_map::Iter;
@@ -45,7 +46,7 @@ fn register_name(row: RegisterRow) -> RegisterName
 }
 
 // The row of a source.
-#[tactic(auto, unfolding(pim_model::specs::Printed::active_line))]
+#[tactic(auto, unfolding(pim_rows::specs::Printed::active_line))]
 fn active_row(world: &World, key: Key, row: &SourceRow) -> Row
     ensures { result ≡ active_line world.now (key, row.now) }
 {

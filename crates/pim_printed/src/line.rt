@@ -1,14 +1,15 @@
 //! The row of a fact in its printed table.
 ghost use Rattle.std.specs.Prelude.{◌≡◌};
-ghost use Rattle.pim_model.specs.Printed.{assert_line, downstream_line, downstream_state, group_line, neighbour_line, source_line, upstream_line};
+ghost use Rattle.pim_rows.specs.Printed.{assert_line, downstream_line, downstream_state, group_line, neighbour_line, source_line, upstream_line};
 ghost use Rattle.pim_types.specs.declared.fact.Key.{Key};
-ghost use Rattle.pim_types.specs.declared.table.Row.{Row};
+ghost use Rattle.pim_rows.specs.declared.table.Row.{Row};
 
 use pim_types::fact::{
     AssertRow, DownstreamRow, GroupRecordRow, JoinTimerRow, NeighbourRow, SourceRecordRow,
 };
-use pim_types::table::DownstreamState;
-use pim_types::{Key, Row};
+use pim_rows::Row;
+use pim_rows::table::DownstreamState;
+use pim_types::Key;
 
 /// A fact whose row in its printed table depends only on its key and itself.
 pub trait Printed {

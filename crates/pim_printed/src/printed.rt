@@ -1,16 +1,16 @@
 //! The rows of a table.
 ghost use Rattle.std.specs.Prelude.{◌≡◌, IfOk};
-ghost use Rattle.pim_model.specs.Printed.{rows};
+ghost use Rattle.pim_rows.specs.Printed.{rows};
 
 use crate::facts::{active, lines, timer_lines};
 use crate::trees::trees;
 use pim_trie::Meter;
-use pim_types::{Row, Table};
+use pim_rows::{Row, Table};
 use pim_world::World;
 use std::alloc::{AllocError, Global};
 
 /// The rows of a table, ascending by their keys. The meter rises by the nodes visited. An error is want of memory.
-#[tactic(auto, unfolding(pim_model::specs::Printed::rows))]
+#[tactic(auto, unfolding(pim_rows::specs::Printed::rows))]
 pub fn rows(
     world: &World,
     alloc: Global,

@@ -2,17 +2,18 @@
 ghost use Rattle.std.specs.Prelude.{◌≡◌, ◌++◌, IfOk, OnOk, flat_map};
 ghost use Rattle.pim_macros.specs.Sights.{IsStarSight};
 ghost use Rattle.pim_model.specs.Desires.{tree_state};
-ghost use Rattle.pim_model.specs.Printed.{tree_line, tree_lines};
+ghost use Rattle.pim_rows.specs.Printed.{tree_line, tree_lines};
 ghost use Rattle.pim_printed.specs.Trees.{lines_of_group};
 
 use pim_macros::{SourceSight, StarSight};
 use pim_trie::Meter;
-use pim_types::{Addr, Row, TreeState};
+use pim_rows::Row;
+use pim_types::{Addr, TreeState};
 use pim_world::World;
 use std::alloc::{AllocError, Global};
 
 /// The (S,G,rpt) states of the sources with a fact, where their group is joined. The meter rises by the nodes visited.
-#[tactic(auto, unfolding(pim_model::specs::Printed::tree_lines, crate::specs::Trees::lines_of_group))]
+#[tactic(auto, unfolding(pim_rows::specs::Printed::tree_lines, crate::specs::Trees::lines_of_group))]
 pub fn trees(world: &World, alloc: Global, meter: &mut Meter) -> Result<Vec<Row>, AllocError>
     ensures { IfOk result (λ rows. rows.items ≡ tree_lines world.now) }
 {

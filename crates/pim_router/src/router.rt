@@ -24,7 +24,7 @@ ghost use Rattle.pim_model.specs.Step.{outcome_of, run, state_after, step};
 ghost use Rattle.pim_model.specs.Limits.{config_test};
 ghost use Rattle.pim_model.specs.State.{opening};
 ghost use Rattle.pim_model.specs.Cause.{OutcomesAreAsked, past_after};
-ghost use Rattle.pim_model.specs.Printed.{rows};
+ghost use Rattle.pim_rows.specs.Printed.{rows};
 ghost use Rattle.pim_macros.specs.Rows.{number_of};
 ghost use Rattle.pim_model.specs.Timers.{next_moment};
 ghost use Rattle.pim_model.specs.Unicast.{rpf_interface_rp};
@@ -50,8 +50,9 @@ use pim_intake::LentEvent;
 use pim_messages::Room;
 use pim_mfc::CacheRow;
 use pim_offrow::Offered;
+use pim_rows::{Row, Table};
 use pim_types::{
-    Addr, Config, Emission, Event, Fault, IfaceId, Outcome, Refusal, Row, SourceGroup, Table,
+    Addr, Config, Emission, Event, Fault, IfaceId, Outcome, Refusal, SourceGroup,
     Verdict,
 };
 use pim_world::World;

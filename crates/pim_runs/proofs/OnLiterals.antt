@@ -36,7 +36,7 @@ use Rattle.pim_model.specs.Judging.{advance_judged, assert_judged, data_judged, 
 use Rattle.pim_model.specs.Limits.{are_apart, are_distinct, are_routes, are_rps, config_test, is_querier_config, is_route, is_rp_range}
 use Rattle.pim_model.specs.Neighbours.{all_have_lan_delay, all_have_priority, effective_delay, effective_override_interval, effective_propagation_delay, greatest_delay, is_better_dr, is_dr, is_dr_among, is_suppression_among, is_suppression_on, join_prune_override_interval, nbr, nbr_among, override_interval_among, propagation_delay_among, t_override, t_override_among, t_suppressed, t_suppressed_among}
 use Rattle.pim_model.specs.Network.{configs_test, event_of, frame_at, moved, moved_at, network, network_ran, nodes_test, station_at, stepped}
-use Rattle.pim_model.specs.Printed.{active_line, all_rows, rows, tree_lines}
+use Rattle.pim_rows.specs.Printed.{active_line, all_rows, rows, tree_lines}
 use Rattle.pim_model.specs.Querier.{each_in_turn, general_query_due, group_membership_interval, group_record_due, group_repeat_due, is_querier, last_member_query_time, lower_group, lower_queried, lower_sources, next_sending, other_querier_gone, other_querier_interval, querier_elected, querier_row, querier_up, queries_of, query_asked, query_group, query_interval, query_seen, query_sent, query_sources, querying, querying_on, record_seen, report_seen, robustness, send_sources, source_record_due, source_repeat_due, sources_sent, sources_to_send, startup_query_interval}
 use Rattle.pim_model.specs.Reach.{differs_among, event_reach, is_same_for, keeps_neighbours, own_firing, passes, reach, reach_of, told_all, told_instant, told_once, with_facts}
 use Rattle.pim_model.specs.Receivers.{is_exclude, is_exclude_among, local_receiver_exclude, local_receiver_exclude_among, local_receiver_include, local_receiver_include_among}

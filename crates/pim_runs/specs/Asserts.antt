@@ -2,10 +2,10 @@
 use Rattle.std.specs.Prelude.{List, None, Option, Some, false, map, true, ℕ, [], ◌≡◌, ◌∷◌, ◌++◌}
 use Rattle.pim_types.specs.declared.event.Event.{Event}
 use Rattle.pim_types.specs.declared.fact.AssertRole.{AssertRole}
-use Rattle.pim_types.specs.declared.table.Row.{Row}
-use Rattle.pim_types.specs.declared.table.Table.{Table}
+use Rattle.pim_rows.specs.declared.table.Row.{Row}
+use Rattle.pim_rows.specs.declared.table.Table.{Table}
 use Rattle.pim_ip.specs.Addr.{addr}
-use Rattle.pim_model.specs.Printed.{rows}
+use Rattle.pim_rows.specs.Printed.{rows}
 use Rattle.pim_model.specs.Sets.{spt_bit}
 use Rattle.pim_model.specs.State.{State}
 use Rattle.pim_model.specs.Step.{run, state_after}

@@ -1,8 +1,8 @@
 -- Worked runs of the forwarding cache: what its rows answer, and which packets they decide.
 use Rattle.std.specs.Prelude.{Bool, List, None, Option, Some, [], false, map, option_map, true, ℕ, ◌+◌, ◌∷◌, ◌≡◌}
-use Rattle.pim_types.specs.declared.table.Table.{Table}
+use Rattle.pim_rows.specs.declared.table.Table.{Table}
 use Rattle.pim_model.specs.Cache.{Answers, Plain, cached, plain}
-use Rattle.pim_model.specs.Printed.{rows}
+use Rattle.pim_rows.specs.Printed.{rows}
 use Rattle.pim_model.specs.Sets.{members}
 use Rattle.pim_model.specs.State.{State}
 use Rattle.pim_model.specs.Step.{run, state_after}

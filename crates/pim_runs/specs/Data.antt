@@ -1,11 +1,11 @@
 -- Worked runs of data packets and Registers.
 use Rattle.std.specs.Prelude.{Bool, None, Option, Some, false, map, true, ℕ, [], ◌≡◌, ◌∷◌}
 use Rattle.pim_types.specs.declared.fact.RegisterState.{RegisterState}
-use Rattle.pim_types.specs.declared.table.RegisterName.{RegisterName}
-use Rattle.pim_types.specs.declared.table.Row.{Row}
-use Rattle.pim_types.specs.declared.table.Table.{Table}
+use Rattle.pim_rows.specs.declared.table.RegisterName.{RegisterName}
+use Rattle.pim_rows.specs.declared.table.Row.{Row}
+use Rattle.pim_rows.specs.declared.table.Table.{Table}
 use Rattle.pim_ip.specs.Addr.{addr}
-use Rattle.pim_model.specs.Printed.{rows}
+use Rattle.pim_rows.specs.Printed.{rows}
 use Rattle.pim_model.specs.Sets.{immediate_olist, inherited_olist, inherited_olist_rpt, members, register_state, spt_bit}
 use Rattle.pim_model.specs.State.{State}
 use Rattle.pim_model.specs.Step.{run, state_after}

@@ -4,10 +4,10 @@ use Rattle.pim_ip.specs.declared.refusal.Refusal.{Refusal}
 use Rattle.pim_types.specs.declared.event.Event.{Event}
 use Rattle.pim_types.specs.declared.fact.QuerierRole.{QuerierRole}
 use Rattle.pim_types.specs.declared.fact.QuerierRow.{QuerierRow}
-use Rattle.pim_types.specs.declared.table.Row.{Row}
-use Rattle.pim_types.specs.declared.table.Table.{Table}
+use Rattle.pim_rows.specs.declared.table.Row.{Row}
+use Rattle.pim_rows.specs.declared.table.Table.{Table}
 use Rattle.pim_ip.specs.Addr.{addr}
-use Rattle.pim_model.specs.Printed.{rows}
+use Rattle.pim_rows.specs.Printed.{rows}
 use Rattle.pim_model.specs.Querier.{group_membership_interval}
 use Rattle.pim_model.specs.State.{opening, State}
 use Rattle.pim_model.specs.Step.{run, state_after}

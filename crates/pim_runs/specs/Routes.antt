@@ -5,10 +5,10 @@ use Rattle.pim_types.specs.declared.config.Config.{Config}
 use Rattle.pim_types.specs.declared.config.Route.{Route}
 use Rattle.pim_types.specs.declared.event.Event.{Event}
 use Rattle.pim_types.specs.declared.fact.AssertRole.{AssertRole}
-use Rattle.pim_types.specs.declared.table.Row.{Row}
-use Rattle.pim_types.specs.declared.table.Table.{Table}
+use Rattle.pim_rows.specs.declared.table.Row.{Row}
+use Rattle.pim_rows.specs.declared.table.Table.{Table}
 use Rattle.pim_ip.specs.Addr.{addr}
-use Rattle.pim_model.specs.Printed.{rows}
+use Rattle.pim_rows.specs.Printed.{rows}
 use Rattle.pim_model.specs.State.{State}
 use Rattle.pim_model.specs.Step.{run, state_after}
 use Rattle.pim_types.specs.Keys.{key_of}

@@ -9,7 +9,7 @@ ghost use Rattle.pim_mfc.specs.Laws.{TellsRow};
 ghost use Rattle.pim_model.specs.Cache.{cached};
 ghost use Rattle.pim_model.specs.Judging.{last_moment};
 ghost use Rattle.pim_model.specs.Limits.{config_test};
-ghost use Rattle.pim_model.specs.Printed.{rows};
+ghost use Rattle.pim_rows.specs.Printed.{rows};
 ghost use Rattle.pim_model.specs.Sets.{is_kept_alive};
 ghost use Rattle.pim_model.specs.State.{State, opening};
 ghost use Rattle.pim_model.specs.Step.{step};
@@ -42,8 +42,9 @@ use pim_intake::LentEvent;
 use pim_mfc::CacheRow;
 use pim_offrow::Offered;
 use pim_router::{RestoreRefusal, Router};
+use pim_rows::{Row, Table};
 use pim_types::{
-    Addr, Config, Emission, Fault, IfaceId, Refusal, Row, SourceGroup, Table, Verdict,
+    Addr, Config, Emission, Fault, IfaceId, Refusal, SourceGroup, Verdict,
 };
 use std::alloc::Global;
 use std::marker::Model;

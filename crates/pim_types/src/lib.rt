@@ -1,5 +1,5 @@
 //! The values of the router: its configuration, the events that it takes, its answers and packets, the rows of its
-//! facts with their one key, and the rows of its printed tables. There is no behaviour here.
+//! facts with their one key. There is no behaviour here.
 //!
 //! Times are timestamps in milliseconds, unless another unit is named.
 #![tactic(auto)]
@@ -11,7 +11,6 @@ pub mod name;
 pub mod outcome;
 pub mod path;
 pub mod series;
-pub mod table;
 pub mod timer;
 pub mod upstream;
 
@@ -23,6 +22,5 @@ pub use outcome::{Emission, Ignored, Outcome, Stop, Verdict};
 pub use path::{Hop, Path};
 pub use pim_ip::{Addr, Fault, LanDelay, Prefix, Refusal};
 pub use series::{Lent, Series};
-pub use table::{Row, Table};
 pub use timer::{Timer, TimerKind};
 pub use upstream::{SourceView, StarView, TreeState};

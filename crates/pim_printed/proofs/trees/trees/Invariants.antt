@@ -1,6 +1,6 @@
 use Rattle.std.proofs.Common.{◌≡◌, ◌++◌, flat_map}
 use Rattle.pim_world.specs.Groups.{numbers_of}
-use Rattle.pim_model.specs.Printed.{tree_lines}
+use Rattle.pim_rows.specs.Printed.{tree_lines}
 use Rattle.pim_printed.specs.Trees.{lines_of_group}
 use Rattle.pim_printed.proofs.trees.trees.Given as goal
 

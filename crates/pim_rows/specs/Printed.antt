@@ -1,7 +1,8 @@
 -- The rows of the printed tables.
 use Rattle.std.specs.Prelude.{List, [], false, flat_map, if◌then◌else◌, is_some, map, option_map, true, ℕ, ◌++◌, ◌∷◌}
 use Rattle.pim_ip.specs.Addr.{addr}
-use Rattle.pim_types.specs.{Keys.{group_in, source_in}, declared.{config.IfaceId.IfaceId, fact.{AssertRow.AssertRow, DownstreamRow.DownstreamRow, GroupRecordRow.GroupRecordRow, JoinTimerRow.JoinTimerRow, Key.Key, NeighbourRow.NeighbourRow, RegisterState.RegisterState, SourceRecordRow.SourceRecordRow, SourceRow.SourceRow}, table.{DownstreamState.DownstreamState, RegisterName.RegisterName, Row.Row, Table.Table as PrintedTable}, upstream.TreeState.TreeState}}
+use Rattle.pim_types.specs.{Keys.{group_in, source_in}, declared.{config.IfaceId.IfaceId, fact.{AssertRow.AssertRow, DownstreamRow.DownstreamRow, GroupRecordRow.GroupRecordRow, JoinTimerRow.JoinTimerRow, Key.Key, NeighbourRow.NeighbourRow, RegisterState.RegisterState, SourceRecordRow.SourceRecordRow, SourceRow.SourceRow}, upstream.TreeState.TreeState}}
+use Rattle.pim_rows.specs.declared.table.{DownstreamState.DownstreamState, RegisterName.RegisterName, Row.Row, Table.Table as PrintedTable}
 use Rattle.pim_model.specs.{Desires.tree_state, Sets.register_state, State.State, Upstream.{fact_keys, groups_of, sources_of}}
 
 -- an interface by its number

@@ -1,7 +1,6 @@
 //! The rows of printed tables.
-use crate::config::IfaceId;
-use crate::fact::{AssertRole, Key};
-use pim_ip::Addr;
+use pim_types::{Addr, IfaceId, Key};
+use pim_types::fact::AssertRole;
 
 /// A table of facts as it is printed, by the letter of its lines.
 #[derive(Clone, Copy)]
