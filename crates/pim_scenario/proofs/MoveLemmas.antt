@@ -8,11 +8,11 @@ use Rattle.pim_types.specs.declared.config.Route.{Route}
 use Rattle.pim_types.specs.declared.config.RpRange.{RpRange}
 use Rattle.pim_types.specs.declared.event.EventKind.{EventKind}
 use Rattle.pim_scenario.specs.declared.scenario.ScenarioMove.{ScenarioMove}
-use Rattle.pim_scenario.specs.declared.scenario.ScenarioMove.TheVariants.{Event, Deliver, Carry, Restart}
+use Rattle.pim_scenario.specs.declared.scenario.ScenarioMove.TheVariants.{Event, Deliver, Carry, Reload, Restart}
 use Rattle.pim_scenario.specs.declared.scenario.RouterText.{RouterText}
 use Rattle.pim_scenario.specs.declared.scenario.Scenario.{Scenario}
 use Rattle.pim_scenario.specs.Fields.{text_at, list_at, list_or_empty}
-use Rattle.pim_scenario.specs.Scenario.{AreRouteWords, AreRouters, AreRpWords, IsCarry, IsDeliver, IsEvent, IsKind, IsMove, IsRestart, IsRouter, IsRoutes, IsRps, IsScenario, IsTable, IsText, place_of}
+use Rattle.pim_scenario.specs.Scenario.{AreRouteWords, AreRouters, AreRpWords, IsCarry, IsDeliver, IsEvent, IsKind, IsMove, IsReload, IsRestart, IsRouter, IsRoutes, IsRps, IsScenario, IsTable, IsText, place_of}
 use Rattle.pim_scenario.proofs.LinkLemmas.{position-map}
 use Rattle.pim_scenario.proofs.ReadLemmas.{the_same, zip_weaker}
 
@@ -88,13 +88,21 @@ moved_restart : (rs ss : List RouterText) → ((name : List ℕ) → place_of rs
 moved_restart rs ss same ms (Restart router) is = (is.0, placed rs ss same (text_at (codes "router") ms) ∙ is.1)
 moved_restart rs ss same ms m is = absurd is
 
+moved_reload : (rs ss : List RouterText) → ((name : List ℕ) → place_of rs name ≡ place_of ss name)
+    → (ms : Members) (m : ScenarioMove) → IsReload ss ms m → IsReload rs ms m
+moved_reload rs ss same ms (Reload router draw next) is =
+    (is.0, placed rs ss same (text_at (codes "router") ms) ∙ is.1, is.2, is.3)
+moved_reload rs ss same ms m is = absurd is
+
 moved : (rs ss : List RouterText) → ((name : List ℕ) → place_of rs name ≡ place_of ss name)
     → (ms : Members) (m : ScenarioMove) → IsMove ss ms m → IsMove rs ms m
 moved rs ss same ms m (inl is) = inl (is.0, moved_deliver rs ss same ms m is.1)
 moved rs ss same ms m (inr (inl is)) = inr (inl (is.0, moved_carry rs ss same ms m is.1))
 moved rs ss same ms m (inr (inr (inl is))) = inr (inr (inl is))
 moved rs ss same ms m (inr (inr (inr (inl is)))) = inr (inr (inr (inl (is.0, moved_restart rs ss same ms m is.1))))
-moved rs ss same ms m (inr (inr (inr (inr is)))) = inr (inr (inr (inr (moved_event rs ss same ms m is))))
+moved rs ss same ms m (inr (inr (inr (inr (inl is))))) =
+    inr (inr (inr (inr (inl (is.0, moved_reload rs ss same ms m is.1)))))
+moved rs ss same ms m (inr (inr (inr (inr (inr is))))) = inr (inr (inr (inr (inr (moved_event rs ss same ms m is)))))
 
 moved_table : (rs ss : List RouterText) → ((name : List ℕ) → place_of rs name ≡ place_of ss name)
     → (d : Data) (m : ScenarioMove) → IsTable (IsMove ss) d m → IsTable (IsMove rs) d m
