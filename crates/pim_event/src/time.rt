@@ -1,6 +1,6 @@
 //! Time that passes: timers expire one after the other, and what follows of each is settled before the next.
 ghost use Rattle.std.specs.List.Sorted.{IsStrictlySortedBy};
-ghost use Rattle.std.specs.Prelude.{◌≡◌, ◌≤◌, ◌^◌, ◌++◌, [], IfOk, IfSome, IsOkUnless, OnOk, option_map, true};
+ghost use Rattle.std.specs.Prelude.{◌≡◌, ◌≤◌, ◌^◌, ◌++◌, [], IfOk, IfSome, IsOkUnless, OnOk, if◌then◌else◌, option_map, true};
 ghost use Rattle.pim_fanout.specs.Disturbed.{joined};
 ghost use Rattle.pim_fanout.specs.Laws.{names_of};
 ghost use Rattle.pim_fanout.specs.Refreshing.{touches, touches_in};
