@@ -67,7 +67,8 @@ class Lines:
         return self.routers[name]["line"]
 
     def interface(self, name: str, number: int) -> int:
-        return self.routers[name]["ifaces"][number].line
+        made = self.routers[name]
+        return [*made["ifaces"], *made["later"]][number].line
 
     @staticmethod
     def words(line: int) -> str:

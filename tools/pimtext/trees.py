@@ -131,8 +131,23 @@ def follow(state: Known, step: Step) -> None:
             state.routes = routes_of(step.did["list"])
         case "rps":
             state.rps = ranges_of(step.did["list"])
+        case "reload":
+            reload(state, step.did["config"])
         case "frame" | "deliver" | "settle":
             hear(state, step)
+
+
+def reload(state: Known, config: dict[str, Any]) -> None:
+    """Another configuration. Of interfaces that are removed the router knows nothing more; what they were stays to be
+    looked up."""
+    made = scenario.router_of({**config, "name": state.router.name})
+    count = len(made.interfaces)
+    made.interfaces += state.router.interfaces[count:]
+    state.router, state.routes, state.rps = made, made.routes, made.rps
+    state.up = {number for number in state.up if number < count}
+    state.queriers = {number: said for number, said in state.queriers.items() if number < count}
+    state.hellos = {key: said for key, said in state.hellos.items() if key[0] < count}
+    state.asserts = {key: said for key, said in state.asserts.items() if key[0] < count}
 
 
 def hear(state: Known, step: Step) -> None:
