@@ -271,17 +271,21 @@ impl Row {
     ///
     /// The member of the row's table is written.
     pub(crate) unsafe fn told(row: &raw::Row) -> Option<Row> {
-        Some(match u8::try_from(row.table).ok()? {
-            b'N' => Row::Neighbour(NeighbourRow::told(row.of.neighbour)),
-            b'G' => Row::Group(GroupRow::told(row.of.group)),
-            b'S' => Row::Source(SourceRow::told(row.of.source)),
-            b'D' => Row::Downstream(DownstreamRow::told(row.of.downstream)),
-            b'A' => Row::Assert(AssertRow::told(row.of.asserted)),
-            b'U' => Row::Upstream(UpstreamRow::told(row.of.upstream)),
-            b'R' => Row::Rpt(RptRow::told(row.of.rpt)),
-            b'F' => Row::Active(ActiveRow::told(row.of.active)),
-            _ => return None,
-        })
+        let letter = u8::try_from(row.table).ok()?;
+        // SAFETY: the caller says so of the member of this table.
+        unsafe {
+            match letter {
+                b'N' => Some(Row::Neighbour(NeighbourRow::told(row.of.neighbour))),
+                b'G' => Some(Row::Group(GroupRow::told(row.of.group))),
+                b'S' => Some(Row::Source(SourceRow::told(row.of.source))),
+                b'D' => Some(Row::Downstream(DownstreamRow::told(row.of.downstream))),
+                b'A' => Some(Row::Assert(AssertRow::told(row.of.asserted))),
+                b'U' => Some(Row::Upstream(UpstreamRow::told(row.of.upstream))),
+                b'R' => Some(Row::Rpt(RptRow::told(row.of.rpt))),
+                b'F' => Some(Row::Active(ActiveRow::told(row.of.active))),
+                _ => None,
+            }
+        }
     }
 }
 
