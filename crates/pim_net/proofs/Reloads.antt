@@ -1,5 +1,6 @@
 -- A router of a network that gets another configuration.
-use Rattle.std.proofs.Common.{◌≡◌, ◌∙◌, ◌≤◌, ◌++◌, ◌×◌, ℕ, true, List, length, map, Option, Some, None, Result, Ok, Err, refl, sym, ap}
+use Rattle.std.proofs.Common.{◌≡◌, ◌∙◌, ◌≤◌, ◌++◌, ◌==◌, ℕ, Bool, true, false, List, length, map, Option, Some, None, Result, Ok, Err, refl, sym, ap, arith}
+use Rattle.std.proofs.lemmas.Bool.Decides.{nat_tests}
 use Rattle.std.proofs.lemmas.List.{set-get_or}
 use Rattle.std.proofs.lemmas.Option.{get_or_from_slice_get, slice_get_past}
 use Rattle.std.specs.List.{slice_get}
@@ -8,15 +9,55 @@ use Rattle.pim_ip.specs.declared.fault.Fault.{Fault}
 use Rattle.pim_ip.specs.declared.refusal.Refusal.{Refusal}
 use Rattle.pim_types.specs.declared.config.Config.{Config}
 use Rattle.pim_types.specs.declared.outcome.{Emission.Emission, Outcome.Outcome}
-use Rattle.pim_model.specs.Network.{Network, Sent, Station, bad_move, sent_by, station_at}
+use Rattle.pim_model.specs.Limits.{config_test}
+use Rattle.pim_model.specs.Network.{Network, Sent, Station, bad_move, is_node, sent_by, station_at}
 use Rattle.pim_reloaded.specs.Reloading.{reload}
 use Rattle.pim_net.specs.Reloading.{done_with, node_test, refused_as, reloaded, reloaded_at, reloaded_if}
 use Rattle.pim_net.specs.Showing.{all_of}
 use Rattle.pim_net.proofs.Lookups.{Shows, shown}
-use Rattle.pim_net.proofs.Stations.{none_there, one_replaced, one_there}
+use Rattle.pim_laws.proofs.Accepted.{few_interfaces}
+use Rattle.pim_net.proofs.Stations.{none_there, of_some, one_replaced, one_there}
 
 abbrev Test : Type 0
 Test = Result (Unit {0}) Refusal
+
+-- a test that passes isn't one that fails
+pub not_both : (t : Test) (refusal : Refusal) (P : Type 0) → t ≡ Ok tt → t ≡ Err refusal → P
+not_both (Ok x) refusal P passes fails = cc fails
+not_both (Err x) refusal P passes fails = cc passes
+
+pub same_refusal : (t : Test) (a b : Refusal) → t ≡ Err a → t ≡ Err b → a ≡ b
+same_refusal t a b first second = cc (sym first ∙ second)
+
+-- the test of a configuration without a link for each interface, and with one
+pub unlinked : (node : Config × List ℕ) → is_node node ≡ false → node_test node ≡ Err Refusal.BadScenario
+unfolding node_test
+unlinked node no = rw no refl
+
+pub linked : (node : Config × List ℕ) → is_node node ≡ true → node_test node ≡ config_test node.0
+unfolding node_test
+linked node yes = rw yes refl
+
+pub few_links : (node : Config × List ℕ) → is_node node ≡ true → config_test node.0 ≡ Ok tt → length node.1 ≤ 120
+few_links node yes passes =
+    let as_many : length node.1 ≡ length (node.0).interfaces = grind (arith, nat_tests, yes) in
+    omega (arith, as_many, few_interfaces node.0 passes)
+
+-- what is kept by the links of a station after its reload is kept by those before it
+pub kept_by : (old new : Option Station) (c : Config) (draw : ℕ) (sent written : List Emission) (frames more : List Sent)
+    → IfSome old (λ s. new ≡ Some (record s { state = (reload s.state c draw).0 }))
+    → IfSome old (λ s. sent ≡ (reload s.state c draw).1) → written ≡ sent
+    → IfSome new (λ s. more ≡ frames ++ map (sent_by s.links) written)
+    → IfSome old (λ s. more ≡ frames ++ map (sent_by s.links) (reload s.state c draw).1)
+kept_by None new c draw sent written frames more f g same h = tt
+kept_by (Some s) new c draw sent written frames more f g same h =
+    of_some new (λ (st : Station). more ≡ frames ++ map (sent_by st.links) written)
+    (record s { state = (reload s.state c draw).0 }) f h
+    ∙ ap (λ (es : List Emission). frames ++ map (sent_by s.links) es) (same ∙ g)
+
+pub tested_some : {A : Type 0} (o : Option A) (T : Type 0) (P : A → Type 0) → IfSome o P → IfSome o (λ x. T → P x)
+tested_some None T P p = tt
+tested_some (Some x) T P p = λ t. p
 
 -- what was there is put there
 same_put : {A : Type 0} (xs : List A) (i : ℕ) (x : A) → slice_get xs i ≡ Some x → set xs i x ≡ xs

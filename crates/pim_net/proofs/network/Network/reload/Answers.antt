@@ -1,8 +1,7 @@
-use Rattle.std.proofs.Common.{rules, ◌≡◌, ◌≤◌, ◌<◌, ◌∙◌, Option, Some, length, ap, refl, sym}
+use Rattle.std.proofs.Common.{rules, ◌≤◌, ◌<◌, ◌∙◌, Some, length, ap, refl, sym}
 use Rattle.std.proofs.lemmas.Option.{slice_get_read}
-use Rattle.std.specs.List.{slice_get}
 use Rattle.pim_types.specs.declared.outcome.Outcome.{Outcome}
-use Rattle.pim_model.specs.Network.{Network, Station}
+use Rattle.pim_model.specs.Network.{Network}
 use Rattle.pim_net.specs.Showing.{node_of}
 use Rattle.pim_net.proofs.Lookups.{shows}
 use Rattle.pim_net.proofs.Reloads.{fault_is, network_is, nowhere, outcome_is}
@@ -27,29 +26,30 @@ returns-then-router-len-clause-network c =
     (sym (nowhere (node_of c.args.node) c.args.draw c.self.inside.stations.items c.self.inside.frames.items net
     (shows _ _ net (c.self.view_is ∙ is)) c.args.router past)))
 
-at : (c : goal.After-put_under) → slice_get c.self.inside.stations.items c.args.router ≡ Some c.index_mut.result.now
-at c =
-    let within : c.args.router < length c.self.inside.stations.items = search rules in
-    slice_get_read c.self.inside.stations.items _ c.args.router c.index_mut.result.now refl within c.index_mut.ensures.value
-
 pub returns-clause-outcome : goal.returns-clause-outcome
 returns-clause-outcome c =
+    let within : c.args.router < length c.self.inside.stations.items = search rules in
+    let at = slice_get_read c.self.inside.stations.items _ c.args.router c.index_mut.result.now refl within c.index_mut.ensures.value in
     if_some c.args.self.now _ (λ net is.
     outcome_is (node_of c.args.node) c.args.draw c.self.inside.stations.items c.self.inside.frames.items net
-    (shows _ _ net (c.self.view_is ∙ is)) c.args.router c.index_mut.result.now (at c)
+    (shows _ _ net (c.self.view_is ∙ is)) c.args.router c.index_mut.result.now at
     c.put_under.new.station c.put_under.new.frames.items c.put_under.result c.put_under.ensures.done c.put_under.ensures.refused)
 
 pub returns-clause-network : goal.returns-clause-network
 returns-clause-network c =
+    let within : c.args.router < length c.self.inside.stations.items = search rules in
+    let at = slice_get_read c.self.inside.stations.items _ c.args.router c.index_mut.result.now refl within c.index_mut.ensures.value in
     if_some c.args.self.now _ (λ net is.
     network_is (node_of c.args.node) c.args.draw c.self.inside.stations.items c.self.inside.frames.items net
-    (shows _ _ net (c.self.view_is ∙ is)) c.args.router c.index_mut.result.now (at c)
+    (shows _ _ net (c.self.view_is ∙ is)) c.args.router c.index_mut.result.now at
     c.put_under.new.station c.put_under.new.frames.items c.put_under.result c.put_under.ensures.state c.put_under.ensures.frames
     c.put_under.ensures.refused)
 
 pub returns-clause-fault : goal.returns-clause-fault
 returns-clause-fault c =
+    let within : c.args.router < length c.self.inside.stations.items = search rules in
+    let at = slice_get_read c.self.inside.stations.items _ c.args.router c.index_mut.result.now refl within c.index_mut.ensures.value in
     if_some c.args.self.now _ (λ net is.
     fault_is (node_of c.args.node) c.args.draw c.self.inside.stations.items c.self.inside.frames.items net
-    (shows _ _ net (c.self.view_is ∙ is)) c.args.router c.index_mut.result.now (at c)
+    (shows _ _ net (c.self.view_is ∙ is)) c.args.router c.index_mut.result.now at
     c.put_under.result c.put_under.ensures.fault)
