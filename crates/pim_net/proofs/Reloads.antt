@@ -32,15 +32,15 @@ same_refusal t a b first second = cc (sym first ∙ second)
 -- the test of a configuration without a link for each interface, and with one
 pub unlinked : (node : Config × List ℕ) → is_node node ≡ false → node_test node ≡ Err Refusal.BadScenario
 unfolding node_test
-unlinked node no = rw no refl
+unlinked node fails = rw fails refl
 
 pub linked : (node : Config × List ℕ) → is_node node ≡ true → node_test node ≡ config_test node.0
 unfolding node_test
-linked node yes = rw yes refl
+linked node passes = rw passes refl
 
 pub few_links : (node : Config × List ℕ) → is_node node ≡ true → config_test node.0 ≡ Ok tt → length node.1 ≤ 120
-few_links node yes passes =
-    let as_many : length node.1 ≡ length (node.0).interfaces = grind (arith, nat_tests, yes) in
+few_links node links passes =
+    let as_many : length node.1 ≡ length (node.0).interfaces = grind (arith, nat_tests, links) in
     omega (arith, as_many, few_interfaces node.0 passes)
 
 -- what is kept by the links of a station after its reload is kept by those before it
