@@ -7,12 +7,13 @@ use Rattle.toml.specs.Data.{Data, Members, as_table}
 use Rattle.pim_types.specs.declared.config.Route.{Route}
 use Rattle.pim_types.specs.declared.config.RpRange.{RpRange}
 use Rattle.pim_types.specs.declared.event.EventKind.{EventKind}
+use Rattle.pim_scenario.specs.declared.scenario.ConfigText.{ConfigText}
 use Rattle.pim_scenario.specs.declared.scenario.ScenarioMove.{ScenarioMove}
 use Rattle.pim_scenario.specs.declared.scenario.ScenarioMove.TheVariants.{Event, Deliver, Carry, Reload, Restart}
 use Rattle.pim_scenario.specs.declared.scenario.RouterText.{RouterText}
 use Rattle.pim_scenario.specs.declared.scenario.Scenario.{Scenario}
-use Rattle.pim_scenario.specs.Fields.{text_at, list_at, list_or_empty}
-use Rattle.pim_scenario.specs.Scenario.{AreRouteWords, AreRouters, AreRpWords, IsCarry, IsDeliver, IsEvent, IsKind, IsMove, IsReload, IsRestart, IsRouter, IsRoutes, IsRps, IsScenario, IsTable, IsText, place_of}
+use Rattle.pim_scenario.specs.Fields.{text_at, table_at, list_at, list_or_empty}
+use Rattle.pim_scenario.specs.Scenario.{AreRouteWords, AreRouters, AreRpWords, IsCarry, IsConfigText, IsDeliver, IsEvent, IsKind, IsMove, IsReload, IsRestart, IsRouter, IsRoutes, IsRps, IsScenario, IsTable, IsText, place_of}
 use Rattle.pim_scenario.proofs.LinkLemmas.{position-map}
 use Rattle.pim_scenario.proofs.ReadLemmas.{the_same, zip_weaker}
 
@@ -32,6 +33,13 @@ pub rps_of : (ms : Members) (ds : List Data) → Some ds ≡ list_at (codes "lis
 rps_of ms ds at (EventKind.Rps rps) is =
     (rps, rw (the_same (list_at (codes "list") ms) ds is.1.0 at is.1.1) is.1.2)
 rps_of ms ds at kind is = absurd is
+
+-- the configuration of a reload
+pub config_of : (routers : List RouterText) (ms inner : Members) → Some inner ≡ table_at (codes "config") ms
+    → (m : ScenarioMove) → IsReload routers ms m → (c : ConfigText) × IsConfigText inner c
+config_of routers ms inner at (Reload router draw next) is =
+    (next, rw (the_same (table_at (codes "config") ms) inner is.3.0 at is.3.1) is.3.2)
+config_of routers ms inner at m is = absurd is
 
 -- a table names one router
 pub one_name : (d : Data) (r s : RouterText) → IsTable IsRouter d r → IsTable IsRouter d s

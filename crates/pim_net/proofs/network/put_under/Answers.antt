@@ -1,10 +1,7 @@
-use Rattle.std.proofs.Common.{◌≡◌, ◌∙◌, true, false, Result, Option, Some, Ok, Err, ap, refl, subst, sym}
+use Rattle.std.proofs.Common.{◌≡◌, ◌∙◌, Some, ap, refl, subst, sym}
 use Rattle.std.specs.Prelude.{IfOk, IfSome, OnOk}
-use Rattle.pim_ip.specs.declared.refusal.Refusal.{Refusal}
-use Rattle.pim_model.specs.Limits.{config_test}
-use Rattle.pim_model.specs.Network.{is_node}
 use Rattle.pim_reloaded.specs.Reloading.{reload}
-use Rattle.pim_net.specs.Reloading.{node_test, refused_as}
+use Rattle.pim_net.specs.Reloading.{refused_as}
 use Rattle.pim_net.specs.Showing.{node_of}
 use Rattle.pim_net.proofs.Reloads.{few_links, kept_by, linked, not_both, same_refusal, tested_some, unlinked}
 use Rattle.pim_net.proofs.Stations.{if_some, of_err, of_ok}
@@ -28,7 +25,7 @@ returns-then-not-is_linked-clause-frames c =
 pub returns-then-not-is_linked-clause-refused : goal.returns-then-not-is_linked-clause-refused
 returns-then-not-is_linked-clause-refused c = λ refusal tested. (
   c.refused.ensures
-  ∙ ap refused_as (same_refusal _ _ _ (unlinked (node_of c.args.node) (sym c.if-not-is_linked.ensures)) tested),
+      ∙ ap refused_as (same_refusal _ _ _ (unlinked (node_of c.args.node) (sym c.if-not-is_linked.ensures)) tested),
   refl,
   refl,
 )
