@@ -244,7 +244,13 @@ fn fire_once(
     let moves_dr = end_moves_dr(world, due.1);
     let mut last = None;
     let names = fire_world(world, turn, meter, due, &touched, emissions, &mut last)?;
-    cache.refresh(world, meter, names, disturbed_where(moves_dr, touched), &last)?;
+    cache.refresh(
+        world,
+        meter,
+        names,
+        disturbed_where(moves_dr, touched),
+        &last,
+    )?;
     Ok(())
 }
 
