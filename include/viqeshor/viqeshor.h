@@ -21,7 +21,7 @@
  * - fact: an entry of the router's state, of a group or a source that is asked for or that sends, or of a neighbour: a
  *   membership, a Join, an Assert, a source that is kept alive. viq_settings limits how many there are.
  * - copy: a packet of data that the router forwards, as it leaves on an interface.
- * - interface: a number, from 0, in the order in which the interfaces were given to viq_new.
+ * - interface: a number, from 0, in the order in which the interfaces were given to viq_new or viq_reload.
  *
  * Numbers are in the machine's byte order, addresses too: 10.0.0.1 is 0x0a000001. Packets are whole IPv4 packets, as on
  * the wire. examples/library of the repository has whole programs, LIBRARY.md says what the program has to do, and
@@ -162,7 +162,7 @@ static inline bool viq_is_lost(uint32_t answer) { return answer == VIQ_LOST || a
 /* The meaning of an answer in a few words; never NULL. */
 const char *viq_answer_text(uint32_t answer);
 
-/* No time: no timer runs, or a row has no such time. */
+/* No time: no timer runs, or none expires. */
 #define VIQ_NEVER UINT64_MAX
 
 /* No interface. */
@@ -217,6 +217,23 @@ VIQ_READ_ANSWER VIQ_NOT_NULL(1) VIQ_NOT_NULL(3)
 uint32_t viq_new(struct viq_router **router, uint32_t abi, const struct viq_settings *settings,
                  const struct viq_interface *interfaces, size_t interface_count, const struct viq_route *routes,
                  size_t route_count, const struct viq_range *ranges, size_t range_count);
+
+/* Puts a router that works under another configuration. Interfaces are numbered in the order in which they are given, as
+ * in viq_new: those past the last one go down first, those that are added are down until viq_up, and the others stay up
+ * or down. Then settings, routes and ranges are those of the configuration, and what follows is done as after an event;
+ * the present stays. A Hello leaves at once on an interface that is up and whose address, priority or delays differ.
+ * Where the limit is below the number of facts they all stay, and an event that needs a new one is refused until there is
+ * room. The interfaces that stay keep what viq_older and viq_query_version set, and the groups in an older mode; one that
+ * is added is as in a new router.
+ *
+ * It answers VIQ_DONE; a refusal of 30 to 38 as viq_new does, or VIQ_MEMORY, where nothing has changed; VIQ_LOST,
+ * VIQ_FAILED or VIQ_NO_ROUTER. Once it is done, what is to be sent is what it sent, and viq_copies answers 0; the rows
+ * that were read are dropped; and a data plane reads all its rows again: viq_changed lists each source with a fact before
+ * or after it, and viq_may_differ is true for all sources. */
+VIQ_READ_ANSWER VIQ_NOT_NULL(2)
+uint32_t viq_reload(struct viq_router *router, const struct viq_settings *settings,
+                    const struct viq_interface *interfaces, size_t interface_count, const struct viq_route *routes,
+                    size_t route_count, const struct viq_range *ranges, size_t range_count, struct viq_draw draw);
 
 /* Frees the router and its memory. With NULL it does nothing. */
 void viq_end(struct viq_router *router);
@@ -276,8 +293,8 @@ uint32_t viq_routes(struct viq_router *router, const struct viq_route *routes, s
 VIQ_READ_ANSWER
 uint32_t viq_ranges(struct viq_router *router, const struct viq_range *ranges, size_t count, struct viq_draw draw);
 
-/* ---- what is to be sent, of the last event that wasn't answered VIQ_MEMORY. A lost router, and NULL, have nothing to
- * send. */
+/* ---- what is to be sent, of the last event that wasn't answered VIQ_MEMORY, or of viq_reload since. A lost router, and
+ * NULL, have nothing to send. */
 
 /* The most bytes that a packet has. */
 #define VIQ_MOST_BYTES 1528
@@ -318,23 +335,93 @@ uint64_t viq_next_moment(const struct viq_router *router);
 
 /* ---- what the router knows */
 
-/* The state of a row of D, and that of the register in a row of F. */
-enum { VIQ_JOINED = 1, VIQ_PRUNE_PENDING = 2, VIQ_PRUNED = 3 };
-enum { VIQ_REGISTER_NONE = 0, VIQ_REGISTER_JOINED = 1, VIQ_REGISTER_JOIN_PENDING = 2, VIQ_REGISTER_PRUNED = 3 };
+/* A row of N: a PIM neighbour. */
+struct viq_neighbour_row {
+    uint32_t iface;
+    uint32_t address;
+    uint64_t end; /* ms, when its holdtime expires, or VIQ_NEVER */
+};
 
-/* A row of a table; SCENARIOS.md describes the tables. A field that its kind of row doesn't have is 0, or VIQ_NEVER for
- * a time. */
-struct viq_row {
-    uint32_t table; /* its letter */
+/* A row of G: what hosts want of a group. */
+struct viq_group_row {
     uint32_t iface;
     uint32_t group;
-    uint32_t source; /* 0 for (*,G); a neighbour's address */
-    uint32_t winner; /* of an assert */
-    bool is_rpt;     /* (S,G,rpt) */
-    bool is_set;     /* G: EXCLUDE; A: lost; R: pruned; F: SPTbit */
-    uint32_t state;  /* D: VIQ_JOINED, VIQ_PRUNE_PENDING or VIQ_PRUNED; F: its register, a VIQ_REGISTER_.. */
-    uint64_t end;    /* ms, when it expires; U: the next Join; F: the keepalive timer */
-    uint64_t pending; /* ms; D: when the Prune-Pending Timer expires */
+    bool is_exclude; /* every source but those that they exclude; else only the sources of the rows of S */
+    uint64_t end;    /* ms, when EXCLUDE mode ends; VIQ_NEVER in INCLUDE mode */
+};
+
+/* A row of S: a source that hosts want or exclude. */
+struct viq_source_row {
+    uint32_t iface;
+    uint32_t group;
+    uint32_t source;
+    uint64_t end; /* ms, until when they want it; VIQ_NEVER where they exclude it */
+};
+
+/* A row of D: what other routers joined or pruned. */
+enum {
+    VIQ_JOINED = 1,
+    VIQ_PRUNE_PENDING = 2, /* a Prune came, and takes effect unless a Join overrides it */
+    VIQ_PRUNED = 3         /* of (S,G,rpt) alone */
+};
+struct viq_downstream_row {
+    uint32_t iface;
+    uint32_t group;
+    uint32_t source;  /* 0 for (*,G) */
+    bool is_rpt;      /* of (S,G,rpt); else of (*,G) or (S,G) */
+    uint32_t state;   /* VIQ_JOINED, VIQ_PRUNE_PENDING or VIQ_PRUNED */
+    uint64_t end;     /* ms, when the Expiry Timer expires, or VIQ_NEVER */
+    uint64_t pending; /* ms, when the Prune-Pending Timer expires; VIQ_NEVER in another state */
+};
+
+/* A row of A: an assert. */
+struct viq_assert_row {
+    uint32_t iface;
+    uint32_t group;
+    uint32_t source; /* 0 for (*,G) */
+    bool is_loser;   /* the router lost it; else it won */
+    uint32_t winner; /* the winner's address: the router's own where it won */
+    uint64_t end;    /* ms, when the Assert Timer expires */
+};
+
+/* A row of U: a tree that the router has joined upstream. */
+struct viq_upstream_row {
+    uint32_t group;
+    uint32_t source;    /* 0 for (*,G) */
+    uint64_t next_join; /* ms, when the next Join leaves */
+};
+
+/* A row of R: a source of a shared tree that the router has joined. */
+struct viq_rpt_row {
+    uint32_t group;
+    uint32_t source;
+    bool is_pruned; /* the router pruned it off the shared tree */
+};
+
+/* A row of F: an active source. */
+enum { VIQ_REGISTER_NONE = 0, VIQ_REGISTER_JOINED = 1, VIQ_REGISTER_JOIN_PENDING = 2, VIQ_REGISTER_PRUNED = 3 };
+struct viq_active_row {
+    uint32_t group;
+    uint32_t source;
+    uint64_t keepalive;      /* ms, when the keepalive timer expires; VIQ_NEVER where it doesn't run */
+    bool spt_bit;            /* SPTbit(S,G) */
+    uint32_t register_state; /* of the register at the source's DR, VIQ_REGISTER_..; VIQ_REGISTER_NONE elsewhere */
+};
+
+/* A row of a table: its letter, and the member of that table. No other member may be read. SCENARIOS.md describes the
+ * tables. */
+struct viq_row {
+    uint32_t table; /* N, G, S, D, A, U, R or F */
+    union {
+        struct viq_neighbour_row neighbour;   /* N */
+        struct viq_group_row group;           /* G */
+        struct viq_source_row source;         /* S */
+        struct viq_downstream_row downstream; /* D */
+        struct viq_assert_row asserted;       /* A */
+        struct viq_upstream_row upstream;     /* U */
+        struct viq_rpt_row rpt;               /* R */
+        struct viq_active_row active;         /* F */
+    } of;
 };
 
 /* Reads the table of a letter: N, G, S, D, A, U, R or F. It answers VIQ_DONE; VIQ_MEMORY, where nothing has changed;
@@ -344,7 +431,7 @@ uint32_t viq_read(struct viq_router *router, uint8_t letter);
 
 /* How many rows the table had that was read last; and one of them, counted from 0, ascending by their keys. viq_row
  * answers false, and writes nothing, where there is none of that number. The rows remain as they were read, whatever
- * happens to the router, until a table is read again. */
+ * happens to the router, until a table is read again, or viq_reload is done. */
 VIQ_READ_ANSWER
 size_t viq_rows(const struct viq_router *router);
 VIQ_NOT_NULL(3)
@@ -560,7 +647,7 @@ uint32_t viq_older_read(struct viq_router *router);
 
 /* How many groups were read by viq_older_read last; and one of them, counted from 0, ascending by interface and then by
  * group. viq_older_row answers false, and writes nothing, where there is none of that number. They remain as they were
- * read until they are read again. */
+ * read until they are read again, or viq_reload is done. */
 VIQ_READ_ANSWER
 size_t viq_older_rows(const struct viq_router *router);
 VIQ_NOT_NULL(3)

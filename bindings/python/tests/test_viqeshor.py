@@ -6,7 +6,7 @@ import unittest
 import weakref
 
 import viqeshor
-from viqeshor import Answer, Closed, Refused, Router, hosts
+from viqeshor import Answer, Closed, DownstreamRow, NeighbourRow, Refused, Router, hosts
 
 HELLO_ABOVE = "45C0001E000000000167CEAB0A000001E000000D2000DFFC00010002FFFF"
 HELLO_BELOW = "45C0001E000000000167CDAA0A000102E000000D2000DFFC00010002FFFF"
@@ -55,6 +55,50 @@ class Routers(unittest.TestCase):
     def test_lists_are_replaced(self):
         router = self.router()
         self.assertEqual((router.set_routes([]), router.set_ranges([])), (Answer.DONE, Answer.DONE))
+
+    def test_another_configuration(self):
+        router = self.joined()
+        router.frame(0, bytes.fromhex(DATA))
+        before = list(router.tables())
+        self.assertIsNone(router.reload(INTERFACES, RANGES, ROUTES, draw=7))
+        self.assertEqual((router.packets(), list(router.tables())), ([], before))
+        router.reload([("10.0.0.2", 24, 9, 500, 2500), *INTERFACES[1:], ("10.0.4.1", 24)], RANGES, ROUTES, limit=7)
+        self.assertEqual([(one.kind, one.where) for one in router.packets()], [("frame", 0)])
+        self.assertEqual(router.changed(), [("10.0.3.5", "225.1.1.1")])
+        self.assertTrue(router.may_differ("10.0.3.6", "225.1.1.2"))
+        self.assertEqual((list(router.tables()), router.up(3)), (before, Answer.DONE))
+        router.reload(INTERFACES[:1], RANGES, ROUTES)
+        self.assertEqual((router.link(1), [row.table for row in router.rows("D")]), (None, []))
+        self.assertEqual(router.up(1), Answer.BAD_INTERFACE)
+
+    def test_another_configuration_that_is_refused(self):
+        router = self.joined()
+        before, sent = router.save(), router.packets()
+        for given, answer in (
+            (([],), Answer.INTERFACE_COUNT),
+            ((INTERFACES, RANGES, [("10.9.9.0/24", "10.0.0.1", 3, 110, 20)]), Answer.CONFIGURED_ROUTES),
+        ):
+            with self.assertRaises(Refused) as caught:
+                router.reload(*given)
+            self.assertEqual(caught.exception.answer, answer)
+        self.assertEqual((router.save(), router.packets()), (before, sent))
+        with self.assertRaises(TypeError):
+            router.reload(INTERFACES, limits=7)
+
+    def test_older_hosts_stay_in_another_configuration(self):
+        router = self.joined()
+        router.set_older_hosts(2, "all")
+        router.frame(2, hosts.older_join("10.0.2.9", "239.1.1.1"))
+        rows = router.older_rows()
+        router.reload([*INTERFACES, ("10.0.4.1", 24)], RANGES, ROUTES)
+        router.up(3)
+        self.assertEqual((len(rows), router.older_rows()), (1, rows))
+        self.assertEqual(router.frame(3, hosts.older_join("10.0.4.9", "239.1.1.1")), Answer.OLD_VERSION)
+        router.reload(INTERFACES[:2], RANGES, ROUTES)
+        router.reload(INTERFACES, RANGES, ROUTES)
+        router.up(2)
+        self.assertEqual(router.older_rows(), [])
+        self.assertEqual(router.frame(2, hosts.older_join("10.0.2.9", "239.1.1.1")), Answer.OLD_VERSION)
 
     def test_a_join_a_packet_and_its_copy(self):
         router = self.joined()
@@ -124,7 +168,7 @@ class Routers(unittest.TestCase):
         router, name = self.joined(), ("10.0.3.5", "225.1.1.1")
         router.frame(0, bytes.fromhex(DATA))
         self.assertEqual(router.keep(*name, 1000), Answer.DONE)
-        self.assertEqual([row.end for row in router.rows("F")], [211000])
+        self.assertEqual([row.keepalive for row in router.rows("F")], [211000])
         self.assertEqual((router.seen(0, *name), router.changed()), (Answer.DONE, []))
         self.assertEqual(router.seen(3, *name), Answer.BAD_INTERFACE)
 
@@ -190,11 +234,10 @@ class Routers(unittest.TestCase):
         router = self.joined()
         join, = router.rows("D")
         self.assertEqual(join, router.rows("D")[0])
-        self.assertEqual(
-            (join.table, join.group, join.source, join.winner, join.pending), ("D", "225.1.1.1", "10.0.3.5", None, None)
-        )
+        self.assertEqual(join, DownstreamRow(1, "225.1.1.1", "10.0.3.5", False, "join", join.end, None))
+        self.assertEqual((join.table, join.kind()), ("D", "sg"))
         above, below = router.rows("N")
-        self.assertEqual((above.group, above.source, above.end), (None, "10.0.0.1", None))
+        self.assertEqual([above, below], [NeighbourRow(0, "10.0.0.1", None), NeighbourRow(1, "10.0.1.2", None)])
         self.assertNotEqual(above, below)
 
     def test_time_passes_timer_by_timer(self):

@@ -28,21 +28,17 @@ use std::net::Ipv4Addr;
 use std::os::raw::{c_char, c_void};
 use std::ptr::{null_mut, NonNull};
 
+mod rows;
 mod trees;
 
+pub use rows::{
+    ActiveRow, AssertRow, DownstreamRow, DownstreamState, GroupRow, NeighbourRow, RegisterState, Row, RptRow,
+    SourceRow, TableRow, UpstreamRow,
+};
 pub use trees::{Hop, LanDelay, Link, Neighbour, Path, Querier, Querying, Rpf, RptState, SourceTree, Tree};
 
 /// The most bytes that a packet has.
 pub const MOST_BYTES: usize = 1528;
-/// The states of a row of the table of Joins.
-pub const JOINED: u32 = 1;
-pub const PRUNE_PENDING: u32 = 2;
-pub const PRUNED: u32 = 3;
-/// The states of the register in a row of an active source.
-pub const REGISTER_NONE: u32 = 0;
-pub const REGISTER_JOINED: u32 = 1;
-pub const REGISTER_JOIN_PENDING: u32 = 2;
-pub const REGISTER_PRUNED: u32 = 3;
 /// What this crate and the library have to agree on: `VIQ_ABI` of `viqeshor.h`.
 pub const ABI: u32 = 4;
 
@@ -422,51 +418,6 @@ impl Table {
     ];
 }
 
-/// A row of a table. What its kind of row doesn't have is 0, or `u64::MAX` for a time.
-#[derive(Clone, Copy, Debug, PartialEq, Eq)]
-pub struct Row {
-    /// The table's letter.
-    pub table: u32,
-    pub iface: u32,
-    pub group: Ipv4Addr,
-    /// 0.0.0.0 for (*,G); a neighbour's address.
-    pub source: Ipv4Addr,
-    /// Of an assert.
-    pub winner: Ipv4Addr,
-    pub is_rpt: bool,
-    pub is_set: bool,
-    /// Of a Join: `JOINED`, `PRUNE_PENDING` or `PRUNED`. Of an active source, its register's: `REGISTER_NONE` to
-    /// `REGISTER_PRUNED`.
-    pub state: u32,
-    /// In ms.
-    pub end: u64,
-    /// In ms.
-    pub pending: u64,
-}
-
-impl Default for Row {
-    fn default() -> Row {
-        Row::told(raw::Row::default())
-    }
-}
-
-impl Row {
-    fn told(of: raw::Row) -> Row {
-        Row {
-            table: of.table,
-            iface: of.iface,
-            group: of.group.into(),
-            source: of.source.into(),
-            winner: of.winner.into(),
-            is_rpt: of.is_rpt,
-            is_set: of.is_set,
-            state: of.state,
-            end: of.end,
-            pending: of.pending,
-        }
-    }
-}
-
 /// A group in an older mode on an interface: a host of IGMPv1 or IGMPv2 reported it.
 #[derive(Clone, Copy, Debug, PartialEq, Eq)]
 pub struct OlderRow {
@@ -630,21 +581,6 @@ mod raw {
 
     #[repr(C)]
     #[derive(Default)]
-    pub struct Row {
-        pub table: u32,
-        pub iface: u32,
-        pub group: u32,
-        pub source: u32,
-        pub winner: u32,
-        pub is_rpt: bool,
-        pub is_set: bool,
-        pub state: u32,
-        pub end: u64,
-        pub pending: u64,
-    }
-
-    #[repr(C)]
-    #[derive(Default)]
     pub struct OlderRow {
         pub iface: u32,
         pub group: u32,
@@ -675,6 +611,17 @@ extern "C" {
         ranges: *const raw::Range,
         range_count: usize,
     ) -> u32;
+    fn viq_reload(
+        router: *mut c_void,
+        settings: *const Settings,
+        interfaces: *const raw::Interface,
+        interface_count: usize,
+        routes: *const raw::Route,
+        route_count: usize,
+        ranges: *const raw::Range,
+        range_count: usize,
+        draw: Draw,
+    ) -> u32;
     fn viq_save(router: *const c_void, room: *mut u8, room_length: usize, size: *mut usize) -> u32;
     fn viq_restore(router: *mut *mut c_void, abi: u32, bytes: *const u8, length: usize) -> u32;
     fn viq_end(router: *mut c_void);
@@ -697,7 +644,7 @@ extern "C" {
     fn viq_next_moment(router: *const c_void) -> u64;
     fn viq_read(router: *mut c_void, letter: u8) -> u32;
     fn viq_rows(router: *const c_void) -> usize;
-    fn viq_row(router: *const c_void, index: usize, row: *mut raw::Row) -> bool;
+    fn viq_row(router: *const c_void, index: usize, row: *mut rows::raw::Row) -> bool;
     fn viq_older(router: *mut c_void, iface: u32, hosts: u32) -> u32;
     fn viq_query_version(router: *mut c_void, iface: u32, version: u32) -> u32;
     fn viq_older_read(router: *mut c_void) -> u32;
@@ -784,6 +731,40 @@ impl Router {
             )
         };
         Router::made(made, answer)
+    }
+
+    /// Puts the router under another configuration, which is given whole, as to `new`. Interfaces are numbered in the order
+    /// in which they are given: those past the last one go down and are removed, those that are added are down, and the
+    /// others stay as they are. Then settings, routes and ranges are those of the configuration, and what follows is done
+    /// as after an event. What leaves, among it a Hello on each interface that is up and whose address, priority or
+    /// delays differ, is then in `packets`. A data plane reads all its rows again. Where the limit is below the number of
+    /// facts, they all stay, and none is made until there is room. An `Err` that a configuration is refused changes
+    /// nothing.
+    pub fn reload(
+        &mut self,
+        settings: &Settings,
+        interfaces: &[Interface],
+        routes: &[Route],
+        ranges: &[Range],
+        draw: u32,
+    ) -> Result<(), Error> {
+        let interfaces: Vec<_> = interfaces.iter().map(Interface::given).collect();
+        let routes: Vec<_> = routes.iter().map(Route::given).collect();
+        let ranges: Vec<_> = ranges.iter().map(Range::given).collect();
+        // SAFETY: the router is there and borrowed alone; each list is passed as its pointer and its length.
+        done(unsafe {
+            viq_reload(
+                self.at_mut(),
+                settings,
+                interfaces.as_ptr(),
+                interfaces.len(),
+                routes.as_ptr(),
+                routes.len(),
+                ranges.as_ptr(),
+                ranges.len(),
+                Draw { bits: draw },
+            )
+        })
     }
 
     /// Makes a router that goes on from the state that `save` returned: the same events and draws bring the same answers
@@ -951,6 +932,11 @@ impl Router {
         }
     }
 
+    /// The rows of the table of one kind of row, ascending by their keys.
+    pub fn rows_of<R: TableRow>(&mut self) -> Result<Vec<R>, Error> {
+        Ok(self.rows(R::TABLE)?.into_iter().filter_map(R::of).collect())
+    }
+
     /// The rows of the table that was read last.
     fn read_rows(&self) -> Vec<Row> {
         // SAFETY: the router is there.
@@ -959,9 +945,9 @@ impl Router {
     }
 
     fn row(&self, index: usize) -> Option<Row> {
-        let mut row = raw::Row::default();
-        // SAFETY: the router is there.
-        unsafe { viq_row(self.at(), index, &mut row) }.then(|| Row::told(row))
+        let mut row = rows::raw::Row::default();
+        // SAFETY: the router is there, and writes the member of the row's table where it answers that there is a row.
+        unsafe { viq_row(self.at(), index, &mut row).then(|| Row::told(&row)).flatten() }
     }
 
     /// How data of a source to a group is forwarded, as the forwarding cache has it; `None` where there is no fact of

@@ -1,6 +1,8 @@
 pub mod Called
 pub mod Given
 pub mod Kept
+pub mod Reloaded
+pub mod Rows
 pub mod Told
 pub mod Trees
 pub use Rattle.pim_session.specs.Session

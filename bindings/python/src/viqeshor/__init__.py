@@ -31,16 +31,35 @@ from ipaddress import IPv4Address
 from typing import Any, NamedTuple, Self, SupportsIndex, TypeAlias
 
 from viqeshor import trees
+from viqeshor.rows import (
+    ActiveRow,
+    AssertRow,
+    DownstreamRow,
+    GroupRow,
+    NeighbourRow,
+    Row,
+    RptRow,
+    SourceRow,
+    ToldRow,
+    UpstreamRow,
+    numbers,
+    row_of,
+)
 from viqeshor.trees import Link, Neighbour, SourceTree, Tree, Words
 
 __all__ = [
+    "ActiveRow",
     "Answer",
+    "AssertRow",
     "Closed",
+    "DownstreamRow",
     "Error",
     "Forwarding",
+    "GroupRow",
     "Link",
     "Lost",
     "Neighbour",
+    "NeighbourRow",
     "NoMemory",
     "OLDER_HOSTS",
     "OlderRow",
@@ -49,10 +68,13 @@ __all__ = [
     "Refused",
     "Router",
     "Row",
+    "RptRow",
     "Sent",
+    "SourceRow",
     "SourceTree",
     "TABLES",
     "Tree",
+    "UpstreamRow",
     "answer_text",
     "version",
 ]
@@ -67,7 +89,6 @@ NEVER, NO_INTERFACE, MOST_BYTES = 2**64 - 1, 2**32 - 1, 1528
 TABLES = "NGSDAURF"
 # What an interface hears of hosts of older versions of IGMP.
 OLDER_HOSTS = {"none": 0, "v2": 1, "all": 2}
-JOINED, REGISTERS = ["", "join", "pending", "prune"], ["-", "join", "pending", "prune"]
 
 
 class Answer(enum.IntEnum):
@@ -176,10 +197,6 @@ RAISED: dict[Answer, type[Error]] = {
 # ---- what C gives and takes
 
 
-def numbers(*names: str) -> list[tuple[str, Any]]:
-    return [(name, c_uint32) for name in names]
-
-
 class Draw(Structure):
     _fields_ = numbers("bits")
 
@@ -205,17 +222,6 @@ class Settings(Structure):
 
 class ToldPacket(Structure):
     _fields_ = [*numbers("kind", "iface", "destination"), ("length", c_size_t)]
-
-
-class ToldRow(Structure):
-    _fields_ = [
-        *numbers("table", "iface", "group", "source", "winner"),
-        ("is_rpt", c_bool),
-        ("is_set", c_bool),
-        ("state", c_uint32),
-        ("end", c_uint64),
-        ("pending", c_uint64),
-    ]
 
 
 class ToldOlderRow(Structure):
@@ -254,45 +260,6 @@ class Sent(NamedTuple):
     packet: bytes
 
 
-class Row(NamedTuple):
-    """A row of a table. What its kind of row doesn't have is None, False or 0; so is the source of (*,G), and a time
-    that isn't there. Times are in ms."""
-    table: str
-    iface: int
-    group: str | None
-    source: str | None
-    winner: str | None
-    is_rpt: bool
-    is_set: bool
-    state: int
-    end: int | None
-    pending: int | None
-
-    def __str__(self) -> str:
-        """As docs/SCENARIOS.md describes its line ("Tables")."""
-        source = self.source or "*"
-        kind = "g" if source == "*" else "rpt" if self.is_rpt else "sg"
-        words: dict[str, list[Any]] = {
-            "N": [self.iface, source, ends(self.end, "never")],
-            "G": [self.iface, self.group, "exclude" if self.is_set else "include", ends(self.end, "never")],
-            "S": [self.iface, self.group, source, ends(self.end, "-")],
-            "D": [
-                self.iface,
-                self.group,
-                source,
-                kind,
-                JOINED[self.state],
-                ends(self.end, "never"),
-                ends(self.pending, "-"),
-            ],
-            "A": [self.iface, self.group, source, "loser" if self.is_set else "winner", self.winner, self.end],
-            "U": [self.group, source, self.end],
-            "R": [self.group, source, "pruned" if self.is_set else "notpruned"],
-            "F": [self.group, source, ends(self.end, "-"), "spt" if self.is_set else "-", REGISTERS[self.state]],
-        }
-        return " ".join([self.table, *map(str, words[self.table])])
-
-
 class OlderRow(NamedTuple):
     """A group in an older mode on an interface: a host of IGMPv1 or IGMPv2 reported it. The mode is the version, 1 or
     2; behind it stand the times in ms at which the IGMPv1 and the IGMPv2 Host Present timer expire, or None."""
@@ -327,23 +294,12 @@ class PlaneRow(NamedTuple):
     to_core: frozenset[int]
 
 
-def ends(moment: int | None, without: str) -> str:
-    return without if moment is None else str(moment)
-
-
 def there(number: int, none: int) -> int | None:
     return None if number == none else number
 
 
 def dotted(bits: int) -> str:
     return str(IPv4Address(bits))
-
-
-def row_of(told: ToldRow) -> Row:
-    table = chr(told.table)
-    group, source, winner = (dotted(bits) if bits else None for bits in (told.group, told.source, told.winner))
-    return Row(table, told.iface, group, source, winner if table == "A" else None, told.is_rpt, told.is_set, told.state,
-               there(told.end, NEVER), there(told.pending, NEVER))
 
 
 # ---- the library
@@ -359,6 +315,7 @@ SOURCE: list[Any] = [c_uint32, c_uint32]
 # What each call takes behind the router, and what it answers.
 CALLS: dict[str, tuple[list[Any], Any]] = {
     "end": ([], None),
+    "reload": ([POINTER(Settings), *LIST, *LIST, *LIST, Draw], c_uint32),
     "save": ([POINTER(c_uint8), c_size_t, POINTER(c_size_t)], c_uint32),
     "advance": ([c_uint64, Draw], c_uint32),
     "frame": ([c_uint32, c_char_p, c_size_t, Draw], c_uint32),
@@ -470,6 +427,25 @@ def ranges_of(ranges: Iterable[tuple[str, str]]) -> tuple[Any, int]:
     return array(ToldRange, [all_numbers(ToldRange, [*prefix(net), address(rp)]) for net, rp in ranges])
 
 
+def configuration(
+    interfaces: Iterable[tuple[Any, ...]],
+    ranges: Iterable[tuple[str, str]] = (),
+    routes: Iterable[tuple[Any, ...]] = (),
+    *,
+    limit: int = 65536,
+    robustness: int = 2,
+    query_interval: int = 125,
+    query_response_interval: int = 100,
+    last_member_query_interval: int = 10,
+    stays_on_shared_tree: bool = False,
+) -> tuple[Any, ...]:
+    """A configuration as C takes it: the settings, and then three lists, each with its length."""
+    times = (query_interval, query_response_interval, last_member_query_interval)
+    whole = [number(value, 32, name) for value, (name, _) in zip((limit, robustness, *times), Settings._fields_)]
+    given = array(ToldInterface, [interface_of(row) for row in interfaces])
+    return Settings(*whole, bool(stays_on_shared_tree)), *given, *routes_of(routes), *ranges_of(ranges)
+
+
 def bytes_of(packet: Buffer) -> bytes:
     return packet if isinstance(packet, bytes) else memoryview(packet).tobytes()
 
@@ -489,25 +465,33 @@ class Router:
         ranges: Iterable[tuple[str, str]] = (),
         routes: Iterable[tuple[Any, ...]] = (),
         *,
-        limit: int = 65536,
-        robustness: int = 2,
-        query_interval: int = 125,
-        query_response_interval: int = 100,
-        last_member_query_interval: int = 10,
-        stays_on_shared_tree: bool = False,
         library: str | os.PathLike[str] | None = None,
+        **settings: Any,
     ) -> None:
+        """The settings, each by its name, are those of `configuration`, with their usual values."""
         self._begin(library)
-        times = (query_interval, query_response_interval, last_member_query_interval)
-        whole = [number(value, 32, name) for value, (name, _) in zip((limit, robustness, *times), Settings._fields_)]
-        settings, given = Settings(*whole, bool(stays_on_shared_tree)), array(
-            ToldInterface, [interface_of(row) for row in interfaces]
-        )
+        first, *lists = configuration(interfaces, ranges, routes, **settings)
         made = c_void_p()
-        self._must(
-            self._library.viq_new(byref(made), ABI, byref(settings), *given, *routes_of(routes), *ranges_of(ranges))
-        )
+        self._must(self._library.viq_new(byref(made), ABI, byref(first), *lists))
         self._keep(made)
+
+    def reload(
+        self,
+        interfaces: Iterable[tuple[Any, ...]],
+        ranges: Iterable[tuple[str, str]] = (),
+        routes: Iterable[tuple[Any, ...]] = (),
+        *,
+        draw: int | None = None,
+        **settings: Any,
+    ) -> None:
+        """Puts the router under another configuration, which is given whole, as to a new router. Interfaces keep their
+        numbers: those past the last one go down and are removed, those that are added are down. What leaves, a Hello
+        where the address, the priority or the delays of an interface differ among others, is then in `packets`. Rows
+        that were read are dropped, and a data plane reads all its rows again. It is no event. Raises `Refused`, and
+        changes nothing, where a new router would be refused."""
+        bits = random.getrandbits(32) if draw is None else number(draw, 32, "a draw")
+        values = configuration(interfaces, ranges, routes, **settings)
+        self._must(self._recorded("reload", bits, values, Draw(bits)))
 
     @classmethod
     def restore(cls, saved: Buffer, *, library: str | os.PathLike[str] | None = None) -> Self:
@@ -642,7 +626,8 @@ class Router:
         return there(self._call("next_moment"), NEVER)
 
     def rows(self, letter: str) -> list[Row]:
-        """The rows of a table."""
+        """The rows of a table, ascending by their keys: `NeighbourRow` of N, `GroupRow` of G, `SourceRow` of S,
+        `DownstreamRow` of D, `AssertRow` of A, `UpstreamRow` of U, `RptRow` of R, `ActiveRow` of F."""
         told, rows = ToldRow(), []
         with self.lock:
             self._must(self._call("read", number(ord(letter), 8, "a letter")))
