@@ -17,7 +17,7 @@ NAMES = {
     "Forwarding": "viq_forwarding", "PlaneRow": "viq_plane_row", "OlderGroup": "viq_older_row",
     "NamedSource": "viq_source_group", "ToldNumber": "viq_number", "ToldHop": "viq_hop", "ToldPath": "viq_path",
     "ToldTree": "viq_tree", "ToldSourceTree": "viq_source_tree", "ToldQuerier": "viq_querier", "ToldLink": "viq_link",
-    "ToldLanDelay": "viq_lan_delay", "ToldNeighbour": "viq_neighbour",
+    "ToldLanDelay": "viq_lan_delay", "ToldNeighbour": "viq_neighbour", "GivenCall": "viq_call",
 }
 # `Place` is a pointer beside what takes no room.
 TYPES = {"u8": "uint8_t", "u32": "uint32_t", "u64": "uint64_t", "usize": "size_t", "bool": "bool", "Place": "void *"}
@@ -26,7 +26,7 @@ FIELD = re.compile(r"^    (?:pub )?(\w+): (\w+),$", re.M)
 CALL = re.compile(r'^pub extern "C" fn (viq_core_\w+)\((.*?)\)(?: -> (\w+))?\n', re.M | re.S)
 PARAMETER = re.compile(r"(\w+): (&mut |&)?(\[?)(\w+)\]?")
 C_CALL = re.compile(r"\b(viq_core_\w+)\(")
-PROTOTYPE = re.compile(r"^(?:VIQ_\w+(?:\(\d\))? ?)*((?:const )?\w+ \*?viq_\w+\([^;{]*\));", re.M)
+PROTOTYPE = re.compile(r"^(?:VIQ_\w+(?:\(\d+\))? ?)*((?:const )?\w+ \*?viq_\w+\([^;{]*\));", re.M)
 C_STRUCT = re.compile(r"^struct (viq_\w+) \{\n(.*?)^\};", re.M | re.S)
 C_ENUM = re.compile(r"^enum \{(.*?)\};", re.M | re.S)
 C_NUMBER = re.compile(r"^#define (VIQ_(?:MOST|NEVER|NO|USUAL)\w*) (.+)$", re.M)
@@ -34,7 +34,7 @@ C_NUMBER = re.compile(r"^#define (VIQ_(?:MOST|NEVER|NO|USUAL)\w*) (.+)$", re.M)
 
 def structs() -> dict[str, list[tuple[str, str]]]:
     """The crate's values that C sees: each with its fields, a name and a type of C."""
-    text = "".join((SOURCES / name).read_text() for name in ("handle.rt", "given.rt", "told.rt", "trees.rt"))
+    text = "".join((SOURCES / name).read_text() for name in ("handle.rt", "given.rt", "told.rt", "trees.rt", "recorded.rt"))
     found = {name: FIELD.findall(body) for name, body in STRUCT.findall(text)}
     return {NAMES[name]: [(field, c_type(kind)) for field, kind in found[name]] for name in NAMES}
 

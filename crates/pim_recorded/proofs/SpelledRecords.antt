@@ -13,11 +13,11 @@ use Rattle.pim_saved.specs.Laws.{AreBytes}
 use Rattle.pim_saved.specs.Reading.{Reader, iface_at, in_turn, made, moment_at}
 use Rattle.pim_saved.specs.Text.{moment_text, word_text}
 use Rattle.pim_saved.proofs.Spelled.{AreBytes-rest, IsSpelled, Takes, Takes-then, bind_ok, both, guard_ok, list, made_of, moment, ok_is, word}
-use Rattle.pim_saved.proofs.SpelledRows.{address, range, route}
+use Rattle.pim_saved.proofs.SpelledRows.{address, interface, range, route, settings}
 use Rattle.pim_recorded.specs.Fits.{FitsAnswered, FitsBytes, FitsCall, FitsEvent, FitsRecord}
 use Rattle.pim_recorded.specs.Laws.{OneRecording, ReadingIsRecord, RecordIsRead}
-use Rattle.pim_recorded.specs.Reading.{answered_at, by_letter, bytes_at, bytes_of_length, call_at, drawn, kinds, record_at}
-use Rattle.pim_recorded.specs.Records.{Call, Happened, Hosts, Kept, Record, Seen, Version, answered_text, bytes_text, call_text, event_text, record_text}
+use Rattle.pim_recorded.specs.Reading.{Configured, answered_at, by_letter, bytes_at, bytes_of_length, call_at, drawn, kinds, record_at}
+use Rattle.pim_recorded.specs.Records.{Call, Happened, Hosts, Kept, Record, Reloaded, Seen, Version, answered_text, bytes_text, call_text, event_text, record_text}
 use Rattle.pim_recorded.specs.declared.answered.Answered.{Answered}
 
 -- ---- bytes behind their count
@@ -77,11 +77,12 @@ taken =
     (kind_takes (drawn (λ (i : IfaceId). EventKind.Down i)) (both word iface) 45 (λ p. refl) (λ p f. f),
     (kind_takes (drawn (λ (routes : List Route). EventKind.Routes routes)) (both word (list route)) 114 (λ p. refl) (λ p f. f),
     (kind_takes (drawn (λ (ranges : List RpRange). EventKind.Rps ranges)) (both word (list range)) 103 (λ p. refl) (λ p f. f),
+    (kind_takes (λ (p : Configured). Reloaded p.0 p.1.0 p.1.1.0 p.1.1.1.0 p.1.1.1.1) (both word (both settings (both (list interface) (both (list route) (list range))))) 99 (λ p. refl) (λ p f. f),
     (kind_takes (λ (p : ℕ × (IfaceId × (Addr × Addr))). Seen p.0 p.1.0 p.1.1.0 p.1.1.1) (both word (both iface (both address address))) 115 (λ p. refl) (λ p f. f),
     (kind_takes (λ (p : Addr × (Addr × ℕ)). Kept p.0 p.1.0 p.1.1) (both address (both address moment)) 107 (λ p. refl) (λ p f. f),
     (kind_takes (λ (p : IfaceId × ℕ). Hosts p.0 p.1) (both iface word) 111 (λ p. refl) (λ p f. f),
     (kind_takes (λ (p : IfaceId × ℕ). Version p.0 p.1) (both iface word) 113 (λ p. refl) (λ p f. f),
-    tt)))))))))))
+    tt))))))))))))
 
 chosen : {A : Type 0} (b : Bool) (r s t : A) → cond b r s ≡ t → ((b ≡ true) × (r ≡ t)) ⊎ ((b ≡ false) × (s ≡ t))
 chosen true r s t e = inl (refl, e)
@@ -110,6 +111,7 @@ event_again draw (EventKind.Rps ranges) rest fits = kind_again (drawn (λ (range
 
 call_again : (c : Call) (rest : List ℕ) → FitsCall c → call_at (call_text c ++ rest) ≡ Ok (c, rest)
 call_again (Happened event) rest fits = event_again event.draw event.kind rest fits
+call_again (Reloaded draw s interfaces routes ranges) rest fits = kind_again (λ (p : Configured). Reloaded p.0 p.1.0 p.1.1.0 p.1.1.1.0 p.1.1.1.1) (both word (both settings (both (list interface) (both (list route) (list range))))) (draw, (s, (interfaces, (routes, ranges)))) rest fits
 call_again (Seen draw i source group) rest fits = kind_again (λ (p : ℕ × (IfaceId × (Addr × Addr))). Seen p.0 p.1.0 p.1.1.0 p.1.1.1) (both word (both iface (both address address))) (draw, (i, (source, group))) rest fits
 call_again (Kept source group m) rest fits = kind_again (λ (p : Addr × (Addr × ℕ)). Kept p.0 p.1.0 p.1.1) (both address (both address moment)) (source, (group, m)) rest fits
 call_again (Hosts i hosts) rest fits = kind_again (λ (p : IfaceId × ℕ). Hosts p.0 p.1) (both iface word) (i, hosts) rest fits

@@ -1,8 +1,8 @@
 -- Whether what a record says fits the widths in which it is written.
 use Rattle.std.specs.Prelude.{List, length, ℕ, ◌<◌, ◌^◌}
 use Rattle.pim_types.specs.declared.event.{Event.Event, EventKind.EventKind}
-use Rattle.pim_saved.specs.Fits.{FitsAddress, FitsList, FitsMoment, FitsRange, FitsRoute, FitsWord}
-use Rattle.pim_recorded.specs.Records.{Call, Happened, Hosts, Kept, Record, Seen, Version}
+use Rattle.pim_saved.specs.Fits.{FitsAddress, FitsInterface, FitsList, FitsMoment, FitsRange, FitsRoute, FitsSettings, FitsWord}
+use Rattle.pim_recorded.specs.Records.{Call, Happened, Hosts, Kept, Record, Reloaded, Seen, Version}
 use Rattle.pim_recorded.specs.declared.answered.Answered.{Answered}
 
 abbrev pub FitsBytes : List ℕ → Type 0
@@ -19,6 +19,9 @@ FitsEvent draw (EventKind.Rps ranges) = FitsWord draw × FitsList FitsRange rang
 
 abbrev pub FitsCall : Call → Type 0
 FitsCall (Happened event) = FitsEvent event.draw event.kind
+FitsCall (Reloaded draw settings interfaces routes ranges) =
+    FitsWord draw × (FitsSettings settings × (FitsList FitsInterface interfaces × (FitsList FitsRoute routes
+    × FitsList FitsRange ranges)))
 FitsCall (Seen draw iface source group) =
     FitsWord draw × (FitsWord iface.number × (FitsAddress source × FitsAddress group))
 FitsCall (Kept source group moment) = FitsAddress source × (FitsAddress group × FitsMoment moment)

@@ -1,11 +1,11 @@
 -- A record read from the front of bytes.
 use Rattle.std.specs.Prelude.{Bool, Err, List, Ok, Result, [], drop, if◌then◌else◌, length, nat_lt, take, ℕ, ◌==◌, ◌∷◌}
 use Rattle.pim_ip.specs.declared.addr.Addr.{Addr}
-use Rattle.pim_types.specs.declared.config.{IfaceId.IfaceId, Route.Route, RpRange.RpRange}
+use Rattle.pim_types.specs.declared.config.{IfaceId.IfaceId, InterfaceConfig.InterfaceConfig, Route.Route, RpRange.RpRange, Settings.Settings}
 use Rattle.pim_types.specs.declared.event.{Event.Event, EventKind.EventKind}
-use Rattle.pim_saved.specs.Reading.{Reader, address_at, iface_at, in_turn, list_at, made, moment_at, range_at, route_at, word_at, ◌>>=◌}
+use Rattle.pim_saved.specs.Reading.{Reader, address_at, iface_at, in_turn, interface_at, list_at, made, moment_at, range_at, route_at, settings_at, word_at, ◌>>=◌}
 use Rattle.pim_saved.specs.declared.refusal.SavedRefusal.{SavedRefusal}
-use Rattle.pim_recorded.specs.Records.{Call, Happened, Hosts, Kept, Record, Seen, Version}
+use Rattle.pim_recorded.specs.Records.{Call, Happened, Hosts, Kept, Record, Reloaded, Seen, Version}
 use Rattle.pim_recorded.specs.declared.answered.Answered.{Answered}
 
 abbrev pub bytes_of_length : ℕ → Reader (List ℕ)
@@ -21,6 +21,10 @@ drawn kind p = Happened (record { draw = p.0; kind = kind p.1 })
 abbrev pub event_at : {A : Type 0} → (A → EventKind) → Reader A → Reader Call
 event_at kind what bytes = made (drawn kind) (in_turn word_at what) bytes
 
+-- a draw and a configuration
+abbrev pub Configured : Type 0
+Configured = ℕ × (Settings × (List InterfaceConfig × (List Route × List RpRange)))
+
 -- each kind of call: its letter, and what is behind it
 abbrev pub kinds : List (ℕ × Reader Call)
 kinds =
@@ -31,6 +35,7 @@ kinds =
     ∷ (45, event_at (λ (i : IfaceId). EventKind.Down i) iface_at)
     ∷ (114, event_at (λ (routes : List Route). EventKind.Routes routes) (list_at route_at))
     ∷ (103, event_at (λ (ranges : List RpRange). EventKind.Rps ranges) (list_at range_at))
+    ∷ (99, made (λ (p : Configured). Reloaded p.0 p.1.0 p.1.1.0 p.1.1.1.0 p.1.1.1.1) (in_turn word_at (in_turn settings_at (in_turn (list_at interface_at) (in_turn (list_at route_at) (list_at range_at))))))
     ∷ (115, made (λ (p : ℕ × (IfaceId × (Addr × Addr))). Seen p.0 p.1.0 p.1.1.0 p.1.1.1) (in_turn word_at (in_turn iface_at (in_turn address_at address_at))))
     ∷ (107, made (λ (p : Addr × (Addr × ℕ)). Kept p.0 p.1.0 p.1.1) (in_turn address_at (in_turn address_at moment_at)))
     ∷ (111, made (λ (p : IfaceId × ℕ). Hosts p.0 p.1) (in_turn iface_at word_at))

@@ -3,10 +3,10 @@
 use Rattle.std.specs.List.{flat_map}
 use Rattle.std.specs.Prelude.{List, [], length, ℕ, ◌++◌, ◌∷◌}
 use Rattle.pim_ip.specs.declared.addr.Addr.{Addr}
-use Rattle.pim_types.specs.declared.config.IfaceId.{IfaceId}
+use Rattle.pim_types.specs.declared.config.{IfaceId.IfaceId, InterfaceConfig.InterfaceConfig, Route.Route, RpRange.RpRange, Settings.Settings}
 use Rattle.pim_types.specs.declared.event.{Event.Event, EventKind.EventKind}
 use Rattle.pim_types.specs.declared.outcome.Emission.{Emission}
-use Rattle.pim_saved.specs.Text.{address_text, list_text, moment_text, range_text, route_text, word_text, ◌then◌}
+use Rattle.pim_saved.specs.Text.{address_text, interface_text, list_text, moment_text, range_text, route_text, settings_text, word_text, ◌then◌}
 use Rattle.pim_recorded.specs.Crc.{after_bytes, crc32}
 use Rattle.pim_recorded.specs.declared.answered.Answered.{Answered}
 
@@ -14,6 +14,8 @@ use Rattle.pim_recorded.specs.declared.answered.Answered.{Answered}
 pub data Call : Type 0 where
   -- an event
   Happened : (event : Event) → Call
+  -- another configuration
+  Reloaded : (draw : ℕ) (settings : Settings) (interfaces : List InterfaceConfig) (routes : List Route) (ranges : List RpRange) → Call
   -- a data plane saw a packet on an interface
   Seen : (draw : ℕ) (iface : IfaceId) (source group : Addr) → Call
   -- a data plane forwarded its last packet at a moment
@@ -44,6 +46,9 @@ event_text draw (EventKind.Rps ranges) = 103 ∷ (word_text draw then list_text 
 
 abbrev pub call_text : Call → List ℕ
 call_text (Happened event) = event_text event.draw event.kind
+call_text (Reloaded draw settings interfaces routes ranges) =
+    99 ∷ (word_text draw then settings_text settings then list_text interface_text interfaces
+    then list_text route_text routes then list_text range_text ranges)
 call_text (Seen draw iface source group) =
     115 ∷ (word_text draw then word_text iface.number then address_text source then address_text group)
 call_text (Kept source group moment) = 107 ∷ (address_text source then address_text group then moment_text moment)

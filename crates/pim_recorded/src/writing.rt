@@ -2,11 +2,11 @@
 ghost use Rattle.std.specs.Prelude.{◌≡◌, ◌++◌, OnOk};
 ghost use Rattle.pim_types.specs.declared.event.EventKind.{EventKind as EventValue};
 ghost use Rattle.pim_recorded.specs.Fits.{FitsBytes, FitsRecord};
-ghost use Rattle.pim_recorded.specs.Records.{Hosts, Kept, Seen, Version, bytes_text, event_record, record_text};
+ghost use Rattle.pim_recorded.specs.Records.{Hosts, Kept, Reloaded, Seen, Version, bytes_text, event_record, record_text};
 
 use crate::answered::Answered;
 use pim_saver::{Saved, write_list};
-use pim_types::{Addr, IfaceId, Route, RpRange};
+use pim_types::{Addr, IfaceId, InterfaceConfig, Route, RpRange, Settings};
 use std::alloc::AllocError;
 
 // Puts how many bytes there are behind the others, and each.
@@ -100,6 +100,31 @@ pub fn write_ranges(draw: u32, ranges: &[RpRange], answered: Answered, out: &mut
 {
     out.push(b'g')?;
     draw.write(out)?;
+    write_list(ranges, out)?;
+    answered.write(out)?;
+    Ok(())
+}
+
+/// Puts the record of another configuration behind the others.
+pub fn write_reloaded(
+    draw: u32,
+    settings: Settings,
+    interfaces: &[InterfaceConfig],
+    routes: &[Route],
+    ranges: &[RpRange],
+    answered: Answered,
+    out: &mut Vec<u8>,
+) -> Result<(), AllocError>
+    ensures ok { OnOk result (out.new.items ≡ out.old.items ++ record_text
+        (record { call = Reloaded draw settings interfaces.now routes.now ranges.now; answered = answered })) }
+    ensures fitting { OnOk result (FitsRecord
+        (record { call = Reloaded draw settings interfaces.now routes.now ranges.now; answered = answered })) }
+{
+    out.push(b'c')?;
+    draw.write(out)?;
+    settings.write(out)?;
+    write_list(interfaces, out)?;
+    write_list(routes, out)?;
     write_list(ranges, out)?;
     answered.write(out)?;
     Ok(())
