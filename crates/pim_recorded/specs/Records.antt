@@ -33,7 +33,6 @@ pub record Record : Type 0 where
 abbrev pub bytes_text : List ℕ → List ℕ
 bytes_text bytes = moment_text (length bytes) then bytes
 
-
 abbrev pub event_text : ℕ → EventKind → List ℕ
 event_text draw (EventKind.Advance moment) = 97 ∷ (word_text draw then moment_text moment)
 event_text draw (EventKind.Frame iface bytes) =
