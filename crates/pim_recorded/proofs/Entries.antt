@@ -5,6 +5,7 @@ use Rattle.std.proofs.lemmas.List.Concat.{flat_map-cons}
 use Rattle.std.specs.List.{flat_map}
 use Rattle.pim_types.specs.declared.outcome.Emission.{Emission}
 use Rattle.pim_recorded.specs.Crc.{after_bytes, entry, shifted, with_byte}
+use Rattle.pim_recorded.specs.Laws.{CrcIsKnown}
 use Rattle.pim_recorded.specs.Records.{after_sent, emission_text}
 
 -- a list has the entries from one on
@@ -71,6 +72,10 @@ table =
 pub table_has_entries : has_entries 0 table ≡ true
 unfolding entry shifted
 table_has_entries = refl
+
+pub crc_is_known : CrcIsKnown
+unfolding with_byte entry shifted
+crc_is_known = refl
 
 -- ---- bytes one behind the other
 
