@@ -1,16 +1,16 @@
 -- Each record is read of its bytes, and of no others: of bytes, of each kind of call, and of records.
-use Rattle.std.proofs.Common.{◌≡◌, ℕ, ◌+◌, ◌<◌, ◌≤◌, Bool, true, false, cond, eqb, ltb, List, [], ◌∷◌, ◌++◌, length, take, drop, Result, Ok, Err, refl, sym, ap, subst, ◌∙◌, append_assoc, arith, inl, inr, ◌⊎◌}
+use Rattle.std.proofs.Common.{◌≡◌, ℕ, ◌+◌, ◌≤◌, Bool, true, false, cond, eqb, ltb, List, [], ◌∷◌, ◌++◌, length, take, drop, Result, Ok, Err, refl, sym, ap, subst, ◌∙◌, append_assoc, arith, inl, inr, ◌⊎◌}
 use Rattle.std.proofs.lemmas.Bool.{eqb-true, ltb-false, le-ltb}
 use Rattle.std.proofs.lemmas.List.{take_at, drop_at, take-append-drop, length-append, length-take, get_or-drop}
 use Rattle.std.proofs.lemmas.List.Concat.{flat_map-cons}
 use Rattle.std.specs.List.{AllByRecursion, flat_map}
 use Rattle.pim_ip.specs.declared.addr.Addr.{Addr}
 use Rattle.pim_types.specs.declared.config.{IfaceId.IfaceId, Route.Route, RpRange.RpRange}
-use Rattle.pim_types.specs.declared.event.{Event.Event, EventKind.EventKind}
+use Rattle.pim_types.specs.declared.event.{EventKind.EventKind}
 use Rattle.pim_saved.specs.declared.refusal.SavedRefusal.{SavedRefusal}
 use Rattle.pim_saved.specs.Fits.{FitsWord}
 use Rattle.pim_saved.specs.Laws.{AreBytes}
-use Rattle.pim_saved.specs.Reading.{Reader, iface_at, in_turn, made, moment_at}
+use Rattle.pim_saved.specs.Reading.{Reader, iface_at, made, moment_at}
 use Rattle.pim_saved.specs.Text.{moment_text, word_text}
 use Rattle.pim_saved.proofs.Spelled.{AreBytes-rest, IsSpelled, Takes, Takes-then, bind_ok, both, guard_ok, list, made_of, moment, ok_is, word}
 use Rattle.pim_saved.proofs.SpelledRows.{address, interface, range, route, settings}
