@@ -8,6 +8,8 @@ fn streaming(settings: &str) -> (Daemon, Rc<Fake>, Key) {
     let stream = key(NEAR, [239, 1, 1, 1]);
     happens(&mut daemon, &fake, report(ETH0, [10, 1, 0, 77], stream.group));
     happens(&mut daemon, &fake, no_cache(1, stream));
+    // The first Hellos leave.
+    passes(&mut daemon, &fake, 6_000);
     assert_eq!(fake.entry(stream), FLOWS);
     fake.sent.borrow_mut().clear();
     (daemon, fake, stream)
