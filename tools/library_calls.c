@@ -44,6 +44,11 @@ static uint32_t can_be_made(const struct viq_settings *settings, const struct vi
     return answer;
 }
 
+/* Another configuration: the first so many of the interfaces. */
+static uint32_t reloaded(struct viq_router *router, const struct viq_settings *settings, size_t count) {
+    return viq_reload(router, settings, three, count, two, count ? COUNT(two) : 0, one, COUNT(one), viq_draw(7));
+}
+
 /* ---- no router */
 
 static void without_a_router(void) {
@@ -61,6 +66,7 @@ static void without_a_router(void) {
     is("down without a router", viq_down(NULL, 0, viq_draw(0)), VIQ_NO_ROUTER);
     is("routes without a router", viq_routes(NULL, two, 2, viq_draw(0)), VIQ_NO_ROUTER);
     is("ranges without a router", viq_ranges(NULL, one, 1, viq_draw(0)), VIQ_NO_ROUTER);
+    is("reload without a router", reloaded(NULL, &usual, 3), VIQ_NO_ROUTER);
     is("packets without a router", viq_packets(NULL), 0);
     is("packet without a router", viq_packet(NULL, 0, &packet, room, 2), false);
     is("its packet", packet.kind == 7 && packet.iface == 7 && packet.destination == 7 && packet.length == 7, true);
@@ -617,6 +623,97 @@ static void older_versions(void) {
     viq_end(router);
 }
 
+/* ---- another configuration */
+
+/* What is refused changes nothing. */
+static void refused_reloads(struct viq_router *router) {
+    static const struct viq_settings bad = {0, 2, 125, 100, 10, false};
+    static const size_t counts[] = {0, VIQ_MOST_INTERFACES + 1, SIZE_MAX};
+    size_t before = viq_packets(router);
+    is("a row that was read", viq_read(router, 'N') == VIQ_DONE && viq_rows(router) == 2, true);
+    is("a bad limit", reloaded(router, &bad, 3), VIQ_BAD_LIMIT);
+    for (size_t at = 0; at < COUNT(counts); at++)
+        is("so many interfaces", viq_reload(router, &usual, three, counts[at], NULL, 0, NULL, 0, viq_draw(0)), VIQ_INTERFACE_COUNT);
+    is("a route of no interface", viq_reload(router, &usual, three, 1, (struct viq_route[]){{0, 0, 0x0a000201 + 5, 2, 0, 0}}, 1, NULL, 0, viq_draw(0)), VIQ_CONFIGURED_ROUTES);
+    is("too many routes", viq_reload(router, &usual, three, 3, two, SIZE_MAX, one, 1, viq_draw(0)), VIQ_CONFIGURED_ROUTES);
+    is("too many ranges", viq_reload(router, &usual, three, 3, two, 2, one, SIZE_MAX, viq_draw(0)), VIQ_CONFIGURED_RANGES);
+    is("the packets stay", viq_packets(router), before);
+    is("the rows stay", viq_rows(router), 2);
+    is("nothing may differ by it", viq_may_differ(router, 0x0a000306, 0xe1010102), false);
+}
+
+static void same_configuration(struct viq_router *router) {
+    uint64_t next = viq_next_moment(router);
+    is("the same configuration", reloaded(router, &usual, 3), VIQ_DONE);
+    is("nothing leaves", viq_packets(router), 0);
+    is("no copy", viq_copies(router), 0);
+    is("the same timers", viq_next_moment(router), next);
+    is("rows are dropped", viq_rows(router), 0);
+    is("the source is listed", viq_changed(router), 1);
+    is("all may differ", viq_may_differ(router, 0x0a000306, 0xe1010102), true);
+    is("data goes on", frame(router, 0, data) == VIQ_DONE && viq_copies(router) == 1, true);
+}
+
+static void other_configurations(struct viq_router *router) {
+    struct viq_interface four[] = {three[0], three[1], three[2], {0x0a000401, 24, 1, 500, 2500}};
+    struct viq_settings small = VIQ_USUAL_SETTINGS;
+    struct viq_packet packet = {7, 7, 7, 7};
+    struct viq_link link;
+    uint8_t room[VIQ_MOST_BYTES];
+    small.limit = 1;
+    four[1].priority = 9;
+    is("another priority, an interface more, a limit below the facts", viq_reload(router, &small, four, 4, two, COUNT(two), one, COUNT(one), viq_draw(7)), VIQ_DONE);
+    is("a Hello", viq_packets(router), 1);
+    is("there", viq_packet(router, 0, &packet, room, sizeof room) && packet.kind == VIQ_FRAME && packet.iface == 1, true);
+    is("the new one is down", viq_link(router, 3, &link) && !link.is_up, true);
+    is("it goes up", viq_up(router, 3, viq_draw(7)), VIQ_DONE);
+    is("facts stay", viq_read(router, 'D') == VIQ_DONE && viq_rows(router) == 1, true);
+    is("there is no room for another", viq_seen(router, 2, 0x0a000207, 0xe1010102, viq_draw(0)), VIQ_FULL);
+    is("data goes on", frame(router, 0, data) == VIQ_DONE && viq_copies(router) == 1, true);
+    is("two interfaces less", reloaded(router, &usual, 2), VIQ_DONE);
+    is("they are gone", viq_link(router, 2, &link), false);
+    is("up of one", viq_up(router, 2, viq_draw(7)), VIQ_BAD_INTERFACE);
+    is("data still goes on", frame(router, 0, data) == VIQ_DONE && viq_copies(router) == 1, true);
+    is("the joined one less", viq_reload(router, &usual, three, 1, two, COUNT(two), one, COUNT(one), viq_draw(7)), VIQ_DONE);
+    is("its Join is gone", viq_read(router, 'D') == VIQ_DONE && viq_rows(router) == 0, true);
+    is("no copy leaves", frame(router, 0, data) == VIQ_DONE && viq_copies(router) == 0, true);
+}
+
+/* What was set of older hosts stays with the interfaces that stay. */
+static void reloads_with_older(void) {
+    struct viq_router *router = NULL;
+    is("new for older hosts and reloads", made(&router, &usual), VIQ_DONE);
+    moments_and_interfaces(router);
+    is("hosts of both versions", viq_older(router, 1, VIQ_OLDER_ALL), VIQ_DONE);
+    is("version 2", viq_query_version(router, 1, 2), VIQ_DONE);
+    is("a report of IGMPv2", older(router, 1, 9, REPORT_TWO, THEIRS), VIQ_DONE);
+    is("the groups", viq_older_read(router) == VIQ_DONE && viq_older_rows(router) == 1, true);
+    is("an interface less", viq_reload(router, &usual, three, 2, NULL, 0, one, 1, viq_draw(7)), VIQ_DONE);
+    is("what was read is dropped", viq_older_rows(router), 0);
+    is("the group is there", viq_older_read(router) == VIQ_DONE && viq_older_rows(router) == 1, true);
+    is("no setting of the one that is gone", viq_older(router, 2, VIQ_OLDER_ALL), VIQ_BAD_INTERFACE);
+    is("the interface once more", reloaded(router, &usual, 3), VIQ_DONE);
+    is("it goes up", viq_up(router, 2, viq_draw(7)), VIQ_DONE);
+    is("it hears nobody", older(router, 2, 9, REPORT_TWO, THEIRS), VIQ_OLD_VERSION);
+    is("it can", viq_older(router, 2, VIQ_OLDER_ALL), VIQ_DONE);
+    is("and then does", older(router, 2, 9, REPORT_TWO, THEIRS), VIQ_DONE);
+    is("all are gone", viq_reload(router, &usual, three, 1, NULL, 0, one, 1, viq_draw(7)), VIQ_DONE);
+    is("with their groups", viq_older_read(router) == VIQ_DONE && viq_older_rows(router) == 0, true);
+    viq_end(router);
+}
+
+static void reloads(void) {
+    struct viq_router *router = NULL;
+    is("new for reloads", made(&router, &usual), VIQ_DONE);
+    moments_and_interfaces(router);
+    packets(router);
+    refused_reloads(router);
+    same_configuration(router);
+    other_configurations(router);
+    viq_end(router);
+    reloads_with_older();
+}
+
 /* ---- saved and restored */
 
 static uint8_t saved[4096], again[4096];
@@ -845,6 +942,7 @@ int main(void) {
     full();
     moved_sources();
     older_versions();
+    reloads();
     saved_routers();
     records();
     texts();

@@ -44,6 +44,16 @@ uint32_t viq_new(struct viq_router **router, uint32_t abi, const struct viq_sett
     return answer;
 }
 
+uint32_t viq_reload(struct viq_router *router, const struct viq_settings *settings,
+                    const struct viq_interface *interfaces, size_t interface_count, const struct viq_route *routes,
+                    size_t route_count, const struct viq_range *ranges, size_t range_count, struct viq_draw draw) {
+    if (interface_count > VIQ_MOST_INTERFACES) interface_count = 0;
+    struct route_list given_routes = routes_of(routes, route_count);
+    struct range_list given_ranges = ranges_of(ranges, range_count);
+    return viq_core_reload(CORE(router), draw.bits, settings, interfaces, interface_count, given_routes.at,
+                           given_routes.count, given_ranges.at, given_ranges.count);
+}
+
 uint32_t viq_restore(struct viq_router **router, uint32_t abi, const uint8_t *bytes, size_t length) {
     struct viq_core core = {NULL, false};
     *router = NULL;

@@ -14,6 +14,9 @@ struct viq_core {
 uint32_t viq_core_new(struct viq_core *router, const struct viq_settings *settings,
                       const struct viq_interface *interfaces, size_t interface_count, const struct viq_route *routes,
                       size_t route_count, const struct viq_range *ranges, size_t range_count);
+uint32_t viq_core_reload(struct viq_core *router, uint32_t draw, const struct viq_settings *settings,
+                         const struct viq_interface *interfaces, size_t interface_count, const struct viq_route *routes,
+                         size_t route_count, const struct viq_range *ranges, size_t range_count);
 uint32_t viq_core_restore(struct viq_core *router, const uint8_t *bytes, size_t length);
 uint32_t viq_core_save(struct viq_core *router, uint8_t *room, size_t room_length, size_t *size);
 void viq_core_end(struct viq_core *router);

@@ -45,6 +45,9 @@
  *    fact (is_known is false) where viq_may_differ answers true, or all such rows, and reads one when a packet comes.
  *    (Neglected: as in a plane that lags, for as long as the source sends.)
  *
+ *    viq_reload counts as an event for duties 1, 5 and 6. Interfaces keep their numbers: a row of the new router may
+ *    name one that was added, and none that was removed.
+ *
  * 7. Dropping everything. After an answer of VIQ_LOST or VIQ_FAILED the plane drops all rows and notes.
  *    (Neglected: packets go by rows that nobody maintains.) */
 #ifndef VIQESHOR_PLANE_H

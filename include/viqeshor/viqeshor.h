@@ -21,7 +21,7 @@
  * - fact: an entry of the router's state, of a group or a source that is asked for or that sends, or of a neighbour: a
  *   membership, a Join, an Assert, a source that is kept alive. viq_settings limits how many there are.
  * - copy: a packet of data that the router forwards, as it leaves on an interface.
- * - interface: a number, from 0, in the order in which the interfaces were given to viq_new.
+ * - interface: a number, from 0, in the order in which the interfaces were given to viq_new or viq_reload.
  *
  * Numbers are in the machine's byte order, addresses too: 10.0.0.1 is 0x0a000001. Packets are whole IPv4 packets, as on
  * the wire. examples/library of the repository has whole programs, LIBRARY.md says what the program has to do, and
@@ -218,6 +218,23 @@ uint32_t viq_new(struct viq_router **router, uint32_t abi, const struct viq_sett
                  const struct viq_interface *interfaces, size_t interface_count, const struct viq_route *routes,
                  size_t route_count, const struct viq_range *ranges, size_t range_count);
 
+/* Puts a router that works under another configuration. Interfaces are numbered in the order in which they are given, as
+ * in viq_new: those past the last one go down first, those that are added are down until viq_up, and the others stay up
+ * or down. Then settings, routes and ranges are those of the configuration, and what follows is done as after an event;
+ * the present stays. A Hello leaves at once on an interface that is up and whose address, priority or delays differ.
+ * Where the limit is below the number of facts they all stay, and an event that needs a new one is refused until there is
+ * room. The interfaces that stay keep what viq_older and viq_query_version set, and the groups in an older mode; one that
+ * is added is as in a new router.
+ *
+ * It answers VIQ_DONE; a refusal of 30 to 38 as viq_new does, or VIQ_MEMORY, where nothing has changed; VIQ_LOST,
+ * VIQ_FAILED or VIQ_NO_ROUTER. Once it is done, what is to be sent is what it sent, and viq_copies answers 0; the rows
+ * that were read are dropped; and a data plane reads all its rows again: viq_changed lists each source with a fact before
+ * or after it, and viq_may_differ is true for all sources. */
+VIQ_READ_ANSWER VIQ_NOT_NULL(2)
+uint32_t viq_reload(struct viq_router *router, const struct viq_settings *settings,
+                    const struct viq_interface *interfaces, size_t interface_count, const struct viq_route *routes,
+                    size_t route_count, const struct viq_range *ranges, size_t range_count, struct viq_draw draw);
+
 /* Frees the router and its memory. With NULL it does nothing. */
 void viq_end(struct viq_router *router);
 
@@ -276,8 +293,8 @@ uint32_t viq_routes(struct viq_router *router, const struct viq_route *routes, s
 VIQ_READ_ANSWER
 uint32_t viq_ranges(struct viq_router *router, const struct viq_range *ranges, size_t count, struct viq_draw draw);
 
-/* ---- what is to be sent, of the last event that wasn't answered VIQ_MEMORY. A lost router, and NULL, have nothing to
- * send. */
+/* ---- what is to be sent, of the last event that wasn't answered VIQ_MEMORY, or of viq_reload since. A lost router, and
+ * NULL, have nothing to send. */
 
 /* The most bytes that a packet has. */
 #define VIQ_MOST_BYTES 1528
@@ -344,7 +361,7 @@ uint32_t viq_read(struct viq_router *router, uint8_t letter);
 
 /* How many rows the table had that was read last; and one of them, counted from 0, ascending by their keys. viq_row
  * answers false, and writes nothing, where there is none of that number. The rows remain as they were read, whatever
- * happens to the router, until a table is read again. */
+ * happens to the router, until a table is read again, or viq_reload is done. */
 VIQ_READ_ANSWER
 size_t viq_rows(const struct viq_router *router);
 VIQ_NOT_NULL(3)
@@ -560,7 +577,7 @@ uint32_t viq_older_read(struct viq_router *router);
 
 /* How many groups were read by viq_older_read last; and one of them, counted from 0, ascending by interface and then by
  * group. viq_older_row answers false, and writes nothing, where there is none of that number. They remain as they were
- * read until they are read again. */
+ * read until they are read again, or viq_reload is done. */
 VIQ_READ_ANSWER
 size_t viq_older_rows(const struct viq_router *router);
 VIQ_NOT_NULL(3)

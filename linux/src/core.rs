@@ -4,7 +4,7 @@ use crate::left::Told;
 use crate::mroute::Key;
 use crate::older::Speech;
 use crate::plane::Row;
-use crate::recorder::{answer_of, Place, Recorder};
+use crate::recorder::{answer_of, Configuration, Place, Recorder};
 use crate::settings::{RpSettings, Settings};
 use log::{error, info};
 use rand::rngs::{OsRng, StdRng};
@@ -42,7 +42,7 @@ pub enum Answer {
 
 pub struct Core {
     router: Router,
-    /// By which it was made.
+    /// By which it was made, or goes on.
     pub told: Told,
     draws: StdRng,
     /// What the router was told of how its interfaces speak IGMP.
@@ -52,7 +52,7 @@ pub struct Core {
     recorder: Option<Recorder>,
 }
 
-/// As far as the library is told when its router is made.
+/// As far as the library is told when its router is made, or goes on with another configuration.
 pub fn told_of(settings: &Settings, interfaces: &[viqeshor::Interface]) -> Told {
     let interface =
         |it: &viqeshor::Interface| (it.address, it.length, it.priority, it.propagation_delay, it.override_interval);
@@ -155,7 +155,7 @@ impl Core {
     }
 
     /// How an interface speaks IGMP from here on. Where it is to hear other older hosts, those are forgotten that were
-    /// heard there. One that the router doesn't have, since it refused to be made anew, is left out.
+    /// heard there. One that the router doesn't have, since it refused another configuration, is left out.
     pub fn speak(&mut self, iface: u32, wanted: Speech) -> Result<(), Fatal> {
         let told = self.speech.entry(iface).or_insert(Speech::NEW);
         let mut answer = Ok(());
@@ -181,6 +181,32 @@ impl Core {
             Err(error) => return Err(Fatal::Router(error)),
         }
         Ok(())
+    }
+
+    /// The router goes on with another configuration and these routes. Refused, it stays as it was. It is no event.
+    pub fn reload(
+        &mut self,
+        settings: &Settings,
+        interfaces: &[viqeshor::Interface],
+        routes: &[Route],
+    ) -> Result<Answer, Fatal> {
+        let draw = self.draws.next_u32();
+        let (given, ranges) = (settings_of(settings), ranges_of(&settings.rps));
+        let done = self.router.reload(&given, interfaces, routes, &ranges, draw);
+        if let Some(recorder) = &mut self.recorder {
+            let configuration = Configuration { settings: &given, interfaces, routes, ranges: &ranges };
+            let answer = done.map_or_else(Error::number, |()| 0);
+            let written = recorder.reload(&self.router, &configuration, draw, answer);
+            self.was_recorded(written);
+        }
+        match done {
+            Ok(()) => {
+                self.told = told_of(settings, interfaces);
+                Ok(Answer::Done)
+            }
+            Err(Error::Refused(refusal)) => Ok(Answer::Refused(refusal)),
+            Err(error) => Err(Fatal::Router(error)),
+        }
     }
 
     /// An event, by a number of its own.

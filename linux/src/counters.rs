@@ -32,6 +32,7 @@ pub struct Counters {
     pub kept: u64,
     pub seen: u64,
     pub made_anew: u64,
+    pub reloaded: u64,
     /// How long an event took, with all that followed of it.
     pub took: Durations,
 }

@@ -6,6 +6,7 @@ mod cleared;
 mod forwarding;
 mod heard;
 mod machine;
+mod reconfigured;
 mod resumed;
 mod turns;
 mod upgrade;
@@ -80,8 +81,8 @@ struct Due {
     machine: Option<u64>,
     /// What the kernel refused is tried again.
     unset: Option<u64>,
-    /// The library's router is made anew.
-    anew: Option<u64>,
+    /// The library's router takes other addresses.
+    addresses: Option<u64>,
     /// One that was made anew may have learned what it needs.
     learned: Option<u64>,
     /// What it hasn't learned by then it won't.

@@ -100,7 +100,7 @@ pub struct Passed {
 pub struct Port {
     pub number: u32,
     pub settings: InterfaceSettings,
-    /// With which the library's router was made; none where there was no address that could be taken.
+    /// Which the library's router has; none where there was no address that could be taken.
     pub subnet: Option<Subnet>,
     /// The kernel's number, where it has the interface.
     pub index: Option<u32>,
@@ -252,7 +252,7 @@ pub fn take_settings(ports: &mut Vec<Port>, settings: &[InterfaceSettings]) {
     }
 }
 
-/// The address that each interface is to have in a router that is made anew, and what is to be said of overlaps.
+/// The address that each interface is to have in the router, and what is to be said of overlaps.
 pub fn addresses(ports: &[Port], machine: &Machine) -> (Vec<Option<Subnet>>, Vec<String>) {
     let (mut found, mut said): (Vec<Option<Subnet>>, Vec<String>) = (Vec::new(), Vec::new());
     for port in ports {

@@ -13,7 +13,7 @@ use std::io::{self, Write};
 use std::path::PathBuf;
 use std::time::Duration;
 use time::OffsetDateTime;
-use viqeshor::{Error, Kind, Packet, Range, Route, Router, Verdict, MOST_BYTES};
+use viqeshor::{Error, Interface, Kind, Packet, Range, Route, Router, Settings, Verdict, MOST_BYTES};
 
 const MAGIC: &[u8; 4] = b"VQRC";
 const VERSION: u16 = 1;
@@ -32,6 +32,14 @@ pub struct Place {
     pub name: String,
     /// The most bytes of both files.
     pub size: u64,
+}
+
+/// What a router is told with which it goes on.
+pub struct Configuration<'a> {
+    pub settings: &'a Settings,
+    pub interfaces: &'a [Interface],
+    pub routes: &'a [Route],
+    pub ranges: &'a [Range],
 }
 
 pub struct Recorder {
@@ -85,6 +93,19 @@ fn of_routes(routes: &[Route]) -> Vec<u8> {
 fn of_ranges(ranges: &[Range]) -> Vec<u8> {
     let fields = |it: &Range| [it.prefix.into(), it.length, it.rp.into()].map(u32::to_be_bytes);
     ranges.iter().flat_map(fields).flatten().collect()
+}
+
+fn of_settings(it: &Settings) -> Vec<u8> {
+    let times = [it.query_interval, it.query_response_interval, it.last_member_query_interval];
+    let fields = [it.limit, it.robustness].into_iter().chain(times).chain([u32::from(it.stays_on_shared_tree)]);
+    fields.flat_map(u32::to_be_bytes).collect()
+}
+
+fn of_interfaces(interfaces: &[Interface]) -> Vec<u8> {
+    let fields = |it: &Interface| {
+        [it.address.into(), it.length, it.priority, it.propagation_delay, it.override_interval].map(u32::to_be_bytes)
+    };
+    interfaces.iter().flat_map(fields).flatten().collect()
 }
 
 /// Puts a record behind others: its letter and its draw, then its numbers, then the rest.
@@ -233,6 +254,19 @@ impl Recorder {
         self.was_put()
     }
 
+    /// What the router answered to another configuration: the lengths of its lists, then its settings and these lists.
+    pub fn reload(&mut self, router: &Router, it: &Configuration, draw: u32, answer: u32) -> io::Result<()> {
+        let to = &mut self.waiting;
+        put_head(to, b'c', draw);
+        for count in [it.interfaces.len(), it.routes.len(), it.ranges.len()] {
+            put(to, count as u32);
+        }
+        let lists = [of_interfaces(it.interfaces), of_routes(it.routes), of_ranges(it.ranges)].concat();
+        put_data(to, &[of_settings(it.settings), lists].concat());
+        put_end(to, answer, if answer == DONE { sum_of(router) } else { 0 });
+        self.was_put()
+    }
+
     pub fn kept(&mut self, key: Key, moment: u64, runs: bool) -> io::Result<()> {
         let to = &mut self.waiting;
         put_head(to, b'k', 0);
@@ -320,6 +354,14 @@ mod tests {
         recorder.event(&router, &Event::Routes(&routes), 8, answer).unwrap();
         let key = Key { source: OWN, group: Ipv4Addr::new(239, 1, 1, 1) };
         recorder.kept(key, 5, false).unwrap();
+        let interfaces = [Interface { priority: 7, ..Interface::new(OWN, 24) }];
+        let ranges = [Range::new(Ipv4Addr::new(239, 0, 0, 0), 8, OWN)];
+        let settings = Settings { limit: 1000, stays_on_shared_tree: true, ..Settings::default() };
+        router.reload(&settings, &interfaces, &routes, &ranges, 9).unwrap();
+        let given = Configuration { settings: &settings, interfaces: &interfaces, routes: &routes, ranges: &ranges };
+        recorder.reload(&router, &given, 9, DONE).unwrap();
+        let sum_then = sum_of(&router);
+        assert_ne!(sum_then, 0);
         recorder.end_turn(&mut router, &speech, 0).unwrap();
         assert_eq!(recorder.due(), Some(WAITS));
         recorder.end_turn(&mut router, &speech, WAITS).unwrap();
@@ -335,6 +377,9 @@ mod tests {
         wanted.extend(words(&[8, 24, 0x0a09_0000, 16, 0x0a01_0002, 0, 110, 20, 0, 0]));
         wanted.push(b'k');
         wanted.extend(words(&[0, OWN.into(), 0xef01_0101, 0, 5, 0, 52, 0]));
+        wanted.push(b'c');
+        wanted.extend(words(&[9, 1, 1, 1, 80, 1000, 2, 125, 100, 10, 1, OWN.into(), 24, 7, 500, 2500]));
+        wanted.extend(words(&[0x0a09_0000, 16, 0x0a01_0002, 0, 110, 20, 0xef00_0000, 8, OWN.into(), 0, sum_then]));
         assert_eq!(std::fs::read(place.path(0)).unwrap(), wanted);
         std::fs::remove_dir_all(&place.folder).unwrap();
     }

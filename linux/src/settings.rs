@@ -813,8 +813,8 @@ impl Settings {
         path.into()
     }
 
-    /// What is of the library's router, which is made anew where it differs: all but the lists, the quotas and the
-    /// lines.
+    /// What is of the library's router, which goes on with another configuration where it differs: all but the RP ranges,
+    /// the lists, the quotas and the lines.
     pub fn differs_in_router(&self, other: &Settings) -> bool {
         let own = |it: &Settings| {
             let interface = |one: &InterfaceSettings| {
@@ -1006,7 +1006,7 @@ mod tests {
     }
 
     #[test]
-    fn what_makes_the_router_anew_is_told_apart() {
+    fn what_is_of_the_router_is_told_apart() {
         let old = read(SMALL).unwrap();
         let differs = |text: &str| old.differs_in_router(&read(text).unwrap());
         assert!(!differs(&format!("# a line\n{SMALL}")));

@@ -542,6 +542,7 @@ fn counts_of_events(daemon: &Daemon) -> Vec<Count> {
         rises("checksums filled in", "checksums_filled_total", it.checksums_filled),
         rises("Join/Prunes that left in a packet with others", "join_prunes_packed_total", it.packed),
         rises("times that the router was made anew", "router_made_anew_total", it.made_anew),
+        rises("times that the router took another configuration", "router_reloaded_total", it.reloaded),
         rises("sources of which the kernel's counts told", "sources_kept_total", it.kept),
         rises("packets of which the router was told that they were seen", "packets_seen_total", it.seen),
     ]

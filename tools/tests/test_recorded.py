@@ -74,6 +74,26 @@ class Recorded(unittest.TestCase):
         self.assertEqual(told["router"][0]["routes"], ["10.9.0.0/16 10.0.0.1 0 110 20"])
         Router.restore(path.with_suffix(".saved").read_bytes(), library=self.shared).end()
 
+    def test_another_configuration(self):
+        with Router([("10.0.0.2", 24), ("10.0.1.1", 24)], library=self.shared) as router:
+            with recording.Recorder(router, self.room / "other"):
+                router.up(0)
+                router.set_older_hosts(1, "all")
+                router.reload([("10.0.0.2", 24, 7, 500, 2500)], [("224.0.0.0/4", "10.0.0.2")], limit=9, draw=5)
+                router.advance(1000)
+        path, part, scenario = self.room / "other.0", self.room / "part", self.room / "part.toml"
+        self.assertEqual(self.run_tool(path), (0, "4 records, each as it was recorded\n"))
+        said = "3 0 ms reload 10.0.0.2/24 priority 7 delays 500 2500; limit 9; routes none; rps 224.0.0.0/4 10.0.0.2: done\n"
+        self.assertEqual(self.run_tool(path, "--list", "--from", "3", "--to", "3"), (0, said))
+        # The setting is of an interface that is gone then.
+        self.assertEqual(self.run_tool(path, "--from", "4", "--write", part)[0], 0)
+        self.assertEqual([record.name for record in recording.read(part).records], ["advance"])
+        self.assertEqual(self.run_tool(part)[0], 0)
+        self.assertEqual(self.run_tool(path, "--from", "3", "--scenario", scenario)[0], 0)
+        first, _ = tomllib.loads(scenario.read_text())["move"]
+        self.assertEqual((first["do"], first["draw"], first["config"]["limit"]), ("reload", 5, 9))
+        self.assertEqual([(each["link"], each["priority"]) for each in first["config"]["iface"]], [("link0", 7)])
+
     def test_what_differs(self):
         path = self.room / "router.0"
         told = recording.read(path)

@@ -5,7 +5,7 @@ import tempfile
 import unittest
 from pathlib import Path
 
-from viqeshor import Answer, Router, hosts, recording
+from viqeshor import Answer, Refused, Router, hosts, recording
 from viqeshor.recording import Recorder
 
 LINKS = [("10.0.0.2", 24), ("10.0.1.1", 24)]
@@ -34,6 +34,7 @@ class Recordings(unittest.TestCase):
             router.keep("10.0.0.7", GROUP, 1000 * number)
         router.set_routes([("10.8.0.0/16", "10.0.1.2", 1, 110, 20)])
         router.set_ranges([])
+        router.reload(LINKS, [("239.0.0.0/8", "10.0.1.1")], [("10.8.0.0/16", "10.0.1.2", 1, 110, 20)], robustness=3)
         router.down(0)
 
     def played(self, path):
@@ -51,7 +52,7 @@ class Recordings(unittest.TestCase):
             self.use()
         self.router.up(0)
         differ, told = self.played(f"{self.path}.0")
-        self.assertEqual((differ, len(told.records), told.older_groups), ([], 13, 0))
+        self.assertEqual((differ, len(told.records), told.older_groups), ([], 14, 0))
         self.assertEqual({record.name for record in told.records}, set(recording.KINDS))
         self.assertEqual(told.records[4].answer, Answer.DONE)
         self.assertTrue(any(record.total for record in told.records))
@@ -61,6 +62,31 @@ class Recordings(unittest.TestCase):
         with Recorder(self.router, self.path):
             self.use(2)
         self.assertEqual(self.played(f"{self.path}.0")[0], [])
+
+    def test_a_reload_is_kept_whole(self):
+        with Recorder(self.router, self.path):
+            self.router.up(0)
+            self.router.reload([("10.0.0.3", 24, 7, 400, 2400), *LINKS[1:], ("10.0.2.1", 24)], stays_on_shared_tree=True)
+            self.assertTrue(self.router.packets())
+            self.assertRaises(Refused, self.router.reload, [])
+        differ, told = self.played(f"{self.path}.0")
+        self.assertEqual((differ, [record.name for record in told.records]), ([], ["up", "reload", "reload"]))
+        self.assertEqual([record.numbers for record in told.records[1:]], [(3, 0, 0), (0, 0, 0)])
+        self.assertEqual([record.answer for record in told.records[1:]], [Answer.DONE, Answer.INTERFACE_COUNT])
+        cut = told.records[1]._replace(data=told.records[1].data[:-4])
+        with Router.restore(told.state) as router:
+            self.assertRaises(recording.Unreadable, recording.take, router, cut)
+
+    def test_settings_of_interfaces_that_are_removed_are_forgotten(self):
+        with Recorder(self.router, self.path, most=4096):
+            self.router.set_older_hosts(0, "v2")
+            self.router.set_older_hosts(1, "v2")
+            self.router.reload(LINKS[:1])
+            self.use(200)
+        for path in recording.newest(self.path):
+            differ, told = self.played(path)
+            self.assertEqual((differ, told.records[0].name), ([], "older"))
+            self.assertNotEqual(told.records[1].name, "older")
 
     def test_another_outcome_is_noticed(self):
         with Recorder(self.router, self.path):

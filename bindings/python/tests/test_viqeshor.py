@@ -56,6 +56,50 @@ class Routers(unittest.TestCase):
         router = self.router()
         self.assertEqual((router.set_routes([]), router.set_ranges([])), (Answer.DONE, Answer.DONE))
 
+    def test_another_configuration(self):
+        router = self.joined()
+        router.frame(0, bytes.fromhex(DATA))
+        before = list(router.tables())
+        self.assertIsNone(router.reload(INTERFACES, RANGES, ROUTES, draw=7))
+        self.assertEqual((router.packets(), list(router.tables())), ([], before))
+        router.reload([("10.0.0.2", 24, 9, 500, 2500), *INTERFACES[1:], ("10.0.4.1", 24)], RANGES, ROUTES, limit=7)
+        self.assertEqual([(one.kind, one.where) for one in router.packets()], [("frame", 0)])
+        self.assertEqual(router.changed(), [("10.0.3.5", "225.1.1.1")])
+        self.assertTrue(router.may_differ("10.0.3.6", "225.1.1.2"))
+        self.assertEqual((list(router.tables()), router.up(3)), (before, Answer.DONE))
+        router.reload(INTERFACES[:1], RANGES, ROUTES)
+        self.assertEqual((router.link(1), [row.table for row in router.rows("D")]), (None, []))
+        self.assertEqual(router.up(1), Answer.BAD_INTERFACE)
+
+    def test_another_configuration_that_is_refused(self):
+        router = self.joined()
+        before, sent = router.save(), router.packets()
+        for given, answer in (
+            (([],), Answer.INTERFACE_COUNT),
+            ((INTERFACES, RANGES, [("10.9.9.0/24", "10.0.0.1", 3, 110, 20)]), Answer.CONFIGURED_ROUTES),
+        ):
+            with self.assertRaises(Refused) as caught:
+                router.reload(*given)
+            self.assertEqual(caught.exception.answer, answer)
+        self.assertEqual((router.save(), router.packets()), (before, sent))
+        with self.assertRaises(TypeError):
+            router.reload(INTERFACES, limits=7)
+
+    def test_older_hosts_stay_in_another_configuration(self):
+        router = self.joined()
+        router.set_older_hosts(2, "all")
+        router.frame(2, hosts.older_join("10.0.2.9", "239.1.1.1"))
+        rows = router.older_rows()
+        router.reload([*INTERFACES, ("10.0.4.1", 24)], RANGES, ROUTES)
+        router.up(3)
+        self.assertEqual((len(rows), router.older_rows()), (1, rows))
+        self.assertEqual(router.frame(3, hosts.older_join("10.0.4.9", "239.1.1.1")), Answer.OLD_VERSION)
+        router.reload(INTERFACES[:2], RANGES, ROUTES)
+        router.reload(INTERFACES, RANGES, ROUTES)
+        router.up(2)
+        self.assertEqual(router.older_rows(), [])
+        self.assertEqual(router.frame(2, hosts.older_join("10.0.2.9", "239.1.1.1")), Answer.OLD_VERSION)
+
     def test_a_join_a_packet_and_its_copy(self):
         router = self.joined()
         self.assertEqual([(one.kind, one.where) for one in router.packets()], [("frame", 0)] * 2)

@@ -675,6 +675,17 @@ extern "C" {
         ranges: *const raw::Range,
         range_count: usize,
     ) -> u32;
+    fn viq_reload(
+        router: *mut c_void,
+        settings: *const Settings,
+        interfaces: *const raw::Interface,
+        interface_count: usize,
+        routes: *const raw::Route,
+        route_count: usize,
+        ranges: *const raw::Range,
+        range_count: usize,
+        draw: Draw,
+    ) -> u32;
     fn viq_save(router: *const c_void, room: *mut u8, room_length: usize, size: *mut usize) -> u32;
     fn viq_restore(router: *mut *mut c_void, abi: u32, bytes: *const u8, length: usize) -> u32;
     fn viq_end(router: *mut c_void);
@@ -784,6 +795,40 @@ impl Router {
             )
         };
         Router::made(made, answer)
+    }
+
+    /// Puts the router under another configuration, which is given whole, as to `new`. Interfaces are numbered in the order
+    /// in which they are given: those past the last one go down and are removed, those that are added are down, and the
+    /// others stay as they are. Then settings, routes and ranges are those of the configuration, and what follows is done
+    /// as after an event. What leaves, among it a Hello on each interface that is up and whose address, priority or
+    /// delays differ, is then in `packets`. A data plane reads all its rows again. Where the limit is below the number of
+    /// facts, they all stay, and none is made until there is room. An `Err` that a configuration is refused changes
+    /// nothing.
+    pub fn reload(
+        &mut self,
+        settings: &Settings,
+        interfaces: &[Interface],
+        routes: &[Route],
+        ranges: &[Range],
+        draw: u32,
+    ) -> Result<(), Error> {
+        let interfaces: Vec<_> = interfaces.iter().map(Interface::given).collect();
+        let routes: Vec<_> = routes.iter().map(Route::given).collect();
+        let ranges: Vec<_> = ranges.iter().map(Range::given).collect();
+        // SAFETY: the router is there and borrowed alone; each list is passed as its pointer and its length.
+        done(unsafe {
+            viq_reload(
+                self.at_mut(),
+                settings,
+                interfaces.as_ptr(),
+                interfaces.len(),
+                routes.as_ptr(),
+                routes.len(),
+                ranges.as_ptr(),
+                ranges.len(),
+                Draw { bits: draw },
+            )
+        })
     }
 
     /// Makes a router that goes on from the state that `save` returned: the same events and draws bring the same answers

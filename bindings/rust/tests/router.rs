@@ -86,6 +86,25 @@ fn lists_are_replaced() {
 }
 
 #[test]
+fn another_configuration() {
+    let mut router = joined();
+    let before = router.rows(Table::Downstream).expect("read");
+    router.reload(&Settings::default(), &interfaces(), &routes(), &ranges(), 7).expect("taken");
+    assert_eq!(router.packet_count(), 0);
+    assert_eq!(router.rows(Table::Downstream), Ok(before));
+    let mut more = interfaces().to_vec();
+    more[0].priority = 9;
+    more.push(Interface::new(address([10, 0, 4, 1]), 24));
+    router.reload(&Settings::default(), &more, &routes(), &ranges(), 7).expect("taken");
+    assert_eq!(router.packet_count(), 1);
+    assert_eq!(router.up(3, 7), Ok(Verdict::Done));
+    assert_eq!(router.reload(&Settings::default(), &[], &routes(), &ranges(), 7), Err(Error::Refused(Refusal::InterfaceCount)));
+    router.reload(&Settings::default(), &interfaces()[..1], &routes(), &ranges(), 7).expect("taken");
+    assert_eq!(router.rows(Table::Downstream), Ok(Vec::new()));
+    assert_eq!(router.up(1, 7), Err(Error::Refused(Refusal::BadInterface)));
+}
+
+#[test]
 fn a_join_a_packet_and_its_copy() {
     let mut router = joined();
     let sent = router.packets();

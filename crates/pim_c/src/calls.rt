@@ -9,6 +9,7 @@ ghost use Rattle.pim_types.specs.declared.event.EventKind.{EventKind};
 ghost use Rattle.pim_c.specs.Called.{CachedTold, Copied, HostsSetBy, KeepAnswered, Made, NameTold, OffloadTold, OlderRead, OlderTold, PacketTold, ReadBy, Restored, RowTold, Saved, Seen, Stepped, VersionSetBy, changed_in, copies_in, is_copy, may_differ_in, older_rows_in, packets_in, probes_in, rows_in, standing_in, touched_in};
 ghost use Rattle.pim_c.specs.Trees.{ValueTold, link_in, link_of, neighbour_in, neighbour_of, source_tree_in, source_tree_of, tree_in, tree_of};
 ghost use Rattle.pim_ifset.specs.Members.{iface_of};
+ghost use Rattle.pim_c.specs.Reloaded.{ReloadedCopy};
 ghost use Rattle.pim_c.specs.Given.{config_of, given_event, range_of, route_of};
 ghost use Rattle.pim_c.specs.Recorded.{Written, given_text, ranges_text, reload_text, routes_text};
 ghost use Rattle.pim_recorded.specs.Records.{sum_of};
@@ -42,6 +43,24 @@ pub extern "C" fn viq_core_new(
         Ok(config) => router.make(alloc, config),
         Err(_) => MEMORY,
     }
+}
+
+/// Puts a router under another configuration. If the configuration is refused, nothing changes.
+#[unsafe(no_mangle)]
+pub extern "C" fn viq_core_reload(
+    alloc: Global,
+    router: &mut Handle,
+    draw: u32,
+    settings: &GivenSettings,
+    interfaces: &[GivenInterface],
+    routes: &[GivenRoute],
+    ranges: &[GivenRange],
+) -> u32
+    ensures { ReloadedCopy router.old.place.inside (config_of settings.now interfaces.now routes.now ranges.now) draw result
+        router.new.place.inside }
+{
+    let config = given::config(alloc, settings, interfaces, routes, ranges);
+    router.reload_copied(alloc, draw, config)
 }
 
 /// Makes a router of saved bytes, which goes on from their state. If the handle had a router and the new one is made, the

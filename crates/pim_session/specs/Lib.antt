@@ -1,5 +1,6 @@
 pub mod Behind
 pub mod Front
 pub mod Laws
+pub mod Reloaded
 pub mod Session
 pub use Rattle.pim_router.specs.Standing

@@ -33,6 +33,7 @@ ghost use Rattle.pim_saved.specs.Text.{text};
 ghost use Rattle.pim_types.specs.Keys.{key_cmp};
 ghost use Rattle.pim_session.specs.Front.{emissions_left, front_after, given, hosts_set, interface_test, is_sure, older_rows, version_set};
 
+mod reloaded;
 mod trees;
 
 use crate::behind;

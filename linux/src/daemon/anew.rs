@@ -1,17 +1,13 @@
-//! The library's router made anew, where its interfaces, their addresses or its settings change.
+//! The library's router made anew, where the state of the one before it can't be restored.
 //!
-//! The library takes these when its router is made, and a saved state has them in it: no router is restored with others.
-//! So the new router learns again from Hellos, Joins and reports, which it asks for at once. Meanwhile the kernel
-//! forwards as it did: its entries stay until the new router has had the time to learn.
+//! The new router learns again from Hellos, Joins and reports, which it asks for at once. Meanwhile the kernel forwards as
+//! it did: its entries stay until the new router has had the time to learn.
 use super::{Core, Daemon, Event, Fatal};
-use crate::ports::{self, Port, Standing};
-use crate::settings::Subnet;
+use crate::ports::{Port, Standing};
 use crate::show::rp_of;
 use log::{error, info, warn};
 use std::net::Ipv4Addr;
 
-/// Addresses that change together are taken together, in ms.
-const SETTLE: u64 = 1_000;
 /// After its first Hello each neighbour says what it wants, in ms: 5 s for the Hello and 3 s for the Join (RFC 7761,
 /// 4.11).
 const NEIGHBOURS_SPEAK: u64 = 10_000;
@@ -27,31 +23,6 @@ const LOOK_AGAIN: u64 = 5_000;
 const RUNNING: u64 = 3_000;
 
 impl Daemon {
-    fn addresses(&self) -> (Vec<Option<Subnet>>, Vec<String>) {
-        ports::addresses(&self.ports, &self.machine)
-    }
-
-    /// The addresses of the interfaces aren't those of the router any more.
-    fn are_addresses_old(&self) -> bool {
-        self.addresses().0.iter().zip(&self.ports).any(|(wanted, port)| *wanted != port.subnet)
-    }
-
-    /// Has the router made anew soon, where an interface has another address.
-    pub(super) fn watch_addresses(&mut self) {
-        if self.are_addresses_old() {
-            let due = self.now() + SETTLE;
-            self.due.anew.get_or_insert(due);
-        }
-    }
-
-    pub(super) fn take_addresses(&mut self) -> Result<(), Fatal> {
-        self.due.anew = None;
-        if self.are_addresses_old() {
-            self.make_anew("an interface has another address")?;
-        }
-        Ok(())
-    }
-
     /// Makes the library's router anew by the settings and the machine as they are.
     pub(super) fn make_anew(&mut self, why: &str) -> Result<(), Fatal> {
         let (addresses, said) = self.addresses();
@@ -77,10 +48,6 @@ impl Daemon {
         self.keeping.changed();
         self.forget();
         self.begin_again()
-    }
-
-    fn set_subnets(&mut self, subnets: Vec<Option<Subnet>>) {
-        self.ports.iter_mut().zip(subnets).for_each(|(port, subnet)| port.subnet = subnet);
     }
 
     /// What was known of the router before is known no more; the kernel's entries by which packets flow stay.

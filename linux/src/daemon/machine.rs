@@ -6,6 +6,7 @@ use crate::ports::{Machine, Port, Standing};
 use crate::routes::{self, Counts, Ours, MOST_ROUTES};
 use crate::show;
 use log::{debug, error, info, log, warn, Level};
+use viqeshor::Route;
 
 /// Routes that change together are read together, in ms. Where reading them takes long they are read less often.
 pub(super) const ROUTES_SETTLE: u64 = 50;
@@ -116,20 +117,29 @@ impl Daemon {
         Ok(())
     }
 
-    pub(super) fn read_routes(&mut self) -> Result<(), Fatal> {
-        self.routing.due = None;
-        let began = self.now();
+    /// The kernel's routes as the router is told, for the interfaces as they are. Where they can't be read they are asked
+    /// for again.
+    pub(super) fn routes_of_kernel(&mut self) -> Option<(Vec<Route>, Counts)> {
         let kernel = match self.kernel.routes(self.settings.routes.table) {
             Ok(kernel) => kernel,
             Err(error) => {
                 warn!("the kernel's routes can't be read: {error}; they are asked for again");
-                self.routing.due = Some(began + ASK_AGAIN);
-                return Ok(());
+                self.routing.due = Some(self.now() + ASK_AGAIN);
+                return None;
             }
         };
         let numbers = self.ports.iter().filter_map(|port| Some((port.index?, port.number))).collect();
         let subnets = self.ports.iter().map(Port::told_subnet).collect();
-        let (told, counts) = routes::taken(&kernel, &Ours { numbers, subnets }, &self.settings.routes);
+        Some(routes::taken(&kernel, &Ours { numbers, subnets }, &self.settings.routes))
+    }
+
+    pub(super) fn read_routes(&mut self) -> Result<(), Fatal> {
+        self.routing.due = None;
+        let began = self.now();
+        let (told, counts) = match self.routes_of_kernel() {
+            Some(found) => found,
+            None => return Ok(()),
+        };
         if counts != self.routing.counts {
             let is_first = self.routing.counts == Counts::default();
             log!(if is_first { Level::Info } else { Level::Debug }, "{}", show::routes_said(&counts, told.len()));

@@ -2,8 +2,8 @@
 //!
 //! The library's router is restored, and sends nothing by that. The kernel's virtual interfaces and entries are taken
 //! as they are where the kernel has them still, and kept to the restored router's rows. What differs on the machine is
-//! an event like another. Where the router can't be restored, or the settings want another one, it is made anew: it
-//! learns again, and the kernel forwards as before meanwhile.
+//! an event like another, and other settings are taken as while the router runs. Where the router can't be restored it
+//! is made anew: it learns again, and the kernel forwards as before meanwhile.
 use super::{Core, Daemon, Event, Fatal, Machine, Neighbour};
 use crate::core::{ranges_of, told_of};
 use crate::kernel::Kernel;
@@ -72,13 +72,13 @@ impl Daemon {
         ports::take_settings(&mut ports, &settings.interfaces);
         let told: Vec<_> = ports.iter().map(Port::told).collect();
         let (core, why) = match Core::restore(saved, left.told.clone()) {
-            Ok(core) if left.told == told_of(&settings, &told) => (core, None),
-            Ok(_) => (Core::new(&settings, &told)?, Some("the settings differ".to_string())),
+            Ok(core) => (core, None),
             Err(Fatal::Settings(error)) => {
                 (Core::new(&settings, &told)?, Some(format!("its state can't be restored: {error}")))
             }
             Err(fatal) => return Err(fatal),
         };
+        let is_other = core.told != told_of(&settings, &told);
         let mut daemon = Daemon::of(file, settings, (kernel, machine), ports, core);
         daemon.set_policy();
         daemon.speak()?;
@@ -90,6 +90,9 @@ impl Daemon {
         }
         for (number, why) in failed {
             daemon.goes_down(number, why)?;
+        }
+        if is_other {
+            daemon.reconfigure("the settings differ")?;
         }
         Ok(daemon)
     }

@@ -304,9 +304,9 @@ fn an_address_that_comes_late_is_taken() {
     );
     passes(&mut daemon, &fake, 1_100);
     assert_eq!((daemon.ports[1].subnet, daemon.ports[1].standing.is_up()), (Some(late), true));
-    assert_eq!(daemon.counters.made_anew, 1);
-    happens(&mut daemon, &fake, hello());
-    assert_eq!(daemon.neighbours.known.len(), 1);
+    assert_eq!((daemon.counters.reloaded, daemon.counters.made_anew), (1, 0));
+    // The router goes on with what it knew.
+    assert_eq!((daemon.neighbours.known.len(), daemon.core.rows(Table::Groups).expect("it tells").len()), (1, 1));
 }
 
 #[test]
@@ -318,9 +318,7 @@ fn entries_stay_while_a_router_that_was_made_anew_learns() {
     let flows = Some(Forwarded { parent: 1, outgoing: 0b01 });
     assert_eq!(fake.entry(stream), flows);
     *fake.used.borrow_mut() = vec![Used { key: stream, packets: 9, bytes: 0, stray: 0, idle: 0 }];
-    daemon
-        .take_settings(settings::read(&format!("limit = 1000\n{TWO}")).expect("they are in order"))
-        .expect("it goes on");
+    daemon.make_anew("a test").expect("it goes on");
     assert_eq!((daemon.counters.made_anew, fake.entry(stream)), (1, flows));
     passes(&mut daemon, &fake, 3_000);
     assert_eq!(fake.entry(stream), flows);
@@ -357,9 +355,7 @@ fn what_nobody_asks_for_again_ends_after_the_router_has_learned() {
     let stream = key(NEAR, [239, 1, 1, 1]);
     happens(&mut daemon, &fake, report(ETH0, [10, 1, 0, 77], stream.group));
     happens(&mut daemon, &fake, no_cache(1, stream));
-    daemon
-        .take_settings(settings::read(&format!("limit = 1000\n{TWO}")).expect("they are in order"))
-        .expect("it goes on");
+    daemon.make_anew("a test").expect("it goes on");
     passes(&mut daemon, &fake, 15_000);
     assert_eq!(fake.entry(stream).map_or(0, |entry| entry.outgoing & 0b01), 0);
 }
@@ -444,7 +440,7 @@ fn hellos_leave_as_often_as_the_settings_say_and_hold_as_long() {
     passes(&mut daemon, &fake, 31_000);
     let found = holdtimes(&fake, ETH0);
     assert!((2..=3).contains(&found.len()) && found.iter().all(|holdtime| *holdtime == 105), "{found:?}");
-    assert_eq!(daemon.counters.made_anew, 0);
+    assert_eq!((daemon.counters.made_anew, daemon.counters.reloaded), (0, 0));
 }
 
 #[test]
@@ -482,5 +478,6 @@ fn the_unknown_are_asked_for_anew_where_their_group_moves() {
 
 mod liveness;
 mod older;
+mod reloaded;
 mod restarted;
 mod shown;

@@ -7,11 +7,10 @@ use crate::control::Control;
 use crate::core::ranges_of;
 use crate::inherited::Inherited;
 use crate::kernel::{self, Source};
-use crate::packet::with_holdtime;
 use crate::program::{hold_signals, Program};
 use crate::server::Server;
-use crate::{metrics, settings, words};
-use log::{debug, error, info, warn};
+use crate::{metrics, settings};
+use log::{error, info, warn};
 use nix::poll::{poll, PollFd, PollFlags};
 use signal_hook::consts::{SIGHUP, SIGINT, SIGTERM, SIGUSR2};
 use std::net::SocketAddr;
@@ -156,7 +155,7 @@ impl Daemon {
         self.repeat_hellos_anew();
         self.neighbours.are_stale = true;
         if is_router_new {
-            self.make_anew("the settings differ")?;
+            self.reconfigure("the settings differ")?;
         } else if are_rps_new {
             self.set_ranges()?;
         }
@@ -237,7 +236,7 @@ impl Daemon {
             self.routing.due,
             due.machine,
             due.unset,
-            due.anew,
+            due.addresses,
             due.learned,
             self.core.record_due(),
             Some(self.keeping.due(self.now())).filter(|_| self.settings.restart.saves),
@@ -300,7 +299,7 @@ impl Daemon {
         if is_due(self.due.machine) {
             self.read_machine()?;
         }
-        if is_due(self.due.anew) {
+        if is_due(self.due.addresses) {
             self.take_addresses()?;
         }
         if is_due(self.due.learned) {
@@ -353,14 +352,7 @@ impl Daemon {
     fn say_goodbye(&mut self) {
         let places: Vec<_> = self.sessions.keys().copied().collect();
         places.into_iter().for_each(|place| self.end_session(place));
-        for port in self.ports.iter().filter(|port| port.standing.is_up()) {
-            if let (Some(said), Some(index)) =
-                (port.hello.as_deref().and_then(|hello| with_holdtime(hello, 0)), port.index)
-            {
-                debug!("sends on {}: {}", port.settings.name, words::of(&said));
-                let _ = self.kernel.send_on(index, &said);
-            }
-        }
+        (0..self.ports.len() as u32).for_each(|number| self.say_goodbye_on(number));
         self.plane.clear(self.kernel.as_ref());
         info!("the router ends");
     }

@@ -359,6 +359,7 @@ SOURCE: list[Any] = [c_uint32, c_uint32]
 # What each call takes behind the router, and what it answers.
 CALLS: dict[str, tuple[list[Any], Any]] = {
     "end": ([], None),
+    "reload": ([POINTER(Settings), *LIST, *LIST, *LIST, Draw], c_uint32),
     "save": ([POINTER(c_uint8), c_size_t, POINTER(c_size_t)], c_uint32),
     "advance": ([c_uint64, Draw], c_uint32),
     "frame": ([c_uint32, c_char_p, c_size_t, Draw], c_uint32),
@@ -470,6 +471,25 @@ def ranges_of(ranges: Iterable[tuple[str, str]]) -> tuple[Any, int]:
     return array(ToldRange, [all_numbers(ToldRange, [*prefix(net), address(rp)]) for net, rp in ranges])
 
 
+def configuration(
+    interfaces: Iterable[tuple[Any, ...]],
+    ranges: Iterable[tuple[str, str]] = (),
+    routes: Iterable[tuple[Any, ...]] = (),
+    *,
+    limit: int = 65536,
+    robustness: int = 2,
+    query_interval: int = 125,
+    query_response_interval: int = 100,
+    last_member_query_interval: int = 10,
+    stays_on_shared_tree: bool = False,
+) -> tuple[Any, ...]:
+    """A configuration as C takes it: the settings, and then three lists, each with its length."""
+    times = (query_interval, query_response_interval, last_member_query_interval)
+    whole = [number(value, 32, name) for value, (name, _) in zip((limit, robustness, *times), Settings._fields_)]
+    given = array(ToldInterface, [interface_of(row) for row in interfaces])
+    return Settings(*whole, bool(stays_on_shared_tree)), *given, *routes_of(routes), *ranges_of(ranges)
+
+
 def bytes_of(packet: Buffer) -> bytes:
     return packet if isinstance(packet, bytes) else memoryview(packet).tobytes()
 
@@ -489,25 +509,33 @@ class Router:
         ranges: Iterable[tuple[str, str]] = (),
         routes: Iterable[tuple[Any, ...]] = (),
         *,
-        limit: int = 65536,
-        robustness: int = 2,
-        query_interval: int = 125,
-        query_response_interval: int = 100,
-        last_member_query_interval: int = 10,
-        stays_on_shared_tree: bool = False,
         library: str | os.PathLike[str] | None = None,
+        **settings: Any,
     ) -> None:
+        """The settings, each by its name, are those of `configuration`, with their usual values."""
         self._begin(library)
-        times = (query_interval, query_response_interval, last_member_query_interval)
-        whole = [number(value, 32, name) for value, (name, _) in zip((limit, robustness, *times), Settings._fields_)]
-        settings, given = Settings(*whole, bool(stays_on_shared_tree)), array(
-            ToldInterface, [interface_of(row) for row in interfaces]
-        )
+        first, *lists = configuration(interfaces, ranges, routes, **settings)
         made = c_void_p()
-        self._must(
-            self._library.viq_new(byref(made), ABI, byref(settings), *given, *routes_of(routes), *ranges_of(ranges))
-        )
+        self._must(self._library.viq_new(byref(made), ABI, byref(first), *lists))
         self._keep(made)
+
+    def reload(
+        self,
+        interfaces: Iterable[tuple[Any, ...]],
+        ranges: Iterable[tuple[str, str]] = (),
+        routes: Iterable[tuple[Any, ...]] = (),
+        *,
+        draw: int | None = None,
+        **settings: Any,
+    ) -> None:
+        """Puts the router under another configuration, which is given whole, as to a new router. Interfaces keep their
+        numbers: those past the last one go down and are removed, those that are added are down. What leaves, a Hello
+        where the address, the priority or the delays of an interface differ among others, is then in `packets`. Rows
+        that were read are dropped, and a data plane reads all its rows again. It is no event. Raises `Refused`, and
+        changes nothing, where a new router would be refused."""
+        bits = random.getrandbits(32) if draw is None else number(draw, 32, "a draw")
+        values = configuration(interfaces, ranges, routes, **settings)
+        self._must(self._recorded("reload", bits, values, Draw(bits)))
 
     @classmethod
     def restore(cls, saved: Buffer, *, library: str | os.PathLike[str] | None = None) -> Self:

@@ -12,10 +12,11 @@ written anew. `docs/LIBRARY.md` has what is in a file ("A recording").
 import os
 import struct
 import zlib
+from itertools import accumulate
 from pathlib import Path
 from typing import Any, BinaryIO, NamedTuple, Self
 
-from . import Answer, Draw, Error, Router, ToldRange, ToldRoute
+from . import Answer, Draw, Error, Router, Settings, ToldInterface, ToldRange, ToldRoute
 
 MAGIC, VERSION = b"VQRC", 1
 # Of each kind of record: its letter, and the numbers that it has behind its draw. Bytes and lists follow these.
@@ -27,6 +28,7 @@ KINDS = {
     "down": ("-", "I"),
     "routes": ("r", ""),
     "ranges": ("g", ""),
+    "reload": ("c", "III"),
     "seen": ("s", "III"),
     "keep": ("k", "IIQ"),
     "older": ("o", "II"),
@@ -34,6 +36,9 @@ KINDS = {
 }
 NAMES = {letter: name for name, (letter, _) in KINDS.items()}
 LISTS: dict[str, Any] = {"routes": ToldRoute, "ranges": ToldRange}
+# The settings of a reload in their order, and what follows them: so many of each as its numbers say.
+SETTINGS = [name for name, *_ in Settings._fields_]
+PARTS: tuple[Any, ...] = (ToldInterface, ToldRoute, ToldRange)
 KIND_BYTES = {"frame": b"f", "copy": b"c", "unicast": b"u"}
 
 
@@ -42,8 +47,9 @@ class Unreadable(ValueError):
 
 
 class Record(NamedTuple):
-    """What a router took: the name of its call, the draw, the numbers, and the packet or the list as bytes; then the
-    number that it answered, and the sum of what it sent."""
+    """What a router took: the name of its call, the draw, the numbers, and the packet or the lists as bytes; then the
+    number that it answered, and the sum of what it sent. A reload, which is no event, has the lengths of its lists as
+    numbers, and the settings before them."""
     name: str
     draw: int
     numbers: tuple[int, ...]
@@ -71,13 +77,22 @@ def sum_of(router: Router) -> int:
 # ---- written
 
 
+def list_bytes(kind: Any, given: Any, count: int) -> bytes:
+    """The fields of a list that C takes, 4 bytes each."""
+    fields = [field for field, *_ in kind._fields_]
+    rows = (tuple(getattr(given[at], field) for field in fields) for at in range(count))
+    return b"".join(struct.pack(f">{len(fields)}I", *row) for row in rows)
+
+
 def words_of(name: str, values: tuple[Any, ...]) -> tuple[list[int], bytes]:
-    """The numbers of a call, and its packet or list as bytes."""
+    """The numbers of a call, and its packet or its lists as bytes."""
     if name in LISTS:
-        given, count = values
-        fields = [field for field, *_ in LISTS[name]._fields_]
-        rows = (tuple(getattr(given[at], field) for field in fields) for at in range(count))
-        return [], b"".join(struct.pack(f">{len(fields)}I", *row) for row in rows)
+        return [], list_bytes(LISTS[name], *values)
+    if name == "reload":
+        settings, *lists = values
+        first = struct.pack(f">{len(SETTINGS)}I", *(getattr(settings, field) for field in SETTINGS))
+        parts = (list_bytes(kind, *lists[2 * at: 2 * at + 2]) for at, kind in enumerate(PARTS))
+        return lists[1::2], first + b"".join(parts)
     if name in ("frame", "unicast"):
         *numbers, data, _ = values
         return numbers, data
@@ -138,6 +153,9 @@ class Recorder:
         """Is called after each call that changes the router, and after each event."""
         if name in ("older", "query_version") and answer == Answer.DONE:
             self._settings[name, values[0]] = values[1]
+        if name == "reload" and answer == Answer.DONE:
+            count = values[2]
+            self._settings = {key: value for key, value in self._settings.items() if key[1] < count}
         total = sum_of(self.router) if answer == Answer.DONE and name not in ("keep", "older", "query_version") else 0
         self._size += self._file.write(record_of(name, draw, values, answer, total))
         if answer in (Answer.LOST, Answer.FAILED):
@@ -200,9 +218,8 @@ def newest(path: str | os.PathLike[str]) -> list[Path]:
 # ---- played
 
 
-def list_of(name: str, data: bytes) -> tuple[Any, int]:
+def list_of(kind: Any, data: bytes) -> tuple[Any, int]:
     """A list as C takes it."""
-    kind = LISTS[name]
     width = 4 * len(kind._fields_)
     count, left = divmod(len(data), width)
     if left:
@@ -211,10 +228,29 @@ def list_of(name: str, data: bytes) -> tuple[Any, int]:
     return (kind * count)(*rows) if rows else None, count
 
 
+def parts_of(record: Record) -> tuple[bytes, ...]:
+    """The settings of a reload, and its three lists, as bytes."""
+    widths = [4 * len(SETTINGS), *(count * 4 * len(kind._fields_) for count, kind in zip(record.numbers, PARTS))]
+    if len(record.data) != sum(widths):
+        raise Unreadable("a configuration isn't whole")
+    ends = list(accumulate(widths))
+    return tuple(record.data[end - width:end] for width, end in zip(widths, ends))
+
+
+def configuration_of(record: Record) -> tuple[Any, ...]:
+    """The configuration of a reload as C takes it."""
+    first, *lists = parts_of(record)
+    settings = struct.unpack(f">{len(SETTINGS)}I", first)
+    given = (list_of(kind, data) for kind, data in zip(PARTS, lists))
+    return Settings(*settings), *(value for pair in given for value in pair)
+
+
 def take(router: Router, record: Record) -> tuple[int, int]:
     """Gives a router what was recorded; what it answers, and the sum of what it sends."""
     if record.name in LISTS:
-        values = list_of(record.name, record.data)
+        values = list_of(LISTS[record.name], record.data)
+    elif record.name == "reload":
+        values = configuration_of(record)
     elif record.name in ("frame", "unicast"):
         values = (*record.numbers, record.data, len(record.data))
     else:

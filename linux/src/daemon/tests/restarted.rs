@@ -117,38 +117,47 @@ fn what_changed_on_the_machine_is_taken() {
 }
 
 #[test]
-fn other_settings_and_spoilt_bytes_have_it_made_anew_while_the_kernel_forwards() {
-    let limit = format!("limit = 3000\n{TWO}");
+fn spoilt_bytes_have_it_made_anew_while_the_kernel_forwards() {
     let (daemon, fake, flows, idle) = at_work();
-    for (settings, is_spoilt) in [(limit.as_str(), false), (TWO, true)] {
-        for way in [Way::Exec, Way::Death] {
-            let (left, mut saved) = left_by(&daemon);
-            saved[4] ^= u8::from(is_spoilt);
-            let other = same_machine(&fake);
-            let mut next = resumed(settings, &other, (left, saved), way);
-            assert_eq!(next.counters.made_anew, 1);
-            assert!(next.ports.iter().all(|port| port.standing.is_up()));
-            assert_eq!(other.entry(flows), fake.entry(flows));
-            assert_eq!(other.entry(idle), None);
-            // It learns what it needs, while packets flow.
-            *other.used.borrow_mut() = vec![Used { key: flows, packets: 9, bytes: 900, stray: 0, idle: 0 }];
-            happens(&mut next, &other, hello());
-            happens(&mut next, &other, report(ETH1, [10, 5, 0, 77], GROUP));
-            passes(&mut next, &other, 13_000);
-            assert_eq!(other.entry(flows).map(|it| it.outgoing), Some(0b10));
-        }
+    for way in [Way::Exec, Way::Death] {
+        let (left, mut saved) = left_by(&daemon);
+        saved[4] ^= 1;
+        let other = same_machine(&fake);
+        let mut next = resumed(TWO, &other, (left, saved), way);
+        assert_eq!(next.counters.made_anew, 1);
+        assert!(next.ports.iter().all(|port| port.standing.is_up()));
+        assert_eq!(other.entry(flows), fake.entry(flows));
+        assert_eq!(other.entry(idle), None);
+        // It learns what it needs, while packets flow.
+        *other.used.borrow_mut() = vec![Used { key: flows, packets: 9, bytes: 900, stray: 0, idle: 0 }];
+        happens(&mut next, &other, hello());
+        happens(&mut next, &other, report(ETH1, [10, 5, 0, 77], GROUP));
+        passes(&mut next, &other, 13_000);
+        assert_eq!(other.entry(flows).map(|it| it.outgoing), Some(0b10));
     }
 }
 
 #[test]
-fn an_interface_less_goes_down_and_one_more_has_it_made_anew() {
+fn other_settings_are_taken_by_a_router_that_goes_on() {
+    let (daemon, fake, flows, _) = at_work();
+    for way in [Way::Exec, Way::Death] {
+        let other = same_machine(&fake);
+        let next = resumed(&format!("limit = 3000\n{TWO}"), &other, left_by(&daemon), way);
+        assert_eq!((next.counters.made_anew, next.counters.reloaded, next.core.told.limit), (0, 1, 3000));
+        assert_eq!((other.entry(flows), next.neighbours.known.len()), (fake.entry(flows), 1));
+    }
+}
+
+#[test]
+fn an_interface_less_goes_down_and_one_more_is_taken() {
     let (daemon, fake, ..) = at_work();
     let one = TWO.replace("[[interface]]\nname = \"eth1\"\n", "");
     let next = resumed(&one, &same_machine(&fake), left_by(&daemon), Way::Exec);
     assert!(next.ports[0].standing.is_up() && next.ports[1].is_removed && !next.ports[1].standing.is_up());
     let three = format!("{TWO}[[interface]]\nname = \"eth7\"\n");
     let next = resumed(&three, &same_machine(&fake), left_by(&daemon), Way::Exec);
-    assert_eq!((next.counters.made_anew, next.ports.len()), (1, 3));
+    assert_eq!((next.counters.made_anew, next.counters.reloaded, next.ports.len()), (0, 1, 3));
+    assert!(next.core.link(2).is_some());
 }
 
 #[test]

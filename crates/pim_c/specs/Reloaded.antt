@@ -1,0 +1,45 @@
+-- What a reload does to a handle and answers.
+use Rattle.std.specs.Prelude.{[], Err, None, Ok, Option, Result, Some, ℕ, ◌≡◌, ◌⊎◌}
+use Rattle.pim_event.specs.Replacing.{NoneReplaced}
+use Rattle.pim_ip.specs.Refusal.{refusal_number}
+use Rattle.pim_ip.specs.declared.refusal.Refusal.{Refusal}
+use Rattle.pim_model.specs.Limits.{config_test}
+use Rattle.pim_reloaded.specs.Reloading.{reload}
+use Rattle.pim_reloader.specs.Listing.{ListsFacts}
+use Rattle.pim_router.specs.Standing.{Standing, beginning}
+use Rattle.pim_session.specs.Front.{emissions_left}
+use Rattle.pim_session.specs.Reloaded.{front_reloaded}
+use Rattle.pim_session.specs.Session.{ShownSession}
+use Rattle.pim_types.specs.declared.config.Config.{Config}
+use Rattle.pim_world.specs.declared.touched.Touched.{Touched}
+use Rattle.pim_c.specs.Called.{Refused, lost}
+
+-- What a session shows after its router was put under another configuration: what is to be sent is what that sends, all
+-- sources with a fact before or after it are listed, all count as disturbed, and no rows are kept.
+abbrev pub PutUnder : ShownSession → Standing → Config → ℕ → ShownSession → Type 0
+PutUnder s r config draw left = (left.router.standing ≡ Some (beginning (reload r.state config draw).0))
+    × ListsFacts r.state (reload r.state config draw).0 left.router.changed
+    × (left.router.disturbed ≡ record { touched = Touched.All; replaced = NoneReplaced })
+    × (left.front ≡ front_reloaded (reload r.state config draw).0 s.front)
+    × (left.sent ≡ emissions_left s.front (reload r.state config draw).1)
+    × (left.rows ≡ []) × (left.older_rows ≡ [])
+
+-- A configuration that is refused changes nothing.
+abbrev pub ReloadedBy : Result (Unit {0}) Refusal → ShownSession → Standing → Config → ℕ → ℕ → ShownSession → Type 0
+ReloadedBy (Ok _) s r config draw answer left = (answer ≡ 0) × PutUnder s r config draw left
+ReloadedBy (Err refusal) s r config draw answer left = (answer ≡ refusal_number refusal) × (left ≡ s)
+
+abbrev pub ReloadedFrom : ShownSession → Option Standing → Config → ℕ → ℕ → ShownSession → Type 0
+ReloadedFrom s None config draw answer left = (answer ≡ 41) × (left ≡ lost s)
+ReloadedFrom s (Some r) config draw answer left =
+    ReloadedBy (config_test config) s r config draw answer left ⊎ ((answer ≡ 43) × (left ≡ lost s))
+
+-- The router was put under the configuration, or the configuration was refused, or an allocation failed.
+abbrev pub Reloaded : Option ShownSession → Config → ℕ → ℕ → Option ShownSession → Type 0
+Reloaded None config draw answer left = (answer ≡ 50) × (left ≡ None)
+Reloaded (Some s) config draw answer (Some left) = ReloadedFrom s s.router.standing config draw answer left
+Reloaded (Some s) config draw answer None = ⊥
+
+-- The configuration was copied, and the router was put under it, or an allocation failed for the copy and nothing changed.
+abbrev pub ReloadedCopy : Option ShownSession → Config → ℕ → ℕ → Option ShownSession → Type 0
+ReloadedCopy old config draw answer left = Reloaded old config draw answer left ⊎ Refused old answer left

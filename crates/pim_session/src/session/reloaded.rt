@@ -1,0 +1,125 @@
+//! Another configuration in the session's router.
+ghost use Rattle.std.specs.Prelude.{◌≡◌, ◌↔◌, [], Err, IfErr, IfOk, IfSome, IsOkUnless, None, Ok, OnErr, OnOk, Some};
+ghost use Rattle.pim_event.specs.Replacing.{NoneReplaced};
+ghost use Rattle.pim_ip.specs.declared.fault.Fault.{Fault};
+ghost use Rattle.pim_model.specs.Limits.{config_test};
+ghost use Rattle.pim_reloaded.specs.Reloading.{reload};
+ghost use Rattle.pim_reloader.specs.Listing.{ListsFacts};
+ghost use Rattle.pim_router.specs.Standing.{beginning, nothing_shown};
+ghost use Rattle.pim_session.specs.Front.{emissions_left};
+ghost use Rattle.pim_session.specs.Reloaded.{front_reloaded};
+ghost use Rattle.pim_world.specs.declared.touched.Touched.{Touched as TouchedValue};
+
+use super::Session;
+use crate::front::Front;
+use pim_router::Router;
+use pim_types::{Config, Emission, Fault, Refusal};
+use std::alloc::{AllocError, Global};
+use std::mem;
+
+impl Session {
+    /// Puts the router under another configuration, as `Router::reload` does, and keeps the packets that leave in place
+    /// of those kept before. Where something stands before the router, queries leave as the versions of the interfaces
+    /// say; after that the first interfaces keep their settings and what they heard, and one that is added hears nobody
+    /// and queries in version 3. As many older hosts are remembered as the new limit says, or as are remembered already
+    /// if these are more. Rows that were read are dropped. A refused configuration changes nothing. After a fault the kept packets and
+    /// rows are unchanged, and the session answers `Failed` from then on.
+    pub fn reload(
+        &mut self,
+        alloc: Global,
+        draw: u32,
+        config: &Config,
+    ) -> Result<Result<(), Refusal>, Fault>
+        ensures accepted { IfSome self.old.router.standing (λ r. IfOk result (λ answer. OnOk answer
+            (config_test config.now ≡ Ok tt))) }
+        ensures state { IfSome self.old.router.standing (λ r. IfOk result (λ answer. OnOk answer
+            (self.new.router.standing ≡ Some (beginning (reload r.state config.now draw).0)))) }
+        ensures sent { IfSome self.old.router.standing (λ r. IfOk result (λ answer. OnOk answer
+            (self.new.sent ≡ emissions_left self.old.front (reload r.state config.now draw).1))) }
+        ensures front { IfSome self.old.router.standing (λ r. IfOk result (λ answer. OnOk answer
+            (self.new.front ≡ front_reloaded (reload r.state config.now draw).0 self.old.front))) }
+        ensures changed { IfSome self.old.router.standing (λ r. IfOk result (λ answer. OnOk answer
+            (ListsFacts r.state (reload r.state config.now draw).0 self.new.router.changed))) }
+        ensures disturbed { IfOk result (λ answer. OnOk answer
+            (self.new.router.disturbed ≡ record { touched = TouchedValue.All; replaced = NoneReplaced })) }
+        ensures rows { IfOk result (λ answer. OnOk answer ((self.new.rows ≡ []) × (self.new.older_rows ≡ []))) }
+        ensures refused { IfOk result (λ answer. IfErr answer (λ refusal. (config_test config.now ≡ Err refusal)
+            × (self.new ≡ self.old))) }
+        ensures failing { OnErr result ((self.new.router ≡ nothing_shown) × (self.new.front ≡ None)) }
+        ensures silent { OnErr result ((self.new.sent ≡ self.old.sent) × (self.new.rows ≡ self.old.rows)
+            × (self.new.older_rows ≡ self.old.older_rows)) }
+        ensures failed { (result ≡ Err Fault.Failed) ↔ (self.old.router.standing ≡ None) }
+        ensures fault { IfSome self.old.router.standing (λ r. IsOkUnless result Fault.Memory) }
+    {
+        if self.is_lost {
+            return Err(Fault::Failed);
+        }
+        match reload(alloc, self.router.as_mut(), &mut self.front, draw, config) {
+            Ok(Ok(sent)) => {
+                self.keep_sent(sent);
+                self.rows = Vec::new(alloc);
+                self.older_rows = Vec::new(alloc);
+                Ok(Ok(()))
+            }
+            Ok(Err(refusal)) => Ok(Err(refusal)),
+            Err(fault) => {
+                self.is_lost = true;
+                Err(fault)
+            }
+        }
+    }
+}
+
+// What leaves of what the router sent, and what stands before it under another configuration, if anything does.
+#[tactic(auto, unfolding(crate::specs::Front::emissions_left, crate::specs::Reloaded::front_reloaded))]
+fn follow(
+    alloc: Global,
+    router: &Router,
+    front: Option<Front>,
+    sent: Vec<Emission>,
+) -> Result<(Vec<Emission>, Option<Front>), AllocError>
+    ensures left { IfOk result (λ told. told.0.items ≡ emissions_left front sent.items) }
+    ensures front { IfSome router.now.standing (λ r. IfOk result (λ told. told.1 ≡ front_reloaded r.state front)) }
+{
+    let Some(mut standing) = front else {
+        return Ok((sent, None));
+    };
+    let left = standing.emissions_left(alloc, sent)?;
+    standing.resize(router.limit(), router.interface_count())?;
+    Ok((left, Some(standing)))
+}
+
+// Puts a router under another configuration, and what stands before it. The result is what leaves. What stands before the
+// router is lost by a fault.
+fn reload(
+    alloc: Global,
+    router: &mut Router,
+    front: &mut Option<Front>,
+    draw: u32,
+    config: &Config,
+) -> Result<Result<Vec<Emission>, Refusal>, Fault>
+    ensures accepted { IfSome router.old.standing (λ r. IfOk result (λ answer. OnOk answer (config_test config.now ≡ Ok tt))) }
+    ensures state { IfSome router.old.standing (λ r. IfOk result (λ answer. OnOk answer
+        (router.new.standing ≡ Some (beginning (reload r.state config.now draw).0)))) }
+    ensures sent { IfSome router.old.standing (λ r. IfOk result (λ answer. IfOk answer (λ sent.
+        sent.items ≡ emissions_left front.old (reload r.state config.now draw).1))) }
+    ensures front { IfSome router.old.standing (λ r. IfOk result (λ answer. OnOk answer
+        (front.new ≡ front_reloaded (reload r.state config.now draw).0 front.old))) }
+    ensures changed { IfSome router.old.standing (λ r. IfOk result (λ answer. OnOk answer
+        (ListsFacts r.state (reload r.state config.now draw).0 router.new.changed))) }
+    ensures disturbed { IfOk result (λ answer. OnOk answer
+        (router.new.disturbed ≡ record { touched = TouchedValue.All; replaced = NoneReplaced })) }
+    ensures refused { IfOk result (λ answer. IfErr answer (λ refusal. (config_test config.now ≡ Err refusal)
+        × (router.new ≡ router.old) × (front.new ≡ front.old))) }
+    ensures fault { IfSome router.old.standing (λ r. IsOkUnless result Fault.Memory) }
+{
+    let mut sent = Vec::new(alloc);
+    match router.reload(draw, config, &mut sent)? {
+        Ok(()) => {
+            let (left, after) = follow(alloc, router, mem::replace(front, None), sent)?;
+            *front = after;
+            Ok(Ok(left))
+        }
+        Err(refusal) => Ok(Err(refusal)),
+    }
+}

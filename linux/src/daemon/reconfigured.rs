@@ -1,0 +1,128 @@
+//! Another configuration in the library's router, where its interfaces, their addresses or its settings change. The router
+//! goes on with what it knows, and so do the streams: the library does what follows of the change.
+use super::{Answer, Daemon, Fatal};
+use crate::packet::with_holdtime;
+use crate::ports::{self, Port};
+use crate::settings::Subnet;
+use log::{debug, error, info, warn};
+use viqeshor::Refusal;
+
+/// Addresses that change together are taken together, in ms.
+const SETTLE: u64 = 1_000;
+
+impl Daemon {
+    pub(super) fn addresses(&self) -> (Vec<Option<Subnet>>, Vec<String>) {
+        ports::addresses(&self.ports, &self.machine)
+    }
+
+    /// The addresses of the interfaces aren't those of the router any more.
+    fn are_addresses_old(&self) -> bool {
+        self.addresses().0.iter().zip(&self.ports).any(|(wanted, port)| *wanted != port.subnet)
+    }
+
+    /// Has the router take them soon, where an interface has another address.
+    pub(super) fn watch_addresses(&mut self) {
+        if self.are_addresses_old() {
+            let due = self.now() + SETTLE;
+            self.due.addresses.get_or_insert(due);
+        }
+    }
+
+    pub(super) fn take_addresses(&mut self) -> Result<(), Fatal> {
+        self.due.addresses = None;
+        if self.are_addresses_old() {
+            self.reconfigure("an interface has another address")?;
+        }
+        Ok(())
+    }
+
+    pub(super) fn set_subnets(&mut self, subnets: Vec<Option<Subnet>>) {
+        self.ports.iter_mut().zip(subnets).for_each(|(port, subnet)| port.subnet = subnet);
+    }
+
+    /// Has the library's router go on with the settings and the machine as they are. Interfaces keep their numbers: one
+    /// that the file hasn't any more goes down, and is told to the router without an address.
+    pub(super) fn reconfigure(&mut self, why: &str) -> Result<(), Fatal> {
+        self.end_removed()?;
+        let (addresses, said) = self.addresses();
+        said.iter().for_each(|line| warn!("{line}"));
+        let moved: Vec<_> = self.moved(&addresses);
+        self.leave_sessions(&moved);
+        let before = self.ports.iter().map(|port| port.subnet).collect();
+        self.set_subnets(addresses);
+        // What the kernel has forwarded until now goes by the rows until now.
+        self.look()?;
+        self.advance()?;
+        if let Answer::Refused(refusal) = self.tell_configuration()? {
+            error!("the router refuses the settings, and stays as it was: {}", viqeshor::Error::Refused(refusal));
+            self.set_subnets(before);
+            return Ok(());
+        }
+        info!("the router goes on with other settings ({why})");
+        self.counters.reloaded += 1;
+        self.set_policy();
+        moved.iter().for_each(|number| self.say_goodbye_on(*number));
+        self.leave();
+        self.follow();
+        self.all_unknown_may_differ();
+        self.neighbours.are_stale = true;
+        self.keeping.changed();
+        self.speak()?;
+        self.settle_ports()?;
+        self.read_routes()
+    }
+
+    /// Interfaces that the file hasn't any more go down, while the router still knows their addresses.
+    fn end_removed(&mut self) -> Result<(), Fatal> {
+        let is_removed = |port: &&Port| port.is_removed && port.standing.is_up();
+        let removed: Vec<_> = self.ports.iter().filter(is_removed).map(|port| port.number).collect();
+        for number in removed {
+            self.say_goodbye_on(number);
+            self.goes_down(number as usize, "the file hasn't it any more".to_string())?;
+        }
+        Ok(())
+    }
+
+    /// The interfaces that are up and go on with another address.
+    fn moved(&self, addresses: &[Option<Subnet>]) -> Vec<u32> {
+        let moves = |(port, wanted): &(&Port, &Option<Subnet>)| port.standing.is_up() && port.subnet != **wanted;
+        self.ports.iter().zip(addresses).filter(moves).map(|(port, _)| port.number).collect()
+    }
+
+    /// A session of BFD is of an address of the router.
+    fn leave_sessions(&mut self, moved: &[u32]) {
+        let places: Vec<_> = self.sessions.keys().filter(|place| moved.contains(&place.0)).copied().collect();
+        places.into_iter().for_each(|place| self.end_session(place));
+    }
+
+    /// Neighbours on an interface are told that the router goes, from the address of its last Hello there.
+    pub(super) fn say_goodbye_on(&mut self, number: u32) {
+        let Daemon { kernel, ports, .. } = self;
+        let port = match ports.get(number as usize) {
+            Some(port) if port.standing.is_up() => port,
+            _ => return,
+        };
+        if let (Some(said), Some(index)) = (port.hello.as_deref().and_then(|hello| with_holdtime(hello, 0)), port.index)
+        {
+            debug!("sends on {}: {}", port.settings.name, crate::words::of(&said));
+            let _ = kernel.send_on(index, &said);
+        }
+    }
+
+    /// Tells the library the configuration, with the routes of the moment; where these are refused, with those that it has.
+    fn tell_configuration(&mut self) -> Result<Answer, Fatal> {
+        let told: Vec<_> = self.ports.iter().map(Port::told).collect();
+        if let Some((routes, _)) = self.routes_of_kernel() {
+            let answer = self.core.reload(&self.settings, &told, &routes)?;
+            match answer {
+                Answer::Refused(Refusal::ConfiguredRoutes) => {}
+                Answer::Refused(_) => return Ok(answer),
+                _ => {
+                    self.routing.told = routes;
+                    return Ok(answer);
+                }
+            }
+        }
+        self.core.reload(&self.settings, &told, &self.routing.told)
+    }
+}
