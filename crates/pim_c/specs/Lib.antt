@@ -3,6 +3,7 @@ pub mod Given
 pub mod Kept
 pub mod Recorded
 pub mod Reloaded
+pub mod Rows
 pub mod Told
 pub mod Trees
 pub use Rattle.pim_session.specs.Session

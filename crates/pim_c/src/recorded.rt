@@ -41,9 +41,7 @@ fn answered(call: &GivenCall) -> Answered
 pub fn write_call(call: &GivenCall, packet: &[u8], out: &mut Vec<u8>) -> Result<(), AllocError>
     ensures { OnOk result (out.new.items ≡ out.old.items ++ given_text call.now packet.now) }
 {
-    let iface = IfaceId {
-        number: call.iface,
-    };
+    let iface = IfaceId { number: call.iface };
     let source = Addr { bits: call.source };
     let group = Addr { bits: call.group };
     let answered = answered(call);

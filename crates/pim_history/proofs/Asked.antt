@@ -1,11 +1,10 @@
 -- Nothing flows unasked, whatever events and reloads came before.
-use Rattle.std.proofs.Common.{◌≡◌, ℕ, List, [], ◌∷◌, Ok, refl, sym, subst}
+use Rattle.std.proofs.Common.{ℕ, List, [], ◌∷◌, refl, sym, subst}
 use Rattle.pim_types.specs.declared.config.Config.{Config}
 use Rattle.pim_types.specs.declared.event.Event.{Event}
 use Rattle.pim_locality.specs.Rest.{IsAtRest}
-use Rattle.pim_locality.proofs.Rest.{opening_is_at_rest, run_is_at_rest, step_is_at_rest}
+use Rattle.pim_locality.proofs.Rest.{opening_is_at_rest, step_is_at_rest}
 use Rattle.pim_model.specs.Cause.{OutcomesAreAsked, Past, past_after}
-use Rattle.pim_model.specs.Limits.{config_test}
 use Rattle.pim_model.specs.State.{State, opening}
 use Rattle.pim_model.specs.Step.{ran, rps_replaced, run, state_after, step}
 use Rattle.pim_asked.proofs.Asks.{IsAsked}
@@ -14,7 +13,7 @@ use Rattle.pim_asked.proofs.Past.{CausedBy}
 use Rattle.pim_asked.proofs.Same.{Same}
 use Rattle.pim_reloaded.specs.Reloading.{hellos_anew, reload, removals, replaced, under}
 use Rattle.pim_reloaded.proofs.Rest.{reload_leaves_rest}
-use Rattle.pim_history.specs.History.{AreAccepted, Given, IsLedTo, past_given, state_given}
+use Rattle.pim_history.specs.History.{AreAccepted, Given, past_given, state_given}
 use Rattle.pim_history.specs.Laws.{NothingFlowsUnaskedOverReloads}
 use Rattle.pim_history.proofs.EachStep.{step_asked}
 

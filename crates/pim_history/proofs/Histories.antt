@@ -1,9 +1,8 @@
 -- What led a router to its state: it is at rest, and without reloads it is a run.
-use Rattle.std.proofs.Common.{◌≡◌, ℕ, nat_le, nat_lt, Bool, true, false, not, List, [], ◌∷◌, map, Ok, refl, sym, subst}
-use Rattle.std.specs.List.{All, range_with_len}
+use Rattle.std.proofs.Common.{◌≡◌, ℕ, nat_le, Bool, true, false, not, List, [], ◌∷◌, map, Ok, refl, sym, subst}
+use Rattle.std.specs.List.{All}
 use Rattle.std.proofs.lemmas.List.Elements.{All-cons, All-nil}
 use Rattle.pim_ip.specs.declared.refusal.Refusal.{Refusal}
-use Rattle.pim_types.specs.declared.config.Config.{Config}
 use Rattle.pim_types.specs.declared.event.Event.{Event}
 use Rattle.pim_types.specs.declared.outcome.{Ignored.Ignored, Outcome.Outcome}
 use Rattle.pim_locality.specs.Rest.{IsAtRest}
@@ -16,7 +15,7 @@ use Rattle.pim_model.specs.State.{State, iface_count, is_up, opening}
 use Rattle.pim_model.specs.Step.{change, concluded, done, outcome_of, ran, run, state_after, step, taken, taken_unless_full}
 use Rattle.pim_reloaded.specs.Reloading.{down_event, reload, removals}
 use Rattle.pim_reloaded.proofs.Rest.{reload_leaves_rest}
-use Rattle.pim_history.specs.History.{AreAccepted, Given, IsLedTo, past_given, state_given}
+use Rattle.pim_history.specs.History.{AreAccepted, Given, past_given, state_given}
 use Rattle.pim_history.specs.Laws.{EventsAloneAreARun, EventsAloneAreThePast, LedStatesRest, RemovalsCopyNothing}
 
 -- ---- without reloads

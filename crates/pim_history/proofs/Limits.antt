@@ -1,5 +1,5 @@
 -- Facts stay within the greatest limit, whatever reloads came.
-use Rattle.std.proofs.Common.{◌≡◌, ◌⊎◌, ⊎_elim, ◌+◌, ◌≤◌, ℕ, max, Bool, true, false, List, [], ◌∷◌, Ok, Err, refl, sym, ap, subst, ◌∙◌, arith}
+use Rattle.std.proofs.Common.{◌≡◌, ⊎_elim, ◌+◌, ◌≤◌, ℕ, max, Bool, true, false, List, [], ◌∷◌, Ok, Err, refl, sym, ap, subst, ◌∙◌, arith}
 use Rattle.pim_types.specs.declared.config.{Config.Config, Settings.Settings}
 use Rattle.pim_types.specs.declared.event.Event.{Event}
 use Rattle.pim_types.specs.declared.outcome.Stop.{Stop}
@@ -13,12 +13,13 @@ use Rattle.pim_model.specs.State.{State, opening, settings_of}
 use Rattle.pim_model.specs.Step.{concluded, ran, rps_replaced, state_after, step, taken, taken_unless_full}
 use Rattle.pim_promises.specs.Bounded.{AddsAtMost, AddsNone, counted_beside_asserts, needed_by, needed_of}
 use Rattle.pim_promises.proofs.Bounded.{adds_what_is_needed, has_room}
-use Rattle.pim_promises.proofs.Fewer.{adds_none, settled_none, then_none}
+use Rattle.pim_promises.proofs.Fewer.{settled_none}
 use Rattle.pim_promises.proofs.Within.{room}
 use Rattle.pim_reloaded.specs.Reloading.{hellos_anew, reload, removals, replaced, under}
 use Rattle.pim_reloaded.proofs.Rest.{reload_leaves_rest}
-use Rattle.pim_history.specs.History.{AreAccepted, Given, IsLedTo, greatest_limit, state_given}
+use Rattle.pim_history.specs.History.{AreAccepted, Given, greatest_limit, state_given}
 use Rattle.pim_history.specs.Laws.{FactsStayWithinTheGreatest}
+use Rattle.pim_history.proofs.Histories.{given_rests}
 
 -- the facts are within a limit that is no less than the state's own
 record IsUnder (limit : ℕ) (s : State) : Type 0 where
@@ -134,6 +135,10 @@ unfolding opening settings_of
 opening_under c = record { facts = omega arith; own = omega arith }
 
 pub facts_stay_within_the_greatest : FactsStayWithinTheGreatest
-facts_stay_within_the_greatest c before s led =
-    subst (λ (t : State). counted_beside_asserts t ≤ greatest_limit c.limit before) (sym led.led)
-    (given_under before c.limit (opening c) (opening_under c) (opening_is_at_rest c led.accepted) led.reloads).facts
+facts_stay_within_the_greatest c before s events led =
+    let limit : ℕ = greatest_limit c.limit before in
+    let rest : IsAtRest (opening c) = opening_is_at_rest c led.accepted in
+    let after : State = state_given (opening c) before in
+    subst (λ (t : State). counted_beside_asserts (state_after t events) ≤ limit) (sym led.led)
+    (run_under limit events after (given_under before c.limit (opening c) (opening_under c) rest led.reloads)
+    (given_rests before (opening c) rest led.reloads)).facts

@@ -32,11 +32,11 @@ abbrev pub NothingFlowsUnaskedOverReloads : Type 0
 NothingFlowsUnaskedOverReloads = (c : Config) (before : List Given) (s : State) (events : List Event) → IsLedTo c before s
     → OutcomesAreAsked (past_given [] (opening c) before) s events (run s events)
 
--- The facts that count, without the asserts, are within the greatest limit of the configurations so far: a lower limit
--- removes none.
+-- The facts that count, without the asserts, stay within the greatest limit of the configurations so far: a lower limit
+-- removes none, and none is made above it.
 abbrev pub FactsStayWithinTheGreatest : Type 0
-FactsStayWithinTheGreatest = (c : Config) (before : List Given) (s : State) → IsLedTo c before s
-    → counted_beside_asserts s ≤ greatest_limit c.limit before
+FactsStayWithinTheGreatest = (c : Config) (before : List Given) (s : State) (events : List Event) → IsLedTo c before s
+    → counted_beside_asserts (state_after s events) ≤ greatest_limit c.limit before
 
 -- A router is at rest after any events and reloads.
 abbrev pub LedStatesRest : Type 0

@@ -21,7 +21,7 @@ pub fn nothing_flows_unasked_over_reloads()
     ensures { NothingFlowsUnaskedOverReloads }
 {}
 
-/// The facts that count, without the asserts, are within the greatest limit so far.
+/// The facts that count, without the asserts, stay within the greatest limit so far.
 pub fn facts_stay_within_the_greatest()
     ensures { FactsStayWithinTheGreatest }
 {}

@@ -4,7 +4,8 @@ use Rattle.std.proofs.lemmas.Bool.{eqb-true}
 use Rattle.std.proofs.lemmas.List.Concat.{flat_map-cons}
 use Rattle.std.specs.List.{flat_map}
 use Rattle.pim_types.specs.declared.outcome.Emission.{Emission}
-use Rattle.pim_recorded.specs.Crc.{after_bytes, entry, with_byte}
+use Rattle.pim_recorded.specs.Crc.{after_bytes, entry, shifted, with_byte}
+use Rattle.pim_recorded.specs.Laws.{CrcIsKnown}
 use Rattle.pim_recorded.specs.Records.{after_sent, emission_text}
 
 -- a list has the entries from one on
@@ -67,6 +68,14 @@ table =
     ∷ 0xBDBDF21C ∷ 0xCABAC28A ∷ 0x53B39330 ∷ 0x24B4A3A6 ∷ 0xBAD03605 ∷ 0xCDD70693 ∷ 0x54DE5729 ∷ 0x23D967BF
     ∷ 0xB3667A2E ∷ 0xC4614AB8 ∷ 0x5D681B02 ∷ 0x2A6F2B94 ∷ 0xB40BBE37 ∷ 0xC30C8EA1 ∷ 0x5A05DF1B ∷ 0x2D02EF8D
     ∷ []
+
+pub table_has_entries : has_entries 0 table ≡ true
+unfolding entry shifted
+table_has_entries = refl
+
+pub crc_is_known : CrcIsKnown
+unfolding with_byte entry shifted
+crc_is_known = refl
 
 -- ---- bytes one behind the other
 

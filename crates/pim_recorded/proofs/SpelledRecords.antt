@@ -1,16 +1,16 @@
 -- Each record is read of its bytes, and of no others: of bytes, of each kind of call, and of records.
-use Rattle.std.proofs.Common.{◌≡◌, ℕ, ◌+◌, ◌<◌, ◌≤◌, Bool, true, false, cond, eqb, ltb, List, [], ◌∷◌, ◌++◌, length, take, drop, Result, Ok, Err, refl, sym, ap, subst, ◌∙◌, append_assoc, arith, inl, inr, ◌⊎◌}
+use Rattle.std.proofs.Common.{◌≡◌, ℕ, ◌+◌, ◌≤◌, Bool, true, false, cond, eqb, ltb, List, [], ◌∷◌, ◌++◌, length, take, drop, Result, Ok, Err, refl, sym, ap, subst, ◌∙◌, append_assoc, arith, inl, inr, ◌⊎◌}
 use Rattle.std.proofs.lemmas.Bool.{eqb-true, ltb-false, le-ltb}
 use Rattle.std.proofs.lemmas.List.{take_at, drop_at, take-append-drop, length-append, length-take, get_or-drop}
 use Rattle.std.proofs.lemmas.List.Concat.{flat_map-cons}
 use Rattle.std.specs.List.{AllByRecursion, flat_map}
 use Rattle.pim_ip.specs.declared.addr.Addr.{Addr}
 use Rattle.pim_types.specs.declared.config.{IfaceId.IfaceId, Route.Route, RpRange.RpRange}
-use Rattle.pim_types.specs.declared.event.{Event.Event, EventKind.EventKind}
+use Rattle.pim_types.specs.declared.event.{EventKind.EventKind}
 use Rattle.pim_saved.specs.declared.refusal.SavedRefusal.{SavedRefusal}
 use Rattle.pim_saved.specs.Fits.{FitsWord}
 use Rattle.pim_saved.specs.Laws.{AreBytes}
-use Rattle.pim_saved.specs.Reading.{Reader, iface_at, in_turn, made, moment_at}
+use Rattle.pim_saved.specs.Reading.{Reader, iface_at, made, moment_at}
 use Rattle.pim_saved.specs.Text.{moment_text, word_text}
 use Rattle.pim_saved.proofs.Spelled.{AreBytes-rest, IsSpelled, Takes, Takes-then, bind_ok, both, guard_ok, list, made_of, moment, ok_is, word}
 use Rattle.pim_saved.proofs.SpelledRows.{address, interface, range, route, settings}
@@ -67,22 +67,44 @@ module _ {A : Type 0} {FitsA : A → Type 0} {text_a : A → List ℕ} {a_at : R
       subst (λ (y : Call × List ℕ). Takes (letter ∷ bytes) (call_text y.0) y.1 × FitsCall y.0) (ok_is read x a.2)
       (record { parts = ap (λ (t : List ℕ). letter ∷ t) one.0.parts ∙ ap (λ (t : List ℕ). t ++ a.0.1) (sym (spelled a.0.0)); rest_fits = one.0.rest_fits }, fit a.0.0 one.1)
 
-
 taken : AllByRecursion (λ (k : ℕ × Reader Call). IsTaken k.0 k.1) kinds
-taken =
-    (kind_takes (drawn (λ (n : ℕ). EventKind.Advance n)) (both word moment) 97 (λ p. refl) (λ p f. f),
-    (kind_takes (drawn (λ (p : IfaceId × List ℕ). EventKind.Frame p.0 p.1)) (both word (both iface counted)) 102 (λ p. refl) (λ p f. f),
-    (kind_takes (drawn (λ (bytes : List ℕ). EventKind.Unicast bytes)) (both word counted) 117 (λ p. refl) (λ p f. f),
-    (kind_takes (drawn (λ (i : IfaceId). EventKind.Up i)) (both word iface) 43 (λ p. refl) (λ p f. f),
-    (kind_takes (drawn (λ (i : IfaceId). EventKind.Down i)) (both word iface) 45 (λ p. refl) (λ p f. f),
-    (kind_takes (drawn (λ (routes : List Route). EventKind.Routes routes)) (both word (list route)) 114 (λ p. refl) (λ p f. f),
-    (kind_takes (drawn (λ (ranges : List RpRange). EventKind.Rps ranges)) (both word (list range)) 103 (λ p. refl) (λ p f. f),
-    (kind_takes (λ (p : Configured). Reloaded p.0 p.1.0 p.1.1.0 p.1.1.1.0 p.1.1.1.1) (both word (both settings (both (list interface) (both (list route) (list range))))) 99 (λ p. refl) (λ p f. f),
-    (kind_takes (λ (p : ℕ × (IfaceId × (Addr × Addr))). Seen p.0 p.1.0 p.1.1.0 p.1.1.1) (both word (both iface (both address address))) 115 (λ p. refl) (λ p f. f),
-    (kind_takes (λ (p : Addr × (Addr × ℕ)). Kept p.0 p.1.0 p.1.1) (both address (both address moment)) 107 (λ p. refl) (λ p f. f),
-    (kind_takes (λ (p : IfaceId × ℕ). Hosts p.0 p.1) (both iface word) 111 (λ p. refl) (λ p f. f),
-    (kind_takes (λ (p : IfaceId × ℕ). Version p.0 p.1) (both iface word) 113 (λ p. refl) (λ p f. f),
-    tt))))))))))))
+taken = (
+  kind_takes (drawn (λ (n : ℕ). EventKind.Advance n)) (both word moment) 97 (λ p. refl) (λ p f. f),
+  (
+    kind_takes (drawn (λ (p : IfaceId × List ℕ). EventKind.Frame p.0 p.1)) (both word (both iface counted)) 102 (λ p. refl) (λ p f. f),
+    (
+      kind_takes (drawn (λ (bytes : List ℕ). EventKind.Unicast bytes)) (both word counted) 117 (λ p. refl) (λ p f. f),
+      (
+        kind_takes (drawn (λ (i : IfaceId). EventKind.Up i)) (both word iface) 43 (λ p. refl) (λ p f. f),
+        (
+          kind_takes (drawn (λ (i : IfaceId). EventKind.Down i)) (both word iface) 45 (λ p. refl) (λ p f. f),
+          (
+            kind_takes (drawn (λ (routes : List Route). EventKind.Routes routes)) (both word (list route)) 114 (λ p. refl) (λ p f. f),
+            (
+              kind_takes (drawn (λ (ranges : List RpRange). EventKind.Rps ranges)) (both word (list range)) 103 (λ p. refl) (λ p f. f),
+              (
+                kind_takes (λ (p : Configured). Reloaded p.0 p.1.0 p.1.1.0 p.1.1.1.0 p.1.1.1.1) (both word (both settings (both (list interface) (both (list route) (list range))))) 99 (λ p. refl) (λ p f. f),
+                (
+                  kind_takes (λ (p : ℕ × (IfaceId × (Addr × Addr))). Seen p.0 p.1.0 p.1.1.0 p.1.1.1) (both word (both iface (both address address))) 115 (λ p. refl) (λ p f. f),
+                  (
+                    kind_takes (λ (p : Addr × (Addr × ℕ)). Kept p.0 p.1.0 p.1.1) (both address (both address moment)) 107 (λ p. refl) (λ p f. f),
+                    (
+                      kind_takes (λ (p : IfaceId × ℕ). Hosts p.0 p.1) (both iface word) 111 (λ p. refl) (λ p f. f),
+                      (
+                        kind_takes (λ (p : IfaceId × ℕ). Version p.0 p.1) (both iface word) 113 (λ p. refl) (λ p f. f),
+                        tt,
+                      ),
+                    ),
+                  ),
+                ),
+              ),
+            ),
+          ),
+        ),
+      ),
+    ),
+  ),
+)
 
 chosen : {A : Type 0} (b : Bool) (r s t : A) → cond b r s ≡ t → ((b ≡ true) × (r ≡ t)) ⊎ ((b ≡ false) × (s ≡ t))
 chosen true r s t e = inl (refl, e)

@@ -1,7 +1,7 @@
 -- The bytes of a recording: of each call of a router its letter, what it was given, what it answered, and a sum of what
 -- was sent. Numbers, routes, ranges and counts are written as in a saved state.
 use Rattle.std.specs.List.{flat_map}
-use Rattle.std.specs.Prelude.{List, [], length, ℕ, ◌++◌, ◌∷◌}
+use Rattle.std.specs.Prelude.{List, [], length, ℕ, ◌∷◌}
 use Rattle.pim_ip.specs.declared.addr.Addr.{Addr}
 use Rattle.pim_types.specs.declared.config.{IfaceId.IfaceId, InterfaceConfig.InterfaceConfig, Route.Route, RpRange.RpRange, Settings.Settings}
 use Rattle.pim_types.specs.declared.event.{Event.Event, EventKind.EventKind}
@@ -32,7 +32,6 @@ pub record Record : Type 0 where
 -- how many bytes there are, and each
 abbrev pub bytes_text : List ℕ → List ℕ
 bytes_text bytes = moment_text (length bytes) then bytes
-
 
 abbrev pub event_text : ℕ → EventKind → List ℕ
 event_text draw (EventKind.Advance moment) = 97 ∷ (word_text draw then moment_text moment)

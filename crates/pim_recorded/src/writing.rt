@@ -21,7 +21,12 @@ fn write_bytes(bytes: &[u8], out: &mut Vec<u8>) -> Result<(), AllocError>
 
 /// Puts the record of time that passed behind the others. An error is want of memory, and leaves behind what was written
 /// before it, as of each of these functions.
-pub fn write_advance(draw: u32, moment: u64, answered: Answered, out: &mut Vec<u8>) -> Result<(), AllocError>
+pub fn write_advance(
+    draw: u32,
+    moment: u64,
+    answered: Answered,
+    out: &mut Vec<u8>,
+) -> Result<(), AllocError>
     ensures ok { OnOk result (out.new.items ≡ out.old.items ++ record_text (event_record draw (EventValue.Advance moment) answered)) }
     ensures fitting { OnOk result (FitsRecord (event_record draw (EventValue.Advance moment) answered)) }
 {
@@ -33,7 +38,13 @@ pub fn write_advance(draw: u32, moment: u64, answered: Answered, out: &mut Vec<u
 }
 
 /// Puts the record of a packet that came on an interface behind the others.
-pub fn write_frame(draw: u32, iface: IfaceId, packet: &[u8], answered: Answered, out: &mut Vec<u8>) -> Result<(), AllocError>
+pub fn write_frame(
+    draw: u32,
+    iface: IfaceId,
+    packet: &[u8],
+    answered: Answered,
+    out: &mut Vec<u8>,
+) -> Result<(), AllocError>
     ensures ok { OnOk result (out.new.items ≡ out.old.items ++ record_text (event_record draw (EventValue.Frame iface packet.now) answered)) }
     ensures fitting { OnOk result (FitsRecord (event_record draw (EventValue.Frame iface packet.now) answered)) }
 {
@@ -46,7 +57,12 @@ pub fn write_frame(draw: u32, iface: IfaceId, packet: &[u8], answered: Answered,
 }
 
 /// Puts the record of a packet that came for an address of the router behind the others.
-pub fn write_unicast(draw: u32, packet: &[u8], answered: Answered, out: &mut Vec<u8>) -> Result<(), AllocError>
+pub fn write_unicast(
+    draw: u32,
+    packet: &[u8],
+    answered: Answered,
+    out: &mut Vec<u8>,
+) -> Result<(), AllocError>
     ensures ok { OnOk result (out.new.items ≡ out.old.items ++ record_text (event_record draw (EventValue.Unicast packet.now) answered)) }
     ensures fitting { OnOk result (FitsRecord (event_record draw (EventValue.Unicast packet.now) answered)) }
 {
@@ -58,7 +74,12 @@ pub fn write_unicast(draw: u32, packet: &[u8], answered: Answered, out: &mut Vec
 }
 
 /// Puts the record of an interface that went up behind the others.
-pub fn write_up(draw: u32, iface: IfaceId, answered: Answered, out: &mut Vec<u8>) -> Result<(), AllocError>
+pub fn write_up(
+    draw: u32,
+    iface: IfaceId,
+    answered: Answered,
+    out: &mut Vec<u8>,
+) -> Result<(), AllocError>
     ensures ok { OnOk result (out.new.items ≡ out.old.items ++ record_text (event_record draw (EventValue.Up iface) answered)) }
     ensures fitting { OnOk result (FitsRecord (event_record draw (EventValue.Up iface) answered)) }
 {
@@ -70,7 +91,12 @@ pub fn write_up(draw: u32, iface: IfaceId, answered: Answered, out: &mut Vec<u8>
 }
 
 /// Puts the record of an interface that went down behind the others.
-pub fn write_down(draw: u32, iface: IfaceId, answered: Answered, out: &mut Vec<u8>) -> Result<(), AllocError>
+pub fn write_down(
+    draw: u32,
+    iface: IfaceId,
+    answered: Answered,
+    out: &mut Vec<u8>,
+) -> Result<(), AllocError>
     ensures ok { OnOk result (out.new.items ≡ out.old.items ++ record_text (event_record draw (EventValue.Down iface) answered)) }
     ensures fitting { OnOk result (FitsRecord (event_record draw (EventValue.Down iface) answered)) }
 {
@@ -82,7 +108,12 @@ pub fn write_down(draw: u32, iface: IfaceId, answered: Answered, out: &mut Vec<u
 }
 
 /// Puts the record of new unicast routes behind the others.
-pub fn write_routes(draw: u32, routes: &[Route], answered: Answered, out: &mut Vec<u8>) -> Result<(), AllocError>
+pub fn write_routes(
+    draw: u32,
+    routes: &[Route],
+    answered: Answered,
+    out: &mut Vec<u8>,
+) -> Result<(), AllocError>
     ensures ok { OnOk result (out.new.items ≡ out.old.items ++ record_text (event_record draw (EventValue.Routes routes.now) answered)) }
     ensures fitting { OnOk result (FitsRecord (event_record draw (EventValue.Routes routes.now) answered)) }
 {
@@ -94,7 +125,12 @@ pub fn write_routes(draw: u32, routes: &[Route], answered: Answered, out: &mut V
 }
 
 /// Puts the record of new RP ranges behind the others.
-pub fn write_ranges(draw: u32, ranges: &[RpRange], answered: Answered, out: &mut Vec<u8>) -> Result<(), AllocError>
+pub fn write_ranges(
+    draw: u32,
+    ranges: &[RpRange],
+    answered: Answered,
+    out: &mut Vec<u8>,
+) -> Result<(), AllocError>
     ensures ok { OnOk result (out.new.items ≡ out.old.items ++ record_text (event_record draw (EventValue.Rps ranges.now) answered)) }
     ensures fitting { OnOk result (FitsRecord (event_record draw (EventValue.Rps ranges.now) answered)) }
 {
@@ -131,7 +167,14 @@ pub fn write_reloaded(
 }
 
 /// Puts the record of a packet that a data plane saw behind the others.
-pub fn write_seen(draw: u32, iface: IfaceId, source: Addr, group: Addr, answered: Answered, out: &mut Vec<u8>) -> Result<(), AllocError>
+pub fn write_seen(
+    draw: u32,
+    iface: IfaceId,
+    source: Addr,
+    group: Addr,
+    answered: Answered,
+    out: &mut Vec<u8>,
+) -> Result<(), AllocError>
     ensures ok { OnOk result (out.new.items ≡ out.old.items ++ record_text (record { call = Seen draw iface source group; answered = answered })) }
     ensures fitting { OnOk result (FitsRecord (record { call = Seen draw iface source group; answered = answered })) }
 {
@@ -145,7 +188,13 @@ pub fn write_seen(draw: u32, iface: IfaceId, source: Addr, group: Addr, answered
 }
 
 /// Puts the record of the last packet that a data plane forwarded, at a timestamp in ms, behind the others.
-pub fn write_kept(source: Addr, group: Addr, moment: u64, answered: Answered, out: &mut Vec<u8>) -> Result<(), AllocError>
+pub fn write_kept(
+    source: Addr,
+    group: Addr,
+    moment: u64,
+    answered: Answered,
+    out: &mut Vec<u8>,
+) -> Result<(), AllocError>
     ensures ok { OnOk result (out.new.items ≡ out.old.items ++ record_text (record { call = Kept source group moment; answered = answered })) }
     ensures fitting { OnOk result (FitsRecord (record { call = Kept source group moment; answered = answered })) }
 {
@@ -158,7 +207,12 @@ pub fn write_kept(source: Addr, group: Addr, moment: u64, answered: Answered, ou
 }
 
 /// Puts the record of which older hosts an interface hears, by their number, behind the others.
-pub fn write_hosts(iface: IfaceId, hosts: u32, answered: Answered, out: &mut Vec<u8>) -> Result<(), AllocError>
+pub fn write_hosts(
+    iface: IfaceId,
+    hosts: u32,
+    answered: Answered,
+    out: &mut Vec<u8>,
+) -> Result<(), AllocError>
     ensures ok { OnOk result (out.new.items ≡ out.old.items ++ record_text (record { call = Hosts iface hosts; answered = answered })) }
     ensures fitting { OnOk result (FitsRecord (record { call = Hosts iface hosts; answered = answered })) }
 {
@@ -170,7 +224,12 @@ pub fn write_hosts(iface: IfaceId, hosts: u32, answered: Answered, out: &mut Vec
 }
 
 /// Puts the record of the version of an interface's queries behind the others.
-pub fn write_version(iface: IfaceId, version: u32, answered: Answered, out: &mut Vec<u8>) -> Result<(), AllocError>
+pub fn write_version(
+    iface: IfaceId,
+    version: u32,
+    answered: Answered,
+    out: &mut Vec<u8>,
+) -> Result<(), AllocError>
     ensures ok { OnOk result (out.new.items ≡ out.old.items ++ record_text (record { call = Version iface version; answered = answered })) }
     ensures fitting { OnOk result (FitsRecord (record { call = Version iface version; answered = answered })) }
 {

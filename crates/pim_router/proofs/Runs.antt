@@ -1,5 +1,5 @@
 -- Runs, event after event.
-use Rattle.std.proofs.Common.{◌≡◌, ℕ, Bool, false, Some, suc, ◌+◌, ◌<◌, ◌≤◌, List, [], ◌∷◌, ◌++◌, length, drop, get_or, refl, ap, sym, subst, ◌∙◌, append_assoc, append-nil, add-one}
+use Rattle.std.proofs.Common.{◌≡◌, ℕ, Bool, false, Some, suc, ◌+◌, ◌<◌, ◌≤◌, List, [], ◌∷◌, ◌++◌, length, drop, map, get_or, refl, ap, sym, subst, ◌∙◌, append_assoc, append-nil, add-one}
 use Rattle.std.proofs.Math.ListN.{drop_of_length-le}
 use Rattle.std.proofs.Math.Seq.{drop-cons}
 use Rattle.pim_types.specs.declared.event.Event.{Event}
@@ -10,13 +10,17 @@ use Rattle.std.specs.Prelude.{IfSome, if◌then◌else◌}
 use Rattle.pim_types.specs.declared.config.Config.{Config}
 use Rattle.pim_promises.proofs.Bounded.{run_stays_within}
 use Rattle.pim_promises.proofs.Few.{counted_stay_bounded}
-use Rattle.pim_promises.specs.Bounded.{IsBounded}
+use Rattle.pim_promises.specs.Bounded.{IsBounded, counted_beside_asserts}
 use Rattle.pim_event.specs.Replacing.{Disturbance}
-use Rattle.pim_model.specs.Cause.{OutcomesAreAsked, past_after}
+use Rattle.pim_model.specs.Cause.{OutcomesAreAsked}
 use Rattle.pim_model.specs.State.{State, opening}
 use Rattle.pim_model.specs.Step.{outcome_of, ran, run, state_after, step}
-use Rattle.pim_restored.proofs.Restarts.{later_run_is_asked, later_state_is_reached}
-use Rattle.pim_router.specs.Standing.{IsLedTo, Shown, Standing, nothing_shown}
+use Rattle.pim_history.specs.History.{Given, IsLedTo, greatest_limit, past_given}
+use Rattle.pim_history.proofs.Asked.{nothing_flows_unasked_over_reloads}
+use Rattle.pim_history.proofs.Histories.{events_alone_are_a_run}
+use Rattle.pim_history.proofs.Limits.{facts_stay_within_the_greatest}
+use Rattle.pim_restored.proofs.Restarts.{later_state_is_reached}
+use Rattle.pim_router.specs.Standing.{Shown, Standing, nothing_shown}
 use Rattle.pim_router.proofs.Shown.{stands}
 
 -- what was told with what is left is all of it, and the router is at rest
@@ -69,34 +73,50 @@ module _ (first : State) (events : List Event) where
   runs_end i s told le runs =
       ended s told (subst (λ (es : List Event). Runs first events s told es) (drop_of_length-le events le) runs)
 
--- the outcomes of a run are asked for, whatever events came before it
+-- the outcomes of a run are asked for, whatever events and reloads came before it
 pub is_asked : (shown : Shown) (failed : Bool) (r : Standing) (probes touched : ℕ) (changed : List Key) (disturbed : Disturbance)
     (events : List Event) (outcomes : List Outcome)
     → (if failed then nothing_shown
     else record { standing = Some r; probes = probes; touched = touched; changed = changed; disturbed = disturbed }) ≡ shown
     → failed ≡ false → outcomes ≡ run r.state events
-    → IfSome shown.standing (λ x. (c : Config) (before : List Event) → IsLedTo c before x.state
-    → OutcomesAreAsked (past_after [] (opening c) before) x.state events outcomes)
+    → IfSome shown.standing (λ x. (c : Config) (before : List Given) → IsLedTo c before x.state
+    → OutcomesAreAsked (past_given [] (opening c) before) x.state events outcomes)
 is_asked shown failed r probes touched changed disturbed events outcomes shows works are =
     stands shown failed r probes touched changed disturbed shows works
-    (λ (s : State). (c : Config) (before : List Event) → IsLedTo c before s
-    → OutcomesAreAsked (past_after [] (opening c) before) s events outcomes)
-    (λ c before is. subst (λ (os : List Outcome). OutcomesAreAsked (past_after [] (opening c) before) r.state events os) (sym are)
-    (subst (λ (s : State). OutcomesAreAsked (past_after [] (opening c) before) s events (run s events)) (sym is.led)
-    (later_run_is_asked c before events is.accepted)))
+    (λ (s : State). (c : Config) (before : List Given) → IsLedTo c before s
+    → OutcomesAreAsked (past_given [] (opening c) before) s events outcomes)
+    (λ c before led. subst (λ (os : List Outcome). OutcomesAreAsked (past_given [] (opening c) before) r.state events os) (sym are)
+    (nothing_flows_unasked_over_reloads c before r.state events led))
 
--- after a run the limit bounds the facts, whatever events came before it
+-- after a run the greatest limit bounds the facts, whatever events and reloads came before it
+pub is_within : (shown : Shown) (failed : Bool) (r : Standing) (probes touched : ℕ) (changed : List Key) (disturbed : Disturbance)
+    (events : List Event) (after : State)
+    → (if failed then nothing_shown
+    else record { standing = Some r; probes = probes; touched = touched; changed = changed; disturbed = disturbed }) ≡ shown
+    → failed ≡ false → after ≡ state_after r.state events
+    → IfSome shown.standing (λ x. (c : Config) (before : List Given) → IsLedTo c before x.state
+    → counted_beside_asserts after ≤ greatest_limit c.limit before)
+is_within shown failed r probes touched changed disturbed events after shows works are =
+    stands shown failed r probes touched changed disturbed shows works
+    (λ (s : State). (c : Config) (before : List Given) → IsLedTo c before s
+    → counted_beside_asserts after ≤ greatest_limit c.limit before)
+    (λ c before led. subst (λ (s : State). counted_beside_asserts s ≤ greatest_limit c.limit before) (sym are)
+    (facts_stay_within_the_greatest c before r.state events led))
+
+-- after a run the limit bounds all facts that count, whatever events came before it
 pub is_bounded : (shown : Shown) (failed : Bool) (r : Standing) (probes touched : ℕ) (changed : List Key) (disturbed : Disturbance)
     (events : List Event) (after : State)
     → (if failed then nothing_shown
     else record { standing = Some r; probes = probes; touched = touched; changed = changed; disturbed = disturbed }) ≡ shown
     → failed ≡ false → after ≡ state_after r.state events
-    → IfSome shown.standing (λ x. (c : Config) (before : List Event) → IsLedTo c before x.state → IsBounded c after)
+    → IfSome shown.standing (λ x. (c : Config) (before : List Event) → IsLedTo c (map Given.Happening before) x.state
+    → IsBounded c after)
 is_bounded shown failed r probes touched changed disturbed events after shows works are =
     stands shown failed r probes touched changed disturbed shows works
-    (λ (s : State). (c : Config) (before : List Event) → IsLedTo c before s → IsBounded c after)
+    (λ (s : State). (c : Config) (before : List Event) → IsLedTo c (map Given.Happening before) s → IsBounded c after)
     (λ c before is. subst (λ (s : State). IsBounded c s)
-    (sym (are ∙ ap (λ (s : State). state_after s events) is.led ∙ later_state_is_reached (opening c) before events))
+    (sym (are ∙ ap (λ (s : State). state_after s events) (is.led ∙ events_alone_are_a_run (opening c) before)
+    ∙ later_state_is_reached (opening c) before events))
     (record {
       beside_asserts = run_stays_within c (before ++ events) is.accepted;
       counted_facts = counted_stay_bounded c (before ++ events) is.accepted;

@@ -1,12 +1,10 @@
 -- What a router shows: its state, how many copies its last event sent, what that event cost, and the sources whose rows
 -- of the forwarding cache it changed.
-use Rattle.std.specs.Prelude.{List, None, Ok, Option, Some, [], fold, ℕ, ◌≡◌}
-use Rattle.pim_types.specs.declared.config.Config.{Config}
+use Rattle.std.specs.Prelude.{List, None, Option, Some, [], fold, ℕ}
 use Rattle.pim_types.specs.declared.event.Event.{Event}
 use Rattle.pim_types.specs.declared.fact.Key.{Key}
 use Rattle.pim_types.specs.declared.outcome.Outcome.{Outcome}
-use Rattle.pim_model.specs.Limits.{config_test}
-use Rattle.pim_model.specs.State.{State, opening}
+use Rattle.pim_model.specs.State.{State}
 use Rattle.pim_model.specs.Step.{Answered, run, state_after}
 use Rattle.pim_world.specs.declared.touched.Touched.{Touched}
 use Rattle.pim_event.specs.Replacing.{Disturbance, NoneReplaced}
@@ -65,8 +63,3 @@ standing_after r events = record {
   state = state_after r.state events;
   copies = last_copies r.copies (run r.state events);
 }
-
--- These events led the opening of the configuration, which is accepted, to the state.
-pub record IsLedTo (c : Config) (before : List Event) (s : State) : Type 0 where
-  pub accepted : config_test c ≡ Ok tt
-  pub led : s ≡ state_after (opening c) before

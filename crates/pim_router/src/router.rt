@@ -1,7 +1,7 @@
 //! The router, as its users call it.
 ghost use Rattle.std.specs.List.Sorted.{IsStrictlySortedBy};
 ghost use Rattle.std.specs.Option.{option_map_or};
-ghost use Rattle.std.specs.Prelude.{◌≡◌, ◌+◌, ◌<◌, ◌++◌, ◌↔◌, [], Err, IfErr, IfOk, IfSome, IsOk, IsOkUnless, IsTrue, List, None, Ok, OnErr, OnOk, Some, min, option_and_then, true};
+ghost use Rattle.std.specs.Prelude.{◌≡◌, ◌+◌, ◌<◌, ◌≤◌, ◌++◌, ◌↔◌, [], Err, IfErr, IfOk, IfSome, IsOk, IsOkUnless, IsTrue, List, None, Ok, OnErr, OnOk, Some, map, min, option_and_then, true};
 ghost use Rattle.std.specs.Vec.{vec_capacity, vec_len};
 ghost use Rattle.pim_fanout.specs.Refreshing.{touches};
 ghost use Rattle.pim_mfc.specs.Laws.{ShowsRows, TellsRow};
@@ -18,24 +18,25 @@ ghost use Rattle.pim_event.specs.Listing.{IsLastListed, ListsSame};
 ghost use Rattle.pim_event.specs.Replacing.{may_differ};
 ghost use Rattle.pim_event.specs.Staying.{LastOffersStay, OffersStay};
 ghost use Rattle.pim_fanout.specs.Named.{keys_of};
+ghost use Rattle.pim_history.specs.History.{Given, IsLedTo, greatest_limit, past_given};
 ghost use Rattle.pim_reach.specs.Named.{event_named};
 ghost use Rattle.pim_ip.specs.declared.fault.Fault.{Fault};
 ghost use Rattle.pim_model.specs.Step.{outcome_of, run, state_after, step};
 ghost use Rattle.pim_model.specs.Limits.{config_test};
 ghost use Rattle.pim_model.specs.State.{opening};
-ghost use Rattle.pim_model.specs.Cause.{OutcomesAreAsked, past_after};
+ghost use Rattle.pim_model.specs.Cause.{OutcomesAreAsked};
 ghost use Rattle.pim_rows.specs.Printed.{rows};
 ghost use Rattle.pim_macros.specs.Rows.{number_of};
 ghost use Rattle.pim_model.specs.Timers.{next_moment};
 ghost use Rattle.pim_model.specs.Unicast.{rpf_interface_rp};
 ghost use Rattle.pim_restored.specs.Reload.{config_of};
-ghost use Rattle.pim_router.specs.Standing.{IsLedTo, begun, nothing_shown, last_copies, standing, standing_after, with_state};
+ghost use Rattle.pim_router.specs.Standing.{begun, nothing_shown, last_copies, standing, standing_after, with_state};
 ghost use Rattle.pim_types.specs.Keys.{key_cmp};
 ghost use Rattle.pim_types.specs.declared.config.Config.{Config as ConfigValue};
 ghost use Rattle.pim_types.specs.declared.event.Event.{Event as EventValue};
 ghost use Rattle.pim_model.specs.Sure.{needs_no_memory};
 ghost use Rattle.pim_locality.specs.Rest.{IsAtRest};
-ghost use Rattle.pim_promises.specs.Bounded.{IsBounded};
+ghost use Rattle.pim_promises.specs.Bounded.{IsBounded, counted_beside_asserts};
 
 mod hosts;
 mod reload;
@@ -437,18 +438,21 @@ impl Router {
     }
 
     /// Takes events one after the other, and returns the outcome of each. After a fault the router answers `Failed`
-    /// from then on. Without events no memory is taken, so there is no fault. Where earlier events, or none, led from the
-    /// opening of an accepted configuration to the router's state, nothing flows unasked: each copy of a packet has its
-    /// cause in an earlier event, of this run or before it. After such a run the facts that count, without the asserts,
-    /// are within the limit of that configuration; with the asserts they are at most the limit once for each interface
-    /// and once more.
+    /// from then on. Without events no memory is taken, so there is no fault. Where earlier events and reloads, or none,
+    /// led from the opening of an accepted configuration to the router's state, nothing flows unasked: each copy of a
+    /// packet has its cause in an earlier event, of this run or before it. After such a run the facts that count, without
+    /// the asserts, are within the greatest limit of the configurations so far; and where no reload was among what came
+    /// before, with the asserts they are at most the limit once for each interface and once more.
     pub fn run(&mut self, events: &[Event]) -> Result<Vec<Outcome>, Fault>
         ensures outcomes { IfSome self.old.standing (λ r. IfOk result (λ outcomes. outcomes.items ≡ run r.state events.now)) }
         ensures state { IfSome self.old.standing (λ r. OnOk result (self.new.standing ≡ Some (standing_after r events.now))) }
-        ensures asked { IfSome self.old.standing (λ r. IfOk result (λ outcomes. (c : ConfigValue) (before : List EventValue)
-            → IsLedTo c before r.state → OutcomesAreAsked (past_after [] (opening c) before) r.state events.now outcomes.items)) }
+        ensures asked { IfSome self.old.standing (λ r. IfOk result (λ outcomes. (c : ConfigValue) (before : List Given)
+            → IsLedTo c before r.state → OutcomesAreAsked (past_given [] (opening c) before) r.state events.now outcomes.items)) }
+        ensures within { IfSome self.old.standing (λ r. (c : ConfigValue) (before : List Given)
+            → IsLedTo c before r.state → IfSome self.new.standing (λ after.
+            counted_beside_asserts after.state ≤ greatest_limit c.limit before)) }
         ensures bounded { IfSome self.old.standing (λ r. (c : ConfigValue) (before : List EventValue)
-            → IsLedTo c before r.state → IfSome self.new.standing (λ after. IsBounded c after.state)) }
+            → IsLedTo c (map Given.Happening before) r.state → IfSome self.new.standing (λ after. IsBounded c after.state)) }
         ensures cheap { IfSome self.old.standing (λ r. OnOk result
             (IsLastCheap r.state events.now self.new.probes self.new.touched)) }
         ensures changed { IfSome self.old.standing (λ r. OnOk result

@@ -3,5 +3,5 @@ use Rattle.pim_reloader.proofs.replace.reconfigure.Goals as goal
 
 pub returns-clause-state : goal.returns-clause-state
 returns-clause-state c =
-    under_is c.args.world.now c.args.next c.reconfigure-ranges.new.world c.rps_replaced.new.world c.reconfigure-ranges.result.ranges
+    under_is c.args.world.now c.args.next c.reconfigure-ranges.new.self c.rps_replaced.new.world c.reconfigure-ranges.result.ranges
     c.reconfigure-ranges.ensures.new c.reconfigure-ranges.ensures.back c.in_ok-rps_replaced.ensures.state

@@ -1,5 +1,5 @@
 use Rattle.pim_fanout.specs.Refreshing.{touches}
-use Rattle.pim_router.proofs.Runs.{is_asked, is_bounded}
+use Rattle.pim_router.proofs.Runs.{is_asked, is_bounded, is_within}
 use Rattle.pim_router.proofs.router.Router.run.Goals as goal
 
 pub returns-clause-asked : goal.returns-clause-asked
@@ -11,5 +11,11 @@ returns-clause-asked c =
 pub returns-clause-bounded : goal.returns-clause-bounded
 returns-clause-bounded c =
     is_bounded c.args.self.now c.self.inside.failed (record { state = c.self.inside.world; copies = c.self.inside.copies })
+    c.self.inside.probes.meter (touches c.self.inside.cache) c.self.inside.cache.changed (record { touched = c.self.inside.cache.disturbed; replaced = c.self.inside.replaced })
+    c.args.events.now c.run_world.new.world c.self.view_is c.if-self.false c.in_ok-outcomes.ensures.state
+
+pub returns-clause-within : goal.returns-clause-within
+returns-clause-within c =
+    is_within c.args.self.now c.self.inside.failed (record { state = c.self.inside.world; copies = c.self.inside.copies })
     c.self.inside.probes.meter (touches c.self.inside.cache) c.self.inside.cache.changed (record { touched = c.self.inside.cache.disturbed; replaced = c.self.inside.replaced })
     c.args.events.now c.run_world.new.world c.self.view_is c.if-self.false c.in_ok-outcomes.ensures.state
