@@ -13,7 +13,7 @@ use std::io::{self, Write};
 use std::path::PathBuf;
 use std::time::Duration;
 use time::OffsetDateTime;
-use viqeshor::{Call, Error, Interface, Range, Route, Router, Settings, Verdict};
+use viqeshor::{Call, Error, Interface, Kind, Packet, Range, Route, Router, Settings, Verdict, MOST_BYTES};
 
 const MAGIC: &[u8; 4] = b"VQRC";
 const VERSION: u16 = 2;
@@ -63,12 +63,29 @@ pub fn answer_of(verdict: &Result<Verdict, Error>) -> u32 {
     }
 }
 
-fn sum_of(router: &Router, answer: u32) -> u32 {
-    if answer == DONE {
-        router.sum()
-    } else {
-        0
+/// What `Router::sum` tells of what is to be sent, by the processor's own instructions.
+fn sum_of(router: &Router) -> u32 {
+    let mut hasher = crc32fast::Hasher::new();
+    if router.packet_count() == 0 {
+        return hasher.finalize();
     }
+    router.each_packet(&mut [0; MOST_BYTES], |packet: &Packet, bytes| {
+        let (letter, place): (u8, u32) = match packet.kind {
+            Kind::Unicast => (b'u', packet.destination.into()),
+            _ => (b'f', packet.iface),
+        };
+        hasher.update(&[letter]);
+        hasher.update(&place.to_be_bytes());
+        hasher.update(&(bytes.len() as u64).to_be_bytes());
+        hasher.update(bytes);
+    });
+    hasher.finalize()
+}
+
+/// A call with this draw that had this answer; nothing of a call that wasn't done is to be sent.
+fn answered(router: &Router, draw: u32, answer: u32) -> Call {
+    let sum = if answer == DONE { sum_of(router) } else { 0 };
+    Call { draw, answer, sum, ..Call::default() }
 }
 
 fn refused(error: Error) -> io::Error {
@@ -151,7 +168,7 @@ impl Recorder {
 
     /// What the router answered to an event.
     pub fn event(&mut self, router: &Router, event: &Event, draw: u32, answer: u32) -> io::Result<()> {
-        let call = Call { draw, answer, sum: sum_of(router, answer), ..Call::default() };
+        let call = answered(router, draw, answer);
         let (kind, to) = (|letter: u8| u32::from(letter), &mut self.waiting);
         let put = match *event {
             Event::Advance(moment) => Call { letter: kind(b'a'), moment, ..call }.put(&[], to),
@@ -172,7 +189,7 @@ impl Recorder {
 
     /// What the router answered to another configuration.
     pub fn reload(&mut self, router: &Router, it: &Configuration, draw: u32, answer: u32) -> io::Result<()> {
-        let call = Call { draw, answer, sum: sum_of(router, answer), ..Call::default() };
+        let call = answered(router, draw, answer);
         let put = call.put_reload(it.settings, it.interfaces, it.routes, it.ranges, &mut self.waiting);
         put.map_err(refused)?;
         self.was_put()
@@ -258,6 +275,7 @@ mod tests {
         recorder.event(&router, &Event::Up(0), 7, answer).unwrap();
         let sum = router.sum();
         assert_ne!(sum, 0);
+        assert_eq!(sum_of(&router), sum);
         let routes = [Route::new(Ipv4Addr::new(10, 9, 0, 0), 16, Ipv4Addr::new(10, 1, 0, 2), 0)];
         let answer = answer_of(&router.set_routes(&routes, 8));
         recorder.event(&router, &Event::Routes(&routes), 8, answer).unwrap();
@@ -271,6 +289,7 @@ mod tests {
         recorder.reload(&router, &given, 9, DONE).unwrap();
         let sum_then = router.sum();
         assert_ne!(sum_then, 0);
+        assert_eq!(sum_of(&router), sum_then);
         recorder.end_turn(&mut router, &speech, 0).unwrap();
         assert_eq!(recorder.due(), Some(WAITS));
         recorder.end_turn(&mut router, &speech, WAITS).unwrap();
