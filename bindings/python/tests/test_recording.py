@@ -92,8 +92,9 @@ class Recordings(unittest.TestCase):
         for number in (0, 1):
             self.router.up(number)
         self.router.frame(1, hosts.join("10.0.1.9", GROUP))
-        for name in (lambda: self.router.frame(0, hosts.data("10.0.0.7", GROUP, b"word")), lambda: self.router.advance(40_000)):
-            name()
+        data = hosts.data("10.0.0.7", GROUP, b"word")
+        for happens in (lambda: self.router.frame(0, data), lambda: self.router.advance(40_000)):
+            happens()
             sent = self.router.packets()
             self.assertTrue(sent)
             total = 0
@@ -113,7 +114,8 @@ class Recordings(unittest.TestCase):
         ):
             answer, total = call(), recording.sum_of(self.router, 1)
             form = f">I{len(numbers)}II"
-            records.append(letter + struct.pack(form, 7, *numbers, len(data)) + data + struct.pack(">II", answer, total))
+            given = letter + struct.pack(form, 7, *numbers, len(data)) + data
+            records.append(given + struct.pack(">II", answer, total))
         self.path.write_bytes(b"VQRC" + struct.pack(">HIQ", 1, 0, len(state)) + state + b"".join(records))
         told = recording.read(self.path)
         self.assertEqual((told.version, [record.name for record in told.records]), (1, ["up", "frame", "advance"]))
@@ -131,7 +133,8 @@ class Recordings(unittest.TestCase):
     def test_a_reload_is_kept_whole(self):
         with Recorder(self.router, self.path):
             self.router.up(0)
-            self.router.reload([("10.0.0.3", 24, 7, 400, 2400), *LINKS[1:], ("10.0.2.1", 24)], stays_on_shared_tree=True)
+            links = [("10.0.0.3", 24, 7, 400, 2400), *LINKS[1:], ("10.0.2.1", 24)]
+            self.router.reload(links, stays_on_shared_tree=True)
             self.assertTrue(self.router.packets())
             self.assertRaises(Refused, self.router.reload, [])
         differ, told = self.played(f"{self.path}.0")

@@ -147,8 +147,8 @@ class Recorder:
         state, older = self.router.save(), len(self.router.older_rows())
         self._file = open(made, "wb", buffering=0)
         head = MAGIC + struct.pack(">HIQ", VERSION, older, len(state)) + state
-        library = self.router._library
-        settings = (record_of(library, name, 0, (iface, value), 0, 0) for (name, iface), value in self._settings.items())
+        library, kept = self.router._library, self._settings.items()
+        settings = (record_of(library, name, 0, (iface, value), 0, 0) for (name, iface), value in kept)
         self._size = self._file.write(head + b"".join(settings))
         os.replace(made, path)
 
