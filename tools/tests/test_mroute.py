@@ -6,7 +6,8 @@ import tempfile
 import unittest
 from pathlib import Path
 
-from pimtext import scenario, story, trees, view_text, views
+from pimtext import asked, scenario, story, view_text, views
+from pimtext.known import known_after
 from tests import stored
 from tests.networks import GROUP, HOST, RP, SOURCE, Network
 
@@ -108,13 +109,13 @@ class Stored(unittest.TestCase):
         for path, lines in stored.played():
             played = scenario.read(path)
             steps, tables = story.played(played, lines)
-            for name, state in trees.known(played, steps, tables).items():
+            for name, state in known_after(played, steps, tables).items():
                 view = views.router(state)
                 shown = {(each["group"], each["source"]): outgoing(each) for each in view["mroute"]}
                 with self.subTest(path.name, router=name):
                     json.dumps(view)
                     list(view_text.text(view))
-                    for branch in trees.branches(state):
+                    for branch in asked.branches(state):
                         self.assertEqual(shown[branch.group, branch.source], sorted(branch.outgoing))
 
     def test_a_querier_that_falls_silent_and_comes_back(self):

@@ -1,5 +1,5 @@
 //! Joins and asserts, and the ways to RPs and sources.
-use super::{address, rows_of, seconds, until, way, Cells, Rows};
+use super::{address, is_here, rows_of, seconds, until, way, Cells, Rows};
 use crate::daemon::Daemon;
 use crate::error::Fatal;
 use crate::mroute::Key;
@@ -107,10 +107,6 @@ impl Upstream {
             ..Upstream::of(shared.path, tree.rpf_rpt, false)
         }
     }
-}
-
-fn is_here(daemon: &Daemon, address: Ipv4Addr) -> bool {
-    daemon.ports.iter().any(|port| port.address() == Some(address))
 }
 
 fn upstream_cells(daemon: &Daemon, row: &Row, state: &str, upstream: Option<Upstream>, next_join: Value) -> Cells {

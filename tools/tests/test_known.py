@@ -1,5 +1,4 @@
-"""What is computed of a router's tables is what the router does: where data leave, and with which RP they are
-registered.
+"""What a router is asked for is what it does: where data leave, and with which RP they are registered.
 
 PLACES and SEED in the environment ask for another number of the stored scenarios' packets (40) and for others.
 """
@@ -8,7 +7,8 @@ import random
 import unittest
 from concurrent.futures import ThreadPoolExecutor
 
-from pimtext import packets, scenario, served, story, trees
+from pimtext import asked, packets, scenario, served, story
+from pimtext.known import known_after
 from pimtext.older import read_heard
 from tests import stored
 from tests.networks import SOURCE, Network
@@ -38,14 +38,14 @@ def before(played, step):
     """What the router of a step knows just before it."""
     cut = scenario.Scenario(played.routers, played.moves[:step.move - 1])
     steps, tables = story.played(cut, scenario.run_text(cut.text()))
-    return trees.known(cut, steps, tables)[step.router]
+    return known_after(cut, steps, tables)[step.router]
 
 
 def told(state, packet, iface):
     """The links on which its data is to leave, and the RP to which Registers are to go."""
     inner = packet.body.inner if isinstance(packet.body, packets.Register) else packet
     group, source = inner.destination, inner.source
-    is_rp = packet.destination == trees.rp_of(state, group)
+    is_rp = packet.destination == asked.rp_of(state, group)
     what = served.taken(state, group, source, iface) if iface is not None else served.registered(state, group, source)
     out = what.out if iface is not None or is_rp else ()
     return (sorted(map(state.link, out)), [what.rp] if what.rp else []) if inner.ttl > 1 else ([], [])
@@ -76,8 +76,8 @@ class Drs(unittest.TestCase):
         network = Network()
         network.routers[2]["iface"][0].update(options)
         played = scenario.scenario_of({"router": network.routers, "move": network.moves()})
-        known = trees.known(played, *story.played(played, scenario.run_text(network.text())))
-        return {trees.dr_of(known["hub"], 1), trees.dr_of(known["east"], 0)}
+        known = known_after(played, *story.played(played, scenario.run_text(network.text())))
+        return {asked.dr_of(known["hub"], 1), asked.dr_of(known["east"], 0)}
 
     def test_the_higher_address(self):
         self.assertEqual(self.dr(), {"10.0.2.3"})
@@ -91,16 +91,16 @@ class Drs(unittest.TestCase):
         network.said = [{"do": "frame", "router": "east", "iface": 1, "hex": hello.hex()}]
         network.routers[2]["iface"][1]["priority"] = 100
         played = scenario.scenario_of({"router": network.routers, "move": network.moves()})
-        known = trees.known(played, *story.played(played, scenario.run_text(network.text())))
-        self.assertEqual(trees.dr_of(known["east"], 1), "10.8.0.9")
+        known = known_after(played, *story.played(played, scenario.run_text(network.text())))
+        self.assertEqual(asked.dr_of(known["east"], 1), "10.8.0.9")
 
 
 class Joined(unittest.TestCase):
     def test_the_trees_of_a_network(self):
         network = Network()
         played = scenario.scenario_of({"router": network.routers, "move": network.moves()})
-        known = trees.known(played, *story.played(played, scenario.run_text(network.text())))
-        found = {(name, branch.source): branch for name, state in known.items() for branch in trees.branches(state)}
+        known = known_after(played, *story.played(played, scenario.run_text(network.text())))
+        found = {(name, branch.source): branch for name, state in known.items() for branch in asked.branches(state)}
         shared = {name: (branch.incoming, set(branch.outgoing)) for (name, source),
             branch in found.items() if source == "*"}
         self.assertEqual(shared, {"hub": (None, {1}), "east": (0, {1})})
