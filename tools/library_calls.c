@@ -310,11 +310,24 @@ static void tables(struct viq_router *router) {
     is("no third one", viq_row(router, 2, &row), false);
     is("what isn't written", row.table, 7);
     is("the second one", viq_row(router, 1, &row), true);
-    is("its table", row.table == 'N' && row.iface == 1 && row.source == 0x0a000102 && row.end == VIQ_NEVER, true);
+    struct viq_neighbour_row neighbour = row.of.neighbour;
+    is("its table", row.table == 'N' && neighbour.iface == 1 && neighbour.address == 0x0a000102 && neighbour.end == VIQ_NEVER, true);
     is("joins", viq_read(router, 'D'), VIQ_DONE);
     is("the join", viq_row(router, 0, &row), true);
-    is("whose", row.table == 'D' && row.iface == 1 && row.group == 0xe1010101 && row.source == 0x0a000305 && !row.is_rpt, true);
-    is("joined for a second", row.state == VIQ_JOINED && row.end == 5 + 1000 && row.pending == VIQ_NEVER, true);
+    struct viq_downstream_row join = row.of.downstream;
+    is("whose", row.table == 'D' && join.iface == 1 && join.group == 0xe1010101 && join.source == 0x0a000305 && !join.is_rpt, true);
+    is("joined for a second", join.state == VIQ_JOINED && join.end == 5 + 1000 && join.pending == VIQ_NEVER, true);
+    is("upstream", viq_read(router, 'U'), VIQ_DONE);
+    is("what is joined", viq_row(router, 0, &row), true);
+    struct viq_upstream_row upstream = row.of.upstream;
+    is("its source", row.table == 'U' && upstream.group == 0xe1010101 && upstream.source == 0x0a000305, true);
+    is("the next Join is to come", upstream.next_join > 5 && upstream.next_join <= 5 + 60000, true);
+    is("active", viq_read(router, 'F'), VIQ_DONE);
+    is("the source", viq_row(router, 0, &row), true);
+    struct viq_active_row active = row.of.active;
+    is("which", row.table == 'F' && active.group == 0xe1010101 && active.source == 0x0a000305, true);
+    is("by its own tree, without a register", active.spt_bit && active.register_state == VIQ_REGISTER_NONE, true);
+    is("joins once more", viq_read(router, 'D'), VIQ_DONE);
     is("down", viq_down(router, 1, viq_draw(0)), VIQ_DONE);
     is("the rows stay", viq_rows(router), 1);
     is("joins again", viq_read(router, 'D'), VIQ_DONE);
@@ -428,11 +441,11 @@ static void told_packets(struct viq_router *router) {
 static void kept(struct viq_router *router) {
     struct viq_row row = {.table = 7};
     is("the second one", viq_row(router, 1, &row), true);
-    is("it is kept for 210 s", row.source == 0x0a000305 && row.end == 1000 + 210000, true);
+    is("it is kept for 210 s", row.of.active.source == 0x0a000305 && row.of.active.keepalive == 1000 + 210000, true);
     is("keep at an earlier moment", viq_keep(router, 0x0a000305, 0xe1010101, 500), VIQ_DONE);
     is("active sources again", viq_read(router, 'F'), VIQ_DONE);
     is("the second one again", viq_row(router, 1, &row), true);
-    is("its end stays", row.end, 1000 + 210000);
+    is("its end stays", row.of.active.keepalive, 1000 + 210000);
 }
 
 static void plane(void) {

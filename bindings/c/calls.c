@@ -106,7 +106,20 @@ uint32_t viq_read(struct viq_router *router, uint8_t letter) { return viq_core_r
 size_t viq_rows(const struct viq_router *router) { return viq_core_rows(CORE(router)); }
 
 bool viq_row(const struct viq_router *router, size_t index, struct viq_row *row) {
-    return viq_core_row(CORE(router), index, row);
+    struct viq_core_row told;
+    if (!viq_core_row(CORE(router), index, &told)) return false;
+    row->table = told.table;
+    switch (told.table) {
+    case 'N': row->of.neighbour = told.neighbour; break;
+    case 'G': row->of.group = told.group; break;
+    case 'S': row->of.source = told.source; break;
+    case 'D': row->of.downstream = told.downstream; break;
+    case 'A': row->of.asserted = told.asserted; break;
+    case 'U': row->of.upstream = told.upstream; break;
+    case 'R': row->of.rpt = told.rpt; break;
+    case 'F': row->of.active = told.active; break;
+    }
+    return true;
 }
 
 uint32_t viq_older(struct viq_router *router, uint32_t iface, uint32_t hosts) {

@@ -11,6 +11,19 @@ struct viq_core {
     bool is_there;
 };
 
+/* A row with room for the columns of each kind; those of other kinds than the row's are 0. */
+struct viq_core_row {
+    uint32_t table;
+    struct viq_neighbour_row neighbour;
+    struct viq_group_row group;
+    struct viq_source_row source;
+    struct viq_downstream_row downstream;
+    struct viq_assert_row asserted;
+    struct viq_upstream_row upstream;
+    struct viq_rpt_row rpt;
+    struct viq_active_row active;
+};
+
 uint32_t viq_core_new(struct viq_core *router, const struct viq_settings *settings,
                       const struct viq_interface *interfaces, size_t interface_count, const struct viq_route *routes,
                       size_t route_count, const struct viq_range *ranges, size_t range_count);
@@ -31,7 +44,7 @@ uint32_t viq_core_copies(struct viq_core *router);
 uint64_t viq_core_next_moment(struct viq_core *router);
 uint32_t viq_core_read(struct viq_core *router, uint8_t letter);
 size_t viq_core_rows(struct viq_core *router);
-bool viq_core_row(struct viq_core *router, size_t index, struct viq_row *row);
+bool viq_core_row(struct viq_core *router, size_t index, struct viq_core_row *row);
 uint32_t viq_core_older(struct viq_core *router, uint32_t iface, uint32_t hosts);
 uint32_t viq_core_query_version(struct viq_core *router, uint32_t iface, uint32_t version);
 uint32_t viq_core_older_read(struct viq_core *router);

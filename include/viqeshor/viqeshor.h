@@ -162,7 +162,7 @@ static inline bool viq_is_lost(uint32_t answer) { return answer == VIQ_LOST || a
 /* The meaning of an answer in a few words; never NULL. */
 const char *viq_answer_text(uint32_t answer);
 
-/* No time: no timer runs, or a row has no such time. */
+/* No time: no timer runs, or none expires. */
 #define VIQ_NEVER UINT64_MAX
 
 /* No interface. */
@@ -318,23 +318,93 @@ uint64_t viq_next_moment(const struct viq_router *router);
 
 /* ---- what the router knows */
 
-/* The state of a row of D, and that of the register in a row of F. */
-enum { VIQ_JOINED = 1, VIQ_PRUNE_PENDING = 2, VIQ_PRUNED = 3 };
-enum { VIQ_REGISTER_NONE = 0, VIQ_REGISTER_JOINED = 1, VIQ_REGISTER_JOIN_PENDING = 2, VIQ_REGISTER_PRUNED = 3 };
+/* A row of N: a PIM neighbour. */
+struct viq_neighbour_row {
+    uint32_t iface;
+    uint32_t address;
+    uint64_t end; /* ms, when its holdtime expires, or VIQ_NEVER */
+};
 
-/* A row of a table; SCENARIOS.md describes the tables. A field that its kind of row doesn't have is 0, or VIQ_NEVER for
- * a time. */
-struct viq_row {
-    uint32_t table; /* its letter */
+/* A row of G: what hosts want of a group. */
+struct viq_group_row {
     uint32_t iface;
     uint32_t group;
-    uint32_t source; /* 0 for (*,G); a neighbour's address */
-    uint32_t winner; /* of an assert */
-    bool is_rpt;     /* (S,G,rpt) */
-    bool is_set;     /* G: EXCLUDE; A: lost; R: pruned; F: SPTbit */
-    uint32_t state;  /* D: VIQ_JOINED, VIQ_PRUNE_PENDING or VIQ_PRUNED; F: its register, a VIQ_REGISTER_.. */
-    uint64_t end;    /* ms, when it expires; U: the next Join; F: the keepalive timer */
-    uint64_t pending; /* ms; D: when the Prune-Pending Timer expires */
+    bool is_exclude; /* every source but those that they exclude; else only the sources of the rows of S */
+    uint64_t end;    /* ms, when EXCLUDE mode ends; VIQ_NEVER in INCLUDE mode */
+};
+
+/* A row of S: a source that hosts want or exclude. */
+struct viq_source_row {
+    uint32_t iface;
+    uint32_t group;
+    uint32_t source;
+    uint64_t end; /* ms, until when they want it; VIQ_NEVER where they exclude it */
+};
+
+/* A row of D: what other routers joined or pruned. */
+enum {
+    VIQ_JOINED = 1,
+    VIQ_PRUNE_PENDING = 2, /* a Prune came, and takes effect unless a Join overrides it */
+    VIQ_PRUNED = 3         /* of (S,G,rpt) alone */
+};
+struct viq_downstream_row {
+    uint32_t iface;
+    uint32_t group;
+    uint32_t source;  /* 0 for (*,G) */
+    bool is_rpt;      /* of (S,G,rpt); else of (*,G) or (S,G) */
+    uint32_t state;   /* VIQ_JOINED, VIQ_PRUNE_PENDING or VIQ_PRUNED */
+    uint64_t end;     /* ms, when the Expiry Timer expires, or VIQ_NEVER */
+    uint64_t pending; /* ms, when the Prune-Pending Timer expires; VIQ_NEVER in another state */
+};
+
+/* A row of A: an assert. */
+struct viq_assert_row {
+    uint32_t iface;
+    uint32_t group;
+    uint32_t source; /* 0 for (*,G) */
+    bool is_loser;   /* the router lost it; else it won */
+    uint32_t winner; /* the winner's address: the router's own where it won */
+    uint64_t end;    /* ms, when the Assert Timer expires */
+};
+
+/* A row of U: a tree that the router has joined upstream. */
+struct viq_upstream_row {
+    uint32_t group;
+    uint32_t source;    /* 0 for (*,G) */
+    uint64_t next_join; /* ms, when the next Join leaves */
+};
+
+/* A row of R: a source of a shared tree that the router has joined. */
+struct viq_rpt_row {
+    uint32_t group;
+    uint32_t source;
+    bool is_pruned; /* the router pruned it off the shared tree */
+};
+
+/* A row of F: an active source. */
+enum { VIQ_REGISTER_NONE = 0, VIQ_REGISTER_JOINED = 1, VIQ_REGISTER_JOIN_PENDING = 2, VIQ_REGISTER_PRUNED = 3 };
+struct viq_active_row {
+    uint32_t group;
+    uint32_t source;
+    uint64_t keepalive;      /* ms, when the keepalive timer expires; VIQ_NEVER where it doesn't run */
+    bool spt_bit;            /* SPTbit(S,G) */
+    uint32_t register_state; /* of the register at the source's DR, VIQ_REGISTER_..; VIQ_REGISTER_NONE elsewhere */
+};
+
+/* A row of a table: its letter, and the member of that table. No other member may be read. SCENARIOS.md describes the
+ * tables. */
+struct viq_row {
+    uint32_t table; /* N, G, S, D, A, U, R or F */
+    union {
+        struct viq_neighbour_row neighbour;   /* N */
+        struct viq_group_row group;           /* G */
+        struct viq_source_row source;         /* S */
+        struct viq_downstream_row downstream; /* D */
+        struct viq_assert_row asserted;       /* A */
+        struct viq_upstream_row upstream;     /* U */
+        struct viq_rpt_row rpt;               /* R */
+        struct viq_active_row active;         /* F */
+    } of;
 };
 
 /* Reads the table of a letter: N, G, S, D, A, U, R or F. It answers VIQ_DONE; VIQ_MEMORY, where nothing has changed;

@@ -12,7 +12,8 @@ use rand::{RngCore, SeedableRng};
 use std::collections::BTreeMap;
 use std::net::Ipv4Addr;
 use viqeshor::{
-    Error, Link, OlderRow, Packet, Range, Refusal, Route, Router, Sent, SourceTree, Table, Tree, Verdict, MOST_BYTES,
+    Error, Link, NeighbourRow, OlderRow, Packet, Range, Refusal, Route, Router, Sent, SourceTree, Table, TableRow, Tree,
+    Verdict, MOST_BYTES,
 };
 
 /// What happens to the router.
@@ -256,6 +257,11 @@ impl Core {
         Ok(read?)
     }
 
+    /// The rows of the table of one kind of row.
+    pub fn rows_of<R: TableRow>(&mut self) -> Result<Vec<R>, Fatal> {
+        Ok(self.rows(R::TABLE)?.into_iter().filter_map(R::of).collect())
+    }
+
     /// The groups on interfaces that have older hosts.
     pub fn older_rows(&mut self) -> Result<Vec<OlderRow>, Fatal> {
         let read = self.router.older_rows();
@@ -280,6 +286,6 @@ impl Core {
 
     /// Each neighbour with its interface.
     pub fn neighbours(&mut self) -> Result<Vec<(u32, Ipv4Addr)>, Fatal> {
-        Ok(self.rows(Table::Neighbours)?.iter().map(|row| (row.iface, row.source)).collect())
+        Ok(self.rows_of::<NeighbourRow>()?.iter().map(|row| (row.iface, row.address)).collect())
     }
 }

@@ -12,7 +12,7 @@ use std::collections::BTreeMap;
 use std::fmt::{Display, Write};
 use std::io;
 use std::net::SocketAddr;
-use viqeshor::{Row, Table, PRUNED};
+use viqeshor::{ActiveRow, AssertRow, DownstreamRow, DownstreamState, GroupRow, NeighbourRow, SourceRow, UpstreamRow};
 
 const HEAD: Protocol = Protocol { whole: first_line, longest: 8_192 };
 
@@ -272,33 +272,31 @@ fn neighbours(daemon: &Daemon, text: &mut Text) {
 
 /// What the library holds, by its tables.
 fn facts(daemon: &mut Daemon, text: &mut Text) -> Result<(), Fatal> {
-    let mut rows = BTreeMap::new();
-    for table in Table::ALL {
-        rows.insert(table as u8, daemon.core.rows(table)?);
-    }
-    let of = |table: Table| rows.get(&(table as u8)).map_or(&[][..], Vec::as_slice);
-    of_interfaces(daemon, text, "igmp_groups", "Groups that hosts reported.", of(Table::Groups));
-    of_interfaces(daemon, text, "igmp_sources", "Sources of groups that hosts named.", of(Table::Sources));
+    let neighbours = daemon.core.rows_of::<NeighbourRow>()?.len();
+    let groups: Vec<_> = daemon.core.rows_of::<GroupRow>()?.iter().map(|row| row.iface).collect();
+    let sources: Vec<_> = daemon.core.rows_of::<SourceRow>()?.iter().map(|row| row.iface).collect();
+    let downstream = daemon.core.rows_of::<DownstreamRow>()?;
+    let active = daemon.core.rows_of::<ActiveRow>()?.len();
+    of_interfaces(daemon, text, "igmp_groups", "Groups that hosts reported.", &groups);
+    of_interfaces(daemon, text, "igmp_sources", "Sources of groups that hosts named.", &sources);
     older_groups(daemon, text)?;
-    joins(daemon, text, of(Table::Downstream));
-    asserts(daemon, text, of(Table::Asserts));
-    for (name, about, table) in [
-        ("pim_upstream_joins", "Trees that the router has joined.", Table::Upstream),
-        ("active_sources", "Sources of groups that have a fact in the library.", Table::Active),
-    ] {
-        text.one(name, Kind::Gauge, about, of(table).len());
-    }
-    const COUNTED: [Table; 5] = [Table::Neighbours, Table::Groups, Table::Sources, Table::Downstream, Table::Active];
-    let facts: usize = COUNTED.into_iter().map(|table| of(table).len()).sum();
+    joins(daemon, text, &downstream);
+    let lost_and_won = daemon.core.rows_of::<AssertRow>()?;
+    asserts(daemon, text, &lost_and_won);
+    let joined = daemon.core.rows_of::<UpstreamRow>()?.len();
+    text.one("pim_upstream_joins", Kind::Gauge, "Trees that the router has joined.", joined);
+    text.one("active_sources", Kind::Gauge, "Sources of groups that have a fact in the library.", active);
+    let facts = neighbours + groups.len() + sources.len() + downstream.len() + active;
     text.one("facts", Kind::Gauge, "Facts that the library holds, without asserts.", facts);
     text.one("facts_limit", Kind::Gauge, "The most facts that the library may hold.", daemon.settings.limit);
     Ok(())
 }
 
-fn of_interfaces(daemon: &Daemon, text: &mut Text, name: &str, about: &str, rows: &[Row]) {
+/// By the interface of each row.
+fn of_interfaces(daemon: &Daemon, text: &mut Text, name: &str, about: &str, ifaces: &[u32]) {
     text.family(name, Kind::Gauge, about);
     for port in daemon.ports.iter().filter(|port| !port.is_removed) {
-        let count = rows.iter().filter(|row| row.iface == port.number).count();
+        let count = ifaces.iter().filter(|iface| **iface == port.number).count();
         text.sample(name, &[("interface", &port.settings.name)], count);
     }
 }
@@ -330,14 +328,14 @@ fn older_groups(daemon: &mut Daemon, text: &mut Text) -> Result<(), Fatal> {
     Ok(())
 }
 
-fn joins(daemon: &Daemon, text: &mut Text, rows: &[Row]) {
+fn joins(daemon: &Daemon, text: &mut Text, rows: &[DownstreamRow]) {
     const NAME: &str = "pim_joins";
     text.family(NAME, Kind::Gauge, "What neighbours have joined, by type; for S,G,rpt what they have pruned.");
-    let is_counted = |row: &&Row| row.is_rpt == (row.state == PRUNED);
+    let is_counted = |row: &&DownstreamRow| row.is_rpt == (row.state == DownstreamState::Pruned);
     by_label(daemon, text, NAME, "type", rows.iter().filter(is_counted).map(|row| (row.iface, show::joins::kind(row))));
 }
 
-fn asserts(daemon: &Daemon, text: &mut Text, rows: &[Row]) {
+fn asserts(daemon: &Daemon, text: &mut Text, rows: &[AssertRow]) {
     const NAME: &str = "pim_asserts";
     text.family(NAME, Kind::Gauge, "Asserts, by whether the router won.");
     by_label(daemon, text, NAME, "state", rows.iter().map(|row| (row.iface, show::joins::assert_state(row))));

@@ -11,7 +11,7 @@ use log::warn;
 use std::collections::{BTreeMap, HashMap, HashSet};
 use std::fmt;
 use std::net::Ipv4Addr;
-use viqeshor::{Row, Table};
+use viqeshor::{AssertRow, DownstreamRow, GroupRow, NeighbourRow, Row, SourceRow, Table, TableRow};
 
 pub mod lists;
 mod refusals;
@@ -40,6 +40,11 @@ pub trait Books {
     fn now(&self) -> u64;
 }
 
+/// The rows of the table of one kind of row.
+fn rows_of<R: TableRow>(books: &mut dyn Books) -> Vec<R> {
+    books.rows(R::TABLE).into_iter().filter_map(R::of).collect()
+}
+
 /// An interface, for the policy.
 #[derive(Clone, Debug)]
 pub struct Gate {
@@ -58,7 +63,7 @@ struct Held {
     groups: HashMap<Ipv4Addr, HashSet<Ipv4Addr>>,
     sources: usize,
     joins: HashSet<split::JoinKey>,
-    /// Groups and sources of asserts.
+    /// Groups and sources of asserts, 0.0.0.0 for all.
     asserts: HashSet<(Ipv4Addr, Ipv4Addr)>,
 }
 
@@ -157,20 +162,21 @@ impl Policy {
             return;
         }
         let mut held: BTreeMap<u32, Held> = BTreeMap::new();
-        for row in books.rows(Table::Neighbours) {
-            held.entry(row.iface).or_default().neighbours.insert(row.source);
+        for row in rows_of::<NeighbourRow>(books) {
+            held.entry(row.iface).or_default().neighbours.insert(row.address);
         }
-        for row in books.rows(Table::Groups) {
+        for row in rows_of::<GroupRow>(books) {
             held.entry(row.iface).or_default().groups.entry(row.group).or_default();
         }
-        for row in books.rows(Table::Sources) {
+        for row in rows_of::<SourceRow>(books) {
             held.entry(row.iface).or_default().add_source(row.group, row.source);
         }
-        for row in books.rows(Table::Downstream) {
+        for row in rows_of::<DownstreamRow>(books) {
             held.entry(row.iface).or_default().joins.insert(split::JoinKey::of_row(&row));
         }
-        for row in books.rows(Table::Asserts) {
-            held.entry(row.iface).or_default().asserts.insert((row.group, row.source));
+        for row in rows_of::<AssertRow>(books) {
+            let source = row.source.unwrap_or(Ipv4Addr::UNSPECIFIED);
+            held.entry(row.iface).or_default().asserts.insert((row.group, source));
         }
         self.held = held;
         self.read_due = books.now() + READ_EVERY.max(PART_OF_TIME * books.now().saturating_sub(began));

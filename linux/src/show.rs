@@ -16,7 +16,10 @@ use clap::ValueEnum;
 use serde_json::{json, Map, Value};
 use std::collections::{BTreeMap, BTreeSet, HashMap};
 use std::net::Ipv4Addr;
-use viqeshor::{Interfaces, OlderRow, Row, Rpf, Table};
+use viqeshor::{
+    ActiveRow, DownstreamRow, GroupRow, Interfaces, NeighbourRow, OlderRow, RegisterState, Rpf, RptRow, SourceRow,
+    UpstreamRow,
+};
 
 /// What can be shown.
 #[derive(Clone, Copy, Debug, PartialEq, Eq, ValueEnum)]
@@ -66,10 +69,6 @@ impl Topic {
         Topic::value_variants().iter().find(|topic| topic.name() == name).copied()
     }
 }
-/// States of `Table::Downstream`.
-const PRUNED: u32 = 3;
-/// The state of `Table::Active` in which data is registered.
-const REGISTER_JOIN: u32 = 1;
 
 /// Named values, in the order in which a table of text has them.
 type Cells = Vec<(&'static str, Value)>;
@@ -178,17 +177,9 @@ fn seconds(milliseconds: u64) -> Value {
     json!((milliseconds / 100) as f64 / 10.0)
 }
 
-/// The seconds until a moment; null for one that doesn't come.
-fn until(end: u64, now: u64) -> Value {
-    if end == u64::MAX {
-        Value::Null
-    } else {
-        seconds(end.saturating_sub(now))
-    }
-}
-
-fn rows_of(daemon: &mut Daemon, table: Table) -> Result<Vec<Row>, Fatal> {
-    daemon.core.rows(table)
+/// The seconds until a moment; null where none comes.
+fn until(end: Option<u64>, now: u64) -> Value {
+    end.map_or(Value::Null, |end| seconds(end.saturating_sub(now)))
 }
 
 fn address(number: u32) -> Value {
@@ -219,8 +210,9 @@ fn way(daemon: &Daemon, to: Ipv4Addr) -> Option<(u32, Ipv4Addr)> {
 }
 
 fn rp(daemon: &mut Daemon) -> Result<Rows, Fatal> {
-    let mut groups: BTreeSet<u32> = rows_of(daemon, Table::Upstream)?.iter().map(|row| u32::from(row.group)).collect();
-    groups.extend(rows_of(daemon, Table::Groups)?.iter().map(|row| u32::from(row.group)));
+    let joined = daemon.core.rows_of::<UpstreamRow>()?;
+    let mut groups: BTreeSet<u32> = joined.iter().map(|row| u32::from(row.group)).collect();
+    groups.extend(daemon.core.rows_of::<GroupRow>()?.iter().map(|row| u32::from(row.group)));
     let ranges = &daemon.settings.rps;
     let row = |range: &RpSettings| {
         let is_here = is_here(daemon, range.address);
@@ -241,17 +233,17 @@ fn rp(daemon: &mut Daemon) -> Result<Rows, Fatal> {
 // ---- neighbours, interfaces, IGMP
 
 fn neighbours(daemon: &mut Daemon) -> Result<Rows, Fatal> {
-    let rows = rows_of(daemon, Table::Neighbours)?;
+    let rows = daemon.core.rows_of()?;
     let now = daemon.now();
-    let row = |row: &Row| {
-        let known = daemon.neighbours.known.get(&(row.iface, row.source));
+    let row = |row: &NeighbourRow| {
+        let known = daemon.neighbours.known.get(&(row.iface, row.address));
         vec![
             ("interface", json!(daemon.name(row.iface))),
-            ("address", address(u32::from(row.source))),
+            ("address", address(u32::from(row.address))),
             ("up_seconds", known.map_or(Value::Null, |known| seconds(now.saturating_sub(known.since)))),
             ("expires_seconds", until(row.end, now)),
             ("priority", known.map_or(Value::Null, |known| json!(known.priority))),
-            ("bfd", daemon.bfd_state(&(row.iface, row.source)).map_or(Value::Null, |state| json!(state.name()))),
+            ("bfd", daemon.bfd_state(&(row.iface, row.address)).map_or(Value::Null, |state| json!(state.name()))),
             ("hello", known.map_or(Value::Null, |known| json!(known.said.split(": ").nth(1)))),
         ]
     };
@@ -290,26 +282,27 @@ fn interfaces(daemon: &mut Daemon) -> Result<Rows, Fatal> {
 }
 
 /// The compatibility mode of a group, and when its older hosts of that version expire (RFC 3376, 7.3.2).
-fn compatibility(older: Option<&OlderRow>) -> (Value, u64) {
+fn compatibility(older: Option<&OlderRow>) -> (Value, Option<u64>) {
     let row = match older {
         Some(row) => row,
-        None => return (json!("IGMPv3"), u64::MAX),
+        None => return (json!("IGMPv3"), None),
     };
     let version = Version::of_mode(row.mode);
     let end = match version {
         Version::One => row.one_end,
         Version::Two => row.two_end,
     };
-    (json!(version.to_string()), end.unwrap_or(u64::MAX))
+    (json!(version.to_string()), end)
 }
 
 fn igmp(daemon: &mut Daemon) -> Result<Rows, Fatal> {
     let now = daemon.now();
-    let (groups, sources) = (rows_of(daemon, Table::Groups)?, rows_of(daemon, Table::Sources)?);
+    let groups = daemon.core.rows_of::<GroupRow>()?;
+    let sources = daemon.core.rows_of::<SourceRow>()?;
     let older = daemon.core.older_rows()?;
     let older: BTreeMap<_, _> = older.iter().map(|row| ((row.iface, row.group), row)).collect();
-    let of_group = |row: &Row| {
-        let mode = if row.is_set { "exclude" } else { "include" };
+    let of_group = |row: &GroupRow| {
+        let mode = if row.is_exclude { "exclude" } else { "include" };
         let (version, older_end) = compatibility(older.get(&(row.iface, row.group)).copied());
         vec![
             ("interface", json!(daemon.name(row.iface))),
@@ -321,9 +314,8 @@ fn igmp(daemon: &mut Daemon) -> Result<Rows, Fatal> {
             ("older_expires_seconds", until(older_end, now)),
         ]
     };
-    let of_source = |row: &Row| {
-        // A source of a group in EXCLUDE that has no time is excluded.
-        let mode = if row.end == u64::MAX { "excluded" } else { "included" };
+    let of_source = |row: &SourceRow| {
+        let mode = if row.end.is_none() { "excluded" } else { "included" };
         vec![
             ("interface", json!(daemon.name(row.iface))),
             ("group", address(u32::from(row.group))),
@@ -334,7 +326,7 @@ fn igmp(daemon: &mut Daemon) -> Result<Rows, Fatal> {
             ("older_expires_seconds", Value::Null),
         ]
     };
-    let key = |row: &Row| (row.iface, u32::from(row.group), u32::from(row.source));
+    let key = |row: &SourceRow| (row.iface, u32::from(row.group), u32::from(row.source));
     let mut all: BTreeMap<_, _> =
         groups.iter().map(|row| ((row.iface, u32::from(row.group), 0), of_group(row))).collect();
     all.extend(sources.iter().map(|row| (key(row), of_source(row))));
@@ -356,7 +348,8 @@ type Asking = BTreeMap<(u32, u32), BTreeSet<u32>>;
 
 /// Hosts that the router serves: pim_include(*,G) and pim_include(S,G).
 fn asking_hosts(daemon: &mut Daemon) -> Result<Asking, Fatal> {
-    let (groups, sources) = (rows_of(daemon, Table::Groups)?, rows_of(daemon, Table::Sources)?);
+    let groups = daemon.core.rows_of::<GroupRow>()?;
+    let sources = daemon.core.rows_of::<SourceRow>()?;
     let mut asking = Asking::new();
     for row in &groups {
         let served = daemon.core.tree(row.group).map(|tree| tree.pim_include);
@@ -374,8 +367,9 @@ fn asking_hosts(daemon: &mut Daemon) -> Result<Asking, Fatal> {
 /// Routers that joined.
 fn asking_routers(daemon: &mut Daemon) -> Result<Asking, Fatal> {
     let mut asking = Asking::new();
-    for row in rows_of(daemon, Table::Downstream)?.iter().filter(|row| !row.is_rpt && row.state != PRUNED) {
-        asking.entry((u32::from(row.group), u32::from(row.source))).or_default().insert(row.iface);
+    for row in daemon.core.rows_of::<DownstreamRow>()?.iter().filter(|row| !row.is_rpt) {
+        let source = row.source.map_or(0, u32::from);
+        asking.entry((u32::from(row.group), source)).or_default().insert(row.iface);
     }
     Ok(asking)
 }
@@ -484,25 +478,25 @@ fn used(daemon: &Daemon) -> HashMap<Key, Used> {
 
 fn mroute(daemon: &mut Daemon) -> Result<Rows, Fatal> {
     let (used, now) = (used(daemon), daemon.now());
-    let active = rows_of(daemon, Table::Active)?;
+    let active = daemon.core.rows_of::<ActiveRow>()?;
     let states: BTreeMap<_, _> =
         active.iter().map(|row| ((u32::from(row.group), u32::from(row.source)), row)).collect();
-    let trees = rows_of(daemon, Table::Trees)?;
+    let trees = daemon.core.rows_of::<RptRow>()?;
     let pruned: BTreeSet<_> =
-        trees.iter().filter(|row| row.is_set).map(|row| (u32::from(row.group), u32::from(row.source))).collect();
+        trees.iter().filter(|row| row.is_pruned).map(|row| (u32::from(row.group), u32::from(row.source))).collect();
     let askers = Askers::read(daemon)?;
     let mut all = shared_trees(daemon, &askers);
     for (key, entry) in daemon.plane.entries() {
         let place = (u32::from(key.group), u32::from(key.source));
         let state = states.get(&place);
         let outgoing = leaving(daemon, entry);
-        let is_registering = state.map_or(false, |row| row.state == REGISTER_JOIN);
+        let is_registering = state.map_or(false, |row| row.register == Some(RegisterState::Joined));
         let flags = Flags {
             has_hosts: Askers::is_asked(&askers.hosts, place),
             is_sent: is_registering || !outgoing.is_empty(),
             is_pruned: pruned.contains(&place),
             is_registering,
-            has_spt_bit: state.map_or(false, |row| row.is_set),
+            has_spt_bit: state.map_or(false, |row| row.spt_bit),
         };
         let used = used.get(key);
         let cells = vec![
@@ -651,7 +645,7 @@ mod tests {
 
     #[test]
     fn a_moment_is_told_in_tenths_of_a_second() {
-        assert_eq!(until(12_345, 10_000), json!(2.3));
-        assert_eq!(until(u64::MAX, 10_000), Value::Null);
+        assert_eq!(until(Some(12_345), 10_000), json!(2.3));
+        assert_eq!(until(None, 10_000), Value::Null);
     }
 }

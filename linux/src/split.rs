@@ -7,7 +7,7 @@ use crate::packet::{address, is_pim, put_checksum, two, with_content, Packet, IG
 use std::fmt;
 use std::net::Ipv4Addr;
 use std::ops::Range;
-use viqeshor::Row;
+use viqeshor::DownstreamRow;
 
 const JOIN_PRUNE: u8 = 3;
 /// The PIM header, the upstream neighbour, a byte, the number of groups, the holdtime.
@@ -159,10 +159,8 @@ pub struct JoinKey {
 }
 
 impl JoinKey {
-    /// Of a row of the downstream table.
-    pub fn of_row(row: &Row) -> JoinKey {
-        let source = (!row.source.is_unspecified()).then_some(row.source);
-        JoinKey { group: row.group, source, is_rpt: row.is_rpt }
+    pub fn of_row(row: &DownstreamRow) -> JoinKey {
+        JoinKey { group: row.group, source: row.source, is_rpt: row.is_rpt }
     }
 }
 

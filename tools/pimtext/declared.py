@@ -13,11 +13,14 @@ ABI = TOP / "bindings" / "c" / "abi.txt"
 # What the crate's values are called in C.
 NAMES = {
     "Handle": "viq_core", "GivenInterface": "viq_interface", "GivenRoute": "viq_route", "GivenRange": "viq_range",
-    "GivenSettings": "viq_settings", "Packet": "viq_packet", "TableRow": "viq_row", "Interfaces": "viq_interfaces",
+    "GivenSettings": "viq_settings", "Packet": "viq_packet", "Interfaces": "viq_interfaces",
     "Forwarding": "viq_forwarding", "PlaneRow": "viq_plane_row", "OlderGroup": "viq_older_row",
     "NamedSource": "viq_source_group", "ToldNumber": "viq_number", "ToldHop": "viq_hop", "ToldPath": "viq_path",
     "ToldTree": "viq_tree", "ToldSourceTree": "viq_source_tree", "ToldQuerier": "viq_querier", "ToldLink": "viq_link",
-    "ToldLanDelay": "viq_lan_delay", "ToldNeighbour": "viq_neighbour",
+    "ToldLanDelay": "viq_lan_delay", "ToldNeighbour": "viq_neighbour", "NeighbourColumns": "viq_neighbour_row",
+    "GroupColumns": "viq_group_row", "SourceColumns": "viq_source_row", "DownstreamColumns": "viq_downstream_row",
+    "AssertColumns": "viq_assert_row", "UpstreamColumns": "viq_upstream_row", "RptColumns": "viq_rpt_row",
+    "ActiveColumns": "viq_active_row", "ToldRow": "viq_core_row",
 }
 # `Place` is a pointer beside what takes no room.
 TYPES = {"u8": "uint8_t", "u32": "uint32_t", "u64": "uint64_t", "usize": "size_t", "bool": "bool", "Place": "void *"}
@@ -34,7 +37,7 @@ C_NUMBER = re.compile(r"^#define (VIQ_(?:MOST|NEVER|NO|USUAL)\w*) (.+)$", re.M)
 
 def structs() -> dict[str, list[tuple[str, str]]]:
     """The crate's values that C sees: each with its fields, a name and a type of C."""
-    text = "".join((SOURCES / name).read_text() for name in ("handle.rt", "given.rt", "told.rt", "trees.rt"))
+    text = "".join((SOURCES / name).read_text() for name in ("handle.rt", "given.rt", "told.rt", "rows.rt", "trees.rt"))
     found = {name: FIELD.findall(body) for name, body in STRUCT.findall(text)}
     return {NAMES[name]: [(field, c_type(kind)) for field, kind in found[name]] for name in NAMES}
 
@@ -113,11 +116,24 @@ def fields_hold(name: str, fields: list[tuple[str, str]]) -> Iterator[str]:
         yield f'_Static_assert(__builtin_types_compatible_p({type_of}, {kind}), "type of {where}");'
 
 
+def row_members() -> list[tuple[str, str]]:
+    """The columns of each kind of row: a name and a type of C."""
+    return [field for field in structs()["viq_core_row"] if field[0] != "table"]
+
+
+def members_hold() -> Iterator[str]:
+    """Assertions of the union in a row: its members are the columns of each kind."""
+    for field, kind in row_members():
+        type_of = f"__typeof__(((struct viq_row *)0)->of.{field})"
+        yield f'_Static_assert(__builtin_types_compatible_p({type_of}, {kind}), "type of viq_row.of.{field}");'
+
+
 def assertions() -> str:
     """A C file that compiles where the headers declare what the crate does."""
     lines = ['#include "core.h"']
     for name, fields in structs().items():
         lines += fields_hold(name, fields)
+    lines += members_hold()
     for name, kind in calls():
         lines.append(f'_Static_assert(__builtin_types_compatible_p(__typeof__(&{name}), {kind}), "{name}");')
     return "\n".join([*lines, ""])

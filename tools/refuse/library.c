@@ -213,13 +213,33 @@ static int same(struct seen a, struct seen b) {
            a.answer == b.answer && a.copies == b.copies;
 }
 
+#define MIXED(sum, ...) mixed(sum, (uint64_t[]){__VA_ARGS__}, sizeof (uint64_t[]){__VA_ARGS__})
+
+static uint64_t columns_of(const struct viq_row *row, uint64_t sum) {
+    const struct viq_neighbour_row *neighbour = &row->of.neighbour;
+    const struct viq_group_row *group = &row->of.group;
+    const struct viq_source_row *source = &row->of.source;
+    const struct viq_downstream_row *join = &row->of.downstream;
+    const struct viq_assert_row *asserted = &row->of.asserted;
+    const struct viq_upstream_row *upstream = &row->of.upstream;
+    const struct viq_rpt_row *rpt = &row->of.rpt;
+    const struct viq_active_row *active = &row->of.active;
+    switch (row->table) {
+    case 'N': return MIXED(sum, neighbour->iface, neighbour->address, neighbour->end);
+    case 'G': return MIXED(sum, group->iface, group->group, group->is_exclude, group->end);
+    case 'S': return MIXED(sum, source->iface, source->group, source->source, source->end);
+    case 'D': return MIXED(sum, join->iface, join->group, join->source, join->is_rpt, join->state, join->end, join->pending);
+    case 'A': return MIXED(sum, asserted->iface, asserted->group, asserted->source, asserted->is_loser, asserted->winner, asserted->end);
+    case 'U': return MIXED(sum, upstream->group, upstream->source, upstream->next_join);
+    case 'R': return MIXED(sum, rpt->group, rpt->source, rpt->is_pruned);
+    case 'F': return MIXED(sum, active->group, active->source, active->keepalive, active->spt_bit, active->register_state);
+    }
+    return sum;
+}
+
 static uint64_t rows_of(const struct viq_router *router, uint64_t sum) {
     struct viq_row row;
-    for (size_t index = 0; viq_row(router, index, &row); index++) {
-        uint64_t words[] = {row.table, row.iface, row.group, row.source, row.winner, row.is_rpt,
-                            row.is_set, row.state, row.end, row.pending};
-        sum = mixed(sum, words, sizeof words);
-    }
+    for (size_t index = 0; viq_row(router, index, &row); index++) sum = columns_of(&row, MIXED(sum, row.table));
     return sum;
 }
 
@@ -304,10 +324,11 @@ static void find_sources(struct viq_router *router) {
     if (viq_read(router, 'F') != VIQ_DONE) return;
     for (size_t index = 0; viq_row(router, index, &row); index++) {
         size_t at = 0;
-        while (at < source_count && (sources[at].source != row.source || sources[at].group != row.group)) at++;
+        struct viq_active_row active = row.of.active;
+        while (at < source_count && (sources[at].source != active.source || sources[at].group != active.group)) at++;
         if (at < source_count || source_count == MOST_SOURCES) continue;
-        sources[source_count].source = row.source;
-        sources[source_count++].group = row.group;
+        sources[source_count].source = active.source;
+        sources[source_count++].group = active.group;
     }
 }
 

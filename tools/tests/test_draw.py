@@ -3,7 +3,8 @@ import re
 import shutil
 import unittest
 
-from pimtext import colours, scenario, story, toml_lines, trees
+from pimtext import colours, scenario, story, toml_lines
+from pimtext.known import known_after
 from tests import networks, stored
 
 draw = stored.tool("draw")

@@ -2,6 +2,7 @@
 compiled program and a library have to agree on has a number, which is another one wherever any of it changes. The
 headers stand beside FRR's."""
 import os
+import re
 import shutil
 import subprocess
 import tempfile
@@ -93,6 +94,7 @@ class Header(unittest.TestCase):
             ),
             ("header", "uint32_t prefix; /* with", "uint64_t prefix; /* with"),
             ("header", "    bool has_tunnel;                   /*", "    uint8_t has_tunnel;                /*"),
+            ("header", "        struct viq_rpt_row rpt; ", "        struct viq_source_row rpt; "),
             ("plane", "    bool is_known;  ", "    uint8_t is_known;  "),
         ]
         for where, old, new in changes:
@@ -100,6 +102,14 @@ class Header(unittest.TestCase):
                 text = getattr(self, where)
                 self.assertEqual(text.count(old), 1)
                 self.assertIn("static assertion failed", complaint(**{where: text.replace(old, new)}))
+
+    def test_each_kind_of_row_is_handed_on(self):
+        row = re.search(r"^struct viq_row \{\n(.*?)^\};", self.header, re.M | re.S)[1]
+        members = re.findall(r"struct viq_\w+ (\w+); +/\* ([A-Z]) \*/", row)
+        self.assertEqual([name for name, _ in members], [name for name, _ in declared.row_members()])
+        text = (declared.CORE.parent / "calls.c").read_text()
+        for name, letter in members:
+            self.assertIn(f"case '{letter}': row->of.{name} = told.{name}; break;", text)
 
     def test_fields_that_changed_places_are_found(self):
         low, high = (
@@ -134,6 +144,7 @@ class Abi(unittest.TestCase):
                 "struct viq_router *router, uint64_t iface, struct viq_draw draw);",
             ),
             ("    bool is_rpt; ", "    bool is_tree; "),
+            ("struct viq_rpt_row rpt; ", "struct viq_rpt_row tree; "),
         ):
             with self.subTest(new):
                 self.assertIn(old, header)

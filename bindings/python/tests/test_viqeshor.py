@@ -6,7 +6,7 @@ import unittest
 import weakref
 
 import viqeshor
-from viqeshor import Answer, Closed, Refused, Router, hosts
+from viqeshor import Answer, Closed, DownstreamRow, NeighbourRow, Refused, Router, hosts
 
 HELLO_ABOVE = "45C0001E000000000167CEAB0A000001E000000D2000DFFC00010002FFFF"
 HELLO_BELOW = "45C0001E000000000167CDAA0A000102E000000D2000DFFC00010002FFFF"
@@ -124,7 +124,7 @@ class Routers(unittest.TestCase):
         router, name = self.joined(), ("10.0.3.5", "225.1.1.1")
         router.frame(0, bytes.fromhex(DATA))
         self.assertEqual(router.keep(*name, 1000), Answer.DONE)
-        self.assertEqual([row.end for row in router.rows("F")], [211000])
+        self.assertEqual([row.keepalive for row in router.rows("F")], [211000])
         self.assertEqual((router.seen(0, *name), router.changed()), (Answer.DONE, []))
         self.assertEqual(router.seen(3, *name), Answer.BAD_INTERFACE)
 
@@ -190,11 +190,10 @@ class Routers(unittest.TestCase):
         router = self.joined()
         join, = router.rows("D")
         self.assertEqual(join, router.rows("D")[0])
-        self.assertEqual(
-            (join.table, join.group, join.source, join.winner, join.pending), ("D", "225.1.1.1", "10.0.3.5", None, None)
-        )
+        self.assertEqual(join, DownstreamRow(1, "225.1.1.1", "10.0.3.5", False, "join", join.end, None))
+        self.assertEqual((join.table, join.kind()), ("D", "sg"))
         above, below = router.rows("N")
-        self.assertEqual((above.group, above.source, above.end), (None, "10.0.0.1", None))
+        self.assertEqual([above, below], [NeighbourRow(0, "10.0.0.1", None), NeighbourRow(1, "10.0.1.2", None)])
         self.assertNotEqual(above, below)
 
     def test_time_passes_timer_by_timer(self):

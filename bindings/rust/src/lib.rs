@@ -28,21 +28,17 @@ use std::net::Ipv4Addr;
 use std::os::raw::{c_char, c_void};
 use std::ptr::{null_mut, NonNull};
 
+mod rows;
 mod trees;
 
+pub use rows::{
+    ActiveRow, AssertRow, DownstreamRow, DownstreamState, GroupRow, NeighbourRow, RegisterState, Row, RptRow,
+    SourceRow, TableRow, UpstreamRow,
+};
 pub use trees::{Hop, LanDelay, Link, Neighbour, Path, Querier, Querying, Rpf, RptState, SourceTree, Tree};
 
 /// The most bytes that a packet has.
 pub const MOST_BYTES: usize = 1528;
-/// The states of a row of the table of Joins.
-pub const JOINED: u32 = 1;
-pub const PRUNE_PENDING: u32 = 2;
-pub const PRUNED: u32 = 3;
-/// The states of the register in a row of an active source.
-pub const REGISTER_NONE: u32 = 0;
-pub const REGISTER_JOINED: u32 = 1;
-pub const REGISTER_JOIN_PENDING: u32 = 2;
-pub const REGISTER_PRUNED: u32 = 3;
 /// What this crate and the library have to agree on: `VIQ_ABI` of `viqeshor.h`.
 pub const ABI: u32 = 4;
 
@@ -422,51 +418,6 @@ impl Table {
     ];
 }
 
-/// A row of a table. What its kind of row doesn't have is 0, or `u64::MAX` for a time.
-#[derive(Clone, Copy, Debug, PartialEq, Eq)]
-pub struct Row {
-    /// The table's letter.
-    pub table: u32,
-    pub iface: u32,
-    pub group: Ipv4Addr,
-    /// 0.0.0.0 for (*,G); a neighbour's address.
-    pub source: Ipv4Addr,
-    /// Of an assert.
-    pub winner: Ipv4Addr,
-    pub is_rpt: bool,
-    pub is_set: bool,
-    /// Of a Join: `JOINED`, `PRUNE_PENDING` or `PRUNED`. Of an active source, its register's: `REGISTER_NONE` to
-    /// `REGISTER_PRUNED`.
-    pub state: u32,
-    /// In ms.
-    pub end: u64,
-    /// In ms.
-    pub pending: u64,
-}
-
-impl Default for Row {
-    fn default() -> Row {
-        Row::told(raw::Row::default())
-    }
-}
-
-impl Row {
-    fn told(of: raw::Row) -> Row {
-        Row {
-            table: of.table,
-            iface: of.iface,
-            group: of.group.into(),
-            source: of.source.into(),
-            winner: of.winner.into(),
-            is_rpt: of.is_rpt,
-            is_set: of.is_set,
-            state: of.state,
-            end: of.end,
-            pending: of.pending,
-        }
-    }
-}
-
 /// A group in an older mode on an interface: a host of IGMPv1 or IGMPv2 reported it.
 #[derive(Clone, Copy, Debug, PartialEq, Eq)]
 pub struct OlderRow {
@@ -630,21 +581,6 @@ mod raw {
 
     #[repr(C)]
     #[derive(Default)]
-    pub struct Row {
-        pub table: u32,
-        pub iface: u32,
-        pub group: u32,
-        pub source: u32,
-        pub winner: u32,
-        pub is_rpt: bool,
-        pub is_set: bool,
-        pub state: u32,
-        pub end: u64,
-        pub pending: u64,
-    }
-
-    #[repr(C)]
-    #[derive(Default)]
     pub struct OlderRow {
         pub iface: u32,
         pub group: u32,
@@ -697,7 +633,7 @@ extern "C" {
     fn viq_next_moment(router: *const c_void) -> u64;
     fn viq_read(router: *mut c_void, letter: u8) -> u32;
     fn viq_rows(router: *const c_void) -> usize;
-    fn viq_row(router: *const c_void, index: usize, row: *mut raw::Row) -> bool;
+    fn viq_row(router: *const c_void, index: usize, row: *mut rows::raw::Row) -> bool;
     fn viq_older(router: *mut c_void, iface: u32, hosts: u32) -> u32;
     fn viq_query_version(router: *mut c_void, iface: u32, version: u32) -> u32;
     fn viq_older_read(router: *mut c_void) -> u32;
@@ -951,6 +887,11 @@ impl Router {
         }
     }
 
+    /// The rows of the table of one kind of row, ascending by their keys.
+    pub fn rows_of<R: TableRow>(&mut self) -> Result<Vec<R>, Error> {
+        Ok(self.rows(R::TABLE)?.into_iter().filter_map(R::of).collect())
+    }
+
     /// The rows of the table that was read last.
     fn read_rows(&self) -> Vec<Row> {
         // SAFETY: the router is there.
@@ -959,9 +900,9 @@ impl Router {
     }
 
     fn row(&self, index: usize) -> Option<Row> {
-        let mut row = raw::Row::default();
-        // SAFETY: the router is there.
-        unsafe { viq_row(self.at(), index, &mut row) }.then(|| Row::told(row))
+        let mut row = rows::raw::Row::default();
+        // SAFETY: the router is there, and writes the member of the row's table where it answers that there is a row.
+        unsafe { viq_row(self.at(), index, &mut row).then(|| Row::told(&row)).flatten() }
     }
 
     /// How data of a source to a group is forwarded, as the forwarding cache has it; `None` where there is no fact of

@@ -1,8 +1,9 @@
 //! Each call of the crate once, and what it answers: a Join of 10.0.1.2 comes and a packet of its source, as in `examples/library`.
 use std::net::Ipv4Addr;
 use viqeshor::{
-    Error, Hop, Interface, Kind, OlderHosts, OlderRow, Querier, QueryVersion, Range, Reason, Refusal, Route, Router,
-    Rpf, RptState, Settings, Table, Verdict, JOINED,
+    ActiveRow, DownstreamRow, DownstreamState, Error, GroupRow, Hop, Interface, Kind, NeighbourRow, OlderHosts,
+    OlderRow, Querier, QueryVersion, Range, Reason, Refusal, Route, Router, Row, Rpf, RptState, Settings, Table,
+    UpstreamRow, Verdict,
 };
 
 const HELLO_ABOVE: &str = "45C0001E000000000167CEAB0A000001E000000D2000DFFC00010002FFFF";
@@ -107,8 +108,15 @@ fn what_the_router_knows() {
     let mut router = joined();
     let counts = Table::ALL.map(|table| router.rows(table).unwrap().len());
     assert_eq!(counts, [2, 0, 0, 1, 0, 1, 0, 0]);
-    let join = only(router.rows(Table::Downstream).unwrap());
-    assert_eq!((join.table, join.iface, join.group, join.state), (u32::from(b'D'), 1, address([225, 1, 1, 1]), JOINED));
+    let (source, group) = (address([10, 0, 3, 5]), address([225, 1, 1, 1]));
+    let (end, state) = (Some(5 + 1000), DownstreamState::Joined);
+    let join = DownstreamRow { iface: 1, group, source: Some(source), is_rpt: false, state, end, pending: None };
+    assert_eq!(router.rows(Table::Downstream), Ok(vec![Row::Downstream(join)]));
+    assert_eq!(router.rows_of(), Ok(vec![join]));
+    let upstream: UpstreamRow = only(router.rows_of().unwrap());
+    assert_eq!((upstream.group, upstream.source), (group, Some(source)));
+    let second = NeighbourRow { iface: 1, address: address([10, 0, 1, 2]), end: None };
+    assert_eq!(router.rows_of().unwrap().last(), Some(&second));
     assert!(router.next_moment().is_some());
 }
 
@@ -190,8 +198,8 @@ fn what_a_data_plane_tells() {
     let (source, group) = (address([10, 0, 3, 5]), address([225, 1, 1, 1]));
     assert_eq!(router.frame(0, &bytes_of(DATA), 0), DONE);
     assert_eq!(router.keep(source, group, 1000), Ok(true));
-    let active = only(router.rows(Table::Active).unwrap());
-    assert_eq!(active.end, 211_000);
+    let active = ActiveRow { group, source, keepalive: Some(211_000), spt_bit: true, register: None };
+    assert_eq!(router.rows_of(), Ok(vec![active]));
     assert_eq!(router.seen(0, source, group, 0), DONE);
     assert_eq!(router.changed(), []);
     assert_eq!(router.seen(3, source, group, 0), Err(Error::Refused(Refusal::BadInterface)));
@@ -311,7 +319,8 @@ fn hosts_of_older_versions() {
     assert_eq!(router.frame(1, &bytes_of(REPORT_OF_TWO), 0), DONE);
     let row = OlderRow { iface: 1, group, mode: 2, one_end: None, two_end: Some(260_000) };
     assert_eq!(router.older_rows(), Ok(vec![row]));
-    assert_eq!(only(router.rows(Table::Groups).unwrap()).group, group);
+    let row = GroupRow { iface: 1, group, is_exclude: true, end: Some(260_000) };
+    assert_eq!(router.rows_of(), Ok(vec![row]));
     assert_eq!(router.set_older_hosts(1, OlderHosts::VersionTwo), Ok(()));
     assert_eq!(router.older_rows(), Ok(vec![]));
     assert_eq!(router.set_query_version(1, QueryVersion::Two), Ok(()));

@@ -1,12 +1,11 @@
 -- The keys of what asks whether the router is the DR of an interface take all that a change of the DR there moves.
-use Rattle.std.proofs.Common.{◌≡◌, ◌==◌, ◌&&◌, ◌||◌, ℕ, Bool, true, false, not, cond, List, [], ◌∷◌, ◌++◌, filter, map, Option, Some, None, is_some, refl, sym, ap, subst, ◌∙◌, eq-eqb, eqb-true}
+use Rattle.std.proofs.Common.{◌≡◌, ◌==◌, ◌&&◌, ◌||◌, ℕ, Bool, true, false, cond, List, [], ◌∷◌, ◌++◌, filter, Option, Some, None, is_some, refl, sym, ap, subst, ◌∙◌, eq-eqb, eqb-true}
 use Rattle.std.proofs.lemmas.Bool.{or_left, or_right}
 use Rattle.std.proofs.lemmas.List.Folds.{list_any-append}
-use Rattle.std.specs.Cmp.{first_so, second_so}
+use Rattle.std.specs.Cmp.{second_so}
 use Rattle.std.specs.Cmp.Derive.{both_true}
-use Rattle.std.specs.List.{flat_map, list_all, list_any}
+use Rattle.std.specs.List.{list_all, list_any}
 use Rattle.std.specs.Option.{option_map_or}
-use Rattle.std.specs.Prelude.{if◌then◌else◌}
 use Rattle.pim_types.specs.declared.fact.GroupRecordRow.{GroupRecordRow}
 use Rattle.pim_types.specs.declared.fact.Key.{Key}
 use Rattle.pim_types.specs.declared.fact.SourceRecordRow.{SourceRecordRow}
@@ -24,7 +23,7 @@ use Rattle.pim_laws.proofs.TableLaws.{any_in_filter, any_of_map}
 use Rattle.pim_locality.specs.Locality.{touching}
 use Rattle.pim_locality.specs.Scopes.{reads}
 use Rattle.pim_locality.proofs.Asserts.{reads_itself}
-use Rattle.pim_locality.proofs.SameRows.{flags, flags_same}
+use Rattle.pim_locality.proofs.SameRows.{flags_same}
 use Rattle.pim_reach.proofs.FactsThere.{IsThere, each_is_there, group_there, in_each, some_source, source_there, unless_star}
 use Rattle.pim_adjacent.specs.Adjacent.{ServesAlike, dr_keys, has_link_dr, is_linked, is_touched_where_link_differs, keys_of_dr, linked_of_group, linked_sources, receiver_sources, receiver_stars}
 use Rattle.pim_adjacent.proofs.OneRow.{SetsOne, dr_elsewhere, dr_kept}

@@ -40,14 +40,13 @@ use Rattle.pim_types.specs.declared.fact.Key.{Key}
 use Rattle.pim_types.specs.declared.outcome.Emission.{Emission}
 use Rattle.pim_rows.specs.declared.table.Row.{Row}
 use Rattle.pim_rows.specs.declared.table.Table.{Table}
-use Rattle.pim_c.specs.Told.{answer_number, bytes_in, kept_number, name_of, no_interface_number, older_group_of, set_number, told_packet, row_of, written_into}
+use Rattle.pim_c.specs.Told.{answer_number, bytes_in, kept_number, name_of, no_interface_number, older_group_of, set_number, told_packet, written_into}
 use Rattle.pim_c.specs.declared.told.Forwarding.{Forwarding}
 use Rattle.pim_c.specs.declared.told.Interfaces.{Interfaces}
 use Rattle.pim_c.specs.declared.told.NamedSource.{NamedSource}
 use Rattle.pim_c.specs.declared.told.OlderGroup.{OlderGroup}
 use Rattle.pim_c.specs.declared.told.Packet.{Packet}
 use Rattle.pim_c.specs.declared.told.PlaneRow.{PlaneRow}
-use Rattle.pim_c.specs.declared.told.TableRow.{TableRow}
 
 -- What a session shows of a router that goes on from a state: nothing stands before it, and nothing is kept.
 abbrev pub restored_shown : State → ShownSession
@@ -251,10 +250,6 @@ abbrev pub PacketTold : Option Emission → Bool → Bool → Packet → Packet 
 PacketTold None is_copied is_there packet told room filled = (is_there ≡ false) × (told ≡ packet) × (filled ≡ room)
 PacketTold (Some emission) is_copied is_there packet told room filled =
     (is_there ≡ true) × (told ≡ told_packet emission is_copied) × (filled ≡ written_into room (bytes_in emission))
-
-abbrev pub RowTold : Option Row → Bool → TableRow → TableRow → Type 0
-RowTold None is_there row told = (is_there ≡ false) × (told ≡ row)
-RowTold (Some found) is_there row told = (is_there ≡ true) × (told ≡ row_of found)
 
 abbrev pub OlderTold : Option OlderRow → Bool → OlderGroup → OlderGroup → Type 0
 OlderTold None is_there row told = (is_there ≡ false) × (told ≡ row)

@@ -8,11 +8,7 @@ use Rattle.pim_types.specs.declared.outcome.Ignored.{Ignored}
 use Rattle.pim_types.specs.declared.outcome.Verdict.{Verdict}
 use Rattle.pim_ip.specs.declared.addr.Addr.{Addr}
 use Rattle.pim_types.specs.declared.config.IfaceId.{IfaceId}
-use Rattle.pim_types.specs.declared.fact.AssertRole.{AssertRole}
 use Rattle.pim_types.specs.declared.fact.Key.{Key}
-use Rattle.pim_rows.specs.declared.table.DownstreamState.{DownstreamState}
-use Rattle.pim_rows.specs.declared.table.RegisterName.{RegisterName}
-use Rattle.pim_rows.specs.declared.table.Row.{Row}
 use Rattle.pim_rows.specs.declared.table.Table.{Table}
 use Rattle.igmp_older.specs.declared.mode.Mode.{Mode}
 use Rattle.igmp_older.specs.declared.mode.OlderRow.{OlderRow}
@@ -21,7 +17,6 @@ use Rattle.igmp_older.specs.declared.setting.QueryVersion.{QueryVersion}
 use Rattle.pim_c.specs.declared.told.NamedSource.{NamedSource}
 use Rattle.pim_c.specs.declared.told.OlderGroup.{OlderGroup}
 use Rattle.pim_c.specs.declared.told.Packet.{Packet}
-use Rattle.pim_c.specs.declared.told.TableRow.{TableRow}
 
 -- The number that stands for a timestamp that doesn't exist.
 abbrev pub never : ℕ
@@ -119,66 +114,6 @@ name_of k = record { source = source_or_zero k.source; group = k.group.bits }
 abbrev pub iface_number : Option IfaceId → ℕ
 iface_number None = no_interface_number
 iface_number (Some iface) = iface.number
-
-abbrev pub downstream_number : DownstreamState → ℕ
-downstream_number DownstreamState.Join = 1
-downstream_number DownstreamState.PrunePending = 2
-downstream_number DownstreamState.Prune = 3
-
-abbrev pub register_number : Option RegisterName → ℕ
-register_number None = 0
-register_number (Some RegisterName.Join) = 1
-register_number (Some RegisterName.JoinPending) = 2
-register_number (Some RegisterName.Prune) = 3
-
-abbrev pub is_loser_role : AssertRole → Bool
-is_loser_role AssertRole.Winner = false
-is_loser_role AssertRole.Loser = true
-
-abbrev pub blank : ℕ → TableRow
-blank table = record {
-  table = table;
-  iface = 0;
-  group = 0;
-  source = 0;
-  winner = 0;
-  is_rpt = false;
-  is_set = false;
-  state = 0;
-  end = never;
-  pending = never;
-}
-
-abbrev pub keyed : ℕ → Key → TableRow
-keyed table k = record (blank table) {
-  iface = k.iface.number;
-  group = k.group.bits;
-  source = source_or_zero k.source;
-  is_rpt = k.rpt;
-}
-
-abbrev pub row_of : Row → TableRow
-row_of (Row.Neighbour iface address end) =
-    record (blank 78) { iface = iface.number; source = address.bits; end = unwrap_or end never }
-row_of (Row.Group iface group is_exclude end) =
-    record (blank 71) { iface = iface.number; group = group.bits; is_set = is_exclude; end = unwrap_or end never }
-row_of (Row.Source iface group source end) =
-    record (blank 83) { iface = iface.number; group = group.bits; source = source.bits; end = unwrap_or end never }
-row_of (Row.Downstream key state end pending) =
-    record (keyed 68 key) { state = downstream_number state; end = unwrap_or end never; pending = unwrap_or pending never }
-row_of (Row.Assert key role winner end) =
-    record (keyed 65 key) { is_set = is_loser_role role; winner = winner.bits; end = end }
-row_of (Row.Upstream group source next_join) =
-    record (blank 85) { group = group.bits; source = source_or_zero source; end = next_join }
-row_of (Row.Tree group source is_pruned) =
-    record (blank 82) { group = group.bits; source = source.bits; is_rpt = true; is_set = is_pruned }
-row_of (Row.Active group source keepalive spt register) = record (blank 70) {
-  group = group.bits;
-  source = source.bits;
-  is_set = spt;
-  state = register_number register;
-  end = unwrap_or keepalive never;
-}
 
 abbrev pub table_of_letter : ℕ → Option Table
 table_of_letter letter =

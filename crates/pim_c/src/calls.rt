@@ -6,7 +6,8 @@ ghost use Rattle.pim_model.specs.Judging.{last_moment};
 ghost use Rattle.pim_model.specs.Timers.{next_moment};
 ghost use Rattle.pim_offload.specs.Seen.{seen_event};
 ghost use Rattle.pim_types.specs.declared.event.EventKind.{EventKind};
-ghost use Rattle.pim_c.specs.Called.{CachedTold, Copied, HostsSetBy, KeepAnswered, Made, NameTold, OffloadTold, OlderRead, OlderTold, PacketTold, ReadBy, Restored, RowTold, Saved, Seen, Stepped, VersionSetBy, changed_in, copies_in, is_copy, may_differ_in, older_rows_in, packets_in, probes_in, rows_in, standing_in, touched_in};
+ghost use Rattle.pim_c.specs.Called.{CachedTold, Copied, HostsSetBy, KeepAnswered, Made, NameTold, OffloadTold, OlderRead, OlderTold, PacketTold, ReadBy, Restored, Saved, Seen, Stepped, VersionSetBy, changed_in, copies_in, is_copy, may_differ_in, older_rows_in, packets_in, probes_in, rows_in, standing_in, touched_in};
+ghost use Rattle.pim_c.specs.Rows.{RowTold};
 ghost use Rattle.pim_c.specs.Trees.{ValueTold, link_in, link_of, neighbour_in, neighbour_of, source_tree_in, source_tree_of, tree_in, tree_of};
 ghost use Rattle.pim_ifset.specs.Members.{iface_of};
 ghost use Rattle.pim_c.specs.Given.{config_of, given_event, range_of, route_of};
@@ -14,9 +15,10 @@ ghost use Rattle.pim_c.specs.Told.{never, older_hosts_of, query_version_of, tabl
 
 use crate::given::{self, GivenInterface, GivenRange, GivenRoute, GivenSettings};
 use crate::handle::Handle;
+use crate::rows::ToldRow;
 use crate::told::{
     self, Forwarding, LAST_MOMENT, MEMORY, MOMENT_FAR, NO_SETTING, NO_TABLE, NamedSource,
-    OlderGroup, Packet, PlaneRow, TableRow,
+    OlderGroup, Packet, PlaneRow,
 };
 use crate::trees::{ToldLink, ToldNeighbour, ToldSourceTree, ToldTree};
 use pim_intake::LentEvent;
@@ -234,7 +236,7 @@ pub extern "C" fn viq_core_row(
     alloc: Global,
     router: &mut Handle,
     index: usize,
-    row: &mut TableRow,
+    row: &mut ToldRow,
 ) -> bool
     ensures told { RowTold (slice_get (rows_in router.old.place.inside) index) result row.old row.new }
     ensures stays { router.new.place.inside ≡ router.old.place.inside }

@@ -17,21 +17,23 @@ ghost use Rattle.pim_offrow.specs.Shown.{TellsOffload};
 ghost use Rattle.pim_rested.specs.Resuming.{restore_test};
 ghost use Rattle.pim_saved.specs.Reading.{reading};
 ghost use Rattle.pim_c.specs.Told.{never};
-ghost use Rattle.pim_c.specs.Called.{AnswersTold, CachedTold, HostsSet, HostsSetFrom, SourceKept, SourceKeptFrom, Made, NameTold, OfferTold, OffloadTold, OlderRead, OlderReadFrom, OlderTold, PacketTold, Read, ReadFrom, Refused, Restored, RowTold, Saved, SavedFrom, Seen, SeenFrom, Stepped, SteppedFrom, VersionSet, VersionSetFrom, changed_in, copies_in, is_copy, lost, may_differ_in, new_shown, older_rows_in, packets_in, probes_in, refused_number, restored_shown, rows_in, standing_in, to_send, touched_in};
+ghost use Rattle.pim_c.specs.Rows.{RowTold};
+ghost use Rattle.pim_c.specs.Called.{AnswersTold, CachedTold, HostsSet, HostsSetFrom, SourceKept, SourceKeptFrom, Made, NameTold, OfferTold, OffloadTold, OlderRead, OlderReadFrom, OlderTold, PacketTold, Read, ReadFrom, Refused, Restored, Saved, SavedFrom, Seen, SeenFrom, Stepped, SteppedFrom, VersionSet, VersionSetFrom, changed_in, copies_in, is_copy, lost, may_differ_in, new_shown, older_rows_in, packets_in, probes_in, refused_number, restored_shown, rows_in, standing_in, to_send, touched_in};
 
 mod trees;
 
 use crate::place::Place;
+use crate::rows::{ToldRow, tell_row};
 use crate::told::{
     self, DONE, FAILED, Forwarding, MEMORY, NEVER, NO_ROUTER, NamedSource, OlderGroup, Packet,
-    PlaneRow, TableRow, answer_number, kept_number, loss_number, set_number,
+    PlaneRow, answer_number, kept_number, loss_number, set_number,
 };
 use igmp_older::{OlderHosts, OlderRow, QueryVersion};
 use pim_intake::LentEvent;
 use pim_mfc::CacheRow;
 use pim_offrow::Offered;
 use pim_router::RestoreRefusal;
-use pim_rows::{Row, Table};
+use pim_rows::Table;
 use pim_session::Session;
 use pim_types::{Addr, Config, Emission, Event, Fault, IfaceId, Refusal, SourceGroup};
 use std::alloc::{AllocError, Global};
@@ -404,7 +406,7 @@ impl Handle {
     }
 
     /// Reads one of the rows that were read, counted from 0.
-    pub fn row(&mut self, alloc: Global, index: usize, row: &mut TableRow) -> bool
+    pub fn row(&mut self, alloc: Global, index: usize, row: &mut ToldRow) -> bool
         ensures told { RowTold (slice_get (rows_in self.old.place.inside) index) result row.old row.new }
         ensures stays { self.new.place.inside ≡ self.old.place.inside }
     {
@@ -511,19 +513,6 @@ fn tell_packet(
         Some(emission) => {
             *packet = told::outline(emission, is_copy(sent, copies, index));
             told::write(room, told::bytes(emission));
-            true
-        }
-        None => false,
-    }
-}
-
-// Writes out one of the rows, if it exists.
-fn tell_row(rows: &[Row], index: usize, row: &mut TableRow) -> bool
-    ensures { RowTold (slice_get rows.now index) result row.old row.new }
-{
-    match rows.get(index) {
-        Some(found) => {
-            *row = told::row(found);
             true
         }
         None => false,

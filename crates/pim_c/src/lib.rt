@@ -7,5 +7,6 @@ pub mod given;
 pub mod handle;
 pub mod place;
 pub mod pointed;
+pub mod rows;
 pub mod told;
 pub mod trees;

@@ -11,15 +11,13 @@ ghost use Rattle.pim_offload.specs.Offered.{Offered as OfferedValue};
 ghost use Rattle.pim_offrow.specs.Shown.{ShowsOffered};
 ghost use Rattle.pim_world.specs.Shown.{Shows};
 ghost use Rattle.pim_c.specs.Called.{forwarding_of, interface_bits, plane_row_of};
-ghost use Rattle.pim_c.specs.Told.{answer_number, bytes_in, downstream_number, iface_number, ignored_number, kept_number, link_kind, loss_number, mode_number, name_of, older_group_of, older_hosts_of, query_version_of, set_number, told_packet, register_number, row_of, source_or_zero, table_of_letter, verdict_number, written_into};
+ghost use Rattle.pim_c.specs.Told.{answer_number, bytes_in, iface_number, ignored_number, kept_number, link_kind, loss_number, mode_number, name_of, older_group_of, older_hosts_of, query_version_of, set_number, told_packet, table_of_letter, verdict_number, written_into};
 
 use igmp_older::{Mode, OlderHosts, OlderRow, QueryVersion};
 use pim_ifset::IfSet;
 use pim_mfc::CacheRow;
 use pim_offrow::Offered;
-use pim_rows::table::{DownstreamState, RegisterName};
-use pim_rows::{Row, Table};
-use pim_types::fact::AssertRole;
+use pim_rows::Table;
 use pim_types::{Addr, Emission, Fault, IfaceId, Ignored, Refusal, SourceGroup, Verdict};
 
 /// The event was accepted and done.
@@ -215,206 +213,12 @@ pub fn write(room: &mut [u8], bytes: &[u8])
     }
 }
 
-/// A row of a table. A column that its kind of row doesn't have is 0, or `NEVER` for a timestamp.
-#[repr(C)]
-#[derive(Drop)]
-pub struct TableRow {
-    /// The letter of its table.
-    pub table: u32,
-    pub iface: u32,
-    pub group: u32,
-    /// Of an upstream or downstream state, or an assert: 0 for (*,G). Of a neighbour: its address.
-    pub source: u32,
-    /// The winner of an assert.
-    pub winner: u32,
-    pub is_rpt: bool,
-    /// What is true of a group record in EXCLUDE mode, of an assert that the router lost, of a source that is pruned
-    /// off the shared tree, and of a source with SPTbit.
-    pub is_set: bool,
-    /// The state. Downstream: 1 Joined, 2 Prune-Pending, 3 Pruned. Register: 1 Join, 2 Join-Pending, 3 Prune.
-    pub state: u32,
-    /// When the row's timer expires, in ms.
-    pub end: u64,
-    /// When the Prune-Pending timer expires, in ms.
-    pub pending: u64,
-}
-
-fn source_or_zero(source: Option<Addr>) -> u32
-    ensures { result ≡ source_or_zero source }
-{
-    match source {
-        Some(address) => address.bits,
-        None => 0,
-    }
-}
-
 fn iface_number(iface: Option<IfaceId>) -> u32
     ensures { result ≡ iface_number iface }
 {
     match iface {
         Some(iface) => iface.number,
         None => NO_INTERFACE,
-    }
-}
-
-fn downstream_number(state: DownstreamState) -> u32
-    ensures { result ≡ downstream_number state }
-{
-    match state {
-        DownstreamState::Join => 1,
-        DownstreamState::PrunePending => 2,
-        DownstreamState::Prune => 3,
-    }
-}
-
-fn register_number(register: Option<RegisterName>) -> u32
-    ensures { result ≡ register_number register }
-{
-    match register {
-        None => 0,
-        Some(RegisterName::Join) => 1,
-        Some(RegisterName::JoinPending) => 2,
-        Some(RegisterName::Prune) => 3,
-    }
-}
-
-// The letter of the table that a row is of.
-
-fn letter(row: &Row) -> u8
-    ensures { result ≡ (row_of row.now).table }
-{
-    match *row {
-        Row::Neighbour { .. } => b'N',
-        Row::Group { .. } => b'G',
-        Row::Source { .. } => b'S',
-        Row::Downstream { .. } => b'D',
-        Row::Assert { .. } => b'A',
-        Row::Upstream { .. } => b'U',
-        Row::Tree { .. } => b'R',
-        Row::Active { .. } => b'F',
-    }
-}
-
-fn iface(row: &Row) -> u32
-    ensures { result ≡ (row_of row.now).iface }
-{
-    match *row {
-        Row::Neighbour { iface, .. } | Row::Group { iface, .. } | Row::Source { iface, .. } => {
-            iface.number
-        }
-        Row::Downstream { key, .. } | Row::Assert { key, .. } => key.iface.number,
-        Row::Upstream { .. } | Row::Tree { .. } | Row::Active { .. } => 0,
-    }
-}
-
-fn group(row: &Row) -> u32
-    ensures { result ≡ (row_of row.now).group }
-{
-    match *row {
-        Row::Neighbour { .. } => 0,
-        Row::Downstream { key, .. } | Row::Assert { key, .. } => key.group.bits,
-        Row::Group { group, .. }
-        | Row::Source { group, .. }
-        | Row::Upstream { group, .. }
-        | Row::Tree { group, .. }
-        | Row::Active { group, .. } => group.bits,
-    }
-}
-
-fn source(row: &Row) -> u32
-    ensures { result ≡ (row_of row.now).source }
-{
-    match *row {
-        Row::Neighbour { address, .. } => address.bits,
-        Row::Group { .. } => 0,
-        Row::Downstream { key, .. } | Row::Assert { key, .. } => source_or_zero(key.source),
-        Row::Upstream { source, .. } => source_or_zero(source),
-        Row::Source { source, .. } | Row::Tree { source, .. } | Row::Active { source, .. } => {
-            source.bits
-        }
-    }
-}
-
-fn winner(row: &Row) -> u32
-    ensures { result ≡ (row_of row.now).winner }
-{
-    match *row {
-        Row::Assert { winner, .. } => winner.bits,
-        _ => 0,
-    }
-}
-
-fn is_rpt(row: &Row) -> bool
-    ensures { result ≡ (row_of row.now).is_rpt }
-{
-    match *row {
-        Row::Downstream { key, .. } | Row::Assert { key, .. } => key.rpt,
-        Row::Tree { .. } => true,
-        _ => false,
-    }
-}
-
-fn is_set(row: &Row) -> bool
-    ensures { result ≡ (row_of row.now).is_set }
-{
-    match *row {
-        Row::Group { is_exclude, .. } => is_exclude,
-        Row::Assert { role, .. } => matches!(role, AssertRole::Loser),
-        Row::Tree { is_pruned, .. } => is_pruned,
-        Row::Active { spt, .. } => spt,
-        _ => false,
-    }
-}
-
-fn state(row: &Row) -> u32
-    ensures { result ≡ (row_of row.now).state }
-{
-    match *row {
-        Row::Downstream { state, .. } => downstream_number(state),
-        Row::Active { register, .. } => register_number(register),
-        _ => 0,
-    }
-}
-
-fn end(row: &Row) -> u64
-    ensures { result ≡ (row_of row.now).end }
-{
-    match *row {
-        Row::Neighbour { end, .. }
-        | Row::Group { end, .. }
-        | Row::Source { end, .. }
-        | Row::Downstream { end, .. } => end.unwrap_or(NEVER),
-        Row::Assert { end, .. } => end,
-        Row::Upstream { next_join, .. } => next_join,
-        Row::Tree { .. } => NEVER,
-        Row::Active { keepalive, .. } => keepalive.unwrap_or(NEVER),
-    }
-}
-
-fn pending(row: &Row) -> u64
-    ensures { result ≡ (row_of row.now).pending }
-{
-    match *row {
-        Row::Downstream { pending, .. } => pending.unwrap_or(NEVER),
-        _ => NEVER,
-    }
-}
-
-/// A row as C reads it, column by column.
-pub fn row(row: &Row) -> TableRow
-    ensures { result ≡ row_of row.now }
-{
-    TableRow {
-        table: u32::from(letter(row)),
-        iface: iface(row),
-        group: group(row),
-        source: source(row),
-        winner: winner(row),
-        is_rpt: is_rpt(row),
-        is_set: is_set(row),
-        state: state(row),
-        end: end(row),
-        pending: pending(row),
     }
 }
 

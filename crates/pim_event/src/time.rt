@@ -1,6 +1,6 @@
 //! Time that passes: timers expire one after the other, and what follows of each is settled before the next.
 ghost use Rattle.std.specs.List.Sorted.{IsStrictlySortedBy};
-ghost use Rattle.std.specs.Prelude.{◌≡◌, ◌≤◌, ◌^◌, ◌++◌, [], IfOk, IfSome, IsOkUnless, OnOk, option_map, true};
+ghost use Rattle.std.specs.Prelude.{◌≡◌, ◌≤◌, ◌^◌, ◌++◌, [], IfOk, IfSome, IsOkUnless, OnOk, if◌then◌else◌, option_map, true};
 ghost use Rattle.pim_fanout.specs.Disturbed.{joined};
 ghost use Rattle.pim_fanout.specs.Laws.{names_of};
 ghost use Rattle.pim_fanout.specs.Refreshing.{touches, touches_in};
@@ -244,7 +244,13 @@ fn fire_once(
     let moves_dr = end_moves_dr(world, due.1);
     let mut last = None;
     let names = fire_world(world, turn, meter, due, &touched, emissions, &mut last)?;
-    cache.refresh(world, meter, names, disturbed_where(moves_dr, touched), &last)?;
+    cache.refresh(
+        world,
+        meter,
+        names,
+        disturbed_where(moves_dr, touched),
+        &last,
+    )?;
     Ok(())
 }
 

@@ -1,8 +1,8 @@
 //! The lines of printed tables.
 use igmp_older::{Mode, OlderRow};
-use pim_types::fact::AssertRole;
 use pim_rows::Row;
 use pim_rows::table::{DownstreamState, RegisterName};
+use pim_types::fact::AssertRole;
 use pim_types::{Addr, IfaceId, Key};
 use std::fmt;
 

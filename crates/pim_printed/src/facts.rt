@@ -3,11 +3,11 @@ ghost use Rattle.std.specs.Prelude.{◌≡◌, IfOk, map};
 ghost use Rattle.pim_rows.specs.Printed.{active_line, register_name, upstream_line};
 
 use crate::line::Printed;
-use pim_store::JoinTimerRows;
-use pim_types::fact::{RegisterRow, RegisterState, SourceRow};
 use pim_rows::Row;
 use pim_rows::table::RegisterName;
+use pim_store::JoinTimerRows;
 use pim_types::Key;
+use pim_types::fact::{RegisterRow, RegisterState, SourceRow};
 use pim_world::World;
 use std::alloc::{AllocError, Global};
 use std::collections::btree_map::Iter;

@@ -4,12 +4,12 @@ ghost use Rattle.pim_rows.specs.Printed.{assert_line, downstream_line, downstrea
 ghost use Rattle.pim_types.specs.declared.fact.Key.{Key};
 ghost use Rattle.pim_rows.specs.declared.table.Row.{Row};
 
-use pim_types::fact::{
-    AssertRow, DownstreamRow, GroupRecordRow, JoinTimerRow, NeighbourRow, SourceRecordRow,
-};
 use pim_rows::Row;
 use pim_rows::table::DownstreamState;
 use pim_types::Key;
+use pim_types::fact::{
+    AssertRow, DownstreamRow, GroupRecordRow, JoinTimerRow, NeighbourRow, SourceRecordRow,
+};
 
 /// A fact whose row in its printed table depends only on its key and itself.
 pub trait Printed {

@@ -4,8 +4,8 @@ ghost use Rattle.pim_rows.specs.Printed.{rows};
 
 use crate::facts::{active, lines, timer_lines};
 use crate::trees::trees;
-use pim_trie::Meter;
 use pim_rows::{Row, Table};
+use pim_trie::Meter;
 use pim_world::World;
 use std::alloc::{AllocError, Global};
 

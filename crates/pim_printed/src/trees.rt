@@ -6,8 +6,8 @@ ghost use Rattle.pim_rows.specs.Printed.{tree_line, tree_lines};
 ghost use Rattle.pim_printed.specs.Trees.{lines_of_group};
 
 use pim_macros::{SourceSight, StarSight};
-use pim_trie::Meter;
 use pim_rows::Row;
+use pim_trie::Meter;
 use pim_types::{Addr, TreeState};
 use pim_world::World;
 use std::alloc::{AllocError, Global};

@@ -56,12 +56,13 @@ fn follow(
     ensures sent { IfOk result (λ sent. sent.items ≡ (replaced world.old (config_of next) turn.old.draw).1) }
     ensures fault { IsOkUnless result Fault.Memory }
 {
-    let gathered = Gathered::of(world, turn.alloc, &Touched::All, meter)?;
+    let gathered = Gathered::of(world, turn.alloc, &Touched::All, None, meter)?;
     reconfigure(world, turn, meter, next)?;
     // For the proof: asserts, sources and registers are under keys of their kind.
     world.recall_keyed();
     let mut sent = Vec::new(turn.alloc);
-    settle(world, turn, meter, &gathered, &mut sent)?;
+    let mut last = None;
+    settle(world, turn, meter, &gathered, &mut sent, &mut last)?;
     Ok(sent)
 }
 
@@ -114,7 +115,7 @@ pub(crate) fn replace(
     add_sources(&mut names, world)?;
     let sent = follow(world, turn, meter, next)?;
     add_sources(&mut names, world)?;
-    cache.refresh(world, meter, Series::from_vec(names), Touched::All)?;
+    cache.refresh(world, meter, Series::from_vec(names), Touched::All, &None)?;
     cache.list_once();
     Ok(sent)
 }

@@ -52,8 +52,7 @@ use pim_mfc::CacheRow;
 use pim_offrow::Offered;
 use pim_rows::{Row, Table};
 use pim_types::{
-    Addr, Config, Emission, Event, Fault, IfaceId, Outcome, Refusal, SourceGroup,
-    Verdict,
+    Addr, Config, Emission, Event, Fault, IfaceId, Outcome, Refusal, SourceGroup, Verdict,
 };
 use pim_world::World;
 use std::alloc::{AllocError, Global};

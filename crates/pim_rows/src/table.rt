@@ -1,6 +1,6 @@
 //! The rows of printed tables.
-use pim_types::{Addr, IfaceId, Key};
 use pim_types::fact::AssertRole;
+use pim_types::{Addr, IfaceId, Key};
 
 /// A table of facts as it is printed, by the letter of its lines.
 #[derive(Clone, Copy)]

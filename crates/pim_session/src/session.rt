@@ -43,9 +43,7 @@ use pim_mfc::CacheRow;
 use pim_offrow::Offered;
 use pim_router::{RestoreRefusal, Router};
 use pim_rows::{Row, Table};
-use pim_types::{
-    Addr, Config, Emission, Fault, IfaceId, Refusal, SourceGroup, Verdict,
-};
+use pim_types::{Addr, Config, Emission, Fault, IfaceId, Refusal, SourceGroup, Verdict};
 use std::alloc::Global;
 use std::marker::Model;
 use std::mem;

@@ -7,7 +7,6 @@ pub mod hellos;
 mod members;
 mod parts;
 pub mod querying;
-mod reconfigured;
 pub mod routes;
 pub mod sending;
 pub mod settings;

@@ -1,9 +1,10 @@
-//! The whole state: how it begins, the tables in it that are borrowed, and the limit on facts.
+//! The whole state: how it begins, the tables in it that are borrowed, the limit on facts, and another configuration.
 ghost use Rattle.std.specs.Borrow.{sem};
-ghost use Rattle.std.specs.Prelude.{◌≡◌, ◌<◌, ◌≤◌, ◌^◌, Ok, Err, OnOk, IfOk, IfErr};
+ghost use Rattle.std.specs.List.{list_all};
+ghost use Rattle.std.specs.Prelude.{◌≡◌, ◌<◌, ◌≤◌, ◌^◌, Ok, Err, OnOk, IfOk, IfErr, length, nat_lt, true};
 ghost use Rattle.pim_ip.specs.declared.fault.Fault.{Fault};
 ghost use Rattle.pim_ip.specs.declared.refusal.Refusal.{Refusal};
-ghost use Rattle.pim_types.specs.Keys.{iface_key};
+ghost use Rattle.pim_types.specs.Keys.{iface_in, iface_key};
 ghost use Rattle.pim_model.specs.Full.{counted, passes_limit};
 ghost use Rattle.pim_model.specs.Limits.{config_test};
 ghost use Rattle.pim_model.specs.State.{iface_count, interfaces_of, my_address, opening};
@@ -12,6 +13,7 @@ ghost use Rattle.pim_store.specs.PimTables.{pim_tables};
 ghost use Rattle.pim_world.specs.Configurations.{without_facts};
 ghost use Rattle.pim_world.specs.Lending.{LendsMembership, LendsStore, membership_tables};
 
+use crate::parts::elected;
 use crate::settings::{settings_of, test_settings};
 use pim_ifaces::Interfaces;
 use pim_ifset::IfSet;
@@ -243,5 +245,33 @@ impl World {
         ensures { OnOk result (self.new ≡ record self.old { interfaces = put self.old.interfaces (iface_key iface.number) row }) }
     {
         self.interfaces.set_up(iface, row)
+    }
+
+    /// Takes the settings, the configured interfaces and the routes of another world in the place of its own, each
+    /// interface that is up being one that the other has. All facts stay. The table that comes back has the RP ranges of
+    /// the other.
+    pub fn reconfigure(&mut self, other: World) -> Mrib
+        requires below { list_all (λ e. nat_lt (iface_in e.0) (length other.configured)) self.old.interfaces ≡ true }
+        ensures new { self.new ≡ record self.old {
+          settings = other.settings;
+          configured = other.configured;
+          routes = other.routes;
+        } }
+        ensures back { result.ranges ≡ other.ranges }
+    {
+        let World {
+            settings,
+            present: _,
+            interfaces,
+            mrib,
+            neighbours: _,
+            dr: _,
+            membership: _,
+            store: _,
+        } = other;
+        self.interfaces.reconfigure(interfaces);
+        self.dr = elected(&self.interfaces, &self.neighbours);
+        self.settings = settings;
+        self.mrib.take_routes(mrib)
     }
 }

@@ -12,6 +12,7 @@ use std::collections::VecDeque;
 use std::io;
 use std::os::unix::io::RawFd;
 use std::rc::Rc;
+use viqeshor::GroupRow;
 
 /// What a machine has, and what was asked of it.
 #[derive(Default)]
@@ -403,7 +404,7 @@ fn a_program_on_the_router_is_heard() {
         other => panic!("{other:?} is no report"),
     };
     happens(&mut daemon, &fake, (Source::OwnReports, kernel::Event::OwnReport(own)));
-    let groups = daemon.core.rows(Table::Groups).expect("it tells");
+    let groups = daemon.core.rows_of::<GroupRow>().expect("it tells");
     assert_eq!(groups.iter().map(|row| (row.iface, row.group)).collect::<Vec<_>>(), [(1, Ipv4Addr::new(239, 1, 1, 1))]);
     assert_eq!(daemon.counters.own_reports, 1);
 }

@@ -3,18 +3,18 @@ use super::*;
 use crate::packet::{put_checksum, with_content, PIM};
 use crate::settings::Subnet;
 use std::cell::Cell;
-use viqeshor::OlderHosts;
+use viqeshor::{DownstreamState, OlderHosts};
 
 /// A router that holds some rows.
 #[derive(Default)]
 struct Holds {
-    rows: Vec<(Table, Row)>,
+    rows: Vec<Row>,
     now: Cell<u64>,
 }
 
 impl Books for Holds {
     fn rows(&mut self, table: Table) -> Vec<Row> {
-        self.rows.iter().filter(|(its, _)| *its == table).map(|(_, row)| *row).collect()
+        self.rows.iter().filter(|row| table_of(row) == table).copied().collect()
     }
 
     fn now(&self) -> u64 {
@@ -71,8 +71,53 @@ fn join(from: u8, groups: &[u8]) -> Vec<u8> {
     packet(PIM, from, [224, 0, 0, 13], &content)
 }
 
-fn row(table: Table, source: [u8; 4], group: [u8; 4]) -> (Table, Row) {
-    (table, Row { source: source.into(), group: group.into(), ..Row::default() })
+fn table_of(row: &Row) -> Table {
+    match row {
+        Row::Neighbour(_) => Table::Neighbours,
+        Row::Group(_) => Table::Groups,
+        Row::Source(_) => Table::Sources,
+        Row::Downstream(_) => Table::Downstream,
+        Row::Assert(_) => Table::Asserts,
+        _ => panic!("no policy reads {row:?}"),
+    }
+}
+
+// Rows of the first interface, of group 239.1.1.x.
+
+fn neighbour(address: [u8; 4]) -> Row {
+    Row::Neighbour(NeighbourRow { iface: 0, address: address.into(), end: None })
+}
+
+fn group(last: [u8; 2]) -> Row {
+    Row::Group(GroupRow { iface: 0, group: [239, 1, last[0], last[1]].into(), is_exclude: true, end: Some(9_000) })
+}
+
+fn source(address: [u8; 4], last: u8) -> Row {
+    let (group, source) = ([239, 1, 1, last].into(), address.into());
+    Row::Source(SourceRow { iface: 0, group, source, end: Some(9_000) })
+}
+
+fn joined(last: u8) -> Row {
+    Row::Downstream(DownstreamRow {
+        iface: 0,
+        group: [239, 1, 1, last].into(),
+        source: None,
+        is_rpt: false,
+        state: DownstreamState::Joined,
+        end: Some(9_000),
+        pending: None,
+    })
+}
+
+fn asserted(source: [u8; 4], last: u8) -> Row {
+    Row::Assert(AssertRow {
+        iface: 0,
+        group: [239, 1, 1, last].into(),
+        source: Some(source.into()),
+        is_loser: true,
+        winner: [10, 5, 0, 2].into(),
+        end: 9_000,
+    })
 }
 
 #[test]
@@ -81,7 +126,7 @@ fn a_quota_of_groups_takes_what_is_known_and_cuts_the_rest() {
     let mut books = Holds::default();
     let known = report(&[([1, 1], &[]), ([1, 2], &[])]);
     assert_eq!(it.frame(&mut books, 0, &known), Some(known.clone()));
-    books.rows = vec![row(Table::Groups, [0; 4], [239, 1, 1, 1]), row(Table::Groups, [0; 4], [239, 1, 1, 2])];
+    books.rows = vec![group([1, 1]), group([1, 2])];
     assert_eq!(it.frame(&mut books, 0, &report(&[([1, 3], &[])])), None);
     let mixed = report(&[([1, 1], &[]), ([1, 3], &[]), ([1, 2], &[])]);
     assert_eq!(it.frame(&mut books, 0, &mixed), Some(known.clone()));
@@ -101,7 +146,7 @@ fn a_quota_of_sources_is_of_one_group() {
     let mut books = Holds::default();
     let two = report(&[([1, 1], &[1, 2])]);
     assert_eq!(it.frame(&mut books, 0, &two), Some(two.clone()));
-    books.rows = [1, 2].map(|last| row(Table::Sources, [10, 1, 0, last], [239, 1, 1, 1])).to_vec();
+    books.rows = [1, 2].map(|last| source([10, 1, 0, last], 1)).to_vec();
     assert_eq!(it.frame(&mut books, 0, &report(&[([1, 1], &[3])])), None);
     let other = report(&[([1, 2], &[3])]);
     assert_eq!(it.frame(&mut books, 0, &other), Some(other));
@@ -115,7 +160,7 @@ fn room_stays_for_neighbours() {
     let mut books = Holds::default();
     for last in 0..20 {
         if it.frame(&mut books, 0, &report(&[([7, last], &[])])).is_some() {
-            books.rows.push(row(Table::Groups, [0; 4], [239, 1, 7, last]));
+            books.rows.push(group([7, last]));
         }
     }
     assert_eq!((books.rows.len(), it.refusals.of(Cause::Reserve)), (14, 6));
@@ -144,7 +189,7 @@ fn neighbours_are_counted_and_told_apart() {
     assert_eq!(it.refusals.of(Cause::NotBelieved), 2);
     let mut few = policy(1_000, InterfacePolicy { max_neighbours: 1, ..InterfacePolicy::default() });
     assert!(few.frame(&mut books, 0, &hello(3)).is_some());
-    books.rows = vec![row(Table::Neighbours, [10, 5, 0, 3], [0; 4])];
+    books.rows = vec![neighbour([10, 5, 0, 3])];
     assert_eq!(few.frame(&mut books, 0, &hello(4)), None);
     assert!(few.frame(&mut books, 0, &hello(3)).is_some());
     assert_eq!(few.refusals.of(Cause::Neighbours), 1);
@@ -179,7 +224,7 @@ fn a_quota_of_joins_takes_what_is_known() {
     let mut it = policy(1_000, InterfacePolicy { max_joins: 2, ..InterfacePolicy::default() });
     let mut books = Holds::default();
     assert_eq!(it.frame(&mut books, 0, &join(2, &[1, 2])), Some(join(2, &[1, 2])));
-    books.rows = [1, 2].map(|last| row(Table::Downstream, [0; 4], [239, 1, 1, last])).to_vec();
+    books.rows = [1, 2].map(joined).to_vec();
     assert_eq!(it.frame(&mut books, 0, &join(2, &[1, 3, 2])), Some(join(2, &[1, 2])));
     // What goes to another router, or ends, is none of it.
     let mut to_another = join(2, &[4]);
@@ -198,8 +243,7 @@ fn asserts_share_the_quota_of_joins() {
     };
     assert!(it.frame(&mut books, 0, &join(2, &[1])).is_some());
     assert_eq!(it.frame(&mut books, 0, &assert(1)), Some(assert(1)));
-    books.rows =
-        vec![row(Table::Downstream, [0; 4], [239, 1, 1, 1]), row(Table::Asserts, [10, 1, 0, 50], [239, 1, 1, 1])];
+    books.rows = vec![joined(1), asserted([10, 1, 0, 50], 1)];
     assert_eq!((it.frame(&mut books, 0, &assert(2)), it.frame(&mut books, 0, &join(2, &[2]))), (None, None));
     assert_eq!(it.frame(&mut books, 0, &assert(1)), Some(assert(1)));
     assert_eq!(it.refusals.of(Cause::Joins), 2);
@@ -271,7 +315,7 @@ fn reports_of_older_hosts_share_the_quota_of_groups() {
     let mut books = Holds::default();
     let first = [older(REPORT_TWO, [239, 1, 1, 1]), report(&[([1, 2], &[])])];
     assert_eq!(pass(&mut it, &mut books, first), [true; 2]);
-    books.rows = [1, 2].map(|last| row(Table::Groups, [0; 4], [239, 1, 1, last])).to_vec();
+    books.rows = [1, 2].map(|last| group([1, last])).to_vec();
     let more = [older(REPORT_ONE, [239, 1, 1, 3]), older(REPORT_TWO, [239, 1, 1, 4])];
     assert_eq!(pass(&mut it, &mut books, more), [false; 2]);
     let again = [older(REPORT_ONE, [239, 1, 1, 2]), report(&[([1, 1], &[])])];

@@ -1,5 +1,5 @@
 //! Joins and asserts, and the ways to RPs and sources.
-use super::{address, is_here, rows_of, seconds, until, way, Cells, Rows};
+use super::{address, is_here, seconds, until, way, Cells, Rows};
 use crate::daemon::Daemon;
 use crate::error::Fatal;
 use crate::mroute::Key;
@@ -7,52 +7,55 @@ use crate::routes::longest_route;
 use serde_json::{json, Value};
 use std::collections::{BTreeMap, BTreeSet};
 use std::net::Ipv4Addr;
-use viqeshor::{Hop, Path, Row, Rpf, SourceTree, Table, Tree, JOINED, PRUNED, PRUNE_PENDING};
+use viqeshor::{
+    ActiveRow, AssertRow, DownstreamRow, DownstreamState, Hop, Path, Rpf, RptRow, SourceTree, Tree, UpstreamRow,
+};
 
-/// Of a row of Joins.
-pub fn kind(row: &Row) -> &'static str {
-    match (row.source.is_unspecified(), row.is_rpt) {
-        (true, _) => "*,G",
-        (false, true) => "S,G,rpt",
-        (false, false) => "S,G",
+/// What a state is of.
+fn kind_of(source: Option<Ipv4Addr>, is_rpt: bool) -> &'static str {
+    match (source, is_rpt) {
+        (None, _) => "*,G",
+        (Some(_), true) => "S,G,rpt",
+        (Some(_), false) => "S,G",
     }
 }
 
-pub fn assert_state(row: &Row) -> &'static str {
-    if row.is_set {
+/// Of a row of Joins.
+pub fn kind(row: &DownstreamRow) -> &'static str {
+    kind_of(row.source, row.is_rpt)
+}
+
+pub fn assert_state(row: &AssertRow) -> &'static str {
+    if row.is_loser {
         "loser"
     } else {
         "winner"
     }
 }
 
-fn source(row: &Row) -> Value {
-    if row.source.is_unspecified() {
-        json!("*")
-    } else {
-        address(row.source.into())
-    }
+fn source_cell(source: Option<Ipv4Addr>) -> Value {
+    source.map_or(json!("*"), |source| address(source.into()))
 }
 
 /// What neighbours have joined.
 pub fn joins(daemon: &mut Daemon) -> Result<Rows, Fatal> {
     let now = daemon.now();
-    let state = |row: &Row| match row.state {
-        JOINED => "joined",
-        PRUNE_PENDING => "prune pending",
-        PRUNED => "pruned",
+    let state = |row: &DownstreamRow| match row.state {
+        DownstreamState::Joined => "joined",
+        DownstreamState::PrunePending => "prune pending",
+        DownstreamState::Pruned => "pruned",
         _ => "none",
     };
-    let rows = rows_of(daemon, Table::Downstream)?;
-    let cells = |row: &Row| {
+    let rows = daemon.core.rows_of()?;
+    let cells = |row: &DownstreamRow| {
         vec![
             ("interface", json!(daemon.name(row.iface))),
-            ("source", source(row)),
+            ("source", source_cell(row.source)),
             ("group", address(row.group.into())),
             ("type", json!(kind(row))),
             ("state", json!(state(row))),
             ("expires_seconds", until(row.end, now)),
-            ("prune_seconds", if row.state == PRUNE_PENDING { until(row.pending, now) } else { Value::Null }),
+            ("prune_seconds", until(row.pending, now)),
         ]
     };
     Ok(rows.iter().map(cells).collect())
@@ -60,15 +63,15 @@ pub fn joins(daemon: &mut Daemon) -> Result<Rows, Fatal> {
 
 pub fn asserts(daemon: &mut Daemon) -> Result<Rows, Fatal> {
     let now = daemon.now();
-    let rows = rows_of(daemon, Table::Asserts)?;
-    let cells = |row: &Row| {
+    let rows = daemon.core.rows_of()?;
+    let cells = |row: &AssertRow| {
         vec![
             ("interface", json!(daemon.name(row.iface))),
-            ("source", source(row)),
+            ("source", source_cell(row.source)),
             ("group", address(row.group.into())),
             ("state", json!(assert_state(row))),
             ("winner", address(row.winner.into())),
-            ("expires_seconds", until(row.end, now)),
+            ("expires_seconds", until(Some(row.end), now)),
         ]
     };
     Ok(rows.iter().map(cells).collect())
@@ -109,12 +112,20 @@ impl Upstream {
     }
 }
 
-fn upstream_cells(daemon: &Daemon, row: &Row, state: &str, upstream: Option<Upstream>, next_join: Value) -> Cells {
+/// A tree that the router has joined, or a source of a shared one.
+#[derive(Clone, Copy, PartialEq, Eq, PartialOrd, Ord)]
+struct Name {
+    group: Ipv4Addr,
+    source: Option<Ipv4Addr>,
+    is_rpt: bool,
+}
+
+fn upstream_cells(daemon: &Daemon, name: Name, state: &str, upstream: Option<Upstream>, next_join: Value) -> Cells {
     let it = upstream.unwrap_or_default();
     vec![
-        ("source", source(row)),
-        ("group", address(row.group.into())),
-        ("type", json!(kind(row))),
+        ("source", source_cell(name.source)),
+        ("group", address(name.group.into())),
+        ("type", json!(kind_of(name.source, name.is_rpt))),
         ("state", json!(state)),
         ("rpf_interface", it.iface.map_or(Value::Null, |iface| json!(daemon.name(iface)))),
         ("rpf_neighbor", it.neighbour.map_or(Value::Null, |neighbour| json!(neighbour.to_string()))),
@@ -126,25 +137,25 @@ fn upstream_cells(daemon: &Daemon, row: &Row, state: &str, upstream: Option<Upst
 /// The trees that the router has joined, and the sources of shared ones, each with RPF'.
 pub fn upstream(daemon: &mut Daemon) -> Result<Rows, Fatal> {
     let now = daemon.now();
-    let (joined, trees) = (rows_of(daemon, Table::Upstream)?, rows_of(daemon, Table::Trees)?);
+    let joined = daemon.core.rows_of::<UpstreamRow>()?;
+    let trees = daemon.core.rows_of::<RptRow>()?;
     let tree = |group| daemon.core.tree(group);
-    let source_tree = |row: &Row| daemon.core.source_tree(Key { source: row.source, group: row.group });
+    let source_tree = |source, group| daemon.core.source_tree(Key { source, group });
     let mut all = BTreeMap::new();
     for row in &joined {
-        let found = if row.source.is_unspecified() {
-            tree(row.group).map(|tree| Upstream::of_group(&tree))
-        } else {
-            source_tree(row).map(|tree| Upstream::of_source(&tree))
+        let found = match row.source {
+            None => tree(row.group).map(|tree| Upstream::of_group(&tree)),
+            Some(source) => source_tree(source, row.group).map(|tree| Upstream::of_source(&tree)),
         };
-        let cells = upstream_cells(daemon, row, "joined", found, until(row.end, now));
-        all.insert((row.group, row.source, false), cells);
+        let name = Name { group: row.group, source: row.source, is_rpt: false };
+        all.insert(name, upstream_cells(daemon, name, "joined", found, until(Some(row.next_join), now)));
     }
     for row in &trees {
-        let state = if row.is_set { "pruned" } else { "not pruned" };
-        let both = tree(row.group).zip(source_tree(row));
+        let state = if row.is_pruned { "pruned" } else { "not pruned" };
+        let both = tree(row.group).zip(source_tree(row.source, row.group));
         let found = both.map(|(shared, tree)| Upstream::of_pruned(&shared, &tree));
-        let row = Row { is_rpt: true, ..*row };
-        all.insert((row.group, row.source, true), upstream_cells(daemon, &row, state, found, Value::Null));
+        let name = Name { group: row.group, source: Some(row.source), is_rpt: true };
+        all.insert(name, upstream_cells(daemon, name, state, found, Value::Null));
     }
     Ok(all.into_values().collect())
 }
@@ -157,10 +168,10 @@ pub fn rpf(daemon: &mut Daemon, to: Option<Ipv4Addr>) -> Result<Rows, Fatal> {
     for range in &daemon.settings.rps {
         asked.entry(range.address).or_default().insert("RP");
     }
-    for table in [Table::Active, Table::Upstream] {
-        for row in rows_of(daemon, table)?.iter().filter(|row| !row.source.is_unspecified()) {
-            asked.entry(row.source).or_default().insert("source");
-        }
+    let mut sources: Vec<_> = daemon.core.rows_of::<ActiveRow>()?.iter().map(|row| row.source).collect();
+    sources.extend(daemon.core.rows_of::<UpstreamRow>()?.iter().filter_map(|row| row.source));
+    for source in sources {
+        asked.entry(source).or_default().insert("source");
     }
     let asked = match to {
         Some(one) => BTreeMap::from([(one, asked.remove(&one).unwrap_or_default())]),

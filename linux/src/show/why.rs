@@ -1,5 +1,5 @@
 //! Why an interface is in a tree's list of outgoing interfaces, or isn't.
-use super::{address, designated, is_here, rows_of, Cells, Rows};
+use super::{address, designated, is_here, Cells, Rows};
 use crate::daemon::Daemon;
 use crate::error::Fatal;
 use crate::mroute::Key;
@@ -7,14 +7,14 @@ use crate::ports::Port;
 use serde_json::json;
 use std::collections::BTreeSet;
 use std::net::Ipv4Addr;
-use viqeshor::{Interfaces, Row, SourceTree, Table, Tree};
+use viqeshor::{ActiveRow, AssertRow, DownstreamRow, GroupRow, Interfaces, SourceTree, Tree, UpstreamRow};
 
 /// Who asks for the packets of a tree, and where an assert of it was lost.
 struct Asked {
     /// (\*,G) or (S,G), as in the documents.
     tree: &'static str,
-    /// The source of the tree's asserts, 0.0.0.0 for (\*,G).
-    source: Ipv4Addr,
+    /// Of the tree's asserts.
+    source: Option<Ipv4Addr>,
     joins: Interfaces,
     hosts: Interfaces,
     served: Interfaces,
@@ -25,7 +25,7 @@ impl Asked {
     fn shared(tree: &Tree) -> Asked {
         Asked {
             tree: "(*,G)",
-            source: Ipv4Addr::UNSPECIFIED,
+            source: None,
             joins: tree.joins,
             hosts: tree.local_receiver_include,
             served: tree.pim_include,
@@ -36,7 +36,7 @@ impl Asked {
     fn own(source: Ipv4Addr, tree: &SourceTree) -> Asked {
         Asked {
             tree: "(S,G)",
-            source,
+            source: Some(source),
             joins: tree.joins,
             hosts: tree.local_receiver_include,
             served: tree.pim_include,
@@ -50,14 +50,15 @@ impl Asked {
 
     fn reasons(&self, iface: u32) -> Vec<String> {
         let kinds = [("joined", self.joins), ("local member", self.hosts)];
-        kinds.into_iter().filter(|(_, set)| set.contains(iface)).map(|(kind, _)| format!("{kind} {}", self.tree)).collect()
+        let there = kinds.into_iter().filter(|(_, set)| set.contains(iface));
+        there.map(|(kind, _)| format!("{kind} {}", self.tree)).collect()
     }
 }
 
 /// A tree at the router: the lists that it has its packets by, its own first, and where these come from and leave.
 struct Sight {
     group: Ipv4Addr,
-    source: Ipv4Addr,
+    source: Option<Ipv4Addr>,
     asked: Vec<Asked>,
     /// Where (S,G,rpt) is pruned off (\*,G), and where hosts exclude the source.
     pruned: BTreeSet<u32>,
@@ -71,7 +72,7 @@ struct Sight {
 fn shared_sight(group: Ipv4Addr, tree: &Tree) -> Sight {
     Sight {
         group,
-        source: Ipv4Addr::UNSPECIFIED,
+        source: None,
         asked: vec![Asked::shared(tree)],
         pruned: BTreeSet::new(),
         excluded: Interfaces::default(),
@@ -88,7 +89,7 @@ fn own_sight(key: Key, shared: &Tree, own: &SourceTree) -> Sight {
     let path = if is_own { own.path } else { shared.path };
     Sight {
         group: key.group,
-        source: key.source,
+        source: Some(key.source),
         asked: vec![Asked::own(key.source, own), Asked::shared(shared)],
         pruned: own.prunes.iter().filter(|iface| shared.joins.contains(*iface)).collect(),
         excluded: own.pim_exclude,
@@ -103,17 +104,17 @@ impl Sight {
         self.asked.iter().flat_map(|asked| asked.reasons(iface)).collect()
     }
 
-    fn lost(&self, iface: u32, asserts: &[Row]) -> Vec<String> {
+    fn lost(&self, iface: u32, asserts: &[AssertRow]) -> Vec<String> {
         let of = |asked: &Asked| {
-            let is_it = |row: &&Row| row.iface == iface && row.group == self.group && row.source == asked.source;
-            let row = asserts.iter().filter(|row| row.is_set).find(is_it).filter(|_| asked.is_lost(iface))?;
+            let is_it = |row: &&AssertRow| (row.iface, row.group, row.source) == (iface, self.group, asked.source);
+            let row = asserts.iter().filter(|row| row.is_loser).find(is_it).filter(|_| asked.is_lost(iface))?;
             Some(format!("lost assert {} to {}", asked.tree, row.winner))
         };
         self.asked.iter().filter_map(of).collect()
     }
 
     /// What keeps the packets off an interface.
-    fn against(&self, daemon: &Daemon, port: &Port, asserts: &[Row]) -> Vec<String> {
+    fn against(&self, daemon: &Daemon, port: &Port, asserts: &[AssertRow]) -> Vec<String> {
         let iface = port.number;
         let mut found = self.lost(iface, asserts);
         if self.pruned.contains(&iface) {
@@ -133,7 +134,7 @@ impl Sight {
     }
 
     fn cells(&self, interface: &str, is_outgoing: bool, reasons: Vec<String>, against: Vec<String>) -> Cells {
-        let source = if self.source.is_unspecified() { json!("*") } else { address(self.source.into()) };
+        let source = self.source.map_or(json!("*"), |source| address(source.into()));
         vec![
             ("source", source),
             ("group", address(self.group.into())),
@@ -145,7 +146,7 @@ impl Sight {
     }
 
     /// The interfaces on which somebody asks for the packets or an assert was lost, and the register tunnel.
-    fn rows(&self, daemon: &Daemon, asserts: &[Row]) -> Rows {
+    fn rows(&self, daemon: &Daemon, asserts: &[AssertRow]) -> Rows {
         let row = |port: &Port| {
             let (reasons, lost) = (self.reasons(port.number), self.lost(port.number, asserts));
             if reasons.is_empty() && lost.is_empty() {
@@ -165,49 +166,49 @@ impl Sight {
 
 /// The sources of a group that the router has a fact or an entry of.
 fn sources_of(daemon: &mut Daemon, group: Ipv4Addr) -> Result<BTreeSet<Ipv4Addr>, Fatal> {
-    let mut found: BTreeSet<_> =
-        daemon.plane.entries().filter(|(key, _)| key.group == group).map(|(key, _)| key.source).collect();
-    for table in [Table::Active, Table::Upstream, Table::Downstream, Table::Trees] {
-        found.extend(rows_of(daemon, table)?.iter().filter(|row| row.group == group).map(|row| row.source));
-    }
-    found.remove(&Ipv4Addr::UNSPECIFIED);
+    let joined = daemon.core.rows_of::<DownstreamRow>()?;
+    let joins = daemon.core.rows_of::<UpstreamRow>()?;
+    let active = daemon.core.rows_of::<ActiveRow>()?;
+    let of_joined = joined.iter().map(|row| (row.group, row.source));
+    let of_joins = joins.iter().map(|row| (row.group, row.source));
+    let of_active = active.iter().map(|row| (row.group, Some(row.source)));
+    let of_entries = daemon.plane.entries().map(|(key, _)| (key.group, Some(key.source)));
+    let all = of_joined.chain(of_joins).chain(of_active).chain(of_entries);
+    Ok(all.filter(|(of, _)| *of == group).filter_map(|(_, source)| source).collect())
+}
+
+/// The groups that somebody asks for, or of which there is an assert or an entry.
+fn groups(daemon: &mut Daemon) -> Result<BTreeSet<Ipv4Addr>, Fatal> {
+    let mut found: BTreeSet<_> = daemon.core.rows_of::<GroupRow>()?.iter().map(|row| row.group).collect();
+    found.extend(daemon.core.rows_of::<DownstreamRow>()?.iter().map(|row| row.group));
+    found.extend(daemon.core.rows_of::<AssertRow>()?.iter().map(|row| row.group));
+    found.extend(daemon.plane.entries().map(|(key, _)| key.group));
     Ok(found)
 }
 
-/// The groups that somebody asks for.
-fn groups(daemon: &mut Daemon) -> Result<BTreeSet<Ipv4Addr>, Fatal> {
-    let mut found = BTreeSet::new();
-    for table in [Table::Groups, Table::Downstream, Table::Active, Table::Asserts] {
-        found.extend(rows_of(daemon, table)?.iter().map(|row| row.group));
-    }
-    Ok(found)
+/// The rows of a group: of (\*,G) and of each source, or of one source alone.
+fn rows_of_group(daemon: &mut Daemon, group: Ipv4Addr, source: Option<Ipv4Addr>) -> Result<Rows, Fatal> {
+    let asserts = daemon.core.rows_of::<AssertRow>()?;
+    let sources = source.map_or_else(|| sources_of(daemon, group), |source| Ok(BTreeSet::from([source])))?;
+    let shared = match daemon.core.tree(group) {
+        Some(shared) => shared,
+        None => return Ok(Rows::new()),
+    };
+    let own = |source: &Ipv4Addr| {
+        let key = Key { source: *source, group };
+        Some(own_sight(key, &shared, &daemon.core.source_tree(key)?))
+    };
+    let first = source.is_none().then(|| shared_sight(group, &shared));
+    let sights = first.into_iter().chain(sources.iter().filter_map(own));
+    Ok(sights.flat_map(|sight| sight.rows(daemon, &asserts)).collect())
 }
 
 /// Of a group, or of one of its sources; without a group of all.
 pub fn why(daemon: &mut Daemon, group: Option<Ipv4Addr>, source: Option<Ipv4Addr>) -> Result<Rows, Fatal> {
-    let groups = match group {
-        Some(group) => BTreeSet::from([group]),
-        None => groups(daemon)?,
-    };
-    let asserts = rows_of(daemon, Table::Asserts)?;
+    let groups = group.map_or_else(|| groups(daemon), |group| Ok(BTreeSet::from([group])))?;
     let mut rows = Rows::new();
     for group in groups {
-        let shared = match daemon.core.tree(group) {
-            Some(tree) => tree,
-            None => continue,
-        };
-        let sources = match source {
-            Some(source) => BTreeSet::from([source]),
-            None => {
-                rows.extend(shared_sight(group, &shared).rows(daemon, &asserts));
-                sources_of(daemon, group)?
-            }
-        };
-        for source in sources {
-            let key = Key { source, group };
-            let own = daemon.core.source_tree(key).map(|own| own_sight(key, &shared, &own));
-            rows.extend(own.iter().flat_map(|sight| sight.rows(daemon, &asserts)));
-        }
+        rows.extend(rows_of_group(daemon, group, source)?);
     }
     Ok(rows)
 }

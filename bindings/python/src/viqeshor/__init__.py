@@ -31,16 +31,35 @@ from ipaddress import IPv4Address
 from typing import Any, NamedTuple, Self, SupportsIndex, TypeAlias
 
 from viqeshor import trees
+from viqeshor.rows import (
+    ActiveRow,
+    AssertRow,
+    DownstreamRow,
+    GroupRow,
+    NeighbourRow,
+    Row,
+    RptRow,
+    SourceRow,
+    ToldRow,
+    UpstreamRow,
+    numbers,
+    row_of,
+)
 from viqeshor.trees import Link, Neighbour, SourceTree, Tree, Words
 
 __all__ = [
+    "ActiveRow",
     "Answer",
+    "AssertRow",
     "Closed",
+    "DownstreamRow",
     "Error",
     "Forwarding",
+    "GroupRow",
     "Link",
     "Lost",
     "Neighbour",
+    "NeighbourRow",
     "NoMemory",
     "OLDER_HOSTS",
     "OlderRow",
@@ -49,10 +68,13 @@ __all__ = [
     "Refused",
     "Router",
     "Row",
+    "RptRow",
     "Sent",
+    "SourceRow",
     "SourceTree",
     "TABLES",
     "Tree",
+    "UpstreamRow",
     "answer_text",
     "version",
 ]
@@ -67,7 +89,6 @@ NEVER, NO_INTERFACE, MOST_BYTES = 2**64 - 1, 2**32 - 1, 1528
 TABLES = "NGSDAURF"
 # What an interface hears of hosts of older versions of IGMP.
 OLDER_HOSTS = {"none": 0, "v2": 1, "all": 2}
-JOINED, REGISTERS = ["", "join", "pending", "prune"], ["-", "join", "pending", "prune"]
 
 
 class Answer(enum.IntEnum):
@@ -176,10 +197,6 @@ RAISED: dict[Answer, type[Error]] = {
 # ---- what C gives and takes
 
 
-def numbers(*names: str) -> list[tuple[str, Any]]:
-    return [(name, c_uint32) for name in names]
-
-
 class Draw(Structure):
     _fields_ = numbers("bits")
 
@@ -205,17 +222,6 @@ class Settings(Structure):
 
 class ToldPacket(Structure):
     _fields_ = [*numbers("kind", "iface", "destination"), ("length", c_size_t)]
-
-
-class ToldRow(Structure):
-    _fields_ = [
-        *numbers("table", "iface", "group", "source", "winner"),
-        ("is_rpt", c_bool),
-        ("is_set", c_bool),
-        ("state", c_uint32),
-        ("end", c_uint64),
-        ("pending", c_uint64),
-    ]
 
 
 class ToldOlderRow(Structure):
@@ -254,45 +260,6 @@ class Sent(NamedTuple):
     packet: bytes
 
 
-class Row(NamedTuple):
-    """A row of a table. What its kind of row doesn't have is None, False or 0; so is the source of (*,G), and a time
-    that isn't there. Times are in ms."""
-    table: str
-    iface: int
-    group: str | None
-    source: str | None
-    winner: str | None
-    is_rpt: bool
-    is_set: bool
-    state: int
-    end: int | None
-    pending: int | None
-
-    def __str__(self) -> str:
-        """As docs/SCENARIOS.md describes its line ("Tables")."""
-        source = self.source or "*"
-        kind = "g" if source == "*" else "rpt" if self.is_rpt else "sg"
-        words: dict[str, list[Any]] = {
-            "N": [self.iface, source, ends(self.end, "never")],
-            "G": [self.iface, self.group, "exclude" if self.is_set else "include", ends(self.end, "never")],
-            "S": [self.iface, self.group, source, ends(self.end, "-")],
-            "D": [
-                self.iface,
-                self.group,
-                source,
-                kind,
-                JOINED[self.state],
-                ends(self.end, "never"),
-                ends(self.pending, "-"),
-            ],
-            "A": [self.iface, self.group, source, "loser" if self.is_set else "winner", self.winner, self.end],
-            "U": [self.group, source, self.end],
-            "R": [self.group, source, "pruned" if self.is_set else "notpruned"],
-            "F": [self.group, source, ends(self.end, "-"), "spt" if self.is_set else "-", REGISTERS[self.state]],
-        }
-        return " ".join([self.table, *map(str, words[self.table])])
-
-
 class OlderRow(NamedTuple):
     """A group in an older mode on an interface: a host of IGMPv1 or IGMPv2 reported it. The mode is the version, 1 or
     2; behind it stand the times in ms at which the IGMPv1 and the IGMPv2 Host Present timer expire, or None."""
@@ -327,23 +294,12 @@ class PlaneRow(NamedTuple):
     to_core: frozenset[int]
 
 
-def ends(moment: int | None, without: str) -> str:
-    return without if moment is None else str(moment)
-
-
 def there(number: int, none: int) -> int | None:
     return None if number == none else number
 
 
 def dotted(bits: int) -> str:
     return str(IPv4Address(bits))
-
-
-def row_of(told: ToldRow) -> Row:
-    table = chr(told.table)
-    group, source, winner = (dotted(bits) if bits else None for bits in (told.group, told.source, told.winner))
-    return Row(table, told.iface, group, source, winner if table == "A" else None, told.is_rpt, told.is_set, told.state,
-               there(told.end, NEVER), there(told.pending, NEVER))
 
 
 # ---- the library
@@ -642,7 +598,8 @@ class Router:
         return there(self._call("next_moment"), NEVER)
 
     def rows(self, letter: str) -> list[Row]:
-        """The rows of a table."""
+        """The rows of a table, ascending by their keys: `NeighbourRow` of N, `GroupRow` of G, `SourceRow` of S,
+        `DownstreamRow` of D, `AssertRow` of A, `UpstreamRow` of U, `RptRow` of R, `ActiveRow` of F."""
         told, rows = ToldRow(), []
         with self.lock:
             self._must(self._call("read", number(ord(letter), 8, "a letter")))

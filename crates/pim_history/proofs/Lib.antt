@@ -1,0 +1,4 @@
+pub mod EachStep
+pub mod Asked
+pub mod Limits
+pub mod Histories
