@@ -38,16 +38,25 @@ def shared() -> Path:
     together once, and kept, of the same build as the program: of the proved archive where that is newer than its
     sources, else of an unproved one. This process ends with a line where there can be none."""
     if given := os.environ.get("VIQESHOR_LIBRARY"):
-        return Path(given)
+        return usable(Path(given))
     is_proved = program.wanted() == "proved" and library.PROVED.exists() and program.is_newer(library.PROVED)
-    router = library.PROVED if is_proved else library.unproved_router(None)
-    made = cache() / f"libviqeshor-{sum_of(router)}.so"
     try:
+        router = library.PROVED if is_proved else library.unproved_router(None)
+        made = cache() / f"libviqeshor-{sum_of(router)}.so"
         if not made.exists():
             put_together(router, made)
     except OSError as error:
         sys.exit(f"library: it can't be kept: {error}")
     return made
+
+
+def usable(given: Path) -> Path:
+    """A library that is of this version; the end of the process where it isn't."""
+    try:
+        viqeshor.version(given)
+    except (OSError, viqeshor.Error) as error:
+        sys.exit(f"library: {given}, which VIQESHOR_LIBRARY names, can't be taken: {error}")
+    return given
 
 
 def sum_of(router: Path) -> str:

@@ -4,14 +4,19 @@ PLACES and SEED in the environment ask for another number of the stored scenario
 """
 import os
 import random
+import subprocess
+import sys
+import tempfile
 import unittest
 from concurrent.futures import ThreadPoolExecutor
+from unittest.mock import patch
 
-from pimtext import asked, packets, scenario, served, story
-from pimtext.known import known_after
+from pimtext import asked, packets, scenario, served, story, twin
+from pimtext.kept import cache
+from pimtext.known import begun, copied, follow, known_after
 from pimtext.older import read_heard
 from tests import stored
-from tests.networks import SOURCE, Network
+from tests.networks import GROUP, SOURCE, Network
 
 PLACES, SEED = int(os.environ.get("PLACES", 40)), int(os.environ.get("SEED", 1))
 
@@ -105,6 +110,82 @@ class Joined(unittest.TestCase):
             branch in found.items() if source == "*"}
         self.assertEqual(shared, {"hub": (None, {1}), "east": (0, {1})})
         self.assertEqual({name for name, source in found if source == SOURCE}, {"west", "hub", "east"})
+
+
+class Twins(unittest.TestCase):
+    """A router of the library after some of the events that it is to take."""
+
+    def network(self):
+        network = Network()
+        played = scenario.scenario_of({"router": network.routers, "move": network.moves()})
+        return played, story.played(played, scenario.run_text(network.text()))[0]
+
+    def told(self, state):
+        """All rows, and what is asked most."""
+        facts = state.tree(GROUP), state.source_tree(GROUP, SOURCE), [state.port(each) for each in (0, 1)]
+        return [*map(str, state.core().tables()), facts]
+
+    def test_a_state_is_the_same_whichever_is_asked_first(self):
+        played, steps = self.network()
+        known, states = begun(played), []
+        for step in steps:
+            follow(known[step.router], step)
+            states.append(copied(known[step.router]))
+        with patch.object(twin, "APART", 3):
+            forward = [self.told(state) for state in states]
+            again = [self.told(copied(state)) for state in reversed(states)]
+        self.assertEqual(forward, again[::-1])
+        self.assertTrue(any(state.twin.saved for state in known.values()))
+        self.assertGreater(len({str(told) for told in forward}), 10)
+
+    def test_the_rows_are_those_that_are_printed(self):
+        network = Network()
+        played = scenario.scenario_of({"router": network.routers, "move": network.moves()})
+        lines = scenario.run_text(network.text())
+        known = known_after(played, *story.played(played, lines))
+        rows = lines[lines.index("router west"):]
+        self.assertEqual([line for state in known.values() for line in (f"router {state.router.name}",
+                          *map(str, state.core().tables()))], rows)
+
+    def test_a_copy_takes_events_by_itself(self):
+        played, steps = self.network()
+        state = known_after(played, steps, {})["east"]
+        before = self.told(state)
+        with state.copy_of_core() as other:
+            other.down(1, draw=0)
+            self.assertFalse(other.link(1).is_up)
+        state.kept.clear()
+        self.assertEqual(self.told(state), before)
+
+
+class Libraries(unittest.TestCase):
+    """Which library is asked, and what is said where there is none."""
+
+    def mroute(self, **environment):
+        path = stored.EXAMPLES / "lan_assert.toml"
+        ran = subprocess.run([sys.executable, stored.TOOLS / "mroute", path], capture_output=True, text=True,
+                             env=os.environ | environment)
+        return ran.returncode, ran.stdout, ran.stderr.splitlines()[-1:]
+
+    def test_one_that_is_named(self):
+        status, out, _ = self.mroute(VIQESHOR_LIBRARY=str(twin.shared()))
+        self.assertEqual(status, 0)
+        self.assertIn("router attic", out)
+
+    def test_one_that_is_none(self):
+        named = str(stored.TOOLS / "mroute")
+        status, out, said = self.mroute(VIQESHOR_LIBRARY=named)
+        self.assertEqual((status, out), (1, ""))
+        self.assertIn(f"library: {named}, which VIQESHOR_LIBRARY names, can't be taken: ", said[0])
+
+    def test_no_compiler(self):
+        kept = os.environ.get("VIQESHOR_BUILDS") or str(cache())
+        with tempfile.TemporaryDirectory() as folder:
+            status, out, said = self.mroute(XDG_CACHE_HOME=folder, VIQESHOR_BUILDS=kept, CC="no-compiler",
+                                            PIMLAB_BUILD="unproved")
+        self.assertEqual((status, out), (1, ""))
+        self.assertEqual(said, ["library: there is no C compiler `no-compiler`, which puts it together; "
+                                "CC may name another one"])
 
 
 if __name__ == "__main__":
