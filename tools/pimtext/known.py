@@ -4,7 +4,7 @@ The macros of RFC 7761 are asked of a router of the library, which takes what th
 """
 from __future__ import annotations
 
-from collections.abc import Iterable
+from collections.abc import Callable, Iterable
 from dataclasses import dataclass, field, replace
 from ipaddress import ip_address
 from typing import TYPE_CHECKING, Any, TypeVar
@@ -21,6 +21,7 @@ if TYPE_CHECKING:
     from viqeshor import Link, Neighbour, Router as Core, SourceTree, Tree
 
     R = TypeVar("R")
+    T = TypeVar("T")
 
 
 @dataclass
@@ -38,14 +39,17 @@ class Known:
     moment: int = 0
     kept: dict[tuple[Any, ...], Any] = field(default_factory=dict, repr=False)
 
+    def once(self, key: tuple[Any, ...], find: Callable[[], T]) -> T:
+        """What `find` answers, which is called once for a key."""
+        if key not in self.kept:
+            self.kept[key] = find()
+        return self.kept[key]
+
     # ---- what was printed
 
     def of(self, table: type[R], /, **values: object) -> list[R]:
         """The rows of a table that have these values in these columns."""
-        key = table, *values.items()
-        if key not in self.kept:
-            self.kept[key] = printed.rows_of(self.rows, table, **values)
-        return self.kept[key]
+        return self.once((table, *values.items()), lambda: printed.rows_of(self.rows, table, **values))
 
     def print(self, tables: Tables) -> None:
         """The router knows what was printed."""
@@ -67,9 +71,7 @@ class Known:
 
     def asked(self, call: str, *key: int | str) -> Any:
         """What the router answers to a call, which is made once."""
-        if (call, *key) not in self.kept:
-            self.kept[call, *key] = getattr(self.core(), call)(*key)
-        return self.kept[call, *key]
+        return self.once((call, *key), lambda: getattr(self.core(), call)(*key))
 
     def tree(self, group: str) -> Tree:
         """The macros of (*,G)."""

@@ -97,6 +97,11 @@ class World:
 
 def taken(state: Known, group: str, source: str, iface: int) -> Taken:
     """What a router would do with a packet that came on an interface."""
+    return state.once((taken, group, source, iface), lambda: tried(state, group, source, iface))
+
+
+def tried(state: Known, group: str, source: str, iface: int) -> Taken:
+    """What a copy of it does with the packet."""
     with state.copy_of_core() as router:
         answer = router.frame(iface, packets.write_data(source, group, b""), draw=0)
         sent = [] if answer else router.packets()
