@@ -163,8 +163,8 @@ def assert_lost(net: Network) -> str:
     if set(heard["asserts"]) != {"10.7.0.3", "10.7.0.2"} or set(heard["last"]) != {"10.7.0.2"}:
         raise Failed(f"at the end not first alone sends: {said}")
     entry = net.entry(SOURCE, group)
-    if entry["incoming"] != "to-first" or "to-lan" in entry["outgoing"]:
-        raise Failed(f"the router would still send there, by {entry}: {said}")
+    if "source" not in entry or "to-lan" in entry["outgoing"]:
+        raise Failed(f"the router has {entry}: {said}")
     why = [row for row in net.show("why", group, SOURCE) if row["interface"] == "to-lan"]
     told = [(row["is_outgoing"], "joined (S,G)" in row["reasons"], row["kept_off"]) for row in why]
     if told != [(False, True, ["lost assert (S,G) to 10.7.0.2"])]:
