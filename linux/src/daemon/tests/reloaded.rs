@@ -70,7 +70,8 @@ fn an_interface_more_goes_up_and_one_less_goes_down() {
     assert_eq!(told(&daemon), [true, true, false]);
     assert_eq!((daemon.counters.reloaded, daemon.counters.made_anew), (3, 0));
     happens(&mut daemon, &fake, report(ETH0, [10, 1, 0, 77], stream.group));
-    assert_eq!(fake.entry(stream).map(|it| it.outgoing & 0b01), Some(0b01));
+    happens(&mut daemon, &fake, whole(stream, data(NEAR, stream.group, 0, 40)));
+    assert_eq!(fake.entry(stream), FLOWS);
 }
 
 #[test]
