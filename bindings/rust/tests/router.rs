@@ -131,7 +131,7 @@ fn what_the_router_knows() {
     let counts = Table::ALL.map(|table| router.rows(table).unwrap().len());
     assert_eq!(counts, [2, 0, 0, 1, 0, 1, 0, 0]);
     let (source, group) = (address([10, 0, 3, 5]), address([225, 1, 1, 1]));
-    let (end, state) = (Some(5 + 1000), DownstreamState::Joined);
+    let (end, state) = (Some(1000), DownstreamState::Joined);
     let join = DownstreamRow { iface: 1, group, source: Some(source), is_rpt: false, state, end, pending: None };
     assert_eq!(router.rows(Table::Downstream), Ok(vec![Row::Downstream(join)]));
     assert_eq!(router.rows_of(), Ok(vec![join]));
