@@ -822,6 +822,111 @@ static void saved_routers(void) {
     viq_end(router);
 }
 
+/* ---- records */
+
+static uint32_t crc_of(uint32_t crc, const uint8_t *bytes, size_t length) {
+    for (size_t at = 0; at < length; at++) {
+        crc ^= bytes[at];
+        for (int bit = 0; bit < 8; bit++) crc = crc & 1 ? crc >> 1 ^ 0xedb88320 : crc >> 1;
+    }
+    return crc;
+}
+
+/* A number in network order. */
+static size_t put(uint8_t *to, uint64_t number, size_t width) {
+    for (size_t at = 0; at < width; at++) to[at] = (uint8_t)(number >> 8 * (width - 1 - at));
+    return width;
+}
+
+/* The sum of the packets that are told one by one. */
+static uint32_t sum_of_told(struct viq_router *router) {
+    uint32_t crc = 0xffffffff;
+    for (size_t n = 0; n < viq_packets(router); n++) {
+        struct viq_packet packet;
+        uint8_t room[VIQ_MOST_BYTES], head[13];
+        is("a packet to be summed", viq_packet(router, n, &packet, room, sizeof room), true);
+        head[0] = packet.kind == VIQ_UNICAST ? 'u' : 'f';
+        put(head + 1, packet.kind == VIQ_UNICAST ? packet.destination : packet.iface, 4);
+        put(head + 5, packet.length, 8);
+        crc = crc_of(crc_of(crc, head, sizeof head), room, packet.length);
+    }
+    return ~crc;
+}
+
+static void recorded(const char *what, const struct viq_call *call, const uint8_t *packet, size_t length, const char *wanted, size_t size) {
+    uint8_t room[256];
+    size_t told = 7;
+    is(what, viq_record(call, packet, length, NULL, 0, &told), VIQ_DONE);
+    is("its size", told, size);
+    memset(room, 7, sizeof room);
+    is("into room", viq_record(call, packet, length, room, sizeof room, &told), VIQ_DONE);
+    is("its bytes", memcmp(room, wanted, size), 0);
+    is("the rest of the room", room[size], 7);
+}
+
+#define RECORDED(what, call, packet, length, wanted) recorded(what, call, packet, length, wanted, sizeof wanted - 1)
+#define END "\0\0\0\x18\1\2\3\4"
+
+static void record_calls(void) {
+    struct viq_call call = {0x0102030405060708, 'a', 9, 3, 0x0a000305, 0xe1010101, 2, VIQ_FULL, 0x01020304};
+    RECORDED("advance", &call, NULL, 0, "a\0\0\0\x9\1\2\3\4\5\6\7\x8" END);
+    call.letter = 'f';
+    RECORDED("frame", &call, (const uint8_t *)"xyz", 3, "f\0\0\0\x9\0\0\0\3\0\0\0\0\0\0\0\3xyz" END);
+    call.letter = 'u';
+    RECORDED("unicast", &call, (const uint8_t *)"xyz", 3, "u\0\0\0\x9\0\0\0\0\0\0\0\3xyz" END);
+    call.letter = '+';
+    RECORDED("up", &call, NULL, 0, "+\0\0\0\x9\0\0\0\3" END);
+    call.letter = '-';
+    RECORDED("down", &call, NULL, 0, "-\0\0\0\x9\0\0\0\3" END);
+    call.letter = 's';
+    RECORDED("seen", &call, NULL, 0, "s\0\0\0\x9\0\0\0\3\x0a\0\3\5\xe1\1\1\1" END);
+    call.letter = 'k';
+    RECORDED("keep", &call, NULL, 0, "k\x0a\0\3\5\xe1\1\1\1\1\2\3\4\5\6\7\x8" END);
+    call.letter = 'o';
+    RECORDED("older", &call, NULL, 0, "o\0\0\0\3\0\0\0\2" END);
+    call.letter = 'q';
+    RECORDED("query version", &call, NULL, 0, "q\0\0\0\3\0\0\0\2" END);
+    call.letter = 'x';
+    RECORDED("no kind of call", &call, NULL, 0, "");
+}
+
+static void record_lists(void) {
+    static const char ranges[] = "g\0\0\0\x9\0\0\0\0\0\0\0\1\xe0\0\0\0\0\0\0\4\x0a\x9\x9\x9" END;
+    static const char none[] = "r\0\0\0\x9\0\0\0\0\0\0\0\0" END;
+    struct viq_call call = {.draw = 9, .answer = VIQ_FULL, .sum = 0x01020304};
+    uint8_t room[512], long_one[64];
+    size_t size = 7, other = 7;
+    is("ranges", viq_record_ranges(&call, one, COUNT(one), room, sizeof room, &size), VIQ_DONE);
+    is("the bytes of ranges", size == sizeof ranges - 1 && memcmp(room, ranges, size) == 0, true);
+    is("no routes", viq_record_routes(&call, NULL, 0, room, sizeof room, &size), VIQ_DONE);
+    is("the bytes of no routes", size == sizeof none - 1 && memcmp(room, none, size) == 0, true);
+    is("two routes", viq_record_routes(&call, two, COUNT(two), NULL, 0, &size), VIQ_DONE);
+    is("their size", size, 1 + 4 + 8 + 2 * 24 + 8);
+    is("too many routes", viq_record_routes(&call, two, VIQ_MOST_ROUTES + 1, long_one, sizeof long_one, &other), VIQ_DONE);
+    is("as one that is refused", other == 1 + 4 + 8 + 24 + 8 && long_one[20] == 33, true);
+    is("a reload", viq_record_reload(&call, &usual, three, COUNT(three), two, COUNT(two), one, COUNT(one), room, sizeof room, &size), VIQ_DONE);
+    is("its size", size, 1 + 4 + 21 + 8 + 3 * 20 + 8 + 2 * 24 + 8 + 12 + 8);
+    is("its beginning", memcmp(room, "c\0\0\0\x9\0\1\0\0\0\0\0\0\2\0\0\0\x7d", 18), 0);
+}
+
+static void records(void) {
+    struct viq_router *router = NULL;
+    is("the check value of CRC-32", (uint32_t)~crc_of(0xffffffff, (const uint8_t *)"123456789", 9), 0xcbf43926);
+    is("the sum without a router", viq_sum(NULL), 0);
+    is("new that is recorded", made(&router, &usual), VIQ_DONE);
+    is("the sum of nothing", viq_sum(router), 0);
+    moments_and_interfaces(router);
+    packets(router);
+    is("data that is summed", frame(router, 0, data), VIQ_DONE);
+    is("there are packets", viq_packets(router) != 0, true);
+    is("their sum", viq_sum(router), sum_of_told(router));
+    is("time that is summed", viq_advance(router, 100000, viq_draw(9)), VIQ_DONE);
+    is("the sum of messages", viq_sum(router), sum_of_told(router));
+    record_calls();
+    record_lists();
+    viq_end(router);
+}
+
 static void texts(void) {
     is("the version", strncmp(viq_version(), VIQ_VERSION " ", sizeof VIQ_VERSION), 0);
     is("how it was built", strstr(viq_version(), "proved") != NULL, true);
@@ -852,6 +957,7 @@ int main(void) {
     older_versions();
     reloads();
     saved_routers();
+    records();
     texts();
     is("the other's moment", viq_next_moment(other), VIQ_NEVER);
     is("the other's packets", viq_packets(other), 0);

@@ -190,6 +190,36 @@ uint32_t viq_keep(struct viq_router *router, uint32_t source, uint32_t group, ui
     return viq_core_keep(CORE(router), source, group, moment);
 }
 
+uint32_t viq_record(const struct viq_call *call, const uint8_t *packet, size_t length, uint8_t *room,
+                    size_t room_length, size_t *size) {
+    return viq_core_record(call, packet, length, room, room_length, size);
+}
+
+uint32_t viq_record_routes(const struct viq_call *call, const struct viq_route *routes, size_t count, uint8_t *room,
+                           size_t room_length, size_t *size) {
+    struct route_list given = routes_of(routes, count);
+    return viq_core_record_routes(call, given.at, given.count, room, room_length, size);
+}
+
+uint32_t viq_record_ranges(const struct viq_call *call, const struct viq_range *ranges, size_t count, uint8_t *room,
+                           size_t room_length, size_t *size) {
+    struct range_list given = ranges_of(ranges, count);
+    return viq_core_record_ranges(call, given.at, given.count, room, room_length, size);
+}
+
+uint32_t viq_record_reload(const struct viq_call *call, const struct viq_settings *settings,
+                           const struct viq_interface *interfaces, size_t interface_count,
+                           const struct viq_route *routes, size_t route_count, const struct viq_range *ranges,
+                           size_t range_count, uint8_t *room, size_t room_length, size_t *size) {
+    if (interface_count > VIQ_MOST_INTERFACES) interface_count = 0;
+    struct route_list given_routes = routes_of(routes, route_count);
+    struct range_list given_ranges = ranges_of(ranges, range_count);
+    return viq_core_record_reload(call, settings, interfaces, interface_count, given_routes.at, given_routes.count,
+                                  given_ranges.at, given_ranges.count, room, room_length, size);
+}
+
+uint32_t viq_sum(const struct viq_router *router) { return viq_core_sum(CORE(router)); }
+
 uint64_t viq_probes(const struct viq_router *router) { return viq_core_probes(CORE(router)); }
 
 uint64_t viq_touched(const struct viq_router *router) { return viq_core_touched(CORE(router)); }

@@ -64,6 +64,17 @@ bool viq_core_changed_source(struct viq_core *router, size_t index, struct viq_s
 bool viq_core_may_differ(struct viq_core *router, uint32_t source, uint32_t group);
 uint32_t viq_core_seen(struct viq_core *router, uint32_t draw, uint32_t iface, uint32_t source, uint32_t group);
 uint32_t viq_core_keep(struct viq_core *router, uint32_t source, uint32_t group, uint64_t moment);
+uint32_t viq_core_record(const struct viq_call *call, const uint8_t *packet, size_t length, uint8_t *room,
+                         size_t room_length, size_t *size);
+uint32_t viq_core_record_routes(const struct viq_call *call, const struct viq_route *routes, size_t count,
+                                uint8_t *room, size_t room_length, size_t *size);
+uint32_t viq_core_record_ranges(const struct viq_call *call, const struct viq_range *ranges, size_t count,
+                                uint8_t *room, size_t room_length, size_t *size);
+uint32_t viq_core_record_reload(const struct viq_call *call, const struct viq_settings *settings,
+                                const struct viq_interface *interfaces, size_t interface_count,
+                                const struct viq_route *routes, size_t route_count, const struct viq_range *ranges,
+                                size_t range_count, uint8_t *room, size_t room_length, size_t *size);
+uint32_t viq_core_sum(struct viq_core *router);
 uint64_t viq_core_probes(struct viq_core *router);
 uint64_t viq_core_touched(struct viq_core *router);
 

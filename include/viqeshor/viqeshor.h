@@ -653,6 +653,47 @@ size_t viq_older_rows(const struct viq_router *router);
 VIQ_NOT_NULL(3)
 bool viq_older_row(const struct viq_router *router, size_t index, struct viq_older_row *row);
 
+/* ---- records of what a router took; LIBRARY.md describes a recording */
+
+/* A call that a router took, and what it answered. A field that its kind of call doesn't have isn't read. */
+struct viq_call {
+    uint64_t moment; /* ms, of viq_advance and viq_keep */
+    uint32_t letter; /* of its kind */
+    uint32_t draw;   /* of an event */
+    uint32_t iface;
+    uint32_t source; /* of viq_seen and viq_keep, as the next one */
+    uint32_t group;
+    uint32_t value;  /* what viq_older or viq_query_version set */
+    uint32_t answer;
+    uint32_t sum;    /* viq_sum after an event that answered VIQ_DONE, else 0 */
+};
+
+/* Writes the record of a call: 'a' viq_advance, 'f' viq_frame, 'u' viq_unicast, '+' viq_up, '-' viq_down, 's' viq_seen,
+ * 'k' viq_keep, 'o' viq_older, 'q' viq_query_version. The packet is that of viq_frame and viq_unicast, and isn't read
+ * for another. `size` gets how many bytes there are, 0 for another letter. As many of them as room_length allows are
+ * written into `room`, and the rest of `room` is unchanged. It answers VIQ_DONE; VIQ_MEMORY, where nothing is written. */
+VIQ_READ_ANSWER VIQ_NOT_NULL(1) VIQ_NOT_NULL(6)
+uint32_t viq_record(const struct viq_call *call, const uint8_t *packet, size_t length, uint8_t *room,
+                    size_t room_length, size_t *size);
+
+/* Write the record of viq_routes, of viq_ranges, and of another configuration, in the same way, whatever the letter is.
+ * A list that viq_routes, viq_ranges or viq_new refuses for its length is recorded as one that is refused alike. */
+VIQ_READ_ANSWER VIQ_NOT_NULL(1) VIQ_NOT_NULL(6)
+uint32_t viq_record_routes(const struct viq_call *call, const struct viq_route *routes, size_t count, uint8_t *room,
+                           size_t room_length, size_t *size);
+VIQ_READ_ANSWER VIQ_NOT_NULL(1) VIQ_NOT_NULL(6)
+uint32_t viq_record_ranges(const struct viq_call *call, const struct viq_range *ranges, size_t count, uint8_t *room,
+                           size_t room_length, size_t *size);
+VIQ_READ_ANSWER VIQ_NOT_NULL(1) VIQ_NOT_NULL(2) VIQ_NOT_NULL(11)
+uint32_t viq_record_reload(const struct viq_call *call, const struct viq_settings *settings,
+                           const struct viq_interface *interfaces, size_t interface_count,
+                           const struct viq_route *routes, size_t route_count, const struct viq_range *ranges,
+                           size_t range_count, uint8_t *room, size_t room_length, size_t *size);
+
+/* The sum of the packets that are to be sent, as viq_packets counts them: their CRC-32 (RFC 1952, section 8). */
+VIQ_READ_ANSWER
+uint32_t viq_sum(const struct viq_router *router);
+
 /* ---- costs */
 
 /* What the last event cost: the count of trie nodes that it visited; and the rows of the forwarding cache that it

@@ -12,8 +12,8 @@ use rand::{RngCore, SeedableRng};
 use std::collections::BTreeMap;
 use std::net::Ipv4Addr;
 use viqeshor::{
-    Error, Link, NeighbourRow, OlderRow, Packet, Range, Refusal, Route, Router, Sent, SourceTree, Table, TableRow, Tree,
-    Verdict, MOST_BYTES,
+    Error, Link, NeighbourRow, OlderRow, Packet, Range, Refusal, Route, Router, Sent, SourceTree, Table, TableRow,
+    Tree, Verdict, MOST_BYTES,
 };
 
 /// What happens to the router.

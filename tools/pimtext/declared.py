@@ -20,7 +20,7 @@ NAMES = {
     "ToldLanDelay": "viq_lan_delay", "ToldNeighbour": "viq_neighbour", "NeighbourColumns": "viq_neighbour_row",
     "GroupColumns": "viq_group_row", "SourceColumns": "viq_source_row", "DownstreamColumns": "viq_downstream_row",
     "AssertColumns": "viq_assert_row", "UpstreamColumns": "viq_upstream_row", "RptColumns": "viq_rpt_row",
-    "ActiveColumns": "viq_active_row", "ToldRow": "viq_core_row",
+    "ActiveColumns": "viq_active_row", "ToldRow": "viq_core_row", "GivenCall": "viq_call",
 }
 # `Place` is a pointer beside what takes no room.
 TYPES = {"u8": "uint8_t", "u32": "uint32_t", "u64": "uint64_t", "usize": "size_t", "bool": "bool", "Place": "void *"}
@@ -29,7 +29,7 @@ FIELD = re.compile(r"^    (?:pub )?(\w+): (\w+),$", re.M)
 CALL = re.compile(r'^pub extern "C" fn (viq_core_\w+)\((.*?)\)(?: -> (\w+))?\n', re.M | re.S)
 PARAMETER = re.compile(r"(\w+): (&mut |&)?(\[?)(\w+)\]?")
 C_CALL = re.compile(r"\b(viq_core_\w+)\(")
-PROTOTYPE = re.compile(r"^(?:VIQ_\w+(?:\(\d\))? ?)*((?:const )?\w+ \*?viq_\w+\([^;{]*\));", re.M)
+PROTOTYPE = re.compile(r"^(?:VIQ_\w+(?:\(\d+\))? ?)*((?:const )?\w+ \*?viq_\w+\([^;{]*\));", re.M)
 C_STRUCT = re.compile(r"^struct (viq_\w+) \{\n(.*?)^\};", re.M | re.S)
 C_ENUM = re.compile(r"^enum \{(.*?)\};", re.M | re.S)
 C_NUMBER = re.compile(r"^#define (VIQ_(?:MOST|NEVER|NO|USUAL)\w*) (.+)$", re.M)
@@ -37,7 +37,8 @@ C_NUMBER = re.compile(r"^#define (VIQ_(?:MOST|NEVER|NO|USUAL)\w*) (.+)$", re.M)
 
 def structs() -> dict[str, list[tuple[str, str]]]:
     """The crate's values that C sees: each with its fields, a name and a type of C."""
-    text = "".join((SOURCES / name).read_text() for name in ("handle.rt", "given.rt", "told.rt", "rows.rt", "trees.rt"))
+    names = ("handle.rt", "given.rt", "told.rt", "rows.rt", "trees.rt", "recorded.rt")
+    text = "".join((SOURCES / name).read_text() for name in names)
     found = {name: FIELD.findall(body) for name, body in STRUCT.findall(text)}
     return {NAMES[name]: [(field, c_type(kind)) for field, kind in found[name]] for name in NAMES}
 

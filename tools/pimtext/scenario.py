@@ -37,8 +37,8 @@ class Interface:
 
 @dataclass
 class Router:
-    """`table` is the router's table in the file. The interfaces are those of the table, by their numbers, and then those
-    that moves `reload` add."""
+    """`table` is the router's table in the file. The interfaces are those of the table, by their numbers, and then
+    those that moves `reload` add."""
     name: str
     interfaces: list
     table: dict

@@ -121,19 +121,19 @@ class Spoilt(unittest.TestCase):
     def test_all_rows_evaluated_with_a_count_that_is_thrown_away(self):
         self.spoil(
             "pim_fanout/src/cache.rt",
-            "        let made = row(",
+            "        let made = row_by_sight(",
             "        for other in self.all() "
             "{\n            row(world, other, meter, &mut Evaluations::none());\n        }\n"
-            "        let made = row(",
+            "        let made = row_by_sight(",
         )
         self.refused("a count of rows is made in Cache::refresh_one", "a row is evaluated in Cache::refresh_one")
 
     def test_rows_evaluated_in_another_cache(self):
         self.spoil(
             "pim_event/src/event.rt",
-            "    cache.refresh(world, meter, names, disturbed_where(reroutes, touched))?;",
-            "    Cache::new(turn.alloc).refresh(world, meter, names.try_clone()?, Touched::All)?;\n"
-            "    cache.refresh(world, meter, names, disturbed_where(reroutes, touched))?;",
+            "    cache.refresh(world, meter, names, disturbed_where(moves, touched), &last)?;",
+            "    Cache::new(turn.alloc).refresh(world, meter, names.try_clone()?, Touched::All, &last)?;\n"
+            "    cache.refresh(world, meter, names, disturbed_where(moves, touched), &last)?;",
         )
         self.refused("a count of rows is made in take_change")
 

@@ -1,7 +1,6 @@
 -- What C reads of a row of a table: the letter of the table, and the columns of its kind. Those of the other kinds are 0.
 use Rattle.std.specs.Prelude.{Bool, None, Option, Some, false, true, unwrap_or, ℕ, ◌≡◌}
 use Rattle.pim_types.specs.declared.fact.AssertRole.{AssertRole}
-use Rattle.pim_types.specs.declared.fact.Key.{Key}
 use Rattle.pim_rows.specs.declared.table.{DownstreamState.DownstreamState, RegisterName.RegisterName, Row.Row}
 use Rattle.pim_c.specs.Told.{never, source_or_zero}
 use Rattle.pim_c.specs.declared.rows.ActiveColumns.{ActiveColumns}

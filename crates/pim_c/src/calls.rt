@@ -12,10 +12,13 @@ ghost use Rattle.pim_c.specs.Trees.{ValueTold, link_in, link_of, neighbour_in, n
 ghost use Rattle.pim_ifset.specs.Members.{iface_of};
 ghost use Rattle.pim_c.specs.Reloaded.{ReloadedCopy};
 ghost use Rattle.pim_c.specs.Given.{config_of, given_event, range_of, route_of};
+ghost use Rattle.pim_c.specs.Recorded.{Written, given_text, ranges_text, reload_text, routes_text};
+ghost use Rattle.pim_recorded.specs.Records.{sum_of};
 ghost use Rattle.pim_c.specs.Told.{never, older_hosts_of, query_version_of, table_of_letter};
 
 use crate::given::{self, GivenInterface, GivenRange, GivenRoute, GivenSettings};
 use crate::handle::Handle;
+use crate::recorded::{self, GivenCall};
 use crate::rows::ToldRow;
 use crate::told::{
     self, Forwarding, LAST_MOMENT, MEMORY, MOMENT_FAR, NO_SETTING, NO_TABLE, NamedSource,
@@ -514,4 +517,85 @@ pub extern "C" fn viq_core_touched(alloc: Global, router: &mut Handle) -> u64
     ensures stays { router.new.place.inside ≡ router.old.place.inside }
 {
     router.touched(alloc)
+}
+
+/// The record of a call without a list: as many of its bytes as the buffer holds are written into it, and how many there
+/// are, 0 where no kind of call has the letter.
+#[unsafe(no_mangle)]
+pub extern "C" fn viq_core_record(
+    alloc: Global,
+    call: &GivenCall,
+    packet: &[u8],
+    room: &mut [u8],
+    size: &mut usize,
+) -> u32
+    ensures { Written (given_text call.now packet.now) result size.old size.new room.old room.new }
+{
+    let mut bytes = Vec::new(alloc);
+    let written = recorded::write_call(call, packet, &mut bytes);
+    recorded::tell(written, bytes.as_slice(), room, size)
+}
+
+/// The record of new unicast routes, written so.
+#[unsafe(no_mangle)]
+pub extern "C" fn viq_core_record_routes(
+    alloc: Global,
+    call: &GivenCall,
+    routes: &[GivenRoute],
+    room: &mut [u8],
+    size: &mut usize,
+) -> u32
+    ensures { Written (routes_text call.now routes.now) result size.old size.new room.old room.new }
+{
+    let mut bytes = Vec::new(alloc);
+    let written = recorded::write_routes(alloc, call, routes, &mut bytes);
+    recorded::tell(written, bytes.as_slice(), room, size)
+}
+
+/// The record of new RP ranges, written so.
+#[unsafe(no_mangle)]
+pub extern "C" fn viq_core_record_ranges(
+    alloc: Global,
+    call: &GivenCall,
+    ranges: &[GivenRange],
+    room: &mut [u8],
+    size: &mut usize,
+) -> u32
+    ensures { Written (ranges_text call.now ranges.now) result size.old size.new room.old room.new }
+{
+    let mut bytes = Vec::new(alloc);
+    let written = recorded::write_ranges(alloc, call, ranges, &mut bytes);
+    recorded::tell(written, bytes.as_slice(), room, size)
+}
+
+/// The record of another configuration, written so.
+#[unsafe(no_mangle)]
+pub extern "C" fn viq_core_record_reload(
+    alloc: Global,
+    call: &GivenCall,
+    settings: &GivenSettings,
+    interfaces: &[GivenInterface],
+    routes: &[GivenRoute],
+    ranges: &[GivenRange],
+    room: &mut [u8],
+    size: &mut usize,
+) -> u32
+    ensures { Written (reload_text call.now (config_of settings.now interfaces.now routes.now ranges.now))
+        result size.old size.new room.old room.new }
+{
+    let Ok(config) = given::config(alloc, settings, interfaces, routes, ranges) else {
+        return MEMORY;
+    };
+    let mut bytes = Vec::new(alloc);
+    let written = recorded::write_reload(call, &config, &mut bytes);
+    recorded::tell(written, bytes.as_slice(), room, size)
+}
+
+/// The sum of the packets that are to be sent, as it is in a record.
+#[unsafe(no_mangle)]
+pub extern "C" fn viq_core_sum(alloc: Global, router: &mut Handle) -> u32
+    ensures sum { result ≡ sum_of (packets_in router.old.place.inside) }
+    ensures stays { router.new.place.inside ≡ router.old.place.inside }
+{
+    router.sum(alloc)
 }

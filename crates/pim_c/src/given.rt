@@ -116,7 +116,8 @@ fn interfaces(
     Ok(all)
 }
 
-fn routes(alloc: Global, given: &[GivenRoute]) -> Result<Series<Route>, AllocError>
+/// Unicast routes.
+pub fn routes(alloc: Global, given: &[GivenRoute]) -> Result<Series<Route>, AllocError>
     ensures { IfOk result (λ all. all ≡ map route_of given.now) }
 {
     let mut all = Series::new(alloc);
@@ -126,7 +127,8 @@ fn routes(alloc: Global, given: &[GivenRoute]) -> Result<Series<Route>, AllocErr
     Ok(all)
 }
 
-fn ranges(alloc: Global, given: &[GivenRange]) -> Result<Series<RpRange>, AllocError>
+/// RP ranges.
+pub fn ranges(alloc: Global, given: &[GivenRange]) -> Result<Series<RpRange>, AllocError>
     ensures { IfOk result (λ all. all ≡ map range_of given.now) }
 {
     let mut all = Series::new(alloc);

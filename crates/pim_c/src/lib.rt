@@ -7,6 +7,7 @@ pub mod given;
 pub mod handle;
 pub mod place;
 pub mod pointed;
+pub mod recorded;
 pub mod rows;
 pub mod told;
 pub mod trees;

@@ -15,6 +15,7 @@ mod Heard
 mod Instants
 pub mod Listing
 mod Judgements
+mod Lasting
 mod MovedEnds
 mod MovedReports
 mod Plainly

@@ -1,5 +1,5 @@
 -- Of which interfaces the router is the DR: an event and the expiry of a timer leave it, but those that are said to move it.
-use Rattle.std.proofs.Common.{◌≡◌, ◌&&◌, ℕ, Bool, true, false, not, List, ◌++◌, map, is_none, is_some, refl, sym, ap, subst, ◌∙◌}
+use Rattle.std.proofs.Common.{◌≡◌, ℕ, Bool, true, false, not, List, is_none, is_some, refl, ap, ◌∙◌}
 use Rattle.std.proofs.lemmas.List.Folds.{list_all-append}
 use Rattle.std.specs.Cmp.{second_so}
 use Rattle.std.specs.Cmp.Derive.{both_true}

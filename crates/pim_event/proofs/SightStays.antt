@@ -1,18 +1,27 @@
 -- A sight stays true where messages upstream are made and packets are written: no macro reads what these change.
-use Rattle.std.proofs.Common.{◌≡◌, ℕ, List, [], Option, None, Some, IfSome, subst, sym}
+use Rattle.std.proofs.Common.{◌≡◌, ℕ, Bool, false, ◌&&◌, nat_lt, List, [], Option, None, Some, option_map, option_and_then, IfSome, refl, ap, subst, sym, ◌∙◌}
+use Rattle.std.specs.Option.{option_map_or}
+use Rattle.pim_types.specs.declared.fact.AssertRow.{AssertRow}
 use Rattle.pim_types.specs.declared.fact.InterfaceRow.{InterfaceRow}
 use Rattle.pim_types.specs.declared.fact.JoinTimerRow.{JoinTimerRow}
 use Rattle.pim_types.specs.declared.fact.Key.{Key}
 use Rattle.pim_types.specs.declared.fact.OverrideTimerRow.{OverrideTimerRow}
+use Rattle.pim_types.specs.declared.path.Path.{Path}
 use Rattle.pim_types.specs.declared.upstream.SourceView.{SourceView}
 use Rattle.pim_types.specs.Keys.{rpt_key, source_key, star_key}
 use Rattle.pim_laws.proofs.ListLaws.{by_cond}
 use Rattle.pim_laws.proofs.TurnLaws.{kept_in_turn}
+use Rattle.pim_locality.proofs.QuietStates.{frame_packets}
+use Rattle.pim_locality.proofs.SharedMacros.{route_local}
+use Rattle.pim_locality.specs.Locality.{touching}
+use Rattle.pim_locality.specs.Scopes.{reads, scope}
+use Rattle.pim_model.specs.Desires.{winner_hop}
 use Rattle.pim_model.specs.Messages.{Message}
 use Rattle.pim_model.specs.Neighbours.{is_dr, nbr}
 use Rattle.pim_model.specs.Receivers.{is_exclude, local_receiver_exclude, local_receiver_include}
-use Rattle.pim_model.specs.Sets.{is_beaten, is_kept_alive, joins, joins_star, prunes, spt_bit, spt_metric, tunnel}
-use Rattle.pim_model.specs.State.{State}
+use Rattle.pim_model.specs.Registers.{is_dr_of_path}
+use Rattle.pim_model.specs.Sets.{assert_source, assert_star, is_beaten, is_better, is_kept_alive, joins, joins_star, prunes, route_metric, spt_bit, spt_metric, tunnel}
+use Rattle.pim_model.specs.State.{State, is_own, my_address}
 use Rattle.pim_model.specs.Tables.{Table}
 use Rattle.pim_model.specs.Unicast.{route, rp_of, rp_route, rpf_interface, rpf_interface_rp}
 use Rattle.pim_model.specs.Upstream.{Cancel, Keep, LowerTo, SetTo, TimerChange, moved_join_timer, moved_override_timer, rpt_told, source_told, source_view, with_join_timer, with_override_timer}
@@ -29,14 +38,25 @@ abbrev beside : State → Table JoinTimerRow → Table OverrideTimerRow → Tabl
 beside s joins overrides interfaces =
     record s { join_timers = joins; override_timers = overrides; interfaces = interfaces }
 
-module _ (s : State) (ts : Table JoinTimerRow) (us : Table OverrideTimerRow) (is : Table InterfaceRow) (g : ℕ) where
+abbrev iface_of : Option Path → Option ℕ
+iface_of path = option_map (λ (p : Path). p.iface.number) path
+
+module _ (s : State) (ts : Table JoinTimerRow) (us : Table OverrideTimerRow) (is : Table InterfaceRow)
+    (same : (a : ℕ) → route (beside s ts us is) a ≡ route s a) (g : ℕ) where
+  path_there : (a : ℕ) → route s a ≡ route (beside s ts us is) a
+  path_there a = sym (same a)
+
+  tree_path : rp_route s g ≡ rp_route (beside s ts us is) g
+  unfolding rp_route rp_of
+  tree_path = λ j. option_and_then (λ a. path_there a j) (rp_of s g)
+
   star_beside : (star : StarSight) → ShowsStar s g star → ShowsStar (beside s ts us is) g star
-  unfolding rp_of rp_route route nbr rpf_interface_rp joins_star is_exclude is_dr
+  unfolding rp_of nbr rpf_interface_rp joins_star is_exclude is_dr
   star_beside star h = record {
     rp = h.rp;
-    rp_path = h.rp_path;
-    next_hop = h.next_hop;
-    winner = h.winner;
+    rp_path = h.rp_path ∙ tree_path;
+    next_hop = h.next_hop ∙ ap (nbr s) tree_path;
+    winner = h.winner ∙ ap (λ (p : Option Path). winner_hop (iface_of p) (assert_star s g)) tree_path;
     joined = h.joined;
     lost = h.lost;
     won = h.won;
@@ -49,29 +69,44 @@ module _ (s : State) (ts : Table JoinTimerRow) (us : Table OverrideTimerRow) (is
     short = h.short;
   }
 
+  beaten_there : (src i : ℕ) → is_beaten s g src i ≡ is_beaten (beside s ts us is) g src i
+  unfolding is_beaten spt_metric
+  beaten_there src i = λ j.
+      option_map_or
+      (λ (r : AssertRow). is_better r.winner (route_metric false (my_address s i) (is_own s src) (path_there src j)))
+      (assert_source s g src i) false
+
   source_beside : (src : ℕ) (sight : SourceSight) → ShowsSource s g src sight → ShowsSource (beside s ts us is) g src sight
-  unfolding route nbr rpf_interface rpf_interface_rp rp_route rp_of joins prunes is_beaten spt_metric local_receiver_include local_receiver_exclude is_dr spt_bit is_kept_alive tunnel
+  unfolding nbr rpf_interface rpf_interface_rp joins prunes local_receiver_include local_receiver_exclude is_dr spt_bit is_kept_alive tunnel
   source_beside src sight h = record {
     star = star_beside sight.star h.star;
-    path = h.path;
-    next_hop = h.next_hop;
-    winner = h.winner;
-    tree_winner = h.tree_winner;
+    path = h.path ∙ path_there src;
+    next_hop = h.next_hop ∙ ap (nbr s) (path_there src);
+    winner = h.winner ∙ ap (λ (p : Option Path). winner_hop (iface_of p) (assert_source s g src)) (path_there src);
+    tree_winner = h.tree_winner ∙ ap (λ (p : Option Path). winner_hop (iface_of p) (assert_source s g src)) tree_path;
     joined = h.joined;
     pruned = h.pruned;
     lost = h.lost;
     won = h.won;
-    beaten = h.beaten;
+    beaten = λ i. h.beaten i ∙ ap (λ (b : Bool). nat_lt i 120 && b) (beaten_there src i);
     included = h.included;
     excluded = h.excluded;
     spt = h.spt;
     is_kept_alive = h.is_kept_alive;
     tunnel = h.tunnel;
     is_own = h.is_own;
-    is_dr = h.is_dr;
+    is_dr = h.is_dr ∙ ap (λ (p : Option Path). option_map_or (is_dr_of_path s) p false) (path_there src);
     is_spt_wanted = h.is_spt_wanted;
     short = h.short;
   }
+
+-- A packet is written with the same interfaces up.
+written_route : (s : State) (messages : List Message) (a : ℕ) → route (write_all s messages).0 a ≡ route s a
+unfolding scope touching
+written_route s messages a =
+    let any : Key = source_key 0 0 0 in
+    sym (route_local (reads any) (write_all s messages).0 a)
+    ∙ (ap (λ (u : State). route u a) (sym (frame_packets s messages any refl)) ∙ route_local (reads any) s a)
 
 module _ (g src : ℕ) (sight : SourceSight) where
   abbrev Shown : State → Type 0
@@ -80,12 +115,12 @@ module _ (g src : ℕ) (sight : SourceSight) where
   -- ---- messages upstream
 
   join_moved : (s : State) (k : Key) (change : TimerChange) → Shown s → Shown (moved_join_timer s k change)
-  unfolding moved_join_timer
-  join_moved s k change h = source_beside s _ s.override_timers s.interfaces g src sight h
+  unfolding moved_join_timer route
+  join_moved s k change h = source_beside s _ s.override_timers s.interfaces (λ a. refl) g src sight h
 
   override_moved : (s : State) (k : Key) (change : TimerChange) → Shown s → Shown (moved_override_timer s k change)
-  unfolding moved_override_timer
-  override_moved s k change h = source_beside s s.join_timers _ s.interfaces g src sight h
+  unfolding moved_override_timer route
+  override_moved s k change h = source_beside s s.join_timers _ s.interfaces (λ a. refl) g src sight h
 
   join_kept : (s : State) (k : Key) (change : TimerChange) → Shown s → Shown (with_join_timer s k change)
   unfolding with_join_timer
@@ -125,7 +160,8 @@ module _ (g src : ℕ) (sight : SourceSight) where
 
   pub written_sight : (s : State) (messages : List Message) → Shown s → Shown (write_all s messages).0
   unfolding write_all
-  written_sight s messages h = source_beside s s.join_timers s.override_timers _ g src sight h
+  written_sight s messages h =
+      source_beside s s.join_timers s.override_timers _ (written_route s messages) g src sight h
 
 pub some_written : (s t : State) (messages : List Message) (sight : Option SourceSight)
     → t ≡ (write_all s messages).0 → IfSome sight (IsSourceSight s) → IfSome sight (IsSourceSight t)

@@ -1,5 +1,5 @@
 -- What was accepted, where there is room for it.
-use Rattle.std.proofs.Common.{◌≡◌, ◌+◌, ℕ, Bool, true, false, not, length, Result, Ok, Err, IsOk, IsTrue, List, [], ◌++◌, OnOk, refl, ap, subst, sym, ◌∙◌}
+use Rattle.std.proofs.Common.{◌≡◌, ℕ, Bool, true, false, not, length, Result, Ok, Err, IsOk, IsTrue, List, [], ◌++◌, OnOk, refl, ap, subst, sym, ◌∙◌}
 use Rattle.pim_ip.specs.declared.refusal.Refusal.{Refusal}
 use Rattle.pim_types.specs.declared.outcome.Emission.{Emission}
 use Rattle.pim_types.specs.declared.config.Route.{Route}

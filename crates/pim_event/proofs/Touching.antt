@@ -8,7 +8,7 @@ use Rattle.std.specs.Option.{option_map_or}
 use Rattle.std.specs.Prelude.{fold, if◌then◌else◌}
 use Rattle.pim_types.specs.declared.fact.Key.{Key}
 use Rattle.pim_types.specs.declared.fact.NeighbourRow.{NeighbourRow}
-use Rattle.pim_types.specs.Keys.{iface_in, is_of_group, is_star, names_source, neighbour_key, source_in, star_key}
+use Rattle.pim_types.specs.Keys.{is_of_group, is_star, names_source, neighbour_key, star_key}
 use Rattle.pim_wire.specs.RegisterParts.{is_null, registered_group, registered_source}
 use Rattle.pim_wire.specs.declared.hello.Hello.{Hello as HelloValue}
 use Rattle.pim_types.specs.declared.config.IfaceId.{IfaceId}

@@ -33,6 +33,7 @@ ghost use Rattle.pim_event.specs.Replacing.{NoneReplaced, event_replaced, replac
 ghost use Rattle.pim_event.specs.Staying.{OffersStay, moves_all, moves_dr};
 ghost use Rattle.pim_event.specs.Settling.{AreNames};
 ghost use Rattle.pim_offload.specs.Staying.{is_rerouting};
+ghost use Rattle.pim_adjacent.specs.Adjacent.{hello_keeps_dr};
 ghost use Rattle.pim_event.specs.Stops.{stop_outcome};
 ghost use Rattle.pim_trie.specs.Meter.{raised};
 ghost use Rattle.pim_types.specs.Keys.{key_cmp};
@@ -56,7 +57,8 @@ use pim_mfc::Forward;
 use pim_model::Accepted;
 use pim_mrib::Mrib;
 use pim_trie::Meter;
-use pim_types::{Fault, IfaceId, Outcome, Refusal, Series, SourceGroup, Stop, Verdict};
+use pim_types::{Addr, Fault, IfaceId, Outcome, Refusal, Series, SourceGroup, Stop, Verdict};
+use pim_wire::Hello;
 use pim_world::{Touched, Turn, World};
 use std::alloc::Global;
 
@@ -167,6 +169,19 @@ fn is_rerouting(act: &Act<'_>) -> bool
     }
 }
 
+// Whether a Hello changes whether the router is the DR. No election is held for one that only says that its neighbour
+// lasts.
+fn hello_moves_dr(world: &World, iface: IfaceId, from: Addr, hello: &Hello) -> bool
+    ensures { result ≡ not (hello_keeps_dr world.now iface.number from.bits hello.now) }
+{
+    // For the proof: the keys of neighbours rise.
+    let _ = world.neighbours().len();
+    if world.neighbours().is_refreshed(iface, from, hello) {
+        return false;
+    }
+    !hello_keeps_dr(world, iface, from, hello)
+}
+
 // Whether an event that forwards no packet may change of which interfaces the router is the DR.
 #[tactic(auto, unfolding(crate::specs::Staying::moves_dr))]
 fn control_moves_dr(world: &World, control: &Control<'_>) -> bool
@@ -175,7 +190,7 @@ fn control_moves_dr(world: &World, control: &Control<'_>) -> bool
     match control {
         Control::Up { .. } => true,
         Control::Down { .. } => true,
-        Control::Hello { iface, from, hello } => !hello_keeps_dr(world, *iface, *from, hello),
+        Control::Hello { iface, from, hello } => hello_moves_dr(world, *iface, *from, hello),
         Control::Routes { .. } => false,
         Control::Ranges { .. } => false,
         Control::JoinPruneToMe { .. } => false,

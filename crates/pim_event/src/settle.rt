@@ -1,5 +1,5 @@
 //! What follows of an event's own change: registers, asserts and SPTbits that must go, and messages upstream.
-ghost use Rattle.std.specs.Prelude.{◌≡◌, ◌++◌, ◌∷◌, [], IfOk, IfSome, IsOkUnless, IsTrue, OnOk, false};
+ghost use Rattle.std.specs.Prelude.{◌≡◌, ◌++◌, ◌∷◌, [], IfOk, IfSome, IsOkUnless, IsTrue, None, OnOk, false};
 ghost use Rattle.pim_fanout.specs.Named.{keys_of};
 ghost use Rattle.pim_ip.specs.declared.fault.Fault.{Fault};
 ghost use Rattle.pim_macros.specs.Sights.{IsSourceSight};
@@ -147,6 +147,15 @@ fn follow_group(
     Ok(names)
 }
 
+// Leaves no sight. Where there is none already, nothing is written: a sight is large.
+fn forget(last: &mut Option<SourceSight>)
+    ensures { last.new ≡ None }
+{
+    if let Some(_) = last {
+        *last = None;
+    }
+}
+
 // Does what follows, by comparison with the opening: first the registers, then what must go, then the messages
 // upstream.
 fn follow(
@@ -162,10 +171,10 @@ fn follow(
     ensures named { IfOk result (λ names. AreNamed before.now (cleared_by opening.now world.old).0 (keys_of names)) }
     ensures last { OnOk result (IfSome last.new (IsSourceSight world.new)) }
 {
-    *last = None;
     if let Some((group, opened)) = opening.only_source() {
         return follow_source(world, turn, meter, group, opened, before, last);
     }
+    forget(last);
     let [group] = opening.groups() else {
         return follow_all(world, turn, meter, opening, before);
     };

@@ -78,6 +78,17 @@ UnknownIsForwarded =
     × (((on_shared_tree.1).core).present ≡ 10) × ((on_shared_tree.1).now ≡ 15)
     × (map (λ (n : Notice). n.moment) (on_shared_tree.1).owed ≡ [])
 
+-- ---- a neighbour that becomes the DR of 2
+
+abbrev pub heard_and_sent : State
+heard_and_sent = state_after joined_and_sent (frame 2 to_exclude ∷ [])
+
+-- It names the source where a host on 2 asks for the group, and none where no host does.
+abbrev pub DrNamesWhatItServes : Type 0
+DrNamesWhatItServes =
+    (event_named joined_and_sent (frame 2 hello_of_10_0_2_9) ≡ [])
+    × (event_named heard_and_sent (frame 2 hello_of_10_0_2_9) ≡ source_key 0 group source ∷ [])
+
 -- ---- a router on a host's link that isn't its DR
 
 abbrev pub beside_dr : State

@@ -44,15 +44,16 @@ impl Daemon {
     /// that the file hasn't any more goes down, and is told to the router without an address.
     pub(super) fn reconfigure(&mut self, why: &str) -> Result<(), Fatal> {
         self.end_removed()?;
-        let (addresses, said) = self.addresses();
-        said.iter().for_each(|line| warn!("{line}"));
-        let moved: Vec<_> = self.moved(&addresses);
-        self.leave_sessions(&moved);
-        let before = self.ports.iter().map(|port| port.subnet).collect();
-        self.set_subnets(addresses);
         // What the kernel has forwarded until now goes by the rows until now.
         self.look()?;
         self.advance()?;
+        let (addresses, said) = self.addresses();
+        said.iter().for_each(|line| warn!("{line}"));
+        let moved = self.moved(&addresses);
+        self.leave_sessions(&moved);
+        self.neighbours.are_stale = true;
+        let before = self.ports.iter().map(|port| port.subnet).collect();
+        self.set_subnets(addresses);
         if let Answer::Refused(refusal) = self.tell_configuration()? {
             error!("the router refuses the settings, and stays as it was: {}", viqeshor::Error::Refused(refusal));
             self.set_subnets(before);
@@ -65,7 +66,6 @@ impl Daemon {
         self.leave();
         self.follow();
         self.all_unknown_may_differ();
-        self.neighbours.are_stale = true;
         self.keeping.changed();
         self.speak()?;
         self.settle_ports()?;

@@ -45,3 +45,6 @@ returns-clause-names c =
     c.args.turn.now c.apply.new.turn
     refl c.in_ok-copies.ensures.sends)
     c.in_ok-gathered.ensures.opening c.in_ok-gathered.ensures.before c.in_ok-names.ensures.named
+
+pub of-requires : goal.of-requires
+of-requires c = c.planned_sight-given.ensures c.args.world.now c.requires.plan.read

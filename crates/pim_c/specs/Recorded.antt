@@ -1,0 +1,69 @@
+-- The record of a call that a program tells, and what is written of it.
+use Rattle.std.specs.Option.{option_map_or}
+use Rattle.std.specs.Prelude.{List, None, Option, Some, [], if◌then◌else◌, length, map, ℕ, ◌==◌, ◌≡◌, ◌⊎◌}
+use Rattle.pim_ifset.specs.Members.{iface_of}
+use Rattle.pim_ip.specs.Addr.{addr}
+use Rattle.pim_types.specs.declared.config.{Config.Config, Settings.Settings}
+use Rattle.pim_types.specs.declared.event.EventKind.{EventKind}
+use Rattle.pim_recorded.specs.Records.{Call, Hosts, Kept, Record, Reloaded, Seen, Version, event_record, record_text}
+use Rattle.pim_recorded.specs.declared.answered.Answered.{Answered}
+use Rattle.pim_c.specs.Given.{range_of, route_of}
+use Rattle.pim_c.specs.Told.{written_into}
+use Rattle.pim_c.specs.declared.given.GivenRange.{GivenRange}
+use Rattle.pim_c.specs.declared.given.GivenRoute.{GivenRoute}
+use Rattle.pim_c.specs.declared.recorded.GivenCall.{GivenCall}
+
+abbrev pub answered_of : GivenCall → Answered
+answered_of c = record { answer = c.answer; sum = c.sum }
+
+abbrev pub happened : GivenCall → EventKind → Option Record
+happened c kind = Some (event_record c.draw kind (answered_of c))
+
+abbrev pub called : GivenCall → Call → Option Record
+called c call = Some (record { call = call; answered = answered_of c })
+
+-- the record of a call without a list, by its letter
+abbrev pub record_given : GivenCall → List ℕ → Option Record
+record_given c packet =
+    if c.letter == 97 then happened c (EventKind.Advance c.moment)
+    else (if c.letter == 102 then happened c (EventKind.Frame (iface_of c.iface) packet)
+    else (if c.letter == 117 then happened c (EventKind.Unicast packet)
+    else (if c.letter == 43 then happened c (EventKind.Up (iface_of c.iface))
+    else (if c.letter == 45 then happened c (EventKind.Down (iface_of c.iface))
+    else (if c.letter == 115 then called c (Seen c.draw (iface_of c.iface) (addr c.source) (addr c.group))
+    else (if c.letter == 107 then called c (Kept (addr c.source) (addr c.group) c.moment)
+    else (if c.letter == 111 then called c (Hosts (iface_of c.iface) c.value)
+    else (if c.letter == 113 then called c (Version (iface_of c.iface) c.value) else None))))))))
+
+-- its bytes; none where no kind has the letter
+abbrev pub given_text : GivenCall → List ℕ → List ℕ
+given_text c packet = option_map_or record_text (record_given c packet) []
+
+abbrev pub routes_text : GivenCall → List GivenRoute → List ℕ
+routes_text c routes = record_text (event_record c.draw (EventKind.Routes (map route_of routes)) (answered_of c))
+
+abbrev pub ranges_text : GivenCall → List GivenRange → List ℕ
+ranges_text c ranges = record_text (event_record c.draw (EventKind.Rps (map range_of ranges)) (answered_of c))
+
+-- a configuration without its lists
+abbrev pub settings_in : Config → Settings
+settings_in c = record {
+  limit = c.limit;
+  spt = c.spt;
+  robustness = c.robustness;
+  query_interval = c.query_interval;
+  query_response_interval = c.query_response_interval;
+  last_member_query_interval = c.last_member_query_interval;
+}
+
+abbrev pub reload_text : GivenCall → Config → List ℕ
+reload_text c given = record_text (record {
+  call = Reloaded c.draw (settings_in given) given.interfaces given.routes given.rps;
+  answered = answered_of c;
+})
+
+-- Bytes were written, as many as fit, with how many there are, or an allocation failed.
+abbrev pub Written : List ℕ → ℕ → ℕ → ℕ → List ℕ → List ℕ → Type 0
+Written text answer size told room filled =
+    ((answer ≡ 0) × (told ≡ length text) × (filled ≡ written_into room text))
+    ⊎ ((answer ≡ 40) × (told ≡ size) × (filled ≡ room))

@@ -1,0 +1,22 @@
+//! A sum of what the router of a handle sent.
+ghost use Rattle.std.specs.Prelude.{◌≡◌};
+ghost use Rattle.pim_c.specs.Called.{packets_in};
+ghost use Rattle.pim_recorded.specs.Records.{sum_of};
+
+use super::{Handle, to_send};
+use std::alloc::Global;
+
+impl Handle {
+    /// The sum of the packets that are to be sent.
+    pub fn sum(&mut self, alloc: Global) -> u32
+        ensures sum { result ≡ sum_of (packets_in self.old.place.inside) }
+        ensures stays { self.new.place.inside ≡ self.old.place.inside }
+    {
+        let Some(session) = self.take(alloc) else {
+            return pim_recorded::sum_of(&[]);
+        };
+        let sum = pim_recorded::sum_of(to_send(&session));
+        self.put(session);
+        sum
+    }
+}

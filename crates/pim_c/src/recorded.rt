@@ -1,0 +1,130 @@
+//! Records of calls, which a program writes one behind the other, and the sum that is in them.
+ghost use Rattle.std.specs.Prelude.{◌≡◌, ◌++◌, OnErr, OnOk};
+ghost use Rattle.pim_c.specs.Recorded.{Written, answered_of, given_text, ranges_text, reload_text, routes_text, settings_in};
+
+use crate::given::{self, GivenRange, GivenRoute};
+use crate::told::{self, DONE, MEMORY};
+use pim_recorded::Answered;
+use pim_types::{Addr, Config, IfaceId, Settings};
+use std::alloc::{AllocError, Global};
+
+/// A call that a router took, and what it answered. A field that its kind of call doesn't have isn't read.
+#[repr(C)]
+#[derive(Drop)]
+pub struct GivenCall {
+    /// The timestamp, in ms.
+    pub moment: u64,
+    /// The letter of its kind.
+    pub letter: u32,
+    pub draw: u32,
+    pub iface: u32,
+    pub source: u32,
+    pub group: u32,
+    /// What an interface was set to.
+    pub value: u32,
+    pub answer: u32,
+    /// The sum of what was to be sent.
+    pub sum: u32,
+}
+
+fn answered(call: &GivenCall) -> Answered
+    ensures { result ≡ answered_of call.now }
+{
+    Answered {
+        answer: call.answer,
+        sum: call.sum,
+    }
+}
+
+/// Puts the record of a call without a list behind the others; none where no kind has its letter. An error is want of
+/// memory, as of each function that puts one.
+pub fn write_call(call: &GivenCall, packet: &[u8], out: &mut Vec<u8>) -> Result<(), AllocError>
+    ensures { OnOk result (out.new.items ≡ out.old.items ++ given_text call.now packet.now) }
+{
+    let iface = IfaceId { number: call.iface };
+    let source = Addr { bits: call.source };
+    let group = Addr { bits: call.group };
+    let answered = answered(call);
+    match call.letter {
+        97 => pim_recorded::write_advance(call.draw, call.moment, answered, out),
+        102 => pim_recorded::write_frame(call.draw, iface, packet, answered, out),
+        117 => pim_recorded::write_unicast(call.draw, packet, answered, out),
+        43 => pim_recorded::write_up(call.draw, iface, answered, out),
+        45 => pim_recorded::write_down(call.draw, iface, answered, out),
+        115 => pim_recorded::write_seen(call.draw, iface, source, group, answered, out),
+        107 => pim_recorded::write_kept(source, group, call.moment, answered, out),
+        111 => pim_recorded::write_hosts(iface, call.value, answered, out),
+        113 => pim_recorded::write_version(iface, call.value, answered, out),
+        _ => Ok(()),
+    }
+}
+
+/// Puts the record of new unicast routes behind the others.
+pub fn write_routes(
+    alloc: Global,
+    call: &GivenCall,
+    routes: &[GivenRoute],
+    out: &mut Vec<u8>,
+) -> Result<(), AllocError>
+    ensures { OnOk result (out.new.items ≡ out.old.items ++ routes_text call.now routes.now) }
+{
+    let routes = given::routes(alloc, routes)?;
+    pim_recorded::write_routes(call.draw, routes.as_slice(), answered(call), out)
+}
+
+/// Puts the record of new RP ranges behind the others.
+pub fn write_ranges(
+    alloc: Global,
+    call: &GivenCall,
+    ranges: &[GivenRange],
+    out: &mut Vec<u8>,
+) -> Result<(), AllocError>
+    ensures { OnOk result (out.new.items ≡ out.old.items ++ ranges_text call.now ranges.now) }
+{
+    let ranges = given::ranges(alloc, ranges)?;
+    pim_recorded::write_ranges(call.draw, ranges.as_slice(), answered(call), out)
+}
+
+fn settings(config: &Config) -> Settings
+    ensures { result ≡ settings_in config.now }
+{
+    Settings {
+        limit: config.limit,
+        spt: config.spt,
+        robustness: config.robustness,
+        query_interval: config.query_interval,
+        query_response_interval: config.query_response_interval,
+        last_member_query_interval: config.last_member_query_interval,
+    }
+}
+
+/// Puts the record of another configuration behind the others.
+pub fn write_reload(call: &GivenCall, config: &Config, out: &mut Vec<u8>) -> Result<(), AllocError>
+    ensures { OnOk result (out.new.items ≡ out.old.items ++ reload_text call.now config.now) }
+{
+    pim_recorded::write_reloaded(
+        call.draw,
+        settings(config),
+        config.interfaces.as_slice(),
+        config.routes.as_slice(),
+        config.rps.as_slice(),
+        answered(call),
+        out,
+    )
+}
+
+/// Writes the bytes of a record into a buffer, as many as fit, and how many there are. The result is the number of the
+/// answer.
+pub fn tell(written: Result<(), AllocError>, bytes: &[u8], room: &mut [u8], size: &mut usize) -> u32
+    ensures ok { OnOk written (Written bytes.now result size.old size.new room.old room.new) }
+    ensures err { OnErr written ((result ≡ 40) × (size.new ≡ size.old) × (room.new ≡ room.old)) }
+{
+    match written {
+        Ok(()) => {
+            *size = bytes.len();
+            told::write(room, bytes);
+            DONE
+        }
+        Err(_) => MEMORY,
+    }
+}

@@ -1,0 +1,3 @@
+pub mod Entries
+pub mod Parts
+pub mod SpelledRecords

@@ -1,0 +1,24 @@
+-- Texts put one behind the other, as a record's are.
+use Rattle.std.proofs.Common.{◌≡◌, ℕ, List, ◌++◌, ap, ◌∙◌, append_assoc}
+
+pub two_fields : (o l a b t o1 o2 o3 r : List ℕ) → o1 ≡ o ++ l → o2 ≡ o1 ++ a → o3 ≡ o2 ++ b → r ≡ o3 ++ t → r ≡ o ++ ((l ++ (a ++ b)) ++ t)
+two_fields o l a b t o1 o2 o3 r e1 e2 e3 e4 =
+    let front = e3 ∙ ap (λ (x : List ℕ). x ++ b) (e2 ∙ ap (λ (x : List ℕ). x ++ a) e1) in
+    e4 ∙ ap (λ (x : List ℕ). x ++ t) front ∙ simp append_assoc
+
+pub three_fields : (o l a b c t o1 o2 o3 o4 r : List ℕ) → o1 ≡ o ++ l → o2 ≡ o1 ++ a → o3 ≡ o2 ++ b → o4 ≡ o3 ++ c → r ≡ o4 ++ t → r ≡ o ++ ((l ++ (a ++ (b ++ c))) ++ t)
+three_fields o l a b c t o1 o2 o3 o4 r e1 e2 e3 e4 e5 =
+    let front = e3 ∙ ap (λ (x : List ℕ). x ++ b) (e2 ∙ ap (λ (x : List ℕ). x ++ a) e1) in
+    e5 ∙ ap (λ (x : List ℕ). x ++ t) (e4 ∙ ap (λ (x : List ℕ). x ++ c) front) ∙ simp append_assoc
+
+pub four_fields : (o l a b c d t o1 o2 o3 o4 o5 r : List ℕ) → o1 ≡ o ++ l → o2 ≡ o1 ++ a → o3 ≡ o2 ++ b → o4 ≡ o3 ++ c → o5 ≡ o4 ++ d → r ≡ o5 ++ t → r ≡ o ++ ((l ++ (a ++ (b ++ (c ++ d)))) ++ t)
+four_fields o l a b c d t o1 o2 o3 o4 o5 r e1 e2 e3 e4 e5 e6 =
+    let front = e3 ∙ ap (λ (x : List ℕ). x ++ b) (e2 ∙ ap (λ (x : List ℕ). x ++ a) e1) in
+    let more = e5 ∙ ap (λ (x : List ℕ). x ++ d) (e4 ∙ ap (λ (x : List ℕ). x ++ c) front) in
+    e6 ∙ ap (λ (x : List ℕ). x ++ t) more ∙ simp append_assoc
+
+pub five_fields : (o l a b c d f t o1 o2 o3 o4 o5 o6 r : List ℕ) → o1 ≡ o ++ l → o2 ≡ o1 ++ a → o3 ≡ o2 ++ b → o4 ≡ o3 ++ c → o5 ≡ o4 ++ d → o6 ≡ o5 ++ f → r ≡ o6 ++ t → r ≡ o ++ ((l ++ (a ++ (b ++ (c ++ (d ++ f))))) ++ t)
+five_fields o l a b c d f t o1 o2 o3 o4 o5 o6 r e1 e2 e3 e4 e5 e6 e7 =
+    let front = e3 ∙ ap (λ (x : List ℕ). x ++ b) (e2 ∙ ap (λ (x : List ℕ). x ++ a) e1) in
+    let more = e5 ∙ ap (λ (x : List ℕ). x ++ d) (e4 ∙ ap (λ (x : List ℕ). x ++ c) front) in
+    e7 ∙ ap (λ (x : List ℕ). x ++ t) (e6 ∙ ap (λ (x : List ℕ). x ++ f) more) ∙ simp append_assoc

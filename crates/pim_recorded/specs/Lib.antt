@@ -1,0 +1,5 @@
+pub mod Crc
+pub mod Fits
+pub mod Laws
+pub mod Reading
+pub mod Records

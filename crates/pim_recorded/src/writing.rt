@@ -1,0 +1,241 @@
+//! Records written one behind the other.
+ghost use Rattle.std.specs.Prelude.{◌≡◌, ◌++◌, OnOk};
+ghost use Rattle.pim_types.specs.declared.event.EventKind.{EventKind as EventValue};
+ghost use Rattle.pim_recorded.specs.Fits.{FitsBytes, FitsRecord};
+ghost use Rattle.pim_recorded.specs.Records.{Hosts, Kept, Reloaded, Seen, Version, bytes_text, event_record, record_text};
+
+use crate::answered::Answered;
+use pim_saver::{Saved, write_list};
+use pim_types::{Addr, IfaceId, InterfaceConfig, Route, RpRange, Settings};
+use std::alloc::AllocError;
+
+// Puts how many bytes there are behind the others, and each.
+fn write_bytes(bytes: &[u8], out: &mut Vec<u8>) -> Result<(), AllocError>
+    ensures ok { OnOk result (out.new.items ≡ out.old.items ++ bytes_text bytes.now) }
+    ensures fitting { OnOk result (FitsBytes bytes.now) }
+{
+    (bytes.len() as u64).write(out)?;
+    out.extend_from_slice(bytes)?;
+    Ok(())
+}
+
+/// Puts the record of time that passed behind the others. An error is want of memory, and leaves behind what was written
+/// before it, as of each of these functions.
+pub fn write_advance(
+    draw: u32,
+    moment: u64,
+    answered: Answered,
+    out: &mut Vec<u8>,
+) -> Result<(), AllocError>
+    ensures ok { OnOk result (out.new.items ≡ out.old.items ++ record_text (event_record draw (EventValue.Advance moment) answered)) }
+    ensures fitting { OnOk result (FitsRecord (event_record draw (EventValue.Advance moment) answered)) }
+{
+    out.push(b'a')?;
+    draw.write(out)?;
+    moment.write(out)?;
+    answered.write(out)?;
+    Ok(())
+}
+
+/// Puts the record of a packet that came on an interface behind the others.
+pub fn write_frame(
+    draw: u32,
+    iface: IfaceId,
+    packet: &[u8],
+    answered: Answered,
+    out: &mut Vec<u8>,
+) -> Result<(), AllocError>
+    ensures ok { OnOk result (out.new.items ≡ out.old.items ++ record_text (event_record draw (EventValue.Frame iface packet.now) answered)) }
+    ensures fitting { OnOk result (FitsRecord (event_record draw (EventValue.Frame iface packet.now) answered)) }
+{
+    out.push(b'f')?;
+    draw.write(out)?;
+    iface.write(out)?;
+    write_bytes(packet, out)?;
+    answered.write(out)?;
+    Ok(())
+}
+
+/// Puts the record of a packet that came for an address of the router behind the others.
+pub fn write_unicast(
+    draw: u32,
+    packet: &[u8],
+    answered: Answered,
+    out: &mut Vec<u8>,
+) -> Result<(), AllocError>
+    ensures ok { OnOk result (out.new.items ≡ out.old.items ++ record_text (event_record draw (EventValue.Unicast packet.now) answered)) }
+    ensures fitting { OnOk result (FitsRecord (event_record draw (EventValue.Unicast packet.now) answered)) }
+{
+    out.push(b'u')?;
+    draw.write(out)?;
+    write_bytes(packet, out)?;
+    answered.write(out)?;
+    Ok(())
+}
+
+/// Puts the record of an interface that went up behind the others.
+pub fn write_up(
+    draw: u32,
+    iface: IfaceId,
+    answered: Answered,
+    out: &mut Vec<u8>,
+) -> Result<(), AllocError>
+    ensures ok { OnOk result (out.new.items ≡ out.old.items ++ record_text (event_record draw (EventValue.Up iface) answered)) }
+    ensures fitting { OnOk result (FitsRecord (event_record draw (EventValue.Up iface) answered)) }
+{
+    out.push(b'+')?;
+    draw.write(out)?;
+    iface.write(out)?;
+    answered.write(out)?;
+    Ok(())
+}
+
+/// Puts the record of an interface that went down behind the others.
+pub fn write_down(
+    draw: u32,
+    iface: IfaceId,
+    answered: Answered,
+    out: &mut Vec<u8>,
+) -> Result<(), AllocError>
+    ensures ok { OnOk result (out.new.items ≡ out.old.items ++ record_text (event_record draw (EventValue.Down iface) answered)) }
+    ensures fitting { OnOk result (FitsRecord (event_record draw (EventValue.Down iface) answered)) }
+{
+    out.push(b'-')?;
+    draw.write(out)?;
+    iface.write(out)?;
+    answered.write(out)?;
+    Ok(())
+}
+
+/// Puts the record of new unicast routes behind the others.
+pub fn write_routes(
+    draw: u32,
+    routes: &[Route],
+    answered: Answered,
+    out: &mut Vec<u8>,
+) -> Result<(), AllocError>
+    ensures ok { OnOk result (out.new.items ≡ out.old.items ++ record_text (event_record draw (EventValue.Routes routes.now) answered)) }
+    ensures fitting { OnOk result (FitsRecord (event_record draw (EventValue.Routes routes.now) answered)) }
+{
+    out.push(b'r')?;
+    draw.write(out)?;
+    write_list(routes, out)?;
+    answered.write(out)?;
+    Ok(())
+}
+
+/// Puts the record of new RP ranges behind the others.
+pub fn write_ranges(
+    draw: u32,
+    ranges: &[RpRange],
+    answered: Answered,
+    out: &mut Vec<u8>,
+) -> Result<(), AllocError>
+    ensures ok { OnOk result (out.new.items ≡ out.old.items ++ record_text (event_record draw (EventValue.Rps ranges.now) answered)) }
+    ensures fitting { OnOk result (FitsRecord (event_record draw (EventValue.Rps ranges.now) answered)) }
+{
+    out.push(b'g')?;
+    draw.write(out)?;
+    write_list(ranges, out)?;
+    answered.write(out)?;
+    Ok(())
+}
+
+/// Puts the record of another configuration behind the others.
+pub fn write_reloaded(
+    draw: u32,
+    settings: Settings,
+    interfaces: &[InterfaceConfig],
+    routes: &[Route],
+    ranges: &[RpRange],
+    answered: Answered,
+    out: &mut Vec<u8>,
+) -> Result<(), AllocError>
+    ensures ok { OnOk result (out.new.items ≡ out.old.items ++ record_text
+        (record { call = Reloaded draw settings interfaces.now routes.now ranges.now; answered = answered })) }
+    ensures fitting { OnOk result (FitsRecord
+        (record { call = Reloaded draw settings interfaces.now routes.now ranges.now; answered = answered })) }
+{
+    out.push(b'c')?;
+    draw.write(out)?;
+    settings.write(out)?;
+    write_list(interfaces, out)?;
+    write_list(routes, out)?;
+    write_list(ranges, out)?;
+    answered.write(out)?;
+    Ok(())
+}
+
+/// Puts the record of a packet that a data plane saw behind the others.
+pub fn write_seen(
+    draw: u32,
+    iface: IfaceId,
+    source: Addr,
+    group: Addr,
+    answered: Answered,
+    out: &mut Vec<u8>,
+) -> Result<(), AllocError>
+    ensures ok { OnOk result (out.new.items ≡ out.old.items ++ record_text (record { call = Seen draw iface source group; answered = answered })) }
+    ensures fitting { OnOk result (FitsRecord (record { call = Seen draw iface source group; answered = answered })) }
+{
+    out.push(b's')?;
+    draw.write(out)?;
+    iface.write(out)?;
+    source.write(out)?;
+    group.write(out)?;
+    answered.write(out)?;
+    Ok(())
+}
+
+/// Puts the record of the last packet that a data plane forwarded, at a timestamp in ms, behind the others.
+pub fn write_kept(
+    source: Addr,
+    group: Addr,
+    moment: u64,
+    answered: Answered,
+    out: &mut Vec<u8>,
+) -> Result<(), AllocError>
+    ensures ok { OnOk result (out.new.items ≡ out.old.items ++ record_text (record { call = Kept source group moment; answered = answered })) }
+    ensures fitting { OnOk result (FitsRecord (record { call = Kept source group moment; answered = answered })) }
+{
+    out.push(b'k')?;
+    source.write(out)?;
+    group.write(out)?;
+    moment.write(out)?;
+    answered.write(out)?;
+    Ok(())
+}
+
+/// Puts the record of which older hosts an interface hears, by their number, behind the others.
+pub fn write_hosts(
+    iface: IfaceId,
+    hosts: u32,
+    answered: Answered,
+    out: &mut Vec<u8>,
+) -> Result<(), AllocError>
+    ensures ok { OnOk result (out.new.items ≡ out.old.items ++ record_text (record { call = Hosts iface hosts; answered = answered })) }
+    ensures fitting { OnOk result (FitsRecord (record { call = Hosts iface hosts; answered = answered })) }
+{
+    out.push(b'o')?;
+    iface.write(out)?;
+    hosts.write(out)?;
+    answered.write(out)?;
+    Ok(())
+}
+
+/// Puts the record of the version of an interface's queries behind the others.
+pub fn write_version(
+    iface: IfaceId,
+    version: u32,
+    answered: Answered,
+    out: &mut Vec<u8>,
+) -> Result<(), AllocError>
+    ensures ok { OnOk result (out.new.items ≡ out.old.items ++ record_text (record { call = Version iface version; answered = answered })) }
+    ensures fitting { OnOk result (FitsRecord (record { call = Version iface version; answered = answered })) }
+{
+    out.push(b'q')?;
+    iface.write(out)?;
+    version.write(out)?;
+    answered.write(out)?;
+    Ok(())
+}
