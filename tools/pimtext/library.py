@@ -161,16 +161,16 @@ class Library:
     unproved one is asked for, which is taken from a folder that is named if it is there."""
 
     def __init__(
-        self, given: Path | None = None, is_proved: bool = True, folder: Path | None = None, room: Path = ROOM
+        self, given: Path | None = None, is_proved: bool = True, folder: Path | None = None, room: Path | None = None
     ) -> None:
-        room.mkdir(parents=True, exist_ok=True)
-        self.room = room
+        self.room = room or ROOM
+        self.room.mkdir(parents=True, exist_ok=True)
         if given:
-            self.archive = archive(given.resolve(), "not proved", room)
+            self.archive = archive(given.resolve(), "not proved", self.room)
         elif is_proved:
-            self.archive = archive(proved_router(), "proved", room)
+            self.archive = archive(proved_router(), "proved", self.room)
         else:
-            self.archive = archive(unproved_router(folder), "not proved", room)
+            self.archive = archive(unproved_router(folder), "not proved", self.room)
 
     def shared(self) -> Path:
         """A shared library of all of it."""
