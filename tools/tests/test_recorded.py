@@ -83,8 +83,9 @@ class Recorded(unittest.TestCase):
                 router.advance(1000)
         path, part, scenario = self.room / "other.0", self.room / "part", self.room / "part.toml"
         self.assertEqual(self.run_tool(path), (0, "4 records, each as it was recorded\n"))
-        said = "3 0 ms reload 10.0.0.2/24 priority 7 delays 500 2500; limit 9; routes none; rps 224.0.0.0/4 10.0.0.2: done\n"
-        self.assertEqual(self.run_tool(path, "--list", "--from", "3", "--to", "3"), (0, said))
+        said = "10.0.0.2/24 priority 7 delays 500 2500; limit 9; routes none; rps 224.0.0.0/4 10.0.0.2"
+        told = self.run_tool(path, "--list", "--from", "3", "--to", "3")
+        self.assertEqual(told, (0, f"3 0 ms reload {said}: done\n"))
         # The setting is of an interface that is gone then.
         self.assertEqual(self.run_tool(path, "--from", "4", "--write", part)[0], 0)
         self.assertEqual([record.name for record in recording.read(part).records], ["advance"])

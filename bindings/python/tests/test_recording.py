@@ -66,7 +66,8 @@ class Recordings(unittest.TestCase):
     def test_a_reload_is_kept_whole(self):
         with Recorder(self.router, self.path):
             self.router.up(0)
-            self.router.reload([("10.0.0.3", 24, 7, 400, 2400), *LINKS[1:], ("10.0.2.1", 24)], stays_on_shared_tree=True)
+            links = [("10.0.0.3", 24, 7, 400, 2400), *LINKS[1:], ("10.0.2.1", 24)]
+            self.router.reload(links, stays_on_shared_tree=True)
             self.assertTrue(self.router.packets())
             self.assertRaises(Refused, self.router.reload, [])
         differ, told = self.played(f"{self.path}.0")

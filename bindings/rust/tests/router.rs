@@ -99,7 +99,10 @@ fn another_configuration() {
     router.reload(&Settings::default(), &more, &routes(), &ranges(), 7).expect("taken");
     assert_eq!(router.packet_count(), 1);
     assert_eq!(router.up(3, 7), Ok(Verdict::Done));
-    assert_eq!(router.reload(&Settings::default(), &[], &routes(), &ranges(), 7), Err(Error::Refused(Refusal::InterfaceCount)));
+    assert_eq!(
+        router.reload(&Settings::default(), &[], &routes(), &ranges(), 7),
+        Err(Error::Refused(Refusal::InterfaceCount))
+    );
     router.reload(&Settings::default(), &interfaces()[..1], &routes(), &ranges(), 7).expect("taken");
     assert_eq!(router.rows(Table::Downstream), Ok(Vec::new()));
     assert_eq!(router.up(1, 7), Err(Error::Refused(Refusal::BadInterface)));

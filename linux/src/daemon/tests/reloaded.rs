@@ -8,6 +8,8 @@ fn streaming(settings: &str) -> (Daemon, Rc<Fake>, Key) {
     let stream = key(NEAR, [239, 1, 1, 1]);
     happens(&mut daemon, &fake, report(ETH0, [10, 1, 0, 77], stream.group));
     happens(&mut daemon, &fake, no_cache(1, stream));
+    // The first Hellos leave.
+    passes(&mut daemon, &fake, 6_000);
     assert_eq!(fake.entry(stream), FLOWS);
     fake.sent.borrow_mut().clear();
     (daemon, fake, stream)
@@ -108,7 +110,8 @@ fn it_is_recorded() {
     let files = std::fs::read_dir(&folder).expect("it is there").filter_map(Result::ok);
     let written = files.filter_map(|file| std::fs::read(file.path()).ok()).max_by_key(Vec::len).expect("one is there");
     // Two interfaces, one route and two ranges, and then the settings.
-    let wanted: Vec<_> = [2u32, 1, 2, 24 + 2 * 20 + 24 + 2 * 12, 1000, 2].iter().flat_map(|it| it.to_be_bytes()).collect();
+    let wanted: Vec<_> =
+        [2u32, 1, 2, 24 + 2 * 20 + 24 + 2 * 12, 1000, 2].iter().flat_map(|it| it.to_be_bytes()).collect();
     assert!(written.windows(wanted.len()).any(|it| it == wanted));
     std::fs::remove_dir_all(&folder).expect("it is there");
 }
