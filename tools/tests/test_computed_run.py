@@ -11,6 +11,7 @@ import re
 import subprocess
 import sys
 import tempfile
+import tomllib
 import unittest
 from pathlib import Path
 from unittest import mock
@@ -73,10 +74,17 @@ class Numbers(unittest.TestCase):
 # ---- a scenario beside its lines
 
 
+def restarts(path: Path) -> set[str]:
+    """The lines of moves `restart`, which the definitions don't have, since they change nothing."""
+    moves = enumerate(tomllib.loads(path.read_text()).get("move", []), 1)
+    return {f"move {number} {move['router']} done" for number, move in moves if move["do"] == "restart"}
+
+
 class Read(unittest.TestCase):
     def test_each_expected_line_is_in_its_case(self):
         for path, case in cases():
-            lines = path.with_suffix(".out").read_text().splitlines()
+            printed, again = path.with_suffix(".out").read_text().splitlines(), restarts(path)
+            lines = [line for line in printed if line not in again]
             with self.subTest(path.name):
                 self.assertEqual(case.shown, lines + ["the tables"] * case.is_cut)
                 self.assertEqual(len(case.lines), len(case.shown))
@@ -90,7 +98,7 @@ class Read(unittest.TestCase):
             except run.SetAside as reason:
                 aside[path.name] = str(reason)
         known = ("its text is refused, before|it ends with an error that no|isn't UTF-8|isn't TOML|two interfaces on "
-                 "its link|hears older hosts")
+                 "its link|hears older hosts|has a reload")
         self.assertFalse({name: why for name, why in aside.items() if not re.search(known, why)})
 
     def test_a_refused_configuration(self):
