@@ -79,12 +79,14 @@ def dr_of(state: Known, number: int) -> str:
 
 
 def is_dr(state: Known, number: int) -> bool:
-    return state.port(number).is_dr
+    port = state.port(number)
+    return port is not None and port.is_dr
 
 
 def querier_of(state: Known, number: int) -> str | None:
     """The address of an interface's querier, None where that is the router itself."""
-    return state.queriers.get(number) if state.port(number).querier.role == "other" else None
+    port = state.port(number)
+    return state.queriers.get(number) if port is not None and port.querier.role == "other" else None
 
 
 def lost(state: Known, group: str, source: str) -> frozenset[int]:

@@ -11,6 +11,7 @@ from typing import TYPE_CHECKING, Any, TypeVar
 
 from pimtext import packets, printed, wishes
 from pimtext.addresses import ranges_of, routes_of
+from pimtext.scenario import router_of
 from pimtext.twin import Twin
 
 if TYPE_CHECKING:
@@ -85,9 +86,13 @@ class Known:
         """The macros of a tree, (*,G) where the source is ANY."""
         return self.tree(group) if source == printed.ANY else self.source_tree(group, source)
 
-    def port(self, number: int) -> Link:
-        """An interface with its DR and its querier."""
+    def port(self, number: int) -> Link | None:
+        """An interface with its DR and its querier; None where it isn't configured now."""
         return self.asked("link", number)
+
+    def is_up(self, number: int) -> bool:
+        port = self.port(number)
+        return port is not None and port.is_up
 
     def neighbour(self, number: int, address: str) -> Neighbour | None:
         """A neighbour with what it said by its last Hello; None where it is none."""
@@ -96,10 +101,10 @@ class Known:
     @property
     def up(self) -> set[int]:
         """The interfaces that are up, by their numbers."""
-        return {each.number for each in self.router.interfaces if self.port(each.number).is_up}
+        return {each.number for each in self.interfaces_up()}
 
     def interfaces_up(self) -> list[Interface]:
-        return [each for each in self.router.interfaces if self.port(each.number).is_up]
+        return [each for each in self.router.interfaces if self.is_up(each.number)]
 
 
 def begun(played: Scenario) -> dict[str, Known]:
@@ -136,8 +141,19 @@ def follow(state: Known, step: Step) -> None:
             state.routes = routes_of(step.did["list"])
         case "rps":
             state.rps = ranges_of(step.did["list"])
+        case "reload":
+            reload(state, step.did["config"])
         case "frame" | "deliver" | "settle":
             hear_query(state, step)
+
+
+def reload(state: Known, config: dict[str, Any]) -> None:
+    """Another configuration. What interfaces were that are removed stays to be looked up."""
+    made = router_of({**config, "name": state.router.name})
+    count = len(made.interfaces)
+    made.interfaces += state.router.interfaces[count:]
+    state.router, state.routes, state.rps = made, made.routes, made.rps
+    state.queriers = {number: sender for number, sender in state.queriers.items() if number < count}
 
 
 def hear_query(state: Known, step: Step) -> None:

@@ -96,26 +96,49 @@ def new_router(table: dict[str, Any], path: Path) -> viqeshor.Router:
     return router
 
 
-def take(router: viqeshor.Router, event: fed.Event) -> viqeshor.Answer:
-    """What a router answers to an event."""
+def event_of(step: Step) -> fed.Event | None:
+    """The event that a step was to its router, of which a `reload` is one too."""
+    if step.did["do"] == "reload":
+        return fed.Event("reload", step.did.get("draw", 0), (step.did["config"],))
+    return fed.event(step)
+
+
+def take(router: viqeshor.Router, event: fed.Event, table: dict[str, Any]) -> viqeshor.Answer:
+    """What a router answers to an event. The table is its configuration until then."""
+    if event.name == "reload":
+        return reload(router, event, table)
     call, read = CALLS.get(event.name, (event.name, None))
     values = [list(read(value)) for value in event.values] if read else event.values
     return getattr(router, call)(*values, draw=event.draw)
 
 
+def reload(router: viqeshor.Router, event: fed.Event, before: dict[str, Any]) -> viqeshor.Answer:
+    """What a router answers to another configuration. Interfaces that are new, or where another setting is, hear older
+    hosts as it says."""
+    (config,) = event.values
+    lists = fed.interfaces(config), fed.ranges(config.get("rps", [])), fed.routes(config.get("routes", []))
+    try:
+        router.reload(*lists, draw=event.draw, **fed.settings(config))
+    except viqeshor.Refused as refused:
+        return refused.answer
+    was, hosts = (table.get("older_hosts", "none") for table in (before, config))
+    for iface in range(0 if hosts != was else len(before["iface"]), len(config["iface"])):
+        router.set_older_hosts(iface, hosts)
+    return viqeshor.Answer.DONE
+
+
 class Twin:
-    """What a router of a scenario took, and a router of the library that takes it too, as much of it as is asked
-    for."""
+    """What a router of a scenario took, and a router of the library that takes it too, as much of it as is asked for;
+    `table` is the configuration that this one has. States that are saved stand with theirs."""
 
     def __init__(self, table: dict[str, Any]) -> None:
-        self.table, self.events, self.saved = table, [], {}
+        self.first = self.table = table
+        self.events, self.saved = [], {}
         self.router, self.taken = None, 0
-        # A saved state has no groups in an older mode.
-        self.is_saved = "older_hosts" not in table
 
     def add(self, step: Step) -> None:
         """The router took one event more."""
-        event = fed.event(step)
+        event = event_of(step)
         if event is not None:
             self.events.append(event)
 
@@ -125,18 +148,26 @@ class Twin:
             self.begin(count)
         for at in self.stops(count):
             for event in self.events[self.taken:at]:
-                take(self.router, event)
+                self.take(event)
             self.taken = at
-            if self.is_saved and at % APART == 0 and at not in self.saved:
-                self.saved[at] = self.router.save()
+            # A saved state has no groups in an older mode.
+            if at % APART == 0 and self.table.get("older_hosts", "none") == "none":
+                self.saved.setdefault(at, (self.router.save(), self.table))
         return self.router
+
+    def take(self, event: fed.Event) -> None:
+        answer = take(self.router, event, self.table)
+        if event.name == "reload" and answer == viqeshor.Answer.DONE:
+            (self.table,) = event.values
 
     def begin(self, count: int) -> None:
         """Begins at the last state that was saved, up to so many events."""
         self.taken = max((at for at in self.saved if at <= count), default=0)
         if self.taken:
-            self.router = viqeshor.Router.restore(self.saved[self.taken], library=shared())
+            state, self.table = self.saved[self.taken]
+            self.router = viqeshor.Router.restore(state, library=shared())
         else:
+            self.table = self.first
             self.router = new_router(self.table, shared())
 
     def stops(self, count: int) -> Iterator[int]:

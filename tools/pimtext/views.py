@@ -139,9 +139,9 @@ def why_none(state: Known, group: str, source: str, joined: printed.Upstream | N
 
 
 def interface(state: Known, each: Interface) -> dict[str, Any]:
-    port = state.port(each.number)
-    told = {**place(state, each.number), "address": str(each.own), "is_up": port.is_up, "priority": each.priority}
-    if not port.is_up:
+    port, is_up = state.port(each.number), state.is_up(each.number)
+    told = {**place(state, each.number), "address": str(each.own), "is_up": is_up, "priority": each.priority}
+    if not is_up:
         return told
     querier = asked.querier_of(state, each.number)
     return {

@@ -11,9 +11,10 @@ import unittest
 from concurrent.futures import ThreadPoolExecutor
 from unittest.mock import patch
 
-from pimtext import asked, packets, scenario, served, story, twin
+from pimtext import asked, packets, playpage, printed, scenario, served, story, twin
 from pimtext.kept import cache
 from pimtext.known import begun, copied, follow, known_after
+from pimtext.moments import after_moves
 from pimtext.older import read_heard
 from tests import stored
 from tests.networks import GROUP, SOURCE, Network
@@ -156,6 +157,46 @@ class Twins(unittest.TestCase):
             self.assertFalse(other.link(1).is_up)
         state.kept.clear()
         self.assertEqual(self.told(state), before)
+
+
+class Reloads(unittest.TestCase):
+    """Routers that get other configurations, and one that is made anew of its bytes."""
+
+    def after_moves(self, name):
+        """What each router knows after each move: (number of moves, known)."""
+        path = stored.DATA / f"{name}.toml"
+        for number, _, known in after_moves(scenario.read(path), scenario.run_each(path.read_text())):
+            yield number, {router: copied(state) for router, state in known.items()}
+
+    def test_the_rows_are_those_that_are_printed_after_each_move(self):
+        for name in ("a_reload", "a_reload_with_older_hosts", "a_restart"):
+            for number, known in self.after_moves(name):
+                for state in known.values():
+                    rows = [row for row in state.rows if not isinstance(row, printed.OlderHosts)]
+                    with self.subTest(name, move=number, router=state.router.name):
+                        self.assertEqual([printed.parsed(str(row)) for row in state.core().tables()], rows)
+
+    def test_what_a_reload_changes(self):
+        told = {number: known["r"] for number, known in self.after_moves("a_reload")}
+        self.assertEqual([asked.is_dr(told[number], 1) for number in (5, 6)], [False, True])
+        self.assertEqual([told[number].port(2) is None for number in (6, 7, 11)], [True, False, True])
+        self.assertEqual([sorted(told[number].up) for number in (7, 8, 11)], [[0, 1], [0, 1, 2], [0]])
+        group, source = "225.1.1.1", "10.0.3.5"
+        outgoing = [asked.outgoing(told[number], group, source) for number in (10, 11)]
+        self.assertEqual(outgoing, [{1, 2}, frozenset()])
+        self.assertEqual(served.taken(told[10], group, source, 0).out, {1, 2})
+        self.assertEqual(told[15].router.table["limit"], 1)
+
+    def test_it_is_shown_drawn_and_put_on_a_page(self):
+        path, draw, show = stored.DATA / "a_reload.toml", stored.tool("draw"), stored.tool("show")
+        read = scenario.read(path)
+        drawn = [draw.picture(moment) for moment in draw.moments_of(read, 1)]
+        self.assertEqual(len(drawn), len(read.moves))
+        self.assertIn("move 6 r: gets another configuration, of 2 interfaces: done",
+                      list(show.shown(scenario.run_file(path), read)))
+        page = playpage.run_of(playpage.Told(path.name, path.read_text()))
+        self.assertEqual([router["name"] for router in page["routers"]], ["r"])
+        self.assertEqual([shape["dr"] for shape in page["shapes"][0] if len(shape["up"]) == 3][-1], [0, 1, 2])
 
 
 class Libraries(unittest.TestCase):
