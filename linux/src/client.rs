@@ -23,14 +23,15 @@ pub enum Cleared {
 /// What is shown.
 pub struct Shown {
     pub topic: Topic,
-    pub address: Option<Ipv4Addr>,
+    /// The addresses after it.
+    pub about: Vec<Ipv4Addr>,
     pub is_json: bool,
 }
 
 impl Shown {
     fn line(&self) -> String {
-        let address = self.address.map_or_else(String::new, |address| format!(" {address}"));
-        format!("show {}{address}{}", self.topic.name(), if self.is_json { " json" } else { "" })
+        let about: String = self.about.iter().map(|address| format!(" {address}")).collect();
+        format!("show {}{about}{}", self.topic.name(), if self.is_json { " json" } else { "" })
     }
 }
 

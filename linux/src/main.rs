@@ -73,8 +73,9 @@ enum What {
     /// Print what a running router knows
     Show {
         topic: Topic,
-        /// The address whose route `rpf` prints
-        address: Option<Ipv4Addr>,
+        /// The address whose route `rpf` prints; of `why` the group, and a source of it
+        #[arg(num_args = 0..=2)]
+        about: Vec<Ipv4Addr>,
         /// Print JSON
         #[arg(long)]
         json: bool,
@@ -242,8 +243,8 @@ fn import(file: &Path, vrf: Option<&str>) -> ExitCode {
 fn main() -> ExitCode {
     match Asked::parse().what {
         What::Run { file, check, .. } => run(&file, check),
-        What::Show { topic, address, json, watch, at } => {
-            let shown = Shown { topic, address, is_json: json };
+        What::Show { topic, about, json, watch, at } => {
+            let shown = Shown { topic, about, is_json: json };
             match watch {
                 Some(every) => client::watch(&shown, every, &at.path()),
                 None => client::show(&shown, &at.path()),

@@ -13,10 +13,10 @@ use std::io::{self, Write};
 use std::path::PathBuf;
 use std::time::Duration;
 use time::OffsetDateTime;
-use viqeshor::{Error, Interface, Kind, Packet, Range, Route, Router, Settings, Verdict, MOST_BYTES};
+use viqeshor::{Call, Error, Interface, Kind, Packet, Range, Route, Router, Settings, Verdict, MOST_BYTES};
 
 const MAGIC: &[u8; 4] = b"VQRC";
-const VERSION: u16 = 1;
+const VERSION: u16 = 2;
 const DONE: u32 = 0;
 /// What `viq_keep` answers where the source's timer doesn't run.
 const NO_TIMER: u32 = 52;
@@ -63,83 +63,38 @@ pub fn answer_of(verdict: &Result<Verdict, Error>) -> u32 {
     }
 }
 
-/// The CRC-32 of what is to be sent: of each packet a letter, where it goes, its length and its bytes.
+/// What `Router::sum` tells of what is to be sent, by the processor's own instructions.
 fn sum_of(router: &Router) -> u32 {
     let mut hasher = crc32fast::Hasher::new();
     if router.packet_count() == 0 {
         return hasher.finalize();
     }
     router.each_packet(&mut [0; MOST_BYTES], |packet: &Packet, bytes| {
-        let (letter, place) = match packet.kind {
-            Kind::Unicast => (b'u', packet.destination.to_string()),
-            Kind::Copy => (b'c', packet.iface.to_string()),
-            _ => (b'f', packet.iface.to_string()),
+        let (letter, place): (u8, u32) = match packet.kind {
+            Kind::Unicast => (b'u', packet.destination.into()),
+            _ => (b'f', packet.iface),
         };
-        hasher.update(&[letter, place.len() as u8]);
-        hasher.update(&(bytes.len() as u32).to_be_bytes());
-        hasher.update(place.as_bytes());
+        hasher.update(&[letter]);
+        hasher.update(&place.to_be_bytes());
+        hasher.update(&(bytes.len() as u64).to_be_bytes());
         hasher.update(bytes);
     });
     hasher.finalize()
 }
 
-fn of_routes(routes: &[Route]) -> Vec<u8> {
-    let fields = |it: &Route| {
-        [it.prefix.into(), it.length, it.next_hop.into(), it.iface, it.preference, it.metric].map(u32::to_be_bytes)
-    };
-    routes.iter().flat_map(fields).flatten().collect()
+/// A call with this draw that had this answer; nothing of a call that wasn't done is to be sent.
+fn answered(router: &Router, draw: u32, answer: u32) -> Call {
+    let sum = if answer == DONE { sum_of(router) } else { 0 };
+    Call { draw, answer, sum, ..Call::default() }
 }
 
-fn of_ranges(ranges: &[Range]) -> Vec<u8> {
-    let fields = |it: &Range| [it.prefix.into(), it.length, it.rp.into()].map(u32::to_be_bytes);
-    ranges.iter().flat_map(fields).flatten().collect()
-}
-
-fn of_settings(it: &Settings) -> Vec<u8> {
-    let times = [it.query_interval, it.query_response_interval, it.last_member_query_interval];
-    let fields = [it.limit, it.robustness].into_iter().chain(times).chain([u32::from(it.stays_on_shared_tree)]);
-    fields.flat_map(u32::to_be_bytes).collect()
-}
-
-fn of_interfaces(interfaces: &[Interface]) -> Vec<u8> {
-    let fields = |it: &Interface| {
-        [it.address.into(), it.length, it.priority, it.propagation_delay, it.override_interval].map(u32::to_be_bytes)
-    };
-    interfaces.iter().flat_map(fields).flatten().collect()
-}
-
-/// Puts a record behind others: its letter and its draw, then its numbers, then the rest.
-fn put_head(to: &mut Vec<u8>, letter: u8, draw: u32) {
-    to.push(letter);
-    put(to, draw);
-}
-
-fn put(to: &mut Vec<u8>, number: u32) {
-    to.extend_from_slice(&number.to_be_bytes());
-}
-
-fn put_key(to: &mut Vec<u8>, key: Key) {
-    to.extend_from_slice(&key.source.octets());
-    to.extend_from_slice(&key.group.octets());
-}
-
-fn put_data(to: &mut Vec<u8>, data: &[u8]) {
-    put(to, data.len() as u32);
-    to.extend_from_slice(data);
-}
-
-fn put_end(to: &mut Vec<u8>, answer: u32, sum: u32) {
-    put(to, answer);
-    put(to, sum);
+fn refused(error: Error) -> io::Error {
+    io::Error::new(io::ErrorKind::Other, error)
 }
 
 /// A setting of older versions, by its letter.
-fn put_setting(to: &mut Vec<u8>, letter: u8, iface: u32, value: u32, answer: u32) {
-    put_head(to, letter, 0);
-    put(to, iface);
-    put(to, value);
-    put_data(to, &[]);
-    put_end(to, answer, 0);
+fn setting(letter: u8, iface: u32, value: u32, answer: u32) -> Call {
+    Call { letter: letter.into(), iface, value, answer, ..Call::default() }
 }
 
 impl Place {
@@ -175,16 +130,15 @@ impl Recorder {
         router: &mut Router,
         speech: &BTreeMap<u32, Speech>,
     ) -> io::Result<(File, u64)> {
-        let refused = |error: Error| io::Error::new(io::ErrorKind::Other, error);
         let older = router.older_rows().map_err(refused)?.len() as u32;
         let state = router.save().map_err(refused)?;
         let mut bytes = [MAGIC.as_slice(), &VERSION.to_be_bytes()].concat();
-        put(&mut bytes, older);
+        bytes.extend_from_slice(&older.to_be_bytes());
         bytes.extend_from_slice(&(state.len() as u64).to_be_bytes());
         bytes.extend_from_slice(&state);
         for (iface, set) in speech {
-            put_setting(&mut bytes, b'o', *iface, set.older_hosts as u32, DONE);
-            put_setting(&mut bytes, b'q', *iface, set.queries as u32, DONE);
+            setting(b'o', *iface, set.older_hosts as u32, DONE).put(&[], &mut bytes).map_err(refused)?;
+            setting(b'q', *iface, set.queries as u32, DONE).put(&[], &mut bytes).map_err(refused)?;
         }
         let beside = place.folder.join(format!("{}.new", place.name));
         let mut file = File::create(&beside)?;
@@ -214,72 +168,44 @@ impl Recorder {
 
     /// What the router answered to an event.
     pub fn event(&mut self, router: &Router, event: &Event, draw: u32, answer: u32) -> io::Result<()> {
-        let to = &mut self.waiting;
-        match event {
-            Event::Advance(moment) => {
-                put_head(to, b'a', draw);
-                to.extend_from_slice(&moment.to_be_bytes());
-                put_data(to, &[]);
-            }
-            Event::Frame(iface, packet) => {
-                put_head(to, b'f', draw);
-                put(to, *iface);
-                put_data(to, packet);
-            }
-            Event::Unicast(packet) => {
-                put_head(to, b'u', draw);
-                put_data(to, packet);
-            }
-            Event::Up(iface) | Event::Down(iface) => {
-                put_head(to, if matches!(event, Event::Up(_)) { b'+' } else { b'-' }, draw);
-                put(to, *iface);
-                put_data(to, &[]);
-            }
-            Event::Routes(routes) => {
-                put_head(to, b'r', draw);
-                put_data(to, &of_routes(routes));
-            }
-            Event::Ranges(ranges) => {
-                put_head(to, b'g', draw);
-                put_data(to, &of_ranges(ranges));
-            }
+        let call = answered(router, draw, answer);
+        let (kind, to) = (|letter: u8| u32::from(letter), &mut self.waiting);
+        let put = match *event {
+            Event::Advance(moment) => Call { letter: kind(b'a'), moment, ..call }.put(&[], to),
+            Event::Frame(iface, packet) => Call { letter: kind(b'f'), iface, ..call }.put(packet, to),
+            Event::Unicast(packet) => Call { letter: kind(b'u'), ..call }.put(packet, to),
+            Event::Up(iface) => Call { letter: kind(b'+'), iface, ..call }.put(&[], to),
+            Event::Down(iface) => Call { letter: kind(b'-'), iface, ..call }.put(&[], to),
+            Event::Routes(routes) => call.put_routes(routes, to),
+            Event::Ranges(ranges) => call.put_ranges(ranges, to),
             Event::Seen(iface, key) => {
-                put_head(to, b's', draw);
-                put(to, *iface);
-                put_key(to, *key);
-                put_data(to, &[]);
+                let (source, group) = (key.source.into(), key.group.into());
+                Call { letter: kind(b's'), iface, source, group, ..call }.put(&[], to)
             }
-        }
-        put_end(to, answer, if answer == DONE { sum_of(router) } else { 0 });
+        };
+        put.map_err(refused)?;
         self.was_put()
     }
 
-    /// What the router answered to another configuration: the lengths of its lists, then its settings and these lists.
+    /// What the router answered to another configuration.
     pub fn reload(&mut self, router: &Router, it: &Configuration, draw: u32, answer: u32) -> io::Result<()> {
-        let to = &mut self.waiting;
-        put_head(to, b'c', draw);
-        for count in [it.interfaces.len(), it.routes.len(), it.ranges.len()] {
-            put(to, count as u32);
-        }
-        let lists = [of_interfaces(it.interfaces), of_routes(it.routes), of_ranges(it.ranges)].concat();
-        put_data(to, &[of_settings(it.settings), lists].concat());
-        put_end(to, answer, if answer == DONE { sum_of(router) } else { 0 });
+        let call = answered(router, draw, answer);
+        let put = call.put_reload(it.settings, it.interfaces, it.routes, it.ranges, &mut self.waiting);
+        put.map_err(refused)?;
         self.was_put()
     }
 
     pub fn kept(&mut self, key: Key, moment: u64, runs: bool) -> io::Result<()> {
-        let to = &mut self.waiting;
-        put_head(to, b'k', 0);
-        put_key(to, key);
-        to.extend_from_slice(&moment.to_be_bytes());
-        put_data(to, &[]);
-        put_end(to, if runs { DONE } else { NO_TIMER }, 0);
+        let (source, group) = (key.source.into(), key.group.into());
+        let answer = if runs { DONE } else { NO_TIMER };
+        let call = Call { letter: b'k'.into(), moment, source, group, answer, ..Call::default() };
+        call.put(&[], &mut self.waiting).map_err(refused)?;
         self.was_put()
     }
 
     /// A setting of older versions, by its letter.
     pub fn set(&mut self, letter: u8, iface: u32, value: u32, answer: u32) -> io::Result<()> {
-        put_setting(&mut self.waiting, letter, iface, value, answer);
+        setting(letter, iface, value, answer).put(&[], &mut self.waiting).map_err(refused)?;
         self.was_put()
     }
 
@@ -347,8 +273,9 @@ mod tests {
         let mut recorder = Recorder::begin(&place, &mut router, &speech, 0).unwrap();
         let answer = answer_of(&router.up(0, 7));
         recorder.event(&router, &Event::Up(0), 7, answer).unwrap();
-        let sum = sum_of(&router);
+        let sum = router.sum();
         assert_ne!(sum, 0);
+        assert_eq!(sum_of(&router), sum);
         let routes = [Route::new(Ipv4Addr::new(10, 9, 0, 0), 16, Ipv4Addr::new(10, 1, 0, 2), 0)];
         let answer = answer_of(&router.set_routes(&routes, 8));
         recorder.event(&router, &Event::Routes(&routes), 8, answer).unwrap();
@@ -360,26 +287,27 @@ mod tests {
         router.reload(&settings, &interfaces, &routes, &ranges, 9).unwrap();
         let given = Configuration { settings: &settings, interfaces: &interfaces, routes: &routes, ranges: &ranges };
         recorder.reload(&router, &given, 9, DONE).unwrap();
-        let sum_then = sum_of(&router);
+        let sum_then = router.sum();
         assert_ne!(sum_then, 0);
+        assert_eq!(sum_of(&router), sum_then);
         recorder.end_turn(&mut router, &speech, 0).unwrap();
         assert_eq!(recorder.due(), Some(WAITS));
         recorder.end_turn(&mut router, &speech, WAITS).unwrap();
         assert_eq!(recorder.due(), None);
-        let mut wanted = [b"VQRC\0\x01\0\0\0\0".as_slice(), &(state.len() as u64).to_be_bytes(), &state].concat();
+        let mut wanted = [b"VQRC\0\x02\0\0\0\0".as_slice(), &(state.len() as u64).to_be_bytes(), &state].concat();
         let words = |numbers: &[u32]| numbers.iter().flat_map(|number| number.to_be_bytes()).collect::<Vec<_>>();
-        let setting = |letter: u8, value: u32| [vec![letter], words(&[0, 0, value, 0, 0, 0])].concat();
-        wanted.extend(setting(b'o', 0));
-        wanted.extend(setting(b'q', 3));
-        wanted.push(b'+');
-        wanted.extend(words(&[7, 0, 0, 0, sum]));
-        wanted.push(b'r');
-        wanted.extend(words(&[8, 24, 0x0a09_0000, 16, 0x0a01_0002, 0, 110, 20, 0, 0]));
-        wanted.push(b'k');
-        wanted.extend(words(&[0, OWN.into(), 0xef01_0101, 0, 5, 0, 52, 0]));
-        wanted.push(b'c');
-        wanted.extend(words(&[9, 1, 1, 1, 80, 1000, 2, 125, 100, 10, 1, OWN.into(), 24, 7, 500, 2500]));
-        wanted.extend(words(&[0x0a09_0000, 16, 0x0a01_0002, 0, 110, 20, 0xef00_0000, 8, OWN.into(), 0, sum_then]));
+        let record = |letter: u8, numbers: &[u32]| [vec![letter], words(numbers)].concat();
+        let route = [0x0a09_0000, 16, 0x0a01_0002, 0, 110, 20];
+        wanted.extend(record(b'o', &[0, 0, 0, 0]));
+        wanted.extend(record(b'q', &[0, 3, 0, 0]));
+        wanted.extend(record(b'+', &[7, 0, 0, sum]));
+        wanted.extend(record(b'r', &[8, 0, 1]));
+        wanted.extend(words(&[&route[..], &[0, 0]].concat()));
+        wanted.extend(record(b'k', &[OWN.into(), 0xef01_0101, 0, 5, 52, 0]));
+        wanted.extend(record(b'c', &[9, 1000]));
+        wanted.push(1);
+        wanted.extend(words(&[2, 125, 100, 10, 0, 1, OWN.into(), 24, 7, 500, 2500, 0, 1]));
+        wanted.extend(words(&[&route[..], &[0, 1, 0xef00_0000, 8, OWN.into(), 0, sum_then]].concat()));
         assert_eq!(std::fs::read(place.path(0)).unwrap(), wanted);
         std::fs::remove_dir_all(&place.folder).unwrap();
     }

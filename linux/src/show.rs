@@ -1,5 +1,6 @@
 //! What the router says of itself over the control socket, as tables of text and as JSON.
 pub mod joins;
+pub mod why;
 
 use crate::daemon::Daemon;
 use crate::error::Fatal;
@@ -25,6 +26,8 @@ use viqeshor::{
 pub enum Topic {
     /// The kernel's forwarding cache, and who asks for what
     Mroute,
+    /// Why an interface is in a tree's list of outgoing interfaces, or isn't: of all groups, a group or a source of one
+    Why,
     /// PIM neighbours
     Neighbors,
     /// Groups and sources that hosts asked for
@@ -49,6 +52,7 @@ impl Topic {
     pub fn name(self) -> &'static str {
         match self {
             Topic::Mroute => "mroute",
+            Topic::Why => "why",
             Topic::Neighbors => "neighbors",
             Topic::Igmp => "igmp",
             Topic::Rp => "rp",
@@ -76,8 +80,7 @@ pub fn answer(daemon: &mut Daemon, line: &str) -> String {
     let is_json = words.last() == Some(&"json");
     words.truncate(words.len() - usize::from(is_json));
     let (name, about) = match words[..] {
-        ["show", name] => (name, None),
-        ["show", name @ "rpf", about] => (name, Some(about)),
+        ["show", name, ref about @ ..] if about.len() <= most_about(name) => (name, about),
         _ => return format!("error: \"{line}\" is nothing that can be asked\n"),
     };
     let topic = match Topic::of(name) {
@@ -94,10 +97,28 @@ pub fn answer(daemon: &mut Daemon, line: &str) -> String {
     }
 }
 
-fn rows(daemon: &mut Daemon, topic: Topic, about: Option<&str>) -> Result<Rows, String> {
-    let to = about.map(|text| text.parse().map_err(|_| format!("\"{text}\" isn't an IPv4 address"))).transpose()?;
+/// How many addresses may stand after the name of a topic.
+fn most_about(name: &str) -> usize {
+    match Topic::of(name) {
+        Some(Topic::Rpf) => 1,
+        Some(Topic::Why) => 2,
+        _ => 0,
+    }
+}
+
+/// An address that stands after a topic.
+fn address_in(text: &&str) -> Result<Ipv4Addr, String> {
+    text.parse().map_err(|_| format!("\"{text}\" isn't an IPv4 address"))
+}
+
+fn rows(daemon: &mut Daemon, topic: Topic, about: &[&str]) -> Result<Rows, String> {
+    let of = about.iter().map(address_in).collect::<Result<Vec<_>, _>>()?;
+    if let Some(group) = of.first().filter(|first| topic == Topic::Why && !first.is_multicast()) {
+        return Err(format!("{group} isn't a group"));
+    }
     let rows = match topic {
         Topic::Mroute => mroute(daemon),
+        Topic::Why => why::why(daemon, of.first().copied(), of.get(1).copied()),
         Topic::Neighbors => neighbours(daemon),
         Topic::Igmp => igmp(daemon),
         Topic::Rp => rp(daemon),
@@ -105,7 +126,7 @@ fn rows(daemon: &mut Daemon, topic: Topic, about: Option<&str>) -> Result<Rows, 
         Topic::Joins => joins::joins(daemon),
         Topic::Upstream => joins::upstream(daemon),
         Topic::Asserts => joins::asserts(daemon),
-        Topic::Rpf => joins::rpf(daemon, to),
+        Topic::Rpf => joins::rpf(daemon, of.first().copied()),
         Topic::Counters => counters(daemon),
     };
     rows.map_err(|error| error.to_string())
@@ -124,7 +145,10 @@ fn cell(value: &Value) -> String {
         Value::Null => "-".to_string(),
         Value::String(text) => text.clone(),
         Value::Array(list) if list.is_empty() => "-".to_string(),
-        Value::Array(list) => list.iter().map(cell).collect::<Vec<_>>().join(" "),
+        Value::Array(list) => {
+            let cells: Vec<_> = list.iter().map(cell).collect();
+            cells.join(if cells.iter().any(|cell| cell.contains(' ')) { ", " } else { " " })
+        }
         other => other.to_string(),
     }
 }
@@ -162,6 +186,11 @@ fn address(number: u32) -> Value {
     json!(Ipv4Addr::from(number).to_string())
 }
 
+/// Whether an address is the router's.
+fn is_here(daemon: &Daemon, address: Ipv4Addr) -> bool {
+    daemon.ports.iter().any(|port| port.address() == Some(address))
+}
+
 // ---- RPs and ways
 
 /// RP(G).
@@ -186,7 +215,7 @@ fn rp(daemon: &mut Daemon) -> Result<Rows, Fatal> {
     groups.extend(daemon.core.rows_of::<GroupRow>()?.iter().map(|row| u32::from(row.group)));
     let ranges = &daemon.settings.rps;
     let row = |range: &RpSettings| {
-        let is_here = daemon.ports.iter().any(|port| port.address() == Some(range.address));
+        let is_here = is_here(daemon, range.address);
         let way = way(daemon, range.address).filter(|_| !is_here);
         let is_used = |group: &&u32| rp_of(daemon, **group) == Some(range.address) && range.groups.contains(**group);
         vec![

@@ -219,9 +219,10 @@ class Network:
         assert line in self.settings
         self.reload(self.settings.replace(line, line + lines))
 
-    def show(self, topic: str) -> list[dict[str, Any]]:
+    def show(self, topic: str, *about: str) -> list[dict[str, Any]]:
         """What `viqeshord show` prints, as rows; none where the router doesn't answer."""
-        words = [self.built / "viqeshord", "show", topic, "--json", "--socket", self.room / "router" / "control"]
+        socket = self.room / "router" / "control"
+        words = [self.built / "viqeshord", "show", topic, *about, "--json", "--socket", socket]
         said = subprocess.run(list(map(str, words)), capture_output=True, text=True)
         return json.loads(said.stdout)[topic] if said.returncode == 0 else []
 

@@ -157,13 +157,18 @@ def assert_of(net: Network, source_place: str, source: str, group: str, *rp: str
 
 
 def assert_lost(net: Network) -> str:
-    """on a LAN onto which both send, FRR wins where it is at the source, and the router stops"""
+    """on a LAN onto which both send, FRR wins where it is at the source; the router stops, and says why"""
     group = "239.4.5.5"
     heard, said = assert_of(net, "source", SOURCE, group, "10.4.0.1")
     if set(heard["asserts"]) != {"10.7.0.3", "10.7.0.2"} or set(heard["last"]) != {"10.7.0.2"}:
         raise Failed(f"at the end not first alone sends: {said}")
-    if "to-lan" in net.entry(SOURCE, group)["outgoing"]:
-        raise Failed(f"the router would still send there: {said}")
+    entry = net.entry(SOURCE, group)
+    if "source" not in entry or "to-lan" in entry["outgoing"]:
+        raise Failed(f"the router has {entry}: {said}")
+    why = [row for row in net.show("why", group, SOURCE) if row["interface"] == "to-lan"]
+    told = [(row["is_outgoing"], "joined (S,G)" in row["reasons"], row["kept_off"]) for row in why]
+    if told != [(False, True, ["lost assert (S,G) to 10.7.0.2"])]:
+        raise Failed(f"the router says {why}: {said}")
     return said
 
 

@@ -3,13 +3,21 @@
 A text is read as the program reads it: decimal numbers without leading zeros in an address, any zeros before other
 numbers, numbers below 2^32, and between the words of a route what Unicode calls white space.
 """
+from __future__ import annotations
+
+import functools
+import ipaddress
 import re
 from collections.abc import Iterable
 from dataclasses import dataclass
-from ipaddress import IPv4Network
+from ipaddress import IPv4Address, IPv4Network
+from typing import TypeVar
+
+T = TypeVar("T")
 
 BELOW = 2**32
 MULTICAST, LAST_GROUP = 0xE000_0000, 0xEFFF_FFFF
+SOURCE_SPECIFIC = IPv4Network("232.0.0.0/8")
 ADDRESS = re.compile(r"(?:0|[1-9][0-9]{0,2})(?:\.(?:0|[1-9][0-9]{0,2})){3}\Z")
 WHITE_SPACE = re.compile("[\t-\r \x85\xa0\u1680\u2000-\u200a\u2028\u2029\u202f\u205f\u3000]+")
 
@@ -52,6 +60,13 @@ def is_group(address: int) -> bool:
     return MULTICAST <= address <= LAST_GROUP
 
 
+ip_address = functools.cache(ipaddress.ip_address)
+
+
+def is_source_specific(group: str) -> bool:
+    return ip_address(group) in SOURCE_SPECIFIC
+
+
 def mask(length: int) -> int:
     return (BELOW - 1) << (32 - length) & (BELOW - 1)
 
@@ -88,3 +103,9 @@ def routes_of(texts: Iterable[str]) -> list[Route]:
 def ranges_of(texts: Iterable[str]) -> list[tuple[IPv4Network, str]]:
     """RP ranges that the program has taken: pairs of a prefix and an address."""
     return [(IPv4Network(prefix), rp) for prefix, rp in map(range_words, texts)]
+
+
+def longest(pairs: Iterable[tuple[IPv4Network, T]], address: IPv4Address) -> T | None:
+    """The value of the longest prefix with the address, the first of equal ones, or None."""
+    found = [(prefix.prefixlen, value) for prefix, value in pairs if address in prefix]
+    return max(found, key=lambda pair: pair[0])[1] if found else None

@@ -3,10 +3,10 @@ send."""
 from __future__ import annotations
 
 from collections.abc import Callable, Container, Hashable, Iterator
-from ipaddress import ip_address
 from typing import TYPE_CHECKING
 
-from pimtext import packets, printed, trees, wishes, words
+from pimtext import asked, packets, printed, wishes, words
+from pimtext.addresses import ip_address, is_source_specific
 from pimtext.cause import Cause
 from pimtext.printed import ANY
 from pimtext.run import gathered, is_local, some, times
@@ -18,7 +18,7 @@ if TYPE_CHECKING:
     from pimtext.story import Sent, Step
     from pimtext.wishes import Heard
 
-QUERY, OLD_QUERY_SIZE = 0x11, 8
+OLD_QUERY_SIZE = 8
 # Which versions of older hosts a router hears, by `older_hosts` of its table.
 HEARD = {"none": (), "v2": (2,), "all": (1, 2)}
 
@@ -49,7 +49,7 @@ class Askers:
         """No host of a group that one leaves speaks IGMPv1 (RFC 3376, 7.3.2)."""
         for each in self.older_refused(True):
             group, wish = each.wishes[0]
-            if wish == wishes.NOTHING and not is_local(group) and not trees.is_source_specific(group):
+            if wish == wishes.NOTHING and not is_local(group) and not is_source_specific(group):
                 told = f"the Leave of {each.host} for {group} isn't heard: a host of IGMPv1 wants the group"
                 yield Cause(*self.run.at_move(each.step, told), self.of_host(each.host, {group}, "7"))
 
@@ -70,7 +70,7 @@ class Askers:
         """A group of the SSM range is asked for with its source."""
         for (host, group), told in self.hosts.told.items():
             first = next((at for at, wish in told if wish.is_exclude), None)
-            if trees.is_source_specific(group) and first is not None:
+            if is_source_specific(group) and first is not None:
                 why = "and an SSM group has no tree but those of its sources: name one, by ALLOW or TO_IN"
                 text = f"{host} asks for {group} without a source, {why}"
                 yield Cause(*self.run.at_move(self.run.steps[first], text), self.of_host(host, {group}, "7"))
@@ -120,7 +120,7 @@ class Askers:
 
     def dr_of(self, link: str) -> str | None:
         """The router that is a link's DR at the end, None where none there takes itself for it."""
-        return next((state.router.name for state, number in self.world.ports[link] if trees.is_dr(state, number)), None)
+        return next((state.router.name for state, number in self.world.ports[link] if asked.is_dr(state, number)), None)
 
     def kept_off(self, host: str, link: str, dr: str, reports: list[Heard]) -> Cause:
         names = " and ".join(dict.fromkeys(each.step.router for each in reports))
@@ -134,7 +134,7 @@ class Askers:
         for (host, group), told in self.hosts.told.items():
             link = self.hosts.links[host]
             report = self.last_report(host, group, self.dr_of(link))
-            is_never_kept = is_local(group) or (trees.is_source_specific(group) and told[-1][1].is_exclude)
+            is_never_kept = is_local(group) or (is_source_specific(group) and told[-1][1].is_exclude)
             if report is None or is_never_kept or told[-1][1] == wishes.NOTHING:
                 continue
             if not self.is_known(report.step.router, link, group) and self.is_over(report):
@@ -158,7 +158,7 @@ class Askers:
         state = self.known[dr]
         numbers = {each.number for each in state.router.on(link)}
         named = {row.iface for row in state.of(printed.SourceRecord, group=group) if row.end is not None}
-        return bool(numbers & (trees.hosts(state, group, ANY) | named))
+        return bool(numbers & (state.tree(group).local_receiver_include | named))
 
     def gone(self, group: str, report: Heard) -> Iterator[Cause]:
         """The cause where a host answered none of the queries that came after its report."""
@@ -178,7 +178,7 @@ class Askers:
         for each in self.first(lambda each: (each.router, each.iface, each.packet.source)):
             state, source = self.known[each.router], each.packet.source
             own = state.router.interfaces[each.iface]
-            if ip_address(source) not in own.own.network and trees.rpf_interface(state, source) != each.iface:
+            if ip_address(source) not in own.own.network and asked.rpf_interface(state, source) != each.iface:
                 where = f"isn't in {own.own.network}, the subnet of {own.link}, and no route leads to it there"
                 told = f"the source {source} {where}: it counts as no source of this link"
                 yield Cause(*self.run.at_move(each.step, told), self.of_stranger(source))
@@ -207,7 +207,7 @@ class Askers:
         for each in first:
             group, source = each.packet.destination, each.packet.source
             asked = sources.get(group, [])
-            if asked and not {ANY, source} & set(asked) and not trees.is_source_specific(group):
+            if asked and not {ANY, source} & set(asked) and not is_source_specific(group):
                 named = some(sorted(asked, key=ip_address))
                 told = f"{group} is asked for of {named} alone, and this is data of {source}"
                 yield Cause(*self.run.at_move(each.step, told))
@@ -230,4 +230,4 @@ def is_query(sent: Sent, router: str, link: str) -> bool:
 def is_old_query(step: Step) -> bool:
     """Whether a host's packet is a query of IGMPv1 or IGMPv2."""
     message = wishes.igmp_of(step.taken()) if step.did["do"] == "frame" else None
-    return bool(message) and message[0] == QUERY and len(message) == OLD_QUERY_SIZE
+    return bool(message) and message[0] == wishes.QUERY and len(message) == OLD_QUERY_SIZE

@@ -8,7 +8,8 @@ from __future__ import annotations
 from collections.abc import Iterator
 from typing import TYPE_CHECKING
 
-from pimtext import printed, reasons, served, trees, words
+from pimtext import asked, printed, reasons, served, words
+from pimtext.addresses import is_source_specific
 from pimtext.askers import Askers
 from pimtext.cause import Cause, Symptom, attached, grouped
 from pimtext.interfaces import Interfaces
@@ -22,9 +23,9 @@ if TYPE_CHECKING:
     from lab.lines import Lines as LabLines
     from pimtext.ends import End
     from pimtext.faults import Judge
+    from pimtext.known import Known
     from pimtext.scenario import Scenario
     from pimtext.streams import Stream
-    from pimtext.trees import Known
     from pimtext.watched import Verdict
 
 # Symptoms of these kinds are told under a cause alone: what nobody sends or asks for is no fault of itself.
@@ -100,17 +101,17 @@ class Symptoms:
         keys = [(each.router, each.iface, each.packet.source, each.packet.destination) for each in said]
         for name, iface, source, group in dict.fromkeys(keys):
             state = self.known[name]
-            is_here = trees.rpf_interface(state, source) == iface and trees.is_connected(state, source)
-            if not trees.is_source_specific(group) and is_here and trees.is_dr(state, iface):
+            is_here = asked.rpf_interface(state, source) == iface and asked.is_connected(state, source)
+            if not is_source_specific(group) and is_here and asked.is_dr(state, iface):
                 yield from self.of_dr(name, state, source, group)
 
     def of_dr(self, name: str, state: Known, source: str, group: str) -> Iterator[Symptom]:
-        rp, whose = trees.rp_of(state, group), f"router {name} is the DR of the source {source}"
+        rp, whose = asked.rp_of(state, group), f"router {name} is the DR of the source {source}"
         line = self.run.lines.router(name)
         if rp is None:
             told = f"{whose} and has no RP for {group}: it registers nothing"
             yield Symptom("no rp", line, told, name, group=group, source=source)
-        elif not state.router.has(rp) and trees.route(state, rp) is None:
+        elif not state.router.has(rp) and asked.route(state, rp) is None:
             told = f"{whose} and has no route to {rp}, the RP of {group}"
             yield Symptom("no route", line, told, name, address=rp, group=group, source=source)
 

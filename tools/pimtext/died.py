@@ -6,11 +6,13 @@ from __future__ import annotations
 
 from typing import TYPE_CHECKING
 
-from pimtext import served, trace, trees, words
+from pimtext import asked, served, trace, words
+from pimtext.addresses import is_source_specific
 from pimtext.ends import End
 from pimtext.printed import ANY
 
 if TYPE_CHECKING:
+    from pimtext.known import Known
     from pimtext.past import Past
 
 # How many routers are told of that took a packet which goes another way than to the host.
@@ -68,10 +70,11 @@ class Death:
         state = self.past.known(taken.at)[taken.router]
         if taken.iface is None:
             return served.is_rp(state, self.group)
-        if trees.rpf_interface(state, self.source) == taken.iface:
+        if asked.rpf_interface(state, self.source) == taken.iface:
             return True
-        is_shared = not trees.is_source_specific(self.group) and not trees.has_spt_bit(state, self.group, self.source)
-        return is_shared and trees.upstream_interface(state, self.group, ANY) == taken.iface
+        has_spt_bit = state.source_tree(self.group, self.source).spt_bit
+        is_shared = not is_source_specific(self.group) and not has_spt_bit
+        return is_shared and asked.upstream_interface(state, self.group, ANY) == taken.iface
 
     # ---- at its first router
 
@@ -84,26 +87,26 @@ class Death:
         """Why the RP never had it, where nothing else is wrong on the way from the host."""
         known, done = self.world.known, [taken for taken in self.packet.began if taken.is_done()]
         for taken in done:
-            if taken.iface is not None and not trees.is_connected(known[taken.router], self.source):
+            if taken.iface is not None and not asked.is_connected(known[taken.router], self.source):
                 return self.stranger(known[taken.router], taken.iface)
         sent = [copy for taken in done for copy in taken.copies if copy.is_register()]
         if sent:
             return self.register_end(sent[0])
         if self.packet.link is None:
             return self.misdirected(known[done[0].router])
-        drs = [taken for taken in done if taken.iface is not None and trees.is_dr(known[taken.router], taken.iface)]
+        drs = [taken for taken in done if taken.iface is not None and asked.is_dr(known[taken.router], taken.iface)]
         if drs and ttl_of(drs[0]) <= 1:
             return self.used_up(drs[0])
         return served.unregistered(self.world, self.group, self.source, self.packet.link)
 
-    def stranger(self, state: trees.Known, iface: int) -> End:
+    def stranger(self, state: Known, iface: int) -> End:
         name, link = state.router.name, state.router.interfaces[iface].link
         told = f"to {name} the source {self.source} isn't on {link}, nor on any other link of it"
         return End("stranger", f"{told}, so {name} doesn't register it", name, link, self.source)
 
-    def misdirected(self, state: trees.Known) -> End:
+    def misdirected(self, state: Known) -> End:
         """A Register from outside the scenario came to a router that isn't on the host's way, or isn't the RP."""
-        name, rp = state.router.name, trees.rp_of(state, self.group)
+        name, rp = state.router.name, asked.rp_of(state, self.group)
         if served.is_rp(state, self.group):
             told = f"it came in a Register to {name} alone, and on no link of {self.source}"
             return End("not the source's dr", told, name, None, self.source)
@@ -126,7 +129,7 @@ class Death:
 
     # ---- at a router that had it
 
-    def stopped(self, rung: served.Rung, below: trees.Known | None) -> End:
+    def stopped(self, rung: served.Rung, below: Known | None) -> End:
         """Why a router that had it didn't bring it to the router below, or to hosts."""
         had = self.at(rung.state.router.name)
         for taken in had:
@@ -146,7 +149,7 @@ class Death:
         told = f"packets of {self.source} with TTL {self.packet.ttl} come to {taken.router} {where} with"
         return End("ttl", f"{told} TTL {ttl_of(taken)}, with which no copy leaves", taken.router)
 
-    def unheard(self, copy: trace.Copy, below: trees.Known | None, link: str) -> End:
+    def unheard(self, copy: trace.Copy, below: Known | None, link: str) -> End:
         """Why the router below had nothing of a copy on the link between."""
         name = below.router.name if below else "the host"
         here = [taken for taken in copy.taken if taken.router == name]

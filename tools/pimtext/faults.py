@@ -14,7 +14,8 @@ from pimtext.addresses import BELOW, address_in, dotted, is_group, is_host, mask
 
 MOST_ROUTERS, MOST_IFACES, MOST_ROUTES, MOST_RPS = 64, 120, 100_000, 256
 
-ROUTER_KEYS = ["name", "iface", "limit", "spt", "rv", "qi", "qri", "lmqi", "older_hosts", "routes", "rps"]
+CONFIG_KEYS = ["iface", "limit", "spt", "rv", "qi", "qri", "lmqi", "older_hosts", "routes", "rps"]
+ROUTER_KEYS = ["name", *CONFIG_KEYS]
 IFACE_KEYS = ["link", "address", "priority", "propagation", "override"]
 MOVE_KEYS = {
     "up": ["router", "iface", "draw"],
@@ -28,6 +29,7 @@ MOVE_KEYS = {
     "carry": ["router", "frame", "draw"],
     "settle": ["draw"],
     "restart": ["router"],
+    "reload": ["router", "draw", "config"],
 }
 ROUTE_FORM = '"PREFIX NEXTHOP IFACE PREFERENCE METRIC", as "10.1.0.0/24 10.0.0.1 0 110 20"'
 RP_FORM = '"PREFIX RP", as "239.0.0.0/8 10.0.0.1"'
@@ -43,6 +45,7 @@ FORMS = {
     "frame": "the number of a packet as it is printed after `frame`, `copy` or `unicast`, counted from 1",
     "hex": "an IPv4 packet in hexadecimal, two digits a byte and no blanks",
     "draw": "a whole number from 0",
+    "config": "a table with the keys of a router but its name",
     "list of routes": f"a list of routes, each {ROUTE_FORM}",
     "list of rps": f"a list of RP ranges, each {RP_FORM}",
 }
@@ -212,7 +215,11 @@ class Judge:
             if name.held in self.names:
                 self.fault(name.line, where, f"another router has this name, in line {self.names[name.held]}")
             self.names.setdefault(name.held, name.line)
-        made = {"line": table.line, "where": where, "table": table, "ifaces": self.ifaces(table, where)}
+        return {"line": table.line, "where": where, "table": table, "later": [], **self.configuration(table, where)}
+
+    def configuration(self, table: toml_lines.Value, where: str) -> dict[str, Any]:
+        """What a router's table says but its name."""
+        made = {"ifaces": self.ifaces(table, where)}
         for key, default in (("limit", 65536), ("rv", 2), ("qi", 125), ("qri", 100), ("lmqi", 10)):
             made[key] = self.number(table, key, default, where)
         self.word(table, "spt", ("always", "never"), where)
@@ -341,6 +348,20 @@ class Judge:
             self.packet(table, where)
         if "list" in keys:
             self.entries(kind, table, where)
+        if "config" in keys:
+            self.config(table, where)
+
+    def config(self, table: toml_lines.Value, where: str) -> None:
+        """The configuration of a move `reload`. The interfaces that it adds are kept with its router."""
+        if self.wanted(table, "config", "table", where) is None:
+            return
+        inner = table.get("config")
+        self.only(inner, CONFIG_KEYS, where, "a configuration")
+        ifaces, name = self.configuration(inner, where)["ifaces"], table.get("router")
+        for router in self.routers:
+            own = router["table"].get("name")
+            if name is not None and own is not None and own.held == name.held:
+                router["later"] += ifaces[len(router["ifaces"]) + len(router["later"]):]
 
     def entries(self, kind: str, table: toml_lines.Value, where: str = "") -> list[Route]:
         """The routes of a move `routes`, or the ranges of a move `rps`."""

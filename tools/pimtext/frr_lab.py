@@ -359,10 +359,10 @@ def branch_told(plan: Plan, router: frr.Router, entry: dict[str, Any]) -> Branch
 
 def lab_branches(net: Network) -> dict[tuple[str, str, str], Branch]:
     """The same of a network of tools/lab."""
-    from pimtext import trees
+    from pimtext import asked
     found = []
     for name, state in net.known().items():
-        for branch in trees.branches(state):
+        for branch in asked.branches(state):
             incoming = None if branch.incoming is None else state.link(branch.incoming)
             outgoing = frozenset(map(state.link, branch.outgoing))
             found.append(Branch(name, branch.source, branch.group, incoming, outgoing))

@@ -275,7 +275,7 @@ class Happenings:
         whom, to = self.draws.choice(("10.80.0.1", "10.90.0.1")), self.draws.choice(
             [self.own(at) for at in range(self.count)]
         )
-        data = packets.write_pim(packets.REGISTER, whom, to, 64, bytes([0x40 * is_null, 0, 0, 0]) + inner)
+        data = packets.write_register(whom, to, inner, is_null)
         return self.event("unicast", (data,), f"{'Null-' * is_null}Register of {whom} to {to}: {source} to {group}")
 
     def register_stop(self) -> Event:

@@ -4,12 +4,14 @@ from __future__ import annotations
 from collections.abc import Callable, Iterable, Iterator
 from typing import TYPE_CHECKING
 
-from pimtext import packets, served, story, trees, words
+from pimtext import packets, served, story, words
+from pimtext.addresses import ip_address, longest
 from pimtext.cause import Cause
 from pimtext.run import gathered
 
 if TYPE_CHECKING:
     from pimtext.cause import Symptom
+    from pimtext.known import Known
     from pimtext.run import Run
     from pimtext.scenario import Interface
     from pimtext.story import Step
@@ -128,7 +130,7 @@ class Interfaces:
             if each.kind in ("odd", "refused"):
                 return each.cause == "23" and each.router == name and each.link == link
             if each.kind == "no route":
-                is_own = each.router == name and trees.ip_address(each.address) in interface.own.network
+                is_own = each.router == name and ip_address(each.address) in interface.own.network
                 is_over = is_own or self.led_over(each.router, each.address, {link})
                 return is_over or self.is_cut_off(each, {(name, interface.number)})
             if each.kind == "no join":
@@ -153,7 +155,7 @@ class Interfaces:
         state = self.known.get(name)
         if state is None or address is None:
             return False
-        found = trees.longest([(each.prefix, each) for each in state.router.routes], trees.ip_address(address))
+        found = longest([(each.prefix, each) for each in state.router.routes], ip_address(address))
         return found is not None and state.link(found.iface) in links
 
     def is_cut_off(self, symptom: Symptom, keys: Iterable[tuple[str, int]]) -> bool:
@@ -174,7 +176,7 @@ class Interfaces:
                 found.add(router)
                 waiting += self.beside(router, up)
         own = [each for router in found for each in self.known[router].router.interfaces if (router, each.number) in up]
-        return any(trees.ip_address(address) in each.own.network for each in own)
+        return any(ip_address(address) in each.own.network for each in own)
 
     def beside(self, router: str, up: set[tuple[str, int]]) -> list[str]:
         """The routers that share a link with one."""
@@ -205,7 +207,7 @@ class Interfaces:
         """The moment by which the first Hello of an interface leaves."""
         return self.last(name, number)[1].moment + HELLO_DELAY
 
-    def silent(self, state: trees.Known, number: int) -> Cause:
+    def silent(self, state: Known, number: int) -> Cause:
         name, until = state.router.name, self.greets_by(state.router.name, number)
         told = f": no Hello has left interface {number}: it leaves by moment {until}, and the router was advanced to"
         covers = of_addresses({state.router.interfaces[number].address})

@@ -121,10 +121,10 @@ def unproved_router(folder: Path | None) -> Path:
 HEAP = "heap.pic.o"
 
 
-def written_in_c(how: str) -> Iterator[Path]:
+def written_in_c(how: str, room: Path) -> Iterator[Path]:
     """What of the library is C: what it says of itself, and its calls, which make those that are proved."""
     for name in ("texts", "calls"):
-        made = ROOM / f"{name}.o"
+        made = room / f"{name}.o"
         ran([CC, "-std=c99", "-Wall", "-Wextra", "-Werror", "-O2", "-fPIC", f'-DVIQ_HOW="{how}"', "-I", INCLUDE, "-c",
              BINDINGS / "c" / f"{name}.c", "-o", made])
         yield made
@@ -135,17 +135,17 @@ def archiver() -> Path | str:
     return kit.kit() / "toolchain" / "bin" / "llvm-ar" if shutil.which("rt") else os.environ.get("AR", "ar")
 
 
-def archive(router: Path, how: str) -> Path:
-    """The archive, of a router's, that says how it was built. The kit's few lines of C around malloc are in it, or are
-    put there."""
-    made, tool = ROOM / "libviqeshor.a", archiver()
+def archive(router: Path, how: str, room: Path) -> Path:
+    """The archive, of a router's, that says how it was built, in a folder. The kit's few lines of C around malloc are
+    in it, or are put there."""
+    made, tool = room / "libviqeshor.a", archiver()
     # The router's archive may be the one that is made.
     put(made, router.read_bytes())
     if HEAP not in ran([tool, "t", made]).decode().split():
-        with tempfile.TemporaryDirectory(dir=ROOM) as room:
-            ran([tool, "x", kit.kit() / "c" / "liblibc_c.a", HEAP], cwd=room)
-            ran([tool, "r", made, Path(room) / HEAP])
-    ran([tool, "rs", made, *written_in_c(how)])
+        with tempfile.TemporaryDirectory(dir=room) as folder:
+            ran([tool, "x", kit.kit() / "c" / "liblibc_c.a", HEAP], cwd=folder)
+            ran([tool, "r", made, Path(folder) / HEAP])
+    ran([tool, "rs", made, *written_in_c(how, room)])
     return made
 
 
@@ -157,21 +157,24 @@ def names_of_calls() -> list[str]:
 
 
 class Library:
-    """The library in out/library, proved unless another archive of the router is given, or the unproved one is asked
-    for, which is taken from a folder that is named if it is there."""
+    """The library in a folder, out/library as a rule; proved unless another archive of the router is given, or the
+    unproved one is asked for, which is taken from a folder that is named if it is there."""
 
-    def __init__(self, given: Path | None = None, is_proved: bool = True, folder: Path | None = None) -> None:
-        ROOM.mkdir(parents=True, exist_ok=True)
+    def __init__(
+        self, given: Path | None = None, is_proved: bool = True, folder: Path | None = None, room: Path | None = None
+    ) -> None:
+        self.room = room or ROOM
+        self.room.mkdir(parents=True, exist_ok=True)
         if given:
-            self.archive = archive(given.resolve(), "not proved")
+            self.archive = archive(given.resolve(), "not proved", self.room)
         elif is_proved:
-            self.archive = archive(proved_router(), "proved")
+            self.archive = archive(proved_router(), "proved", self.room)
         else:
-            self.archive = archive(unproved_router(folder), "not proved")
+            self.archive = archive(unproved_router(folder), "not proved", self.room)
 
     def shared(self) -> Path:
         """A shared library of all of it."""
-        made, names = ROOM / "libviqeshor.so", ROOM / "names"
+        made, names = self.room / "libviqeshor.so", self.room / "names"
         names.write_text(f"{{ global: {'; '.join(names_of_calls())}; local: *; }};\n")
         flags = [
             f"-Wl,-soname,{SONAME}",
@@ -183,12 +186,12 @@ class Library:
         ran([CC, "-shared", "-o", beside(made), *flags])
         beside(made).replace(made)
         # The kit takes no links below the repository, not even in what is built.
-        put(ROOM / SONAME, made.read_bytes(), 0o755)
+        put(self.room / SONAME, made.read_bytes(), 0o755)
         return made
 
     def program(self, source: Path, *flags: str) -> Path:
         """A C program with it."""
-        made = ROOM / source.stem
+        made = self.room / source.stem
         ran(
             [
                 CC,
@@ -210,7 +213,7 @@ class Library:
 
     def rust_program(self, source: Path) -> Path:
         """A Rust program with it."""
-        made = ROOM / f"{source.stem}_rs"
+        made = self.room / f"{source.stem}_rs"
         ran(["rustc", "--edition", "2021", "-O", "-o", made, source, "-C", f"link-arg={self.archive}"])
         return made
 

@@ -7,18 +7,20 @@ from __future__ import annotations
 from collections import Counter
 from collections.abc import Callable, Iterable, Iterator
 from difflib import SequenceMatcher
-from ipaddress import ip_address
 from typing import TYPE_CHECKING, TypeVar
 
-from pimtext import printed, trees
+from pimtext import asked, printed
+from pimtext.addresses import ip_address
 from pimtext.cause import Cause
 from pimtext.printed import ANY
 from pimtext.run import gathered, some
 
 if TYPE_CHECKING:
     from pimtext.cause import Symptom
+    from pimtext.known import Known
     from pimtext.run import Run
     from pimtext.scenario import Interface
+    from viqeshor.trees import Path
 
     T = TypeVar("T")
 
@@ -50,7 +52,7 @@ class Mistakes:
     def other_rps(self, group: str) -> Iterator[tuple[tuple[bool, str, str | None, str | None], str]]:
         """The routers with another RP for a group than most have: whether one is that RP, its name, its RP and the
         usual."""
-        by_name = {name: trees.rp_of(state, group) for name, state in self.known.items()}
+        by_name = {name: asked.rp_of(state, group) for name, state in self.known.items()}
         usual = most([rp for rp in by_name.values() if rp], lambda rp: self.world.owner(rp) is not None)
         for name, rp in by_name.items():
             is_owner = usual is not None and self.known[name].router.has(usual)
@@ -58,7 +60,7 @@ class Mistakes:
                 yield (is_owner, name, rp, usual), group
 
     def other_rp(self, name: str, rp: str | None, usual: str, groups: list[str]) -> Cause:
-        peer = next(each for each, state in self.known.items() if trees.rp_of(state, groups[0]) == usual)
+        peer = next(each for each, state in self.known.items() if asked.rp_of(state, groups[0]) == usual)
         theirs = f"{usual} at router {peer} ({self.run.lines.words(self.run.lines.router(peer))})"
         told = f": the RP of {some(groups)} is {rp} here, and {theirs}"
         kinds = ("rp disagrees", "no owner", "registers stopped")
@@ -86,7 +88,7 @@ class Mistakes:
             covers = lambda each: each.kind == "no rp" and each.group in nowhere
             yield Cause(self.run.lines.router(next(iter(self.known))), told, covers)
         for name, state in self.known.items():
-            missing = [group for group in self.run.groups() if trees.rp_of(state, group) is None]
+            missing = [group for group in self.run.groups() if asked.rp_of(state, group) is None]
             groups = [group for group in missing if group not in nowhere]
             if groups:
                 told = f" has no RP for {some(groups)}, which other routers have"
@@ -103,7 +105,7 @@ class Mistakes:
         """An RP's address is that of a router."""
         pairs = ((rp, group) for group in self.run.groups() for rp in sorted(self.run.rps_of(group)))
         for rp, groups in gathered(pair for pair in pairs if self.world.owner(pair[0]) is None).items():
-            name = next(name for name, state in self.known.items() if trees.rp_of(state, groups[0]) == rp)
+            name = next(name for name, state in self.known.items() if asked.rp_of(state, groups[0]) == rp)
             told = f": no router has the address {rp}, the RP of {some(groups)}"
             yield Cause(*self.run.at_router(name, told), self.of_address(rp), is_hint=True)
 
@@ -228,7 +230,7 @@ class Mistakes:
         seen = []
         while name not in seen:
             seen.append(name)
-            path = trees.route(self.known[name], address)
+            path = asked.route(self.known[name], address)
             above = None if path is None or path.is_connected else self.world.owner(path.next_hop)
             if above is None:
                 return []
@@ -240,8 +242,8 @@ class Mistakes:
         joined = [(name, row) for name, state in self.known.items() for row in state.of(printed.Upstream)]
         for name, row in joined:
             state = self.known[name]
-            root = trees.root_of(state, row.group, row.source)
-            path = trees.route(state, root)
+            root = asked.root_of(state, row.group, row.source)
+            path = asked.route(state, root)
             if path is not None and not path.is_connected and not self.is_there(state, path):
                 where = f"{path.next_hop} on {state.link(path.iface)}, and no router there has that address"
                 told = f": its route to {root} leads to {where}"
@@ -251,7 +253,7 @@ class Mistakes:
     def of_next_hop(name: str, hop: str) -> Callable[[Symptom], bool]:
         return lambda each: each.router == name and each.kind == "no neighbour" and each.address == hop
 
-    def is_there(self, state: trees.Known, path: trees.Path) -> bool:
+    def is_there(self, state: Known, path: Path) -> bool:
         """A router of the scenario, or from outside, has the address of a next hop."""
         own = any(interface.address == path.next_hop for _, interface in self.ports[state.link(path.iface)])
         return own or bool(state.of(printed.Neighbour, iface=path.iface, address=path.next_hop))

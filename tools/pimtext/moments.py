@@ -4,18 +4,18 @@ from __future__ import annotations
 from collections.abc import Iterable, Iterator
 from typing import TYPE_CHECKING
 
-from pimtext import story, trees
+from pimtext import story
+from pimtext.known import begun, follow
 
 if TYPE_CHECKING:
+    from pimtext.known import Known
     from pimtext.scenario import Scenario
 
 
-def after_moves(
-    played: Scenario, lines: Iterable[str]
-) -> Iterator[tuple[int, list[story.Step], dict[str, trees.Known]]]:
+def after_moves(played: Scenario, lines: Iterable[str]) -> Iterator[tuple[int, list[story.Step], dict[str, Known]]]:
     """After each move, and before the first: the number of moves, the steps of the last one, and what each router
     knows. The lines have the tables of each answer. What is known is the same object each time."""
-    known, waiting = trees.known(played, [], {}), None
+    known, waiting = begun(played), None
     steps, number = [], 0
     for part in story.Teller(played).tell(lines):
         if isinstance(part, story.Step):
@@ -26,9 +26,8 @@ def after_moves(
             yield number, steps, known
             number, steps = number + 1, []
         steps.append(waiting)
-        if waiting.verdict == "done":
-            trees.follow(known[waiting.router], waiting)
-        known[waiting.router].rows, known[waiting.router].moment = part.rows, part.moment
+        follow(known[waiting.router], waiting)
+        known[waiting.router].print(part)
         waiting = None
     while number <= len(played.moves):
         yield number, steps, known

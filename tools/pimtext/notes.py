@@ -8,7 +8,7 @@ from typing import TYPE_CHECKING
 
 from pimtext import packets, story, trace, wishes, words
 from pimtext.cause import Symptom
-from pimtext.faults import MOST_ROUTES, MOST_RPS, Judge, list_faults, route_fault, rp_fault
+from pimtext.faults import MOST_ROUTES, MOST_RPS, Judge, configuration_faults, list_faults, route_fault, rp_fault
 
 if TYPE_CHECKING:
     from lab.lines import Line
@@ -67,7 +67,8 @@ class Lines:
         return self.routers[name]["line"]
 
     def interface(self, name: str, number: int) -> int:
-        return self.routers[name]["ifaces"][number].line
+        made = self.routers[name]
+        return [*made["ifaces"], *made["later"]][number].line
 
     @staticmethod
     def words(line: int) -> str:
@@ -140,6 +141,8 @@ class Notes:
             return self.wrong_list(number, router, cause == "25")
         if cause == "27":
             return self.no_delivery(number, router)
+        if cause.isdigit() and 30 <= int(cause) <= 38:
+            return self.wrong_configuration(number, int(cause))
         count = len(self.played.router(router).interfaces)
         bytes_given = len(self.played.moves[number - 1].get("hex", "")) // 2
         if cause == "4" and bytes_given > packets.MOST_IN_A_FRAME and self.played.moves[number - 1]["do"] == "frame":
@@ -159,6 +162,13 @@ class Notes:
         else:
             found = list_faults(entries, MOST_RPS, rp_fault)
         return "; ".join(what for _, what in found)
+
+    def wrong_configuration(self, number: int, test: int) -> str:
+        """What is wrong with the configuration of a `reload`."""
+        table = self.judge.moves[number - 1].get("config")
+        made = {"line": table.line, "where": "config", "table": table, **Judge().configuration(table, "config")}
+        told = [f"{what} ({where})" for failed, _, where, what in configuration_faults(made) if failed == test]
+        return "; ".join(told) + ": nothing changes"
 
     def no_delivery(self, number: int, router: str) -> str:
         """Why `deliver` or `carry` can't bring its packet."""

@@ -5,7 +5,7 @@ from __future__ import annotations
 from collections.abc import Callable, Collection, Iterator
 from typing import TYPE_CHECKING
 
-from pimtext import limit, packets, trees, words
+from pimtext import asked, limit, packets, words
 from pimtext.cause import Cause
 from pimtext.run import COUNTED, gathered, times
 from pimtext.wire import DATA, HELLO, JOIN, PLURALS, names_group
@@ -88,7 +88,7 @@ class Outages:
         seen = []
         while name in self.known and name not in seen:
             seen.append(name)
-            path = trees.route(self.known[name], address)
+            path = asked.route(self.known[name], address)
             if path is None:
                 return False
             if self.known[name].link(path.iface) == link:

@@ -449,6 +449,10 @@ def write_pim(kind: int, source: str, destination: str, ttl: int, content: bytes
     return write(PIM, source, destination, ttl, with_number(body, 2, sum16(sum_of)), service=ROUTING)
 
 
+def write_register(source: str, rp: str, inner: bytes, is_null: bool = False) -> bytes:
+    return write_pim(REGISTER, source, rp, 64, bytes([0x40 * is_null, 0, 0, 0]) + inner)
+
+
 def write_to_routers(kind: int, source: str, content: bytes) -> bytes:
     return write_pim(kind, source, dotted(ALL_PIM_ROUTERS), 1, content)
 

@@ -1,14 +1,14 @@
 """What the routers knew before a step of a run, also in the midst of a settle."""
+from __future__ import annotations
+
 from bisect import bisect_right
-from dataclasses import replace
+from typing import TYPE_CHECKING
 
-from pimtext import scenario, story, trees
+from pimtext import scenario, story
+from pimtext.known import begun, copied, follow
 
-
-def copied(state: trees.Known) -> trees.Known:
-    """A router's knowledge as it stands, whatever is followed later."""
-    return replace(state, up=set(state.up), hellos=dict(state.hellos), queriers=dict(state.queriers),
-                   asserts=dict(state.asserts))
+if TYPE_CHECKING:
+    from pimtext.known import Known
 
 
 class Past:
@@ -19,7 +19,7 @@ class Past:
         self.played, self.steps, self.each = played, steps, each
         self.times, self.states = None, None
 
-    def known(self, at: int) -> dict[str, trees.Known]:
+    def known(self, at: int) -> dict[str, Known]:
         """What each router knew before step `at`, counted from 0."""
         if self.times is None:
             self.follow()
@@ -27,9 +27,9 @@ class Past:
 
     def follow(self) -> None:
         """Keeps what each router knew from each step on."""
-        known = trees.known(self.played, [], {})
-        self.times, self.states = {name: [0] for name in known}, {name: [copied(state)] for name,
-                                                                  state in known.items()}
+        known = begun(self.played)
+        self.times = {name: [0] for name in known}
+        self.states = {name: [copied(state)] for name, state in known.items()}
         waiting, at = None, 0
         for part in story.Teller(self.played).tell(self.each or scenario.run_each(self.played.text())):
             if isinstance(part, story.Step):
@@ -38,9 +38,8 @@ class Past:
                 self.keep(known[waiting.router], waiting, part, at)
                 waiting = None
 
-    def keep(self, state: trees.Known, step: story.Step, tables: story.Tables, at: int) -> None:
-        if step.verdict == "done":
-            trees.follow(state, step)
-        state.rows, state.moment = tables.rows, tables.moment
+    def keep(self, state: Known, step: story.Step, tables: story.Tables, at: int) -> None:
+        follow(state, step)
+        state.print(tables)
         self.times[step.router].append(at)
         self.states[step.router].append(copied(state))

@@ -19,9 +19,12 @@ BUILDS = ["proved", "unproved", "sanitized"]
 
 def is_proved() -> bool:
     """The proved binary is there, and newer than every source."""
-    if not os.access(PROVED, os.X_OK):
-        return False
-    built = PROVED.stat().st_mtime
+    return os.access(PROVED, os.X_OK) and is_newer(PROVED)
+
+
+def is_newer(build: Path) -> bool:
+    """A build is newer than every source."""
+    built = build.stat().st_mtime
     for folder, folders, files in os.walk(TOP / "crates"):
         folders[:] = [name for name in folders if name != "out"]
         sources = [os.path.join(folder, name) for name in files if name.endswith((".rt", ".antt"))]

@@ -9,15 +9,18 @@ from __future__ import annotations
 
 import re
 from collections.abc import Iterable
-from dataclasses import dataclass, field, fields
+from dataclasses import dataclass, field, replace
 from functools import cache
 from typing import TYPE_CHECKING, Any
 
-from pimtext import packets, printed, story, trees, view_text, views, words
+from pimtext import asked, packets, printed, story, view_text, views, words
 from pimtext.arrivals import Arrivals
+from pimtext.known import begun, copied, follow
 
 if TYPE_CHECKING:
+    from pimtext.asked import Branch
     from pimtext.diagnosis import Diagnosis
+    from pimtext.known import Known
     from pimtext.scenario import Router, Scenario
 
 # An address by itself, without the length of a subnet.
@@ -91,22 +94,20 @@ def row_words(router: Router, row: printed.Row) -> str:
 # ---- shapes
 
 
-def around(state: trees.Known) -> tuple[object, ...]:
-    """What a router knows beside its rows, their ends and its queriers."""
-    heard = tuple(sorted(state.hellos.items(), key=lambda pair: pair[0])), tuple(state.asserts.items())
-    return tuple(sorted(state.up)), tuple(state.routes), tuple(state.rps), heard
+def around(state: Known) -> tuple[object, ...]:
+    """What a shape shows of a router beside its rows, their ends and its queriers: what is up, its routes and RPs, the
+    options of its neighbours' Hellos, and which asserts it lost."""
+    said = [(row.iface, row.address, *state.neighbour(row.iface, row.address)[1:])
+            for row in state.of(printed.Neighbour)]
+    lost = [(row.group, row.source, asked.lost(state, row.group, row.source))
+            for row in state.of(printed.AssertState)]
+    return tuple(sorted(state.up)), tuple(state.routes), tuple(state.rps), tuple(said), tuple(lost)
 
 
-def queriers(state: trees.Known) -> tuple[tuple[int, str], ...]:
+def queriers(state: Known) -> tuple[tuple[int, str], ...]:
     """The other routers that are queriers still."""
-    found = ((number, trees.querier_of(state, number)) for number in sorted(state.queriers))
-    return tuple((number, querier.address) for number, querier in found if querier is not None)
-
-
-def still(state: trees.Known, rows: list[printed.Row]) -> trees.Still:
-    """A router's knowledge with other rows, which stays as it is."""
-    told = {each.name: getattr(state, each.name) for each in fields(state)}
-    return trees.Still(**{**told, "rows": rows})
+    found = ((number, asked.querier_of(state, number)) for number in sorted(state.queriers))
+    return tuple((number, querier) for number, querier in found if querier is not None)
 
 
 class Shapes:
@@ -116,7 +117,7 @@ class Shapes:
         self.recording, self.router = recording, router
         self.numbers, self.all, self.context = {}, [], None
 
-    def of(self, state: trees.Known, is_context_kept: bool) -> tuple[int, list[float]]:
+    def of(self, state: Known, is_context_kept: bool) -> tuple[int, list[float]]:
         """The number of a router's shape, and its ends."""
         rows, ends = marked(state.rows)
         if self.context is None or not is_context_kept:
@@ -124,24 +125,24 @@ class Shapes:
         key = rows, self.context, queriers(state)
         if key not in self.numbers:
             self.numbers[key] = len(self.all)
-            self.all.append(self.made(still(state, list(rows))))
+            self.all.append(self.made(replace(copied(state), rows=list(rows))))
         return self.numbers[key], ends
 
-    def made(self, state: trees.Known) -> dict[str, Any]:
+    def made(self, state: Known) -> dict[str, Any]:
         text = self.recording.text
         view = views.router(state)
         tables = [[title, heads, [[text("-" if cell is None else str(cell)) for cell in row] for row in rows]]
                   for title, heads, rows in view_text.tables(view) if rows]
-        arrows = [self.arrow(branch) for branch in trees.branches(state)]
-        registers = [[self.recording.tree(row.group, row.source), text(trees.rp_of(state, row.group) or "")]
+        arrows = [self.arrow(branch) for branch in asked.branches(state)]
+        registers = [[self.recording.tree(row.group, row.source), text(asked.rp_of(state, row.group) or "")]
                      for row in state.of(printed.Active, register="join")]
         rows = list(dict.fromkeys(text(row_words(self.router, row)) for row in state.rows))
-        drs = [number for number in sorted(state.up) if trees.is_dr(state, number)]
+        drs = [number for number in sorted(state.up) if asked.is_dr(state, number)]
         rps = sorted({text(f"{prefix}") for prefix, rp in state.rps if state.router.has(rp)})
         return {"up": sorted(state.up), "dr": drs, "rp": rps, "rows": rows, "arrows": arrows, "registers": registers,
                 "view": tables}
 
-    def arrow(self, branch: trees.Branch) -> list[Any]:
+    def arrow(self, branch: Branch) -> list[Any]:
         incoming = -1 if branch.incoming is None else branch.incoming
         return [self.recording.tree(branch.group, branch.source), incoming, sorted(branch.outgoing)]
 
@@ -196,8 +197,7 @@ class Recording:
         self.text, self.trees = Texts(), {}
         self.routers = {router.name: place for place, router in enumerate(self.played.routers)}
         self.links = {link: place for place, link in enumerate(self.played.links())}
-        self.known = {router.name: trees.Known(router, [], set(), router.routes, router.rps)
-                      for router in self.played.routers}
+        self.known = begun(self.played)
         self.shapes = [Shapes(self, router) for router in self.played.routers]
         self.now = [(shape.of(self.known[shape.router.name], False)) for shape in self.shapes]
         self.steps, self.packets, self.moves = [], [], []
@@ -238,9 +238,8 @@ class Recording:
 
     def follow(self, step: story.Step, tables: story.Tables) -> None:
         state = self.known[step.router]
-        if step.verdict == "done":
-            trees.follow(state, step)
-        state.rows, state.moment = tables.rows, tables.moment
+        follow(state, step)
+        state.print(tables)
         place = self.routers[step.router]
         was, old = self.now[place]
         is_kept = step.verdict != "done" or step.did["do"] in SILENT
@@ -261,9 +260,10 @@ class Recording:
         short, told = packet_words(sent.kind, sent.data)
         tree = tree_of(sent)
         where = self.text(sent.where) if sent.is_unicast() else self.links[sent.where]
-        iface = -1 if sent.is_unicast() else story.sending_interface(self.played, sent)
+        left = None if sent.is_unicast() else story.sending_interface(self.played, sent)
+        iface = -1 if left is None else left
         if sent.kind == "copy":
-            iface = next(each.number for each in self.played.router(sent.router).on(sent.where))
+            iface = next((each.number for each in self.played.router(sent.router).on(sent.where)), -1)
         tree = -1 if tree is None else self.tree(*tree)
         return [self.routers[sent.router], where, int(sent.is_unicast()), self.text(short), self.text(told),
                 self.text(sent.data.hex()), at, tree, iface]

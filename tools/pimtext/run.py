@@ -2,10 +2,10 @@
 from __future__ import annotations
 
 from collections.abc import Iterable
-from ipaddress import ip_address
 from typing import TYPE_CHECKING, TypeVar
 
-from pimtext import printed, spoken, story, trees
+from pimtext import asked, printed, spoken, story
+from pimtext.addresses import ip_address, is_source_specific
 from pimtext.printed import ANY
 from pimtext.watched import Watch
 from pimtext.wire import Wire
@@ -77,7 +77,7 @@ class Run:
         return sorted((group for group in found if not is_ruled_out(group)), key=ip_address)
 
     def rps_of(self, group: str) -> set[str]:
-        return {trees.rp_of(state, group) for state in self.known.values()} - {None}
+        return {asked.rp_of(state, group) for state in self.known.values()} - {None}
 
     def held(self, at: int, name: str) -> dict[type, int]:
         """How many facts a router held before a step, by table, of those that its limit counts."""
@@ -93,7 +93,7 @@ COUNTED = {
 
 def is_ruled_out(group: str) -> bool:
     """Groups that have no RP: those of SSM, and those that never leave their link."""
-    return trees.is_source_specific(group) or is_local(group)
+    return is_source_specific(group) or is_local(group)
 
 
 def is_local(group: str) -> bool:

@@ -37,7 +37,8 @@ class Interface:
 
 @dataclass
 class Router:
-    """`table` is the router's table in the file."""
+    """`table` is the router's table in the file. The interfaces are those of the table, by their numbers, and then
+    those that moves `reload` add."""
     name: str
     interfaces: list
     table: dict
@@ -56,6 +57,15 @@ class Router:
 class Scenario:
     routers: list
     moves: list
+
+    def begun(self) -> Scenario:
+        """The same with the interfaces alone that the routers have before the first move."""
+        return Scenario([router_of(router.table) for router in self.routers], self.moves)
+
+    def reloaded(self, name: str, config: dict[str, Any]) -> Scenario:
+        """The same where a router has another configuration."""
+        table = {**config, "name": name}
+        return Scenario([router_of(table) if router.name == name else router for router in self.routers], self.moves)
 
     def router(self, name: str) -> Router:
         for router in self.routers:
@@ -85,9 +95,20 @@ def router_of(table: dict[str, Any]) -> Router:
     return Router(table["name"], interfaces, table, routes_of(table.get("routes", [])), ranges_of(table.get("rps", [])))
 
 
+def add_interfaces(router: Router, moves: list[dict[str, Any]]) -> None:
+    """Gives a router the interfaces that moves add."""
+    for did in moves:
+        if did["do"] == "reload" and did["router"] == router.name:
+            later = router_of({**did["config"], "name": router.name}).interfaces
+            router.interfaces += later[len(router.interfaces):]
+
+
 def scenario_of(tables: dict[str, Any]) -> Scenario:
     """The scenario of a file's tables."""
-    return Scenario([router_of(table) for table in tables.get("router", [])], tables.get("move", []))
+    made = Scenario([router_of(table) for table in tables.get("router", [])], tables.get("move", []))
+    for router in made.routers:
+        add_interfaces(router, made.moves)
+    return made
 
 
 def read(path: str | Path) -> Scenario:

@@ -1,16 +1,20 @@
 """The way of a source's packets to a host by what the routers know: hop by hop, where it ends, and why.
 
-It is what the macros of RFC 7761 make of the routers' tables. What really came of packets that were sent is in
-pimtext.died. """
+What a router would do with a packet is what a copy of it does that is given one. What really came of packets that were
+sent is in pimtext.died. """
 from __future__ import annotations
 
 from collections import defaultdict
 from dataclasses import dataclass
-from ipaddress import ip_address
+from typing import TYPE_CHECKING
 
-from pimtext import printed, reasons, trees, words
+from pimtext import asked, packets, printed, reasons, trace, words
+from pimtext.addresses import ip_address, is_source_specific, longest
 from pimtext.ends import End
 from pimtext.printed import ANY
+
+if TYPE_CHECKING:
+    from pimtext.known import Known
 
 
 # How many hops are told of a stream that goes another way than to the host.
@@ -29,7 +33,7 @@ class Taken:
 @dataclass(frozen=True, eq=False)
 class Hop:
     """A router that packets come to, on an interface, or in a Register where that is None."""
-    state: trees.Known
+    state: Known
     iface: int | None
     taken: Taken
     before: "Hop | None" = None
@@ -42,7 +46,7 @@ class Hop:
 @dataclass(frozen=True)
 class Rung:
     """A router on the way from a host up to the root of its tree: the link below it, and the tree that it joined."""
-    state: trees.Known
+    state: Known
     link: str
     source: str
 
@@ -50,13 +54,13 @@ class Rung:
 class World:
     """All routers with what they know."""
 
-    def __init__(self, known: dict[str, trees.Known]) -> None:
+    def __init__(self, known: dict[str, Known]) -> None:
         self.known, self.ports = known, defaultdict(list)
         for state in known.values():
             for interface in state.interfaces_up():
                 self.ports[interface.link].append((state, interface.number))
 
-    def owner(self, address: str) -> trees.Known | None:
+    def owner(self, address: str) -> Known | None:
         return next((state for state in self.known.values() if state.router.has(address)), None)
 
     def named(self, address: str) -> str:
@@ -69,7 +73,7 @@ class World:
         names = [state.router.name for state in self.known.values() if state.router.has(address)]
         return f"{' and '.join(names)} ({address})" if names else address
 
-    def reaches(self, state: trees.Known, address: str) -> bool:
+    def reaches(self, state: Known, address: str) -> bool:
         """Whether links lead from a router to the one that has an address, over interfaces that are up."""
         found, waiting = {}, [state]
         while waiting:
@@ -91,58 +95,34 @@ class World:
 # ---- what one router does
 
 
-def is_joined(state: trees.Known, group: str, source: str, is_alive: bool) -> bool:
-    """JoinDesired(S,G), where its keepalive timer runs or would."""
-    tunnel = state.of(printed.Active, group=group, source=source, register="join")
-    if tunnel or trees.immediate_outgoing(state, group, source):
-        return True
-    rows = state.of(printed.Active, group=group, source=source)
-    is_kept = is_alive or any(row.end is not None for row in rows)
-    return is_kept and bool(trees.source_outgoing(state, group, source))
+def taken(state: Known, group: str, source: str, iface: int) -> Taken:
+    """What a router would do with a packet that came on an interface."""
+    return state.once((taken, group, source, iface), lambda: tried(state, group, source, iface))
 
 
-def is_on_source_tree(state: trees.Known, group: str, source: str, iface: int) -> bool:
-    """Whether packets that come here are taken by the source's tree, as Update_SPTbit has it."""
-    if trees.rpf_interface(state, source) != iface:
-        return False
-    is_here = trees.is_connected(state, source)
-    if trees.has_spt_bit(state, group, source):
-        return True
-    own, shared = trees.upstream_neighbour(state, group, source), trees.upstream_neighbour(state, group, ANY)
-    return is_joined(state, group, source, is_here) and (
-        is_here
-        or iface != trees.upstream_interface(state, group, ANY)
-        or not trees.pruned_outgoing(state, group, source)
-        or (own is not None and shared is not None and (own.iface, own.address) == (shared.iface, shared.address))
-        or iface in trees.assert_roles(state, group, source, "loser"))
+def tried(state: Known, group: str, source: str, iface: int) -> Taken:
+    """What a copy of it does with the packet."""
+    with state.copy_of_core() as router:
+        answer = router.frame(iface, packets.write_data(source, group, b""), draw=0)
+        sent = [] if answer else router.packets()
+        own, shared = router.source_tree(source, group), router.tree(group)
+    registers = [each.where for each in sent if each.kind == "unicast" and trace.registered(each.packet) is not None]
+    out = frozenset(each.where for each in sent if each.kind == "copy")
+    if own.spt_bit:
+        by = "the source's tree" if own.path is not None and own.path.iface == iface else ""
+    else:
+        by = "the RP's tree" if shared.path is not None and shared.path.iface == iface else ""
+    return Taken(out, by, registers[0] if registers else None)
 
 
-def registers_with(state: trees.Known, group: str, source: str, iface: int) -> str | None:
-    """The RP to which the packets of a source on the router's link go, None where they don't."""
-    rp = trees.rp_of(state, group)
-    if not trees.is_connected(state, source) or rp is None or state.router.has(rp) or not trees.is_dr(state, iface):
-        return None
-    stopped = [row for row in state.of(printed.Active, group=group, source=source)
-        if row.register in ("prune", "pending")]
-    return None if stopped else rp
-
-
-def taken(state: trees.Known, group: str, source: str, iface: int) -> Taken:
-    rp = registers_with(state, group, source, iface) if trees.rpf_interface(state, source) == iface else None
-    if is_on_source_tree(state, group, source, iface):
-        return Taken(frozenset(trees.source_outgoing(state, group, source) - {iface}), "the source's tree", rp)
-    is_shared = trees.upstream_interface(state, group, ANY) == iface and not trees.has_spt_bit(state, group, source)
-    if is_shared and not trees.is_source_specific(group):
-        return Taken(frozenset(trees.pruned_outgoing(state, group, source) - {iface}), "the RP's tree", rp)
-    return Taken(frozenset(), "", rp)
-
-
-def registered(state: trees.Known, group: str, source: str) -> Taken:
-    """What a router does with a packet that comes in a Register."""
-    is_rp = state.router.has(trees.rp_of(state, group) or "")
-    if not is_rp or trees.has_spt_bit(state, group, source):
+def registered(state: Known, group: str, source: str) -> Taken:
+    """What a router would do with a packet that came in a Register."""
+    if not is_rp(state, group) or state.source_tree(group, source).spt_bit:
         return Taken(frozenset(), "")
-    return Taken(frozenset(trees.pruned_outgoing(state, group, source)), "a Register")
+    data = packets.write_register(source, asked.rp_of(state, group), packets.write_data(source, group, b""))
+    with state.copy_of_core() as router:
+        sent = [] if router.unicast(data, draw=0) else router.packets()
+    return Taken(frozenset(each.where for each in sent if each.kind == "copy"), "a Register")
 
 
 # ---- where packets come
@@ -166,7 +146,7 @@ def flow(world: World, group: str, source: str, link: str) -> tuple[list[Hop], d
     return hops, by_link
 
 
-def onward(world: World, hop: Hop, by_link: dict[str, Hop | None]) -> list[tuple[trees.Known, int | None, Hop]]:
+def onward(world: World, hop: Hop, by_link: dict[str, Hop | None]) -> list[tuple[Known, int | None, Hop]]:
     """Who takes what a router sends on: on its links, and its RP. Notes by whom a link is reached."""
     found = []
     for number in sorted(hop.taken.out):
@@ -181,17 +161,17 @@ def onward(world: World, hop: Hop, by_link: dict[str, Hop | None]) -> list[tuple
 # ---- from the host up
 
 
-def serving(world: World, group: str, source: str, link: str) -> tuple[trees.Known | None, End | None]:
+def serving(world: World, group: str, source: str, link: str) -> tuple[Known | None, End | None]:
     """The router that serves the hosts of a link; else None, and why there is none."""
     here = world.ports[link]
     for state, number in here:
-        wanted = trees.included(state, group,
-            source) | (trees.included(state, group, ANY) - trees.excluded(state, group, source))
-        if number in wanted:
+        own, shared = state.source_tree(group, source), state.tree(group)
+        is_shared = number in shared.pim_include and number not in own.pim_exclude
+        if number in own.pim_include or is_shared:
             return state, None
     if not here:
         return None, End("down", f"no router has an interface on {link} that is up", link=link)
-    drs = [(state, number) for state, number in here if trees.is_dr(state, number)]
+    drs = [(state, number) for state, number in here if asked.is_dr(state, number)]
     if not drs:
         return None, absent_dr(world, here, link)
     for state, number in drs:
@@ -203,10 +183,10 @@ def serving(world: World, group: str, source: str, link: str) -> tuple[trees.Kno
     return None, unwanted(drs, group, source, link)
 
 
-def absent_dr(world: World, here: list[tuple[trees.Known, int]], link: str) -> End:
+def absent_dr(world: World, here: list[tuple[Known, int]], link: str) -> End:
     """The routers of a link take somebody for its DR who isn't there."""
     state, number = here[0]
-    address = trees.dr_of(state, number)
+    address = asked.dr_of(state, number)
     if any(other.router.interfaces[port].address == address for other, port in here):
         name = state.router.name
         told = f"each router on {link} takes another one for its DR: {name} takes {world.every(address)} for it"
@@ -218,7 +198,7 @@ def absent_dr(world: World, here: list[tuple[trees.Known, int]], link: str) -> E
     return End("dead dr", f"{name} isn't the DR of {link}: it takes that to be {gone}", name, link, address)
 
 
-def unwanted(drs: list[tuple[trees.Known, int]], group: str, source: str, link: str) -> End:
+def unwanted(drs: list[tuple[Known, int]], group: str, source: str, link: str) -> End:
     """Why the DR of a link doesn't take it that hosts there want the packets."""
     state, number = drs[0]
     name, wants = state.router.name, f"to {state.router.name}, the DR of {link}, hosts there want {group}"
@@ -226,37 +206,38 @@ def unwanted(drs: list[tuple[trees.Known, int]], group: str, source: str, link: 
     named = sorted({row.source for row in rows if row.end is not None})
     if state.of(printed.GroupRecord, iface=number, group=group, mode="include") and named:
         return End("unwanted", f"{wants} of {', '.join(named)} alone", name, link)
-    if number in trees.excluded(state, group, source):
+    if number in state.source_tree(group, source).pim_exclude:
         return End("excluded", f"{wants}, but not of {source}", name, link)
-    if trees.is_source_specific(group) and state.of(printed.GroupRecord, iface=number, group=group):
+    if is_source_specific(group) and state.of(printed.GroupRecord, iface=number, group=group):
         told = f"{wants} without a source, and an SSM group has no tree but those of its sources"
         return End("unwanted", told, name, link)
     return End("unwanted", f"{name}, the DR of {link}, knows of no host that wants {group}", name, link)
 
 
-def has_joined(state: trees.Known, group: str, source: str) -> bool:
+def has_joined(state: Known, group: str, source: str) -> bool:
     return bool(state.of(printed.Upstream, group=group, source=source))
 
 
-def is_rp(state: trees.Known, group: str) -> bool:
-    return state.router.has(trees.rp_of(state, group) or "")
+def is_rp(state: Known, group: str) -> bool:
+    return state.router.has(asked.rp_of(state, group) or "")
 
 
-def tree_at(state: trees.Known, group: str, source: str) -> str:
+def tree_at(state: Known, group: str, source: str) -> str:
     """The tree by which a router gets the packets."""
-    if trees.is_source_specific(group) or trees.is_connected(state, source):
+    if is_source_specific(group) or asked.is_connected(state, source):
         return source
-    is_alone = is_rp(state, group) or trees.has_spt_bit(state, group, source) or not has_joined(state, group, ANY)
+    has_spt_bit = state.source_tree(group, source).spt_bit
+    is_alone = is_rp(state, group) or has_spt_bit or not has_joined(state, group, ANY)
     return source if is_alone and has_joined(state, group, source) else ANY
 
 
-def next_up(world: World, state: trees.Known, group: str, tree: str) -> tuple[trees.Known, str] | tuple[None, End]:
+def next_up(world: World, state: Known, group: str, tree: str) -> tuple[Known, str] | tuple[None, End]:
     """The router to which one sends its Joins, and the link between; else None, and why there is none."""
-    name, root = state.router.name, trees.root_of(state, group, tree)
+    name, root = state.router.name, asked.root_of(state, group, tree)
     if root is None:
         return None, End("no rp", f"{name} has no RP for {group}", name)
     whom = f"the RP {root}" if tree == ANY else f"the source {root}"
-    path, hop = trees.route(state, root), trees.upstream_neighbour(state, group, tree)
+    path, hop = asked.route(state, root), asked.upstream_neighbour(state, group, tree)
     if path is None:
         return None, no_route(world, state, root, whom, tree == ANY)
     link = state.link(path.iface)
@@ -271,19 +252,19 @@ def next_up(world: World, state: trees.Known, group: str, tree: str) -> tuple[tr
     return (None, told) if told else (above, link)
 
 
-def dropped(state: trees.Known, above: trees.Known, group: str) -> End | None:
+def dropped(state: Known, above: Known, group: str) -> End | None:
     """A Join of a shared tree counts only at a router that has the same RP; None where it does."""
-    name, other, rp, theirs = state.router.name, above.router.name, trees.rp_of(state, group), trees.rp_of(above, group)
+    name, other, rp, theirs = state.router.name, above.router.name, asked.rp_of(state, group), asked.rp_of(above, group)
     if theirs == rp:
         return None
     has = f"has no RP for {group}" if theirs is None else f"has {theirs} as the RP of {group}"
     return End("rp disagrees", f"{other} {has}, and drops the Joins of {name} to {rp}", other, None, rp)
 
 
-def no_route(world: World, state: trees.Known, root: str, whom: str, is_rp_wanted: bool) -> End:
+def no_route(world: World, state: Known, root: str, whom: str, is_rp_wanted: bool) -> End:
     """Why a router has no route to an RP or a source."""
     name = state.router.name
-    found = trees.longest([(each.prefix, each) for each in state.routes], ip_address(root))
+    found = longest([(each.prefix, each) for each in state.routes], ip_address(root))
     if is_rp_wanted and found is None and world.owner(root) is None:
         return End("no owner", f"no router has the address {root}, and {name} no route to it", name, None, root)
     if found is None:
@@ -292,13 +273,13 @@ def no_route(world: World, state: trees.Known, root: str, whom: str, is_rp_wante
     return End("interface down", f"{name}'s interface on {link}, which leads to {whom}, is down", name, link, root)
 
 
-def climb(world: World, group: str, source: str, state: trees.Known, link: str) -> tuple[list[Rung], End | None]:
+def climb(world: World, group: str, source: str, state: Known, link: str) -> tuple[list[Rung], End | None]:
     """The rungs from a host's router up to the root, the source's router or the RP; and why they end before it, or
     None."""
     rungs, tree = [], tree_at(state, group, source)
     while all(rung.state is not state or rung.source != tree for rung in rungs):
         rungs.append(Rung(state, link, tree))
-        if trees.is_connected(state, source) if tree == source else is_rp(state, group):
+        if asked.is_connected(state, source) if tree == source else is_rp(state, group):
             return rungs, None
         above, told = next_up(world, state, group, tree)
         if above is None:
@@ -307,7 +288,7 @@ def climb(world: World, group: str, source: str, state: trees.Known, link: str) 
         tree = source if tree == source else tree_at(state, group, source)
     names = [rung.state.router.name for rung in rungs]
     round_ = " to ".join([*names[names.index(state.router.name):], state.router.name])
-    root = trees.root_of(state, group, tree)
+    root = asked.root_of(state, group, tree)
     told = f"the Joins towards {root} run in a circle, from {round_}"
     return rungs, End("circle", told, state.router.name, link, root)
 
@@ -326,16 +307,16 @@ def parted(group: str, source: str, rungs: list[Rung]) -> End | None:
 
 def unregistered(world: World, group: str, source: str, link: str | None) -> End:
     """Why the RP has no packets of a source."""
-    drs = [state for state, number in world.ports[link] if trees.is_dr(state, number)]
+    drs = [state for state, number in world.ports[link] if asked.is_dr(state, number)]
     if not drs:
         return End("not the source's dr", f"no router on {link} is the DR of {source}", link=link)
-    name, rp = drs[0].router.name, trees.rp_of(drs[0], group)
+    name, rp = drs[0].router.name, asked.rp_of(drs[0], group)
     if rp is None:
         return End("no rp", f"{name}, the DR of {source}, has no RP for {group}", name)
     return registers_end(world, drs[0], group, source, rp)
 
 
-def registers_end(world: World, dr: trees.Known, group: str, source: str, rp: str) -> End:
+def registers_end(world: World, dr: Known, group: str, source: str, rp: str) -> End:
     """Why nothing comes of what a DR registers."""
     name, owner = dr.router.name, world.owner(rp)
     if dr.router.has(rp):
@@ -347,7 +328,7 @@ def registers_end(world: World, dr: trees.Known, group: str, source: str, rp: st
         told = f"no links that are up lead from {name} to {world.named(rp)}, the RP, so its Registers are lost"
         return End("lost", told, name, None, rp)
     if not is_rp(owner, group):
-        own = trees.rp_of(owner, group)
+        own = asked.rp_of(owner, group)
         told = f"has {own} as its RP" if own else "has no RP for it"
         told = f"{name} registers {group} with {world.named(rp)}, which {told}, and stops the Registers"
         return End("rp disagrees", told, owner.router.name, None, rp)
@@ -359,7 +340,7 @@ def registers_end(world: World, dr: trees.Known, group: str, source: str, rp: st
     return End("registers stopped", told, name, None, rp)
 
 
-def stopped(state: trees.Known, group: str, source: str, link: str, below: trees.Known | None) -> End:
+def stopped(state: Known, group: str, source: str, link: str, below: Known | None) -> End:
     """Why a router that has the packets doesn't send them on a link, to the router below or to hosts."""
     numbers, name = [each.number for each in state.router.on(link)], state.router.name
     where = f"{name}, on {words.place(state.router, numbers[0])}" if numbers else name
@@ -409,7 +390,7 @@ def expected(world: World, group: str, source: str, origin: str, link: str) -> t
     if state is None:
         return [], end
     rungs, broken = climb(world, group, source, state, link)
-    came = {hop.state.router.name: hop for hop in hops if hop.taken.by or trees.is_connected(hop.state, source)}
+    came = {hop.state.router.name: hop for hop in hops if hop.taken.by or asked.is_connected(hop.state, source)}
     place = next((at for at, rung in enumerate(rungs) if rung.state.router.name in came), None)
     waiting = [waiting_line(rung, group) for rung in reversed(rungs[:place])]
     if place is None:

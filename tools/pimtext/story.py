@@ -81,11 +81,13 @@ class Untold(Exception):
     """The lines aren't those of the scenario."""
 
 
-def sending_interface(scenario: Scenario, sent: Sent) -> int:
-    """The interface that a packet on a link left on: that of its address, else the router's first one on the link."""
+def sending_interface(scenario: Scenario, sent: Sent) -> int | None:
+    """The interface that a packet on a link left on: that of its address, else the router's first one on the link; None
+    where it has none there."""
     here = scenario.router(sent.router).on(sent.where)
     source = packets.dotted(sent.data[12:16])
-    return next((interface for interface in here if interface.address == source), here[0]).number
+    found = next((interface for interface in here if interface.address == source), next(iter(here), None))
+    return None if found is None else found.number
 
 
 def receivers(scenario: Scenario, sent: Sent) -> list[tuple[str, int | None]]:
@@ -94,15 +96,19 @@ def receivers(scenario: Scenario, sent: Sent) -> list[tuple[str, int | None]]:
         owners = (router.name for router in scenario.routers if router.has(sent.where))
         return [(name, None) for name in owners][:1]
     left = (sent.router, sending_interface(scenario, sent))
+    if left[1] is None:
+        return []
     ports = [(router.name, interface.number) for router in scenario.routers for interface in router.on(sent.where)]
     return [port for port in ports if port != left]
 
 
 class Teller:
-    """Follows the lines, one after the other. Without a scenario it knows what the lines say alone."""
+    """Follows the lines, one after the other. Without a scenario it knows what the lines say alone. `present` has the
+    interfaces that the routers have at the moment."""
 
     def __init__(self, scenario: Scenario | None = None) -> None:
         self.scenario = scenario
+        self.present = None if scenario is None else scenario.begun()
         self.moments = {}
         self.sent = []
         self.taken = 0
@@ -112,6 +118,7 @@ class Teller:
     def after(self, scenario: Scenario) -> Teller:
         """Another one that goes on where this one is, in a scenario that has more moves."""
         other = Teller(scenario)
+        other.present = self.present
         other.moments, other.sent, other.taken, other.begun = dict(self.moments), list(
             self.sent), self.taken, self.begun
         return other
@@ -124,8 +131,15 @@ class Teller:
             if step.is_settle():
                 made += 1
                 self.taken = step.brought.number if made == SETTLE_LIMIT else len(self.sent)
-            elif step.did["do"] == "advance" and step.verdict == "done":
-                self.moments[step.router] = step.moment
+            else:
+                self.go_on(step)
+
+    def go_on(self, step: Step) -> None:
+        """Keeps what a move of a router's own changes for what comes after it."""
+        if step.did["do"] == "advance" and step.verdict == "done":
+            self.moments[step.router] = step.moment
+        if step.did["do"] == "reload" and step.verdict == "done":
+            self.present = self.present.reloaded(step.router, step.did["config"])
 
     def moment(self, router: str) -> int:
         return self.moments.get(router, 0)
@@ -136,7 +150,7 @@ class Teller:
         while self.taken < len(self.sent) and made < SETTLE_LIMIT:
             sent = self.sent[self.taken]
             self.taken += 1
-            for receiver in receivers(self.scenario, sent):
+            for receiver in receivers(self.present, sent):
                 if made == SETTLE_LIMIT:
                     break
                 made += 1
@@ -184,7 +198,8 @@ class Teller:
             raise Untold(f"move {step.move} is one of {did['router']}")
         step.iface = did.get("iface")
         if did["do"] == "advance" and step.verdict == "done":
-            self.moments[step.router] = step.moment = did["moment"]
+            step.moment = did["moment"]
+        self.go_on(step)
         if did["do"] in ("deliver", "carry") and 1 <= did["frame"] <= len(self.sent):
             step.brought = self.sent[did["frame"] - 1]
 

@@ -4,14 +4,15 @@ Moments are ms; an end is None where none runs, and "never" where it doesn't com
 """
 from __future__ import annotations
 
-from ipaddress import ip_address
 from typing import TYPE_CHECKING, Any, TypeVar
 
-from pimtext import printed, reasons, trees
+from pimtext import asked, printed, reasons
+from pimtext.addresses import ip_address, is_source_specific, longest
 from pimtext.printed import ANY
 
 if TYPE_CHECKING:
     from ipaddress import IPv4Network
+    from pimtext.known import Known
     from pimtext.scenario import Interface
 
     R = TypeVar("R")
@@ -21,7 +22,7 @@ def end(moment: float | None) -> float | str | None:
     return "never" if moment == printed.NEVER else moment
 
 
-def place(state: trees.Known, number: int | None) -> dict[str, Any] | None:
+def place(state: Known, number: int | None) -> dict[str, Any] | None:
     """An interface; None for none."""
     return None if number is None else {"interface": number, "link": state.link(number)}
 
@@ -29,7 +30,7 @@ def place(state: trees.Known, number: int | None) -> dict[str, Any] | None:
 # ---- show ip mroute
 
 
-def keys(state: trees.Known) -> list[tuple[str, str]]:
+def keys(state: Known) -> list[tuple[str, str]]:
     """The groups and sources that the router has facts of, group by group with (*,G) first."""
     rows = [row for row in state.rows if isinstance(row, KEYED) and row.group]
     found = {(row.group, ANY if isinstance(row, printed.GroupRecord) else row.source) for row in rows if is_shown(row)}
@@ -51,7 +52,7 @@ def is_shown(row: printed.Row) -> bool:
     return not isinstance(row, printed.SourceRecord) or row.end is not None
 
 
-def mroute(state: trees.Known, group: str, source: str) -> dict[str, Any]:
+def mroute(state: Known, group: str, source: str) -> dict[str, Any]:
     leaves, kept = [], []
     for number, is_there, why, against in reasons.reasons(state, group, source):
         told = {**place(state, number), "why": why}
@@ -59,7 +60,7 @@ def mroute(state: trees.Known, group: str, source: str) -> dict[str, Any]:
             leaves.append(told)
         else:
             kept.append({**told, "kept_off": against or ["it is where they come from"]})
-    tunnel = bool(state.of(printed.Active, group=group, source=source, register="join"))
+    tunnel = source != ANY and state.source_tree(group, source).has_tunnel
     number = incoming(state, group, source)
     return {
         "source": source, "group": group, "flags": flags(state, group, source, bool(leaves) or tunnel),
@@ -69,59 +70,63 @@ def mroute(state: trees.Known, group: str, source: str) -> dict[str, Any]:
     }
 
 
-def is_rp(state: trees.Known, group: str) -> bool:
-    return state.router.has(trees.rp_of(state, group))
+def is_rp(state: Known, group: str) -> bool:
+    return state.router.has(asked.rp_of(state, group))
 
 
-def is_by_source(state: trees.Known, group: str, source: str) -> bool:
+def is_by_source(state: Known, group: str, source: str) -> bool:
     """Whether a source's packets are taken from its own tree: always where there is no other, else with the SPTbit."""
     if source == ANY:
         return False
-    return trees.is_source_specific(group) or trees.is_connected(state, source) or trees.has_spt_bit(state, group,
-        source)
+    is_alone = is_source_specific(group) or asked.is_connected(state, source)
+    return is_alone or state.source_tree(group, source).spt_bit
 
 
-def incoming(state: trees.Known, group: str, source: str) -> int | None:
+def tree_of(state: Known, group: str, source: str) -> tuple[str, str]:
+    """The tree from which the packets of a group, or of a source of it, are taken."""
+    return group, source if is_by_source(state, group, source) else ANY
+
+
+def incoming(state: Known, group: str, source: str) -> int | None:
     """Where packets are taken from; None where they come in Registers, or from nowhere."""
-    return trees.upstream_interface(state, group, source if is_by_source(state, group, source) else ANY)
+    return asked.upstream_interface(state, *tree_of(state, group, source))
 
 
-def neighbour(state: trees.Known, group: str, source: str) -> str | None:
-    hop = trees.upstream_neighbour(state, group, source if is_by_source(state, group, source) else ANY)
-    return None if hop is None else hop.address
+def neighbour(state: Known, group: str, source: str) -> str | None:
+    hop = asked.upstream_neighbour(state, *tree_of(state, group, source))
+    return hop and hop.address
 
 
-def flags(state: trees.Known, group: str, source: str, is_sent: bool) -> str:
+def flags(state: Known, group: str, source: str, is_sent: bool) -> str:
     """The letters of FRR: sparse, connected hosts, pruned, pruned off the shared tree, registering, SPTbit."""
-    hosts = trees.included(state, group, ANY) | (trees.included(state, group, source) if source != ANY else set())
-    pruned = state.of(printed.SharedTree, group=group, source=source, state="pruned")
-    registering = state.of(printed.Active, group=group, source=source, register="join")
-    has_bit = trees.has_spt_bit(state, group, source)
-    told = zip("SCPRFT", (True, hosts, not is_sent, pruned, registering, has_bit))
-    return "".join(letter for letter, holds in told if holds)
+    own = None if source == ANY else state.source_tree(group, source)
+    hosts = state.tree(group).pim_include | (own.pim_include if own else frozenset())
+    told = (True, hosts, not is_sent, own and own.rpt_state == "pruned", own and own.has_tunnel, own and own.spt_bit)
+    return "".join(letter for letter, holds in zip("SCPRFT", told) if holds)
 
 
 # ---- show ip pim upstream
 
 
-def upstream(state: trees.Known, group: str, source: str) -> dict[str, Any]:
-    path, hop = trees.route(state, trees.root_of(state, group, source)), trees.upstream_neighbour(state, group, source)
+def upstream(state: Known, group: str, source: str) -> dict[str, Any]:
+    facts = state.facts(group, source)
+    path, hop = facts.path, facts.rpf_neighbour
     tables = (printed.Upstream, printed.Active, printed.SharedTree)
     joined, active, rpt = (row_of(state, table, group, source) for table in tables)
     return {
         "source": source, "group": group, "rpf": place(state, path and path.iface), "next_hop": path and path.next_hop,
-        "rpf_neighbour": hop and hop.address, "by_assert": bool(hop and hop.is_winner), "joined": bool(joined),
+        "rpf_neighbour": hop and hop.address, "by_assert": facts.rpf_cause == "winner", "joined": bool(joined),
         "sends_joins": bool(joined and hop), "next_join": end(joined.end) if joined and hop else None,
         "why_none": why_none(state, group, source, joined), "kept_alive_until": active and end(active.end),
         "rpt": rpt and rpt.state,
     }
 
 
-def row_of(state: trees.Known, table: type[R], group: str, source: str) -> R | None:
+def row_of(state: Known, table: type[R], group: str, source: str) -> R | None:
     return next(iter(state.of(table, group=group, source=source)), None)
 
 
-def why_none(state: trees.Known, group: str, source: str, joined: printed.Upstream | None) -> str | None:
+def why_none(state: Known, group: str, source: str, joined: printed.Upstream | None) -> str | None:
     """Why no Join leaves; None where one does."""
     if not joined:
         return "nobody wants it of this router"
@@ -133,36 +138,39 @@ def why_none(state: trees.Known, group: str, source: str, joined: printed.Upstre
 # ---- show ip pim neighbor, show ip pim interface, show ip igmp groups
 
 
-def interface(state: trees.Known, each: Interface) -> dict[str, Any]:
-    told = {**place(state, each.number), "address": str(each.own), "is_up": each.number in state.up,
-        "priority": each.priority}
-    if not told["is_up"]:
+def interface(state: Known, each: Interface) -> dict[str, Any]:
+    port = state.port(each.number)
+    told = {**place(state, each.number), "address": str(each.own), "is_up": port.is_up, "priority": each.priority}
+    if not port.is_up:
         return told
-    querier = trees.querier_of(state, each.number)
+    querier = asked.querier_of(state, each.number)
     return {
-        **told, "dr": trees.dr_of(state, each.number), "is_dr": trees.is_dr(state, each.number),
-        "querier": querier.address if querier else each.address, "is_querier": querier is None,
-        "querier_until": querier and querier.end,
+        **told, "dr": port.dr, "is_dr": port.is_dr, "querier": querier or each.address, "is_querier": querier is None,
+        "querier_until": port.querier.end if querier else None,
     }
 
 
-def pim_neighbour(state: trees.Known, row: printed.Neighbour) -> dict[str, Any]:
-    said = state.hellos.get((row.iface, row.address))
-    told = {name: getattr(said, name, None) for name in ("priority", "generation", "propagation", "override")}
-    is_dr = trees.dr_of(state, row.iface) == row.address
-    return {**place(state, row.iface), "address": row.address, "until": end(row.end), "is_dr": is_dr, **told}
+def pim_neighbour(state: Known, row: printed.Neighbour) -> dict[str, Any]:
+    said = state.neighbour(row.iface, row.address)
+    delays = said.lan_delay
+    return {
+        **place(state, row.iface), "address": row.address, "until": end(row.end),
+        "is_dr": asked.dr_of(state, row.iface) == row.address, "priority": said.priority,
+        "generation": said.generation, "propagation": delays and delays.propagation_delay,
+        "override": delays and delays.override_interval,
+    }
 
 
-def igmp_group(state: trees.Known, row: printed.GroupRecord) -> dict[str, Any]:
+def igmp_group(state: Known, row: printed.GroupRecord) -> dict[str, Any]:
     sources = [
         {"source": each.source, "until": end(each.end), "is_excluded": each.end is None}
         for each in state.of(printed.SourceRecord, iface=row.iface, group=row.group)
     ]
-    querier = trees.querier_of(state, row.iface)
+    wanted = wanted_of(row, sources)
     return {
         **place(state, row.iface), "group": row.group, "mode": row.mode, "until": end(row.end), "sources": sources,
-        "querier": querier.address if querier else state.router.interfaces[row.iface].address,
-        "is_served": any(row.iface in trees.served(state, row.group, source) for source in wanted_of(row, sources)),
+        "querier": asked.querier_of(state, row.iface) or state.router.interfaces[row.iface].address,
+        "is_served": any(row.iface in state.facts(row.group, source).pim_include for source in wanted),
     }
 
 
@@ -174,19 +182,19 @@ def wanted_of(row: printed.GroupRecord, sources: list[dict[str, Any]]) -> list[s
 # ---- show ip pim rp-info
 
 
-def rp_range(state: trees.Known, prefix: IPv4Network, rp: str) -> dict[str, Any]:
+def rp_range(state: Known, prefix: IPv4Network, rp: str) -> dict[str, Any]:
     ranges = [(each, (each, address)) for each, address in state.rps]
-    groups = {group for group, _ in keys(state) if trees.rp_of(state, group) is not None}
-    here = [group for group in groups if trees.longest(ranges, ip_address(group)) == (prefix, rp)]
+    groups = {group for group, _ in keys(state) if asked.rp_of(state, group) is not None}
+    here = [group for group in groups if longest(ranges, ip_address(group)) == (prefix, rp)]
     used = sorted(here, key=ip_address)
-    towards = place(state, trees.rpf_interface(state, rp))
+    towards = place(state, asked.rpf_interface(state, rp))
     return {"range": str(prefix), "rp": rp, "is_own": state.router.has(rp), "rpf": towards, "groups": used}
 
 
 # ---- all
 
 
-def router(state: trees.Known) -> dict[str, Any]:
+def router(state: Known) -> dict[str, Any]:
     here = keys(state)
     return {
         "router": state.router.name, "moment": state.moment,

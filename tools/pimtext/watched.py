@@ -5,8 +5,9 @@ from collections.abc import Iterator
 from dataclasses import dataclass
 from typing import TYPE_CHECKING
 
-from pimtext import died, served, streams, trace, trees, wishes
+from pimtext import died, served, streams, trace, wishes
 from pimtext.ends import End
+from pimtext.known import known_after
 from pimtext.past import Past
 
 if TYPE_CHECKING:
@@ -53,7 +54,7 @@ class Watch:
         unheard: frozenset[tuple[str, int] | tuple[str, bytes, int]] = frozenset(),
     ) -> None:
         self.played, self.steps, self.unheard = played, steps, unheard
-        self.known = trees.known(played, steps, tables)
+        self.known = known_after(played, steps, tables)
         self.packets, self.hosts = trace.traced(played, steps), wishes.Hosts(played, steps)
         self.clock, self.past, self.now = streams.Clocks(steps), Past(played, steps), served.World(self.known)
 

@@ -68,6 +68,9 @@ class Wire:
             self.up.add((step.router, step.iface))
         if step.did["do"] == "down":
             self.up.discard((step.router, step.iface))
+        if step.did["do"] == "reload" and step.verdict == "done":
+            count = len(step.did["config"]["iface"])
+            self.up = {port for port in self.up if port[0] != step.router or port[1] < count}
         for sent in step.sent:
             # What is sent after the last delivery is still on its way at the end.
             if sent.move <= self.last:

@@ -15,6 +15,8 @@ if TYPE_CHECKING:
 
 # The messages of older hosts, with their version of IGMP: reports, and the one that leaves.
 OLDER, LEAVE = {0x12: 1, 0x16: 2, 0x17: 2}, 0x17
+# A query of any version.
+QUERY = 0x11
 
 
 @dataclass(frozen=True)

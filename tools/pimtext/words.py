@@ -177,6 +177,9 @@ def move(did: dict[str, Any], router: Router | None, brought: Sent | None = None
             return f"takes as a unicast: packet {did['frame']}{of(brought)}"
         case "restart":
             return "is saved, and made anew of its bytes"
+        case "reload":
+            count = len(did["config"]["iface"])
+            return f"gets another configuration, of {count} interface{'' if count == 1 else 's'}"
     return did["do"]
 
 

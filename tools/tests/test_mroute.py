@@ -6,7 +6,8 @@ import tempfile
 import unittest
 from pathlib import Path
 
-from pimtext import scenario, story, trees, view_text, views
+from pimtext import asked, scenario, story, view_text, views
+from pimtext.known import known_after
 from tests import stored
 from tests.networks import GROUP, HOST, RP, SOURCE, Network
 
@@ -101,6 +102,42 @@ class Shown(unittest.TestCase):
             self.assertIn(wanted, err)
 
 
+class Asserts(unittest.TestCase):
+    """An interface on which an assert was lost is in no list, though somebody asks for packets there."""
+
+    def entry(self, path, router, source):
+        status, out, err = called(path, "--json", "--router", router)
+        self.assertEqual((status, err), (0, ""))
+        return next(each for each in json.loads(out)["routers"][0]["mroute"] if each["source"] == source)
+
+    def assert_kept_off(self, entry, wanted):
+        self.assertEqual((entry["outgoing"], entry["flags"]), ([], "SP"))
+        self.assertEqual([(each["link"], each["why"], each["kept_off"]) for each in entry["kept_off"]], [wanted])
+
+    def test_of_a_source(self):
+        entry = self.entry(stored.EXAMPLES / "lan_assert.toml", "right", "10.1.0.50")
+        lost = "it lost the assert of (10.1.0.50, 232.1.1.1) to 10.5.0.2"
+        self.assert_kept_off(entry, ("lan", ["hosts want (10.1.0.50, 232.1.1.1)"], [lost]))
+
+    def test_of_a_group(self):
+        entry = self.entry(stored.DATA / "an_assert_of_the_group.toml", "r", "*")
+        lost = "it lost the assert of (*, 225.1.1.1) to 10.0.1.2"
+        self.assert_kept_off(entry, ("m", ["Join (*, 225.1.1.1)"], [lost]))
+
+    def test_a_host_there_is_served_by_the_winner(self):
+        told = subprocess.run([sys.executable, stored.TOOLS / "why", stored.EXAMPLES / "lan_assert.toml", "--served",
+                               "10.5.0.77"], capture_output=True, text=True)
+        self.assertEqual(told.returncode, 0, told.stdout + told.stderr)
+        self.assertEqual(told.stdout.splitlines()[-2:], [
+            "  left took it on 0 west, TTL 15; sent it on lan", "10.5.0.77 is served"])
+
+    def test_an_upstream_neighbour_is_the_winner(self):
+        path = stored.EXAMPLES / "lan_assert.toml"
+        told = json.loads(called(path, "--json", "--router", "attic")[1])["routers"][0]["upstream"]
+        found = [(each["source"], each["rpf_neighbour"], each["by_assert"]) for each in told]
+        self.assertEqual(found, [("10.1.0.50", "10.5.0.2", True)])
+
+
 class Stored(unittest.TestCase):
     """All stored scenarios, by their stored lines."""
 
@@ -108,13 +145,13 @@ class Stored(unittest.TestCase):
         for path, lines in stored.played():
             played = scenario.read(path)
             steps, tables = story.played(played, lines)
-            for name, state in trees.known(played, steps, tables).items():
+            for name, state in known_after(played, steps, tables).items():
                 view = views.router(state)
                 shown = {(each["group"], each["source"]): outgoing(each) for each in view["mroute"]}
                 with self.subTest(path.name, router=name):
                     json.dumps(view)
                     list(view_text.text(view))
-                    for branch in trees.branches(state):
+                    for branch in asked.branches(state):
                         self.assertEqual(shown[branch.group, branch.source], sorted(branch.outgoing))
 
     def test_a_querier_that_falls_silent_and_comes_back(self):

@@ -1,8 +1,10 @@
 """What a recorder keeps of a router, and that it plays once more."""
+import ipaddress
 import os
 import struct
 import tempfile
 import unittest
+import zlib
 from pathlib import Path
 
 from viqeshor import Answer, Refused, Router, hosts, recording
@@ -56,6 +58,71 @@ class Recordings(unittest.TestCase):
         self.assertEqual({record.name for record in told.records}, set(recording.KINDS))
         self.assertEqual(told.records[4].answer, Answer.DONE)
         self.assertTrue(any(record.total for record in told.records))
+
+    def test_the_library_writes_what_is_read(self):
+        with Recorder(self.router, self.path):
+            self.router.set_older_hosts(1, "all")
+            self.use()
+        told = recording.read(f"{self.path}.0")
+        head = b"VQRC" + struct.pack(">HIQ", 2, 0, len(told.state)) + told.state
+        written = b"".join(map(self.text_of, told.records))
+        self.assertEqual(Path(f"{self.path}.0").read_bytes(), head + written)
+
+    def text_of(self, record):
+        """The bytes of a record, by what the document says of them."""
+        letter, numbers = recording.KINDS[record.name]
+        given = letter.encode() + (b"" if record.name in recording.QUIET else struct.pack(">I", record.draw))
+        for name, value in zip(numbers, record.numbers):
+            given += struct.pack(">Q" if name == "moment" else ">I", value)
+        if record.name in ("frame", "unicast"):
+            given += struct.pack(">Q", len(record.data)) + record.data
+        elif record.name in recording.LISTS:
+            width = {"routes": 24, "ranges": 12}[record.name]
+            given += struct.pack(">Q", len(record.data) // width) + record.data
+        elif record.name == "reload":
+            limit, robustness, *times, stays = struct.unpack(">6I", record.data[:24])
+            given += struct.pack(">IB4I", limit, stays, robustness, *times)
+            at = 24
+            for count, width in zip(record.numbers, (20, 24, 12)):
+                given += struct.pack(">Q", count) + record.data[at:at + count * width]
+                at += count * width
+        return given + struct.pack(">II", record.answer, record.total)
+
+    def test_the_sum_is_of_what_is_sent(self):
+        for number in (0, 1):
+            self.router.up(number)
+        self.router.frame(1, hosts.join("10.0.1.9", GROUP))
+        data = hosts.data("10.0.0.7", GROUP, b"word")
+        for happens in (lambda: self.router.frame(0, data), lambda: self.router.advance(40_000)):
+            happens()
+            sent = self.router.packets()
+            self.assertTrue(sent)
+            total = 0
+            for kind, where, packet in sent:
+                place = int(ipaddress.ip_address(where)) if kind == "unicast" else where
+                letter = b"u" if kind == "unicast" else b"f"
+                total = zlib.crc32(letter + struct.pack(">IQ", place, len(packet)) + packet, total)
+            self.assertEqual(recording.sum_of(self.router), total)
+
+    def test_version_1_is_read_and_played(self):
+        state, packet = self.router.save(), hosts.join("10.0.1.9", GROUP)
+        records = []
+        for letter, numbers, call, data in (
+            (b"+", (1,), lambda: self.router.up(1, draw=7), b""),
+            (b"f", (1,), lambda: self.router.frame(1, packet, draw=7), packet),
+            (b"a", (0, 40_000), lambda: self.router.advance(40_000, draw=7), b""),
+        ):
+            answer, total = call(), recording.sum_of(self.router, 1)
+            form = f">I{len(numbers)}II"
+            given = letter + struct.pack(form, 7, *numbers, len(data)) + data
+            records.append(given + struct.pack(">II", answer, total))
+        self.path.write_bytes(b"VQRC" + struct.pack(">HIQ", 1, 0, len(state)) + state + b"".join(records))
+        told = recording.read(self.path)
+        self.assertEqual((told.version, [record.name for record in told.records]), (1, ["up", "frame", "advance"]))
+        self.assertTrue(any(record.total for record in told.records))
+        with Router.restore(told.state) as router:
+            for record in told.records:
+                self.assertEqual(recording.take(router, record, 1), (record.answer, record.total))
 
     def test_it_begins_at_any_time(self):
         self.use(3)
@@ -120,7 +187,7 @@ class Recordings(unittest.TestCase):
         whole, data = recording.read(path).records, path.read_bytes()
         path.write_bytes(data[:-1])
         self.assertEqual(recording.read(path).records, whole[:-1])
-        for given in (b"", data[:10], b"other" + data, data[:4] + struct.pack(">H", 2) + data[6:], data + b"?"):
+        for given in (b"", data[:10], b"other" + data, data[:4] + struct.pack(">H", 3) + data[6:], data + b"?"):
             path.write_bytes(given)
             self.assertRaises(recording.Unreadable, recording.read, path)
 

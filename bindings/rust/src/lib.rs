@@ -28,9 +28,11 @@ use std::net::Ipv4Addr;
 use std::os::raw::{c_char, c_void};
 use std::ptr::{null_mut, NonNull};
 
+mod record;
 mod rows;
 mod trees;
 
+pub use record::Call;
 pub use rows::{
     ActiveRow, AssertRow, DownstreamRow, DownstreamState, GroupRow, NeighbourRow, RegisterState, Row, RptRow,
     SourceRow, TableRow, UpstreamRow,
@@ -661,6 +663,7 @@ extern "C" {
     fn viq_may_differ(router: *const c_void, source: u32, group: u32) -> bool;
     fn viq_seen(router: *mut c_void, iface: u32, source: u32, group: u32, draw: Draw) -> u32;
     fn viq_keep(router: *mut c_void, source: u32, group: u32, moment: u64) -> u32;
+    fn viq_sum(router: *const c_void) -> u32;
     fn viq_probes(router: *const c_void) -> u64;
     fn viq_touched(router: *const c_void) -> u64;
 }
@@ -1065,6 +1068,12 @@ impl Router {
             NO_TIMER => Ok(false),
             answer => Err(Error::of(answer)),
         }
+    }
+
+    /// The sum of the packets that are to be sent, which is in a record.
+    pub fn sum(&self) -> u32 {
+        // SAFETY: the router is there.
+        unsafe { viq_sum(self.at()) }
     }
 
     // ---- costs

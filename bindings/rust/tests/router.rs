@@ -1,7 +1,7 @@
 //! Each call of the crate once, and what it answers: a Join of 10.0.1.2 comes and a packet of its source, as in `examples/library`.
 use std::net::Ipv4Addr;
 use viqeshor::{
-    ActiveRow, DownstreamRow, DownstreamState, Error, GroupRow, Hop, Interface, Kind, NeighbourRow, OlderHosts,
+    ActiveRow, Call, DownstreamRow, DownstreamState, Error, GroupRow, Hop, Interface, Kind, NeighbourRow, OlderHosts,
     OlderRow, Querier, QueryVersion, Range, Reason, Refusal, Route, Router, Row, Rpf, RptState, Settings, Table,
     UpstreamRow, Verdict,
 };
@@ -279,6 +279,32 @@ fn it_goes_on_from_saved_bytes() {
     let mut room = [7; 6];
     assert_eq!(router.save_into(&mut room), Ok(router.save().unwrap().len()));
     assert_eq!(&room, b"VQST\0\x01");
+}
+
+#[test]
+fn what_is_recorded() {
+    assert_eq!(router().sum(), 0);
+    let mut router = joined();
+    assert_eq!(router.frame(0, &bytes_of(DATA), 0), DONE);
+    assert!(router.packet_count() > 0 && router.sum() != 0);
+    let call = Call { letter: b'+'.into(), draw: 7, iface: 1, answer: 24, sum: 9, ..Call::default() };
+    let (words, mut put) =
+        (|numbers: &[u32]| numbers.iter().flat_map(|it| it.to_be_bytes()).collect::<Vec<_>>(), vec![5]);
+    call.put(&[], &mut put).unwrap();
+    Call { letter: b'f'.into(), ..call }.put(&[1, 2, 3], &mut put).unwrap();
+    call.put_ranges(&ranges(), &mut put).unwrap();
+    let many = vec![routes()[0]; 20];
+    call.put_routes(&many, &mut put).unwrap();
+    let (range, route) = ([0xe000_0000, 4, 0x0a09_0909], [0x0a09_0900, 24, 0x0a00_0001, 0, 110, 20]);
+    let end = words(&[24, 9]);
+    let mut wanted = [vec![5, b'+'], words(&[7, 1]), end.clone()].concat();
+    wanted.extend([vec![b'f'], words(&[7, 1, 0, 3]), vec![1, 2, 3], end.clone()].concat());
+    wanted.extend([vec![b'g'], words(&[7, 0, 1]), words(&range), end.clone()].concat());
+    wanted.extend([vec![b'r'], words(&[7, 0, 20]), words(&route).repeat(20), end.clone()].concat());
+    assert_eq!(put, wanted);
+    call.put_reload(&Settings::default(), &interfaces(), &routes(), &ranges(), &mut put).unwrap();
+    assert_eq!(put.len() - wanted.len(), 1 + 4 + 21 + 8 + 3 * 20 + 8 + 2 * 24 + 8 + 12 + 8);
+    assert_eq!(put[wanted.len()..][..5], [b'c', 0, 0, 0, 7]);
 }
 
 #[test]

@@ -6,13 +6,14 @@ ghost use Rattle.pim_lab.specs.Statuses.{IsFault, IsTroubleOf, router_node, rout
 use crate::frames::Frames;
 use crate::front::Asked;
 use crate::lines::Lines;
-use crate::station::Station;
+use crate::names::Names;
+use crate::station::{Reloaded, Station};
 use crate::table::{OlderLine, RowLine};
 use crate::trouble::Trouble;
 use igmp_older::Presence;
 use pim_net::{Move, Net, NetLog, Node, Router, Unrestored, Wire};
 use pim_rows::Table;
-use pim_scenario::{RouterText, ScenarioMove};
+use pim_scenario::{ConfigText, RouterText, ScenarioMove};
 use pim_types::{Emission, Event, Fault, Outcome, Series, Verdict};
 use std::alloc::{AllocError, Global};
 
@@ -38,6 +39,7 @@ pub(crate) struct Lab<W> {
     stations: Vec<Station>,
     net: Net<W>,
     frames: Frames,
+    names: Names,
     tables_each: bool,
 }
 
@@ -55,11 +57,13 @@ impl<W: Wire> Lab<W> {
     {
         let (stations, nodes) = stations_of(alloc, texts)?;
         let net = Net::new(alloc, nodes, wire)??;
+        let names = Names::of(alloc, &stations)?;
         Ok(Lab {
             alloc,
             stations,
             net,
             frames: Frames::new(alloc),
+            names,
             tables_each,
         })
     }
@@ -103,6 +107,9 @@ impl<W: Wire> Lab<W> {
             }
             ScenarioMove::Settle { draw } => self.settle(number, draw, lines),
             ScenarioMove::Restart { router } => self.restart(number, router, lines),
+            ScenarioMove::Reload { router, draw, next } => {
+                self.reload(number, router, draw, next, lines)
+            }
         }
     }
 
@@ -147,6 +154,48 @@ impl<W: Wire> Lab<W> {
             copies: 0,
         };
         self.print_with_tables(number, router, outcome, lines)
+    }
+
+    // Puts a router and its front under another configuration. Its packets are printed with the links that it had.
+    fn reload(
+        &mut self,
+        number: usize,
+        router: usize,
+        draw: u32,
+        next: ConfigText,
+        lines: &mut Lines,
+    ) -> Result<(), Trouble>
+        ensures { IfErr result (λ t. IsFault t) }
+    {
+        let ConfigText {
+            config,
+            links,
+            older_hosts,
+        } = next;
+        let links = self.names.links(self.alloc, links)?;
+        let (reloaded, node) = Reloaded::of(self.alloc, config, links, older_hosts)?;
+        let outcome = self.net.reload(router, draw, node)?;
+        let is_done = outcome.answer.is_ok();
+        self.print(number, router, outcome, lines)?;
+        if is_done {
+            self.keep(router, reloaded)?;
+        }
+        if self.tables_each {
+            self.print_tables_at(router, lines)?;
+        }
+        Ok(())
+    }
+
+    // Keeps what the lab knows of another configuration of a router.
+    fn keep(&mut self, router: usize, reloaded: Reloaded) -> Result<(), Trouble>
+        ensures { IfErr result (λ t. IsFault t) }
+    {
+        // Each move names one of the routers.
+        let Some(station) = self.stations.get_mut(router) else {
+            return Err(Trouble::Fault(Fault::Failed));
+        };
+        station.reload(reloaded)?;
+        Ok(())
     }
 
     // An event at a router, behind its front.

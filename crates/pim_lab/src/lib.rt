@@ -6,6 +6,7 @@ mod front;
 mod lab;
 mod line;
 mod lines;
+mod names;
 pub mod playing;
 pub mod saved;
 mod station;
@@ -14,8 +15,8 @@ mod trouble;
 
 pub use pim_net::{MemoryWire, Move, Net, NetLog, Node, UdpWire, Wire};
 pub use pim_scenario::{
-    Answer, Command, Complaint, Link, RouterText, Scenario, ScenarioMove, Tables, WireKind, Words,
-    fault, load, read_scenario, read_words, refused,
+    Answer, Command, Complaint, ConfigText, Link, RouterText, Scenario, ScenarioMove, Tables,
+    WireKind, Words, fault, load, read_scenario, read_words, refused,
 };
 pub use playing::{check_text, play, play_with};
 pub use saved::{Begin, States, play_saved};

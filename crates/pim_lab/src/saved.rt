@@ -146,7 +146,7 @@ fn run_between<W: Wire, O: Write>(
     lines: &mut Lines,
     out: &mut O,
 ) -> Result<(), Stop> {
-    begin(lab, states)?;
+    start(lab, states)?;
     make_moves(lab, moves, lines, out)?;
     if tables {
         print_tables(lab, lines, out)?;
@@ -158,7 +158,7 @@ fn run_between<W: Wire, O: Write>(
 }
 
 // Puts a router into its saved state. A name that no router has is refused, also of the router to be saved.
-fn begin<W: Wire>(lab: &mut Lab<W>, states: States<'_>) -> Result<(), Stop> {
+fn start<W: Wire>(lab: &mut Lab<W>, states: States<'_>) -> Result<(), Stop> {
     if let Some(router) = states.save {
         if lab.place_of(router).is_none() {
             return Err(Stop::Unrestored(Unrestored::NoRouter));

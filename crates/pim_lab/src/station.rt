@@ -14,6 +14,39 @@ use pim_scenario::{Link, RouterText};
 use pim_types::{Addr, Config, Emission, Event, Fault, IfaceId, Refusal, Series, Verdict};
 use std::alloc::{AllocError, Global};
 
+/// What the lab knows of another configuration.
+#[derive(Drop)]
+pub(crate) struct Reloaded {
+    links: Series<Link>,
+    addresses: Series<Addr>,
+    limit: u32,
+    older_hosts: OlderHosts,
+}
+
+impl Reloaded {
+    /// Another configuration with its links, and the node of the network for it.
+    pub(crate) fn of(
+        alloc: Global,
+        config: Config,
+        links: Series<Link>,
+        older_hosts: OlderHosts,
+    ) -> Result<(Reloaded, Node), AllocError> {
+        let numbers = link_numbers(alloc, links.as_slice())?;
+        let addresses = addresses_of(alloc, &config)?;
+        let reloaded = Reloaded {
+            links,
+            addresses,
+            limit: config.limit,
+            older_hosts,
+        };
+        let node = Node {
+            config,
+            links: numbers,
+        };
+        Ok((reloaded, node))
+    }
+}
+
 /// What the lab knows of a router that the network doesn't.
 #[derive(Drop)]
 pub(crate) struct Station {
@@ -54,6 +87,23 @@ impl Station {
             links: numbers,
         };
         Ok((station, node))
+    }
+
+    /// Puts the router's interfaces on other links, and its front under another configuration. The front forgets what it
+    /// heard on interfaces that are removed, or that get another setting.
+    pub(crate) fn reload(&mut self, reloaded: Reloaded) -> Result<(), AllocError> {
+        let Reloaded {
+            links,
+            addresses,
+            limit,
+            older_hosts,
+        } = reloaded;
+        let count = u32::try_from(links.len()).map_err(|_| AllocError)?;
+        self.presence.resize(limit as usize, count)?;
+        set_hosts(&mut self.presence, count, older_hosts);
+        self.links = links;
+        self.addresses = addresses;
+        Ok(())
     }
 
     /// What is printed before the router's tables.
@@ -157,6 +207,25 @@ fn presence_of(
         hosts.push(older_hosts)?;
     }
     Ok(Presence::new(alloc, config.limit as usize, hosts))
+}
+
+// Gives the first interfaces this setting. Those that have it keep their rows.
+fn set_hosts(presence: &mut Presence, count: u32, older_hosts: OlderHosts) {
+    for number in 0..count {
+        let iface = IfaceId { number };
+        if !is_same(presence.hosts(iface), older_hosts) {
+            presence.set_hosts(iface, older_hosts);
+        }
+    }
+}
+
+fn is_same(left: OlderHosts, right: OlderHosts) -> bool {
+    matches!(
+        (left, right),
+        (OlderHosts::All, OlderHosts::All)
+            | (OlderHosts::VersionTwo, OlderHosts::VersionTwo)
+            | (OlderHosts::Nobody, OlderHosts::Nobody)
+    )
 }
 
 fn addresses_of(alloc: Global, config: &Config) -> Result<Series<Addr>, AllocError>

@@ -4,6 +4,7 @@ pub mod Events
 pub mod Faults
 pub mod Lookups
 pub mod Nodes
+pub mod Reloads
 pub mod Restored
 pub mod Runs
 pub mod Stations

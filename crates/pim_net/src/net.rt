@@ -5,6 +5,7 @@ ghost use Rattle.pim_asked.specs.Networks.{MovesAreAsked};
 ghost use Rattle.pim_model.specs.Network.{network, network_ran, nodes_test};
 ghost use Rattle.pim_net.specs.Carried.{HasMoved, IsCarried, IsPartWay, MovesTo, carried_packet};
 ghost use Rattle.pim_net.specs.Ports.{first_ports};
+ghost use Rattle.pim_net.specs.Reloading.{reloaded_at};
 ghost use Rattle.pim_model.specs.State.{State};
 ghost use Rattle.pim_rested.specs.Resuming.{restore_test};
 ghost use Rattle.pim_rested.specs.declared.refusal.RestoreRefusal.{RestoreRefusal};
@@ -154,6 +155,32 @@ impl<W: Wire> Net<W> {
         } else {
             self.network.restart(router)
         }
+    }
+
+    /// Puts a router, counted from 0, under the configuration of a node: its interfaces are those of the node, by their
+    /// numbers, and on the node's links. What the router sends by this leaves on the links that it had; it is the outcome,
+    /// with no copies. An unknown router is refused as `BadMove`, a node that hasn't a link for each of its interfaces as
+    /// `BadScenario`, and a configuration as by `new`; then nothing changes. The ports stay: those of a router with more
+    /// interfaces than it began with are also the next router's, which does no harm, since what is sent to a port is taken
+    /// before anything else is sent. A fault is `Memory`, after which the net answers `Failed` from then on.
+    pub fn reload(&mut self, router: usize, draw: u32, node: Node) -> Result<Outcome, Fault>
+        ensures outcome { IfSome self.old.network (λ n. IfOk result (λ outcome.
+            outcome ≡ (reloaded_at n router draw (node_of node)).0)) }
+        ensures network { IfSome self.old.network (λ n. OnOk result
+            (self.new.network ≡ Some (reloaded_at n router draw (node_of node)).1)) }
+        ensures ports { self.new.ports ≡ self.old.ports }
+        ensures wire { self.new.wire ≡ self.old.wire }
+        ensures fails { OnErr result (self.new.network ≡ None) }
+        ensures failed { (result ≡ Err Fault.Failed) ↔ (self.old.network ≡ None) }
+        ensures fault { IfSome self.old.network (λ n. IsOkUnless result Fault.Memory) }
+    {
+        if self.failed {
+            return Err(Fault::Failed);
+        }
+        self.failed = true;
+        let outcome = self.network.reload(router, draw, node)?;
+        self.failed = false;
+        Ok(outcome)
     }
 
     /// Router `n`, counted from 0. `None` for an unknown one, and once an allocation failed in a run. Takes no memory.

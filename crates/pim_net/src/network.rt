@@ -2,13 +2,16 @@
 ghost use Rattle.std.specs.List.{list_all};
 ghost use Rattle.std.specs.Prelude.{Err, IfErr, IfNone, IfOk, IfSome, IsOkUnless, IsSome, None, Ok, OnErr, OnOk, Some, length, map, nat_le, option_copied, option_map, true, ℕ, ◌&&◌, ◌++◌, ◌≡◌, ◌≤◌};
 ghost use Rattle.pim_ip.specs.declared.fault.Fault.{Fault};
+ghost use Rattle.pim_ip.specs.declared.refusal.Refusal.{Refusal as RefusalValue};
 ghost use Rattle.pim_model.specs.Limits.{most_ifaces};
 ghost use Rattle.pim_model.specs.Network.{Deliver, DeliverUnicast, configs_test, event_of, frame_at, is_node, most_routers, moved_at, network, nodes_test, sent_by, station_at, station_of};
 ghost use Rattle.pim_model.specs.Network as written;
 ghost use Rattle.pim_model.specs.Step.{outcome_of, step};
 ghost use Rattle.pim_net.specs.Carried.{link_count};
 ghost use Rattle.pim_net.specs.Ports.{first_ports};
+ghost use Rattle.pim_net.specs.Reloading.{done_with, node_test, refused_as, reloaded_at};
 ghost use Rattle.pim_model.specs.State.{State};
+ghost use Rattle.pim_reloaded.specs.Reloading.{reload};
 ghost use Rattle.pim_rested.specs.Resuming.{restore_test};
 ghost use Rattle.pim_rested.specs.declared.refusal.RestoreRefusal.{RestoreRefusal};
 ghost use Rattle.pim_saved.specs.Reading.{reading};
@@ -20,7 +23,7 @@ use crate::node::Node;
 use crate::station::{Frame, Station};
 use crate::unrestored::Unrestored;
 use pim_router::Router;
-use pim_types::{Emission, Event, EventKind, Fault, IfaceId, Outcome, Refusal, Series};
+use pim_types::{Emission, Event, EventKind, Fault, IfaceId, Outcome, Refusal, Series, Verdict};
 use std::alloc::Global;
 use std::marker::Model;
 
@@ -205,6 +208,28 @@ impl Network {
         self.stations[router].restore(self.alloc, bytes)
     }
 
+    /// Puts a router under the configuration of a node, with the node's links. It is refused where there is no such
+    /// router, where the node hasn't a link for each interface, and where its configuration is refused; then the network
+    /// is as it was. The error is want of memory.
+    pub(crate) fn reload(&mut self, router: usize, draw: u32, node: Node) -> Result<Outcome, Fault>
+        ensures outcome { IfSome self.old (λ net. IfOk result (λ outcome.
+            outcome ≡ (reloaded_at net router draw (node_of node)).0)) }
+        ensures network { IfSome self.old (λ net. OnOk result
+            (self.new ≡ Some (reloaded_at net router draw (node_of node)).1)) }
+        ensures fault { IfSome self.old (λ net. IsOkUnless result Fault.Memory) }
+    {
+        if router >= self.stations.len() {
+            return Ok(bad_move(self.alloc));
+        }
+        put_under(
+            self.alloc,
+            &mut self.stations[router],
+            &mut self.frames,
+            draw,
+            node,
+        )
+    }
+
     /// What comes to a router, as an event. The error is want of memory.
     pub(crate) fn receive(
         &mut self,
@@ -289,6 +314,43 @@ fn take(
     Ok(outcome)
 }
 
+// Puts a station under the configuration of a node, with its links. What the station sends is added at the end of the
+// frames, by the links that it had.
+fn put_under(
+    alloc: Global,
+    station: &mut Station,
+    frames: &mut Vec<Frame>,
+    draw: u32,
+    node: Node,
+) -> Result<Outcome, Fault>
+    ensures done { IfSome station.old (λ s. IfOk result (λ outcome. node_test (node_of node) ≡ Ok tt
+        → outcome ≡ done_with (reload s.state node.config draw).1)) }
+    ensures state { IfSome station.old (λ s. OnOk result (node_test (node_of node) ≡ Ok tt
+        → station.new ≡ Some (record { links = node.links; state = (reload s.state node.config draw).0 }))) }
+    ensures frames { IfSome station.old (λ s. OnOk result (node_test (node_of node) ≡ Ok tt
+        → frames.new.items ≡ frames.old.items ++ map (sent_by s.links) (reload s.state node.config draw).1)) }
+    ensures refused { IfOk result (λ outcome. (refusal : RefusalValue) → node_test (node_of node) ≡ Err refusal
+        → (outcome ≡ refused_as refusal) × (station.new ≡ station.old) × (frames.new.items ≡ frames.old.items)) }
+    ensures fault { IfSome station.old (λ s. IsOkUnless result Fault.Memory) }
+{
+    if !node.is_linked() {
+        return Ok(refused(alloc, Refusal::BadScenario));
+    }
+    let Node { config, links } = node;
+    match station.reload(alloc, draw, &config)? {
+        Ok(sent) => {
+            keep(alloc, station, &sent, frames)?;
+            station.relink(links);
+            Ok(Outcome {
+                answer: Ok(Verdict::Done),
+                emissions: Series::from_vec(sent),
+                copies: 0,
+            })
+        }
+        Err(refusal) => Ok(refused(alloc, refusal)),
+    }
+}
+
 // Adds what a station sent at the end of the frames.
 fn keep(
     alloc: Global,
@@ -310,8 +372,15 @@ fn keep(
 pub(crate) fn bad_move(alloc: Global) -> Outcome
     ensures { result ≡ written.bad_move }
 {
+    refused(alloc, Refusal::BadMove)
+}
+
+// The outcome of what is refused.
+fn refused(alloc: Global, refusal: Refusal) -> Outcome
+    ensures { result ≡ refused_as refusal }
+{
     Outcome {
-        answer: Err(Refusal::BadMove),
+        answer: Err(refusal),
         emissions: Series::new(alloc),
         copies: 0,
     }

@@ -1,10 +1,11 @@
 //! A frame that was sent, and a router with the links and ports of its interfaces.
-ghost use Rattle.std.specs.Prelude.{◌≡◌, ◌≤◌, Err, IfErr, IfOk, IfSome, IsOkUnless, Ok, OnErr, OnOk, Some, is_some, length, option_map};
+ghost use Rattle.std.specs.Prelude.{◌≡◌, ◌≤◌, ◌++◌, Err, IfErr, IfOk, IfSome, IsOkUnless, Ok, OnErr, OnOk, Some, is_some, length, option_map};
 ghost use Rattle.pim_ip.specs.declared.fault.Fault.{Fault};
 ghost use Rattle.pim_model.specs.Limits.{config_test, most_ifaces};
 ghost use Rattle.pim_model.specs.Network.{is_on_frame_link, sent_by, station_of};
 ghost use Rattle.pim_model.specs.Step.{outcome_of, step};
 ghost use Rattle.pim_model.specs.State.{State};
+ghost use Rattle.pim_reloaded.specs.Reloading.{reload};
 ghost use Rattle.pim_rested.specs.Resuming.{restore_test};
 ghost use Rattle.pim_rested.specs.declared.refusal.RestoreRefusal.{RestoreRefusal};
 ghost use Rattle.pim_router.specs.Standing.{begun};
@@ -17,7 +18,7 @@ use crate::unrestored::Unrestored;
 use pim_rested::saved_is_resumed;
 use pim_router::Router;
 use pim_saved::text_is_read;
-use pim_types::{Emission, Event, Fault, IfaceId, Outcome, Refusal, Series};
+use pim_types::{Config, Emission, Event, Fault, IfaceId, Outcome, Refusal, Series};
 use std::alloc::{AllocError, Global};
 use std::marker::Model;
 
@@ -158,6 +159,37 @@ impl Station {
             }
             Err(why) => Ok(Err(why)),
         }
+    }
+
+    /// Puts the router under another configuration. The links stay. The error is want of memory.
+    pub(crate) fn reload(
+        &mut self,
+        alloc: Global,
+        draw: u32,
+        config: &Config,
+    ) -> Result<Result<Vec<Emission>, Refusal>, Fault>
+        ensures accepted { IfOk result (λ answer. OnOk answer (config_test config.now ≡ Ok tt)) }
+        ensures state { IfSome self.old (λ s. IfOk result (λ answer. OnOk answer
+            (self.new ≡ Some (record s { state = (reload s.state config.now draw).0 })))) }
+        ensures sent { IfSome self.old (λ s. IfOk result (λ answer. IfOk answer (λ sent.
+            sent.items ≡ (reload s.state config.now draw).1))) }
+        ensures refused { IfOk result (λ answer. IfErr answer (λ refusal. (config_test config.now ≡ Err refusal)
+            × (self.new ≡ self.old))) }
+        ensures fault { IfSome self.old (λ s. IsOkUnless result Fault.Memory) }
+    {
+        let mut emissions = Vec::new(alloc);
+        match self.router.reload(draw, config, &mut emissions)? {
+            Ok(()) => Ok(Ok(emissions)),
+            Err(refusal) => Ok(Err(refusal)),
+        }
+    }
+
+    /// Puts the router's interfaces on other links.
+    pub(crate) fn relink(&mut self, links: Series<u32>)
+        requires few { length links ≤ most_ifaces }
+        ensures { IfSome self.old (λ s. self.new ≡ Some (record s { links = links })) }
+    {
+        self.links = links;
     }
 
     /// An emission as a frame.

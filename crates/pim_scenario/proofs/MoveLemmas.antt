@@ -7,12 +7,13 @@ use Rattle.toml.specs.Data.{Data, Members, as_table}
 use Rattle.pim_types.specs.declared.config.Route.{Route}
 use Rattle.pim_types.specs.declared.config.RpRange.{RpRange}
 use Rattle.pim_types.specs.declared.event.EventKind.{EventKind}
+use Rattle.pim_scenario.specs.declared.scenario.ConfigText.{ConfigText}
 use Rattle.pim_scenario.specs.declared.scenario.ScenarioMove.{ScenarioMove}
-use Rattle.pim_scenario.specs.declared.scenario.ScenarioMove.TheVariants.{Event, Deliver, Carry, Restart}
+use Rattle.pim_scenario.specs.declared.scenario.ScenarioMove.TheVariants.{Event, Deliver, Carry, Reload, Restart}
 use Rattle.pim_scenario.specs.declared.scenario.RouterText.{RouterText}
 use Rattle.pim_scenario.specs.declared.scenario.Scenario.{Scenario}
-use Rattle.pim_scenario.specs.Fields.{text_at, list_at, list_or_empty}
-use Rattle.pim_scenario.specs.Scenario.{AreRouteWords, AreRouters, AreRpWords, IsCarry, IsDeliver, IsEvent, IsKind, IsMove, IsRestart, IsRouter, IsRoutes, IsRps, IsScenario, IsTable, IsText, place_of}
+use Rattle.pim_scenario.specs.Fields.{text_at, table_at, list_at, list_or_empty}
+use Rattle.pim_scenario.specs.Scenario.{AreRouteWords, AreRouters, AreRpWords, IsCarry, IsConfigText, IsDeliver, IsEvent, IsKind, IsMove, IsReload, IsRestart, IsRouter, IsRoutes, IsRps, IsScenario, IsTable, IsText, place_of}
 use Rattle.pim_scenario.proofs.LinkLemmas.{position-map}
 use Rattle.pim_scenario.proofs.ReadLemmas.{the_same, zip_weaker}
 
@@ -32,6 +33,13 @@ pub rps_of : (ms : Members) (ds : List Data) → Some ds ≡ list_at (codes "lis
 rps_of ms ds at (EventKind.Rps rps) is =
     (rps, rw (the_same (list_at (codes "list") ms) ds is.1.0 at is.1.1) is.1.2)
 rps_of ms ds at kind is = absurd is
+
+-- the configuration of a reload
+pub config_of : (routers : List RouterText) (ms inner : Members) → Some inner ≡ table_at (codes "config") ms
+    → (m : ScenarioMove) → IsReload routers ms m → (c : ConfigText) × IsConfigText inner c
+config_of routers ms inner at (Reload router draw next) is =
+    (next, rw (the_same (table_at (codes "config") ms) inner is.3.0 at is.3.1) is.3.2)
+config_of routers ms inner at m is = absurd is
 
 -- a table names one router
 pub one_name : (d : Data) (r s : RouterText) → IsTable IsRouter d r → IsTable IsRouter d s
@@ -88,13 +96,21 @@ moved_restart : (rs ss : List RouterText) → ((name : List ℕ) → place_of rs
 moved_restart rs ss same ms (Restart router) is = (is.0, placed rs ss same (text_at (codes "router") ms) ∙ is.1)
 moved_restart rs ss same ms m is = absurd is
 
+moved_reload : (rs ss : List RouterText) → ((name : List ℕ) → place_of rs name ≡ place_of ss name)
+    → (ms : Members) (m : ScenarioMove) → IsReload ss ms m → IsReload rs ms m
+moved_reload rs ss same ms (Reload router draw next) is =
+    (is.0, placed rs ss same (text_at (codes "router") ms) ∙ is.1, is.2, is.3)
+moved_reload rs ss same ms m is = absurd is
+
 moved : (rs ss : List RouterText) → ((name : List ℕ) → place_of rs name ≡ place_of ss name)
     → (ms : Members) (m : ScenarioMove) → IsMove ss ms m → IsMove rs ms m
 moved rs ss same ms m (inl is) = inl (is.0, moved_deliver rs ss same ms m is.1)
 moved rs ss same ms m (inr (inl is)) = inr (inl (is.0, moved_carry rs ss same ms m is.1))
 moved rs ss same ms m (inr (inr (inl is))) = inr (inr (inl is))
 moved rs ss same ms m (inr (inr (inr (inl is)))) = inr (inr (inr (inl (is.0, moved_restart rs ss same ms m is.1))))
-moved rs ss same ms m (inr (inr (inr (inr is)))) = inr (inr (inr (inr (moved_event rs ss same ms m is))))
+moved rs ss same ms m (inr (inr (inr (inr (inl is))))) =
+    inr (inr (inr (inr (inl (is.0, moved_reload rs ss same ms m is.1)))))
+moved rs ss same ms m (inr (inr (inr (inr (inr is))))) = inr (inr (inr (inr (inr (moved_event rs ss same ms m is)))))
 
 moved_table : (rs ss : List RouterText) → ((name : List ℕ) → place_of rs name ≡ place_of ss name)
     → (d : Data) (m : ScenarioMove) → IsTable (IsMove ss) d m → IsTable (IsMove rs) d m

@@ -1,12 +1,12 @@
 -- What is read at the front of a text is read there too where a bracket follows the text.
-use Rattle.std.proofs.Common.{◌≡◌, ℕ, zero, suc, ◌+◌, ◌-◌, ◌<◌, ◌≤◌, Bool, true, false, not, cond, ◌&&◌, ◌||◌, ◌==◌, nat_le, nat_lt, List, [], ◌∷◌, ◌++◌, length, get_or, take, drop, slice_index, Option, Some, None, is_some, unwrap_or, option_map, option_and_then, refl, sym, ap, ◌∙◌, subst, inl, inr, arith, add-one, add-zero, eqb-true, length-append}
-use Rattle.std.proofs.lemmas.Bool.{cases_Bool, cases_lt, and_parts, true≢false, false≢true}
+use Rattle.std.proofs.Common.{◌≡◌, ℕ, ◌<◌, ◌≤◌, Bool, true, false, List, [], ◌∷◌, ◌++◌, length, slice_index, Option, Some, None, is_some, unwrap_or, option_map, option_and_then, refl, ap, inl, inr, arith}
+use Rattle.std.proofs.lemmas.Bool.{cases_Bool}
 use Rattle.std.proofs.lemmas.Bool.Decides.{nat_tests}
-use Rattle.std.proofs.lemmas.Option.{none-some, same_Some, cond_some}
-use Rattle.std.proofs.lemmas.List.{get_or_append_left, get_or_past, take-append-le, drop-append-le}
+use Rattle.std.proofs.lemmas.Option.{none-some, same_Some}
+use Rattle.std.proofs.lemmas.List.{get_or_append_left, take-append-le, drop-append-le}
 use Rattle.std.proofs.lemmas.List.Sums.{prefix_len-le-length}
-use Rattle.std.specs.List.{prefix_len, list_all}
-use Rattle.toml_parser.specs.Lexical.{Read, first, is_ws, is_bare, is_word, is_non_eol, split_while, starts_newline, skip_ws, skip_turn, skip_from, skip_blank, skip_lines}
+use Rattle.std.specs.List.{prefix_len}
+use Rattle.toml_parser.specs.Lexical.{Read, first, is_ws, split_while, starts_newline, skip_ws, skip_turn, skip_from, skip_lines}
 
 -- this text, and a bracket after it
 abbrev pub on : List ℕ → List ℕ → List ℕ

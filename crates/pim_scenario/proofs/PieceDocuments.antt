@@ -1,18 +1,18 @@
 -- A document of which the array of tables `move` is the end, table by table.
-use Rattle.std.proofs.Common.{◌≡◌, ◌⊎◌, ℕ, zero, suc, ◌+◌, ◌-◌, ◌<◌, ◌≤◌, Bool, true, false, not, cond, ◌&&◌, ◌||◌, ◌==◌, List, [], ◌∷◌, ◌++◌, length, drop, slice_index, codes, Option, Some, None, is_some, option_map, option_and_then, refl, sym, ap, ◌∙◌, subst, inl, inr, arith, Ordering, Less, Equal, Greater, nat_cmp, is_eq, length-append}
-use Rattle.std.proofs.lemmas.Bool.{cases_Bool, and_parts, or_parts, true≢false, false≢true}
+use Rattle.std.proofs.Common.{◌≡◌, ℕ, zero, suc, ◌+◌, ◌-◌, ◌≤◌, true, false, cond, ◌&&◌, ◌==◌, List, [], ◌∷◌, ◌++◌, length, Option, Some, None, option_map, refl, sym, ap, ◌∙◌, subst, inl, inr, arith, Ordering, Less, Equal, Greater, nat_cmp, is_eq, length-append}
+use Rattle.std.proofs.lemmas.Bool.{cases_Bool, and_parts, true≢false, false≢true}
 use Rattle.std.proofs.lemmas.Bool.Decides.{nat_tests}
-use Rattle.std.proofs.lemmas.Option.{none-some, same_Some, cond_some}
+use Rattle.std.proofs.lemmas.Option.{none-some}
 use Rattle.std.specs.Ordering.{match_ordering}
 use Rattle.std.specs.Cmp.Lexicographic.{slice_cmp}
-use Rattle.toml_parser.specs.Lexical.{first, skip_ws, skip_from, skip_blank}
-use Rattle.toml_parser.specs.Strings.{Key, key_after, simple_key}
-use Rattle.toml.specs.Data.{Data, string, integer, float, boolean, datetime, array, table, Items, no_items, item, Members, no_members, member, push_item, same_key, get_member}
-use Rattle.toml.specs.Tables.{Node, Nodes, no_nodes, node, value, open_table, open_array, close, close_node, Expression, Definition, key_value, std_table, array_table, new_node, redefine, at_found, Document, define, insert, replace, get_node, along_header, at_key}
+use Rattle.toml_parser.specs.Lexical.{skip_ws, skip_from}
+use Rattle.toml_parser.specs.Strings.{key_after, simple_key}
+use Rattle.toml.specs.Data.{Data, array, table, Items, no_items, item, Members, push_item, same_key, get_member}
+use Rattle.toml.specs.Tables.{Node, Nodes, no_nodes, node, value, open_table, open_array, close, close_node, Expression, array_table, Document, define, insert, get_node, along_header, at_key}
 use Rattle.std.specs.List.{list_any}
 use Rattle.toml.specs.Parse.{lines, line, expression, header_key, skip_bom, parse_document}
 use Rattle.toml.proofs.NodeLaws.{get_node-insert, replace-insert}
-use Rattle.pim_scenario.proofs.PieceBytes.{on, then_some, map_some}
+use Rattle.pim_scenario.proofs.PieceBytes.{on, map_some}
 use Rattle.pim_scenario.specs.Pieces.{ends, move_key, is_table, is_plain, is_flat, IsReached, HoldsMoves}
 use Rattle.pim_scenario.specs.Fields.{values_of}
 use Rattle.pim_scenario.proofs.PieceLines.{Stands, lines_on, lines_out}

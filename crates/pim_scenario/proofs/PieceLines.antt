@@ -1,15 +1,12 @@
 -- A document that is read piece by piece.
-use Rattle.std.proofs.Common.{◌≡◌, ◌⊎◌, ℕ, zero, suc, ◌+◌, ◌-◌, ◌<◌, ◌≤◌, Bool, true, false, not, cond, ◌&&◌, ◌||◌, ◌==◌, List, [], ◌∷◌, ◌++◌, length, drop, slice_index, Option, Some, None, is_some, unwrap_or, option_map, option_and_then, refl, sym, ap, ◌∙◌, subst, inl, inr, arith, length-append}
-use Rattle.std.proofs.lemmas.Bool.{cases_Bool, and_parts, or_parts, true≢false, false≢true}
+use Rattle.std.proofs.Common.{◌≡◌, ◌⊎◌, ℕ, zero, suc, ◌+◌, ◌<◌, ◌≤◌, Bool, true, false, cond, ◌==◌, List, [], ◌∷◌, length, Some, None, is_some, unwrap_or, option_and_then, refl, ap, ◌∙◌, subst, inl, inr, arith, length-append}
+use Rattle.std.proofs.lemmas.Bool.{cases_Bool, false≢true}
 use Rattle.std.proofs.lemmas.Bool.Decides.{nat_tests}
 use Rattle.std.proofs.lemmas.Option.{none-some, same_Some, cond_some}
-use Rattle.toml_parser.specs.Lexical.{Read, first, skip_ws, skip_turn, skip_from, skip_blank}
-use Rattle.toml_parser.specs.Strings.{Key}
-use Rattle.toml.specs.Data.{Data, Items, no_items, Members, no_members, member, push_item}
-use Rattle.toml.specs.Tables.{Node, Nodes, no_nodes, node, value, open_table, open_array, close, close_node, Expression, Definition, key_value, std_table, array_table, Document, put, define, insert, replace, get_node, along_header, along_dots, at_key, by_header, header_node, implicit}
-use Rattle.toml.specs.Parse.{expression, ends_line, line, lines, skip_bom, parse_document}
-use Rattle.pim_scenario.proofs.PieceBytes.{on, IsLocal, then_some, map_some, skip_ws_local, skip_from_local}
-use Rattle.pim_scenario.proofs.PieceTexts.{pair_parts}
+use Rattle.toml_parser.specs.Lexical.{first, skip_ws, skip_turn, skip_from, skip_blank}
+use Rattle.toml.specs.Tables.{Expression, Document, define}
+use Rattle.toml.specs.Parse.{expression, ends_line, line, lines}
+use Rattle.pim_scenario.proofs.PieceBytes.{on, then_some, skip_ws_local}
 use Rattle.pim_scenario.proofs.PieceValues.{blank_local, expression_local}
 use Rattle.pim_scenario.proofs.PieceEnds.{ends_ws, ends_from, expression_kept}
 use Rattle.pim_scenario.specs.Pieces.{ends}

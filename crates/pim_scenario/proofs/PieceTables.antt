@@ -1,15 +1,14 @@
 -- A table that is read alone, and as the last of an array of tables.
-use Rattle.std.proofs.Common.{◌≡◌, ◌⊎◌, ℕ, zero, suc, ◌+◌, ◌-◌, ◌<◌, ◌≤◌, Bool, true, false, not, cond, ◌&&◌, ◌||◌, ◌==◌, List, [], ◌∷◌, ◌++◌, length, drop, codes, Option, Some, None, is_some, option_map, option_and_then, refl, sym, ap, ◌∙◌, subst, inl, inr, arith, Ordering, Less, Equal, Greater, nat_cmp, is_eq}
-use Rattle.std.proofs.lemmas.Bool.{cases_Bool, and_parts, or_parts, true≢false, false≢true}
-use Rattle.std.proofs.lemmas.Option.{none-some, same_Some, cond_some}
+use Rattle.std.proofs.Common.{◌≡◌, ◌⊎◌, ℕ, Bool, true, false, cond, List, [], ◌∷◌, ◌++◌, Option, Some, None, refl, sym, subst, inl, inr, Ordering, Less, Equal, Greater, nat_cmp, is_eq}
+use Rattle.std.proofs.lemmas.Bool.{cases_Bool, true≢false}
+use Rattle.std.proofs.lemmas.Option.{none-some, same_Some}
 use Rattle.std.specs.Ordering.{match_ordering}
 use Rattle.std.specs.Cmp.Lexicographic.{slice_cmp}
 use Rattle.toml_parser.specs.Strings.{Key}
-use Rattle.toml.specs.Data.{Data, string, integer, float, boolean, datetime, array, table, Items, no_items, item, Members, no_members, member, push_item, same_key, get_member}
-use Rattle.toml.specs.Tables.{Node, Nodes, no_nodes, node, value, open_table, open_array, close, close_node, Edit, Expression, Definition, key_value, std_table, array_table, new_node, redefine, at_found, Document, put, define, insert, replace, get_node, along_header, along_dots, at_key, by_header, by_dot, header_node, dot_node, implicit, dotted, header}
+use Rattle.toml.specs.Data.{Data, Items, same_key}
+use Rattle.toml.specs.Tables.{Node, Nodes, no_nodes, node, value, open_table, open_array, Edit, Expression, Definition, key_value, std_table, array_table, new_node, redefine, at_found, Document, put, define, insert, replace, get_node, along_header, along_dots, at_key, by_header, by_dot, header_node, dot_node, implicit, dotted, header}
 use Rattle.toml.proofs.NodeLaws.{get_node-insert, replace-insert}
-use Rattle.pim_scenario.proofs.PieceBytes.{then_some, map_some}
-use Rattle.pim_scenario.proofs.PieceTexts.{pair_parts}
+use Rattle.pim_scenario.proofs.PieceBytes.{map_some}
 use Rattle.pim_scenario.proofs.PieceLines.{Stands}
 
 -- no value, but what a header or a dotted key made

@@ -1,17 +1,17 @@
 -- Strings, keys and scalars before a bracket.
-use Rattle.std.proofs.Common.{◌≡◌, ℕ, zero, suc, ◌+◌, ◌-◌, ◌<◌, ◌≤◌, Bool, true, false, not, cond, ◌&&◌, ◌||◌, ◌==◌, nat_le, nat_lt, List, [], ◌∷◌, ◌++◌, length, get_or, take, drop, slice_index, Option, Some, None, is_some, unwrap_or, option_map, option_and_then, refl, sym, ap, ◌∙◌, subst, inl, inr, arith, add-one, add-zero, eqb-true, length-append, length-drop, encode_utf8}
-use Rattle.std.proofs.lemmas.Bool.{cases_Bool, cases_lt, and_parts, true≢false, false≢true, leb-true, le-leb}
+use Rattle.std.proofs.Common.{◌≡◌, ℕ, zero, suc, ◌+◌, ◌<◌, ◌≤◌, Bool, true, false, cond, ◌&&◌, ◌==◌, nat_le, nat_lt, List, [], ◌∷◌, ◌++◌, length, take, drop, slice_index, Option, Some, None, refl, sym, ap, ◌∙◌, inl, inr, arith, eqb-true, length-append, length-drop}
+use Rattle.std.proofs.lemmas.Bool.{cases_Bool, and_parts, true≢false, false≢true, leb-true, le-leb}
 use Rattle.std.proofs.lemmas.Bool.Decides.{nat_tests}
 use Rattle.std.proofs.lemmas.Option.{none-some, same_Some, cond_some}
-use Rattle.std.proofs.lemmas.List.{get_or_append_left, get_or_past, take-append-le, drop-append-le}
+use Rattle.std.proofs.lemmas.List.{take-append-le, drop-append-le}
 use Rattle.std.proofs.lemmas.List.Sums.{prefix_len-le-length}
 use Rattle.std.specs.List.{prefix_len, list_all}
 use Rattle.std.specs.Char.{is_digit, is_ascii_digit}
 use Rattle.std.specs.Str.Parse.{digits_value}
-use Rattle.toml_parser.specs.Lexical.{Read, first, is_ws, is_bare, is_word, is_non_eol, split_while, starts_newline, skip_ws, skip_turn, skip_from, skip_blank, skip_lines}
-use Rattle.toml_parser.specs.Strings.{Key, hex_len, is_scalar, hex_escape, simple_escape, escape_char, escape, is_plain, at_delims, special, prepend, after_piece, body, trim_newline, one_line, quoted, starts_string, simple_key, key_after, key, recursion_limit}
+use Rattle.toml_parser.specs.Lexical.{Read, first, is_bare, is_word, split_while, starts_newline, skip_ws}
+use Rattle.toml_parser.specs.Strings.{Key, hex_len, is_scalar, hex_escape, escape_char, escape, is_plain, at_delims, special, prepend, after_piece, body, trim_newline, one_line, quoted, starts_string, simple_key, key_after, key, recursion_limit}
 use Rattle.toml_parser.specs.Numbers.{word_len, word_value, unquoted}
-use Rattle.pim_scenario.proofs.PieceBytes.{on, IsLocal, then_some, map_some, prefix_local, split_local, skip_ws_local, index_local, newline_local, skip_from_local, skip_lines_local}
+use Rattle.pim_scenario.proofs.PieceBytes.{on, IsLocal, then_some, map_some, prefix_local, split_local, skip_ws_local, index_local, newline_local, skip_lines_local}
 
 -- a value and a rest that are the same
 pub pair_parts : {A B : Type 0} (p : A × B) (a : A) (b : B) → p ≡ (a, b) → (p.0 ≡ a) × (p.1 ≡ b)

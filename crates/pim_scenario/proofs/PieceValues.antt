@@ -1,16 +1,15 @@
 -- Values and lines before a bracket.
-use Rattle.std.proofs.Common.{◌≡◌, ℕ, zero, suc, ◌+◌, ◌-◌, ◌<◌, ◌≤◌, Bool, true, false, not, cond, ◌&&◌, ◌||◌, ◌==◌, nat_le, nat_lt, List, [], ◌∷◌, ◌++◌, length, get_or, take, drop, slice_index, Option, Some, None, is_some, unwrap_or, option_map, option_and_then, refl, sym, ap, ◌∙◌, subst, inl, inr, arith, add-one, add-zero, eqb-true, length-append, length-drop, append-nil}
-use Rattle.std.proofs.lemmas.Bool.{cases_Bool, cases_lt, and_parts, or_parts, true≢false, false≢true, leb-true, le-leb}
-use Rattle.std.proofs.lemmas.Bool.Decides.{nat_tests}
+use Rattle.std.proofs.Common.{◌≡◌, ℕ, zero, suc, ◌<◌, ◌≤◌, true, false, ◌==◌, List, [], ◌∷◌, length, drop, slice_index, Some, None, option_map, option_and_then, refl, sym, ap, ◌∙◌, inl, inr, arith}
+use Rattle.std.proofs.lemmas.Bool.{cases_Bool, false≢true}
 use Rattle.std.proofs.lemmas.Option.{none-some, same_Some, cond_some}
-use Rattle.std.proofs.lemmas.List.{get_or_append_left, get_or_past, take-append-le, drop-append-le}
-use Rattle.toml_parser.specs.Lexical.{Read, first, skip_ws, skip_turn, skip_from, skip_blank}
-use Rattle.toml_parser.specs.Strings.{Key, quoted, starts_string, simple_key, key_after, key, recursion_limit}
+use Rattle.std.proofs.lemmas.List.{drop-append-le}
+use Rattle.toml_parser.specs.Lexical.{Read, first, skip_ws, skip_blank}
+use Rattle.toml_parser.specs.Strings.{quoted, starts_string, simple_key, key_after, key, recursion_limit}
 use Rattle.toml_parser.specs.Numbers.{word_len, unquoted}
 use Rattle.toml.specs.Data.{Data, string, array, table, Items, no_items, Members, push_item}
-use Rattle.toml.specs.Tables.{Nodes, no_nodes, close, Expression, Definition, key_value, std_table, array_table, Document, put, define}
-use Rattle.toml.specs.Parse.{read_map, after_byte, after_element, key_equals, keyval, items, members, scalar_data, atom, val, header_key, expression, ends_line, line, lines, skip_bom, parse_document}
-use Rattle.pim_scenario.proofs.PieceBytes.{on, IsLocal, then_some, map_some, prefix_local, split_local, skip_ws_local, index_local, newline_local, skip_from_local, skip_lines_local}
+use Rattle.toml.specs.Tables.{Nodes, no_nodes, close, Expression, key_value, std_table, array_table, put}
+use Rattle.toml.specs.Parse.{read_map, after_byte, after_element, key_equals, keyval, items, members, scalar_data, atom, val, header_key, expression}
+use Rattle.pim_scenario.proofs.PieceBytes.{on, IsLocal, then_some, map_some, skip_ws_local, index_local, skip_from_local}
 use Rattle.pim_scenario.proofs.PieceTexts.{pair_parts, drop_one, longer, starts_local, test_local, test_some, quoted_local, key_local, unquoted_local}
 
 pub read_map_local : {A B : Type 0} (f : A → B) (g : List ℕ → Read A) → IsLocal g → IsLocal (λ t. read_map f (g t))

@@ -2,7 +2,7 @@
 use Rattle.std.specs.Prelude.{ℕ, ℤ, pos, negsuc, ◌^◌, Bool, List, [], ◌∷◌, Option, Some, None, option_map, option_and_then, if◌then◌else◌, nat_lt}
 use Rattle.std.specs.List.{list_all, list_any}
 use Rattle.std.specs.Str.{bytes_eq}
-use Rattle.toml.specs.Data.{Data, Items, no_items, item, Members, no_members, member, get_member, as_str, as_integer, as_array}
+use Rattle.toml.specs.Data.{Data, Items, no_items, item, Members, no_members, member, get_member, as_str, as_integer, as_array, as_table}
 
 -- A number from 0 and below 2^32.
 abbrev pub number_of_integer : ℤ → Option ℕ
@@ -31,6 +31,9 @@ list_of d = option_map values_of (as_array d)
 -- The value at a key that is required.
 abbrev pub text_at : List ℕ → Members → Option (List ℕ)
 text_at key ms = option_and_then as_str (get_member key ms)
+
+abbrev pub table_at : List ℕ → Members → Option Members
+table_at key ms = option_and_then as_table (get_member key ms)
 
 abbrev pub number_at : List ℕ → Members → Option ℕ
 number_at key ms = option_and_then number_in (get_member key ms)

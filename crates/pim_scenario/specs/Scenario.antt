@@ -1,5 +1,5 @@
 -- What a document has to say for a scenario to be read from it.
-use Rattle.std.specs.Prelude.{◌≡◌, ◌≢◌, ◌≤◌, ◌++◌, ◌⊎◌, ℕ, true, List, [], ◌∷◌, codes, length, Option, Some, None, option_and_then, if◌then◌else◌, string_bytes, position}
+use Rattle.std.specs.Prelude.{◌≡◌, ◌≢◌, ◌≤◌, ◌++◌, ◌⊎◌, ℕ, true, String, List, [], ◌∷◌, codes, length, Option, Some, None, option_and_then, if◌then◌else◌, string_bytes, position}
 use Rattle.std.specs.List.{All, AllPairs, AllZip, fold}
 use Rattle.std.specs.Option.{is_some}
 use Rattle.std.specs.Str.{bytes_eq}
@@ -14,12 +14,13 @@ use Rattle.pim_types.specs.declared.config.SptSwitch.TheVariants.{Always, Never}
 use Rattle.pim_types.specs.declared.event.EventKind.{EventKind}
 use Rattle.pim_types.specs.declared.event.EventKind.TheVariants as event
 use Rattle.igmp_older.specs.declared.setting.OlderHosts.{OlderHosts}
+use Rattle.pim_scenario.specs.declared.scenario.ConfigText.{ConfigText}
 use Rattle.pim_scenario.specs.declared.scenario.Link.{Link}
 use Rattle.pim_scenario.specs.declared.scenario.RouterText.{RouterText}
 use Rattle.pim_scenario.specs.declared.scenario.ScenarioMove.{ScenarioMove}
-use Rattle.pim_scenario.specs.declared.scenario.ScenarioMove.TheVariants.{Event, Deliver, Carry, Restart, Settle}
+use Rattle.pim_scenario.specs.declared.scenario.ScenarioMove.TheVariants.{Event, Deliver, Carry, Reload, Restart, Settle}
 use Rattle.pim_scenario.specs.declared.scenario.Scenario.{Scenario}
-use Rattle.pim_scenario.specs.Fields.{has_only, text_at, optional_text, number_at, number_or, moment_at, list_at, list_or_empty}
+use Rattle.pim_scenario.specs.Fields.{has_only, table_at, text_at, optional_text, number_at, number_or, moment_at, list_at, list_or_empty}
 use Rattle.pim_scenario.specs.Texts.{IsNumberText, IsAddressText, IsPrefixText, hex_of}
 use Rattle.pim_scenario.specs.Words.{AreWords}
 
@@ -118,6 +119,26 @@ pub record IsRouter (ms : Members) (r : RouterText) : Type 0 where
   pub config : IsConfig ms r.config
   pub older_hosts : older_hosts_at ms ≡ Some r.older_hosts
 
+-- ---- another configuration of a router
+
+-- a router's keys but its name
+abbrev pub config_keys : List (List ℕ)
+config_keys =
+    codes "iface" ∷ codes "limit" ∷ codes "spt" ∷ codes "rv" ∷ codes "qi" ∷ codes "qri" ∷ codes "lmqi"
+    ∷ codes "older_hosts" ∷ codes "routes" ∷ codes "rps" ∷ []
+
+abbrev pub NamesLink : {Z : Type 0} → Members → String Z → Type 0
+NamesLink ms name = text_at (codes "link") ms ≡ Some (string_bytes name)
+
+pub record IsConfigText (ms : Members) (c : ConfigText) : Type 0 where
+  pub keys : has_only config_keys ms ≡ true
+  pub interfaces : AreRead (IsTable IsInterface) (list_at (codes "iface") ms) c.config.interfaces
+  pub links : AreRead (IsTable NamesLink) (list_at (codes "iface") ms) c.links
+  pub config : IsConfig ms c.config
+  pub older_hosts : older_hosts_at ms ≡ Some c.older_hosts
+
+-- ---- the routers of a scenario
+
 -- the place of a name
 abbrev pub place_in : List (List ℕ) → List ℕ → Option ℕ
 place_in names name = position (λ n. bytes_eq n name) names
@@ -190,6 +211,9 @@ settle_keys = codes "do" ∷ codes "draw" ∷ []
 
 abbrev pub restart_keys : List (List ℕ)
 restart_keys = codes "do" ∷ codes "router" ∷ []
+
+abbrev pub reload_keys : List (List ℕ)
+reload_keys = codes "do" ∷ codes "router" ∷ codes "draw" ∷ codes "config" ∷ []
 
 abbrev pub bytes_at : Members → Option (List ℕ)
 bytes_at ms = option_and_then hex_of (text_at (codes "hex") ms)
@@ -276,6 +300,16 @@ abbrev pub IsRestart : List RouterText → Members → ScenarioMove → Type 0
 IsRestart routers ms (Restart router) = (has_only restart_keys ms ≡ true) × (router_at routers ms ≡ Some router)
 IsRestart routers ms _ = ⊥
 
+-- the table at `config` says the configuration
+abbrev pub IsConfigAt : Members → ConfigText → Type 0
+IsConfigAt ms c = (inner : Members) × (table_at (codes "config") ms ≡ Some inner) × IsConfigText inner c
+
+abbrev pub IsReload : List RouterText → Members → ScenarioMove → Type 0
+IsReload routers ms (Reload router draw next) =
+    (has_only reload_keys ms ≡ true) × (router_at routers ms ≡ Some router) × (draw_at ms ≡ Some draw)
+    × IsConfigAt ms next
+IsReload routers ms _ = ⊥
+
 -- what the scenario asks for, by the name at `do`
 abbrev pub IsMove : List RouterText → Members → ScenarioMove → Type 0
 IsMove routers ms m =
@@ -283,7 +317,8 @@ IsMove routers ms m =
     ⊎ (IsNamed (codes "carry") (IsCarry routers) ms m
     ⊎ (IsNamed (codes "settle") IsSettle ms m
     ⊎ (IsNamed (codes "restart") (IsRestart routers) ms m
-    ⊎ IsEvent routers ms m)))
+    ⊎ (IsNamed (codes "reload") (IsReload routers) ms m
+    ⊎ IsEvent routers ms m))))
 
 -- ---- the scenario
 

@@ -12,6 +12,7 @@ mod hex;
 mod links;
 mod moves;
 mod pieces;
+mod reload;
 mod router;
 mod routes;
 mod words;
@@ -37,6 +38,17 @@ pub struct RouterText {
     pub config: Config,
     /// The link of each interface.
     pub links: Series<Link>,
+    /// Which hosts of older versions of IGMP are heard on its interfaces.
+    pub older_hosts: OlderHosts,
+}
+
+/// Another configuration of a router.
+#[derive(Drop)]
+pub struct ConfigText {
+    /// The configuration as the scenario has it: its values haven't been tested yet.
+    pub config: Config,
+    /// The name of the link of each interface.
+    pub links: Series<String>,
     /// Which hosts of older versions of IGMP are heard on its interfaces.
     pub older_hosts: OlderHosts,
 }
@@ -70,6 +82,12 @@ pub enum ScenarioMove {
     /// A router is saved, and one that is made of its bytes takes its place.
     Restart {
         router: usize,
+    },
+    /// A router that works gets another configuration.
+    Reload {
+        router: usize,
+        draw: u32,
+        next: ConfigText,
     },
 }
 

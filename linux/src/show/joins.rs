@@ -1,5 +1,5 @@
 //! Joins and asserts, and the ways to RPs and sources.
-use super::{address, seconds, until, way, Cells, Rows};
+use super::{address, is_here, seconds, until, way, Cells, Rows};
 use crate::daemon::Daemon;
 use crate::error::Fatal;
 use crate::mroute::Key;
@@ -110,10 +110,6 @@ impl Upstream {
             ..Upstream::of(shared.path, tree.rpf_rpt, false)
         }
     }
-}
-
-fn is_here(daemon: &Daemon, address: Ipv4Addr) -> bool {
-    daemon.ports.iter().any(|port| port.address() == Some(address))
 }
 
 /// A tree that the router has joined, or a source of a shared one.

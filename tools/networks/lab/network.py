@@ -19,16 +19,18 @@ from lab.playing import Action, Player
 from lab.topology import Link, Port, Router, routes
 from lab.traffic import HOSTS, START, Chances, Traffic
 from lab.tree import tree_of
-from pimtext import packets, scenario, toml_lines, trees, words
+from pimtext import packets, scenario, toml_lines, words
 from pimtext.addresses import address_in, is_host, prefix_in
 from pimtext.diagnosis import Diagnosis
 from pimtext.faults import ROUTER_KEYS, faults_of
+from pimtext.known import known_after
 from pimtext.printed import ANY
 from pimtext.scenario import scenario_of, text_of
 
 if TYPE_CHECKING:
     from lab.playing import Batch
     from lab.tree import Tree
+    from pimtext.known import Known
     from pimtext.packets import Packet
     from pimtext.story import Sent, Step, Tables
     from pimtext.streams import Stream
@@ -371,10 +373,10 @@ class Network:
         """The tree of a group and all sources, or of one, a host or an address, as it stands at the present."""
         return tree_of(self.known(), group_given(group), source if source == ANY else source_given(source))
 
-    def known(self) -> dict[str, trees.Known]:
+    def known(self) -> dict[str, Known]:
         """The same with what follows of the run: interfaces that are up, routes, RP ranges, Hellos."""
         tables = self.tables()
-        return trees.known(self.player.played, self.player.told, tables)
+        return known_after(self.player.played, self.player.told, tables)
 
     def served(self, host: Host, group: str, source: Host | str) -> Served:
         """Whether a host is served of a source, a host or an address, at the present; as a text, hop by hop how, or why

@@ -4,12 +4,13 @@ from __future__ import annotations
 from dataclasses import dataclass
 from typing import TYPE_CHECKING
 
-from pimtext import trees
+from pimtext import asked
 from pimtext.printed import ANY
 from pimtext.words import tree as tree_name
 
 if TYPE_CHECKING:
     from lab.hosts import Host
+    from pimtext.known import Known
 
 
 @dataclass(frozen=True)
@@ -50,11 +51,11 @@ class Tree:
         return "\n".join([tree_name(self.group, self.source), *(rows or ["  nobody has joined it"])])
 
 
-def tree_of(known: dict[str, trees.Known], group: str, source: str = ANY) -> Tree:
+def tree_of(known: dict[str, Known], group: str, source: str = ANY) -> Tree:
     """The tree by what the routers know."""
     incoming, outgoing = {}, {}
     for name, state in known.items():
-        for branch in trees.branches(state):
+        for branch in asked.branches(state):
             if (branch.group, branch.source) == (group, source):
                 interfaces = state.router.interfaces
                 incoming[name] = None if branch.incoming is None else interfaces[branch.incoming].link

@@ -244,6 +244,14 @@ class ToldPlaneRow(Structure):
     _fields_ = [("is_known", c_bool), ("incoming", c_uint32), ("outgoing", Words), ("alive", Words), ("to_core", Words)]
 
 
+class GivenCall(Structure):
+    """A call that is recorded (`viqeshor.recording`)."""
+    _fields_ = [
+        ("moment", c_uint64),
+        *numbers("letter", "draw", "iface", "source", "group", "value", "answer", "sum"),
+    ]
+
+
 class ToldName(Structure):
     _fields_ = numbers("source", "group")
 
@@ -347,8 +355,16 @@ CALLS: dict[str, tuple[list[Any], Any]] = {
     "may_differ": (SOURCE, c_bool),
     "seen": ([c_uint32, *SOURCE, Draw], c_uint32),
     "keep": ([*SOURCE, c_uint64], c_uint32),
+    "sum": ([], c_uint32),
     "probes": ([], c_uint64),
     "touched": ([], c_uint64),
+}
+# What each call that writes a record takes between the recorded call and the room for its bytes.
+RECORDS: dict[str, list[Any]] = {
+    "record": [c_char_p, c_size_t],
+    "record_routes": LIST,
+    "record_ranges": LIST,
+    "record_reload": [POINTER(Settings), *LIST, *LIST, *LIST],
 }
 
 
@@ -359,6 +375,10 @@ def load(path: str) -> ctypes.CDLL:
     for name, (takes, answers) in CALLS.items():
         call = getattr(library, f"viq_{name}")
         call.argtypes, call.restype = [c_void_p, *takes], answers
+    for name, takes in RECORDS.items():
+        call = getattr(library, f"viq_{name}")
+        call.argtypes = [POINTER(GivenCall), *takes, c_char_p, c_size_t, POINTER(c_size_t)]
+        call.restype = c_uint32
     library.viq_new.argtypes = [POINTER(c_void_p), c_uint32, POINTER(Settings), *LIST, *LIST, *LIST]
     library.viq_restore.argtypes = [POINTER(c_void_p), c_uint32, c_char_p, c_size_t]
     library.viq_answer_text.argtypes = [c_uint32]

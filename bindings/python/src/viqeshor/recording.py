@@ -12,29 +12,32 @@ written anew. `docs/LIBRARY.md` has what is in a file ("A recording").
 import os
 import struct
 import zlib
+from ctypes import CDLL, byref, c_size_t, create_string_buffer
 from itertools import accumulate
 from pathlib import Path
 from typing import Any, BinaryIO, NamedTuple, Self
 
-from . import Answer, Draw, Error, Router, Settings, ToldInterface, ToldRange, ToldRoute
+from . import Answer, Draw, Error, GivenCall, Router, Settings, ToldInterface, ToldRange, ToldRoute
 
-MAGIC, VERSION = b"VQRC", 1
+MAGIC, VERSION = b"VQRC", 2
 # Of each kind of record: its letter, and the numbers that it has behind its draw. Bytes and lists follow these.
-KINDS = {
-    "advance": ("a", "Q"),
-    "frame": ("f", "I"),
-    "unicast": ("u", ""),
-    "up": ("+", "I"),
-    "down": ("-", "I"),
-    "routes": ("r", ""),
-    "ranges": ("g", ""),
-    "reload": ("c", "III"),
-    "seen": ("s", "III"),
-    "keep": ("k", "IIQ"),
-    "older": ("o", "II"),
-    "query_version": ("q", "II"),
+KINDS: dict[str, tuple[str, tuple[str, ...]]] = {
+    "advance": ("a", ("moment",)),
+    "frame": ("f", ("iface",)),
+    "unicast": ("u", ()),
+    "up": ("+", ("iface",)),
+    "down": ("-", ("iface",)),
+    "routes": ("r", ()),
+    "ranges": ("g", ()),
+    "reload": ("c", ()),
+    "seen": ("s", ("iface", "source", "group")),
+    "keep": ("k", ("source", "group", "moment")),
+    "older": ("o", ("iface", "value")),
+    "query_version": ("q", ("iface", "value")),
 }
 NAMES = {letter: name for name, (letter, _) in KINDS.items()}
+# These are no events: they have no draw, and send nothing.
+QUIET = ("keep", "older", "query_version")
 LISTS: dict[str, Any] = {"routes": ToldRoute, "ranges": ToldRange}
 # The settings of a reload in their order, and what follows them: so many of each as its numbers say.
 SETTINGS = [name for name, *_ in Settings._fields_]
@@ -59,14 +62,21 @@ class Record(NamedTuple):
 
 
 class Recording(NamedTuple):
-    """The state, the settings of older versions and the older groups at its beginning, and what came then."""
+    """The state, the settings of older versions and the older groups at its beginning, and what came then; and the
+    version of its format."""
     state: bytes
     older_groups: int
     records: list[Record]
+    version: int = VERSION
 
 
-def sum_of(router: Router) -> int:
-    """The CRC-32 of what is to be sent: of each packet a letter, where it goes, its length and its bytes."""
+def sum_of(router: Router, version: int = VERSION) -> int:
+    """The CRC-32 of what is to be sent."""
+    return router._call("sum") if version == VERSION else sum_of_version_1(router)
+
+
+def sum_of_version_1(router: Router) -> int:
+    """The same in version 1: of each packet a letter, where it goes as a text, its length and its bytes."""
     total = 0
     for kind, where, packet in router.packets():
         place = str(where).encode()
@@ -77,37 +87,29 @@ def sum_of(router: Router) -> int:
 # ---- written
 
 
-def list_bytes(kind: Any, given: Any, count: int) -> bytes:
-    """The fields of a list that C takes, 4 bytes each."""
-    fields = [field for field, *_ in kind._fields_]
-    rows = (tuple(getattr(given[at], field) for field in fields) for at in range(count))
-    return b"".join(struct.pack(f">{len(fields)}I", *row) for row in rows)
+def record_of(library: CDLL, name: str, draw: int, values: tuple[Any, ...], answer: int, total: int) -> bytes:
+    """The record of a call with these values, as the library writes it."""
+    letter, numbers = KINDS[name]
+    fields = {} if name in LISTS or name == "reload" else dict(zip(numbers, values))
+    call = GivenCall(letter=ord(letter), draw=draw, answer=answer, sum=total, **fields)
+    if name in LISTS or name == "reload":
+        return written(getattr(library, f"viq_record_{name}"), call, values)
+    return written(library.viq_record, call, values[len(numbers):] or (None, 0))
 
 
-def words_of(name: str, values: tuple[Any, ...]) -> tuple[list[int], bytes]:
-    """The numbers of a call, and its packet or its lists as bytes."""
-    if name in LISTS:
-        return [], list_bytes(LISTS[name], *values)
-    if name == "reload":
-        settings, *lists = values
-        first = struct.pack(f">{len(SETTINGS)}I", *(getattr(settings, field) for field in SETTINGS))
-        parts = (list_bytes(kind, *lists[2 * at: 2 * at + 2]) for at, kind in enumerate(PARTS))
-        return lists[1::2], first + b"".join(parts)
-    if name in ("frame", "unicast"):
-        *numbers, data, _ = values
-        return numbers, data
-    return list(values), b""
+def written(write: Any, call: GivenCall, given: tuple[Any, ...]) -> bytes:
+    """The bytes of a record, of which the library is first asked how many there are."""
+    size = c_size_t()
+    for count in (0, None):
+        room = create_string_buffer(size.value if count is None else count)
+        answer = write(byref(call), *given, room, len(room), byref(size))
+        if answer:
+            raise Error(Answer(answer), "there is no memory for a record")
+    return room.raw
 
 
-def bytes_of(record: Record) -> bytes:
-    letter, form = KINDS[record.name]
-    numbers = struct.pack(f">I{form}I", record.draw, *record.numbers, len(record.data))
-    return letter.encode() + numbers + record.data + struct.pack(">II", record.answer, record.total)
-
-
-def record_of(name: str, draw: int, values: tuple[Any, ...], answer: int, total: int) -> bytes:
-    numbers, data = words_of(name, values)
-    return bytes_of(Record(name, draw, tuple(numbers), data, answer, total))
+def bytes_of(library: CDLL, record: Record) -> bytes:
+    return record_of(library, record.name, record.draw, values_of(record), record.answer, record.total)
 
 
 class Recorder:
@@ -145,7 +147,8 @@ class Recorder:
         state, older = self.router.save(), len(self.router.older_rows())
         self._file = open(made, "wb", buffering=0)
         head = MAGIC + struct.pack(">HIQ", VERSION, older, len(state)) + state
-        settings = (record_of(name, 0, (iface, value), 0, 0) for (name, iface), value in self._settings.items())
+        library, kept = self.router._library, self._settings.items()
+        settings = (record_of(library, name, 0, (iface, value), 0, 0) for (name, iface), value in kept)
         self._size = self._file.write(head + b"".join(settings))
         os.replace(made, path)
 
@@ -156,8 +159,8 @@ class Recorder:
         if name == "reload" and answer == Answer.DONE:
             count = values[2]
             self._settings = {key: value for key, value in self._settings.items() if key[1] < count}
-        total = sum_of(self.router) if answer == Answer.DONE and name not in ("keep", "older", "query_version") else 0
-        self._size += self._file.write(record_of(name, draw, values, answer, total))
+        total = sum_of(self.router) if answer == Answer.DONE and name not in QUIET else 0
+        self._size += self._file.write(record_of(self.router._library, name, draw, values, answer, total))
         if answer in (Answer.LOST, Answer.FAILED):
             self.end()
         elif self._size >= self.most and (self._size >= 2 * self.most or not self.router.older_rows()):
@@ -168,6 +171,8 @@ class Recorder:
 
 
 class _Reader:
+    version = VERSION
+
     def __init__(self, file: BinaryIO) -> None:
         self.file = file
 
@@ -189,12 +194,36 @@ class _Reader:
         if name is None:
             raise Unreadable(f"no kind of record has the letter {letter!r}")
         try:
-            draw, *numbers, length = self.numbers(f"I{KINDS[name][1]}I")
-            data = self.bytes(length)
-            answer, total = self.numbers("II")
+            draw, *rest = self.given(name) if self.version == VERSION else self.given_version_1(name)
+            return Record(name, draw, *rest, *self.numbers("II"))
         except Unreadable:
             return None
-        return Record(name, draw, tuple(numbers), data, answer, total)
+
+    def given(self, name: str) -> tuple[int, tuple[int, ...], bytes]:
+        draw = 0 if name in QUIET else self.numbers("I")[0]
+        numbers = self.numbers(form_of(name))
+        if name in ("frame", "unicast"):
+            return draw, numbers, self.bytes(*self.numbers("Q"))
+        if name in LISTS:
+            return draw, numbers, self.list(LISTS[name])[1]
+        if name == "reload":
+            limit, stays, *times = self.numbers("IBIIII")
+            counts, lists = zip(*map(self.list, PARTS))
+            return draw, counts, struct.pack(">6I", limit, *times, stays) + b"".join(lists)
+        return draw, numbers, b""
+
+    def list(self, kind: Any) -> tuple[int, bytes]:
+        """How many there are, and the fields of each."""
+        count, = self.numbers("Q")
+        return count, self.bytes(count * 4 * len(kind._fields_))
+
+    def given_version_1(self, name: str) -> tuple[int, tuple[int, ...], bytes]:
+        draw, *numbers, length = self.numbers(f"I{form_of(name)}I")
+        return draw, tuple(numbers), self.bytes(length)
+
+
+def form_of(name: str) -> str:
+    return "".join("Q" if number == "moment" else "I" for number in KINDS[name][1])
 
 
 def read(path: str | os.PathLike[str]) -> Recording:
@@ -203,10 +232,10 @@ def read(path: str | os.PathLike[str]) -> Recording:
         reader = _Reader(file)
         if reader.bytes(4) != MAGIC:
             raise Unreadable("no recording")
-        version, older, length = reader.numbers("HIQ")
-        if version != VERSION:
-            raise Unreadable(f"a recording of version {version}, where this library reads {VERSION}")
-        return Recording(reader.bytes(length), older, list(iter(reader.record, None)))
+        reader.version, older, length = reader.numbers("HIQ")
+        if reader.version not in (1, VERSION):
+            raise Unreadable(f"a recording of version {reader.version}, where this library reads 1 and {VERSION}")
+        return Recording(reader.bytes(length), older, list(iter(reader.record, None)), reader.version)
 
 
 def newest(path: str | os.PathLike[str]) -> list[Path]:
@@ -245,20 +274,22 @@ def configuration_of(record: Record) -> tuple[Any, ...]:
     return Settings(*settings), *(value for pair in given for value in pair)
 
 
-def take(router: Router, record: Record) -> tuple[int, int]:
-    """Gives a router what was recorded; what it answers, and the sum of what it sends."""
+def values_of(record: Record) -> tuple[Any, ...]:
+    """What the call of a record is given, without its draw."""
     if record.name in LISTS:
-        values = list_of(LISTS[record.name], record.data)
-    elif record.name == "reload":
-        values = configuration_of(record)
-    elif record.name in ("frame", "unicast"):
-        values = (*record.numbers, record.data, len(record.data))
-    else:
-        values = record.numbers
-    is_event = record.name not in ("keep", "older", "query_version")
-    draw = [Draw(record.draw)] if is_event else []
+        return list_of(LISTS[record.name], record.data)
+    if record.name == "reload":
+        return configuration_of(record)
+    if record.name in ("frame", "unicast"):
+        return (*record.numbers, record.data, len(record.data))
+    return record.numbers
+
+
+def take(router: Router, record: Record, version: int = VERSION) -> tuple[int, int]:
+    """Gives a router what was recorded; what it answers, and the sum of what it sends, as the version has it."""
+    draw = [] if record.name in QUIET else [Draw(record.draw)]
     try:
-        answer = Answer(router._call(record.name, *values, *draw))
+        answer = Answer(router._call(record.name, *values_of(record), *draw))
     except Error as error:
         answer = error.answer
-    return answer.value, sum_of(router) if is_event and answer == Answer.DONE else 0
+    return answer.value, sum_of(router, version) if draw and answer == Answer.DONE else 0

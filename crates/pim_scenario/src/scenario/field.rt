@@ -4,7 +4,7 @@ ghost use Rattle.std.specs.Result.{result_ok};
 ghost use Rattle.toml.specs.Data.{as_str, as_table, get_member};
 ghost use Rattle.toml.specs.View.{view, table_view};
 ghost use Rattle.pim_scenario.specs.Fields.{number_in, number_at, number_or, moment_of, moment_at, list_of, list_at};
-ghost use Rattle.pim_scenario.specs.Fields.{list_or_empty, text_at, optional_text, has_only, is_known};
+ghost use Rattle.pim_scenario.specs.Fields.{list_or_empty, text_at, table_at, optional_text, has_only, is_known};
 
 use super::Wrong;
 use toml::{Table, Value};
@@ -94,6 +94,13 @@ pub(super) fn optional_text<'a>(table: &'a Table, key: &str) -> Result<Option<&'
         Some(value) => Ok(Some(text_of(value)?)),
         None => Ok(None),
     }
+}
+
+/// The table at a key.
+pub(super) fn table<'a>(table: &'a Table, key: &str) -> Result<&'a Table, Wrong>
+    ensures { option_map (λ t. table_view t.now) (result_ok result) ≡ table_at key.now (table_view table.now) }
+{
+    table_of(value_at(table, key).ok_or(Wrong)?)
 }
 
 /// The number at a key.

@@ -5,10 +5,10 @@ ghost use Rattle.std.specs.Result.{result_ok};
 ghost use Rattle.toml.specs.View.{view, table_view};
 ghost use Rattle.pim_scenario.specs.Fields.{number_at};
 ghost use Rattle.pim_scenario.specs.Scenario.{IsAdvance, IsCarry, IsDeliver, IsDown, IsEvent, IsFrame, IsKind, IsMove};
-ghost use Rattle.pim_scenario.specs.Scenario.{IsRestart, IsRoutes, IsRps, IsSettle, IsTable, IsUnicast, IsUp, bytes_at, draw_at, router_at};
+ghost use Rattle.pim_scenario.specs.Scenario.{IsReload, IsRestart, IsRoutes, IsRps, IsSettle, IsTable, IsUnicast, IsUp, bytes_at, draw_at, router_at};
 ghost use Rattle.pim_scenario.specs.Texts.{Reads, ReadsExactly};
 
-use super::{RouterText, ScenarioMove, Unread, Wrong, field, hex, router, routes};
+use super::{RouterText, ScenarioMove, Unread, Wrong, field, hex, reload, router, routes};
 use pim_types::{Event, EventKind, IfaceId, Series};
 use std::alloc::Global;
 use toml::{Table, Value};
@@ -40,6 +40,7 @@ pub(super) fn move_in(
         "carry" => carry_in(table, routers),
         "settle" => settle_in(table),
         "restart" => restart_in(table, routers),
+        "reload" => reload_in(alloc, table, routers),
         _ => event_in(alloc, table, routers),
     }
 }
@@ -82,6 +83,19 @@ fn restart_in(table: &Table, routers: &[RouterText]) -> Result<ScenarioMove, Unr
     field::only(table, &["do", "router"])?;
     Ok(ScenarioMove::Restart {
         router: router_of(table, routers)?,
+    })
+}
+
+fn reload_in(alloc: Global, table: &Table, routers: &[RouterText]) -> Result<ScenarioMove, Unread>
+    ensures { ReadsExactly (IsReload routers.now (table_view table.now)) result }
+{
+    field::only(table, &["do", "router", "draw", "config"])?;
+    let router = router_of(table, routers)?;
+    let draw = draw_in(table)?;
+    Ok(ScenarioMove::Reload {
+        router,
+        draw,
+        next: reload::config_text_in(alloc, field::table(table, "config")?)?,
     })
 }
 

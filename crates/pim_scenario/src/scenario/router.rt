@@ -83,7 +83,10 @@ fn router_in<'a>(
     })
 }
 
-fn interfaces_in(alloc: Global, values: &[Value]) -> Result<Series<InterfaceConfig>, Unread>
+pub(super) fn interfaces_in(
+    alloc: Global,
+    values: &[Value],
+) -> Result<Series<InterfaceConfig>, Unread>
     ensures { ReadsExactly (AllZip (IsTable IsInterface) (map view values.now)) result }
 {
     let mut interfaces = Series::new(alloc);
@@ -110,7 +113,7 @@ fn links_in<'a>(
     Ok(links)
 }
 
-fn config_in(
+pub(super) fn config_in(
     alloc: Global,
     table: &Table,
     interfaces: Series<InterfaceConfig>,
@@ -149,7 +152,7 @@ fn spt_switch_in(table: &Table) -> Result<SptSwitch, Wrong>
     }
 }
 
-fn older_hosts_in(table: &Table) -> Result<OlderHosts, Wrong>
+pub(super) fn older_hosts_in(table: &Table) -> Result<OlderHosts, Wrong>
     ensures { result_ok result ≡ older_hosts_at (table_view table.now) }
 {
     match field::optional_text(table, "older_hosts")? {

@@ -203,6 +203,40 @@ fn a_lost_assert_takes_its_interface_off_the_shared_tree() {
     assert_eq!(told(&mut daemon), json!(["eth1"]));
     happens(&mut daemon, &fake, on_eth1([10, 5, 0, 3], &assert));
     assert_eq!(told(&mut daemon), json!([]));
+    let why = shown(&mut daemon, "why 239.2.1.1").remove(0);
+    assert_eq!((&why["interface"], &why["is_outgoing"]), (&json!("eth1"), &json!(false)));
+    assert_eq!(why["reasons"], json!(["joined (*,G)"]));
+    assert_eq!(why["kept_off"], json!(["lost assert (*,G) to 10.5.0.3"]));
+}
+
+#[test]
+fn each_interface_of_a_tree_has_its_reasons() {
+    let (mut daemon, _) = busy();
+    let told = |daemon: &mut Daemon, of: &str| {
+        let cells = |row: &Value| {
+            let names = ["source", "interface", "is_outgoing", "reasons", "kept_off"];
+            json!(names.map(|name| row[name].clone()))
+        };
+        shown(daemon, of).iter().map(cells).collect::<Vec<_>>()
+    };
+    let (joined, member, from_eth1) = ("joined (*,G)", "local member (*,G)", "packets come from there");
+    let shared = [json!(["*", "eth0", true, [joined], []]), json!(["*", "eth1", true, [member], []])];
+    let own = [
+        json!(["10.5.0.50", "eth0", true, ["joined (S,G)", joined], []]),
+        json!(["10.5.0.50", "eth1", false, [member], [from_eth1]]),
+    ];
+    let pruned = [
+        json!(["10.5.0.51", "eth0", false, [joined], ["pruned (S,G,rpt)"]]),
+        json!(["10.5.0.51", "eth1", false, [member], [from_eth1]]),
+    ];
+    assert_eq!(told(&mut daemon, "why 239.1.1.1 10.5.0.50"), own);
+    assert_eq!(told(&mut daemon, "why 239.1.1.1 10.5.0.51"), pruned);
+    let whole = told(&mut daemon, "why 239.1.1.1");
+    assert!([&shared[..], &own, &pruned].concat().iter().all(|row| whole.contains(row)), "{whole:?}");
+    assert!(told(&mut daemon, "why").len() > whole.len());
+    for line in ["show why 10.1.1.1", "show why here", "show why 239.1.1.1 10.5.0.50 10.5.0.51"] {
+        assert!(answer(&mut daemon, line).starts_with("error: "), "{line}");
+    }
 }
 
 #[test]

@@ -1,5 +1,4 @@
 -- The last byte is tested.
-use Rattle.std.proofs.Common.{arith}
 use Rattle.pim_scenario.proofs.PieceScenarios.{ends_test}
 use Rattle.pim_scenario.proofs.scenario.pieces.ends_line.Goals as goal
 

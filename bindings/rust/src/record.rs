@@ -1,0 +1,139 @@
+//! Records of what a router took (docs/LIBRARY.md, "A recording").
+use crate::{done, raw, Error, Interface, Range, Route, Settings};
+
+/// A call that a router took, and what it answered. A field that its kind of call doesn't have isn't read.
+#[repr(C)]
+#[derive(Clone, Copy, Debug, Default, PartialEq, Eq)]
+pub struct Call {
+    /// In ms, of time that passed and of a packet that a data plane forwarded.
+    pub moment: u64,
+    /// Of its kind, as `viq_record` has it.
+    pub letter: u32,
+    /// Of an event.
+    pub draw: u32,
+    pub iface: u32,
+    pub source: u32,
+    pub group: u32,
+    /// What an interface was set to.
+    pub value: u32,
+    /// The number of the answer.
+    pub answer: u32,
+    /// What `Router::sum` told after an event that was done; else 0.
+    pub sum: u32,
+}
+
+extern "C" {
+    fn viq_record(
+        call: *const Call,
+        packet: *const u8,
+        length: usize,
+        room: *mut u8,
+        room_length: usize,
+        size: *mut usize,
+    ) -> u32;
+    fn viq_record_routes(
+        call: *const Call,
+        routes: *const raw::Route,
+        count: usize,
+        room: *mut u8,
+        room_length: usize,
+        size: *mut usize,
+    ) -> u32;
+    fn viq_record_ranges(
+        call: *const Call,
+        ranges: *const raw::Range,
+        count: usize,
+        room: *mut u8,
+        room_length: usize,
+        size: *mut usize,
+    ) -> u32;
+    fn viq_record_reload(
+        call: *const Call,
+        settings: *const Settings,
+        interfaces: *const raw::Interface,
+        interface_count: usize,
+        routes: *const raw::Route,
+        route_count: usize,
+        ranges: *const raw::Range,
+        range_count: usize,
+        room: *mut u8,
+        room_length: usize,
+        size: *mut usize,
+    ) -> u32;
+}
+
+/// Puts a record behind others; `least` is how long it is expected to be. `write` writes as much of it as there is room
+/// for, and tells its size.
+fn put(to: &mut Vec<u8>, least: usize, write: impl Fn(&mut [u8], &mut usize) -> u32) -> Result<(), Error> {
+    let (front, mut room, mut size) = (to.len(), least, 0);
+    loop {
+        to.resize(front + room, 0);
+        let answer = done(write(&mut to[front..], &mut size));
+        if answer.is_err() || size <= room {
+            to.truncate(front + if answer.is_ok() { size } else { 0 });
+            return answer;
+        }
+        room = size;
+    }
+}
+
+impl Call {
+    /// Puts the record of a call without a list behind others; the packet is read where its kind has one. An `Err` is want
+    /// of memory, and puts nothing, as of each of these functions.
+    pub fn put(&self, packet: &[u8], to: &mut Vec<u8>) -> Result<(), Error> {
+        put(to, packet.len() + 64, |room, size| {
+            // SAFETY: the packet and the room are passed as their pointers and their lengths.
+            unsafe { viq_record(self, packet.as_ptr(), packet.len(), room.as_mut_ptr(), room.len(), size) }
+        })
+    }
+
+    /// Puts the record of new routes behind others.
+    pub fn put_routes(&self, routes: &[Route], to: &mut Vec<u8>) -> Result<(), Error> {
+        let routes: Vec<_> = routes.iter().map(Route::given).collect();
+        put(to, 24 * routes.len() + 64, |room, size| {
+            // SAFETY: the list and the room are passed as their pointers and their lengths.
+            unsafe { viq_record_routes(self, routes.as_ptr(), routes.len(), room.as_mut_ptr(), room.len(), size) }
+        })
+    }
+
+    /// Puts the record of new ranges behind others.
+    pub fn put_ranges(&self, ranges: &[Range], to: &mut Vec<u8>) -> Result<(), Error> {
+        let ranges: Vec<_> = ranges.iter().map(Range::given).collect();
+        put(to, 12 * ranges.len() + 64, |room, size| {
+            // SAFETY: the list and the room are passed as their pointers and their lengths.
+            unsafe { viq_record_ranges(self, ranges.as_ptr(), ranges.len(), room.as_mut_ptr(), room.len(), size) }
+        })
+    }
+
+    /// Puts the record of another configuration behind others.
+    pub fn put_reload(
+        &self,
+        settings: &Settings,
+        interfaces: &[Interface],
+        routes: &[Route],
+        ranges: &[Range],
+        to: &mut Vec<u8>,
+    ) -> Result<(), Error> {
+        let interfaces: Vec<_> = interfaces.iter().map(Interface::given).collect();
+        let routes: Vec<_> = routes.iter().map(Route::given).collect();
+        let ranges: Vec<_> = ranges.iter().map(Range::given).collect();
+        put(to, 20 * interfaces.len() + 24 * routes.len() + 12 * ranges.len() + 128, |room, size| {
+            // SAFETY: each list and the room are passed as their pointers and their lengths.
+            unsafe {
+                viq_record_reload(
+                    self,
+                    settings,
+                    interfaces.as_ptr(),
+                    interfaces.len(),
+                    routes.as_ptr(),
+                    routes.len(),
+                    ranges.as_ptr(),
+                    ranges.len(),
+                    room.as_mut_ptr(),
+                    room.len(),
+                    size,
+                )
+            }
+        })
+    }
+}

@@ -1,0 +1,10 @@
+-- A table whose configuration is wrong.
+use Rattle.toml.specs.View.{table_view}
+use Rattle.pim_scenario.specs.Scenario.{IsConfig, IsConfigText}
+use Rattle.pim_scenario.proofs.ReadLemmas.{fails}
+use Rattle.pim_scenario.proofs.scenario.reload.config_text_in.Goals as goal
+
+pub returns-in_err-config : goal.returns-in_err-config
+returns-in_err-config c =
+    fails (IsConfigText (table_view c.args.table.now)) (IsConfig (table_view c.args.table.now)) _ _
+    c.from_residual-in_err-config.ensures.1 (λ r is. (r.config, is.config)) c.in_err-config.ensures.read

@@ -1,0 +1,9 @@
+-- The values so far were read.
+use Rattle.std.proofs.Common.{take}
+use Rattle.std.specs.List.{AllZip}
+use Rattle.toml.specs.View.{view}
+use Rattle.pim_scenario.specs.Scenario.{IsTable, NamesLink}
+use Rattle.pim_scenario.proofs.scenario.reload.link_names_in.Given as goal
+
+abbrev pub invariant-loop-value : goal.invariant-loop-value
+invariant-loop-value l = AllZip (λ v x. IsTable NamesLink (view v) x) (take l.value-index l.values) l.names

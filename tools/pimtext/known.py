@@ -1,0 +1,151 @@
+"""What a router of a run knows: the rows that were printed, and what the router itself says of its trees.
+
+The macros of RFC 7761 are asked of a router of the library, which takes what the router of the run took (pimtext.twin).
+"""
+from __future__ import annotations
+
+from collections.abc import Callable, Iterable
+from dataclasses import dataclass, field, replace
+from ipaddress import ip_address
+from typing import TYPE_CHECKING, Any, TypeVar
+
+from pimtext import packets, printed, wishes
+from pimtext.addresses import ranges_of, routes_of
+from pimtext.twin import Twin
+
+if TYPE_CHECKING:
+    from ipaddress import IPv4Network
+    from pimtext.addresses import Route
+    from pimtext.scenario import Interface, Router, Scenario
+    from pimtext.story import Step, Tables
+    from viqeshor import Link, Neighbour, Router as Core, SourceTree, Tree
+
+    R = TypeVar("R")
+    T = TypeVar("T")
+
+
+@dataclass
+class Known:
+    """A router with what it knows after so many events: its rows, its routes and RP ranges after all moves, and by
+    interface the last other router that queried there from a lower address. All else is asked of its twin; answers are
+    kept until it takes another event."""
+    router: Router
+    twin: Twin
+    routes: list[Route]
+    rps: list[tuple[IPv4Network, str]]
+    rows: list[printed.Row] = field(default_factory=list)
+    queriers: dict[int, str] = field(default_factory=dict)
+    taken: int = 0
+    moment: int = 0
+    kept: dict[tuple[Any, ...], Any] = field(default_factory=dict, repr=False)
+
+    def once(self, key: tuple[Any, ...], find: Callable[[], T]) -> T:
+        """What `find` answers, which is called once for a key."""
+        if key not in self.kept:
+            self.kept[key] = find()
+        return self.kept[key]
+
+    # ---- what was printed
+
+    def of(self, table: type[R], /, **values: object) -> list[R]:
+        """The rows of a table that have these values in these columns."""
+        return self.once((table, *values.items()), lambda: printed.rows_of(self.rows, table, **values))
+
+    def print(self, tables: Tables) -> None:
+        """The router knows what was printed."""
+        self.rows, self.moment, self.kept = tables.rows, tables.moment, {}
+
+    def link(self, number: int) -> str:
+        """The name of an interface's link."""
+        return self.router.interfaces[number].link
+
+    # ---- what the router says
+
+    def core(self) -> Core:
+        """The router of the library as it is now; nothing may change it."""
+        return self.twin.after(self.taken)
+
+    def copy_of_core(self) -> Core:
+        """Another one, which may take events."""
+        return self.twin.copy(self.taken)
+
+    def asked(self, call: str, *key: int | str) -> Any:
+        """What the router answers to a call, which is made once."""
+        return self.once((call, *key), lambda: getattr(self.core(), call)(*key))
+
+    def tree(self, group: str) -> Tree:
+        """The macros of (*,G)."""
+        return self.asked("tree", group)
+
+    def source_tree(self, group: str, source: str) -> SourceTree:
+        """The macros of (S,G) and of (S,G,rpt)."""
+        return self.asked("source_tree", source, group)
+
+    def facts(self, group: str, source: str) -> Tree | SourceTree:
+        """The macros of a tree, (*,G) where the source is ANY."""
+        return self.tree(group) if source == printed.ANY else self.source_tree(group, source)
+
+    def port(self, number: int) -> Link:
+        """An interface with its DR and its querier."""
+        return self.asked("link", number)
+
+    def neighbour(self, number: int, address: str) -> Neighbour | None:
+        """A neighbour with what it said by its last Hello; None where it is none."""
+        return self.asked("neighbour", number, address)
+
+    @property
+    def up(self) -> set[int]:
+        """The interfaces that are up, by their numbers."""
+        return {each.number for each in self.router.interfaces if self.port(each.number).is_up}
+
+    def interfaces_up(self) -> list[Interface]:
+        return [each for each in self.router.interfaces if self.port(each.number).is_up]
+
+
+def begun(played: Scenario) -> dict[str, Known]:
+    """What each router knows before the first event."""
+    return {router.name: Known(router, Twin(router.table), router.routes, router.rps) for router in played.routers}
+
+
+def known_after(played: Scenario, steps: Iterable[Step], tables: dict[str, Tables]) -> dict[str, Known]:
+    """What each router knows after the steps of a run, by the tables at its end."""
+    found = begun(played)
+    for step in steps:
+        follow(found[step.router], step)
+    for name, table in tables.items():
+        found[name].print(table)
+    return found
+
+
+def copied(state: Known) -> Known:
+    """What a router knows as it stands, whatever is followed later."""
+    return replace(state, queriers=dict(state.queriers), kept={})
+
+
+# ---- followed
+
+
+def follow(state: Known, step: Step) -> None:
+    """The router took an event."""
+    if step.did is None or step.verdict != "done":
+        return
+    state.twin.add(step)
+    state.taken, state.kept = len(state.twin.events), {}
+    match step.did["do"]:
+        case "routes":
+            state.routes = routes_of(step.did["list"])
+        case "rps":
+            state.rps = ranges_of(step.did["list"])
+        case "frame" | "deliver" | "settle":
+            hear_query(state, step)
+
+
+def hear_query(state: Known, step: Step) -> None:
+    """Keeps who queried an interface from a lower address: where the router says that another one is the querier, it
+    is that one."""
+    data = step.taken()
+    message = wishes.igmp_of(data) if step.iface is not None else None
+    if message and message[0] == wishes.QUERY:
+        sender = packets.dotted(data[12:16])
+        if 0 < int(ip_address(sender)) < int(state.router.interfaces[step.iface].own.ip):
+            state.queriers[step.iface] = sender

@@ -1,0 +1,149 @@
+"""A router of the library that takes what a router of a scenario took: its twin, which is asked what that one knows."""
+from __future__ import annotations
+
+import functools
+import hashlib
+import os
+import shutil
+import sys
+import tempfile
+from pathlib import Path
+from typing import TYPE_CHECKING, Any
+
+from pimtext import fed, library, program
+from pimtext.builds import keep
+from pimtext.kept import cache
+
+PACKAGE = library.BINDINGS / "python" / "src"
+if str(PACKAGE) not in sys.path:
+    sys.path.insert(0, str(PACKAGE))
+import viqeshor  # noqa: E402
+
+if TYPE_CHECKING:
+    from collections.abc import Iterator
+    from pimtext.story import Step
+
+# The calls of the library whose names aren't those of the events, and what reads the texts that these take.
+CALLS = {"routes": ("set_routes", fed.routes), "ranges": ("set_ranges", fed.ranges)}
+# How many events are taken at most from a state that was saved to another one.
+APART = 256
+
+
+# ---- the library that is asked
+
+
+@functools.cache
+def shared() -> Path:
+    """The shared library that is asked. It is the one that VIQESHOR_LIBRARY in the environment names; else it is put
+    together once, and kept, of the same build as the program: of the proved archive where that is newer than its
+    sources, else of an unproved one. This process ends with a line where there can be none."""
+    if given := os.environ.get("VIQESHOR_LIBRARY"):
+        return usable(Path(given))
+    is_proved = program.wanted() == "proved" and library.PROVED.exists() and program.is_newer(library.PROVED)
+    try:
+        router = library.PROVED if is_proved else library.unproved_router(None)
+        made = cache() / f"libviqeshor-{sum_of(router)}.so"
+        if not made.exists():
+            put_together(router, made)
+    except OSError as error:
+        sys.exit(f"library: it can't be kept: {error}")
+    return made
+
+
+def usable(given: Path) -> Path:
+    """A library that is of this version; the end of the process where it isn't."""
+    try:
+        viqeshor.version(given)
+    except (OSError, viqeshor.Error) as error:
+        sys.exit(f"library: {given}, which VIQESHOR_LIBRARY names, can't be taken: {error}")
+    return given
+
+
+def sum_of(router: Path) -> str:
+    """A sum of all that a shared library is made of."""
+    here = [router, library.BINDINGS / "c", library.INCLUDE / "viqeshor"]
+    files = (file for path in here for file in (sorted(path.iterdir()) if path.is_dir() else [path]))
+    total = hashlib.sha256()
+    for file in files:
+        total.update(file.read_bytes())
+    return total.hexdigest()[:32]
+
+
+def put_together(router: Path, made: Path) -> None:
+    """Makes a shared library of a router's archive, and keeps it."""
+    if shutil.which(library.CC) is None:
+        sys.exit(f"library: there is no C compiler `{library.CC}`, which puts it together; CC may name another one")
+    made.parent.mkdir(parents=True, exist_ok=True)
+    with tempfile.TemporaryDirectory(prefix="shared-", dir=made.parent) as room:
+        keep(library.Library(router, room=Path(room)).shared(), made)
+
+
+# ---- a router of it
+
+
+def new_router(table: dict[str, Any], path: Path) -> viqeshor.Router:
+    """A router of a shared library with the configuration of a scenario's."""
+    router = viqeshor.Router(
+        fed.interfaces(table),
+        fed.ranges(table.get("rps", [])),
+        fed.routes(table.get("routes", [])),
+        library=path,
+        **fed.settings(table)
+    )
+    if "older_hosts" in table:
+        for iface, _ in enumerate(table["iface"]):
+            router.set_older_hosts(iface, table["older_hosts"])
+    return router
+
+
+def take(router: viqeshor.Router, event: fed.Event) -> viqeshor.Answer:
+    """What a router answers to an event."""
+    call, read = CALLS.get(event.name, (event.name, None))
+    values = [list(read(value)) for value in event.values] if read else event.values
+    return getattr(router, call)(*values, draw=event.draw)
+
+
+class Twin:
+    """What a router of a scenario took, and a router of the library that takes it too, as much of it as is asked
+    for."""
+
+    def __init__(self, table: dict[str, Any]) -> None:
+        self.table, self.events, self.saved = table, [], {}
+        self.router, self.taken = None, 0
+        # A saved state has no groups in an older mode.
+        self.is_saved = "older_hosts" not in table
+
+    def add(self, step: Step) -> None:
+        """The router took one event more."""
+        event = fed.event(step)
+        if event is not None:
+            self.events.append(event)
+
+    def after(self, count: int) -> viqeshor.Router:
+        """The router of the library after so many events."""
+        if self.router is None or count < self.taken:
+            self.begin(count)
+        for at in self.stops(count):
+            for event in self.events[self.taken:at]:
+                take(self.router, event)
+            self.taken = at
+            if self.is_saved and at % APART == 0 and at not in self.saved:
+                self.saved[at] = self.router.save()
+        return self.router
+
+    def begin(self, count: int) -> None:
+        """Begins at the last state that was saved, up to so many events."""
+        self.taken = max((at for at in self.saved if at <= count), default=0)
+        if self.taken:
+            self.router = viqeshor.Router.restore(self.saved[self.taken], library=shared())
+        else:
+            self.router = new_router(self.table, shared())
+
+    def stops(self, count: int) -> Iterator[int]:
+        """Where the states on the way to an event are saved, and the event itself."""
+        yield from range((self.taken // APART + 1) * APART, count, APART)
+        yield count
+
+    def copy(self, count: int) -> viqeshor.Router:
+        """Another router after so many events, which may take others from then on."""
+        return viqeshor.Router.restore(self.after(count).save(), library=shared())
