@@ -2,6 +2,7 @@
 kind."""
 from __future__ import annotations
 
+import json
 import socket
 import subprocess
 import sys
@@ -12,6 +13,8 @@ from typing import TYPE_CHECKING
 from trials.network import HOST, SENDER, SOURCE, Failed, ended, first_after, goes_on, inside, ip, received, run, until
 
 if TYPE_CHECKING:
+    from collections.abc import Callable
+
     from trials.network import Network
 
 
@@ -126,6 +129,38 @@ def settings_at_the_rp(net: Network) -> str:
     return f"{came} of {of} came, {twice} twice"
 
 
+def soon(what: str, holds: Callable[[], bool]) -> None:
+    """Waits for what comes with a Hello that leaves at once."""
+    until(what, 3, holds)
+
+
+def interfaces_under_a_stream(net: Network) -> str:
+    """FRR learns of another priority and of an interface that left the file at once, and a stream loses nothing"""
+    group, lan = "239.1.11.5", '[[interface]]\nname = "to-lan"\n'
+    warm = net.receive("hosts", group, HOST, 30, 20)
+    time.sleep(2)
+    net.send("source", group, SOURCE, 30, 10).wait()
+    receiver = net.receive("hosts", group, HOST, 2500, 60)
+    ended(warm)
+    sender = net.send("source", group, SOURCE, 2500, 100)
+    until("the kernel forwards", 15, lambda: net.entry(SOURCE, group)["outgoing"] == ["to-hosts"])
+    net.reload(net.settings.replace(lan, lan + "priority = 0\n"))
+    soon("FRR is the designated router", lambda: dr_at_frr(net) == "10.7.0.2")
+    net.reload(net.settings.replace(lan, ""))
+    soon("FRR misses the router", lambda: "10.7.0.3" not in net.frr("first", "show ip pim neighbor"))
+    net.reload(net.settings)
+    until("the router knows three neighbours", 40, lambda: net.neighbours() >= THREE)
+    sender.wait()
+    came, of, twice = received(receiver)
+    if came < of or twice:
+        raise Failed(f"{came} of {of} came, {twice} twice")
+    return f"{came} of {of} came, {twice} twice"
+
+
+def dr_at_frr(net: Network) -> str:
+    return json.loads(net.frr("first", "show ip pim interface to-lan json"))["to-lan"]["drAddress"]
+
+
 def kernel_without_memory(net: Network) -> str:
     """where the kernel has no memory for an entry the router says so, goes on, and sets it once there is some"""
     shim, lacks = net.room / "no_memory.so", net.room / "no-memory"
@@ -231,4 +266,4 @@ def show_while_the_router_works(net: Network) -> str:
 
 
 TRIALS = [late_address, no_address_at_start, interface_that_comes, settings_under_a_stream, settings_at_the_rp,
-          kernel_without_memory, vxlan_and_next_hop_objects, show_while_the_router_works]
+          interfaces_under_a_stream, kernel_without_memory, vxlan_and_next_hop_objects, show_while_the_router_works]
