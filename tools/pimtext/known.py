@@ -11,7 +11,8 @@ from typing import TYPE_CHECKING, Any, TypeVar
 
 from pimtext import packets, printed, wishes
 from pimtext.addresses import ranges_of, routes_of
-from pimtext.twin import Twin
+from pimtext.scenario import router_of
+from pimtext.twin import Twin, viqeshor
 
 if TYPE_CHECKING:
     from ipaddress import IPv4Network
@@ -22,6 +23,10 @@ if TYPE_CHECKING:
 
     R = TypeVar("R")
     T = TypeVar("T")
+
+
+# What is known of an interface that isn't configured.
+ABSENT = viqeshor.trees.Link(False, False, "0.0.0.0", viqeshor.trees.Querier("none", None, 0, 0, 0))
 
 
 @dataclass
@@ -86,8 +91,8 @@ class Known:
         return self.tree(group) if source == printed.ANY else self.source_tree(group, source)
 
     def port(self, number: int) -> Link:
-        """An interface with its DR and its querier."""
-        return self.asked("link", number)
+        """An interface with its DR and its querier. One that a reload removed, or is to add, counts as down."""
+        return self.asked("link", number) or ABSENT
 
     def neighbour(self, number: int, address: str) -> Neighbour | None:
         """A neighbour with what it said by its last Hello; None where it is none."""
@@ -136,8 +141,19 @@ def follow(state: Known, step: Step) -> None:
             state.routes = routes_of(step.did["list"])
         case "rps":
             state.rps = ranges_of(step.did["list"])
+        case "reload":
+            reload(state, step.did["config"])
         case "frame" | "deliver" | "settle":
             hear_query(state, step)
+
+
+def reload(state: Known, config: dict[str, Any]) -> None:
+    """Another configuration. What removed interfaces were stays to be looked up."""
+    made = router_of({**config, "name": state.router.name})
+    count = len(made.interfaces)
+    made.interfaces += state.router.interfaces[count:]
+    state.router, state.routes, state.rps = made, made.routes, made.rps
+    state.queriers = {number: said for number, said in state.queriers.items() if number < count}
 
 
 def hear_query(state: Known, step: Step) -> None:

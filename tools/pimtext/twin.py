@@ -96,8 +96,24 @@ def new_router(table: dict[str, Any], path: Path) -> viqeshor.Router:
     return router
 
 
+def reload(router: viqeshor.Router, draw: int, before: dict[str, Any], config: dict[str, Any]) -> viqeshor.Answer:
+    """What a router answers to another configuration than the one before. On an interface whose setting for older hosts
+    stays, what was heard of them stays too."""
+    lists = fed.interfaces(config), fed.ranges(config.get("rps", [])), fed.routes(config.get("routes", []))
+    try:
+        router.reload(*lists, draw=draw, **fed.settings(config))
+    except viqeshor.Refused as refused:
+        return refused.answer
+    was, hosts = (table.get("older_hosts", "none") for table in (before, config))
+    for iface in range(0 if hosts != was else len(before["iface"]), len(config["iface"])):
+        router.set_older_hosts(iface, hosts)
+    return viqeshor.Answer.DONE
+
+
 def take(router: viqeshor.Router, event: fed.Event) -> viqeshor.Answer:
-    """What a router answers to an event."""
+    """What a router answers to an event, or to another configuration."""
+    if event.name == "reload":
+        return reload(router, event.draw, *event.values)
     call, read = CALLS.get(event.name, (event.name, None))
     values = [list(read(value)) for value in event.values] if read else event.values
     return getattr(router, call)(*values, draw=event.draw)
@@ -108,16 +124,21 @@ class Twin:
     for."""
 
     def __init__(self, table: dict[str, Any]) -> None:
-        self.table, self.events, self.saved = table, [], {}
+        self.table, self.config, self.events, self.saved = table, table, [], {}
         self.router, self.taken = None, 0
         # A saved state has no groups in an older mode.
         self.is_saved = "older_hosts" not in table
 
     def add(self, step: Step) -> None:
-        """The router took one event more."""
-        event = fed.event(step)
+        """The router took one event more, or another configuration."""
+        event = self.reloaded(step.did) if step.did["do"] == "reload" else fed.event(step)
         if event is not None:
             self.events.append(event)
+
+    def reloaded(self, did: dict[str, Any]) -> fed.Event:
+        before, self.config = self.config, did["config"]
+        self.is_saved = self.is_saved and "older_hosts" not in self.config
+        return fed.Event("reload", did.get("draw", 0), (before, self.config))
 
     def after(self, count: int) -> viqeshor.Router:
         """The router of the library after so many events."""
