@@ -85,6 +85,15 @@ do = "carry"
 router = "rp"
 frame = 1
 [[move]]
+do = "reload"
+router = "rp"
+draw = 9
+[move.config]
+limit = 77
+[[move.config.iface]]
+link = "other"
+address = "10.0.0.3/24"
+[[move]]
 do = "settle"
 draw = 1
 """
@@ -190,6 +199,17 @@ BREAKS = [
     ('list = ["239.0.0.0/8 10.0.0.2"]', "list = [[]]", 39),
     ("frame = 1", "frame = -1", 39),
     ("draw = 1", 'router = "rp"', 39),
+    ("draw = 9", "draw = -9", 39),
+    ("draw = 9", "iface = 0", 39),
+    ("[move.config]", "[move.setting]", 39),
+    ("limit = 77", "limit = -77", 39),
+    ("limit = 77", 'name = "rp"', 39),
+    ("limit = 77", 'older_hosts = "v1"', 39),
+    # A configuration is refused in the run.
+    ("limit = 77", "limit = 0", None),
+    ('link = "other"', 'lnk = "other"', 39),
+    ('address = "10.0.0.3/24"', 'address = "10.0.0.3"', 39),
+    ('address = "10.0.0.3/24"', 'address = "224.0.0.3/24"', None),
 ]
 # Whole files.
 FILES = [
