@@ -45,8 +45,8 @@ def shown(read, steps, router):
 def unfit(read, steps, router):
     """Why a capture can't tell what a router did, None where it can."""
     own = [step for step in steps if step.router == router.name]
-    if any(step.did["do"] in ("down", "routes", "rps") for step in own):
-        return "interfaces, routes or RPs change"
+    if any(step.did["do"] in ("down", "routes", "rps", "reload") for step in own):
+        return "interfaces, routes, RPs or settings change"
     if not any(step.sent for step in own):
         return "it sends nothing"
     if any(step.did.get("draw") and step.did["do"] != "up" for step in own):
