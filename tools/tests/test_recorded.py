@@ -12,7 +12,7 @@ from pimtext.library import Library
 
 TOOLS = Path(__file__).resolve().parent.parent
 sys.path.insert(0, str(TOOLS.parent / "bindings" / "python" / "src"))
-from viqeshor import Router, hosts, recording  # noqa: E402
+from viqeshor import Router, hosts, load, recording  # noqa: E402
 
 CC = os.environ.get("CC", "cc")
 
@@ -101,7 +101,9 @@ class Recorded(unittest.TestCase):
         changed = [record._replace(total=record.total ^ 1) if number == 4 else record
                    for number, record in enumerate(told.records)]
         data = path.read_bytes()
-        path.write_bytes(data[:18 + len(told.state)] + b"".join(map(recording.bytes_of, changed)))
+        library = load(self.shared)
+        written = b"".join(recording.bytes_of(library, record) for record in changed)
+        path.write_bytes(data[:18 + len(told.state)] + written)
         status, text = self.run_tool(path)
         self.assertEqual(status, 1)
         self.assertIn("record 5, frame 0 ", text)
