@@ -225,7 +225,7 @@ static void configurations(void) {
     viq_end(other);
 }
 
-/* ---- events: a Join of 10.0.1.2 and two packets of its source, as in crates/pim_played/data/a_join_that_is_over.toml
+/* ---- events: a Join of 10.0.1.2 and two packets of its source, as in crates/test_scenarios/data/a_join_that_is_over.toml
  * */
 
 static const char hello_above[] = "45C0001E000000000167CEAB0A000001E000000D2000DFFC00010002FFFF";

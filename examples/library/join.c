@@ -1,5 +1,5 @@
 /* One router: 10.0.1.2 joins a source, data comes and is copied, the Join ends, and data comes again. What becomes of
- * each event and what leaves is printed as ./pimlab prints it; crates/pim_played/data/a_join_that_is_over.toml is the
+ * each event and what leaves is printed as ./pimlab prints it; crates/test_scenarios/data/a_join_that_is_over.toml is the
  * same as a scenario. */
 #include <stdio.h>
 #include <stdlib.h>

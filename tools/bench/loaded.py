@@ -18,8 +18,8 @@ FIRST_SOURCE = 0x0A800000
 RP = 0x0A090909
 # The router's own address on interface 0.
 ROUTER = 0x0A000002
-STAR, SOURCE = 7, 4
-IS_IN, IS_EX, TO_IN, ALLOW = 1, 2, 3, 5
+STAR, SOURCE, RPT = 7, 4, 5
+IS_IN, IS_EX, TO_IN, TO_EX, ALLOW = 1, 2, 3, 4, 5
 GROUPS_A_FRAME, SOURCES_A_FRAME = 70, 180
 RECORDS_A_REPORT = 183
 
@@ -42,6 +42,12 @@ def igmp_packet(source: int, destination: int, message: bytes, is_right: bool = 
 def data_packet(source: int, group: int, is_right: bool = True) -> bytes:
     """Data without a payload."""
     return summed(packets.write(packets.UDP, dotted(source), dotted(group), 16, b""), 10, is_right)
+
+
+def assert_packet(source: int, group: int, metric: int, is_right: bool = True) -> bytes:
+    """An Assert of a group whole."""
+    told = packets.Assert(dotted(group), 32, "0.0.0.0", True, 0xFFFF, metric)
+    return summed(packets.write_assert(dotted(source), told), 22, is_right)
 
 
 def register_stop(rp: int, router: int, group: int, is_right: bool = True) -> bytes:
@@ -110,6 +116,11 @@ def source(number: int) -> GroupEntries:
 
 def source_pruned(number: int) -> GroupEntries:
     return group_record(FIRST_GROUP, [], [(SOURCE, FIRST_SOURCE + number)])
+
+
+def source_rpt(number: int) -> tuple[int, int]:
+    """A source as a Prune(S,G,rpt) names it."""
+    return (RPT, FIRST_SOURCE + number)
 
 
 def beginning(interfaces: int, groups: int, sources: int) -> str:

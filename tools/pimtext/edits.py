@@ -27,8 +27,8 @@ BY_A_NAME, BY_A_LIMIT = "only because a proof file names", "only by a limit of t
 CUT = "a clause whose name the kit's line cuts"
 # What a goal without a clause's name may be about.
 KINDS = {"ensures", "invariant", "requires", "loop", "overflow"}
-# Here the edits are of the network of which the runs are, and a run's premise refuses them.
-OF_NETWORKS = ("pim_served_runs",)
+# These edits are of the network of which the runs are, and a run's premise refuses them.
+OF_NETWORKS = {"pim_runs": ("specs/ServedChain.antt",)}
 # Where a goal isn't met: in a proof by hand, whose path ends with the function's name, or in the code.
 IN_PROOF = re.compile(r"\./proofs/(\S*)/(?:Answers|Invariants|Proof)\.antt:\d+:\d+: error: "
                       r"(?:\d+ declarations? that depends? on )?`([^`]*)(`?)(.*)")
@@ -167,7 +167,7 @@ class Edit:
         """What the edit changes but code: a definition, a contract, a proof. None where it changes none."""
         for file in sorted(self.files()):
             if file not in self.crate.files:
-                if self.crate.name in OF_NETWORKS and file.startswith("specs/"):
+                if file in OF_NETWORKS.get(self.crate.name, ()):
                     continue
                 return f"it changes {file}, which isn't code"
             after, before = self.edited(file), self.crate.found[file]

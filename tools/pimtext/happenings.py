@@ -1,13 +1,20 @@
 """Random events of one router: neighbours, hosts and sources on its links, sources and RPs behind others, routes and
-ranges that change, links that go down, and time. All of it comes of one seed."""
+ranges that change, links that go down, and time. All of it comes of one seed. And the events of a stored scenario."""
+from __future__ import annotations
+
 import random
 from collections import deque
 from dataclasses import dataclass, replace
 from ipaddress import IPv4Address, IPv4Network
-from typing import Any
+from typing import TYPE_CHECKING, Any
 
-from pimtext import packets
+from pimtext import fed, packets
 from pimtext.packets import Assert, Entry, GroupEntries, Hello, Record
+
+if TYPE_CHECKING:
+    from collections.abc import Iterable, Iterator
+
+    from pimtext.story import Step
 
 ANY_SOURCE, SSM = ("239.1.1.1", "239.1.1.2", "239.2.1.1"), ("232.1.1.1",)
 GROUPS = ANY_SOURCE + SSM
@@ -44,6 +51,20 @@ class Event:
     draw: int
     words: str
     is_refused: bool = False
+
+
+# The calls that take a list, which a stored event has as texts.
+LISTS = {"routes": ("set_routes", fed.routes), "ranges": ("set_ranges", fed.ranges)}
+
+
+def events_of(steps: Iterable[Step]) -> Iterator[Event]:
+    """What a router of a stored scenario takes."""
+    for step in steps:
+        given = fed.event(step)
+        if given is not None:
+            call, read = LISTS.get(given.name, (given.name, None))
+            values = tuple(list(read(value)) for value in given.values) if read else given.values
+            yield Event(call, values, given.draw, f"move {step.move}")
 
 
 def spoilt(data: bytes, how: str, own: str) -> bytes:

@@ -5,7 +5,7 @@ from importlib.util import module_from_spec, spec_from_loader
 from pathlib import Path
 
 TOOLS = Path(__file__).resolve().parent.parent
-DATA = TOOLS.parent / "crates" / "pim_played" / "data"
+DATA = TOOLS.parent / "crates" / "test_scenarios" / "data"
 EXAMPLES = TOOLS.parent / "examples"
 
 
@@ -18,8 +18,10 @@ def played():
 
 def tool(name):
     """The tool of this name as a module."""
-    loader = SourceFileLoader(name, str(TOOLS / name))
-    module = module_from_spec(spec_from_loader(name, loader))
+    loader = SourceFileLoader(f"tool_{name}", str(TOOLS / name))
+    module = module_from_spec(spec_from_loader(loader.name, loader))
+    # Its dataclasses look their module up.
+    sys.modules[loader.name] = module
     sys.dont_write_bytecode, was = True, sys.dont_write_bytecode
     loader.exec_module(module)
     sys.dont_write_bytecode = was

@@ -39,7 +39,7 @@ class Spoilt(unittest.TestCase):
         self.refused("pim_mfc lists pim_meter")
 
     def test_a_router_that_lists_no_meter(self):
-        self.spoil("crates.txt", " pim_tables pim_meter pim_promises", " pim_tables pim_promises", "")
+        self.spoil("crates.txt", " pim_tables pim_meter law_promises", " pim_tables law_promises", "")
         self.refused("pim_router lists no pim_meter")
 
     def test_a_meter_that_can_be_cloned(self):
@@ -95,26 +95,25 @@ class Spoilt(unittest.TestCase):
     def test_a_meter_that_is_set_back_at_the_end(self):
         self.spoil(
             "pim_router/src/router.rt",
-            "    take_in(room, world, cache, replaced, event, &mut probes.meter)\n",
-            "    let outcome = take_in(room, world, cache, replaced, event, &mut probes.meter);\n"
-            "    probes.begin();\n    outcome\n",
+            "    take_in(core, event, &mut probes.meter)\n",
+            "    let outcome = take_in(core, event, &mut probes.meter);\n    probes.begin();\n    outcome\n",
         )
         self.refused("a count begins anew in take_next")
 
     def test_an_event_with_a_meter_of_its_own(self):
         self.spoil(
             "pim_router/src/router.rt",
-            "    take_in(room, world, cache, replaced, event, &mut probes.meter)\n",
+            "    take_in(core, event, &mut probes.meter)\n",
             "    let mut outside = probes.outside();\n"
-            "    take_in(room, world, cache, replaced, event, &mut outside.meter)\n",
+            "    take_in(core, event, &mut outside.meter)\n",
         )
         self.refused("a meter is made beside that of events in take_next")
 
     def test_an_event_with_an_auditor_of_its_own(self):
         self.spoil(
             "pim_router/src/router.rt",
-            "    take_in(room, world, cache, replaced, event, &mut probes.meter)\n",
-            "    take_in(room, world, cache, replaced, event, &mut Probes::new().meter)\n",
+            "    take_in(core, event, &mut probes.meter)\n",
+            "    take_in(core, event, &mut Probes::new().meter)\n",
         )
         self.refused("a meter is made beside that of events in take_next")
 
@@ -131,9 +130,9 @@ class Spoilt(unittest.TestCase):
     def test_rows_evaluated_in_another_cache(self):
         self.spoil(
             "pim_event/src/event.rt",
-            "    cache.refresh(world, meter, names, disturbed_where(moves, touched), &last)?;",
-            "    Cache::new(turn.alloc).refresh(world, meter, names.try_clone()?, Touched::All, &last)?;\n"
-            "    cache.refresh(world, meter, names, disturbed_where(moves, touched), &last)?;",
+            "    core.cache.refresh(\n",
+            "    Cache::new(turn.alloc).refresh(&core.world, meter, names.try_clone()?, Touched::All, &last)?;\n"
+            "    core.cache.refresh(\n",
         )
         self.refused("a count of rows is made in take_change")
 
@@ -145,12 +144,13 @@ class Spoilt(unittest.TestCase):
     def test_a_row_evaluated_when_asked(self):
         self.spoil(
             "pim_router/src/router.rt",
-            "        self.cache\n"
+            "        self.core\n"
+            "            .cache\n"
             "            .mfc()\n"
             "            .cached(SourceGroup { source, group }, &mut outside.meter)\n",
             "        let mut count = Evaluations::none();\n"
             "        let name = SourceGroup { source, group };\n"
-            "        let made = pim_macros::row(&self.world, name, &mut outside.meter, &mut count);\n"
+            "        let made = pim_macros::row(&self.core.world, name, &mut outside.meter, &mut count);\n"
             "        Some(CacheRow::of(&made.answers()))\n",
         )
         self.refused(
@@ -164,13 +164,13 @@ class Spoilt(unittest.TestCase):
             "pim_router/src/router.rt",
             "        let outcome = take_next(",
             "        let name = SourceGroup { source: Addr::NONE, group: Addr::NONE };\n"
-            "        offer(&self.world, &self.cache, name, &mut self.probes.meter);\n"
+            "        offer(&self.core.world, &self.core.cache, name, &mut self.probes.meter);\n"
             "        let outcome = take_next(",
         )
         self.refused("a row is offered in Router::step")
 
     def test_a_place_that_is_gone(self):
-        self.spoil("pim_router/src/router.rt", "    cache.reset();\n", "")
+        self.spoil("pim_router/src/router.rt", "    core.cache.reset();\n", "")
         self.refused("a count begins anew in take_next 1 times, and not 2")
 
 

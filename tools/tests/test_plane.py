@@ -3,24 +3,12 @@ doesn't.
 """
 import os
 import shutil
-import sys
 import unittest
-from importlib.machinery import SourceFileLoader
-from importlib.util import module_from_spec, spec_from_loader
-from pathlib import Path
 
 from pimtext.library import Library
+from tests import stored
 
-TOOLS = Path(__file__).resolve().parent.parent
 CC = os.environ.get("CC", "cc")
-
-
-def tool():
-    loader = SourceFileLoader("plane", str(TOOLS / "plane"))
-    made = module_from_spec(spec_from_loader("plane", loader))
-    sys.modules["plane"] = made
-    loader.exec_module(made)
-    return made
 
 
 @unittest.skipUnless(shutil.which(CC) and shutil.which("rt"), "there is no C compiler, or no kit")
@@ -29,7 +17,7 @@ class Planes(unittest.TestCase):
 
     @classmethod
     def setUpClass(cls):
-        cls.tool = tool()
+        cls.tool = stored.tool("plane")
         cls.library = cls.tool.refusing(Library(is_proved=False))
 
     def diverging(self, *forgets):

@@ -3,26 +3,14 @@ is restored of other bytes doesn't."""
 import os
 import random
 import shutil
-import sys
 import unittest
 from argparse import Namespace
-from importlib.machinery import SourceFileLoader
-from importlib.util import module_from_spec, spec_from_loader
-from pathlib import Path
 from unittest import mock
 
 from pimtext.library import Library
+from tests import stored
 
-TOOLS = Path(__file__).resolve().parent.parent
 CC = os.environ.get("CC", "cc")
-
-
-def tool():
-    loader = SourceFileLoader("restarted", str(TOOLS / "restarted"))
-    made = module_from_spec(spec_from_loader("restarted", loader))
-    sys.modules["restarted"] = made
-    loader.exec_module(made)
-    return made
 
 
 @unittest.skipUnless(shutil.which(CC) and shutil.which("rt"), "there is no C compiler, or no kit")
@@ -31,7 +19,7 @@ class Restarted(unittest.TestCase):
 
     @classmethod
     def setUpClass(cls):
-        cls.tool = tool()
+        cls.tool = stored.tool("restarted")
         cls.library = Library(is_proved=False).shared()
         cls.runs = cls.tool.random_runs(cls.library, cls.asked)
 

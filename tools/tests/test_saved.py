@@ -9,11 +9,11 @@ from pathlib import Path
 from pimtext import saved
 
 TOP = Path(__file__).resolve().parent.parent.parent
-KNOWN = TOP / "crates" / "pim_known" / "src" / "tests" / "saved_states.rt"
+KNOWN = TOP / "crates" / "test_bytes" / "src" / "tests" / "saved_states.rt"
 
 
 def known():
-    """The example's bytes, as crates/pim_known has them."""
+    """The example's bytes, as crates/test_bytes has them."""
     text = KNOWN.read_text()
     body = re.search(r"const STATE: &\[u8\] = &\[(.*?)\];", text, re.S)[1]
     return bytes(int(byte, 16) for byte in re.findall(r"0x([0-9A-Fa-f]{2})\b", re.sub(r"//.*", "", body)))

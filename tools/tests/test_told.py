@@ -3,7 +3,7 @@ import unittest
 
 from pimtext.told import Told
 
-NAMES = ["pim_ip", "pim_known", "pim_types", "pim_wire", "pim_world"]
+NAMES = ["pim_ip", "pim_meter", "pim_types", "pim_wire", "pimlab"]
 # As the kit prints of a crate that is proved, of one that isn't, and of tests.
 PROVED = """== pim_ip
 by-macro: thiserror::Error blocks=4
@@ -16,11 +16,11 @@ NOT_PROVED = """== pim_wire
 fn pim_wire::read: proved
 note: src/read.rt:13:5: it is not proved that what the function ensures holds when it returns (`returns`)
 rt: pim_wire NOT PROVED"""
-LIBRARY_FAILED = "rt: pim_world NOT PROVED: its library pim_wire failed"
-TESTS = """== pim_known: its tests
-fn pim_known::known: proved
+LIBRARY_FAILED = "rt: pimlab NOT PROVED: its library pim_wire failed"
+TESTS = """== pim_meter: its tests
+fn pim_meter::known: proved
 logic=proved functions=7 sum=dac8208d650f15bf
-rt: pim_known: its tests are proved"""
+rt: pim_meter: its tests are proved"""
 KEPT = "rt: pim_types is kept: an earlier run on this machine proved the same files over the same libraries"
 EDITS = "rt: must-fail pim_ip/counts_one_more.edit: refused, as it must be: note: src/addr.rt:1:1: it is not proved"
 
@@ -38,30 +38,30 @@ class Lines(unittest.TestCase):
         first = "1 of 5 crates: pim_ip proved, 53 functions; 1 min 21 s so far; left: 4 crates"
         self.assertEqual([first], self.of(PROVED, 81))
         second = "2 of 5 crates: pim_types kept from an earlier run; 62 min 05 s so far; left: "
-        self.assertEqual([second + "pim_known pim_wire pim_world"], self.of(KEPT, 3725))
+        self.assertEqual([second + "pim_meter pim_wire pimlab"], self.of(KEPT, 3725))
 
     def test_of_a_crate_that_is_not_proved_all_but_what_is_proved(self):
         _, block, note, end, *more = self.of(f"{PROVED}\n{NOT_PROVED}", 5)
         self.assertEqual(["== pim_wire", "rt: pim_wire NOT PROVED"], [block, end])
         self.assertIn("src/read.rt:13:5", note)
-        last = "2 of 5 crates: pim_wire NOT PROVED; 0 min 05 s so far; left: pim_known pim_types pim_world"
+        last = "2 of 5 crates: pim_wire NOT PROVED; 0 min 05 s so far; left: pim_meter pim_types pimlab"
         self.assertEqual([last], more)
 
     def test_a_crate_whose_library_failed(self):
-        last = "1 of 5 crates: pim_world NOT PROVED; 0 min 07 s so far; left: 4 crates"
+        last = "1 of 5 crates: pimlab NOT PROVED; 0 min 07 s so far; left: 4 crates"
         self.assertEqual([LIBRARY_FAILED, last], self.of(LIBRARY_FAILED, 7))
 
     def test_tests_and_edits(self):
-        self.assertEqual(["pim_known: its tests are proved; 0 min 09 s so far"], self.of(TESTS, 9))
+        self.assertEqual(["pim_meter: its tests are proved; 0 min 09 s so far"], self.of(TESTS, 9))
         trying = self.of("rt: pim_ip: trying its must-fail edits (3)", 10)
         self.assertEqual(["pim_ip: 3 edits are tried; 0 min 10 s so far"], trying)
         self.assertEqual([], self.of(EDITS, 11))
-        self.assertEqual(["== pim_known: its tests", "rt: pim_known: its tests are NOT PROVED"],
-                         self.of("== pim_known: its tests\nrt: pim_known: its tests are NOT PROVED", 12))
+        self.assertEqual(["== pim_meter: its tests", "rt: pim_meter: its tests are NOT PROVED"],
+                         self.of("== pim_meter: its tests\nrt: pim_meter: its tests are NOT PROVED", 12))
 
     def test_at_last_nothing_is_left_but_edits(self):
         told = [line for name in NAMES for line in self.of(f"== {name}\nrt: {name} proved", 60)]
-        last = "5 of 5 crates: pim_world proved, 0 functions; 1 min 00 s so far; left: edits and programs"
+        last = "5 of 5 crates: pimlab proved, 0 functions; 1 min 00 s so far; left: edits and programs"
         self.assertEqual(last, told[-1])
 
     def test_what_is_of_no_crate_is_passed_on(self):

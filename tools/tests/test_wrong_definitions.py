@@ -1,14 +1,11 @@
 """tools/wrong_definitions: each stands where it says, changes what is there once, and is judged by the prover's
 lines."""
 import unittest
-from importlib.machinery import SourceFileLoader
-from importlib.util import module_from_spec, spec_from_loader
-from pathlib import Path
 
+from tests import stored
 from tests.rooms import repository
 
-TOOLS = Path(__file__).resolve().parent.parent
-TOP = TOOLS.parent
+TOP = stored.TOOLS.parent
 FILES = {
     "crates.txt": "# Words\n# w\nlow:\n# m\nmid: low toml\n# t\ntop: mid low\n# o\nother: low\n",
     "crates/top/specs/Rules.antt": "ends a = a == 1\ngoes a = true\n",
@@ -17,17 +14,10 @@ FILES = {
 }
 
 
-def tool():
-    loader = SourceFileLoader("wrong_definitions", str(TOOLS / "wrong_definitions"))
-    made = module_from_spec(spec_from_loader("wrong_definitions", loader))
-    loader.exec_module(made)
-    return made
-
-
 class WrongDefinitions(unittest.TestCase):
     @classmethod
     def setUpClass(cls):
-        cls.tool = tool()
+        cls.tool = stored.tool("wrong_definitions")
 
     def one(self, room):
         return self.tool.edits(room, [])[0]

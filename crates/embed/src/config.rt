@@ -86,7 +86,7 @@ pub fn routes(alloc: Global) -> Result<Series<Route>, AllocError> {
     Ok(routes)
 }
 
-/// The routes, and one by 10.0.2.9.
+/// The routes of the play, and one more by 10.0.2.9.
 pub fn routes_with(alloc: Global, beside: Prefix) -> Result<Series<Route>, AllocError> {
     let mut routes = routes(alloc)?;
     routes.push(Route {

@@ -13,7 +13,7 @@ pub const GROUP: Addr = Addr { bits: 0xe101_0101 };
 /// The router that joins: 10.0.1.2.
 const JOINER: Addr = Addr { bits: 0x0a00_0102 };
 
-/// The router's address there: 10.0.1.1.
+/// The router's address on the link of the router that joins: 10.0.1.1.
 const UPSTREAM: Addr = Addr { bits: 0x0a00_0101 };
 
 /// The host that asks for a source: 10.0.2.7.

@@ -34,7 +34,7 @@ impl Play {
         Play::ManySources,
     ];
 
-    /// The configuration of its router.
+    /// The configuration of the play's router.
     pub fn config(self, alloc: Global) -> Result<Config, AllocError> {
         match self {
             Play::Served => config::small(alloc),
@@ -42,7 +42,7 @@ impl Play {
         }
     }
 
-    /// Plays it with a router.
+    /// Plays the play with a router.
     pub fn with(self, rt: &HostRuntime, router: &mut Router) -> io::Result<()> {
         match self {
             Play::Served => serve(rt, router),

@@ -1,7 +1,7 @@
 //! The loop of a program that feeds a router: an event comes, and what becomes of it is printed, with what leaves.
 use crate::config::{ABOVE, BELOW};
 use crate::steps::failed;
-use crate::telling::leave;
+use crate::telling::print_packet;
 use pim_router::Router;
 use pim_types::{Emission, Event, EventKind, IfaceId, Refusal, Series, Verdict};
 use std::io;
@@ -17,7 +17,7 @@ const JOIN: &[u8] = b"\x45\xc0\0\x36\0\0\0\0\x01\x67\xcd\x92\x0a\0\x01\x02\xe0\0
     \x23\0\xda\xe6\x01\0\x0a\0\x01\x01\0\x01\0\xd2\
     \x01\0\0\x20\xe1\x01\x01\x01\0\x01\0\0\x01\0\x07\x20\x0a\0\0\x01";
 
-/// Serves it to the end of three timers.
+/// Serves the router until three timers have expired.
 pub fn serve(rt: &HostRuntime, router: &mut Router) -> io::Result<()> {
     begin(rt, router)?;
     take(rt, router, frame(rt, ABOVE, HELLO_ABOVE)?)?;
@@ -48,7 +48,7 @@ fn frame(rt: &HostRuntime, iface: IfaceId, packet: &[u8]) -> io::Result<EventKin
     Ok(EventKind::Frame { iface, bytes })
 }
 
-// One event; its draw should be another random number each time.
+// Takes one event; its draw should be another random number each time.
 fn take(rt: &HostRuntime, router: &mut Router, kind: EventKind) -> io::Result<()> {
     let event = Event { draw: 7, kind };
     let mut emissions = Vec::new(rt.alloc());
@@ -67,9 +67,9 @@ fn say(
         Ok(Verdict::Ignored(reason)) => println!(rt; "ignored: {reason:?}")?,
         Err(refusal) => println!(rt; "refused: {refusal}")?,
     }
-    // Here a packet would go to the network.
+    // A program that serves a real network would send the packet here.
     for emission in emissions {
-        leave(rt, emission)?;
+        print_packet(rt, emission)?;
     }
     Ok(())
 }

@@ -1,7 +1,7 @@
 //! Events, one after the other.
 use crate::config::{ABOVE, BELOW, BESIDE};
 use crate::packets::{data, hello, join};
-use crate::telling::leave;
+use crate::telling::print_packet;
 use pim_router::Router;
 use pim_types::{Addr, Emission, Event, EventKind, Fault, IfaceId, Series, Verdict};
 use std::io::{self, ErrorKind};
@@ -49,7 +49,7 @@ pub fn frame(iface: IfaceId, bytes: Series<u8>) -> EventKind {
 /// Takes an event, and prints what leaves.
 pub fn take(rt: &HostRuntime, router: &mut Router, kind: EventKind) -> io::Result<()> {
     for emission in step(rt, router, Event { draw: 0, kind })? {
-        leave(rt, &emission)?;
+        print_packet(rt, &emission)?;
     }
     Ok(())
 }

@@ -6,8 +6,8 @@ use pim_router::Router;
 use pim_types::{Addr, Emission};
 use std::io;
 
-/// A packet that leaves, in hexadecimal.
-pub fn leave(rt: &HostRuntime, emission: &Emission) -> io::Result<()> {
+/// Prints a packet that leaves, in hexadecimal.
+pub fn print_packet(rt: &HostRuntime, emission: &Emission) -> io::Result<()> {
     match emission {
         Emission::Link { iface, bytes } => {
             print!(rt; "on {}: ", iface.number)?;

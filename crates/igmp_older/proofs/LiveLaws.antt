@@ -1,16 +1,9 @@
 -- Which rows count.
-use Rattle.std.proofs.Common.{◌≡◌, ◌∙◌, ℕ, Bool, true, false, not, cond, nat_lt, [], ◌∷◌, filter, Option, Some, None, refl, sym, ap, arith}
-use Rattle.std.proofs.lemmas.Bool.Decides.{nat_tests}
-use Rattle.pim_types.specs.Keys.{group_in, iface_in, same_key, star_key}
-use Rattle.pim_types.specs.declared.fact.GroupRecordRow.{GroupRecordRow}
-use Rattle.pim_types.specs.declared.fact.Key.{Key}
-use Rattle.pim_types.proofs.Keys.{equal_keys}
-use Rattle.pim_model.specs.Tables.{Table, drop_where, has_row, row_at}
-use Rattle.pim_laws.proofs.RowLaws.{row_kept}
-use Rattle.igmp_older.specs.Modes.{is_three, mode_of, nobody}
-use Rattle.igmp_older.specs.Presence.{has_record, live_rows, mode_at, row_or_nobody, timers_at}
-use Rattle.igmp_older.specs.declared.mode.Mode.{Mode}
-use Rattle.igmp_older.specs.declared.mode.PresentRow.{PresentRow}
+use Rattle.std.{proofs.{Common.{◌≡◌, ◌∙◌, ℕ, Bool, true, false, not, cond, nat_lt, [], ◌∷◌, filter, Option, Some, None, refl, sym, ap, arith}, lemmas.Bool.Decides.nat_tests}}
+use Rattle.pim_types.{specs.{Keys.{group_in, iface_in, same_key, star_key}, declared.fact.{GroupRecordRow.GroupRecordRow, Key.Key}}, proofs.Keys.equal_keys}
+use Rattle.pim_model.{specs.Tables.{Table, drop_where, has_row, row_at}}
+use Rattle.law_settled.{proofs.RowLaws.row_kept}
+use Rattle.igmp_older.{specs.{Modes.{is_three, mode_of, nobody}, Presence.{has_record, live_rows, mode_at, row_or_nobody, timers_at}, declared.mode.{Mode.Mode, PresentRow.PresentRow}}}
 
 -- a key that doesn't pass is under no row that is left
 row_gone : (test : Key → Bool) (k : Key) → test k ≡ true → (t : Table PresentRow) → row_at (drop_where test t) k ≡ None

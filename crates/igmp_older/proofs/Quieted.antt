@@ -1,16 +1,9 @@
 -- Rows that aren't looked at before a timestamp, and time that passes.
-use Rattle.std.proofs.Common.{◌≡◌, ◌∙◌, ℕ, ◌≤◌, ◌<◌, nat_lt, Bool, true, false, cond, min, List, [], ◌∷◌, filter, filter_map, Option, Some, None, is_some, option_map, refl, sym, ap, subst, arith}
-use Rattle.std.proofs.lemmas.Bool.Decides.{nat_tests}
-use Rattle.std.specs.List.{cons_option}
-use Rattle.std.specs.Map.Calls.{RetainsPairs}
-use Rattle.pim_types.specs.declared.fact.GroupRecordRow.{GroupRecordRow}
-use Rattle.pim_types.specs.declared.fact.Key.{Key}
-use Rattle.pim_model.specs.Tables.{Table, put}
-use Rattle.pim_laws.proofs.ListLaws.{each_filter, each_more}
-use Rattle.pim_laws.proofs.RowLaws.{each_put}
-use Rattle.igmp_older.specs.Presence.{entry_after, row_after}
-use Rattle.igmp_older.specs.Quiet.{AreQuiet}
-use Rattle.igmp_older.specs.declared.mode.PresentRow.{PresentRow}
+use Rattle.std.{proofs.{Common.{◌≡◌, ◌∙◌, ℕ, ◌≤◌, ◌<◌, nat_lt, Bool, true, false, cond, min, List, [], ◌∷◌, filter, filter_map, Option, Some, None, is_some, option_map, refl, sym, ap, subst, arith}, lemmas.Bool.Decides.nat_tests}, specs.{List.cons_option, Map.Calls.RetainsPairs}}
+use Rattle.pim_types.{specs.declared.fact.{GroupRecordRow.GroupRecordRow, Key.Key}}
+use Rattle.pim_model.{specs.Tables.{Table, put}}
+use Rattle.law_settled.{proofs.{ListLaws.{each_filter, each_more}, RowLaws.each_put}}
+use Rattle.igmp_older.{specs.{Presence.{entry_after, row_after}, Quiet.AreQuiet, declared.mode.PresentRow.PresentRow}}
 
 pub earlier : (quiet later : ℕ) → quiet ≤ later → (rows : Table PresentRow) → AreQuiet later rows → AreQuiet quiet rows
 earlier quiet later low rows f =

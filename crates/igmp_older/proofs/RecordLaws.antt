@@ -1,11 +1,8 @@
 -- A group without a record.
-use Rattle.std.proofs.Common.{◌≡◌, ℕ, false}
-use Rattle.pim_types.specs.Keys.{star_key}
-use Rattle.pim_model.specs.Tables.{has_row}
-use Rattle.igmp_older.specs.Joined.{Both, rows_of}
-use Rattle.igmp_older.specs.Presence.{mode_at}
-use Rattle.igmp_older.specs.declared.mode.Mode.{Mode}
-use Rattle.igmp_older.proofs.LiveLaws.{mode_gone}
+use Rattle.std.{proofs.Common.{◌≡◌, ℕ, false}}
+use Rattle.pim_types.{specs.Keys.star_key}
+use Rattle.pim_model.{specs.Tables.has_row}
+use Rattle.igmp_older.{specs.{Joined.{Both, rows_of}, Presence.mode_at, declared.mode.Mode.Mode}, proofs.LiveLaws.mode_gone}
 
 pub no_record_is_three : (b : Both) (i g : ℕ) → has_row b.state.group_records (star_key i g) ≡ false
     → mode_at (rows_of b) b.state.present i g ≡ Mode.Three

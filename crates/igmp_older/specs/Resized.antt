@@ -1,11 +1,8 @@
 -- Settings and rows for another number of interfaces.
-use Rattle.std.specs.Prelude.{ℕ, ◌-◌, ◌++◌, List, filter, length, max, nat_lt, replicate, take}
-use Rattle.pim_types.specs.Keys.{iface_in}
-use Rattle.pim_types.specs.declared.fact.Key.{Key}
-use Rattle.pim_model.specs.Tables.{Table}
-use Rattle.igmp_older.specs.Presence.{Present}
-use Rattle.igmp_older.specs.declared.mode.PresentRow.{PresentRow}
-use Rattle.igmp_older.specs.declared.setting.OlderHosts.{OlderHosts}
+use Rattle.std.{specs.Prelude.{ℕ, ◌-◌, ◌++◌, List, filter, length, max, nat_lt, replicate, take}}
+use Rattle.pim_types.{specs.{Keys.iface_in, declared.fact.Key.Key}}
+use Rattle.pim_model.{specs.Tables.Table}
+use Rattle.igmp_older.{specs.{Presence.Present, declared.{mode.PresentRow.PresentRow, setting.OlderHosts.OlderHosts}}}
 
 -- The settings of the first so many interfaces; one that is added is unset.
 abbrev pub resized_list : {A : Type 0} → ℕ → A → List A → List A

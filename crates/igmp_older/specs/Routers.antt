@@ -1,23 +1,12 @@
 -- Routers of IGMP version 2 on a link (RFC 3376, section 7.3.1): what a router of version 3 is to be given in the place of
 -- their queries, and what is to leave in the place of its own.
-use Rattle.std.specs.Prelude.{◌≡◌, ℕ, Bool, true, false, ◌&&◌, ◌||◌, ◌==◌, min, nat_le, if◌then◌else◌, List, [], ◌∷◌, ◌++◌, length, slice_index, Option, Some, None, option_map, Result, Ok, Err}
-use Rattle.byteorder.specs.Endian.{big_bytes, big_from}
-use Rattle.pim_ip.specs.Addr.{addr}
-use Rattle.pim_ip.specs.Checksum.{sum16, with_checksum}
-use Rattle.pim_ip.specs.Ipv4.{Packet, frame_limit, igmp_packet_text, ipv4_reading, is_multicast, protocol_igmp}
-use Rattle.pim_ip.specs.declared.refusal.Refusal.{Refusal}
-use Rattle.igmp_wire.specs.Codes.{code_value}
-use Rattle.igmp_wire.specs.Messages.{igmp_reading}
-use Rattle.igmp_wire.specs.Queries.{query_text}
-use Rattle.igmp_wire.specs.Values.{Query}
-use Rattle.igmp_wire.specs.declared.view.IgmpView.{IgmpView}
-use Rattle.pim_types.specs.declared.config.IfaceId.{IfaceId}
-use Rattle.pim_types.specs.declared.fact.QuerierRow.{QuerierRow}
-use Rattle.pim_model.specs.Judging.{frame_judged}
-use Rattle.pim_model.specs.Querier.{is_lower_querier, querier_on, query_seen}
-use Rattle.pim_model.specs.State.{State, iface_count, is_own, is_up}
-use Rattle.pim_model.specs.declared.accepted.Accepted.{Accepted}
-use Rattle.igmp_older.specs.declared.router.OlderQuery.{OlderQuery}
+use Rattle.std.{specs.Prelude.{◌≡◌, ℕ, Bool, true, false, ◌&&◌, ◌||◌, ◌==◌, min, nat_le, if◌then◌else◌, List, [], ◌∷◌, ◌++◌, length, slice_index, Option, Some, None, option_map, Result, Ok, Err}}
+use Rattle.byteorder.{specs.Endian.{big_bytes, big_from}}
+use Rattle.pim_ip.{specs.{Addr.addr, Checksum.{sum16, with_checksum}, Ipv4.{Packet, frame_limit, igmp_packet_text, ipv4_reading, is_multicast, protocol_igmp}, declared.refusal.Refusal.Refusal}}
+use Rattle.igmp_wire.{specs.{Codes.code_value, Messages.igmp_reading, Queries.query_text, Values.Query, declared.view.IgmpView.IgmpView}}
+use Rattle.pim_types.{specs.declared.{config.IfaceId.IfaceId, fact.QuerierRow.QuerierRow}}
+use Rattle.pim_model.{specs.{Judging.frame_judged, Querier.{is_lower_querier, querier_on, query_seen}, State.{State, iface_count, is_own, is_up}, declared.accepted.Accepted.Accepted}}
+use Rattle.igmp_older.{specs.declared.router.OlderQuery.OlderQuery}
 
 -- a packet was written behind what stood there, where one is to be
 abbrev pub Wrote : Bool → Option (List ℕ) → List ℕ → List ℕ → Type 0
@@ -57,6 +46,7 @@ pub record OlderQueried : Type 0 where
 unfoldable pub query_packet : OlderQueried → List ℕ
 query_packet t = igmp_packet_text t.source t.destination (query_text (query_as_three t.query))
 
+-- the query of version 2 that a packet brings, with its sender
 unfoldable pub packet_queried : Packet → Option OlderQueried
 packet_queried p =
     if (p.protocol == protocol_igmp) && is_multicast p.destination
@@ -64,6 +54,7 @@ packet_queried p =
     (older_query_reading p.payload)
     else None
 
+-- the query of version 2 that a read packet brings
 abbrev pub reading_queried : Result Packet Refusal → Option OlderQueried
 reading_queried (Ok p) = packet_queried p
 reading_queried (Err refusal) = None
@@ -82,14 +73,17 @@ older_query_text max_response group = with_checksum (0x11 ∷ max_response ∷ [
 abbrev pub cut_text : Query → List ℕ
 cut_text q = older_query_text (min (code_value q.max_response_code) 255) q.group
 
+-- the packet of version 2 that leaves for a query of version 3
 abbrev pub message_cut : Packet → Result IgmpView Refusal → Option (List ℕ)
 message_cut p (Ok (IgmpView.Query q)) = Some (igmp_packet_text p.source p.destination (cut_text q))
 message_cut p (Ok (IgmpView.Report records)) = None
 message_cut p (Err refusal) = None
 
+-- the packet of version 2 that leaves for a packet of IGMP; none where it is no query
 unfoldable pub packet_cut : Packet → Option (List ℕ)
 packet_cut p = if p.protocol == protocol_igmp then message_cut p (igmp_reading p.payload) else None
 
+-- the packet of version 2 that leaves for a read packet
 abbrev pub reading_cut : Result Packet Refusal → Option (List ℕ)
 reading_cut (Ok p) = packet_cut p
 reading_cut (Err refusal) = None
@@ -98,9 +92,10 @@ reading_cut (Err refusal) = None
 unfoldable pub cut : List ℕ → Option (List ℕ)
 cut b = reading_cut (ipv4_reading b)
 
--- ---- what holds of them
+-- ---- queries of older routers as the router takes them
 
--- the router takes what it is given as a query, from the same router, on an interface that is up
+-- the router takes the query that it is given for one of an older router, on an interface that is up, as from that
+-- router
 abbrev pub QueryIsTaken : Type 0
 QueryIsTaken =
     (b : List ℕ) (t : OlderQueried) (s : State) (i : IfaceId) → queried b ≡ Some t

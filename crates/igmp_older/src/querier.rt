@@ -10,21 +10,21 @@ use pim_types::fact::GroupRecordRow;
 
 /// The querier of version 3 behind the front. It keeps a record for each group on an interface that has members.
 pub trait Querier {
-    /// Its present moment, in ms.
+    /// The querier's present timestamp, in ms.
     ghost present: { Self → ℕ };
 
-    /// Its group records.
+    /// The querier's group records.
     ghost group_records: { Self → Table GroupRecordRow };
 
-    /// Its present moment, in ms.
+    /// The querier's present timestamp, in ms.
     fn present(&self) -> u64
         ensures { result ≡ present self.now };
 
-    /// Whether it has a record of a group on an interface.
+    /// Whether the querier has a record of a group on an interface.
     fn has_group_record(&self, iface: IfaceId, group: Addr) -> bool
         ensures { result ≡ has_row (group_records self.now) (star_key iface.number group.bits) };
 
-    /// Its record of a group on an interface, if it has one.
+    /// The querier's record of a group on an interface, if it has one.
     fn group_record(&self, iface: IfaceId, group: Addr) -> Option<GroupRecordRow>
         ensures { result ≡ row_at (group_records self.now) (star_key iface.number group.bits) };
 }

@@ -12,10 +12,10 @@ use std::alloc::{AllocError, Global};
 use std::process::Abort;
 use std::test::Fail;
 
-// Nobody is heard there.
+// An interface on which no older hosts are heard.
 const QUIET_LINK: IfaceId = IfaceId { number: 0 };
 
-// All hosts are heard there.
+// An interface on which hosts of all versions are heard.
 const LINK: IfaceId = IfaceId { number: 1 };
 
 const GROUP: Addr = Addr { bits: 0xEF01_0101 };

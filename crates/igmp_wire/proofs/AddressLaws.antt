@@ -1,7 +1,7 @@
 -- The addresses from a place on, one by one.
-use Rattle.std.proofs.Common.{◌≡◌, ℕ, zero, suc, ◌+◌, ◌-◌, ◌<◌, List, [], ◌∷◌, length, refl, ap, arith}
-use Rattle.byteorder.specs.Endian.{big_from}
-use Rattle.igmp_wire.specs.Queries.{addresses_at}
+use Rattle.std.{proofs.Common.{◌≡◌, ℕ, zero, suc, ◌+◌, ◌-◌, ◌<◌, List, [], ◌∷◌, length, refl, ap, arith}}
+use Rattle.byteorder.{specs.Endian.big_from}
+use Rattle.igmp_wire.{specs.Queries.addresses_at}
 
 pub addresses_at-none : (b : List ℕ) (p n : ℕ) → n ≡ 0 → addresses_at b p n ≡ []
 unfolding addresses_at

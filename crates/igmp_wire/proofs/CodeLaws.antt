@@ -1,12 +1,6 @@
 -- The values of the codes rise, so that a value between two of them has the lower one's code.
-use Rattle.std.proofs.Common.{◌≡◌, ℕ, zero, suc, ◌+◌, ◌-◌, ◌*◌, ◌/◌, ◌%◌, ◌^◌, ◌<◌, ◌≤◌, Bool, true, false, ltb, lit<, ◌&&◌, ap, refl, sym, ◌∙◌, inl, inr, arith}
-use Rattle.std.proofs.lemmas.Bool.{cases_lt}
-use Rattle.std.proofs.lemmas.Bool.Decides.{nat_tests, Decides-below_and, Decides-ltb}
-use Rattle.std.proofs.lemmas.Nat.{leading_top, le-div, div_below, pow_pos, mod_below, div-add-mod', pow-add, shl_whole}
-use Rattle.std.proofs.Math.Nat.{pow-succ', add-mul}
-use Rattle.std.proofs.Math.Pow.{pow_mono}
-use Rattle.std.specs.Int.Count.{count_leading_zeros}
-use Rattle.igmp_wire.specs.Codes.{code_value, greatest_code, value_code}
+use Rattle.std.{proofs.{Common.{◌≡◌, ℕ, zero, suc, ◌+◌, ◌-◌, ◌*◌, ◌/◌, ◌%◌, ◌^◌, ◌<◌, ◌≤◌, Bool, true, false, ltb, lit<, ◌&&◌, ap, refl, sym, ◌∙◌, inl, inr, arith}, lemmas.{Bool.{cases_lt, Decides.{nat_tests, Decides-below_and, Decides-ltb}}, Nat.{leading_top, le-div, div_below, pow_pos, mod_below, div-add-mod', pow-add, shl_whole}}, Math.{Nat.{pow-succ', add-mul}, Pow.pow_mono}}, specs.Int.Count.count_leading_zeros}
+use Rattle.igmp_wire.{specs.Codes.{code_value, greatest_code, value_code}}
 
 -- each of the first n codes has a lower value than the next one
 abbrev rising : ℕ → Bool

@@ -1,15 +1,7 @@
 -- What follows the tests of a part of a message.
-use Rattle.std.proofs.Common.{◌≡◌, ◌≤◌, List, ℕ, length, Result, Ok, Err, ap, arith}
-use Rattle.std.proofs.lemmas.Bool.Decides.{nat_tests}
-use Rattle.pim_ip.specs.declared.refusal.Refusal.{Refusal}
-use Rattle.pim_ip.specs.Tests.{◌>>◌}
-use Rattle.pim_ip.specs.Checksum.{sum16}
-use Rattle.igmp_wire.specs.declared.view.IgmpView.TheVariants.{Query as AsQuery, Report as AsReport}
-use Rattle.igmp_wire.specs.Values.{Query, Record}
-use Rattle.igmp_wire.specs.Queries.{query_test, query_of}
-use Rattle.igmp_wire.specs.Reports.{report_test, report_of}
-use Rattle.igmp_wire.specs.Messages.{type_of, igmp_reading}
-use Rattle.igmp_wire.specs.Parts.{query_reading, report_reading}
+use Rattle.std.{proofs.{Common.{◌≡◌, ◌≤◌, List, ℕ, length, Result, Ok, Err, ap, arith}, lemmas.Bool.Decides.nat_tests}}
+use Rattle.pim_ip.{specs.{declared.refusal.Refusal.Refusal, Tests.◌>>◌, Checksum.sum16}}
+use Rattle.igmp_wire.{specs.{declared.view.IgmpView.TheVariants.{Query as AsQuery, Report as AsReport}, Values.{Query, Record}, Queries.{query_test, query_of}, Reports.{report_test, report_of}, Messages.{type_of, igmp_reading}, Parts.{query_reading, report_reading}}}
 
 -- another value after the same tests
 passed : {X Y : Type 0} (f : X → Y) (tests : Result (Unit {0}) Refusal) (x y : X) → (tests >> Ok x) ≡ Ok y → (tests >> Ok (f x)) ≡ Ok (f y)

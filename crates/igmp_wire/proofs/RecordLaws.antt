@@ -1,12 +1,7 @@
 -- The records from a place on, one by one.
-use Rattle.std.proofs.Common.{◌≡◌, ℕ, zero, suc, ◌+◌, ◌-◌, ◌<◌, ◌≤◌, Bool, true, false, ◌||◌, nat_le, is_none, List, [], ◌++◌, length, Result, Ok, Err, refl, ap, ◌∙◌, arith}
-use Rattle.std.proofs.lemmas.Bool.Decides.{nat_tests}
-use Rattle.pim_ip.specs.declared.refusal.Refusal.{Refusal}
-use Rattle.pim_ip.specs.declared.refusal.Refusal.TheVariants.{Short, NotMulticast}
-use Rattle.pim_ip.specs.Ipv4.{is_multicast}
-use Rattle.pim_ip.specs.Tests.{expect, ◌>>◌}
-use Rattle.igmp_wire.specs.Reports.{record_type_at, record_group_at, after_record, record_at, records_at, records_test, record_count_of, report_test, report_of}
-use Rattle.igmp_wire.specs.Parts.{record_reading, report_reading}
+use Rattle.std.{proofs.{Common.{◌≡◌, ℕ, zero, suc, ◌+◌, ◌-◌, ◌<◌, ◌≤◌, Bool, true, false, ◌||◌, nat_le, is_none, List, [], ◌++◌, length, Result, Ok, Err, refl, ap, ◌∙◌, arith}, lemmas.Bool.Decides.nat_tests}}
+use Rattle.pim_ip.{specs.{declared.refusal.Refusal.{Refusal, TheVariants.{Short, NotMulticast}}, Ipv4.is_multicast, Tests.{expect, ◌>>◌}}}
+use Rattle.igmp_wire.{specs.{Reports.{record_type_at, record_group_at, after_record, record_at, records_at, records_test, record_count_of, report_test, report_of}, Parts.{record_reading, report_reading}}}
 
 pub records_at-none : (b : List ℕ) (p n : ℕ) → n ≡ 0 → records_at b p n ≡ []
 unfolding records_at

@@ -1,22 +1,8 @@
 -- What is written is read as it was written.
-use Rattle.std.proofs.Common.{◌≡◌, ℕ, zero, suc, ◌+◌, ◌*◌, ◌/◌, ◌%◌, ◌^◌, ◌<◌, ◌≤◌, Bool, true, false, ◌||◌, ◌==◌, not, nat_le, is_none, if◌then◌else◌, IsTrue, List, [], ◌∷◌, ◌++◌, length, get_or, filter, flat_map, All, Some, Ok, refl, sym, ap, ◌∙◌, arith}
-use Rattle.std.proofs.lemmas.Bool.Decides.{nat_tests}
-use Rattle.std.proofs.Math.Bool.{or-true}
-use Rattle.std.proofs.lemmas.List.{append_assoc, append-nil, length-append, length-map, get_or-append-add}
-use Rattle.byteorder.specs.Endian.{big_from, big_bytes}
-use Rattle.byteorder.specs.Numbers.{big_number-reads_back}
-use Rattle.pim_ip.specs.Ipv4.{is_multicast, is_link_local, is_unicast}
-use Rattle.pim_ip.specs.Checksum.{sum16, with_checksum}
-use Rattle.pim_ip.proofs.ChecksumLemmas.{sum16-with_checksum}
-use Rattle.igmp_wire.specs.declared.view.IgmpView.TheVariants.{Query as query_view, Report as report_view}
-use Rattle.igmp_wire.specs.declared.report.RecordType.{RecordType}
-use Rattle.igmp_wire.specs.declared.report.RecordType.TheVariants.{IsInclude, IsExclude, ToInclude, ToExclude, Allow, Block}
-use Rattle.igmp_wire.specs.Values.{Query, Record}
-use Rattle.igmp_wire.specs.Queries.{addresses_at, group_of, source_count_of, query_test, query_of, query_text}
-use Rattle.igmp_wire.specs.Reports.{type_of_code, code_of_type, record_type_at, auxiliary_length_at, record_group_at, source_count_at, after_record, record_at, records_at, records_test, record_text, record_count_of, report_test, report_of, report_text}
-use Rattle.igmp_wire.specs.Messages.{type_of, report_type, query_type, igmp_reading}
-use Rattle.igmp_wire.specs.Written.{records_of, HasSourceCount, IsKept, QueryReadsBack, ReportReadsBack}
-use Rattle.igmp_wire.specs.declared.write.GroupRecord.{GroupRecord}
+use Rattle.std.{proofs.{Common.{◌≡◌, ℕ, zero, suc, ◌+◌, ◌*◌, ◌/◌, ◌%◌, ◌^◌, ◌<◌, ◌≤◌, Bool, true, false, ◌||◌, ◌==◌, not, nat_le, is_none, if◌then◌else◌, IsTrue, List, [], ◌∷◌, ◌++◌, length, get_or, filter, flat_map, All, Some, Ok, refl, sym, ap, ◌∙◌, arith}, lemmas.{Bool.Decides.nat_tests, List.{append_assoc, append-nil, length-append, length-map, get_or-append-add}}, Math.Bool.or-true}}
+use Rattle.byteorder.{specs.{Endian.{big_from, big_bytes}, Numbers.big_number-reads_back}}
+use Rattle.pim_ip.{specs.{Ipv4.{is_multicast, is_link_local, is_unicast}, Checksum.{sum16, with_checksum}}, proofs.ChecksumLemmas.sum16-with_checksum}
+use Rattle.igmp_wire.{specs.{declared.{view.IgmpView.TheVariants.{Query as query_view, Report as report_view}, report.RecordType.{RecordType, TheVariants.{IsInclude, IsExclude, ToInclude, ToExclude, Allow, Block}}, write.GroupRecord.GroupRecord}, Values.{Query, Record}, Queries.{addresses_at, group_of, source_count_of, query_test, query_of, query_text}, Reports.{type_of_code, code_of_type, record_type_at, auxiliary_length_at, record_group_at, source_count_at, after_record, record_at, records_at, records_test, record_text, record_count_of, report_test, report_of, report_text}, Messages.{type_of, report_type, query_type, igmp_reading}, Written.{records_of, HasSourceCount, IsKept, QueryReadsBack, ReportReadsBack}}}
 
 -- a number behind what stands in front
 big_from-front : (front rest : List ℕ) (p i n : ℕ) → p ≡ length front + i → big_from p n (front ++ rest) ≡ big_from i n rest

@@ -1,5 +1,5 @@
 -- The codes of Max Resp Code and QQIC (RFC 3376, sections 4.1.1 and 4.1.7).
-use Rattle.std.specs.Prelude.{ℕ, zero, suc, ◌+◌, ◌*◌, ◌/◌, ◌%◌, ◌^◌, true, false, if◌then◌else◌, nat_lt, nat_le}
+use Rattle.std.{specs.Prelude.{ℕ, zero, suc, ◌+◌, ◌*◌, ◌/◌, ◌%◌, ◌^◌, true, false, if◌then◌else◌, nat_lt, nat_le}}
 
 -- The value of a code: below 128 the number itself, else a mantissa of 4 bits and an exponent of 3.
 unfoldable pub code_value : ℕ → ℕ

@@ -1,13 +1,7 @@
 -- The parts of a message as they are read: a query, a report, a record of it.
-use Rattle.std.specs.Prelude.{◌≡◌, ℕ, ◌+◌, ◌≤◌, nat_le, ◌||◌, is_none, List, length, filter, Result, Ok}
-use Rattle.pim_ip.specs.declared.refusal.Refusal.{Refusal}
-use Rattle.pim_ip.specs.declared.refusal.Refusal.TheVariants.{Short, NotMulticast}
-use Rattle.pim_ip.specs.Ipv4.{is_multicast, is_unicast}
-use Rattle.pim_ip.specs.Tests.{expect, ◌>>◌}
-use Rattle.igmp_wire.specs.declared.report.RecordType.{RecordType}
-use Rattle.igmp_wire.specs.Values.{Query, Record}
-use Rattle.igmp_wire.specs.Queries.{addresses_at, query_test, query_of}
-use Rattle.igmp_wire.specs.Reports.{record_type_at, record_group_at, source_count_at, after_record, report_test, report_of}
+use Rattle.std.{specs.Prelude.{◌≡◌, ℕ, ◌+◌, ◌≤◌, nat_le, ◌||◌, is_none, List, length, filter, Result, Ok}}
+use Rattle.pim_ip.{specs.{declared.refusal.Refusal.{Refusal, TheVariants.{Short, NotMulticast}}, Ipv4.{is_multicast, is_unicast}, Tests.{expect, ◌>>◌}}}
+use Rattle.igmp_wire.{specs.{declared.report.RecordType.RecordType, Values.{Query, Record}, Queries.{addresses_at, query_test, query_of}, Reports.{record_type_at, record_group_at, source_count_at, after_record, report_test, report_of}}}
 
 -- the reading of a query whose type and checksum were tested
 unfoldable pub query_reading : List ℕ → Result Query Refusal

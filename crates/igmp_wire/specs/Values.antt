@@ -1,6 +1,6 @@
 -- The values of a query and of a group record.
-use Rattle.std.specs.Prelude.{ℕ, Bool, List}
-use Rattle.igmp_wire.specs.declared.report.RecordType.{RecordType}
+use Rattle.std.{specs.Prelude.{ℕ, Bool, List}}
+use Rattle.igmp_wire.{specs.declared.report.RecordType.RecordType}
 
 -- A query: group 0 queries all groups, and no sources the whole group.
 pub record Query : Type 0 where

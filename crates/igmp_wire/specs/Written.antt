@@ -1,21 +1,13 @@
 -- The values of what is written, and when they are read again as they were written.
-use Rattle.std.specs.Prelude.{◌≡◌, ℕ, ◌+◌, ◌^◌, ◌<◌, ◌||◌, ◌==◌, not, if◌then◌else◌, IsTrue, List, ◌∷◌, ◌++◌, length, map, flat_map, take, drop, All, Ok}
-use Rattle.byteorder.specs.Endian.{big_bytes}
-use Rattle.pim_ip.specs.Checksum.{with_checksum}
-use Rattle.pim_ip.specs.declared.addr.Addr.{Addr}
-use Rattle.pim_ip.specs.Ipv4.{is_multicast, is_link_local, is_unicast}
-use Rattle.igmp_wire.specs.declared.view.IgmpView.TheVariants.{Query as query_view, Report as report_view}
-use Rattle.igmp_wire.specs.declared.write.QueryHeader.{QueryHeader}
-use Rattle.igmp_wire.specs.declared.write.GroupRecord.{GroupRecord}
-use Rattle.igmp_wire.specs.Values.{Query, Record}
-use Rattle.igmp_wire.specs.Queries.{query_text}
-use Rattle.igmp_wire.specs.Reports.{record_text, report_text}
-use Rattle.igmp_wire.specs.Messages.{igmp_reading}
+use Rattle.std.{specs.Prelude.{◌≡◌, ℕ, ◌+◌, ◌^◌, ◌<◌, ◌||◌, ◌==◌, not, if◌then◌else◌, IsTrue, List, ◌∷◌, ◌++◌, length, map, flat_map, take, drop, All, Ok}}
+use Rattle.byteorder.{specs.Endian.big_bytes}
+use Rattle.pim_ip.{specs.{Checksum.with_checksum, declared.addr.Addr.Addr, Ipv4.{is_multicast, is_link_local, is_unicast}}}
+use Rattle.igmp_wire.{specs.{declared.{view.IgmpView.TheVariants.{Query as query_view, Report as report_view}, write.{QueryHeader.QueryHeader, GroupRecord.GroupRecord}}, Values.{Query, Record}, Queries.query_text, Reports.{record_text, report_text}, Messages.igmp_reading}}
 
 abbrev pub bits_of : List Addr → List ℕ
 bits_of addresses = map (λ address. address.bits) addresses
 
--- the query with these sources
+-- the query with a header's values and these sources
 abbrev pub query_with : QueryHeader → List Addr → Query
 query_with header sources = record {
   max_response_code = header.max_response_code;

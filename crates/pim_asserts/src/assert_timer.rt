@@ -3,12 +3,12 @@ ghost use Rattle.std.specs.Prelude.{◌≡◌, ◌<◌, ◌^◌, OnOk};
 ghost use Rattle.pim_types.specs.declared.timer.TimerKind.{TimerKind};
 ghost use Rattle.pim_model.specs.Asserts.{asserted_metric, wins_again};
 ghost use Rattle.pim_model.specs.Firing.{fired};
-ghost use Rattle.pim_world.specs.Turns.{saying};
+ghost use Rattle.pim_state.specs.Turns.{saying};
 
 use pim_macros::{SourceSight, StarSight};
+use pim_state::{Meter, Turn, World};
 use pim_types::Key;
 use pim_types::fact::{AssertMetric, AssertRole, AssertRow};
-use pim_world::{Meter, Turn, World};
 use std::alloc::AllocError;
 
 /// Assert_Time less Assert_Override_Interval (RFC 7761, section 4.11), in ms.
@@ -29,7 +29,7 @@ pub(crate) fn asserted_metric(world: &World, meter: &mut Meter, key: Key) -> Ass
     }
 }
 
-/// A winner asserts again.
+/// The assert timer of a winner expires: it asserts again (RFC 7761, sections 4.6.1 and 4.6.2).
 #[tactic(auto, unfolding(pim_model::specs::Asserts::wins_again, pim_model::specs::Asserts::assert_message))]
 pub(crate) fn win_again(
     world: &mut World,

@@ -1,8 +1,8 @@
 //! What must go after a change: asserts, and SPTbits with the asserts that they kept.
 ghost use Rattle.std.specs.Prelude.{◌≡◌, ◌∷◌, [], IsTrue, OnOk, Some, false, map};
 ghost use Rattle.pim_macros.specs.Sights.{IsSourceSight, IsStarSight};
-ghost use Rattle.pim_opening.specs.After.{AreAfter, IsAfter, opened_in, opening_in};
-ghost use Rattle.pim_world.specs.Turns.{saying};
+ghost use Rattle.pim_views.specs.After.{AreAfter, AreGathered, IsAfter, opened_in, opening_in, openings_in};
+ghost use Rattle.pim_state.specs.Turns.{saying};
 ghost use Rattle.pim_model.specs.Asserts.{without_spt_bit};
 ghost use Rattle.pim_model.specs.Querier.{each_in_turn};
 ghost use Rattle.pim_model.specs.Desires.{join_desired};
@@ -10,15 +10,25 @@ ghost use Rattle.pim_model.specs.State.{State};
 ghost use Rattle.pim_model.specs.Tables.{row_at};
 ghost use Rattle.pim_types.specs.Keys.{source_key};
 ghost use Rattle.pim_asserts.specs.Opened.{clear_asserts, clear_bit, clear_bits, clear_by, clear_source, clear_star};
+ghost use Rattle.pim_asserts.specs.Passes.{group_pass, source_pass};
 
 use crate::going::{first_of_source, first_of_star};
 use crate::part::{Part, clear_part};
 use pim_macros::{SourceSight, StarSight};
-use pim_opening::{GroupAfter, GroupOpening, Opening, SourceAfter, SourceOpening};
+use pim_state::{Meter, Turn, World};
 use pim_types::fact::SourceRow;
 use pim_types::{Addr, SourceGroup};
-use pim_world::{Meter, Turn, World};
+use pim_views::{GroupAfter, GroupOpening, Opening, SourceAfter, SourceOpening};
 use std::alloc::AllocError;
+
+/// What is cleared of all that was opened before the next is.
+#[derive(Clone, Copy)]
+pub(crate) enum Pass {
+    /// The asserts that must go.
+    Asserts,
+    /// The SPTbits that must go, each with the asserts that must go without it.
+    Bits,
+}
 
 // The asserts of (*,G), where all of the group was opened.
 #[tactic(auto, unfolding(crate::specs::Opened::clear_star))]
@@ -62,55 +72,6 @@ fn clear_source(
     clear_part(world, turn, meter, part)
 }
 
-// The asserts of these sources, one source after the other.
-fn clear_sources(
-    world: &mut World,
-    turn: &mut Turn,
-    meter: &mut Meter,
-    group: Addr,
-    sources: &[SourceOpening],
-) -> Result<(), AllocError>
-    ensures state { OnOk result (world.new ≡ (each_in_turn (clear_source group.bits) world.old sources.now).0) }
-    ensures messages { OnOk result (turn.new ≡ saying turn.old
-        (each_in_turn (clear_source group.bits) world.old sources.now).1) }
-{
-    for opened in sources {
-        clear_source(world, turn, meter, group, *opened)?;
-    }
-    Ok(())
-}
-
-// The asserts of a group.
-#[tactic(auto, unfolding(crate::specs::Opened::clear_asserts))]
-fn clear_asserts(
-    world: &mut World,
-    turn: &mut Turn,
-    meter: &mut Meter,
-    opened: &GroupOpening,
-) -> Result<(), AllocError>
-    ensures state { OnOk result (world.new ≡ (clear_asserts world.old opened.now).0) }
-    ensures messages { OnOk result (turn.new ≡ saying turn.old (clear_asserts world.old opened.now).1) }
-{
-    clear_star(world, turn, meter, opened)?;
-    clear_sources(world, turn, meter, opened.group, opened.sources.as_slice())
-}
-
-// The asserts of these groups, one group after the other.
-fn clear_all_asserts(
-    world: &mut World,
-    turn: &mut Turn,
-    meter: &mut Meter,
-    groups: &[GroupOpening],
-) -> Result<(), AllocError>
-    ensures state { OnOk result (world.new ≡ (each_in_turn clear_asserts world.old groups.now).0) }
-    ensures messages { OnOk result (turn.new ≡ saying turn.old (each_in_turn clear_asserts world.old groups.now).1) }
-{
-    for opened in groups {
-        clear_asserts(world, turn, meter, opened)?;
-    }
-    Ok(())
-}
-
 // Clears SPTbit(S,G), which is set; the source's row is kept while its keepalive timer runs.
 fn forget_spt_bit(
     world: &mut World,
@@ -123,7 +84,7 @@ fn forget_spt_bit(
         ≡ without_spt_bit world.old (source_key 0 name.group.bits name.source.bits)) }
 {
     // For the proof: a key is listed once.
-    world.recall_keyed();
+    world.proof_keyed();
     let left = row
         .keepalive
         .is_some()
@@ -164,35 +125,88 @@ fn is_joined(world: &World, meter: &mut Meter, name: SourceGroup) -> bool
     SourceSight::with_star(world, name, meter).join_desired()
 }
 
-// The SPTbits of a group's sources, one source after the other.
-#[tactic(auto, unfolding(crate::specs::Opened::clear_bits))]
-fn clear_bits(
+// What goes of a source in the pass.
+fn clear_in_pass(
+    world: &mut World,
+    turn: &mut Turn,
+    meter: &mut Meter,
+    pass: Pass,
+    group: Addr,
+    opened: SourceOpening,
+) -> Result<(), AllocError>
+    ensures state { OnOk result (world.new ≡ (source_pass pass group.bits world.old opened).0) }
+    ensures messages { OnOk result (turn.new ≡ saying turn.old (source_pass pass group.bits world.old opened).1) }
+{
+    match pass {
+        Pass::Asserts => clear_source(world, turn, meter, group, opened),
+        Pass::Bits => clear_bit(world, turn, meter, group, opened),
+    }
+}
+
+// What goes of a group's sources in the pass, one source after the other.
+fn clear_sources(
+    world: &mut World,
+    turn: &mut Turn,
+    meter: &mut Meter,
+    pass: Pass,
+    opened: &GroupOpening,
+) -> Result<(), AllocError>
+    ensures state { OnOk result (world.new
+        ≡ (each_in_turn (source_pass pass opened.now.group.bits) world.old opened.now.sources).0) }
+    ensures messages { OnOk result (turn.new ≡ saying turn.old
+        (each_in_turn (source_pass pass opened.now.group.bits) world.old opened.now.sources).1) }
+{
+    for source in opened.sources.as_slice() {
+        clear_in_pass(world, turn, meter, pass, opened.group, *source)?;
+    }
+    Ok(())
+}
+
+// The asserts of a group.
+#[tactic(auto, unfolding(crate::specs::Opened::clear_asserts))]
+fn clear_asserts(
     world: &mut World,
     turn: &mut Turn,
     meter: &mut Meter,
     opened: &GroupOpening,
 ) -> Result<(), AllocError>
-    ensures state { OnOk result (world.new ≡ (clear_bits world.old opened.now).0) }
-    ensures messages { OnOk result (turn.new ≡ saying turn.old (clear_bits world.old opened.now).1) }
+    ensures state { OnOk result (world.new ≡ (clear_asserts world.old opened.now).0) }
+    ensures messages { OnOk result (turn.new ≡ saying turn.old (clear_asserts world.old opened.now).1) }
 {
-    for source in opened.sources.as_slice() {
-        clear_bit(world, turn, meter, opened.group, *source)?;
-    }
-    Ok(())
+    clear_star(world, turn, meter, opened)?;
+    clear_sources(world, turn, meter, Pass::Asserts, opened)
 }
 
-// The SPTbits of these groups, one group after the other.
-fn clear_all_bits(
+// What goes of a group in the pass.
+fn clear_group(
     world: &mut World,
     turn: &mut Turn,
     meter: &mut Meter,
+    pass: Pass,
+    opened: &GroupOpening,
+) -> Result<(), AllocError>
+    ensures state { OnOk result (world.new ≡ (group_pass pass world.old opened.now).0) }
+    ensures messages { OnOk result (turn.new ≡ saying turn.old (group_pass pass world.old opened.now).1) }
+{
+    match pass {
+        Pass::Asserts => clear_asserts(world, turn, meter, opened),
+        Pass::Bits => clear_sources(world, turn, meter, Pass::Bits, opened),
+    }
+}
+
+// What goes of these groups in the pass, one group after the other.
+fn clear_groups(
+    world: &mut World,
+    turn: &mut Turn,
+    meter: &mut Meter,
+    pass: Pass,
     groups: &[GroupOpening],
 ) -> Result<(), AllocError>
-    ensures state { OnOk result (world.new ≡ (each_in_turn clear_bits world.old groups.now).0) }
-    ensures messages { OnOk result (turn.new ≡ saying turn.old (each_in_turn clear_bits world.old groups.now).1) }
+    ensures state { OnOk result (world.new ≡ (each_in_turn (group_pass pass) world.old groups.now).0) }
+    ensures messages { OnOk result (turn.new ≡ saying turn.old (each_in_turn (group_pass pass) world.old groups.now).1) }
 {
     for opened in groups {
-        clear_bits(world, turn, meter, opened)?;
+        clear_group(world, turn, meter, pass, opened)?;
     }
     Ok(())
 }
@@ -210,60 +224,70 @@ pub fn clear(
     ensures state { OnOk result (world.new ≡ (clear_by opening.now world.old).0) }
     ensures messages { OnOk result (turn.new ≡ saying turn.old (clear_by opening.now world.old).1) }
 {
-    clear_all_asserts(world, turn, meter, opening.groups())?;
-    clear_all_bits(world, turn, meter, opening.groups())
+    clear_groups(world, turn, meter, Pass::Asserts, opening.groups())?;
+    clear_groups(world, turn, meter, Pass::Bits, opening.groups())
 }
 
-// The asserts of the sight's source. The sight is true of the state before, and then of the state after.
-#[tactic(auto, unfolding(crate::specs::Opened::clear_source))]
-fn clear_source_by_sight(
-    world: &mut World,
-    turn: &mut Turn,
-    meter: &mut Meter,
-    opened: SourceOpening,
-    sight: &mut SourceSight,
-) -> Result<(), AllocError>
-    requires sight { IsSourceSight world.old sight.old }
-    requires source { sight.old.source ≡ opened.source }
-    ensures state { OnOk result (world.new ≡ (clear_source sight.old.star.group.bits world.old opened).0) }
-    ensures messages { OnOk result (turn.new
-        ≡ saying turn.old (clear_source sight.old.star.group.bits world.old opened).1) }
-    ensures sight { OnOk result (IsSourceSight world.new sight.new) }
-    ensures group { OnOk result (sight.new.star.group ≡ sight.old.star.group) }
-    ensures source { OnOk result (sight.new.source ≡ sight.old.source) }
+// Whether none of the source's asserts must go.
+fn keeps_asserts(world: &World, opened: SourceOpening, sight: &SourceSight) -> bool
+    requires sight { IsSourceSight world.now sight.now }
+    requires source { sight.now.source ≡ opened.source }
+    ensures { IsTrue result → clear_source sight.now.star.group.bits world.now opened ≡ (world.now, []) }
 {
     // For the proof: asserts are under keys of their kind, each of which is listed once.
-    world.recall_keyed();
+    world.proof_keyed();
     let Some(_) = first_of_source(world, sight, opened.view.iface) else {
-        return Ok(());
+        return true;
     };
-    clear_source(world, turn, meter, sight.star.group, opened)?;
-    *sight = sight.gathered_again(world, meter);
-    Ok(())
+    false
 }
 
-// Clears the SPTbit of the sight's source, which is set; the source's row is kept while its keepalive timer runs.
-#[tactic(auto, unfolding(crate::specs::Opened::clear_bit))]
-fn clear_bit_by_sight(
+// Whether the source's SPTbit isn't set, or needn't go.
+fn keeps_bit(opened: SourceOpening, sight: &SourceSight) -> bool
+    requires { sight.now.source ≡ opened.source }
+    ensures { IsTrue result → (s : State) → IsSourceSight s sight.now
+        → clear_bit sight.now.star.group.bits s opened ≡ (s, []) }
+{
+    if !sight.spt {
+        return true;
+    }
+    sight.join_desired()
+}
+
+// Whether nothing must go of a source in the pass, by its sight.
+fn stays(world: &World, pass: Pass, opened: SourceOpening, sight: &SourceSight) -> bool
+    requires sight { IsSourceSight world.now sight.now }
+    requires source { sight.now.source ≡ opened.source }
+    ensures { IsTrue result → source_pass pass sight.now.star.group.bits world.now opened ≡ (world.now, []) }
+{
+    match pass {
+        Pass::Asserts => keeps_asserts(world, opened, sight),
+        Pass::Bits => keeps_bit(opened, sight),
+    }
+}
+
+// What goes of the sight's source in the pass. The sight is true of the state before, and then of the state after.
+fn clear_by_sight(
     world: &mut World,
     turn: &mut Turn,
     meter: &mut Meter,
+    pass: Pass,
     opened: SourceOpening,
     sight: &mut SourceSight,
 ) -> Result<(), AllocError>
     requires sight { IsSourceSight world.old sight.old }
     requires source { sight.old.source ≡ opened.source }
-    ensures state { OnOk result (world.new ≡ (clear_bit sight.old.star.group.bits world.old opened).0) }
+    ensures state { OnOk result (world.new ≡ (source_pass pass sight.old.star.group.bits world.old opened).0) }
     ensures messages { OnOk result (turn.new
-        ≡ saying turn.old (clear_bit sight.old.star.group.bits world.old opened).1) }
+        ≡ saying turn.old (source_pass pass sight.old.star.group.bits world.old opened).1) }
     ensures sight { OnOk result (IsSourceSight world.new sight.new) }
     ensures group { OnOk result (sight.new.star.group ≡ sight.old.star.group) }
     ensures source { OnOk result (sight.new.source ≡ sight.old.source) }
 {
-    if !sight.spt || sight.join_desired() {
+    if stays(world, pass, opened, sight) {
         return Ok(());
     }
-    clear_bit(world, turn, meter, sight.star.group, opened)?;
+    clear_in_pass(world, turn, meter, pass, sight.star.group, opened)?;
     *sight = sight.gathered_again(world, meter);
     Ok(())
 }
@@ -291,8 +315,8 @@ pub fn clear_alone(
     ensures group { OnOk result (sight.new.star.group ≡ sight.old.star.group) }
     ensures source { OnOk result (sight.new.source ≡ sight.old.source) }
 {
-    clear_source_by_sight(world, turn, meter, opened, sight)?;
-    clear_bit_by_sight(world, turn, meter, opened, sight)
+    clear_by_sight(world, turn, meter, Pass::Asserts, opened, sight)?;
+    clear_by_sight(world, turn, meter, Pass::Bits, opened, sight)
 }
 
 // Whether nothing must go of the asserts of (*,G), where all of the group was opened.
@@ -302,7 +326,7 @@ fn is_clear_star(world: &World, after: &GroupAfter) -> bool
     ensures { IsTrue result → clear_star world.now (opening_in after.now) ≡ (world.now, []) }
 {
     // For the proof: asserts are under keys of their kind, each of which is listed once.
-    world.recall_keyed();
+    world.proof_keyed();
     if !after.is_whole {
         return true;
     }
@@ -310,33 +334,6 @@ fn is_clear_star(world: &World, after: &GroupAfter) -> bool
         return true;
     };
     false
-}
-
-// Whether none of the source's asserts must go.
-fn is_clear_of_asserts(world: &World, after: &SourceAfter) -> bool
-    requires sight { IsSourceSight world.now after.now.sight }
-    requires source { after.now.sight.source ≡ after.now.opened.source }
-    ensures { IsTrue result
-        → clear_source after.now.sight.star.group.bits world.now after.now.opened ≡ (world.now, []) }
-{
-    // For the proof: asserts are under keys of their kind, each of which is listed once.
-    world.recall_keyed();
-    let Some(_) = first_of_source(world, &after.sight, after.opened.view.iface) else {
-        return true;
-    };
-    false
-}
-
-// Whether the source's SPTbit isn't set, or needn't go.
-fn keeps_bit(after: &SourceAfter) -> bool
-    requires { after.now.sight.source ≡ after.now.opened.source }
-    ensures { IsTrue result → (s : State) → IsSourceSight s after.now.sight
-        → clear_bit after.now.sight.star.group.bits s after.now.opened ≡ (s, []) }
-{
-    if !after.sight.spt {
-        return true;
-    }
-    after.sight.join_desired()
 }
 
 // Whether nothing must go of these sources of a group.
@@ -348,24 +345,38 @@ fn are_clear_among(world: &World, star: &StarSight, sources: &[SourceAfter]) -> 
         → each_in_turn (clear_bit star.now.group.bits) world.now (map opened_in sources.now) ≡ (world.now, []) }
 {
     for after in sources {
-        if !is_clear_of_asserts(world, after) {
+        if !keeps_asserts(world, after.opened, &after.sight) {
             return false;
         }
-        if !keeps_bit(after) {
+        if !keeps_bit(after.opened, &after.sight) {
             return false;
         }
     }
     true
 }
 
-/// Whether nothing must go of a touched group and of its touched sources, by what was gathered of them. Where it
-/// answers yes, `clear` would change nothing, and send nothing.
-pub fn are_clear(world: &World, after: &GroupAfter) -> bool
+// Whether nothing must go of a touched group and of its touched sources, by what was gathered of them.
+fn is_clear(world: &World, after: &GroupAfter) -> bool
     requires { IsAfter world.now after.now }
-    ensures { IsTrue result → clear_by (opening_in after.now ∷ []) world.now ≡ (world.now, []) }
+    ensures asserts { IsTrue result → clear_asserts world.now (opening_in after.now) ≡ (world.now, []) }
+    ensures bits { IsTrue result → clear_bits world.now (opening_in after.now) ≡ (world.now, []) }
 {
     if !is_clear_star(world, after) {
         return false;
     }
     are_clear_among(world, &after.star, after.sources.as_slice())
+}
+
+/// Whether nothing must go of the touched groups and of their touched sources, by what was gathered of them. Where it
+/// answers yes, `clear` would change nothing, and send nothing.
+pub fn are_clear(world: &World, seen: &[GroupAfter]) -> bool
+    requires { AreGathered world.now seen.now }
+    ensures { IsTrue result → clear_by (openings_in seen.now) world.now ≡ (world.now, []) }
+{
+    for after in seen {
+        if !is_clear(world, after) {
+            return false;
+        }
+    }
+    true
 }

@@ -3,7 +3,7 @@ ghost use Rattle.std.specs.Prelude.{◌≡◌, ◌<◌, ◌^◌, ◌+◌, IfOk, 
 ghost use Rattle.pim_types.specs.Keys.{source_key, star_key};
 ghost use Rattle.pim_model.specs.Asserts.{assert_at, assert_received, asserted_metric, data_seen, loses, theirs_of};
 ghost use Rattle.pim_model.specs.Tables.{has_row};
-ghost use Rattle.pim_world.specs.Turns.{saying};
+ghost use Rattle.pim_state.specs.Turns.{saying};
 ghost use Rattle.pim_macros.specs.Sights.{IsSourceSight, IsStarSight};
 ghost use Rattle.pim_asserts.specs.Receiving.{after_action, data_key, goes_on_to_star, source_asserted, stance_at, wins_with};
 
@@ -11,16 +11,16 @@ use crate::action::{Action, action_of};
 use crate::assert_timer::{WINNER_TIME, asserted_metric, win_again};
 use crate::stance::{Stance, source_stance, stance_of, star_stance};
 use pim_macros::{SourceSight, StarSight};
+use pim_state::{Meter, Turn, World};
 use pim_types::fact::{AssertMetric, AssertRole, AssertRow};
 use pim_types::{Addr, IfaceId, Key};
 use pim_wire::Assert;
-use pim_world::{Meter, Turn, World};
 use std::alloc::AllocError;
 
 // Assert_Time (RFC 7761, section 4.11), in ms.
 const LOSER_TIME: u64 = 180_000;
 
-// The router wins with this metric of its own, and asserts with the other.
+// The router becomes the winner with one metric of its own, and asserts with the other.
 #[tactic(auto, using(crate::proofs::Receiving::plain_key), unfolding(crate::specs::Receiving::wins_with, pim_model::specs::Asserts::assert_message, pim_model::specs::Tables::set_row))]
 fn win_with(
     world: &mut World,
@@ -48,7 +48,7 @@ fn win_with(
         .set_assert(key.iface, key.group, key.source, Some(row), meter)
 }
 
-// The router wins with this metric of its own.
+// The router becomes the winner with a metric of its own, and asserts.
 fn win(
     world: &mut World,
     turn: &mut Turn,
@@ -65,7 +65,7 @@ fn win(
     win_with(world, turn, meter, key, mine, asserted)
 }
 
-// The router lost to this metric.
+// The router becomes a loser, to the winner with this metric.
 #[tactic(auto, using(crate::proofs::Receiving::plain_key), unfolding(pim_model::specs::Asserts::loses, pim_model::specs::Tables::set_row))]
 fn lose(
     world: &mut World,

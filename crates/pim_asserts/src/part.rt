@@ -1,6 +1,6 @@
 //! The asserts of a group, or of a source, that must go: one after the other.
 ghost use Rattle.std.specs.Prelude.{◌≡◌, ◌<◌, ◌∷◌, [], IfOk, OnOk, false, if◌then◌else◌, is_some};
-ghost use Rattle.pim_world.specs.Turns.{saying};
+ghost use Rattle.pim_state.specs.Turns.{saying};
 ghost use Rattle.pim_model.specs.Asserts.{assert_cancel, assert_forgotten};
 ghost use Rattle.pim_model.specs.Sets.{is_winner};
 ghost use Rattle.pim_model.specs.Tables.{row_at};
@@ -11,9 +11,9 @@ ghost use Rattle.pim_asserts.specs.Opened.{clear_part, part_to_clear};
 use crate::going::{first_of_source, first_of_star};
 use pim_macros::asserts::infinite;
 use pim_macros::{SourceSight, StarSight};
+use pim_state::{Meter, Turn, World};
 use pim_types::fact::AssertRole;
 use pim_types::{Addr, IfaceId, Key};
-use pim_world::{Meter, Turn, World};
 use std::alloc::AllocError;
 
 /// The asserts of (*,G), where there is no source, or of (S,G).
@@ -87,7 +87,7 @@ fn clear_next(
         (clear_once part.was part.group.bits (source_bits part.source) world.old).1) }
 {
     // For the proof: asserts are under keys of their kind, each of which is listed once.
-    world.recall_keyed();
+    world.proof_keyed();
     let Some(iface) = first_to_go(world, meter, part) else {
         return Ok(false);
     };

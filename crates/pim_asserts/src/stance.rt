@@ -5,9 +5,9 @@ ghost use Rattle.pim_macros.specs.Sights.{IsSourceSight, IsStarSight};
 ghost use Rattle.pim_asserts.specs.Receiving.{stance_at};
 
 use pim_macros::{SourceSight, StarSight};
+use pim_state::{Meter, World};
 use pim_types::fact::AssertMetric;
 use pim_types::{IfaceId, Key};
-use pim_world::{Meter, World};
 
 /// What the transitions read of the router's state.
 #[derive(Clone, Copy)]

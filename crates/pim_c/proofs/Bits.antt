@@ -1,11 +1,8 @@
 -- Sets of interfaces as the bits of two words.
-use Rattle.std.proofs.Common.{◌≡◌, ℕ, zero, suc, ◌+◌, ◌^◌, ◌<◌, ◌≤◌, Bool, true, refl, sym, arith, nat_lt, if◌then◌else◌}
-use Rattle.std.proofs.Math.Nat.{pow-le-pow_right}
-use Rattle.std.proofs.lemmas.Bool.Decides.{nat_tests}
-use Rattle.pim_ifset.proofs.Sets.{mask_of_lt}
-use Rattle.pim_ifset.specs.Members.{Members, has, mask_of}
-use Rattle.pim_model.specs.Sets.{Set}
-use Rattle.pim_world.specs.Shown.{Shows}
+use Rattle.std.{proofs.{Common.{◌≡◌, ℕ, zero, suc, ◌+◌, ◌^◌, ◌<◌, ◌≤◌, Bool, true, refl, sym, arith, nat_lt, if◌then◌else◌}, Math.Nat.pow-le-pow_right, lemmas.Bool.Decides.nat_tests}}
+use Rattle.pim_ifset.{proofs.Sets.mask_of_lt, specs.Members.{Members, has, mask_of}}
+use Rattle.pim_model.{specs.Sets.Set}
+use Rattle.pim_state.{specs.Shown.Shows}
 
 -- one bit more
 pub next_bit : (p : ℕ → Bool) (n : ℕ) → mask_of p (n + 1) ≡ mask_of p n + (if p n then 2 ^ n else 0)

@@ -1,31 +1,16 @@
 -- The machine values of a `Place`: taken out of what it owns, and put back. Assumes `Logic`.
-use Rattle.std.proofs.Common.{◌≡◌, List, [], ◌∷◌, ◌++◌, refl, subst, sym, lit<}
-use Rattle.std.specs.Prelude.{None, Option, Some, is_some}
-use Rattle.std.proofs.lemmas.Bool.{true≢false}
-use mathlib.Core.Bool.{true, ◌&&◌}
-use lib.Dec.{T}
-use seplogic.Ra.Ura.{Ura}
-use mir.Syntax.{impl, tnil, dnil}
-use mir.Val.{Val, vstruct, of_list, has_ty, WT}
-use types.Logic.{Logic}
-use types.Kit.{Item, Goal, Seq, Step, step, ‵, ◌$◌, move, drop, fsplit, fjoin, fpick, fpack, feq_i, feq_l}
-use denote.RattleType.{RattleType, Valss}
-use denote.Builtin.{RawPtr}
-use denote.RawPtr.{null_ptr, ptr_val}
-use denote.Steps.{nothing}
-use denote.Param.{layout}
-use denote.Param.Laws.{Laws}
-use denote.Struct.Struct.{within}
-use denote.Struct.Owning.{shape}
-use Rattle.std.proofs.alloc.Calls.{Al, handle_tells}
-use Rattle.std.proofs.cell.Inside.{Good}
+use Rattle.std.{proofs.{Common.{◌≡◌, List, [], ◌∷◌, ◌++◌, refl, subst, sym, lit<}, lemmas.Bool.true≢false, alloc.Calls.{Al, handle_tells}, cell.Inside.Good}, specs.{Prelude.{None, Option, Some, is_some}, contracts.impls.GlobalAllocator.TheImpl.ghosts as tokens}}
+use mathlib.{Core.Bool.{true, ◌&&◌}}
+use lib.{Dec.T}
+use seplogic.{Ra.Ura.Ura}
+use mir.{Syntax.{impl, tnil, dnil}, Val.{Val, vstruct, of_list, has_ty, WT}}
+use types.{Logic.Logic, Kit.{Item, Goal, Seq, Step, step, ‵, ◌$◌, move, drop, fsplit, fjoin, fpick, fpack, feq_i, feq_l}}
+use denote.{RattleType.{RattleType, Valss}, Builtin.RawPtr, RawPtr.{null_ptr, ptr_val}, Steps.nothing, Param.{layout, Laws.Laws}, Struct.{Struct.within, Owning.shape}}
+use Rattle.std_alloc.{proofs.ResultValues.and_tt}
+use Rattle.pim_c.{proofs.PointedWords.pair, specs.contracts.place.Place.the_heap}
 use Rattle.std.specs.contracts.alloc.Global as heap
 use Rattle.std.proofs.alloc.Global.TheLaws as heap_laws
-use Rattle.std_alloc.proofs.ResultValues.{and_tt}
-use Rattle.pim_c.proofs.PointedWords.{pair}
 use Rattle.pim_c.specs.contracts.place.Place as place
-use Rattle.pim_c.specs.contracts.place.Place.{the_heap}
-use Rattle.std.specs.contracts.impls.GlobalAllocator.TheImpl.{ghosts as tokens}
 
 abbrev pub Z : RattleType
 Z = heap.the_row

@@ -1,28 +1,13 @@
 -- The machine values of a `Pointed`: taken out of what it owns, and put back. Assumes `Logic`.
-use Rattle.std.proofs.Common.{◌≡◌, ℕ, List, [], ◌∷◌, ◌++◌, refl, subst}
-use mathlib.Core.Bool.{true, ◌&&◌}
-use lib.Dec.{T}
-use seplogic.Ra.Ura.{Ura}
-use mir.Syntax.{impl, tnil, dnil}
-use mir.Raw.{raw as bare}
-use mir.Val.{Val, vptr, vstruct, vcons, vnil, of_list, has_ty, WT}
-use base.Logic.{never, fst∗}
-use types.Logic.{Logic, sem}
-use types.Kit.{Item, Goal, Seq, Step, step, ‵, ◌$◌, move, drop, fsplit, fjoin, fpick, fpack, feq_i, feq_l}
-use denote.RattleType.{RattleType, Valss}
-use denote.Builtin.{RawPtr}
-use denote.Memory.{lone}
-use denote.RawPtr.{Ptr, block_ptr, null_ptr, ptr_val, in_a_block}
-use denote.Steps.{nothing}
-use denote.Param.{layout}
-use denote.Param.Laws.{Laws}
-use denote.Struct.Struct.{within}
-use denote.Struct.Owning.{shape}
-use Rattle.std.specs.declared.alloc.Allocator.{Ghosts}
-use Rattle.std.proofs.alloc.Calls.{Al, handle_tells}
-use Rattle.std.proofs.cell.Inside.{Good}
-use Rattle.std_alloc.specs.Box.Ownership.{box_owns}
-use Rattle.std_alloc.proofs.ResultValues.{and_tt}
+use Rattle.std.{proofs.{Common.{◌≡◌, ℕ, List, [], ◌∷◌, ◌++◌, refl, subst}, alloc.Calls.{Al, handle_tells}, cell.Inside.Good}, specs.declared.alloc.Allocator.Ghosts}
+use mathlib.{Core.Bool.{true, ◌&&◌}}
+use lib.{Dec.T}
+use seplogic.{Ra.Ura.Ura}
+use mir.{Syntax.{impl, tnil, dnil}, Raw.raw as bare, Val.{Val, vptr, vstruct, vcons, vnil, of_list, has_ty, WT}}
+use base.{Logic.{never, fst∗}}
+use types.{Logic.{Logic, sem}, Kit.{Item, Goal, Seq, Step, step, ‵, ◌$◌, move, drop, fsplit, fjoin, fpick, fpack, feq_i, feq_l}}
+use denote.{RattleType.{RattleType, Valss}, Builtin.RawPtr, Memory.lone, RawPtr.{Ptr, block_ptr, null_ptr, ptr_val, in_a_block}, Steps.nothing, Param.{layout, Laws.Laws}, Struct.{Struct.within, Owning.shape}}
+use Rattle.std_alloc.{specs.Box.Ownership.box_owns, proofs.ResultValues.and_tt}
 use Rattle.pim_c.specs.contracts.pointed.Pointed as pointed
 
 -- a struct of two machine values

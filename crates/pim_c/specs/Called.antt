@@ -1,52 +1,20 @@
 -- What a call does to a handle and answers, by what the handle had: nothing, a router that has failed, or one that
 -- works.
-use Rattle.std.specs.Option.{option_map_or}
-use Rattle.std.specs.Prelude.{[], Bool, Err, List, None, Ok, Option, Result, Some, drop, false, filter, length, min, nat_lt, true, unwrap_or, ℕ, ◌+◌, ◌≡◌, ◌⊎◌}
-use Rattle.pim_ip.specs.Refusal.{refusal_number}
-use Rattle.pim_ip.specs.declared.refusal.Refusal.{Refusal}
-use Rattle.pim_ifset.specs.Members.{mask_of}
-use Rattle.pim_model.specs.Cache.{Answers, cached}
-use Rattle.pim_model.specs.Cause.{is_on_link}
-use Rattle.pim_model.specs.Judging.{last_moment}
-use Rattle.pim_model.specs.Limits.{config_test}
-use Rattle.pim_rows.specs.Printed.{rows}
-use Rattle.pim_model.specs.Sets.{Set, is_kept_alive}
-use Rattle.pim_model.specs.State.{State, opening}
-use Rattle.pim_model.specs.Step.{step}
-use Rattle.pim_model.specs.Unicast.{rpf_interface_rp}
-use Rattle.pim_offload.specs.Keeping.{keep}
-use Rattle.pim_offload.specs.Offered.{Offered, offered}
-use Rattle.pim_reach.specs.Named.{event_named}
-use Rattle.pim_event.specs.Costs.{IsCheap}
-use Rattle.pim_event.specs.Disturbing.{event_disturbed}
-use Rattle.pim_event.specs.Listing.{ListsSame}
-use Rattle.pim_event.specs.Replacing.{may_differ}
-use Rattle.pim_event.specs.Staying.{OffersStay}
-use Rattle.pim_rested.specs.Refused.{restore_refusal_number}
-use Rattle.pim_rested.specs.Resuming.{IsResumable, restore_test}
-use Rattle.pim_rested.specs.declared.refusal.RestoreRefusal.{RestoreRefusal}
-use Rattle.pim_saved.specs.Fits.{FitsState}
-use Rattle.pim_saved.specs.Reading.{reading}
-use Rattle.pim_saved.specs.Text.{text}
-use Rattle.pim_router.specs.Standing.{Standing, begun, nothing_shown, standing, with_state}
-use Rattle.pim_session.specs.Front.{emissions_left, front_after, given, hosts_set, interface_test, is_sure, older_rows, version_set}
-use Rattle.pim_session.specs.Session.{ShownSession}
-use Rattle.igmp_older.specs.declared.mode.OlderRow.{OlderRow}
-use Rattle.igmp_older.specs.declared.setting.OlderHosts.{OlderHosts}
-use Rattle.igmp_older.specs.declared.setting.QueryVersion.{QueryVersion}
-use Rattle.pim_types.specs.declared.config.Config.{Config}
-use Rattle.pim_types.specs.declared.event.Event.{Event}
-use Rattle.pim_types.specs.declared.fact.Key.{Key}
-use Rattle.pim_types.specs.declared.outcome.Emission.{Emission}
-use Rattle.pim_rows.specs.declared.table.Row.{Row}
-use Rattle.pim_rows.specs.declared.table.Table.{Table}
-use Rattle.pim_c.specs.Told.{answer_number, bytes_in, kept_number, name_of, no_interface_number, older_group_of, set_number, told_packet, written_into}
-use Rattle.pim_c.specs.declared.told.Forwarding.{Forwarding}
-use Rattle.pim_c.specs.declared.told.Interfaces.{Interfaces}
-use Rattle.pim_c.specs.declared.told.NamedSource.{NamedSource}
-use Rattle.pim_c.specs.declared.told.OlderGroup.{OlderGroup}
-use Rattle.pim_c.specs.declared.told.Packet.{Packet}
-use Rattle.pim_c.specs.declared.told.PlaneRow.{PlaneRow}
+use Rattle.std.{specs.{Option.option_map_or, Prelude.{[], Bool, Err, List, None, Ok, Option, Result, Some, drop, false, filter, length, min, nat_lt, true, unwrap_or, ℕ, ◌+◌, ◌≡◌, ◌⊎◌}}}
+use Rattle.pim_ip.{specs.{Refusal.refusal_number, declared.refusal.Refusal.Refusal}}
+use Rattle.pim_ifset.{specs.Members.mask_of}
+use Rattle.pim_model.{specs.{Cache.{Answers, cached}, Cause.is_on_link, Judging.last_moment, Limits.config_test, Sets.{Set, is_kept_alive}, State.{State, opening}, Step.step, Unicast.rpf_interface_rp}}
+use Rattle.pim_rows.{specs.{Printed.rows, declared.table.{Row.Row, Table.Table}}}
+use Rattle.law_plane.{specs.{Keeping.keep, Offered.{Offered, offered}}}
+use Rattle.law_named.{specs.Named.event_named}
+use Rattle.pim_event.{specs.{Costs.IsCheap, Disturbing.event_disturbed, Listing.ListsSame, Replacing.may_differ, Staying.OffersStay}}
+use Rattle.pim_rested.{specs.{Refused.restore_refusal_number, Resuming.{IsResumable, restore_test}, declared.refusal.RestoreRefusal.RestoreRefusal}}
+use Rattle.pim_saved.{specs.{Fits.FitsState, Reading.reading, Text.text}}
+use Rattle.pim_router.{specs.Standing.{Standing, begun, nothing_shown, standing, with_state}}
+use Rattle.pim_session.{specs.{Front.{emissions_left, front_after, given, hosts_set, interface_test, is_sure, older_rows, version_set}, Session.ShownSession}}
+use Rattle.igmp_older.{specs.declared.{mode.OlderRow.OlderRow, setting.{OlderHosts.OlderHosts, QueryVersion.QueryVersion}}}
+use Rattle.pim_types.{specs.declared.{config.Config.Config, event.Event.Event, fact.Key.Key, outcome.Emission.Emission}}
+use Rattle.pim_c.{specs.{Told.{answer_number, bytes_in, kept_number, name_of, no_interface_number, older_group_of, set_number, told_packet, written_into}, declared.told.{Forwarding.Forwarding, Interfaces.Interfaces, NamedSource.NamedSource, OlderGroup.OlderGroup, Packet.Packet, PlaneRow.PlaneRow}}}
 
 -- What a session shows of a router that goes on from a state: nothing stands before it, and nothing is kept.
 abbrev pub restored_shown : State → ShownSession
@@ -70,11 +38,11 @@ Went s r e left = (left.router.standing ≡ Some (standing (step r.state e)))
     × OffersStay left.router.disturbed r.state (step r.state e).state
     × (left.rows ≡ s.rows) × (left.older_rows ≡ s.older_rows)
 
--- An event before which nothing stood.
+-- An event goes to the router as it came: no front for older hosts stands before the router.
 abbrev pub Taken : ShownSession → Standing → Event → ShownSession → Type 0
 Taken s r e left = Went s r e left × (left.front ≡ s.front) × (left.sent ≡ (step r.state e).emissions)
 
--- An event behind what stands before the router.
+-- An event comes to the router through its front for older hosts, which gives it the event `behind`.
 abbrev pub TakenBehind : ShownSession → Standing → Event → Event → ShownSession → Type 0
 TakenBehind s r e behind left = Went s r behind left × (left.front ≡ front_after s.front r.state e)
     × (left.sent ≡ emissions_left s.front (step r.state behind).emissions)

@@ -1,19 +1,9 @@
 -- What the values that a program gives stand for.
-use Rattle.std.specs.Prelude.{List, if◌then◌else◌, map, ℕ}
-use Rattle.pim_ip.specs.Addr.{addr}
-use Rattle.pim_ip.specs.declared.addr.Prefix.{Prefix}
-use Rattle.pim_types.specs.declared.config.Config.{Config}
-use Rattle.pim_types.specs.declared.config.InterfaceConfig.{InterfaceConfig}
-use Rattle.pim_types.specs.declared.config.Route.{Route}
-use Rattle.pim_types.specs.declared.config.RpRange.{RpRange}
-use Rattle.pim_types.specs.declared.config.SptSwitch.{SptSwitch}
-use Rattle.pim_types.specs.declared.event.Event.{Event}
-use Rattle.pim_types.specs.declared.event.EventKind.{EventKind}
-use Rattle.pim_ifset.specs.Members.{iface_of}
-use Rattle.pim_c.specs.declared.given.GivenInterface.{GivenInterface}
-use Rattle.pim_c.specs.declared.given.GivenRange.{GivenRange}
-use Rattle.pim_c.specs.declared.given.GivenRoute.{GivenRoute}
-use Rattle.pim_c.specs.declared.given.GivenSettings.{GivenSettings}
+use Rattle.std.{specs.Prelude.{List, if◌then◌else◌, map, ℕ}}
+use Rattle.pim_ip.{specs.{Addr.addr, declared.addr.Prefix.Prefix}}
+use Rattle.pim_types.{specs.declared.{config.{Config.Config, InterfaceConfig.InterfaceConfig, Route.Route, RpRange.RpRange, SptSwitch.SptSwitch}, event.{Event.Event, EventKind.EventKind}}}
+use Rattle.pim_ifset.{specs.Members.iface_of}
+use Rattle.pim_c.{specs.declared.given.{GivenInterface.GivenInterface, GivenRange.GivenRange, GivenRoute.GivenRoute, GivenSettings.GivenSettings}}
 
 abbrev pub interface_of : GivenInterface → InterfaceConfig
 interface_of g = record {

@@ -1,17 +1,10 @@
 -- The record of a call that a program tells, and what is written of it.
-use Rattle.std.specs.Option.{option_map_or}
-use Rattle.std.specs.Prelude.{List, None, Option, Some, [], if◌then◌else◌, length, map, ℕ, ◌==◌, ◌≡◌, ◌⊎◌}
-use Rattle.pim_ifset.specs.Members.{iface_of}
-use Rattle.pim_ip.specs.Addr.{addr}
-use Rattle.pim_types.specs.declared.config.{Config.Config, Settings.Settings}
-use Rattle.pim_types.specs.declared.event.EventKind.{EventKind}
-use Rattle.pim_recorded.specs.Records.{Call, Hosts, Kept, Record, Reloaded, Seen, Version, event_record, record_text}
-use Rattle.pim_recorded.specs.declared.answered.Answered.{Answered}
-use Rattle.pim_c.specs.Given.{range_of, route_of}
-use Rattle.pim_c.specs.Told.{written_into}
-use Rattle.pim_c.specs.declared.given.GivenRange.{GivenRange}
-use Rattle.pim_c.specs.declared.given.GivenRoute.{GivenRoute}
-use Rattle.pim_c.specs.declared.recorded.GivenCall.{GivenCall}
+use Rattle.std.{specs.{Option.option_map_or, Prelude.{List, None, Option, Some, [], if◌then◌else◌, length, map, ℕ, ◌==◌, ◌≡◌, ◌⊎◌}}}
+use Rattle.pim_ifset.{specs.Members.iface_of}
+use Rattle.pim_ip.{specs.Addr.addr}
+use Rattle.pim_types.{specs.declared.{config.{Config.Config, Settings.Settings}, event.EventKind.EventKind}}
+use Rattle.pim_recorded.{specs.{Records.{Call, Hosts, Kept, Record, Reloaded, Seen, Version, event_record, record_text}, declared.answered.Answered.Answered}}
+use Rattle.pim_c.{specs.{Given.{range_of, route_of}, Told.written_into, declared.{given.{GivenRange.GivenRange, GivenRoute.GivenRoute}, recorded.GivenCall.GivenCall}}}
 
 abbrev pub answered_of : GivenCall → Answered
 answered_of c = record { answer = c.answer; sum = c.sum }
@@ -35,7 +28,7 @@ record_given c packet =
     else (if c.letter == 111 then called c (Hosts (iface_of c.iface) c.value)
     else (if c.letter == 113 then called c (Version (iface_of c.iface) c.value) else None))))))))
 
--- its bytes; none where no kind has the letter
+-- the bytes of a recorded call; none where no kind has the letter
 abbrev pub given_text : GivenCall → List ℕ → List ℕ
 given_text c packet = option_map_or record_text (record_given c packet) []
 

@@ -1,18 +1,15 @@
 -- What a reload does to a handle and answers.
-use Rattle.std.specs.Prelude.{[], Err, None, Ok, Option, Result, Some, ℕ, ◌≡◌, ◌⊎◌}
-use Rattle.pim_event.specs.Replacing.{NoneReplaced}
-use Rattle.pim_ip.specs.Refusal.{refusal_number}
-use Rattle.pim_ip.specs.declared.refusal.Refusal.{Refusal}
-use Rattle.pim_model.specs.Limits.{config_test}
-use Rattle.pim_reloaded.specs.Reloading.{reload}
-use Rattle.pim_reloader.specs.Listing.{ListsFacts}
-use Rattle.pim_router.specs.Standing.{Standing, beginning}
-use Rattle.pim_session.specs.Front.{emissions_left}
-use Rattle.pim_session.specs.Reloaded.{front_reloaded}
-use Rattle.pim_session.specs.Session.{ShownSession}
-use Rattle.pim_types.specs.declared.config.Config.{Config}
-use Rattle.pim_world.specs.declared.touched.Touched.{Touched}
-use Rattle.pim_c.specs.Called.{Refused, lost}
+use Rattle.std.{specs.Prelude.{[], Err, None, Ok, Option, Result, Some, ℕ, ◌≡◌, ◌⊎◌}}
+use Rattle.pim_event.{specs.Replacing.NoneReplaced}
+use Rattle.pim_ip.{specs.{Refusal.refusal_number, declared.refusal.Refusal.Refusal}}
+use Rattle.pim_model.{specs.Limits.config_test}
+use Rattle.law_reloaded.{specs.Reloading.reload}
+use Rattle.pim_reloader.{specs.Listing.ListsFacts}
+use Rattle.pim_router.{specs.Standing.{Standing, beginning}}
+use Rattle.pim_session.{specs.{Front.emissions_left, Reloaded.front_reloaded, Session.ShownSession}}
+use Rattle.pim_types.{specs.declared.config.Config.Config}
+use Rattle.pim_state.{specs.declared.touched.Touched.Touched}
+use Rattle.pim_c.{specs.Called.{Refused, lost}}
 
 -- What a session shows after its router was put under another configuration: what is to be sent is what that sends, all
 -- sources with a fact before or after it are listed, all count as disturbed, and no rows are kept.

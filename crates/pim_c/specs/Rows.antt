@@ -1,17 +1,8 @@
 -- What C reads of a row of a table: the letter of the table, and the columns of its kind. Those of the other kinds are 0.
-use Rattle.std.specs.Prelude.{Bool, None, Option, Some, false, true, unwrap_or, ℕ, ◌≡◌}
-use Rattle.pim_types.specs.declared.fact.AssertRole.{AssertRole}
-use Rattle.pim_rows.specs.declared.table.{DownstreamState.DownstreamState, RegisterName.RegisterName, Row.Row}
-use Rattle.pim_c.specs.Told.{never, source_or_zero}
-use Rattle.pim_c.specs.declared.rows.ActiveColumns.{ActiveColumns}
-use Rattle.pim_c.specs.declared.rows.AssertColumns.{AssertColumns}
-use Rattle.pim_c.specs.declared.rows.DownstreamColumns.{DownstreamColumns}
-use Rattle.pim_c.specs.declared.rows.GroupColumns.{GroupColumns}
-use Rattle.pim_c.specs.declared.rows.NeighbourColumns.{NeighbourColumns}
-use Rattle.pim_c.specs.declared.rows.RptColumns.{RptColumns}
-use Rattle.pim_c.specs.declared.rows.SourceColumns.{SourceColumns}
-use Rattle.pim_c.specs.declared.rows.ToldRow.{ToldRow}
-use Rattle.pim_c.specs.declared.rows.UpstreamColumns.{UpstreamColumns}
+use Rattle.std.{specs.Prelude.{Bool, None, Option, Some, false, true, unwrap_or, ℕ, ◌≡◌}}
+use Rattle.pim_types.{specs.declared.fact.AssertRole.AssertRole}
+use Rattle.pim_rows.{specs.declared.table.{DownstreamState.DownstreamState, RegisterName.RegisterName, Row.Row}}
+use Rattle.pim_c.{specs.{Told.{never, source_or_zero}, declared.rows.{ActiveColumns.ActiveColumns, AssertColumns.AssertColumns, DownstreamColumns.DownstreamColumns, GroupColumns.GroupColumns, NeighbourColumns.NeighbourColumns, RptColumns.RptColumns, SourceColumns.SourceColumns, ToldRow.ToldRow, UpstreamColumns.UpstreamColumns}}}
 
 abbrev pub downstream_number : DownstreamState → ℕ
 downstream_number DownstreamState.Join = 1

@@ -1,22 +1,10 @@
 -- The numbers and values that the router returns to a program.
-use Rattle.std.specs.Prelude.{Bool, Err, List, None, Ok, Option, Some, drop, false, length, take, true, unwrap_or, Result, if◌then◌else◌, ℕ, ◌++◌, ◌^◌, ◌-◌, ◌==◌}
-use Rattle.pim_ip.specs.Refusal.{refusal_number}
-use Rattle.pim_ip.specs.declared.fault.Fault.{Fault}
-use Rattle.pim_ip.specs.declared.refusal.Refusal.{Refusal}
-use Rattle.pim_types.specs.declared.outcome.Emission.{Emission}
-use Rattle.pim_types.specs.declared.outcome.Ignored.{Ignored}
-use Rattle.pim_types.specs.declared.outcome.Verdict.{Verdict}
-use Rattle.pim_ip.specs.declared.addr.Addr.{Addr}
-use Rattle.pim_types.specs.declared.config.IfaceId.{IfaceId}
-use Rattle.pim_types.specs.declared.fact.Key.{Key}
-use Rattle.pim_rows.specs.declared.table.Table.{Table}
-use Rattle.igmp_older.specs.declared.mode.Mode.{Mode}
-use Rattle.igmp_older.specs.declared.mode.OlderRow.{OlderRow}
-use Rattle.igmp_older.specs.declared.setting.OlderHosts.{OlderHosts}
-use Rattle.igmp_older.specs.declared.setting.QueryVersion.{QueryVersion}
-use Rattle.pim_c.specs.declared.told.NamedSource.{NamedSource}
-use Rattle.pim_c.specs.declared.told.OlderGroup.{OlderGroup}
-use Rattle.pim_c.specs.declared.told.Packet.{Packet}
+use Rattle.std.{specs.Prelude.{Bool, Err, List, None, Ok, Option, Some, drop, false, length, take, true, unwrap_or, Result, if◌then◌else◌, ℕ, ◌++◌, ◌^◌, ◌-◌, ◌==◌}}
+use Rattle.pim_ip.{specs.{Refusal.refusal_number, declared.{fault.Fault.Fault, refusal.Refusal.Refusal, addr.Addr.Addr}}}
+use Rattle.pim_types.{specs.declared.{outcome.{Emission.Emission, Ignored.Ignored, Verdict.Verdict}, config.IfaceId.IfaceId, fact.Key.Key}}
+use Rattle.pim_rows.{specs.declared.table.Table.Table}
+use Rattle.igmp_older.{specs.declared.{mode.{Mode.Mode, OlderRow.OlderRow}, setting.{OlderHosts.OlderHosts, QueryVersion.QueryVersion}}}
+use Rattle.pim_c.{specs.declared.told.{NamedSource.NamedSource, OlderGroup.OlderGroup, Packet.Packet}}
 
 -- The number that stands for a timestamp that doesn't exist.
 abbrev pub never : ℕ

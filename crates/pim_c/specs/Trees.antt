@@ -1,31 +1,11 @@
 -- What C reads of the router's trees and links.
-use Rattle.std.specs.Prelude.{Bool, None, Option, Some, false, option_and_then, option_map, true, unwrap_or, ℕ, ◌≡◌}
-use Rattle.pim_ip.specs.declared.addr.Addr.{Addr}
-use Rattle.pim_ip.specs.declared.lan.LanDelay.{LanDelay}
-use Rattle.pim_ifset.specs.Members.{has}
-use Rattle.pim_types.specs.declared.fact.QuerierRole.{QuerierRole}
-use Rattle.pim_types.specs.declared.fact.QuerierRow.{QuerierRow}
-use Rattle.pim_types.specs.declared.path.{Hop.Hop, Path.Path}
-use Rattle.pim_types.specs.declared.upstream.TreeState.{TreeState}
-use Rattle.pim_router.specs.Standing.{Standing}
-use Rattle.pim_trees.specs.Links.{link, neighbour_at}
-use Rattle.pim_trees.specs.Trees.{source_tree, tree}
-use Rattle.pim_trees.specs.declared.link.Link.{Link}
-use Rattle.pim_trees.specs.declared.link.Neighbour.{Neighbour}
-use Rattle.pim_trees.specs.declared.shared.Tree.{Tree}
-use Rattle.pim_trees.specs.declared.source.SourceTree.{SourceTree}
-use Rattle.pim_trees.specs.declared.upstream.RpfCause.{RpfCause}
-use Rattle.pim_c.specs.Called.{interface_bits}
-use Rattle.pim_c.specs.Told.{never}
-use Rattle.pim_c.specs.declared.trees.ToldHop.{ToldHop}
-use Rattle.pim_c.specs.declared.trees.ToldLanDelay.{ToldLanDelay}
-use Rattle.pim_c.specs.declared.trees.ToldLink.{ToldLink}
-use Rattle.pim_c.specs.declared.trees.ToldNeighbour.{ToldNeighbour}
-use Rattle.pim_c.specs.declared.trees.ToldNumber.{ToldNumber}
-use Rattle.pim_c.specs.declared.trees.ToldPath.{ToldPath}
-use Rattle.pim_c.specs.declared.trees.ToldQuerier.{ToldQuerier}
-use Rattle.pim_c.specs.declared.trees.ToldSourceTree.{ToldSourceTree}
-use Rattle.pim_c.specs.declared.trees.ToldTree.{ToldTree}
+use Rattle.std.{specs.Prelude.{Bool, None, Option, Some, false, option_and_then, option_map, true, unwrap_or, ℕ, ◌≡◌}}
+use Rattle.pim_ip.{specs.declared.{addr.Addr.Addr, lan.LanDelay.LanDelay}}
+use Rattle.pim_ifset.{specs.Members.has}
+use Rattle.pim_types.{specs.declared.{fact.{QuerierRole.QuerierRole, QuerierRow.QuerierRow}, path.{Hop.Hop, Path.Path}, upstream.TreeState.TreeState}}
+use Rattle.pim_router.{specs.Standing.Standing}
+use Rattle.pim_trees.{specs.{Links.{link, neighbour_at}, Trees.{source_tree, tree}, declared.{link.{Link.Link, Neighbour.Neighbour}, shared.Tree.Tree, source.SourceTree.SourceTree, upstream.RpfCause.RpfCause}}}
+use Rattle.pim_c.{specs.{Called.interface_bits, Told.never, declared.trees.{ToldHop.ToldHop, ToldLanDelay.ToldLanDelay, ToldLink.ToldLink, ToldNeighbour.ToldNeighbour, ToldNumber.ToldNumber, ToldPath.ToldPath, ToldQuerier.ToldQuerier, ToldSourceTree.ToldSourceTree, ToldTree.ToldTree}}}
 
 abbrev pub number_of_option : Option ℕ → ToldNumber
 number_of_option None = record { is_there = false; value = 0 }

@@ -58,6 +58,7 @@ pub struct GivenSettings {
     pub stays_on_shared_tree: bool,
 }
 
+// An interface of the configuration that C gives.
 fn interface(given: &GivenInterface) -> InterfaceConfig
     ensures { result ≡ interface_of given.now }
 {
@@ -72,6 +73,7 @@ fn interface(given: &GivenInterface) -> InterfaceConfig
     }
 }
 
+// A route that C gives.
 fn route(given: &GivenRoute) -> Route
     ensures { result ≡ route_of given.now }
 {
@@ -91,6 +93,7 @@ fn route(given: &GivenRoute) -> Route
     }
 }
 
+// An RP range that C gives.
 fn range(given: &GivenRange) -> RpRange
     ensures { result ≡ range_of given.now }
 {
@@ -103,6 +106,7 @@ fn range(given: &GivenRange) -> RpRange
     }
 }
 
+// The interfaces of the configuration that C gives.
 fn interfaces(
     alloc: Global,
     given: &[GivenInterface],

@@ -14,7 +14,7 @@ use std::alloc::{AllocError, Global};
 pub struct GivenCall {
     /// The timestamp, in ms.
     pub moment: u64,
-    /// The letter of its kind.
+    /// The letter of the call's kind.
     pub letter: u32,
     pub draw: u32,
     pub iface: u32,

@@ -51,7 +51,7 @@ pub struct DownstreamColumns {
     pub group: u32,
     /// 0 for (*,G).
     pub source: u32,
-    /// It is of (S,G,rpt).
+    /// Whether the state is of (S,G,rpt).
     pub is_rpt: bool,
     /// 1 Joined, 2 Prune-Pending, 3 Pruned.
     pub state: u32,
@@ -69,7 +69,7 @@ pub struct AssertColumns {
     pub group: u32,
     /// 0 for (*,G).
     pub source: u32,
-    /// The router lost it.
+    /// Whether the router lost the assert.
     pub is_loser: bool,
     /// The winner's address.
     pub winner: u32,
@@ -127,6 +127,7 @@ pub struct ToldRow {
     pub active: ActiveColumns,
 }
 
+// The source of a row as C reads it: 0 for (*,G).
 fn source_or_zero(source: Option<Addr>) -> u32
     ensures { result ≡ source_or_zero source }
 {
@@ -136,6 +137,7 @@ fn source_or_zero(source: Option<Addr>) -> u32
     }
 }
 
+// A downstream state as C reads it.
 fn downstream_number(state: DownstreamState) -> u32
     ensures { result ≡ downstream_number state }
 {
@@ -146,6 +148,7 @@ fn downstream_number(state: DownstreamState) -> u32
     }
 }
 
+// A register state as C reads it; 0 is NoInfo.
 fn register_number(register: Option<RegisterName>) -> u32
     ensures { result ≡ register_number register }
 {
@@ -157,6 +160,7 @@ fn register_number(register: Option<RegisterName>) -> u32
     }
 }
 
+// Whether the role in an assert is that of the loser.
 fn is_loser(role: AssertRole) -> bool
     ensures { result ≡ is_loser_role role }
 {
@@ -226,6 +230,7 @@ fn blank(letter: u8) -> ToldRow
     }
 }
 
+// A neighbour's row as C reads it.
 fn neighbour(iface: IfaceId, address: Addr, end: Option<u64>) -> ToldRow
     ensures { result ≡ row_of (Row.Neighbour iface address end) }
 {
@@ -240,6 +245,7 @@ fn neighbour(iface: IfaceId, address: Addr, end: Option<u64>) -> ToldRow
     }
 }
 
+// A group record's row as C reads it.
 fn group(iface: IfaceId, group: Addr, is_exclude: bool, end: Option<u64>) -> ToldRow
     ensures { result ≡ row_of (Row.Group iface group is_exclude end) }
 {
@@ -255,6 +261,7 @@ fn group(iface: IfaceId, group: Addr, is_exclude: bool, end: Option<u64>) -> Tol
     }
 }
 
+// A source record's row as C reads it.
 fn source(iface: IfaceId, group: Addr, source: Addr, end: Option<u64>) -> ToldRow
     ensures { result ≡ row_of (Row.Source iface group source end) }
 {
@@ -270,6 +277,7 @@ fn source(iface: IfaceId, group: Addr, source: Addr, end: Option<u64>) -> ToldRo
     }
 }
 
+// A downstream state's row as C reads it.
 fn downstream(key: Key, state: DownstreamState, end: Option<u64>, pending: Option<u64>) -> ToldRow
     ensures { result ≡ row_of (Row.Downstream key state end pending) }
 {
@@ -288,6 +296,7 @@ fn downstream(key: Key, state: DownstreamState, end: Option<u64>, pending: Optio
     }
 }
 
+// An assert's row as C reads it.
 fn asserted(key: Key, role: AssertRole, winner: Addr, end: u64) -> ToldRow
     ensures { result ≡ row_of (Row.Assert key role winner end) }
 {
@@ -305,6 +314,7 @@ fn asserted(key: Key, role: AssertRole, winner: Addr, end: u64) -> ToldRow
     }
 }
 
+// An upstream state's row as C reads it.
 fn upstream(group: Addr, source: Option<Addr>, next_join: u64) -> ToldRow
     ensures { result ≡ row_of (Row.Upstream group source next_join) }
 {
@@ -319,6 +329,7 @@ fn upstream(group: Addr, source: Option<Addr>, next_join: u64) -> ToldRow
     }
 }
 
+// An (S,G,rpt) upstream state's row as C reads it.
 fn rpt(group: Addr, source: Addr, is_pruned: bool) -> ToldRow
     ensures { result ≡ row_of (Row.Tree group source is_pruned) }
 {
@@ -330,6 +341,7 @@ fn rpt(group: Addr, source: Addr, is_pruned: bool) -> ToldRow
     ToldRow { rpt, ..blank(b'R') }
 }
 
+// A source's row, with its register, as C reads it.
 fn active(
     group: Addr,
     source: Addr,

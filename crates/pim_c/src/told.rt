@@ -7,16 +7,15 @@ ghost use Rattle.pim_mfc.specs.Laws.{IsAfresh};
 ghost use Rattle.pim_model.specs.Cache.{Answers};
 ghost use Rattle.pim_model.specs.Cause.{is_on_link};
 ghost use Rattle.pim_model.specs.Sets.{Set};
-ghost use Rattle.pim_offload.specs.Offered.{Offered as OfferedValue};
-ghost use Rattle.pim_offrow.specs.Shown.{ShowsOffered};
-ghost use Rattle.pim_world.specs.Shown.{Shows};
+ghost use Rattle.law_plane.specs.Offered.{Offered as OfferedValue};
+ghost use Rattle.pim_mfc.specs.Shown.{ShowsOffered};
+ghost use Rattle.pim_state.specs.Shown.{Shows};
 ghost use Rattle.pim_c.specs.Called.{forwarding_of, interface_bits, plane_row_of};
 ghost use Rattle.pim_c.specs.Told.{answer_number, bytes_in, iface_number, ignored_number, kept_number, link_kind, loss_number, mode_number, name_of, older_group_of, older_hosts_of, query_version_of, set_number, told_packet, table_of_letter, verdict_number, written_into};
 
 use igmp_older::{Mode, OlderHosts, OlderRow, QueryVersion};
 use pim_ifset::IfSet;
-use pim_mfc::CacheRow;
-use pim_offrow::Offered;
+use pim_mfc::{CacheRow, Offered};
 use pim_rows::Table;
 use pim_types::{Addr, Emission, Fault, IfaceId, Ignored, Refusal, SourceGroup, Verdict};
 
@@ -51,6 +50,7 @@ pub const NEVER: u64 = u64::MAX;
 /// No interface.
 pub const NO_INTERFACE: u32 = u32::MAX;
 
+// The number of a reason to ignore an event, as C reads it.
 fn ignored_number(reason: Ignored) -> u32
     ensures { result ≡ ignored_number reason }
 {
@@ -66,6 +66,7 @@ fn ignored_number(reason: Ignored) -> u32
     }
 }
 
+// The number of an answer without a refusal, as C reads it.
 fn verdict_number(verdict: Verdict) -> u32
     ensures { result ≡ verdict_number verdict }
 {
@@ -148,7 +149,7 @@ pub struct Packet {
     pub iface: u32,
     /// The address to which it is to be routed, or 0.
     pub destination: u32,
-    /// How many bytes it has.
+    /// The number of the packet's bytes.
     pub length: usize,
 }
 
@@ -162,6 +163,7 @@ pub fn is_on_link(emission: &Emission) -> bool
     }
 }
 
+// The kind of a packet that leaves on an interface, as C reads it: a copy of data or another frame.
 fn link_kind(is_copy: bool) -> u32
     ensures { result ≡ link_kind is_copy }
 {
@@ -213,6 +215,7 @@ pub fn write(room: &mut [u8], bytes: &[u8])
     }
 }
 
+// The number of an interface, or that of none, as C reads it.
 fn iface_number(iface: Option<IfaceId>) -> u32
     ensures { result ≡ iface_number iface }
 {
@@ -236,6 +239,7 @@ pub struct OlderGroup {
     pub two_end: u64,
 }
 
+// The version of IGMP of a group's mode, as C reads it.
 fn mode_number(mode: Mode) -> u32
     ensures { result ≡ mode_number mode }
 {

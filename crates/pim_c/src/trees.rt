@@ -131,6 +131,7 @@ pub struct ToldNeighbour {
     pub lan_delay: ToldLanDelay,
 }
 
+// An optional number as C reads it.
 fn number(value: Option<u32>) -> ToldNumber
     ensures { result ≡ number_of_option value }
 {
@@ -162,6 +163,7 @@ fn address(value: Option<Addr>) -> ToldNumber
     }
 }
 
+// A neighbour on an interface, if there is one, as C reads it.
 fn hop(hop: Option<Hop>) -> ToldHop
     ensures { result ≡ hop_of hop }
 {
@@ -179,6 +181,7 @@ fn hop(hop: Option<Hop>) -> ToldHop
     }
 }
 
+// A path to an address, if there is one, as C reads it.
 fn path(path: Option<Path>) -> ToldPath
     ensures { result ≡ path_of path }
 {
@@ -202,6 +205,7 @@ fn path(path: Option<Path>) -> ToldPath
     }
 }
 
+// The number of a cause of RPF', as C reads it.
 fn cause(cause: RpfCause) -> u32
     ensures { result ≡ cause_number cause }
 {
@@ -216,6 +220,7 @@ fn cause(cause: RpfCause) -> u32
     }
 }
 
+// The number of an (S,G,rpt) upstream state, as C reads it.
 fn state(state: TreeState) -> u32
     ensures { result ≡ state_number state }
 {

@@ -1,17 +1,10 @@
 -- The copies on the interfaces of a list, and that there are no more than interfaces.
-use Rattle.std.proofs.Common.{◌≡◌, ℕ, ◌≤◌, ◌&&◌, Bool, true, List, [], ◌∷◌, Result, Ok, Err, IfOk, length, map, nat_lt, arith, refl, ap, sym, ◌∙◌}
-use Rattle.std.specs.Prelude.{if◌then◌else◌}
-use Rattle.std.proofs.lemmas.List.{length-map}
-use Rattle.std.proofs.lemmas.List.FromFn.{length-range_with_len}
-use Rattle.std.proofs.lemmas.List.Sums.{count_by-le-length, length-filter}
-use Rattle.pim_ip.specs.Ipv4.{Packet, copy_text}
-use Rattle.pim_ifset.specs.Members.{Members, has}
-use Rattle.pim_world.specs.Shown.{Shows}
-use Rattle.pim_types.specs.declared.config.IfaceId.{IfaceId}
-use Rattle.pim_types.specs.declared.outcome.Emission.{Emission}
-use Rattle.pim_model.specs.Sets.{Set, members}
-use Rattle.pim_model.specs.State.{State, iface_count, ifaces}
-use Rattle.pim_model.specs.Writing.{copies_of, leaves, on_link}
+use Rattle.std.{proofs.{Common.{◌≡◌, ℕ, ◌≤◌, ◌&&◌, Bool, true, List, [], ◌∷◌, Result, Ok, Err, IfOk, length, map, nat_lt, arith, refl, ap, sym, ◌∙◌}, lemmas.List.{length-map, FromFn.length-range_with_len, Sums.{count_by-le-length, length-filter}}}, specs.Prelude.if◌then◌else◌}
+use Rattle.pim_ip.{specs.Ipv4.{Packet, copy_text}}
+use Rattle.pim_ifset.{specs.Members.{Members, has}}
+use Rattle.pim_state.{specs.Shown.Shows}
+use Rattle.pim_types.{specs.declared.{config.IfaceId.IfaceId, outcome.Emission.Emission}}
+use Rattle.pim_model.{specs.{Sets.{Set, members}, State.{State, iface_count, ifaces}, Writing.{copies_of, leaves, on_link}}}
 
 members_few : (s : State) (test : Set) → length (members s test) ≤ iface_count s
 unfolding members

@@ -1,13 +1,7 @@
 -- The list that a packet takes, case by case.
-use Rattle.std.proofs.Common.{◌≡◌, ℕ, Bool, true, false, List, [], refl}
-use Rattle.std.specs.Prelude.{if◌then◌else◌, ◌&&◌}
-use Rattle.pim_types.specs.Keys.{source_key, star_key}
-use Rattle.pim_model.specs.Asserts.{data_seen}
-use Rattle.pim_model.specs.Forwarding.{Forwarded, list_chosen, no_interface, stray, watched}
-use Rattle.pim_model.specs.Messages.{Message}
-use Rattle.pim_model.specs.Sets.{inherited_olist, inherited_olist_rpt, spt_bit, tunnel}
-use Rattle.pim_model.specs.State.{State}
-use Rattle.pim_model.specs.Unicast.{is_rpf_interface, is_rpf_interface_rp}
+use Rattle.std.{proofs.Common.{◌≡◌, ℕ, Bool, true, false, List, [], refl}, specs.Prelude.{if◌then◌else◌, ◌&&◌}}
+use Rattle.pim_types.{specs.Keys.{source_key, star_key}}
+use Rattle.pim_model.{specs.{Asserts.data_seen, Forwarding.{Forwarded, list_chosen, no_interface, stray, watched}, Messages.Message, Sets.{inherited_olist, inherited_olist_rpt, spt_bit, tunnel}, State.State, Unicast.{is_rpf_interface, is_rpf_interface_rp}}}
 
 -- what a packet that leaves nowhere changes and sends
 abbrev pub nowhere : State × List Message → Forwarded

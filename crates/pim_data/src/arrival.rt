@@ -1,7 +1,7 @@
 //! A data packet that came.
 ghost use Rattle.std.specs.Prelude.{◌≡◌, ◌<◌, IfOk, OnOk};
 ghost use Rattle.pim_macros.specs.Sights.{IsSourceSight};
-ghost use Rattle.pim_world.specs.Turns.{saying};
+ghost use Rattle.pim_state.specs.Turns.{saying};
 ghost use Rattle.pim_model.specs.Forwarding.{forwarded};
 ghost use Rattle.pim_register.specs.Outgoing.{LeavesOn};
 
@@ -9,8 +9,8 @@ use crate::list::choose_list;
 use crate::source::{source_here, source_joined, update_spt_bit};
 use pim_ifset::IfSet;
 use pim_macros::SourceSight;
+use pim_state::{Meter, Turn, World};
 use pim_types::IfaceId;
-use pim_world::{Meter, Turn, World};
 use std::alloc::AllocError;
 
 /// Takes a data packet of a source and a group that came on an interface below 120. The sight is what their macros

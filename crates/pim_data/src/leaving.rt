@@ -2,7 +2,7 @@
 ghost use Rattle.std.specs.Option.{option_map_or};
 ghost use Rattle.std.specs.Prelude.{◌≡◌, ◌≤◌, ℕ, [], Bool, IfOk, OnOk, length, map};
 ghost use Rattle.pim_ip.specs.Ipv4.{copy_text};
-ghost use Rattle.pim_world.specs.Shown.{Shows};
+ghost use Rattle.pim_state.specs.Shown.{Shows};
 ghost use Rattle.pim_model.specs.Forwarding.{Forwarded};
 ghost use Rattle.pim_model.specs.Writing.{copies_of, leaves, on_link, register_of_packet, tunnel_of};
 ghost use Rattle.pim_model.specs.Unicast.{rp_of};
@@ -14,8 +14,8 @@ use pim_ip::Ipv4View;
 use pim_macros::interfaces::members;
 use pim_messages::{Room, copy_on_link, register_of_copy};
 use pim_register::registering_address;
+use pim_state::{Meter, Turn, World};
 use pim_types::{Addr, Emission};
-use pim_world::{Meter, Turn, World};
 use std::alloc::{AllocError, Global};
 
 /// What leaves of a packet.

@@ -2,15 +2,15 @@
 ghost use Rattle.std.specs.Prelude.{◌≡◌, ◌<◌, IfOk, OnOk, if◌then◌else◌};
 ghost use Rattle.pim_model.specs.Sets.{inherited_olist, inherited_olist_rpt, spt_bit};
 ghost use Rattle.pim_macros.specs.Sights.{InSource, IsSourceSight};
-ghost use Rattle.pim_world.specs.Turns.{saying};
+ghost use Rattle.pim_state.specs.Turns.{saying};
 ghost use Rattle.pim_model.specs.Forwarding.{list_chosen, stray, watched};
 ghost use Rattle.pim_register.specs.Outgoing.{LeavesOn};
 
 use pim_asserts::data_seen;
 use pim_ifset::IfSet;
 use pim_macros::SourceSight;
+use pim_state::{Meter, Turn, World};
 use pim_types::IfaceId;
-use pim_world::{Meter, Turn, World};
 use std::alloc::AllocError;
 
 // Off the shortest path tree a source that local receivers want is watched, so that the router can move to it.

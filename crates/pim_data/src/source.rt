@@ -7,8 +7,8 @@ ghost use Rattle.pim_model.specs.Registers.{with_keepalive};
 
 use pim_macros::SourceSight;
 use pim_register::settle_register;
+use pim_state::{Meter, World};
 use pim_types::IfaceId;
-use pim_world::{Meter, World};
 use std::alloc::AllocError;
 
 // Starts KAT(S,G) for its whole period.

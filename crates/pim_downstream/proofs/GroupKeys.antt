@@ -1,14 +1,9 @@
 -- The keys of a message, entry by entry and group by group.
-use Rattle.std.proofs.Common.{◌≡◌, ℕ, Bool, true, false, List, [], ◌∷◌, ◌++◌, map, refl, ap, ◌∙◌}
-use Rattle.std.specs.List.{filter, flat_map}
-use Rattle.std.proofs.lemmas.List.{map-append}
-use Rattle.std.proofs.lemmas.List.Elements.{filter-append}
-use Rattle.pim_types.specs.declared.fact.Key.{Key}
-use Rattle.pim_wire.specs.Values.{Group}
-use Rattle.pim_wire.specs.declared.join_prune.Entry.{Entry}
-use Rattle.pim_model.specs.Downstream.{Named, named_key}
-use Rattle.pim_downstream.specs.Naming.{entry_keys}
-use Rattle.pim_downstream.proofs.Loops.{all_made, first_value, one_more_made, passed, pushed, value_of}
+use Rattle.std.{proofs.{Common.{◌≡◌, ℕ, Bool, true, false, List, [], ◌∷◌, ◌++◌, map, refl, ap, ◌∙◌}, lemmas.List.{map-append, Elements.filter-append}}, specs.List.{filter, flat_map}}
+use Rattle.pim_types.{specs.declared.fact.Key.Key}
+use Rattle.pim_wire.{specs.{Values.Group, declared.join_prune.Entry.Entry}}
+use Rattle.pim_model.{specs.Downstream.{Named, named_key}}
+use Rattle.pim_downstream.{specs.Naming.entry_keys, proofs.Loops.{all_made, first_value, one_more_made, passed, pushed, value_of}}
 
 -- ---- the entries of a group, which count where they pass the test
 

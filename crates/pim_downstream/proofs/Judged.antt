@@ -1,17 +1,11 @@
 -- The keys that a message can change, part after part, and how many it may make.
-use Rattle.std.proofs.Common.{◌≡◌, ◌+◌, ◌==◌, ◌∙◌, ℕ, Bool, true, false, not, ◌&&◌, List, [], ◌++◌, arith, filter, length, length-append, map, refl, sym, ap}
-use Rattle.std.proofs.lemmas.List.Elements.{filter-append}
-use Rattle.std.proofs.lemmas.List.{map-append}
-use Rattle.pim_types.specs.declared.fact.Key.{Key}
-use Rattle.pim_laws.proofs.ListLaws.{filter_shorter}
-use Rattle.pim_locality.specs.JoinPrunes.{moved_among, moves_end}
-use Rattle.pim_model.specs.Downstream.{rpt_rows_joined, touched_keys}
-use Rattle.pim_model.specs.Full.{keys_are_full, makeable_keys, needed, passes_limit}
-use Rattle.pim_model.specs.State.{State}
-use Rattle.pim_model.specs.Tables.{Table}
-use Rattle.pim_world.proofs.Room.{needed_within, room_for_fewer}
-use Rattle.pim_downstream.specs.Naming.{change_after, changes_after}
-use Rattle.pim_downstream.specs.declared.effect.Change.{Change}
+use Rattle.std.{proofs.{Common.{◌≡◌, ◌+◌, ◌==◌, ◌∙◌, ℕ, Bool, true, false, not, ◌&&◌, List, [], ◌++◌, arith, filter, length, length-append, map, refl, sym, ap}, lemmas.List.{Elements.filter-append, map-append}}}
+use Rattle.pim_types.{specs.declared.fact.Key.Key}
+use Rattle.law_settled.{proofs.ListLaws.filter_shorter}
+use Rattle.law_scope.{specs.JoinPrunes.{moved_among, moves_end}}
+use Rattle.pim_model.{specs.{Downstream.{rpt_rows_joined, touched_keys}, Full.{keys_are_full, makeable_keys, needed, passes_limit}, State.State, Tables.Table}}
+use Rattle.pim_state.{proofs.Room.{needed_within, room_for_fewer}}
+use Rattle.pim_downstream.{specs.{Naming.{change_after, changes_after}, declared.effect.Change.Change}}
 
 -- ---- part after part
 

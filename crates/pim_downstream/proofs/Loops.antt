@@ -1,7 +1,5 @@
 -- A list that a loop makes of another, element by element: what it has made and what is left to make are the whole.
-use Rattle.std.proofs.Common.{◌≡◌, Bool, true, false, List, [], ◌∷◌, ◌++◌, map, filter, refl, ap, sym, ◌∙◌}
-use Rattle.std.proofs.Common.{append_assoc, append-nil}
-use Rattle.std.specs.Prelude.{if◌then◌else◌}
+use Rattle.std.{proofs.Common.{◌≡◌, Bool, true, false, List, [], ◌∷◌, ◌++◌, map, filter, refl, ap, sym, ◌∙◌, append_assoc, append-nil}, specs.Prelude.if◌then◌else◌}
 
 -- what is still to be made of the elements that are left
 module _ {X Y : Type 0} (rest : List X → List Y) where

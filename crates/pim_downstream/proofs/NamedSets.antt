@@ -1,10 +1,8 @@
 -- Keys as a set that grows key by key.
-use Rattle.std.proofs.Common.{◌≡◌, ◌<◌, ◌+◌, ◌∙◌, ◌||◌, Bool, List, ap, cond, false, get_or, length, refl, sym, take, true, ℕ}
-use Rattle.std.proofs.lemmas.List.Folds.{list_any_more}
-use Rattle.pim_types.specs.declared.fact.Key.{Key}
-use Rattle.pim_types.specs.Keys.{same_key}
-use Rattle.pim_laws.proofs.RowLaws.{same_key_swap}
-use Rattle.pim_model.specs.Downstream.{is_named}
+use Rattle.std.{proofs.{Common.{◌≡◌, ◌<◌, ◌+◌, ◌∙◌, ◌||◌, Bool, List, ap, cond, false, get_or, length, refl, sym, take, true, ℕ}, lemmas.List.Folds.list_any_more}}
+use Rattle.pim_types.{specs.{declared.fact.Key.Key, Keys.same_key}}
+use Rattle.law_settled.{proofs.RowLaws.same_key_swap}
+use Rattle.pim_model.{specs.Downstream.is_named}
 
 -- a key that is put into a set of keys was named with those before it
 or_last : (b c : Bool) → cond b true c ≡ (c || b)

@@ -1,19 +1,9 @@
 -- All keys that a message names, and all that it can change, are on its interface.
-use Rattle.std.proofs.Common.{◌≡◌, ℕ, Bool, true, false, List, [], ◌∷◌, ◌++◌, map, filter, Option, refl, arith, ◌∙◌}
-use Rattle.std.specs.List.{list_all}
-use Rattle.std.specs.Prelude.{if◌then◌else◌, ◌&&◌}
-use Rattle.std.proofs.lemmas.Bool.Decides.{nat_tests}
-use Rattle.std.proofs.lemmas.List.Folds.{list_all-append, list_all-map}
-use Rattle.pim_types.specs.declared.fact.DownstreamRow.{DownstreamRow}
-use Rattle.pim_types.specs.declared.fact.Key.{Key}
-use Rattle.pim_types.specs.Keys.{group_in, is_on, star_key}
-use Rattle.pim_wire.specs.declared.join_prune.EntryKind.{EntryKind}
-use Rattle.pim_wire.specs.Values.{JoinPrune}
-use Rattle.pim_model.specs.Downstream.{Named, joined_keys, key_by, is_named, named_key, pruned_keys, rpt_rows_joined, touched_keys}
-use Rattle.pim_model.specs.State.{State}
-use Rattle.pim_model.specs.Tables.{keys_in}
-use Rattle.pim_downstream.specs.Naming.{are_on, is_rpt_joined}
-use Rattle.pim_downstream.specs.declared.effect.Change.{Change}
+use Rattle.std.{proofs.{Common.{◌≡◌, ℕ, Bool, true, false, List, [], ◌∷◌, ◌++◌, map, filter, Option, refl, arith, ◌∙◌}, lemmas.{Bool.Decides.nat_tests, List.Folds.{list_all-append, list_all-map}}}, specs.{List.list_all, Prelude.{if◌then◌else◌, ◌&&◌}}}
+use Rattle.pim_types.{specs.{declared.fact.{DownstreamRow.DownstreamRow, Key.Key}, Keys.{group_in, is_on, star_key}}}
+use Rattle.pim_wire.{specs.{declared.join_prune.EntryKind.EntryKind, Values.JoinPrune}}
+use Rattle.pim_model.{specs.{Downstream.{Named, joined_keys, key_by, is_named, named_key, pruned_keys, rpt_rows_joined, touched_keys}, State.State, Tables.keys_in}}
+use Rattle.pim_downstream.{specs.{Naming.{are_on, is_rpt_joined}, declared.effect.Change.Change}}
 
 module _ (i : ℕ) where
   by_on : (g address : ℕ) (kind : EntryKind) → is_on i (key_by i g address kind) ≡ true

@@ -1,13 +1,8 @@
 -- Rows that are set one after the other.
-use Rattle.std.proofs.Common.{◌≡◌, ℕ, List, [], ◌∷◌, map, Option, refl, ap, ◌∙◌}
-use Rattle.std.specs.Prelude.{fold}
-use Rattle.pim_types.specs.declared.fact.DownstreamRow.{DownstreamRow}
-use Rattle.pim_types.specs.declared.fact.Key.{Key}
-use Rattle.pim_model.specs.Downstream.{asserts_after_joins, keys_taken, row_after, touched_keys}
-use Rattle.pim_model.specs.State.{State}
-use Rattle.pim_model.specs.Tables.{set_row}
-use Rattle.pim_downstream.specs.Naming.{changes_after, row_set, rows_set}
-use Rattle.pim_downstream.specs.declared.effect.Change.{Change}
+use Rattle.std.{proofs.Common.{◌≡◌, ℕ, List, [], ◌∷◌, map, Option, refl, ap, ◌∙◌}, specs.Prelude.fold}
+use Rattle.pim_types.{specs.declared.fact.{DownstreamRow.DownstreamRow, Key.Key}}
+use Rattle.pim_model.{specs.{Downstream.{asserts_after_joins, keys_taken, row_after, touched_keys}, State.State, Tables.set_row}}
+use Rattle.pim_downstream.{specs.{Naming.{changes_after, row_set, rows_set}, declared.effect.Change.Change}}
 
 module _ (row : Key → Option DownstreamRow) where
   abbrev changed : Key → Change

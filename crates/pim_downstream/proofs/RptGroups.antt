@@ -1,21 +1,9 @@
 -- The groups of (*,G) among keys, gathered one by one.
-use Rattle.std.proofs.Common.{◌≡◌, ◌<◌, ◌≤◌, ◌==◌, ◌&&◌, ◌||◌, ◌+◌, ℕ, Bool, true, false, List, [], ◌∷◌, filter, get_or, length, take, refl, sym, ap, subst, ◌∙◌, arith}
-use Rattle.std.specs.BTreeSet.{insert_key}
-use Rattle.std.specs.List.{list_any}
-use Rattle.std.specs.List.Sorted.{IsStrictlySortedBy}
-use Rattle.std.specs.Ordering.{is_eq, match_ordering, nat_cmp, ordering_then}
-use Rattle.std.specs.declared.cmp.Ordering.{Ordering}
-use Rattle.std.specs.declared.cmp.Ordering.TheVariants.{Less, Equal, Greater}
-use Rattle.std.proofs.lemmas.Bool.Decides.{nat_tests}
-use Rattle.std.proofs.lemmas.List.{take_all}
-use Rattle.std.proofs.lemmas.List.Elements.{filter_agree}
-use Rattle.std.proofs.lemmas.List.Folds.{list_any_more}
-use Rattle.pim_ip.specs.declared.addr.Addr.{Addr}
-use Rattle.pim_types.specs.declared.fact.Key.{Key}
-use Rattle.pim_types.specs.Keys.{addr_cmp, group_in, is_on, key_cmp, same_key, star_key}
-use Rattle.pim_types.proofs.Keys.{equal_keys, nat_cmp_same, same_key_same}
-use Rattle.pim_model.specs.Downstream.{is_named}
-use Rattle.pim_downstream.specs.Naming.{is_rpt_joined}
+use Rattle.std.{proofs.{Common.{◌≡◌, ◌<◌, ◌≤◌, ◌==◌, ◌&&◌, ◌||◌, ◌+◌, ℕ, Bool, true, false, List, [], ◌∷◌, filter, get_or, length, take, refl, sym, ap, subst, ◌∙◌, arith}, lemmas.{Bool.Decides.nat_tests, List.{take_all, Elements.filter_agree, Folds.list_any_more}}}, specs.{BTreeSet.insert_key, List.{list_any, Sorted.IsStrictlySortedBy}, Ordering.{is_eq, match_ordering, nat_cmp, ordering_then}, declared.cmp.Ordering.{Ordering, TheVariants.{Less, Equal, Greater}}}}
+use Rattle.pim_ip.{specs.declared.addr.Addr.Addr}
+use Rattle.pim_types.{specs.{declared.fact.Key.Key, Keys.{addr_cmp, group_in, is_of_group, is_on, key_cmp, same_key, star_key}}, proofs.Keys.{equal_keys, nat_cmp_same, same_key_same}}
+use Rattle.pim_model.{specs.Downstream.is_named}
+use Rattle.pim_downstream.{specs.Naming.is_rpt_joined}
 
 -- ---- a group put among others
 
@@ -136,4 +124,22 @@ module _ (i : ℕ) where
       → ((g : ℕ) → has_group g gs ≡ is_named joined (star_key i g))
       → filter (λ k. is_on i k && k.rpt && has_group (group_in k) gs) ks ≡ filter (is_rpt_joined i joined) ks
   rpt_keys_are joined ks gs each =
+      filter_agree _ (is_rpt_joined i joined) (λ k. ap (λ (b : Bool). is_on i k && k.rpt && b) (each (group_in k))) ks
+
+  -- the group of a key of (*,G) that alone is joined
+  alone : (b : Bool) → b ≡ (b || false)
+  alone true = refl
+  alone false = refl
+
+  pub one_star : (joined : List Key) (k : Key) → joined ≡ k ∷ [] → same_key (star_key i (group_in k)) k ≡ true → (g : ℕ)
+      → (g == group_in k) ≡ is_named joined (star_key i g)
+  unfolding is_named
+  one_star joined k is star g =
+      sym (star_is g k star) ∙ alone (same_key (star_key i g) k)
+      ∙ ap (λ ks. list_any (same_key (star_key i g)) ks) (sym is)
+
+  -- the keys of that group are those of the joined ones
+  pub rpt_keys_of_one : (joined ks : List Key) (h : ℕ) → ((g : ℕ) → (g == h) ≡ is_named joined (star_key i g))
+      → filter (λ k. is_on i k && k.rpt && is_of_group h k) ks ≡ filter (is_rpt_joined i joined) ks
+  rpt_keys_of_one joined ks h each =
       filter_agree _ (is_rpt_joined i joined) (λ k. ap (λ (b : Bool). is_on i k && k.rpt && b) (each (group_in k))) ks

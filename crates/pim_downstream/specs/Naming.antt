@@ -1,16 +1,11 @@
 -- The keys that the entries of one group name, and rows that are set one after the other.
-use Rattle.std.specs.List.{list_all}
-use Rattle.std.specs.Prelude.{Bool, List, filter, fold, length, map, ℕ, ◌&&◌, ◌<◌, ◌≡◌}
-use Rattle.pim_types.specs.Keys.{group_in, is_on, star_key}
-use Rattle.pim_types.specs.declared.fact.Key.{Key}
-use Rattle.pim_wire.specs.declared.join_prune.Entry.{Entry}
-use Rattle.pim_model.specs.Downstream.{Named, is_accepted, is_named, is_used, named_key, row_after, touched_keys}
-use Rattle.pim_model.specs.State.{State}
-use Rattle.pim_model.specs.Tables.{set_row}
-use Rattle.pim_downstream.specs.declared.named.Named.{Named as NamedKeys}
-use Rattle.pim_downstream.specs.declared.effect.Change.{Change}
+use Rattle.std.{specs.{List.list_all, Prelude.{Bool, List, filter, fold, length, map, ℕ, ◌&&◌, ◌<◌, ◌≡◌}}}
+use Rattle.pim_types.{specs.{Keys.{group_in, is_on, star_key}, declared.fact.Key.Key}}
+use Rattle.pim_wire.{specs.declared.join_prune.Entry.Entry}
+use Rattle.pim_model.{specs.{Downstream.{Named, is_accepted, is_named, is_used, named_key, row_after, touched_keys}, State.State, Tables.set_row}}
+use Rattle.pim_downstream.{specs.declared.{named.Named.Named as NamedKeys, effect.Change.Change}}
 
--- a join counts where it is used and accepted
+-- a joined entry counts where the router uses and accepts it
 abbrev pub is_counted : State → Named → Bool
 is_counted s n = is_used n && is_accepted s n
 
@@ -30,6 +25,7 @@ are_on i keys = list_all (is_on i) keys
 unfoldable pub row_set : State → Change → State
 row_set s c = record s { downstream = set_row s.downstream c.key c.row }
 
+-- the rows of several keys set, or taken away
 unfoldable pub rows_set : State → List Change → State
 rows_set s changes = fold row_set s changes
 

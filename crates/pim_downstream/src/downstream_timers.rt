@@ -6,14 +6,14 @@ ghost use Rattle.pim_model.specs.Downstream.{entry_kind, prune_echo};
 ghost use Rattle.pim_model.specs.Firing.{fired};
 ghost use Rattle.pim_model.specs.Messages.{Message, entry};
 ghost use Rattle.pim_model.specs.State.{my_address};
-ghost use Rattle.pim_world.specs.Turns.{saying};
+ghost use Rattle.pim_state.specs.Turns.{saying};
 ghost use Rattle.pim_downstream.specs.Ends.{is_downstream_kind};
 
+use pim_state::{Turn, World};
 use pim_trie::Meter;
 use pim_types::fact::DownstreamRow;
 use pim_types::{Addr, Hop, Key, TimerKind};
 use pim_wire::{Entry, EntryKind};
-use pim_world::{Turn, World};
 use std::alloc::AllocError;
 
 // The kind of the entry that names the key.

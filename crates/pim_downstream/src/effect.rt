@@ -1,18 +1,19 @@
 //! The effect of a message, found before its change: the rows after it, and the keys of which it changes more than when
 //! a timer expires.
 ghost use Rattle.std.specs.Prelude.{◌≡◌, ◌++◌, [], ◌∷◌, IfOk, OnOk, filter, if◌then◌else◌, map, not};
-ghost use Rattle.pim_locality.specs.JoinPrunes.{moved_among, moves_end};
+ghost use Rattle.law_scope.specs.JoinPrunes.{moved_among, moves_end};
 ghost use Rattle.pim_downstream.specs.Naming.{change_after, changes_after};
 ghost use Rattle.pim_model.specs.Rows.{same_both, same_downstream, same_end};
 ghost use Rattle.pim_model.specs.Sets.{is_loser};
+ghost use Rattle.pim_model.specs.Tables.{row_at};
 
 use crate::indexed::Indexed;
 use crate::named::Named;
 use crate::row::row_after;
 use crate::rpt::push_rpt_rows;
+use pim_state::{Turn, World};
 use pim_types::fact::{AssertRole, AssertRow, DownstreamRow};
 use pim_types::{IfaceId, Key, Series};
-use pim_world::{Turn, World};
 use std::alloc::{AllocError, Global};
 
 /// A key with its row after a message.
@@ -63,26 +64,28 @@ fn is_loser(row: Option<AssertRow>) -> bool
     }
 }
 
-// Whether a message, after which this is the row, changes at most when the timers of the key's row expire, and the key
-// loses no assert by it.
-#[tactic(auto, unfolding(pim_locality::specs::JoinPrunes::moves_end))]
+// Whether a message changes at most when the timers of the key's row expire, and the key loses no assert by it, where
+// this is the row before the message and the change has that after it.
+#[tactic(auto, unfolding(law_scope::specs::JoinPrunes::moves_end))]
 fn moves_end(
     world: &World,
     iface: IfaceId,
     holdtime: u16,
     named: &Indexed<'_>,
+    before: Option<DownstreamRow>,
     change: Change,
 ) -> bool
-    requires { change ≡ change_after world.now iface.number holdtime named.now.joined.items named.now.pruned.items change.key }
+    requires before { before ≡ row_at world.now.downstream change.key }
+    requires after { change ≡ change_after world.now iface.number holdtime named.now.joined.items named.now.pruned.items change.key }
     ensures { result
         ≡ moves_end world.now iface.number holdtime named.now.joined.items named.now.pruned.items change.key }
 {
-    same_row(world.store().downstream(change.key), change.row)
+    same_row(before, change.row)
         && !(is_loser(world.store().assert_at(change.key)) && named.joins(change.key))
 }
 
-// The row of the key after the message. The key is added to the list if the message changes more of it than when a
-// timer expires.
+// The row of the key after the message: its row is looked up once. The key is added to the list if the message changes
+// more of it than when a timer expires.
 fn judge_key(
     world: &World,
     iface: IfaceId,
@@ -96,9 +99,10 @@ fn judge_key(
     ensures moved { OnOk result (moved.new.items ≡ moved.old.items ++ (if moves_end world.now iface.number holdtime
         named.now.joined.items named.now.pruned.items key then [] else key ∷ [])) }
 {
-    let row = row_after(world, iface, holdtime, named, key);
+    let before = world.store().downstream(key);
+    let row = row_after(world, iface, holdtime, named, key, before);
     let change = Change { key, row };
-    if !moves_end(world, iface, holdtime, named, change) {
+    if !moves_end(world, iface, holdtime, named, before, change) {
         moved.push(key)?;
     }
     Ok(change)

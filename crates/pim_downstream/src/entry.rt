@@ -4,10 +4,10 @@ ghost use Rattle.pim_ip.specs.Ipv4.{is_link_local, is_source_specific};
 ghost use Rattle.pim_model.specs.Downstream.{is_accepted, is_kind, is_used};
 ghost use Rattle.pim_downstream.specs.Naming.{is_counted};
 
+use pim_state::World;
 use pim_trie::Meter;
 use pim_types::Addr;
 use pim_wire::{Entry, EntryKind};
-use pim_world::World;
 
 /// Whether an entry of the group is used: groups of 224.0.0.0/24 are skipped, and of a source-specific
 /// group all entries but those of (S,G).

@@ -4,9 +4,9 @@ ghost use Rattle.pim_model.specs.Full.{distinct, keys_are_full, makeable_keys, o
 ghost use Rattle.pim_model.specs.Tables.{has_row, same_bool};
 
 use crate::named::Named;
+use pim_state::{Turn, World};
 use pim_tables::is_named;
 use pim_types::Key;
-use pim_world::{Turn, World};
 use std::alloc::{AllocError, Global};
 
 // Puts the key behind the others, if it isn't among them.

@@ -7,9 +7,9 @@ ghost use Rattle.pim_model.specs.Downstream.{keys_taken};
 
 use crate::effect::{Change, Effect};
 use crate::named::Named;
+use pim_state::{Turn, World};
 use pim_trie::Meter;
 use pim_types::IfaceId;
-use pim_world::{Turn, World};
 use std::alloc::AllocError;
 
 // Sets the rows of an interface, one after the other.

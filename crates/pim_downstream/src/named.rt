@@ -4,9 +4,9 @@ ghost use Rattle.pim_downstream.specs.Naming.{entry_keys, is_counted};
 ghost use Rattle.pim_model.specs.Downstream.{is_used, joined_keys, key_by, pruned_keys};
 
 use crate::entry::{is_counted, is_used};
+use pim_state::{Meter, Turn, World};
 use pim_types::{Addr, IfaceId, Key};
 use pim_wire::{Entry, EntryKind, GroupView, JoinPruneView};
-use pim_world::{Meter, Turn, World};
 use std::alloc::{AllocError, Global};
 
 /// The keys that the entries of a message name, in its order: those that it joins, and those that it prunes. Entries

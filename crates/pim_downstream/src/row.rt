@@ -1,13 +1,13 @@
 //! A downstream state as a message leaves it.
-ghost use Rattle.std.specs.Prelude.{◌≡◌};
+ghost use Rattle.std.specs.Prelude.{◌≡◌, true};
 ghost use Rattle.pim_model.specs.Downstream.{joined_row, prune_pending_end, pruned_row, pruned_rpt_row, row_after};
-ghost use Rattle.pim_model.specs.Tables.{later_end};
+ghost use Rattle.pim_model.specs.Tables.{later_end, row_at};
 
 use crate::indexed::Indexed;
 use pim_neighbours::holdtime_end;
+use pim_state::World;
 use pim_types::fact::DownstreamRow;
 use pim_types::{IfaceId, Key};
-use pim_world::World;
 
 /// The later of two timestamps, in ms. `None` never expires.
 pub fn later_end(first: Option<u64>, second: Option<u64>) -> Option<u64>
@@ -78,7 +78,34 @@ pub fn pruned_rpt_row(
     }
 }
 
-/// The row of a key after a message with these keys and a holdtime, in seconds.
+// (S,G,rpt) after a message with these keys and a holdtime, in seconds, where this is its row. When a Prune takes effect
+// is found only where there is one.
+#[tactic(auto, unfolding(pim_model::specs::Downstream::row_after))]
+fn rpt_row_after(
+    world: &World,
+    iface: IfaceId,
+    holdtime: u16,
+    named: &Indexed<'_>,
+    key: Key,
+    row: Option<DownstreamRow>,
+) -> Option<DownstreamRow>
+    requires row { row ≡ row_at world.now.downstream key }
+    requires rpt { key.rpt ≡ true }
+    ensures { result ≡ row_after world.now iface.number holdtime named.now.joined.items named.now.pruned.items key }
+{
+    let left = if named.joins(key) { None } else { row };
+    if named.prunes(key) {
+        let end = holdtime_end(world.present(), holdtime);
+        return pruned_rpt_row(end, holdtime, world.prune_pending_end(iface), left);
+    }
+    if named.joins(Key::star(iface, key.group)) {
+        return None;
+    }
+    left
+}
+
+/// The row of a key after a message with these keys and a holdtime, in seconds, where this is its row. When a Prune
+/// takes effect is found only where there is one.
 #[tactic(auto, unfolding(pim_model::specs::Downstream::row_after))]
 pub(crate) fn row_after(
     world: &World,
@@ -86,31 +113,21 @@ pub(crate) fn row_after(
     holdtime: u16,
     named: &Indexed<'_>,
     key: Key,
+    row: Option<DownstreamRow>,
 ) -> Option<DownstreamRow>
+    requires { row ≡ row_at world.now.downstream key }
     ensures { result ≡ row_after world.now iface.number holdtime named.now.joined.items named.now.pruned.items key }
 {
-    let row = world.store().downstream(key);
-    let end = holdtime_end(world.present(), holdtime);
-    let pending = world.prune_pending_end(iface);
-    let is_joined = named.joins(key);
-    let is_pruned = named.prunes(key);
     if key.rpt {
-        let left = if is_joined { None } else { row };
-        if is_pruned {
-            return pruned_rpt_row(end, holdtime, pending, left);
-        }
-        if named.joins(Key::star(iface, key.group)) {
-            return None;
-        }
-        return left;
+        return rpt_row_after(world, iface, holdtime, named, key, row);
     }
-    let joined = if is_joined {
-        joined_row(end, holdtime, row)
+    let joined = if named.joins(key) {
+        joined_row(holdtime_end(world.present(), holdtime), holdtime, row)
     } else {
         row
     };
-    if is_pruned {
-        pruned_row(pending, joined)
+    if named.prunes(key) {
+        pruned_row(world.prune_pending_end(iface), joined)
     } else {
         joined
     }

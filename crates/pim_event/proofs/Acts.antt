@@ -1,15 +1,10 @@
 -- What an event is to do: of which event it is, and what was read for it.
-use Rattle.std.proofs.Common.{◌≡◌, ℕ, subst, sym, ◌∙◌}
-use Rattle.pim_types.specs.declared.config.IfaceId.{IfaceId}
-use Rattle.pim_wire.specs.Values.{JoinPrune}
-use Rattle.pim_model.specs.declared.accepted.Accepted.{Accepted}
-use Rattle.pim_model.specs.Downstream.{joined_keys, pruned_keys}
-use Rattle.pim_model.specs.State.{State}
-use Rattle.pim_downstream.specs.Naming.{changes_after}
-use Rattle.pim_downstream.specs.declared.named.Named.{Named}
-use Rattle.pim_event.specs.Acting.{HasHeard, HasKeys, control_event, act_event}
-use Rattle.pim_event.specs.declared.act.Act.{Act}
-use Rattle.pim_event.specs.declared.act.Control.{Control}
+use Rattle.std.{proofs.Common.{◌≡◌, ℕ, subst, sym, ◌∙◌}}
+use Rattle.pim_types.{specs.declared.config.IfaceId.IfaceId}
+use Rattle.pim_wire.{specs.Values.JoinPrune}
+use Rattle.pim_model.{specs.{declared.accepted.Accepted.Accepted, Downstream.{joined_keys, pruned_keys}, State.State}}
+use Rattle.pim_downstream.{specs.{Naming.changes_after, declared.named.Named.Named}}
+use Rattle.pim_plan.{specs.{Acting.{HasHeard, HasKeys, control_event, act_event}, declared.act.{Act.Act, Control.Control}}}
 
 -- none lets time pass
 pub control_timeless : (control : Control) (m : ℕ) → ¬ (control_event control ≡ Accepted.Advance m)

@@ -1,18 +1,11 @@
 -- The forwarding cache after an event, put together.
-use Rattle.std.proofs.Common.{Err, Ok, OnOk, Result, ℕ, ◌≡◌}
-use Rattle.std.specs.List.Sorted.{IsStrictlySortedBy}
-use Rattle.pim_types.specs.Keys.{key_cmp}
-use Rattle.pim_types.specs.declared.event.Event.{Event}
-use Rattle.pim_fanout.specs.Refreshing.{CacheValue, touches}
-use Rattle.pim_mfc.specs.Laws.{ShowsRows}
-use Rattle.pim_model.specs.Cache.{cached}
-use Rattle.pim_model.specs.State.{State}
-use Rattle.pim_reach.specs.Named.{event_named}
-use Rattle.pim_event.specs.Caching.{CacheAfter}
-use Rattle.pim_event.specs.Costs.{IsCheap}
-use Rattle.pim_event.specs.Disturbing.{event_touched}
-use Rattle.pim_event.specs.Listing.{ListsSame}
-use Rattle.pim_event.specs.Staying.{UntouchedOffersStay}
+use Rattle.std.{proofs.Common.{Err, Ok, OnOk, Result, ℕ, ◌≡◌}, specs.List.Sorted.IsStrictlySortedBy}
+use Rattle.pim_types.{specs.{Keys.key_cmp, declared.event.Event.Event}}
+use Rattle.pim_fanout.{specs.Refreshing.{CacheValue, touches}}
+use Rattle.pim_mfc.{specs.Laws.ShowsRows}
+use Rattle.pim_model.{specs.{Cache.cached, State.State}}
+use Rattle.law_named.{specs.Named.event_named}
+use Rattle.pim_event.{specs.{Caching.CacheAfter, Costs.IsCheap, Disturbing.event_touched, Listing.ListsSame, Staying.UntouchedOffersStay}}
 
 pub cache_after : {A E : Type 0} (r : Result A E) (s : State) (e : Event) (t : State) (cache : CacheValue) (probes : ℕ)
     → OnOk r (ShowsRows cache.mfc.rows (cached t)) → OnOk r (IsCheap s e probes (touches cache))

@@ -1,32 +1,15 @@
 -- Where what is accepted is about an interface, that is one of the router's; where it is about a moment, that is one
 -- that an event may have; and routes and RP ranges are those of the event.
-use Rattle.std.proofs.Common.{◌≡◌, ◌<◌, ◌≤◌, ℕ, Bool, true, false, not, nat_le, nat_lt, Ok, Err, List, length, arith, refl, subst, sym, ◌∙◌, ◌==◌, ◌&&◌}
-use Rattle.std.proofs.lemmas.Bool.Decides.{nat_tests}
-use Rattle.std.specs.Prelude.{if◌then◌else◌}
-use Rattle.pim_ip.specs.Addr.{addr}
-use Rattle.pim_ip.specs.Ipv4.{Packet, all_pim_routers, frame_limit, ipv4_reading, is_link_local, is_multicast, protocol_igmp, protocol_pim}
-use Rattle.pim_ip.specs.declared.refusal.Refusal.{Refusal}
-use Rattle.pim_types.specs.declared.config.IfaceId.{IfaceId}
-use Rattle.pim_types.specs.declared.event.EventKind.{EventKind}
-use Rattle.pim_types.specs.declared.outcome.Ignored.{Ignored}
-use Rattle.pim_types.specs.declared.outcome.Stop.{Stop}
-use Rattle.pim_wire.specs.Messages.{pim_reading}
-use Rattle.pim_wire.specs.RegisterParts.{registered_group}
-use Rattle.pim_wire.specs.Values.{JoinPrune}
-use Rattle.pim_wire.specs.declared.view.PimView.{PimView}
-use Rattle.igmp_wire.specs.Messages.{igmp_reading}
-use Rattle.igmp_wire.specs.declared.view.IgmpView.{IgmpView}
-use Rattle.pim_model.specs.declared.accepted.Accepted.{Accepted}
-use Rattle.pim_model.specs.Hellos.{hello_holdtime_of}
-use Rattle.pim_model.specs.Judging.{Judged, advance_judged, assert_judged, data_judged, down_judged, frame_judged, hello_judged, igmp_accepted, igmp_judged, igmp_message_judged, ignore_if, join_prune_judged, judged, last_moment, of_read, packet_judged, pim_judged, pim_message_judged, pim_to_me_judged, refuse_if, register_judged, register_stop_judged, routes_judged, rps_judged, unicast_judged, unicast_packet_judged, up_judged, ◌>>◌}
-use Rattle.pim_model.specs.Limits.{are_routes, are_rps}
-use Rattle.pim_model.specs.Neighbours.{is_neighbour}
-use Rattle.pim_model.specs.State.{InterfaceTable, State, iface_count, interfaces_of, is_own, is_up, my_address}
-use Rattle.pim_model.specs.Unicast.{is_rp}
-use Rattle.pim_mrib.specs.Routes.{RouteTable}
-use Rattle.pim_intake.specs.Admitted.{IsTableOf}
-use Rattle.pim_event.specs.Naming.{Brings, IsConfigured}
-use Rattle.pim_event.proofs.Judgements.{FitsTo, Says, choosing, ignoring, reading, refusing, three, two}
+use Rattle.std.{proofs.{Common.{◌≡◌, ◌<◌, ◌≤◌, ℕ, Bool, Box, Global, Option, true, false, not, nat_le, nat_lt, Ok, Err, List, length, arith, refl, subst, sym, ◌∙◌, ◌==◌, ◌&&◌}, lemmas.Bool.Decides.nat_tests}, specs.Prelude.if◌then◌else◌}
+use Rattle.pim_ip.{specs.{Addr.addr, Ipv4.{Packet, all_pim_routers, frame_limit, ipv4_reading, is_link_local, is_multicast, protocol_igmp, protocol_pim}, declared.refusal.Refusal.Refusal}}
+use Rattle.pim_types.{specs.declared.{config.IfaceId.IfaceId, event.EventKind.EventKind, outcome.{Ignored.Ignored, Stop.Stop}}}
+use Rattle.pim_wire.{specs.{Messages.pim_reading, RegisterParts.registered_group, Values.JoinPrune, declared.view.PimView.PimView}}
+use Rattle.igmp_wire.{specs.{Messages.igmp_reading, declared.view.IgmpView.IgmpView}}
+use Rattle.pim_model.{specs.{declared.accepted.Accepted.Accepted, Hellos.hello_holdtime_of, Judging.{Judged, advance_judged, assert_judged, data_judged, down_judged, frame_judged, hello_judged, igmp_accepted, igmp_judged, igmp_message_judged, ignore_if, join_prune_judged, judged, last_moment, of_read, packet_judged, pim_judged, pim_message_judged, pim_to_me_judged, refuse_if, register_judged, register_stop_judged, routes_judged, rps_judged, unicast_judged, unicast_packet_judged, up_judged, ◌>>◌}, Limits.{are_routes, are_rps}, Neighbours.is_neighbour, State.{InterfaceTable, State, iface_count, interfaces_of, is_own, is_up, my_address}, Unicast.is_rp}}
+use Rattle.pim_mrib.{specs.Routes.RouteTable}
+use Rattle.pim_intake.{specs.Brought.IsTableOf}
+use Rattle.pim_plan.{specs.Naming.{Brings, IsConfigured}}
+use Rattle.pim_event.{proofs.Judgements.{FitsTo, Says, choosing, ignoring, reading, refusing, three, two}}
 
 below : (i n : ℕ) → nat_le n i ≡ false → i < n
 below i n e = grind (arith, nat_tests, e)
@@ -160,13 +143,13 @@ module _ (s : State) where
   pub configured : (kind : EventKind) (j : Judged) (a : Accepted) → j ≡ judged s kind → j ≡ Ok a → IsConfigured s a
   configured kind j a e f = (accepted_of kind j a e f).0
 
-  of_event : (kind : EventKind) (a : Accepted) (table : RouteTable) → IsBroughtBy kind a → IsTableOf kind table
+  of_event : (kind : EventKind) (a : Accepted) (table : Option (Box RouteTable Global)) → IsBroughtBy kind a → IsTableOf kind table
       → Brings a table
   of_event kind (Accepted.Routes routes) table is of = subst (λ (k : EventKind). IsTableOf k table) is of
   of_event kind (Accepted.Rps ranges) table is of = subst (λ (k : EventKind). IsTableOf k table) is of
   of_event kind a table is of = tt
 
-  pub brings : (kind : EventKind) (a : Accepted) (table : RouteTable) → judged s kind ≡ Ok a → IsTableOf kind table
+  pub brings : (kind : EventKind) (a : Accepted) (table : Option (Box RouteTable Global)) → judged s kind ≡ Ok a → IsTableOf kind table
       → Brings a table
   brings kind a table heard of = of_event kind a table (accepted_of kind (judged s kind) a refl heard).1 of
 

@@ -1,21 +1,14 @@
 -- What events cost, one after the other.
-use Rattle.std.proofs.Common.{◌≡◌, ◌≤◌, ◌<◌, ◌+◌, ◌*◌, ℕ, Bool, true, List, [], ◌∷◌, ◌++◌, Result, Ok, Err, OnOk, length, take, take_all, get_or, refl, ap, subst, sym, ◌∙◌, arith, add-one}
-use Rattle.std.proofs.Math.Seq.{take-suc}
-use Rattle.pim_types.specs.declared.event.Event.{Event}
-use Rattle.pim_model.specs.Plain.{IsPlainEvent}
-use Rattle.pim_model.specs.Reach.{event_reach}
-use Rattle.pim_model.specs.State.{State}
-use Rattle.pim_model.specs.Step.{ran, state_after, step}
-use Rattle.pim_locality.specs.Rest.{IsAtRest}
-use Rattle.pim_types.specs.Keys.{source_key}
-use Rattle.pim_model.specs.Tables.{has_row}
-use Rattle.pim_mfc.specs.Kept.{Kept}
-use Rattle.pim_trie.specs.Meter.{raised}
-use Rattle.pim_fanout.specs.Refreshing.{CacheValue, touches, uncounted}
-use Rattle.pim_ready.proofs.SettledStates.{settled_is_lawful}
-use Rattle.pim_reach.specs.Named.{event_named}
-use Rattle.pim_reach.proofs.Few.{event_names_few}
-use Rattle.pim_event.specs.Costs.{IsCheap, IsLastCheap, IsWithinPath}
+use Rattle.std.{proofs.{Common.{◌≡◌, ◌≤◌, ◌<◌, ◌+◌, ◌*◌, ℕ, Bool, true, List, [], ◌∷◌, ◌++◌, Result, Ok, Err, OnOk, length, take, take_all, get_or, refl, ap, subst, sym, ◌∙◌, arith, add-one}, Math.Seq.take-suc}}
+use Rattle.pim_types.{specs.{declared.event.Event.Event, Keys.source_key}}
+use Rattle.pim_model.{specs.{Plain.IsPlainEvent, Reach.event_reach, State.State, Step.{ran, state_after, step}, Tables.has_row}}
+use Rattle.law_scope.{specs.Rest.IsAtRest}
+use Rattle.pim_mfc.{specs.Kept.Kept}
+use Rattle.pim_trie.{specs.Meter.raised}
+use Rattle.pim_fanout.{specs.Refreshing.{CacheValue, touches, uncounted}}
+use Rattle.law_settled.{proofs.SettledStates.settled_is_lawful}
+use Rattle.law_named.{specs.Named.event_named, proofs.Few.event_names_few}
+use Rattle.pim_event.{specs.Costs.{IsCheap, IsLastCheap, IsWithinPath}}
 
 -- two for each named source are no more than three for each that is reached
 pub is_cheap : (s : State) → IsAtRest s → (e : Event) (probes touched : ℕ) → (IsPlainEvent s e → IsWithinPath probes)

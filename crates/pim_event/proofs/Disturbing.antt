@@ -1,32 +1,14 @@
 -- Which sources an event disturbs: after what was accepted, over firings in turn, and at the last of some events.
-use Rattle.std.specs.Prelude.{if◌then◌else◌}
-use Rattle.std.proofs.Common.{◌≡◌, ◌≤◌, ◌<◌, ◌+◌, ℕ, Bool, true, false, not, ◌&&◌, is_some, List, [], ◌∷◌, ◌++◌, Some, Result, Ok, Err, OnOk, length, take, take_all, get_or, append_assoc, append-nil, add-one, refl, ap, subst, sym, ◌∙◌}
-use Rattle.std.proofs.Math.Seq.{take-suc}
-use Rattle.pim_ip.specs.Ipv4.{Packet}
-use Rattle.pim_types.specs.declared.config.IfaceId.{IfaceId}
-use Rattle.pim_types.specs.declared.event.Event.{Event}
-use Rattle.pim_types.specs.declared.fact.Key.{Key}
-use Rattle.pim_types.specs.declared.outcome.Stop.{Stop}
-use Rattle.pim_model.specs.Cache.{Plain}
-use Rattle.pim_model.specs.declared.accepted.Accepted.{Accepted}
-use Rattle.pim_model.specs.Firing.{fire_instant, fire_once}
-use Rattle.pim_model.specs.Full.{is_full, passes_limit}
-use Rattle.pim_model.specs.Judging.{Judged, judged}
-use Rattle.pim_model.specs.Plain.{fact_key}
-use Rattle.pim_model.specs.State.{State}
-use Rattle.pim_model.specs.Step.{concluded, ran, state_after, step, taken_unless_full}
-use Rattle.pim_model.specs.Tables.{has_row, same_bool}
-use Rattle.pim_model.specs.Timers.{Ending, next_due}
-use Rattle.pim_laws.specs.Laws.{IsFirable, IsReady, ends_from}
-use Rattle.pim_cached.specs.Decided.{decided_by_answers}
-use Rattle.pim_world.specs.declared.touched.Touched.{Touched}
-use Rattle.pim_fanout.specs.Disturbed.{joined}
-use Rattle.pim_event.specs.Disturbing.{IsLastDisturbed, disturbed_of, disturbed_with_room, ended_all, ended_instant, event_disturbed, event_touched, goes_by_answers, joined_all, disturbed_at, where_disturbed}
-use Rattle.pim_event.specs.Ends.{disturbed_by_end}
-use Rattle.pim_event.specs.Planning.{touched_of}
-use Rattle.pim_event.specs.Replacing.{Disturbance, Replaced, event_replaced}
-use Rattle.pim_event.specs.Staying.{disturbed_by}
-use Rattle.pim_event.proofs.Firings.{all_ended, instant_ended}
+use Rattle.std.{specs.Prelude.if◌then◌else◌, proofs.{Common.{◌≡◌, ◌≤◌, ◌<◌, ◌+◌, ℕ, Bool, true, false, not, ◌&&◌, is_some, List, [], ◌∷◌, ◌++◌, Some, Ok, Err, length, take, take_all, get_or, append_assoc, append-nil, add-one, refl, ap, subst, sym, ◌∙◌}, Math.Seq.take-suc}}
+use Rattle.pim_ip.{specs.Ipv4.Packet}
+use Rattle.pim_types.{specs.declared.{config.IfaceId.IfaceId, event.Event.Event, fact.Key.Key, outcome.Stop.Stop}}
+use Rattle.pim_model.{specs.{Cache.Plain, declared.accepted.Accepted.Accepted, Firing.{fire_instant, fire_once}, Full.{is_full, passes_limit}, Judging.{Judged, judged}, Plain.fact_key, State.State, Step.{concluded, ran, state_after, step, taken_unless_full}, Tables.{has_row, same_bool}, Timers.{Ending, next_due}}}
+use Rattle.law_settled.{specs.Laws.{IsFirable, IsReady, ends_from}}
+use Rattle.law_cache.{specs.Decided.decided_by_answers}
+use Rattle.pim_state.{specs.declared.touched.Touched.Touched}
+use Rattle.pim_fanout.{specs.Disturbed.joined}
+use Rattle.pim_event.{specs.{Disturbing.{IsLastDisturbed, disturbed_of, disturbed_with_room, ended_all, ended_instant, event_disturbed, event_touched, goes_by_answers, joined_all, disturbed_at, where_disturbed}, Ends.disturbed_by_end, Replacing.Disturbance, Staying.disturbed_by}, proofs.Firings.{all_ended, instant_ended}}
+use Rattle.pim_plan.{specs.Planning.touched_of}
 
 -- ---- what changes touch together
 
@@ -253,13 +235,6 @@ no_data s a other = refl
 pub other_in_turn : (s : State) (e : Event) (a : Accepted) → judged s e.kind ≡ Ok a
     → ((i : IfaceId) (p : Packet) → ¬ (a ≡ Accepted.Data i p)) → goes_by_answers s (judged s e.kind) ≡ false
 other_in_turn s e a heard other = ap (goes_by_answers s) heard ∙ no_data s a other
-
--- what is touched and what is replaced
-pub both_disturb : {A E : Type 0} (r : Result A E) (touched : Touched) (replaced : Replaced) (s : State) (e : Event)
-    → OnOk r (touched ≡ event_touched s e) → OnOk r (replaced ≡ event_replaced s e)
-    → OnOk r (record { touched = touched; replaced = replaced } ≡ event_disturbed s e)
-both_disturb (Ok x) touched replaced s e touches replaces = λ j. record { touched = touches j; replaced = replaces j }
-both_disturb (Err x) touched replaced s e touches replaces = tt
 
 -- ---- the last of some events
 

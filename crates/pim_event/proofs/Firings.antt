@@ -1,20 +1,10 @@
 -- What an Advance names, firing by firing, and how far a loop over timers has come with what its rows cost.
-use Rattle.std.proofs.Common.{◌≡◌, ◌≤◌, ◌<◌, ◌+◌, ◌-◌, ◌*◌, ℕ, true, List, [], ◌++◌, length, Option, Some, None, refl, ap, subst, sym, ◌∙◌, arith, length-append}
-use Rattle.pim_types.specs.declared.outcome.Emission.{Emission}
-use Rattle.pim_types.specs.declared.fact.Key.{Key}
-use Rattle.pim_model.specs.Firing.{fire_all, fire_instant, fire_once}
-use Rattle.pim_model.specs.Reach.{own_firing, told_all, told_instant, told_once}
-use Rattle.pim_model.specs.Repeat.{and_then}
-use Rattle.pim_model.specs.State.{State}
-use Rattle.pim_model.specs.Timers.{Ending, next_due, timers}
-use Rattle.pim_laws.specs.Laws.{IsAhead, IsFirable, IsReady, ends_from}
-use Rattle.pim_laws.proofs.FiringLaws.{firing_goes_on, firing_is_complete, instant_goes_on, instant_is_complete}
-use Rattle.pim_laws.proofs.TimerLaws.{IsNext, from_shown, is_next}
-use Rattle.pim_laws.proofs.TurnLaws.{same_when_none, unrolls_with}
-use Rattle.pim_ready.proofs.ShownEnds.{shown_is_later}
-use Rattle.pim_reach.specs.Named.{named_by}
-use Rattle.pim_reach.proofs.Advance.{same_end}
-use Rattle.pim_event.specs.Disturbing.{ended_all, ended_instant, ended_once}
+use Rattle.std.{proofs.Common.{◌≡◌, ◌≤◌, ◌<◌, ◌+◌, ◌-◌, ◌*◌, ℕ, true, List, [], ◌++◌, length, Option, Some, None, refl, ap, subst, sym, ◌∙◌, arith, length-append}}
+use Rattle.pim_types.{specs.declared.{outcome.Emission.Emission, fact.Key.Key}}
+use Rattle.pim_model.{specs.{Firing.{fire_all, fire_instant, fire_once}, Reach.{own_firing, told_all, told_instant, told_once}, Repeat.and_then, State.State, Timers.{Ending, next_due, timers}}}
+use Rattle.law_settled.{specs.Laws.{IsAhead, IsFirable, IsReady, ends_from}, proofs.{FiringLaws.{firing_goes_on, firing_is_complete, instant_goes_on, instant_is_complete}, TimerLaws.{IsNext, from_shown, is_next}, TurnLaws.{same_when_none, unrolls_with}, ShownEnds.shown_is_later}}
+use Rattle.law_named.{specs.Named.named_by, proofs.Advance.same_end}
+use Rattle.pim_event.{specs.Disturbing.{ended_all, ended_instant, ended_once}}
 
 abbrev as_it_is : State → State
 as_it_is s = s

@@ -1,22 +1,14 @@
 -- What follows of a change, step after step; and the registers, where one source alone was opened.
-use Rattle.std.proofs.Common.{◌≡◌, ℕ, List, [], ◌∷◌, ap, refl, sym, ◌∙◌}
-use Rattle.pim_types.specs.Keys.{source_key}
-use Rattle.pim_model.specs.Messages.{Message}
-use Rattle.pim_model.specs.Registers.{settle_register}
-use Rattle.pim_model.specs.State.{State}
-use Rattle.pim_world.specs.Turns.{Taking, saying}
-use Rattle.pim_world.proofs.Said.{said_both}
-use Rattle.pim_opening.specs.declared.opening.GroupOpening.{GroupOpening}
-use Rattle.pim_opening.specs.declared.opening.SourceOpening.{SourceOpening}
-use Rattle.pim_register.specs.Settling.{opened_source_keys, registers_by}
-use Rattle.pim_asserts.specs.Opened.{clear_by}
-use Rattle.pim_upstream.specs.Told.{upstream_by}
-use Rattle.pim_types.specs.declared.fact.Key.{Key}
-use Rattle.pim_world.specs.declared.touched.Touched.{Touched}
-use Rattle.pim_fanout.specs.Before.{IsBefore}
-use Rattle.pim_fanout.specs.Named.{named_among}
-use Rattle.pim_fanout.specs.declared.before.SourceBefore.{SourceBefore}
-use Rattle.pim_event.specs.Settling.{AreNamed, cleared_by, followed_by}
+use Rattle.std.{proofs.Common.{◌≡◌, ℕ, List, [], ◌∷◌, ap, refl, sym, ◌∙◌}}
+use Rattle.pim_types.{specs.{Keys.source_key, declared.fact.Key.Key}}
+use Rattle.pim_model.{specs.{Messages.Message, Registers.settle_register, State.State}}
+use Rattle.pim_state.{specs.{Turns.{Taking, saying}, declared.touched.Touched.Touched}, proofs.Said.said_both}
+use Rattle.pim_views.{specs.declared.opening.{GroupOpening.GroupOpening, SourceOpening.SourceOpening}}
+use Rattle.pim_register.{specs.Settling.{opened_source_keys, registers_by}}
+use Rattle.pim_asserts.{specs.Opened.clear_by}
+use Rattle.pim_upstream.{specs.Told.upstream_by}
+use Rattle.pim_fanout.{specs.{Before.IsBefore, Named.named_among, declared.before.SourceBefore.SourceBefore}}
+use Rattle.pim_event.{specs.Settling.{AreNamed, cleared_by, followed_by}}
 
 registers_alone : (s : State) (x : GroupOpening) (o : SourceOpening) → x.sources ≡ o ∷ []
     → registers_by (x ∷ []) s ≡ settle_register s (source_key 0 x.group.bits o.source.bits)

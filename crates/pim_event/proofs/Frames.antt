@@ -1,23 +1,11 @@
 -- A packet of data comes on a link alone.
-use Rattle.std.proofs.Common.{◌≡◌, ℕ, Bool, true, false, not, ◌==◌, List, Ok, Err, refl, subst}
-use Rattle.std.specs.Prelude.{nat_le, nat_lt}
-use Rattle.pim_ip.specs.Addr.{addr}
-use Rattle.pim_ip.specs.Ipv4.{Packet, ipv4_reading, is_link_local, protocol_pim}
-use Rattle.pim_ip.specs.declared.refusal.Refusal.{Refusal}
-use Rattle.pim_types.specs.declared.config.IfaceId.{IfaceId}
-use Rattle.pim_types.specs.declared.event.EventKind.{EventKind}
-use Rattle.pim_types.specs.declared.outcome.Ignored.{Ignored}
-use Rattle.pim_types.specs.declared.outcome.Stop.{Stop}
-use Rattle.pim_wire.specs.Messages.{pim_reading}
-use Rattle.pim_wire.specs.RegisterParts.{registered_group}
-use Rattle.pim_wire.specs.declared.view.PimView.{PimView}
-use Rattle.pim_model.specs.declared.accepted.Accepted.{Accepted}
-use Rattle.pim_model.specs.Judging.{Judged, advance_judged, down_judged, ignore_if, judged, last_moment, pim_to_me_judged, refuse_if, register_judged, register_stop_judged, routes_judged, rps_judged, unicast_judged, unicast_packet_judged, up_judged, ◌>>◌}
-use Rattle.pim_model.specs.Limits.{are_routes, are_rps}
-use Rattle.pim_model.specs.State.{State, iface_count, is_own, is_up}
-use Rattle.pim_model.specs.Unicast.{is_rp}
-use Rattle.pim_intake.specs.Memory.{is_frame}
-use Rattle.pim_event.proofs.Judgements.{FitsTo, Says, choosing, ignoring, reading, refusing, two}
+use Rattle.std.{proofs.Common.{◌≡◌, ℕ, Bool, true, false, not, ◌==◌, List, Ok, Err, refl, subst}, specs.Prelude.{nat_le, nat_lt}}
+use Rattle.pim_ip.{specs.{Addr.addr, Ipv4.{Packet, ipv4_reading, is_link_local, protocol_pim}, declared.refusal.Refusal.Refusal}}
+use Rattle.pim_types.{specs.declared.{config.IfaceId.IfaceId, event.EventKind.EventKind, outcome.{Ignored.Ignored, Stop.Stop}}}
+use Rattle.pim_wire.{specs.{Messages.pim_reading, RegisterParts.registered_group, declared.view.PimView.PimView}}
+use Rattle.pim_model.{specs.{declared.accepted.Accepted.Accepted, Judging.{Judged, advance_judged, down_judged, ignore_if, judged, last_moment, pim_to_me_judged, refuse_if, register_judged, register_stop_judged, routes_judged, rps_judged, unicast_judged, unicast_packet_judged, up_judged, ◌>>◌}, Limits.{are_routes, are_rps}, State.{State, iface_count, is_own, is_up}, Unicast.is_rp}}
+use Rattle.pim_intake.{specs.Memory.is_frame}
+use Rattle.pim_event.{proofs.Judgements.{FitsTo, Says, choosing, ignoring, reading, refusing, two}}
 
 abbrev IsntData : Accepted → Type 0
 IsntData (Accepted.Data i p) = ⊥

@@ -1,37 +1,15 @@
 -- Time that passes: how far a loop over timers has come.
-use Rattle.std.proofs.Common.{◌≡◌, ◌≤◌, ◌<◌, ℕ, nat_le, Bool, true, false, cond, List, [], ◌++◌, Ok, Err, Result, OnOk, append_assoc, append-nil, le-leb, Option, Some, None, option_map, refl, ap, subst, sym, ◌∙◌, arith}
-use Rattle.std.proofs.lemmas.Bool.Decides.{nat_tests}
-use Rattle.std.specs.Option.{option_map_or}
-use Rattle.pim_types.specs.declared.fact.Key.{Key}
-use Rattle.pim_types.specs.declared.fact.SourceRow.{SourceRow}
-use Rattle.pim_types.specs.declared.outcome.Emission.{Emission}
-use Rattle.pim_types.specs.declared.timer.Timer.{Timer}
-use Rattle.pim_types.specs.declared.timer.TimerKind.{TimerKind}
-use Rattle.pim_model.specs.Firing.{fire_all, fire_instant, fire_once, fire_row, fired, keepalive_due, silent}
-use Rattle.pim_model.specs.Messages.{Message}
-use Rattle.pim_model.specs.Reach.{own_firing}
-use Rattle.pim_model.specs.Repeat.{and_then}
-use Rattle.pim_model.specs.State.{State}
-use Rattle.pim_model.specs.Tables.{row_at}
-use Rattle.pim_model.specs.Timers.{Ending, next_due, next_ending}
-use Rattle.pim_laws.specs.Laws.{IsReady, due_by, ends_from}
-use Rattle.pim_laws.proofs.FiringLaws.{InInstant, ahead_is_ready, begins, fewer_due, fewer_instants, firing_goes_on, firing_stops, instant_goes_on, instant_is_complete, instant_stops, instants_left, ready_at_present, sound_of, still_due, still_inside}
-use Rattle.pim_laws.proofs.TimerLaws.{from_shown, next_due_is_next, shown_from}
-use Rattle.pim_locality.proofs.Rest.{instant_is_quiet, one_firing_quiets}
-use Rattle.pim_locality.specs.Locality.{IsQuiet}
-use Rattle.pim_world.specs.Turns.{Taking, saying}
-use Rattle.pim_ready.proofs.LawfulFiring.{instant_is_lawful, one_firing_is_lawful}
-use Rattle.pim_ready.specs.Ready.{IsLawful}
-use Rattle.pim_world.specs.declared.touched.Touched.{Touched}
-use Rattle.pim_opening.specs.Openings.{opening_of}
-use Rattle.pim_opening.specs.declared.opening.GroupOpening.{GroupOpening}
-use Rattle.pim_store.specs.PimTables.{AreKeyed, pim_tables}
-use Rattle.pim_fanout.specs.Contains.{Contains}
-use Rattle.pim_event.proofs.Settling.{settled_as_opened}
-use Rattle.pim_event.proofs.Touching.{end_covered}
-use Rattle.pim_event.specs.Ends.{ending_of, touched_by_end}
-use Rattle.pim_event.specs.Settling.{settled_by}
-use Rattle.pim_tables.specs.Ends.{due_of}
+use Rattle.std.{proofs.{Common.{◌≡◌, ◌≤◌, ◌<◌, ℕ, nat_le, Bool, true, false, cond, List, [], ◌++◌, Ok, Err, Result, OnOk, append_assoc, append-nil, le-leb, Option, Some, None, option_map, refl, ap, subst, sym, ◌∙◌, arith}, lemmas.Bool.Decides.nat_tests}, specs.Option.option_map_or}
+use Rattle.pim_types.{specs.declared.{fact.{Key.Key, SourceRow.SourceRow}, outcome.Emission.Emission, timer.{Timer.Timer, TimerKind.TimerKind}}}
+use Rattle.pim_model.{specs.{Firing.{fire_all, fire_instant, fire_once, fire_row, fired, keepalive_due, silent}, Messages.Message, Reach.own_firing, Repeat.and_then, State.State, Tables.row_at, Timers.{Ending, next_due, next_ending}}}
+use Rattle.law_settled.{specs.{Laws.{IsReady, due_by, ends_from}, Ready.IsLawful}, proofs.{FiringLaws.{InInstant, ahead_is_ready, begins, fewer_due, fewer_instants, firing_goes_on, firing_stops, instant_goes_on, instant_is_complete, instant_stops, instants_left, ready_at_present, sound_of, still_due, still_inside}, TimerLaws.{from_shown, next_due_is_next, shown_from}, LawfulFiring.{instant_is_lawful, one_firing_is_lawful}}}
+use Rattle.law_scope.{proofs.Rest.{instant_is_quiet, one_firing_quiets}, specs.Locality.IsQuiet}
+use Rattle.pim_state.{specs.{Turns.{Taking, saying}, declared.touched.Touched.Touched}}
+use Rattle.pim_views.{specs.{Openings.opening_of, declared.opening.GroupOpening.GroupOpening}}
+use Rattle.pim_store.{specs.PimTables.{AreKeyed, pim_tables}}
+use Rattle.pim_fanout.{specs.Contains.Contains}
+use Rattle.pim_event.{proofs.{Settling.settled_as_opened, Expiring.end_covered}, specs.{Ends.{ending_of, touched_by_end}, Settling.settled_by}}
+use Rattle.pim_tables.{specs.Ends.due_of}
 
 -- ---- what a result says where it is Ok
 

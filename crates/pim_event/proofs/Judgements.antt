@@ -1,10 +1,8 @@
 -- What each test in a judgement leaves of what was accepted.
-use Rattle.std.proofs.Common.{◌≡◌, Bool, true, false, Result, Ok, Err, refl}
-use Rattle.std.specs.Prelude.{if◌then◌else◌}
-use Rattle.pim_ip.specs.declared.refusal.Refusal.{Refusal}
-use Rattle.pim_types.specs.declared.outcome.Ignored.{Ignored}
-use Rattle.pim_model.specs.declared.accepted.Accepted.{Accepted}
-use Rattle.pim_model.specs.Judging.{Judged, ignore_if, of_read, refuse_if, ◌>>◌}
+use Rattle.std.{proofs.Common.{◌≡◌, Bool, true, false, Result, Ok, Err, refl}, specs.Prelude.if◌then◌else◌}
+use Rattle.pim_ip.{specs.declared.refusal.Refusal.Refusal}
+use Rattle.pim_types.{specs.declared.outcome.Ignored.Ignored}
+use Rattle.pim_model.{specs.{declared.accepted.Accepted.Accepted, Judging.{Judged, ignore_if, of_read, refuse_if, ◌>>◌}}}
 
 abbrev pub Says : (Accepted → Type 0) → Judged → Type 0
 Says P (Ok a) = P a

@@ -1,22 +1,13 @@
 -- A Hello that only says that its neighbour lasts leaves of which interfaces the router is the DR.
-use Rattle.std.proofs.Common.{◌≡◌, ◌&&◌, ◌==◌, ℕ, Bool, true, false, not, Option, Some, None, [], is_some, refl, ap, eqb-true, sym, ◌∙◌}
-use Rattle.std.specs.Cmp.{first_so, second_so}
-use Rattle.std.specs.Option.{option_map_or}
-use Rattle.pim_types.specs.declared.fact.NeighbourRow.{NeighbourRow}
-use Rattle.pim_types.specs.Keys.{neighbour_key, star_key}
-use Rattle.pim_wire.specs.declared.hello.Hello.{Hello as HelloValue}
-use Rattle.pim_model.specs.Hellos.{hello_holdtime_of, hello_received, is_generation_changed, neighbour_replaced}
-use Rattle.pim_model.specs.Neighbours.{is_dr}
-use Rattle.pim_model.specs.State.{State}
-use Rattle.pim_model.specs.Tables.{has_row, row_at, same_bool, same_option}
-use Rattle.pim_locality.specs.Locality.{AgreesBut, touching}
-use Rattle.pim_locality.specs.Scopes.{scope}
-use Rattle.pim_locality.proofs.RefreshedNeighbours.{hello_again_touches_none}
-use Rattle.pim_neighbours.specs.Refreshed.{is_refreshed}
-use Rattle.pim_ready.specs.Ready.{Rises}
-use Rattle.pim_reach.proofs.Unreached.{dr_around}
-use Rattle.pim_adjacent.specs.Adjacent.{hello_keeps_dr}
-use Rattle.pim_event.proofs.Repeats.{so_false}
+use Rattle.std.{proofs.Common.{◌≡◌, ◌&&◌, ◌==◌, ℕ, Bool, true, false, not, Option, Some, None, [], is_some, refl, ap, eqb-true, sym, ◌∙◌}, specs.{Cmp.{first_so, second_so}, Option.option_map_or}}
+use Rattle.pim_types.{specs.{declared.fact.NeighbourRow.NeighbourRow, Keys.{neighbour_key, star_key}}}
+use Rattle.pim_wire.{specs.declared.hello.Hello.Hello as HelloValue}
+use Rattle.pim_model.{specs.{Hellos.{hello_holdtime_of, hello_received, is_generation_changed, neighbour_replaced}, Neighbours.is_dr, State.State, Tables.{has_row, row_at, same_bool, same_option}}}
+use Rattle.law_scope.{specs.{Locality.{AgreesBut, touching}, Scopes.scope}, proofs.RefreshedNeighbours.hello_again_touches_none}
+use Rattle.pim_neighbours.{specs.Refreshed.is_refreshed}
+use Rattle.law_settled.{specs.Ready.Rises}
+use Rattle.law_named.{proofs.Unreached.dr_around, specs.Adjacent.hello_keeps_dr}
+use Rattle.pim_plan.{proofs.Repeats.so_false}
 
 kept_by_none : (s t : State) → AgreesBut (touching []) s t → (i : ℕ) → is_dr s i ≡ is_dr t i
 unfolding scope touching

@@ -1,7 +1,6 @@
 mod Acts
 mod Caching
 mod Following
-mod Asserted
 mod Configured
 pub mod Costs
 pub mod Disturbing
@@ -9,15 +8,10 @@ mod Firings
 mod Replacing
 mod Rerouting
 mod Frames
-mod IgmpFacts
-mod Growing
-mod Heard
 mod Instants
 pub mod Listing
 mod Judgements
 mod Lasting
-mod MovedEnds
-mod MovedReports
 mod Plainly
 mod Rows
 mod Sending
@@ -26,12 +20,6 @@ mod Serving
 pub mod Settling
 mod SightStays
 mod SourceEnds
-mod Stopped
 pub mod Taking
-mod OtherRoutes
-mod Packets
-mod Plans
-mod Repeats
-mod Direct
-mod Touching
-pub mod Tunnelled
+mod Expiring
+mod Quietly

@@ -1,44 +1,16 @@
 -- Which sources are listed as changed: after an event, after the expiry of a timer, and over firings and events in
 -- turn.
-use Rattle.std.proofs.Common.{◌≡◌, ◌≤◌, ◌<◌, ◌+◌, ℕ, Bool, true, false, ◌||◌, List, [], ◌∷◌, ◌++◌, Some, Ok, Err, length, take, take_all, get_or, append_assoc, append-nil, add-one, refl, ap, subst, sym, ◌∙◌}
-use Rattle.std.specs.Prelude.{if◌then◌else◌}
-use Rattle.std.proofs.Math.Seq.{take-suc}
-use Rattle.std.specs.List.Sorted.{IsStrictlySortedBy}
-use Rattle.std.proofs.lemmas.List.Folds.{list_any-append}
-use Rattle.pim_ip.specs.Ipv4.{Packet}
-use Rattle.pim_types.specs.declared.config.IfaceId.{IfaceId}
-use Rattle.pim_types.specs.declared.event.Event.{Event}
-use Rattle.pim_types.specs.declared.fact.Key.{Key}
-use Rattle.pim_types.specs.declared.outcome.Stop.{Stop}
-use Rattle.pim_types.specs.Keys.{key_cmp, same_key, source_key}
-use Rattle.pim_model.specs.Cache.{Plain}
-use Rattle.pim_model.specs.Clearing.{clear}
-use Rattle.pim_model.specs.declared.accepted.Accepted.{Accepted}
-use Rattle.pim_model.specs.Firing.{fire_instant, fire_once}
-use Rattle.pim_model.specs.Full.{is_full}
-use Rattle.pim_model.specs.Judging.{Judged, judged}
-use Rattle.pim_model.specs.Plain.{fact_key}
-use Rattle.pim_model.specs.Reach.{own_firing, told_all, told_instant, where_accepted}
-use Rattle.pim_model.specs.State.{State}
-use Rattle.pim_model.specs.Step.{change, ran, state_after, step}
-use Rattle.pim_model.specs.Tables.{has_row}
-use Rattle.pim_model.specs.Timers.{Ending, next_due}
-use Rattle.pim_laws.specs.Laws.{IsFirable, IsReady, ends_from}
-use Rattle.pim_locality.specs.Locality.{IsQuiet}
-use Rattle.pim_locality.specs.Rest.{IsAtRest}
-use Rattle.pim_reach.specs.Named.{event_named, named_by, named_of}
-use Rattle.pim_cached.specs.Decided.{decided_by_answers}
-use Rattle.pim_cached.specs.Kept.{is_listed}
-use Rattle.pim_cached.proofs.PlainNames.{plain_names_none}
-use Rattle.pim_world.specs.declared.touched.Touched.{Touched}
-use Rattle.pim_fanout.specs.Named.{keys_of}
-use Rattle.pim_types.specs.declared.name.SourceGroup.{SourceGroup}
-use Rattle.pim_fanout.proofs.Listed.{names_are_named}
-use Rattle.pim_fanout.proofs.Opened.{names_rise}
-use Rattle.pim_event.specs.Listing.{IsLastListed, ListsMore, ListsSame}
-use Rattle.pim_event.specs.Settling.{AreNames}
-use Rattle.pim_event.proofs.Firings.{all_told, instant_told}
-use Rattle.pim_event.proofs.Rows.{named_timeless}
+use Rattle.std.{proofs.{Common.{◌≡◌, ◌≤◌, ◌<◌, ◌+◌, ℕ, Bool, true, false, ◌||◌, List, [], ◌∷◌, ◌++◌, Some, Ok, Err, length, take, take_all, get_or, append_assoc, append-nil, add-one, refl, ap, subst, sym, ◌∙◌}, Math.Seq.take-suc, lemmas.List.Folds.list_any-append}, specs.{Prelude.if◌then◌else◌, List.Sorted.IsStrictlySortedBy}}
+use Rattle.pim_ip.{specs.Ipv4.Packet}
+use Rattle.pim_types.{specs.{declared.{config.IfaceId.IfaceId, event.Event.Event, fact.Key.Key, outcome.Stop.Stop, name.SourceGroup.SourceGroup}, Keys.{key_cmp, same_key, source_key}}}
+use Rattle.pim_model.{specs.{Cache.Plain, Clearing.clear, declared.accepted.Accepted.Accepted, Firing.{fire_instant, fire_once}, Full.is_full, Judging.{Judged, judged}, Plain.fact_key, Reach.{own_firing, told_all, told_instant, where_accepted}, State.State, Step.{change, ran, state_after, step}, Tables.has_row, Timers.{Ending, next_due}}}
+use Rattle.law_settled.{specs.Laws.{IsFirable, IsReady, ends_from}}
+use Rattle.law_scope.{specs.{Locality.IsQuiet, Rest.IsAtRest}}
+use Rattle.law_named.{specs.Named.{event_named, named_by, named_of}}
+use Rattle.law_cache.{specs.{Decided.decided_by_answers, Kept.is_listed}, proofs.PlainNames.plain_names_none}
+use Rattle.pim_state.{specs.declared.touched.Touched.Touched}
+use Rattle.pim_fanout.{specs.Named.keys_of, proofs.{Listed.names_are_named, Opened.names_rise}}
+use Rattle.pim_event.{specs.{Listing.{IsLastListed, ListsMore, ListsSame}, Settling.AreNames}, proofs.{Firings.{all_told, instant_told}, Rows.named_timeless}}
 
 -- ---- lists
 

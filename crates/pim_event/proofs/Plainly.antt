@@ -1,32 +1,13 @@
 -- A packet that a row of the cache decides is plain by the answers of its source, and the other way.
-use Rattle.std.proofs.Common.{◌≡◌, ◌<◌, Bool, true, false, Option, Some, None, Result, Ok, Err, IfOk, OnOk, is_some, option_and_then, refl, ap, sym, subst, ◌∙◌, lt-ltb}
-use Rattle.std.specs.Prelude.{if◌then◌else◌}
-use Rattle.pim_ip.specs.Ipv4.{Packet}
-use Rattle.pim_types.specs.Keys.{source_key}
-use Rattle.pim_types.specs.declared.config.IfaceId.{IfaceId}
-use Rattle.pim_types.specs.declared.event.Event.{Event}
-use Rattle.pim_types.specs.declared.fact.SourceRow.{SourceRow}
-use Rattle.pim_types.specs.declared.outcome.Outcome.{Outcome}
-use Rattle.pim_types.specs.declared.outcome.Stop.{Stop}
-use Rattle.pim_model.specs.Cache.{Plain, answers, cached, plain}
-use Rattle.pim_model.specs.declared.accepted.Accepted.{Accepted}
-use Rattle.pim_model.specs.Judging.{judged}
-use Rattle.pim_model.specs.Plain.{IsPlainEvent, fact_key}
-use Rattle.pim_model.specs.State.{State}
-use Rattle.pim_model.specs.Step.{Answered, outcome_of, step}
-use Rattle.pim_model.specs.Tables.{Table, has_row, row_at}
-use Rattle.pim_locality.specs.Rest.{IsAtRest}
-use Rattle.pim_cached.specs.Decided.{IsDecided, decided_by_answers as answered, plainly_taken}
-use Rattle.pim_cached.specs.Kept.{SameDecision}
-use Rattle.pim_cached.proofs.PlainEvents.{plain_is_decided}
-use Rattle.pim_cached.proofs.PlainPackets.{plain_is_stepped, plain_keeps_cache}
-use Rattle.pim_macros.specs.Rows.{answers_of}
-use Rattle.pim_macros.specs.declared.rows.SourceAnswers.{SourceAnswers}
-use Rattle.pim_mfc.specs.declared.forward.Forward.{Forward}
-use Rattle.pim_mfc.specs.Kept.{ForwardsAs, Kept, decided}
-use Rattle.pim_mfc.specs.Laws.{ShowsRow, ShowsRows}
-use Rattle.pim_mfc.proofs.Shown.{shown_decide}
-use Rattle.pim_event.specs.Plainly.{Forwards}
+use Rattle.std.{proofs.Common.{◌≡◌, ◌<◌, Bool, true, false, Option, Some, None, Result, Ok, Err, IfOk, OnOk, is_some, option_and_then, refl, ap, sym, subst, ◌∙◌, lt-ltb}, specs.Prelude.if◌then◌else◌}
+use Rattle.pim_ip.{specs.Ipv4.Packet}
+use Rattle.pim_types.{specs.{Keys.source_key, declared.{config.IfaceId.IfaceId, event.Event.Event, fact.SourceRow.SourceRow, outcome.{Outcome.Outcome, Stop.Stop}}}}
+use Rattle.pim_model.{specs.{Cache.{Plain, answers, cached, plain}, declared.accepted.Accepted.Accepted, Judging.judged, Plain.{IsPlainEvent, fact_key}, State.State, Step.{Answered, outcome_of, step}, Tables.{Table, has_row, row_at}}}
+use Rattle.law_scope.{specs.Rest.IsAtRest}
+use Rattle.law_cache.{specs.{Decided.{IsDecided, decided_by_answers as answered, plainly_taken}, Kept.SameDecision}, proofs.{PlainEvents.plain_is_decided, PlainPackets.{plain_is_stepped, plain_keeps_cache}}}
+use Rattle.pim_macros.{specs.{Rows.answers_of, declared.rows.SourceAnswers.SourceAnswers}}
+use Rattle.pim_mfc.{specs.{declared.forward.Forward.Forward, Kept.{ForwardsAs, Kept, decided}, Laws.{ShowsRow, ShowsRows}}, proofs.Shown.shown_decide}
+use Rattle.pim_event.{specs.Plainly.Forwards}
 
 row_there : (o : Option SourceAnswers) (f : SourceAnswers → Option Plain) (d : Plain) → option_and_then f o ≡ Some d
     → is_some o ≡ true

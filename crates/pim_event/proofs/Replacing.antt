@@ -1,32 +1,14 @@
 -- What an event replaced of routes and RP ranges, in turn; and that of all sources the same is offered but of those of
 -- which the offer may differ.
-use Rattle.std.specs.Prelude.{if◌then◌else◌, option_and_then}
-use Rattle.std.specs.Cmp.Derive.{both_true}
-use Rattle.std.proofs.Common.{◌≡◌, ◌≤◌, ◌&&◌, ◌||◌, ℕ, Bool, true, false, not, Option, List, Result, Ok, Err, OnOk, length, refl, ap, subst, sym, ◌∙◌}
-use Rattle.pim_types.specs.declared.config.Route.{Route}
-use Rattle.pim_types.specs.declared.config.RpRange.{RpRange}
-use Rattle.pim_types.specs.declared.event.Event.{Event}
-use Rattle.pim_model.specs.declared.accepted.Accepted.{Accepted}
-use Rattle.pim_model.specs.Full.{is_full, passes_limit}
-use Rattle.pim_model.specs.Judging.{Judged, judged}
-use Rattle.pim_model.specs.Rows.{same_both, same_path}
-use Rattle.pim_model.specs.State.{State}
-use Rattle.pim_model.specs.Step.{change, concluded, done, rps_replaced, step, taken, taken_unless_full}
-use Rattle.pim_model.specs.Tables.{same_bool, same_option}
-use Rattle.pim_model.specs.Unicast.{route, rp_among, rp_of, rp_route}
-use Rattle.pim_locality.specs.Rest.{IsAtRest}
-use Rattle.pim_locality.proofs.SameRows.{flags}
-use Rattle.pim_reach.specs.Named.{has_same_routes, has_same_rp}
-use Rattle.pim_reach.proofs.SameRows.{not_false, options}
-use Rattle.pim_reach.proofs.Sights.{paths_same}
-use Rattle.pim_world.specs.declared.touched.Touched.{Touched}
-use Rattle.pim_offload.specs.Offered.{offered}
-use Rattle.pim_offload.specs.Staying.{OffersAlike, SourceStays}
-use Rattle.pim_offload.proofs.Staying.{offer_stays, stays_itself}
-use Rattle.pim_event.specs.OtherRoutes.{group_has_other_rp, has_other_route, with_routes}
-use Rattle.pim_event.specs.Replacing.{Disturbance, NoneReplaced, RangesReplaced, Replaced, RoutesReplaced, differs_by, event_replaced, may_differ, replaced_after, replaced_where, with_ranges}
-use Rattle.pim_event.specs.Staying.{OffersStay, UntouchedOffersStay}
-use Rattle.pim_event.proofs.Rerouting.{same_routes_stay, same_rps_stay}
+use Rattle.std.{specs.{Prelude.{if◌then◌else◌, option_and_then}, Cmp.Derive.both_true}, proofs.Common.{◌≡◌, ◌≤◌, ◌&&◌, ◌||◌, ℕ, Bool, true, false, not, Option, List, Result, Ok, Err, OnOk, length, refl, ap, subst, sym, ◌∙◌}}
+use Rattle.pim_types.{specs.declared.{config.{Route.Route, RpRange.RpRange}, event.Event.Event}}
+use Rattle.pim_model.{specs.{declared.accepted.Accepted.Accepted, Full.{is_full, passes_limit}, Judging.{Judged, judged}, Rows.{same_both, same_path}, State.State, Step.{change, concluded, done, rps_replaced, step, taken, taken_unless_full}, Tables.{same_bool, same_option}, Unicast.{route, rp_among, rp_of, rp_route}}}
+use Rattle.law_scope.{specs.Rest.IsAtRest, proofs.SameRows.flags}
+use Rattle.law_named.{specs.Named.{has_same_routes, has_same_rp}, proofs.{SameRows.{not_false, options}, Sights.paths_same}}
+use Rattle.pim_state.{specs.declared.touched.Touched.Touched}
+use Rattle.law_plane.{specs.{Offered.offered, Staying.{OffersAlike, SourceStays}}, proofs.Staying.{offer_stays, stays_itself}}
+use Rattle.pim_plan.{specs.OtherRoutes.{group_has_other_rp, has_other_route, with_routes}}
+use Rattle.pim_event.{specs.{Replacing.{Disturbance, NoneReplaced, RangesReplaced, Replaced, RoutesReplaced, differs_by, event_replaced, may_differ, replaced_after, replaced_where, with_ranges}, Staying.{OffersStay, UntouchedOffersStay}}, proofs.Rerouting.{same_routes_stay, same_rps_stay}}
 
 -- ---- other routes by a table
 

@@ -1,36 +1,12 @@
 -- Where new routes or RP ranges leave a source with the routes that it has by those which they replaced, the source
 -- stays: what follows of the change moves no route.
-use Rattle.std.proofs.Common.{◌≡◌, ◌≤◌, ◌&&◌, ℕ, true, false, List, [], length, refl, sym, ap, ◌∙◌}
-use Rattle.std.specs.Cmp.{first_so, second_so}
-use Rattle.std.specs.Cmp.Derive.{both_true}
-use Rattle.std.specs.Prelude.{option_and_then}
-use Rattle.pim_types.specs.declared.config.Route.{Route}
-use Rattle.pim_types.specs.declared.config.RpRange.{RpRange}
-use Rattle.pim_types.specs.Keys.{source_key}
-use Rattle.pim_model.specs.declared.accepted.Accepted.{Accepted}
-use Rattle.pim_model.specs.Clearing.{clear}
-use Rattle.pim_model.specs.Firing.{settled}
-use Rattle.pim_model.specs.Messages.{Message}
-use Rattle.pim_model.specs.Rows.{same_both, same_path}
-use Rattle.pim_model.specs.State.{State}
-use Rattle.pim_model.specs.Step.{change, done, rps_replaced}
-use Rattle.pim_model.specs.Tables.{same_option}
-use Rattle.pim_model.specs.Unicast.{route, route_among, rp_among, rp_of, rp_route}
-use Rattle.pim_model.specs.Upstream.{upstream}
-use Rattle.pim_ready.proofs.Unsettled.{Unsettled, settling_leaves}
-use Rattle.pim_locality.specs.Locality.{AgreesBut, IsQuiet, touching}
-use Rattle.pim_locality.specs.Scopes.{reads, scope}
-use Rattle.pim_locality.proofs.QuietStates.{frame_packets, frame_upstream}
-use Rattle.pim_locality.proofs.SharedMacros.{route_local}
-use Rattle.pim_locality.proofs.Touches.{agrees_then}
-use Rattle.pim_reach.specs.Moved.{IsRerouted}
-use Rattle.pim_reach.specs.Named.{has_same_routes, has_same_rp, is_source_named}
-use Rattle.pim_reach.proofs.Reached.{Keeps, clearing_keeps}
-use Rattle.pim_reach.proofs.Rerouted.{around_rerouted, rerouted_beside, rerouted_unnamed, routes_reroute, rps_reroute}
-use Rattle.pim_reach.proofs.SameRows.{options, paths}
-use Rattle.pim_reach.proofs.Sights.{options_same, paths_same}
-use Rattle.pim_offload.specs.Staying.{SourceStays}
-use Rattle.pim_offload.proofs.Staying.{unnamed_source_stays}
+use Rattle.std.{proofs.Common.{◌≡◌, ◌≤◌, ◌&&◌, ℕ, true, false, List, [], length, refl, sym, ap, ◌∙◌}, specs.{Cmp.{first_so, second_so, Derive.both_true}, Prelude.option_and_then}}
+use Rattle.pim_types.{specs.{declared.config.{Route.Route, RpRange.RpRange}, Keys.source_key}}
+use Rattle.pim_model.{specs.{declared.accepted.Accepted.Accepted, Clearing.clear, Firing.settled, Messages.Message, Rows.{same_both, same_path}, State.State, Step.{change, done, rps_replaced}, Tables.same_option, Unicast.{route, route_among, rp_among, rp_of, rp_route}, Upstream.upstream}}
+use Rattle.law_settled.{proofs.Unsettled.{Unsettled, settling_leaves}}
+use Rattle.law_scope.{specs.{Locality.{AgreesBut, IsQuiet, touching}, Scopes.{reads, scope}}, proofs.{QuietStates.{frame_packets, frame_upstream}, SharedMacros.route_local, Touches.agrees_then}}
+use Rattle.law_named.{specs.{Moved.IsRerouted, Named.{has_same_routes, has_same_rp, is_source_named}}, proofs.{Reached.{Keeps, clearing_keeps}, Rerouted.{around_rerouted, rerouted_beside, rerouted_unnamed, routes_reroute, rps_reroute}, SameRows.{options, paths}, Sights.{options_same, paths_same}}}
+use Rattle.law_plane.{specs.Staying.SourceStays, proofs.Staying.unnamed_source_stays}
 
 -- the same routes, either way
 turned : (s t : State) (g src : ℕ) → has_same_routes g src s t ≡ true → has_same_routes g src t s ≡ true

@@ -1,40 +1,18 @@
 -- Which rows of the cache are made anew after a change, and that all rows are those of the state then.
-use Rattle.std.proofs.Common.{◌≡◌, ◌≤◌, ◌+◌, ◌*◌, ℕ, false, List, Result, Ok, Err, IfOk, length, refl, ap, subst, sym, ◌∙◌, arith}
-use Rattle.std.proofs.lemmas.List.{length-map}
-use Rattle.pim_types.specs.declared.fact.Key.{Key}
-use Rattle.pim_trie.specs.Meter.{raised}
-use Rattle.pim_model.specs.Cache.{cached}
-use Rattle.pim_model.specs.Clearing.{clear}
-use Rattle.pim_model.specs.declared.accepted.Accepted.{Accepted}
-use Rattle.pim_model.specs.Firing.{fire_once}
-use Rattle.pim_model.specs.Full.{is_full}
-use Rattle.pim_model.specs.Reach.{own_firing, told_all, where_accepted}
-use Rattle.pim_model.specs.State.{InterfaceTable, State, interfaces_of}
-use Rattle.pim_model.specs.Step.{change, done, taken}
-use Rattle.pim_model.specs.Tables.{Table}
-use Rattle.pim_model.specs.Timers.{Ending}
-use Rattle.pim_locality.specs.Locality.{IsQuiet}
-use Rattle.pim_reach.specs.Named.{named_by, named_of}
-use Rattle.pim_cached.specs.Kept.{refreshed}
-use Rattle.pim_macros.specs.declared.rows.SourceAnswers.{SourceAnswers}
-use Rattle.pim_mfc.specs.Laws.{ShowsRows}
-use Rattle.pim_opening.specs.Openings.{opening_of}
-use Rattle.pim_opening.specs.declared.opening.GroupOpening.{GroupOpening}
-use Rattle.pim_store.specs.PimTables.{AreKeyed, pim_tables}
-use Rattle.pim_world.specs.declared.touched.Touched.{Touched}
-use Rattle.pim_fanout.specs.Before.{IsBefore}
-use Rattle.pim_fanout.specs.Contains.{Contains}
-use Rattle.pim_fanout.specs.Laws.{names_of}
-use Rattle.pim_fanout.specs.Refreshing.{Refreshes, touches_in}
-use Rattle.pim_fanout.specs.Named.{keys_of, named_among}
-use Rattle.pim_fanout.specs.declared.before.SourceBefore.{SourceBefore}
-use Rattle.pim_types.specs.declared.name.SourceGroup.{SourceGroup}
-use Rattle.pim_fanout.proofs.Counts.{costs_few}
-use Rattle.pim_fanout.proofs.Few.{names_are_few}
-use Rattle.pim_fanout.proofs.Shown.{event_shows_rows, firing_shows_rows, present_shows_rows}
-use Rattle.pim_event.specs.Settling.{AreNamed, AreNames, cleared_by}
-use Rattle.pim_event.proofs.Settling.{cleared_as_opened}
-use Rattle.pim_event.proofs.Taking.{taken_is_done}
+use Rattle.std.{proofs.{Common.{◌≡◌, ◌≤◌, ◌+◌, ◌*◌, ℕ, false, List, Result, Ok, Err, IfOk, length, refl, ap, subst, sym, ◌∙◌, arith}, lemmas.List.length-map}}
+use Rattle.pim_types.{specs.declared.{fact.Key.Key, name.SourceGroup.SourceGroup}}
+use Rattle.pim_trie.{specs.Meter.raised}
+use Rattle.pim_model.{specs.{Cache.cached, Clearing.clear, declared.accepted.Accepted.Accepted, Firing.fire_once, Full.is_full, Reach.{own_firing, told_all, where_accepted}, State.{InterfaceTable, State, interfaces_of}, Step.{change, done, taken}, Tables.Table, Timers.Ending}}
+use Rattle.law_scope.{specs.Locality.IsQuiet}
+use Rattle.law_named.{specs.Named.{named_by, named_of}}
+use Rattle.law_cache.{specs.Kept.refreshed}
+use Rattle.pim_macros.{specs.declared.rows.SourceAnswers.SourceAnswers}
+use Rattle.pim_mfc.{specs.Laws.ShowsRows}
+use Rattle.pim_views.{specs.{Openings.opening_of, declared.opening.GroupOpening.GroupOpening}}
+use Rattle.pim_store.{specs.PimTables.{AreKeyed, pim_tables}}
+use Rattle.pim_state.{specs.declared.touched.Touched.Touched}
+use Rattle.pim_fanout.{specs.{Before.IsBefore, Contains.Contains, Laws.names_of, Refreshing.{Refreshes, touches_in}, Named.{keys_of, named_among}, declared.before.SourceBefore.SourceBefore}, proofs.{Counts.costs_few, Few.names_are_few, Shown.{event_shows_rows, firing_shows_rows, present_shows_rows}}}
+use Rattle.pim_event.{specs.Settling.{AreNamed, AreNames, cleared_by}, proofs.{Settling.cleared_as_opened, Taking.taken_is_done}}
 
 -- ---- the names
 

@@ -1,22 +1,17 @@
 -- What a change leaves to be sent.
-use Rattle.std.proofs.Common.{◌≡◌, ℕ, [], Result, IfOk, length, refl, arith, ap, sym, subst, ◌∙◌}
-use Rattle.pim_ip.specs.Ipv4.{Packet}
-use Rattle.pim_types.specs.declared.config.IfaceId.{IfaceId}
-use Rattle.pim_wire.specs.RegisterParts.{is_null, registered_group, registered_source}
-use Rattle.pim_wire.specs.Values.{Register}
-use Rattle.pim_data.specs.declared.leaving.Leaving.{Leaving}
-use Rattle.pim_world.specs.Turns.{Taking, saying}
-use Rattle.pim_model.specs.Forwarding.{forwarded, register_received}
-use Rattle.pim_model.specs.State.{State}
-use Rattle.pim_model.specs.Step.{Change, change, decapsulated, packet_forwarded}
-use Rattle.pim_macros.specs.declared.sight.SourceSight.{SourceSight}
-use Rattle.pim_event.specs.Acting.{control_event, act_event}
-use Rattle.pim_event.specs.declared.act.Act.{Act}
-use Rattle.pim_event.specs.declared.act.Control.{Control}
-use Rattle.pim_event.specs.Sending.{Sends}
+use Rattle.std.{proofs.Common.{◌≡◌, ℕ, Box, Global, [], Result, IfOk, length, refl, arith, ap, sym, subst, ◌∙◌}}
+use Rattle.pim_ip.{specs.Ipv4.Packet}
+use Rattle.pim_types.{specs.declared.config.IfaceId.IfaceId}
+use Rattle.pim_wire.{specs.{RegisterParts.{is_null, registered_group, registered_source}, Values.Register}}
+use Rattle.pim_data.{specs.declared.leaving.Leaving.Leaving}
+use Rattle.pim_state.{specs.Turns.{Taking, saying}}
+use Rattle.pim_model.{specs.{Forwarding.{forwarded, register_received}, State.State, Step.{Change, change, decapsulated, packet_forwarded}}}
+use Rattle.pim_macros.{specs.declared.sight.SourceSight.SourceSight}
+use Rattle.pim_plan.{specs.{Acting.{control_event, act_event}, declared.act.{Act.Act, Control.Control}}}
+use Rattle.pim_event.{specs.Sending.Sends}
 
 -- a packet, and a Register
-pub data_sends : {E : Type 0} (s : State) (w : ℕ) (act : Act) (i : IfaceId) (p : Packet) (sight : SourceSight)
+pub data_sends : {E : Type 0} (s : State) (w : ℕ) (act : Act) (i : IfaceId) (p : Packet) (sight : Box SourceSight Global)
     → act ≡ Act.Data i p sight → (state : State) (before after : Taking) (r : Result Leaving E)
     → IfOk r (λ l. Sends l state before after (packet_forwarded p (forwarded s p.destination p.source i.number)))
     → IfOk r (λ l. Sends l state before after (change s w (act_event act)))

@@ -1,57 +1,10 @@
 -- Of which interfaces the router is the DR: an event and the expiry of a timer leave it, but those that are said to move it.
-use Rattle.std.proofs.Common.{◌≡◌, ℕ, Bool, true, false, not, List, is_none, is_some, refl, ap, ◌∙◌}
-use Rattle.std.proofs.lemmas.List.Folds.{list_all-append}
-use Rattle.std.specs.Cmp.{second_so}
-use Rattle.std.specs.Cmp.Derive.{both_true}
-use Rattle.std.specs.List.{list_all}
-use Rattle.pim_ip.specs.declared.addr.Addr.{Addr}
-use Rattle.pim_types.specs.declared.fact.Key.{Key}
-use Rattle.pim_types.specs.declared.timer.TimerKind.{TimerKind}
-use Rattle.pim_types.specs.Keys.{is_star, star_key}
-use Rattle.std.specs.Prelude.{Option, Some, None}
-use Rattle.pim_model.specs.declared.accepted.Accepted.{Accepted}
-use Rattle.pim_model.specs.Firing.{fired}
-use Rattle.pim_model.specs.Neighbours.{is_dr}
-use Rattle.pim_model.specs.Reach.{own_firing}
-use Rattle.pim_model.specs.State.{State}
-use Rattle.pim_model.specs.Step.{change, rps_replaced}
-use Rattle.pim_model.specs.Tables.{Table, keys_in}
-use Rattle.pim_model.specs.Timers.{Ending}
-use Rattle.pim_laws.proofs.ListLaws.{each_more, each_of_list, list_of_each}
-use Rattle.pim_locality.specs.Events.{touched_by_event}
-use Rattle.pim_locality.specs.Locality.{AgreesBut, touching}
-use Rattle.pim_locality.specs.Scopes.{scope}
-use Rattle.pim_locality.specs.Touches.{isnt_neighbour, touched_by}
-use Rattle.pim_locality.proofs.EventLaws.{change_touches}
-use Rattle.pim_locality.proofs.Registers.{all_keys}
-use Rattle.pim_locality.proofs.SilentEvents.{timer_touches}
-use Rattle.pim_reach.proofs.Configured.{beyond, untouched}
-use Rattle.pim_reach.proofs.Unreached.{Around, dr_around}
-use Rattle.pim_adjacent.specs.Adjacent.{AreSourced}
-use Rattle.pim_adjacent.proofs.Hellos.{end_dr, hello_dr}
-use Rattle.pim_store.specs.PimTables.{AreKeyed, is_source_key, pim_tables}
-use Rattle.pim_event.specs.Ends.{end_moves_dr}
-use Rattle.pim_event.specs.Staying.{moves_dr}
-
--- ---- sources and registers are under keys of sources
-
-not_star : (o : Option Addr) → is_some o ≡ true → not (is_none o) ≡ true
-not_star None e = cc
-not_star (Some a) e = refl
-
-sourced : {R : Type 0} (t : Table R) → list_all (λ e. is_source_key e.0) t ≡ true
-    → list_all (λ k. not (is_star k)) (keys_in t) ≡ true
-sourced t keyed =
-    all_keys (λ k. not (is_star k)) t
-    ∙ list_of_each (λ e. not (is_star e.0)) t
-    (each_more (λ e. is_source_key e.0 ≡ true) (λ e. not (is_star e.0) ≡ true)
-    (λ e is. not_star (e.0).source (second_so _ (is_some (e.0).source) is)) t
-    (each_of_list (λ e. is_source_key e.0) t keyed))
-
-pub keyed_sourced : (s : State) → AreKeyed (pim_tables s) → AreSourced s
-keyed_sourced s keyed =
-    list_all-append (λ k. not (is_star k)) (keys_in s.sources) (keys_in s.registers)
-    ∙ both_true (sourced s.sources keyed.sources) (sourced s.registers keyed.registers)
+use Rattle.std.{proofs.Common.{◌≡◌, ℕ, Bool, true, false, not, List, refl, ap}, specs.Prelude.Some}
+use Rattle.pim_types.{specs.{declared.{fact.Key.Key, timer.TimerKind.TimerKind}, Keys.star_key}}
+use Rattle.pim_model.{specs.{declared.accepted.Accepted.Accepted, Firing.fired, Neighbours.is_dr, Reach.own_firing, State.State, Step.{change, rps_replaced}, Timers.Ending}}
+use Rattle.law_scope.{specs.{Events.touched_by_event, Locality.{AgreesBut, touching}, Scopes.scope, Touches.{isnt_neighbour, touched_by}}, proofs.{EventLaws.change_touches, SilentEvents.timer_touches}}
+use Rattle.law_named.{proofs.{Configured.{beyond, untouched}, Unreached.{Around, dr_around}, Hellos.{end_dr, hello_dr}}}
+use Rattle.pim_event.{specs.{Ends.end_moves_dr, Staying.moves_dr}}
 
 -- ---- what touches some keys alone leaves the DR
 

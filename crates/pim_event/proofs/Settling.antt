@@ -1,46 +1,18 @@
 -- What follows of a change follows of what was opened.
-use Rattle.std.proofs.Common.{◌≡◌, ◌==◌, ◌&&◌, ◌++◌, ℕ, true, not, List, ap, append_assoc, inl, inr, is_some, sym, ◌∙◌}
-use Rattle.std.proofs.lemmas.Bool.{or_left}
-use Rattle.std.specs.Cmp.{second_so}
-use Rattle.std.specs.List.{list_any}
-use Rattle.pim_types.specs.declared.fact.Key.{Key}
-use Rattle.pim_types.specs.Keys.{iface_in, names_source}
-use Rattle.pim_types.specs.declared.outcome.Emission.{Emission}
-use Rattle.pim_model.specs.Clearing.{clear, clear_all}
-use Rattle.pim_model.specs.Firing.{settled}
-use Rattle.pim_model.specs.Messages.{Message}
-use Rattle.pim_model.specs.Registers.{settle_registers}
-use Rattle.pim_model.specs.State.{State}
-use Rattle.pim_model.specs.Upstream.{upstream}
-use Rattle.pim_model.specs.Writing.{write_all}
-use Rattle.pim_laws.proofs.ListLaws.{all_more}
-use Rattle.pim_locality.specs.Locality.{IsQuiet, own_settled, own_upstream, touched_clear, touched_registers, touching}
-use Rattle.pim_locality.proofs.Registers.{registers_agree, registers_of_touched}
-use Rattle.pim_locality.proofs.Settling.{settling_is_own}
-use Rattle.pim_locality.proofs.TouchedClearing.{clear_of_touched}
-use Rattle.pim_locality.proofs.Touches.{touching_is_closed}
-use Rattle.pim_reach.specs.Moved.{HaveSources, MovesAlone}
-use Rattle.pim_reach.proofs.Moved.{moved_goes, moved_settles}
-use Rattle.pim_reach.proofs.Taken.{facts_stay}
-use Rattle.pim_adjacent.specs.Adjacent.{AdjoinsAlone}
-use Rattle.pim_adjacent.proofs.Goes.{adjoins_goes}
-use Rattle.pim_adjacent.proofs.Settles.{adjoins_settles}
-use Rattle.pim_store.specs.PimTables.{AreKeyed, is_source_key, pim_tables}
-use Rattle.pim_world.specs.declared.touched.Touched.{Touched}
-use Rattle.pim_opening.specs.Covers.{IsWithin, NewAreNamed}
-use Rattle.pim_opening.specs.Openings.{has_facts, opening_of}
-use Rattle.pim_opening.specs.declared.opening.GroupOpening.{GroupOpening}
-use Rattle.pim_register.specs.Settling.{registers_by}
-use Rattle.pim_register.proofs.Opened.{registers_of_all, registers_of_keys}
-use Rattle.pim_register.proofs.Keyed.{registers_are_keyed}
-use Rattle.pim_register.proofs.Within.{registers_are_within}
-use Rattle.pim_asserts.proofs.Laws.{all_go_by_opened, touched_go_by_opened}
-use Rattle.pim_asserts.proofs.Facts.{clearing_is_within}
-use Rattle.pim_asserts.specs.Opened.{clear_by}
-use Rattle.pim_upstream.specs.Told.{upstream_by}
-use Rattle.pim_upstream.proofs.UpstreamLaws.{upstream_of_all, upstream_of_keys}
-use Rattle.pim_fanout.specs.Contains.{Contains}
-use Rattle.pim_event.specs.Settling.{cleared_by, followed_by, settled_by}
+use Rattle.std.{proofs.{Common.{◌≡◌, ◌==◌, ◌&&◌, ◌++◌, ℕ, true, not, List, ap, append_assoc, inl, inr, is_some, sym, ◌∙◌}, lemmas.Bool.or_left}, specs.{Cmp.second_so, List.list_any}}
+use Rattle.pim_types.{specs.{declared.{fact.Key.Key, outcome.Emission.Emission}, Keys.{iface_in, names_source}}}
+use Rattle.pim_model.{specs.{Clearing.{clear, clear_all}, Firing.settled, Messages.Message, Registers.settle_registers, State.State, Upstream.upstream, Writing.write_all}}
+use Rattle.law_settled.{proofs.ListLaws.all_more}
+use Rattle.law_scope.{specs.Locality.{IsQuiet, own_settled, own_upstream, touched_clear, touched_registers, touching}, proofs.{Registers.{registers_agree, registers_of_touched}, Settling.settling_is_own, TouchedClearing.clear_of_touched, Touches.touching_is_closed}}
+use Rattle.law_named.{specs.{Moved.{HaveSources, MovesAlone}, Adjacent.AdjoinsAlone}, proofs.{Moved.{moved_goes, moved_settles}, Taken.facts_stay, Goes.adjoins_goes, NeighbourSettles.adjoins_settles}}
+use Rattle.pim_store.{specs.PimTables.{AreKeyed, is_source_key, pim_tables}}
+use Rattle.pim_state.{specs.declared.touched.Touched.Touched}
+use Rattle.pim_views.{specs.{Covers.{IsWithin, NewAreNamed}, Openings.{has_facts, opening_of}, declared.opening.GroupOpening.GroupOpening}}
+use Rattle.pim_register.{specs.Settling.registers_by, proofs.{Opened.{registers_of_all, registers_of_keys}, Keyed.registers_are_keyed, Within.registers_are_within}}
+use Rattle.pim_asserts.{proofs.{Laws.{all_go_by_opened, touched_go_by_opened}, Facts.clearing_is_within}, specs.Opened.clear_by}
+use Rattle.pim_upstream.{specs.Told.upstream_by, proofs.UpstreamLaws.{upstream_of_all, upstream_of_keys}}
+use Rattle.pim_fanout.{specs.Contains.Contains}
+use Rattle.pim_event.{specs.Settling.{cleared_by, followed_by, settled_by}}
 
 -- ---- facts that only become fewer
 

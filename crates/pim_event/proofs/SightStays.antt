@@ -1,37 +1,12 @@
 -- A sight stays true where messages upstream are made and packets are written: no macro reads what these change.
-use Rattle.std.proofs.Common.{◌≡◌, ℕ, Bool, false, ◌&&◌, nat_lt, List, [], Option, None, Some, option_map, option_and_then, IfSome, refl, ap, subst, sym, ◌∙◌}
-use Rattle.std.specs.Option.{option_map_or}
-use Rattle.pim_types.specs.declared.fact.AssertRow.{AssertRow}
-use Rattle.pim_types.specs.declared.fact.InterfaceRow.{InterfaceRow}
-use Rattle.pim_types.specs.declared.fact.JoinTimerRow.{JoinTimerRow}
-use Rattle.pim_types.specs.declared.fact.Key.{Key}
-use Rattle.pim_types.specs.declared.fact.OverrideTimerRow.{OverrideTimerRow}
-use Rattle.pim_types.specs.declared.path.Path.{Path}
-use Rattle.pim_types.specs.declared.upstream.SourceView.{SourceView}
-use Rattle.pim_types.specs.Keys.{rpt_key, source_key, star_key}
-use Rattle.pim_laws.proofs.ListLaws.{by_cond}
-use Rattle.pim_laws.proofs.TurnLaws.{kept_in_turn}
-use Rattle.pim_locality.proofs.QuietStates.{frame_packets}
-use Rattle.pim_locality.proofs.SharedMacros.{route_local}
-use Rattle.pim_locality.specs.Locality.{touching}
-use Rattle.pim_locality.specs.Scopes.{reads, scope}
-use Rattle.pim_model.specs.Desires.{winner_hop}
-use Rattle.pim_model.specs.Messages.{Message}
-use Rattle.pim_model.specs.Neighbours.{is_dr, nbr}
-use Rattle.pim_model.specs.Receivers.{is_exclude, local_receiver_exclude, local_receiver_include}
-use Rattle.pim_model.specs.Registers.{is_dr_of_path}
-use Rattle.pim_model.specs.Sets.{assert_source, assert_star, is_beaten, is_better, is_kept_alive, joins, joins_star, prunes, route_metric, spt_bit, spt_metric, tunnel}
-use Rattle.pim_model.specs.State.{State, is_own, my_address}
-use Rattle.pim_model.specs.Tables.{Table}
-use Rattle.pim_model.specs.Unicast.{route, rp_of, rp_route, rpf_interface, rpf_interface_rp}
-use Rattle.pim_model.specs.Upstream.{Cancel, Keep, LowerTo, SetTo, TimerChange, moved_join_timer, moved_override_timer, rpt_told, source_told, source_view, with_join_timer, with_override_timer}
-use Rattle.pim_model.specs.Writing.{write_all}
-use Rattle.pim_macros.specs.Sights.{IsSourceSight, ShowsSource, ShowsStar}
-use Rattle.pim_macros.specs.declared.sight.SourceSight.{SourceSight}
-use Rattle.pim_macros.specs.declared.sight.StarSight.{StarSight}
-use Rattle.pim_opening.specs.declared.opening.GroupOpening.{GroupOpening}
-use Rattle.pim_opening.specs.declared.opening.SourceOpening.{SourceOpening}
-use Rattle.pim_upstream.specs.Told.{group_step, source_moved, source_step, star_changed, upstream_by}
+use Rattle.std.{proofs.Common.{◌≡◌, ℕ, Bool, false, ◌&&◌, nat_lt, List, [], Option, None, Some, option_map, option_and_then, IfSome, refl, ap, subst, sym, ◌∙◌}, specs.Option.option_map_or}
+use Rattle.pim_types.{specs.{declared.{fact.{AssertRow.AssertRow, InterfaceRow.InterfaceRow, JoinTimerRow.JoinTimerRow, Key.Key, OverrideTimerRow.OverrideTimerRow}, path.Path.Path, upstream.SourceView.SourceView}, Keys.{rpt_key, source_key, star_key}}}
+use Rattle.law_settled.{proofs.{ListLaws.by_cond, TurnLaws.kept_in_turn}}
+use Rattle.law_scope.{proofs.{QuietStates.frame_packets, SharedMacros.route_local}, specs.{Locality.touching, Scopes.{reads, scope}}}
+use Rattle.pim_model.{specs.{Desires.winner_hop, Messages.Message, Neighbours.{is_dr, nbr}, Receivers.{is_exclude, local_receiver_exclude, local_receiver_include}, Registers.is_dr_of_path, Sets.{assert_source, assert_star, is_beaten, is_better, is_kept_alive, joins, joins_star, prunes, route_metric, spt_bit, spt_metric, tunnel}, State.{State, is_own, my_address}, Tables.Table, Unicast.{route, rp_of, rp_route, rpf_interface, rpf_interface_rp}, Upstream.{Cancel, Keep, LowerTo, SetTo, TimerChange, moved_join_timer, moved_override_timer, rpt_told, source_told, source_view, with_join_timer, with_override_timer}, Writing.write_all}}
+use Rattle.pim_macros.{specs.{Sights.{IsSourceSight, ShowsSource, ShowsStar}, declared.sight.{SourceSight.SourceSight, StarSight.StarSight}}}
+use Rattle.pim_views.{specs.declared.opening.{GroupOpening.GroupOpening, SourceOpening.SourceOpening}}
+use Rattle.pim_upstream.{specs.Told.{group_step, source_moved, source_step, star_changed, upstream_by}}
 
 -- the state with these timers and interface rows
 abbrev beside : State → Table JoinTimerRow → Table OverrideTimerRow → Table InterfaceRow → State

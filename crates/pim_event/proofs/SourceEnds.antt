@@ -1,27 +1,11 @@
 -- The end of a source's timer touches that source alone, where the row of its group stays as it is.
-use Rattle.std.proofs.Common.{◌≡◌, ℕ, ◌==◌, ◌&&◌, ◌||◌, Bool, true, false, not, List, [], ◌∷◌, Some, is_some, eq-eqb, refl, ap, sym, subst, ◌∙◌}
-use Rattle.std.specs.Cmp.{first_so, second_so}
-use Rattle.std.specs.List.{filter, list_all, list_any}
-use Rattle.std.specs.List.Sorted.{IsStrictlySortedBy}
-use Rattle.std.specs.Prelude.{if◌then◌else◌}
-use Rattle.pim_types.specs.declared.fact.Key.{Key}
-use Rattle.pim_types.specs.declared.fact.SourceRecordRow.{SourceRecordRow}
-use Rattle.pim_types.specs.Keys.{group_in, iface_in, key_cmp, same_key, source_in, source_key, star_key}
-use Rattle.pim_types.proofs.Keys.{equal_keys}
-use Rattle.pim_model.specs.Querier.{group_end, source_record_due}
-use Rattle.pim_model.specs.Records.{is_at_group, with_repeats_of_rows}
-use Rattle.pim_model.specs.State.{State}
-use Rattle.pim_model.specs.Tables.{Table, change_row, drop_at, drop_where, keys_in}
-use Rattle.pim_laws.specs.Laws.{is_under_source}
-use Rattle.pim_laws.proofs.ListLaws.{any_more, each_of_list}
-use Rattle.pim_laws.proofs.RowChanges.{changed_elsewhere, dropped_elsewhere}
-use Rattle.pim_laws.proofs.TableLaws.{any_in_filter}
-use Rattle.pim_locality.specs.Locality.{AgreesBut, touching}
-use Rattle.pim_locality.specs.Scopes.{reads, scope}
-use Rattle.pim_locality.proofs.Membership.{source_end_here}
-use Rattle.pim_locality.proofs.Touches.{source_records_agree}
-use Rattle.pim_querier.proofs.OneSource.{AreSources, after, end_excludes, end_includes, endless}
-use Rattle.pim_event.specs.Ends.{has_other_sources, keeps_group, touched_by_source}
+use Rattle.std.{proofs.Common.{◌≡◌, ℕ, ◌==◌, ◌&&◌, ◌||◌, Bool, true, false, not, List, [], ◌∷◌, Some, is_some, eq-eqb, refl, ap, sym, subst, ◌∙◌}, specs.{Cmp.{first_so, second_so}, List.{filter, list_all, list_any, Sorted.IsStrictlySortedBy}, Prelude.if◌then◌else◌}}
+use Rattle.pim_types.{specs.{declared.fact.{Key.Key, SourceRecordRow.SourceRecordRow}, Keys.{group_in, iface_in, key_cmp, same_key, source_in, source_key, star_key}}, proofs.Keys.equal_keys}
+use Rattle.pim_model.{specs.{Querier.{group_end, source_record_due}, Records.{is_at_group, with_repeats_of_rows}, State.State, Tables.{Table, change_row, drop_at, drop_where, keys_in}}}
+use Rattle.law_settled.{specs.Laws.is_under_source, proofs.{ListLaws.{any_more, each_of_list}, RowChanges.{changed_elsewhere, dropped_elsewhere}, TableLaws.any_in_filter}}
+use Rattle.law_scope.{specs.{Locality.{AgreesBut, touching}, Scopes.{reads, scope}}, proofs.{Membership.source_end_here, Touches.source_records_agree}}
+use Rattle.pim_querier.{proofs.OneSource.{AreSources, after, end_excludes, end_includes, endless}}
+use Rattle.pim_event.{specs.Ends.{has_other_sources, keeps_group, touched_by_source}}
 
 either_none : (b : Bool) → (b || false) ≡ false → b ≡ false
 either_none true e = e

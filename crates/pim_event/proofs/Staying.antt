@@ -1,54 +1,16 @@
 -- Which sources stay as they were, whether they have a fact or not: after an event, after the expiry of a timer, and
 -- over firings and events in turn.
-use Rattle.std.proofs.Common.{◌≡◌, ◌≤◌, ◌<◌, ◌+◌, ℕ, Bool, true, false, ◌&&◌, ◌||◌, ◌⊎◌, inl, inr, cond, List, [], ◌∷◌, ◌++◌, Result, Ok, Err, OnOk, length, take, take_all, get_or, add-one, refl, ap, subst, sym, ◌∙◌}
-use Rattle.std.proofs.Math.Seq.{take-suc}
-use Rattle.std.proofs.lemmas.Bool.{or_parts}
-use Rattle.std.proofs.lemmas.List.Folds.{list_any-append}
-use Rattle.pim_ip.specs.Ipv4.{Packet}
-use Rattle.pim_types.specs.declared.event.Event.{Event}
-use Rattle.pim_types.specs.declared.fact.Key.{Key}
-use Rattle.pim_types.specs.Keys.{source_key}
-use Rattle.pim_model.specs.Cache.{Answers, Plain, answers}
-use Rattle.pim_model.specs.declared.accepted.Accepted.{Accepted}
-use Rattle.pim_model.specs.Firing.{fire_once, fired, settled}
-use Rattle.pim_model.specs.Messages.{Message}
-use Rattle.pim_model.specs.Full.{passes_limit}
-use Rattle.pim_model.specs.Reach.{own_firing}
-use Rattle.pim_model.specs.State.{InterfaceTable, State, interfaces_of}
-use Rattle.pim_model.specs.Step.{change, done, ran, state_after, step, taken}
-use Rattle.pim_model.specs.Tables.{has_row}
-use Rattle.pim_model.specs.Timers.{Ending}
-use Rattle.pim_locality.specs.Locality.{IsQuiet, touching}
-use Rattle.pim_locality.specs.Rest.{IsAtRest}
-use Rattle.pim_locality.specs.Scopes.{reads}
-use Rattle.pim_reach.specs.Keeps.{KeepsAnswers}
-use Rattle.pim_reach.specs.Named.{is_source_named, is_same_beside, is_same_fact, is_same_sight}
-use Rattle.pim_reach.proofs.Configured.{configured_beside}
-use Rattle.pim_reach.proofs.Kept.{unnamed_keeps}
-use Rattle.pim_reach.proofs.Reached.{IsConfigured}
-use Rattle.pim_locality.proofs.SameRows.{flags}
-use Rattle.pim_reach.proofs.SameRows.{both_of, not_false}
-use Rattle.pim_reach.proofs.Settled.{settled_configured}
-use Rattle.pim_adjacent.specs.Adjacent.{AdjoinsAlone, with_neighbour_rows}
-use Rattle.pim_adjacent.proofs.Stays.{adjoins_stays}
-use Rattle.pim_cached.specs.Decided.{IsDecided}
-use Rattle.pim_cached.specs.Kept.{SameAnswers}
-use Rattle.pim_cached.proofs.SameRows.{kept_is_same}
-use Rattle.pim_world.specs.declared.touched.Touched.{Touched}
-use Rattle.pim_fanout.specs.Contains.{Adjoins, Contains}
-use Rattle.pim_fanout.specs.Disturbed.{is_disturbed, joined}
-use Rattle.pim_fanout.proofs.Untouched.{untouched_is_unnamed}
-use Rattle.pim_offload.specs.Offered.{offered}
-use Rattle.pim_offload.specs.Staying.{KeepsRoutes, OffersAlike, SourceStays, is_rerouting}
-use Rattle.pim_offload.proofs.Routed.{event_keeps_routes, firing_keeps_routes}
-use Rattle.pim_offload.proofs.Staying.{firing_source_stays, offer_stays, plain_offer_stays, stays_in_turn, stays_itself, time_source_stays, unnamed_source_stays}
-use Rattle.pim_event.specs.Ends.{end_moves_dr}
-use Rattle.pim_event.specs.Staying.{LastOffersStay, OffersStay, UntouchedOffersStay, StaysBeside, disturbed_by, moves_all, moves_dr}
-use Rattle.pim_event.proofs.Serving.{event_dr, firing_dr}
-use Rattle.pim_model.specs.Neighbours.{is_dr}
-use Rattle.std.specs.Prelude.{if◌then◌else◌}
-use Rattle.pim_event.specs.Replacing.{Disturbance}
-use Rattle.pim_event.proofs.Taking.{taken_is_done}
+use Rattle.std.{proofs.{Common.{◌≡◌, ◌≤◌, ◌<◌, ◌+◌, ℕ, Bool, true, false, ◌&&◌, ◌||◌, ◌⊎◌, inl, inr, cond, List, [], ◌∷◌, ◌++◌, Result, Ok, Err, OnOk, length, take, take_all, get_or, add-one, refl, ap, subst, sym, ◌∙◌}, Math.Seq.take-suc, lemmas.{Bool.or_parts, List.Folds.list_any-append}}, specs.Prelude.if◌then◌else◌}
+use Rattle.pim_ip.{specs.Ipv4.Packet}
+use Rattle.pim_types.{specs.{declared.{event.Event.Event, fact.Key.Key}, Keys.source_key}}
+use Rattle.pim_model.{specs.{Cache.{Answers, Plain, answers}, declared.accepted.Accepted.Accepted, Firing.{fire_once, fired, settled}, Messages.Message, Full.passes_limit, Reach.own_firing, State.{InterfaceTable, State, interfaces_of}, Step.{change, done, ran, state_after, step, taken}, Tables.has_row, Timers.Ending, Neighbours.is_dr}}
+use Rattle.law_scope.{specs.{Locality.{IsQuiet, touching}, Rest.IsAtRest, Scopes.reads}, proofs.SameRows.flags}
+use Rattle.law_named.{specs.{Keeps.KeepsAnswers, Named.{is_source_named, is_same_beside, is_same_fact, is_same_sight}, Adjacent.{AdjoinsAlone, with_neighbour_rows}}, proofs.{Configured.configured_beside, Kept.unnamed_keeps, Reached.IsConfigured, SameRows.{both_of, not_false}, Settled.settled_configured, NeighbourStays.adjoins_stays}}
+use Rattle.law_cache.{specs.{Decided.IsDecided, Kept.SameAnswers}, proofs.SameRows.kept_is_same}
+use Rattle.pim_state.{specs.declared.touched.Touched.Touched}
+use Rattle.pim_fanout.{specs.{Contains.{Adjoins, Contains}, Disturbed.{is_disturbed, joined}}, proofs.Untouched.untouched_is_unnamed}
+use Rattle.law_plane.{specs.{Offered.offered, Staying.{KeepsRoutes, OffersAlike, SourceStays, is_rerouting}}, proofs.{Routed.{event_keeps_routes, firing_keeps_routes}, Staying.{firing_source_stays, offer_stays, plain_offer_stays, stays_in_turn, stays_itself, time_source_stays, unnamed_source_stays}}}
+use Rattle.pim_event.{specs.{Ends.end_moves_dr, Staying.{LastOffersStay, OffersStay, UntouchedOffersStay, StaysBeside, disturbed_by, moves_all, moves_dr}, Replacing.Disturbance}, proofs.{Serving.{event_dr, firing_dr}, Taking.taken_is_done}}
 
 -- ---- what is disturbed
 

@@ -1,36 +1,16 @@
 -- What was accepted, where there is room for it.
-use Rattle.std.proofs.Common.{◌≡◌, ℕ, Bool, true, false, not, length, Result, Ok, Err, IsOk, IsTrue, List, [], ◌++◌, OnOk, refl, ap, subst, sym, ◌∙◌}
-use Rattle.pim_ip.specs.declared.refusal.Refusal.{Refusal}
-use Rattle.pim_types.specs.declared.outcome.Emission.{Emission}
-use Rattle.pim_types.specs.declared.config.Route.{Route}
-use Rattle.pim_types.specs.declared.config.RpRange.{RpRange}
-use Rattle.pim_types.specs.declared.event.Event.{Event}
-use Rattle.pim_types.specs.declared.event.EventKind.{EventKind}
-use Rattle.pim_types.specs.declared.outcome.Outcome.{Outcome}
-use Rattle.pim_types.specs.declared.outcome.Stop.{Stop}
-use Rattle.pim_types.specs.declared.outcome.Verdict.{Verdict}
-use Rattle.pim_model.specs.declared.accepted.Accepted.{Accepted}
-use Rattle.pim_world.specs.Turns.{Taking}
-use Rattle.pim_intake.specs.Memory.{is_tested_in_memory}
-use Rattle.pim_model.specs.Judging.{Judged, judged, refuse_if, routes_judged, rps_judged, ◌>>◌}
-use Rattle.pim_model.specs.Limits.{are_routes, are_rps}
-use Rattle.pim_model.specs.Messages.{Message}
-use Rattle.pim_model.specs.State.{State}
-use Rattle.pim_model.specs.Full.{is_full}
-use Rattle.pim_model.specs.Step.{Answered, Change, change, concluded, done, outcome_of, advanced, step, stopped, taken, taken_unless_full}
-use Rattle.pim_model.specs.Sure.{needs_no_memory}
-use Rattle.pim_world.specs.declared.touched.Touched.{Touched}
-use Rattle.pim_opening.specs.Openings.{opening_of}
-use Rattle.pim_opening.specs.declared.opening.GroupOpening.{GroupOpening}
-use Rattle.pim_store.specs.PimTables.{AreKeyed, pim_tables}
-use Rattle.pim_locality.specs.Locality.{IsQuiet as IsQuietState}
-use Rattle.pim_locality.specs.Rest.{IsAtRest}
-use Rattle.pim_locality.proofs.Rest.{step_is_at_rest}
-use Rattle.pim_data.specs.declared.leaving.Leaving.{Leaving}
-use Rattle.pim_fanout.specs.Contains.{Contains}
-use Rattle.pim_event.specs.Sending.{Sends}
-use Rattle.pim_event.specs.Settling.{settled_by}
-use Rattle.pim_event.proofs.Settling.{settled_as_opened}
+use Rattle.std.{proofs.Common.{◌≡◌, ℕ, Bool, true, false, not, length, Result, Ok, Err, IsOk, IsTrue, List, [], ◌++◌, OnOk, refl, ap, subst, sym, ◌∙◌}}
+use Rattle.pim_ip.{specs.declared.refusal.Refusal.Refusal}
+use Rattle.pim_types.{specs.declared.{outcome.{Emission.Emission, Outcome.Outcome, Stop.Stop, Verdict.Verdict}, config.{Route.Route, RpRange.RpRange}, event.{Event.Event, EventKind.EventKind}}}
+use Rattle.pim_model.{specs.{declared.accepted.Accepted.Accepted, Judging.{Judged, judged, refuse_if, routes_judged, rps_judged, ◌>>◌}, Limits.{are_routes, are_rps}, Messages.Message, State.State, Full.is_full, Step.{Answered, Change, change, concluded, done, outcome_of, advanced, step, stopped, taken, taken_unless_full}, Sure.needs_no_memory}}
+use Rattle.pim_state.{specs.{Turns.Taking, declared.touched.Touched.Touched}}
+use Rattle.pim_intake.{specs.Memory.is_tested_in_memory}
+use Rattle.pim_views.{specs.{Openings.opening_of, declared.opening.GroupOpening.GroupOpening}}
+use Rattle.pim_store.{specs.PimTables.{AreKeyed, pim_tables}}
+use Rattle.law_scope.{specs.{Locality.IsQuiet as IsQuietState, Rest.IsAtRest}, proofs.Rest.step_is_at_rest}
+use Rattle.pim_data.{specs.declared.leaving.Leaving.Leaving}
+use Rattle.pim_fanout.{specs.Contains.Contains}
+use Rattle.pim_event.{specs.{Sending.Sends, Settling.settled_by, Stops.stop_outcome}, proofs.Settling.settled_as_opened}
 
 module _ (s : State) (w : ℕ) where
   -- where no time passes
@@ -117,6 +97,26 @@ outcome_told sent copies registered emissions both all shown count e f g h k =
     k
 
 -- what is taken, or refused for want of room, may want memory
+-- an event takes its turn where it is accepted, and else stops
+pub in_turn : (s : State) (e : Event) (a : Accepted) (w : ℕ) → judged s e.kind ≡ Ok a → w ≡ e.draw
+    → step s e ≡ taken_unless_full s w a
+unfolding step
+in_turn s e a w heard drawn =
+    ap (λ (j : Judged). concluded s (taken_unless_full s e.draw) j) heard
+    ∙ ap (λ (n : ℕ). taken_unless_full s n a) (sym drawn)
+
+at_stop : (s : State) (e : Event) (stop : Stop) → judged s e.kind ≡ Err stop → step s e ≡ stopped s stop
+unfolding step
+at_stop s e stop heard = ap (λ (j : Judged). concluded s (taken_unless_full s e.draw) j) heard
+
+pub stop_told : (s : State) (e : Event) (stop : Stop) → judged s e.kind ≡ Err stop → stop_outcome stop ≡ outcome_of (step s e)
+stop_told s e (Stop.Refuse refusal) heard = ap outcome_of (sym (at_stop s e (Stop.Refuse refusal) heard))
+stop_told s e (Stop.Ignore reason) heard = ap outcome_of (sym (at_stop s e (Stop.Ignore reason) heard))
+
+pub stop_stays : (s : State) (e : Event) (stop : Stop) → judged s e.kind ≡ Err stop → s ≡ (step s e).state
+stop_stays s e (Stop.Refuse refusal) heard = ap (λ (x : Answered). x.state) (sym (at_stop s e (Stop.Refuse refusal) heard))
+stop_stays s e (Stop.Ignore reason) heard = ap (λ (x : Answered). x.state) (sym (at_stop s e (Stop.Ignore reason) heard))
+
 answered_done : (s : State) (w : ℕ) (a : Accepted) → (taken s w a).answer ≡ Ok Verdict.Done
 unfolding taken done advanced
 answered_done s w (Accepted.Advance moment) = refl
@@ -208,3 +208,20 @@ pub rests_after : {A E : Type 0} (s t : State) (event : Event) (r : Result A E) 
 rests_after s t event (Ok done) rest state =
     subst (λ (x : State). IsAtRest x) (sym state) (step_is_at_rest s event rest)
 rests_after s t event (Err fault) rest state = tt
+
+-- ---- what is taken, where there is room and where there is none
+
+module _ (s : State) (w : ℕ) (a : Accepted) where
+  pub with_room : is_full s a ≡ false → taken_unless_full s w a ≡ taken s w a
+  unfolding taken_unless_full
+  with_room room = rw (room, taken_unless_full) refl
+
+  -- time needs no room
+  pub time_is_taken : (moment : ℕ) → a ≡ Accepted.Advance moment → advanced s w moment ≡ taken_unless_full s w a
+  unfolding taken_unless_full taken is_full
+  time_is_taken moment is =
+      subst (λ (x : Accepted). advanced s w moment ≡ taken_unless_full s w x) (sym is) refl
+
+  pub without_room : is_full s a ≡ true → taken_unless_full s w a ≡ stopped s (Stop.Refuse Refusal.Full)
+  unfolding taken_unless_full
+  without_room full = rw (full, taken_unless_full) refl

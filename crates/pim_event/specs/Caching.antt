@@ -1,18 +1,11 @@
 -- The forwarding cache and the state, after a part of an event and after the event.
-use Rattle.std.specs.List.Sorted.{IsStrictlySortedBy}
-use Rattle.std.specs.Prelude.{List, ℕ, ◌+◌, ◌*◌, ◌≤◌, ◌≡◌, length}
-use Rattle.pim_types.specs.declared.event.Event.{Event}
-use Rattle.pim_types.specs.declared.fact.Key.{Key}
-use Rattle.pim_types.specs.Keys.{key_cmp}
-use Rattle.pim_model.specs.Cache.{cached}
-use Rattle.pim_model.specs.State.{State}
-use Rattle.pim_fanout.specs.Refreshing.{CacheValue, touches}
-use Rattle.pim_mfc.specs.Laws.{ShowsRows}
-use Rattle.pim_reach.specs.Named.{event_named}
-use Rattle.pim_event.specs.Costs.{IsCheap}
-use Rattle.pim_event.specs.Disturbing.{event_touched}
-use Rattle.pim_event.specs.Listing.{ListsMore, ListsSame}
-use Rattle.pim_event.specs.Staying.{StaysBeside, UntouchedOffersStay}
+use Rattle.std.{specs.{List.Sorted.IsStrictlySortedBy, Prelude.{List, ℕ, ◌+◌, ◌*◌, ◌≤◌, ◌≡◌, length}}}
+use Rattle.pim_types.{specs.{declared.{event.Event.Event, fact.Key.Key}, Keys.key_cmp}}
+use Rattle.pim_model.{specs.{Cache.cached, State.State}}
+use Rattle.pim_fanout.{specs.Refreshing.{CacheValue, touches}}
+use Rattle.pim_mfc.{specs.Laws.ShowsRows}
+use Rattle.law_named.{specs.Named.event_named}
+use Rattle.pim_event.{specs.{Costs.IsCheap, Disturbing.event_touched, Listing.{ListsMore, ListsSame}, Staying.{StaysBeside, UntouchedOffersStay}}}
 
 -- The cache after a change of the state from `s` to `t`, between which the listed sources are named. Its rows are those
 -- of `t`. It touched at most two rows for each name, and its list of changed sources has the names too. What it doesn't

@@ -1,11 +1,8 @@
 -- What an event may cost: by how much the meter rises, in trie nodes, and the rows of the forwarding cache that it
 -- touches.
-use Rattle.std.specs.Prelude.{List, [], length, true, ℕ, ◌*◌, ◌∷◌, ◌≡◌, ◌≤◌}
-use Rattle.pim_types.specs.declared.event.Event.{Event}
-use Rattle.pim_model.specs.Plain.{IsPlainEvent}
-use Rattle.pim_model.specs.Reach.{event_reach, keeps_neighbours}
-use Rattle.pim_model.specs.State.{State}
-use Rattle.pim_model.specs.Step.{step}
+use Rattle.std.{specs.Prelude.{List, [], length, true, ℕ, ◌*◌, ◌∷◌, ◌≡◌, ◌≤◌}}
+use Rattle.pim_types.{specs.declared.event.Event.Event}
+use Rattle.pim_model.{specs.{Plain.IsPlainEvent, Reach.{event_reach, keeps_neighbours}, State.State, Step.step}}
 
 -- The meter rises by at least one node, and by at most 66: 33 for the group and 33 for the source.
 pub record IsWithinPath (probes : ℕ) : Type 0 where
@@ -18,7 +15,7 @@ pub record IsCheap (s : State) (e : Event) (probes touched : ℕ) : Type 0 where
   -- of an event after which each interface row and each neighbour row is the same, but for when it expires
   pub calm : keeps_neighbours s (step s e).state ≡ true → touched ≤ 3 * length (event_reach s e)
 
--- The last of a list of events is cheap.
+-- The last event of a list is cheap, as `IsCheap` says.
 abbrev pub IsLastCheap : State → List Event → ℕ → ℕ → Type 0
 IsLastCheap s [] probes touched = Unit {0}
 IsLastCheap s (e ∷ []) probes touched = IsCheap s e probes touched

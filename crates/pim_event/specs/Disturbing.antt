@@ -1,25 +1,14 @@
 -- What an event disturbs, exactly: what its change touches, by key or by group, what a timer of an Advance touches when it
 -- expires, all sources where the router becomes the DR of an interface, or is no more, and the routes or RP ranges that it
 -- replaces.
-use Rattle.std.specs.Prelude.{Bool, Err, List, Ok, [], false, if◌then◌else◌, is_some, length, ℕ, ◌&&◌, ◌+◌, ◌-◌, ◌∷◌, ◌≡◌}
-use Rattle.pim_types.specs.declared.event.Event.{Event}
-use Rattle.pim_model.specs.declared.accepted.Accepted.{Accepted}
-use Rattle.pim_model.specs.Firing.{fire_once}
-use Rattle.pim_model.specs.Full.{is_full, passes_limit}
-use Rattle.pim_model.specs.Judging.{Judged, judged}
-use Rattle.pim_model.specs.Plain.{fact_key}
-use Rattle.pim_model.specs.Repeat.{until_none}
-use Rattle.pim_model.specs.State.{State}
-use Rattle.pim_model.specs.Step.{step}
-use Rattle.pim_model.specs.Tables.{has_row, same_bool}
-use Rattle.pim_model.specs.Timers.{Ending, next_due, timers}
-use Rattle.pim_cached.specs.Decided.{decided_by_answers}
-use Rattle.pim_world.specs.declared.touched.Touched.{Touched}
-use Rattle.pim_fanout.specs.Disturbed.{joined}
-use Rattle.pim_event.specs.Ends.{disturbed_by_end}
-use Rattle.pim_event.specs.Planning.{touched_of}
-use Rattle.pim_event.specs.Replacing.{Disturbance, event_replaced}
-use Rattle.pim_event.specs.Staying.{disturbed_by}
+use Rattle.std.{specs.Prelude.{Bool, Err, List, Ok, [], false, if◌then◌else◌, is_some, length, ℕ, ◌&&◌, ◌+◌, ◌-◌, ◌∷◌, ◌≡◌}}
+use Rattle.pim_types.{specs.declared.event.Event.Event}
+use Rattle.pim_model.{specs.{declared.accepted.Accepted.Accepted, Firing.fire_once, Full.{is_full, passes_limit}, Judging.{Judged, judged}, Plain.fact_key, Repeat.until_none, State.State, Step.step, Tables.{has_row, same_bool}, Timers.{Ending, next_due, timers}}}
+use Rattle.law_cache.{specs.Decided.decided_by_answers}
+use Rattle.pim_state.{specs.declared.touched.Touched.Touched}
+use Rattle.pim_fanout.{specs.Disturbed.joined}
+use Rattle.pim_event.{specs.{Ends.disturbed_by_end, Replacing.{Disturbance, event_replaced}, Staying.disturbed_by}}
+use Rattle.pim_plan.{specs.Planning.touched_of}
 
 -- ---- an Advance
 

@@ -1,17 +1,11 @@
 -- The expiry of timers, as the router takes it.
-use Rattle.std.specs.List.{list_any}
-use Rattle.std.specs.Prelude.{Bool, List, [], false, if◌then◌else◌, is_some, length, nat_lt, not, ℕ, ◌&&◌, ◌==◌, ◌∷◌, ◌||◌}
-use Rattle.pim_types.specs.declared.fact.Key.{Key}
-use Rattle.pim_types.specs.declared.timer.Timer.{Timer}
-use Rattle.pim_types.specs.declared.timer.TimerKind.{TimerKind}
-use Rattle.pim_types.specs.Keys.{group_in, iface_in, source_in, source_key, star_key}
-use Rattle.pim_model.specs.Querier.{group_end}
-use Rattle.pim_model.specs.Records.{is_at_group}
-use Rattle.pim_model.specs.State.{State}
-use Rattle.pim_model.specs.Timers.{Ending}
-use Rattle.pim_locality.specs.Touches.{touched_by}
-use Rattle.pim_adjacent.specs.Adjacent.{end_keeps_dr, keys_of_end}
-use Rattle.pim_world.specs.declared.touched.Touched.{Touched}
+use Rattle.std.{specs.{List.list_any, Prelude.{Bool, [], false, if◌then◌else◌, is_some, not, ℕ, ◌&&◌, ◌==◌, ◌∷◌, ◌||◌}}}
+use Rattle.pim_types.{specs.{declared.{fact.Key.Key, timer.{Timer.Timer, TimerKind.TimerKind}}, Keys.{group_in, iface_in, source_in, source_key, star_key}}}
+use Rattle.pim_model.{specs.{Querier.group_end, Records.is_at_group, State.State, Timers.Ending}}
+use Rattle.law_scope.{specs.Touches.touched_by}
+use Rattle.law_named.{specs.Adjacent.{end_keeps_dr, keys_of_end}}
+use Rattle.pim_state.{specs.declared.touched.Touched.Touched}
+use Rattle.pim_plan.{specs.Few.few_or_all}
 
 abbrev pub ending_of : ℕ × Timer → Ending
 ending_of due = record { end = due.0; timer = due.1 }
@@ -30,10 +24,6 @@ unfoldable pub touched_by_source : State → Key → Key
 touched_by_source s k =
     if keeps_group s (iface_in k) (group_in k) (source_in k) then source_key 0 (group_in k) (source_in k)
     else star_key 0 (group_in k)
-
--- The given keys, or all where there are more than 256: each touched group is looked for among the keys.
-abbrev pub few_or_all : List Key → Touched
-few_or_all keys = if nat_lt 256 (length keys) then Touched.All else Touched.Keys keys
 
 -- The expiry of a neighbour touches what depends on it, and what asks whether the router is the DR of its interface, where
 -- that changes.

@@ -1,4 +1,3 @@
-pub mod Acting
 pub mod Caching
 pub mod Listing
 pub mod Disturbing
@@ -6,12 +5,8 @@ pub mod Replacing
 pub mod Staying
 pub mod Costs
 pub mod Ends
-pub mod Naming
-pub mod OtherRoutes
 pub mod Plainly
-pub mod Planning
 pub mod Sending
 pub mod Settling
 pub mod Stops
-pub mod Tunnels
-pub mod Repeats
+pub mod Stepping

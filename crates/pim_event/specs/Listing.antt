@@ -1,17 +1,15 @@
 -- Which sources are listed as changed: those that an event names, in any order, and any number of times each.
-use Rattle.std.specs.Prelude.{List, [], ℕ, ◌++◌, ◌∷◌, ◌≡◌}
-use Rattle.pim_types.specs.declared.event.Event.{Event}
-use Rattle.pim_types.specs.declared.fact.Key.{Key}
-use Rattle.pim_model.specs.State.{State}
-use Rattle.pim_model.specs.Step.{step}
-use Rattle.pim_cached.specs.Kept.{is_listed}
-use Rattle.pim_reach.specs.Named.{event_named}
+use Rattle.std.{specs.Prelude.{List, [], ℕ, ◌++◌, ◌∷◌, ◌≡◌}}
+use Rattle.pim_types.{specs.declared.{event.Event.Event, fact.Key.Key}}
+use Rattle.pim_model.{specs.{State.State, Step.step}}
+use Rattle.law_cache.{specs.Kept.is_listed}
+use Rattle.law_named.{specs.Named.event_named}
 
--- Both lists have the same sources.
+-- Two lists have the same sources.
 abbrev pub ListsSame : List Key → List Key → Type 0
 ListsSame listed names = (g src : ℕ) → is_listed listed g src ≡ is_listed names g src
 
--- The last list has the sources of the first, and the names.
+-- A list has the sources of an earlier one, and the named ones.
 abbrev pub ListsMore : List Key → List Key → List Key → Type 0
 ListsMore before names listed = ListsSame listed (before ++ names)
 

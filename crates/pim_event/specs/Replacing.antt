@@ -1,20 +1,13 @@
 -- What an event replaced of routes and RP ranges, and of which sources the offer may differ by that: where nothing was
 -- replaced, of those that are touched; else of those that have other routes by what was replaced.
-use Rattle.std.specs.Prelude.{Bool, Err, List, Ok, if◌then◌else◌, not, ℕ}
-use Rattle.pim_types.specs.declared.config.Route.{Route}
-use Rattle.pim_types.specs.declared.config.RpRange.{RpRange}
-use Rattle.pim_types.specs.declared.event.Event.{Event}
-use Rattle.pim_model.specs.declared.accepted.Accepted.{Accepted}
-use Rattle.pim_model.specs.Full.{passes_limit}
-use Rattle.pim_model.specs.Judging.{Judged, judged}
-use Rattle.pim_model.specs.State.{State}
-use Rattle.pim_model.specs.Step.{step}
-use Rattle.pim_model.specs.Tables.{same_bool}
-use Rattle.pim_reach.specs.Named.{has_same_routes}
-use Rattle.pim_world.specs.declared.touched.Touched.{Touched}
-use Rattle.pim_fanout.specs.Disturbed.{is_disturbed}
-use Rattle.pim_event.specs.declared.replaced.Kept.{Kept}
-use Rattle.pim_event.specs.OtherRoutes.{with_routes}
+use Rattle.std.{specs.Prelude.{Bool, Err, List, Ok, if◌then◌else◌, not, ℕ}}
+use Rattle.pim_types.{specs.declared.{config.{Route.Route, RpRange.RpRange}, event.Event.Event}}
+use Rattle.pim_model.{specs.{declared.accepted.Accepted.Accepted, Full.passes_limit, Judging.{Judged, judged}, State.State, Step.step, Tables.same_bool}}
+use Rattle.law_named.{specs.Named.has_same_routes}
+use Rattle.pim_state.{specs.declared.touched.Touched.Touched}
+use Rattle.pim_fanout.{specs.Disturbed.is_disturbed}
+use Rattle.pim_event.{specs.declared.replaced.Kept.Kept}
+use Rattle.pim_plan.{specs.OtherRoutes.with_routes}
 
 -- The routes or the RP ranges that an event replaced, or neither.
 pub data Replaced : Type 0 where

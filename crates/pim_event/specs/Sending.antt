@@ -1,9 +1,8 @@
 -- What a change leaves to be sent.
-use Rattle.std.specs.Prelude.{length, ◌≡◌, ◌≤◌}
-use Rattle.pim_data.specs.declared.leaving.Leaving.{Leaving}
-use Rattle.pim_world.specs.Turns.{Taking, saying}
-use Rattle.pim_model.specs.State.{State}
-use Rattle.pim_model.specs.Step.{Change}
+use Rattle.std.{specs.Prelude.{length, ◌≡◌, ◌≤◌}}
+use Rattle.pim_data.{specs.declared.leaving.Leaving.Leaving}
+use Rattle.pim_state.{specs.Turns.{Taking, saying}}
+use Rattle.pim_model.{specs.{State.State, Step.Change}}
 
 -- The state, the messages and the packets are those of a change.
 pub record Sends (leaving : Leaving) (state : State) (before after : Taking) (c : Change) : Type 0 where

@@ -1,20 +1,13 @@
 -- What follows of a change, by what was opened: the touched groups and sources as they were before it.
-use Rattle.std.specs.Prelude.{List, ℕ, ◌++◌, ◌≡◌}
-use Rattle.pim_types.specs.declared.fact.Key.{Key}
-use Rattle.pim_types.specs.declared.outcome.Emission.{Emission}
-use Rattle.pim_model.specs.Messages.{Message}
-use Rattle.pim_model.specs.State.{State}
-use Rattle.pim_model.specs.Writing.{write_all}
-use Rattle.pim_world.specs.declared.touched.Touched.{Touched}
-use Rattle.pim_opening.specs.declared.opening.GroupOpening.{GroupOpening}
-use Rattle.pim_register.specs.Settling.{registers_by}
-use Rattle.pim_asserts.specs.Opened.{clear_by}
-use Rattle.pim_upstream.specs.Told.{upstream_by}
-use Rattle.pim_fanout.specs.Before.{IsBefore}
-use Rattle.pim_fanout.specs.Contains.{Contains}
-use Rattle.pim_fanout.specs.Laws.{names_of}
-use Rattle.pim_fanout.specs.Named.{named_among}
-use Rattle.pim_fanout.specs.declared.before.SourceBefore.{SourceBefore}
+use Rattle.std.{specs.Prelude.{List, ℕ, ◌++◌, ◌≡◌}}
+use Rattle.pim_types.{specs.declared.{fact.Key.Key, outcome.Emission.Emission}}
+use Rattle.pim_model.{specs.{Messages.Message, State.State, Writing.write_all}}
+use Rattle.pim_state.{specs.declared.touched.Touched.Touched}
+use Rattle.pim_views.{specs.declared.opening.GroupOpening.GroupOpening}
+use Rattle.pim_register.{specs.Settling.registers_by}
+use Rattle.pim_asserts.{specs.Opened.clear_by}
+use Rattle.pim_upstream.{specs.Told.upstream_by}
+use Rattle.pim_fanout.{specs.{Before.IsBefore, Contains.Contains, Laws.names_of, Named.named_among, declared.before.SourceBefore.SourceBefore}}
 
 -- Registers are settled, then the asserts and SPTbits that must go are cleared.
 unfoldable pub cleared_by : List GroupOpening → State → State × List Message

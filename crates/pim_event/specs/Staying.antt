@@ -1,15 +1,12 @@
 -- Which sources are unchanged, whether they have a fact or not: all that aren't disturbed.
-use Rattle.std.specs.Prelude.{Bool, List, [], false, if◌then◌else◌, not, true, ℕ, ◌||◌, ◌∷◌, ◌≡◌}
-use Rattle.pim_types.specs.declared.event.Event.{Event}
-use Rattle.pim_model.specs.declared.accepted.Accepted.{Accepted}
-use Rattle.pim_model.specs.State.{State}
-use Rattle.pim_model.specs.Step.{step}
-use Rattle.pim_adjacent.specs.Adjacent.{hello_keeps_dr}
-use Rattle.pim_world.specs.declared.touched.Touched.{Touched}
-use Rattle.pim_fanout.specs.Disturbed.{is_disturbed}
-use Rattle.pim_offload.specs.Offered.{offered}
-use Rattle.pim_offload.specs.Staying.{OffersAlike, SourceStays, is_rerouting}
-use Rattle.pim_event.specs.Replacing.{Disturbance, may_differ}
+use Rattle.std.{specs.Prelude.{Bool, List, [], false, if◌then◌else◌, not, true, ℕ, ◌||◌, ◌∷◌, ◌≡◌}}
+use Rattle.pim_types.{specs.declared.event.Event.Event}
+use Rattle.pim_model.{specs.{declared.accepted.Accepted.Accepted, State.State, Step.step}}
+use Rattle.law_named.{specs.Adjacent.hello_keeps_dr}
+use Rattle.pim_state.{specs.declared.touched.Touched.Touched}
+use Rattle.pim_fanout.{specs.Disturbed.is_disturbed}
+use Rattle.law_plane.{specs.{Offered.offered, Staying.{OffersAlike, SourceStays, is_rerouting}}}
+use Rattle.pim_event.{specs.Replacing.{Disturbance, may_differ}}
 
 -- The event may change of which interfaces the router is the DR: one goes up or down, or a Hello changes it.
 unfoldable pub moves_dr : State → Accepted → Bool
@@ -31,17 +28,17 @@ disturbed_by s a touched = if moves_all s a then Touched.All else touched
 abbrev pub StaysBeside : Touched → State → State → Type 0
 StaysBeside disturbed s t = (g src : ℕ) → is_disturbed disturbed g src ≡ false → SourceStays g src s t
 
--- Of a source that isn't touched the same is offered to a data plane in both states.
+-- What is offered to a data plane of a source that isn't touched is the same in two states.
 abbrev pub UntouchedOffersStay : Touched → State → State → Type 0
 UntouchedOffersStay touched s t = (g src : ℕ) → is_disturbed touched g src ≡ false
     → OffersAlike (offered s g src) (offered t g src)
 
--- The same is offered to a data plane in both states of each source but those of which the offer may differ.
+-- What is offered to a data plane of a source is the same in two states, unless the offer may differ.
 abbrev pub OffersStay : Disturbance → State → State → Type 0
 OffersStay disturbed s t = (g src : ℕ) → may_differ disturbed t g src ≡ false
     → OffersAlike (offered s g src) (offered t g src)
 
--- The last of some events leaves what is offered of a source that it doesn't disturb.
+-- The last event of a list leaves what is offered of a source that it doesn't disturb.
 abbrev pub LastOffersStay : State → List Event → Disturbance → Type 0
 LastOffersStay s [] disturbed = Unit {0}
 LastOffersStay s (e ∷ []) disturbed = OffersStay disturbed s (step s e).state

@@ -1,16 +1,15 @@
 //! The change that an event makes by itself, before anything follows of it.
 ghost use Rattle.std.specs.Prelude.{◌≡◌, ◌<◌, IfOk, OnOk};
-ghost use Rattle.pim_world.specs.Turns.{saying};
+ghost use Rattle.pim_state.specs.Turns.{saying};
 ghost use Rattle.pim_wire.specs.RegisterParts.{is_null, registered_group, registered_source};
 ghost use Rattle.pim_model.specs.Forwarding.{forwarded, register_received};
 ghost use Rattle.pim_model.specs.State.{iface_count};
 ghost use Rattle.pim_model.specs.Step.{change, decapsulated, iface_up, packet_forwarded, rps_replaced};
-ghost use Rattle.pim_event.specs.Acting.{HasHeard, HasRead, IsSightOf, control_event, act_event};
-ghost use Rattle.pim_event.specs.Naming.{IsConfigured};
+ghost use Rattle.pim_plan.specs.Acting.{HasHeard, HasRead, IsSightOf, control_event, act_event};
+ghost use Rattle.pim_plan.specs.Naming.{IsConfigured};
 ghost use Rattle.pim_event.specs.Replacing.{RangesReplaced, RoutesReplaced, replaced_after};
 ghost use Rattle.pim_event.specs.Sending.{Sends};
 
-use crate::act::{Act, Control};
 use crate::replaced::Replaced;
 use pim_data::{Leaving, arrived, leave};
 use pim_downstream::take_changes;
@@ -18,11 +17,12 @@ use pim_hello::triggered_end;
 use pim_ip::Ipv4View;
 use pim_macros::SourceSight;
 use pim_mrib::Mrib;
+use pim_plan::{Act, Control};
 use pim_register::register_seen;
+use pim_state::{Meter, Turn, World};
 use pim_types::fact::InterfaceRow;
 use pim_types::{IfaceId, SourceGroup};
 use pim_wire::RegisterView;
-use pim_world::{Meter, Turn, World};
 use std::alloc::AllocError;
 
 // The interface goes up: its first Hello is due, and its IGMP querier starts.
@@ -131,8 +131,8 @@ pub(crate) fn apply(
             sight,
         } => {
             // For the proof: the interface is below 120.
-            world.interfaces().recall_few();
-            forward(world, turn, meter, iface, &packet, sight)
+            world.interfaces().proof_few();
+            forward(world, turn, meter, iface, &packet, Box::into_inner(sight))
         }
         Act::Register { packet, register } => decapsulate(world, turn, meter, &packet, &register),
         Act::Control(control) => {
@@ -167,10 +167,12 @@ fn apply_control(
             Ok(())
         }
         Control::Routes { table } => {
-            take_routes(world, replaced, table);
+            take_routes(world, replaced, Box::into_inner(table));
             Ok(())
         }
-        Control::Ranges { table } => take_ranges(world, turn, meter, replaced, table),
+        Control::Ranges { table } => {
+            take_ranges(world, turn, meter, replaced, Box::into_inner(table))
+        }
         Control::Hello { iface, from, hello } => {
             pim_hello::received(world, turn, meter, iface, from, &hello)
         }
@@ -181,7 +183,7 @@ fn apply_control(
             changes,
         } => {
             // For the proof: the interface is below 120.
-            world.interfaces().recall_few();
+            world.interfaces().proof_few();
             take_changes(world, meter, iface, message.holdtime(), &named, &changes)
         }
         Control::JoinPruneSeen {
@@ -194,7 +196,7 @@ fn apply_control(
             from,
             assert,
         } => {
-            world.interfaces().recall_few();
+            world.interfaces().proof_few();
             pim_asserts::received(world, turn, meter, iface, from, &assert)
         }
         Control::Query { iface, from, query } => {
@@ -202,7 +204,7 @@ fn apply_control(
         }
         Control::Report { iface, report } => {
             // For the proof: the interface is below 120.
-            world.interfaces().recall_few();
+            world.interfaces().proof_few();
             pim_querier::report_seen(world, turn, meter, iface, &report)
         }
         Control::RegisterStop { stop, .. } => {

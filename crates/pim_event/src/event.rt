@@ -1,65 +1,58 @@
 //! One event: its tests, its change where there is room for its facts, and what follows of the change.
-ghost use Rattle.std.specs.List.Sorted.{IsStrictlySortedBy};
-ghost use Rattle.std.specs.Prelude.{◌≡◌, ◌<◌, [], IfOk, IfSome, IsOk, IsOkUnless, IsTrue, Ok, OnOk, false, if◌then◌else◌, not, true};
-ghost use Rattle.pim_fanout.specs.Disturbed.{joined};
+ghost use Rattle.std.specs.Prelude.{◌≡◌, ◌<◌, [], IfOk, IfSome, IsOk, IsOkUnless, IsTrue, None, Ok, OnOk, false, if◌then◌else◌, not, true};
 ghost use Rattle.pim_fanout.specs.Laws.{names_of};
 ghost use Rattle.pim_fanout.specs.Refreshing.{touches, touches_in};
 ghost use Rattle.pim_fanout.specs.Named.{keys_of};
 ghost use Rattle.pim_ip.specs.declared.fault.Fault.{Fault};
-ghost use Rattle.pim_locality.specs.Rest.{IsAtRest};
+ghost use Rattle.law_scope.specs.Rest.{IsAtRest};
 ghost use Rattle.pim_macros.specs.Sights.{IsSourceSight};
-ghost use Rattle.pim_mfc.specs.Laws.{ShowsRows};
-ghost use Rattle.pim_model.specs.Cache.{cached};
 ghost use Rattle.pim_model.specs.declared.accepted.Accepted.{Accepted};
-ghost use Rattle.pim_model.specs.Reach.{where_accepted};
 ghost use Rattle.pim_model.specs.State.{State};
-ghost use Rattle.pim_model.specs.Step.{change, outcome_of, step, taken, taken_unless_full};
+ghost use Rattle.pim_model.specs.Step.{change, outcome_of, step, taken};
 ghost use Rattle.pim_model.specs.Sure.{needs_no_memory};
-ghost use Rattle.pim_reach.specs.Named.{named_of};
 ghost use Rattle.pim_mfc.specs.Kept.{ForwardsAs, decided};
-ghost use Rattle.pim_model.specs.Plain.{IsPlainEvent, fact_key};
+ghost use Rattle.pim_model.specs.Plain.{fact_key};
 ghost use Rattle.pim_model.specs.Tables.{has_row, same_bool};
-ghost use Rattle.pim_event.specs.Acting.{HasRead, control_event, act_event};
+ghost use Rattle.pim_plan.specs.Acting.{HasRead, control_event, act_event};
 ghost use Rattle.pim_event.specs.Costs.{IsWithinPath};
-ghost use Rattle.pim_event.specs.Disturbing.{disturbed_of, goes_by_answers, where_disturbed};
 ghost use Rattle.pim_intake.specs.Memory.{is_frame};
 ghost use Rattle.pim_ip.specs.Ipv4.{Packet};
 ghost use Rattle.pim_model.specs.Judging.{judged};
 ghost use Rattle.pim_types.specs.declared.config.IfaceId.{IfaceId as IfaceValue};
-ghost use Rattle.pim_event.specs.Caching.{CacheAfter, CacheFollows};
-ghost use Rattle.pim_event.specs.Naming.{Brings, IsConfigured};
-ghost use Rattle.pim_event.specs.Planning.{Fits};
-ghost use Rattle.pim_event.specs.Replacing.{NoneReplaced, event_replaced, replaced_after};
+ghost use Rattle.pim_plan.specs.Naming.{Brings, IsConfigured};
+ghost use Rattle.pim_plan.specs.Planning.{Fits};
+ghost use Rattle.pim_event.specs.Replacing.{replaced_after};
 ghost use Rattle.pim_event.specs.Staying.{OffersStay, moves_all, moves_dr};
+ghost use Rattle.pim_event.specs.Stepping.{Accepts, Begins, BeginsTurn, Steps, StepsInTurn, Turns, TurnsUnlessFull};
 ghost use Rattle.pim_event.specs.Settling.{AreNames};
-ghost use Rattle.pim_offload.specs.Staying.{is_rerouting};
-ghost use Rattle.pim_adjacent.specs.Adjacent.{hello_keeps_dr};
+ghost use Rattle.law_plane.specs.Staying.{is_rerouting};
+ghost use Rattle.law_named.specs.Adjacent.{hello_keeps_dr};
 ghost use Rattle.pim_event.specs.Stops.{stop_outcome};
 ghost use Rattle.pim_trie.specs.Meter.{raised};
-ghost use Rattle.pim_types.specs.Keys.{key_cmp};
-ghost use Rattle.pim_world.specs.declared.touched.Touched.{Touched as TouchedValue};
+ghost use Rattle.pim_state.specs.declared.touched.Touched.{Touched as TouchedValue};
 
-use crate::act::{Act, Control};
 use crate::change::apply;
+use crate::parts::Core;
 use crate::plain::take_plain;
-use crate::plan::{Plan, Planning, planned};
+use crate::quiet::{change_quietly, is_nothing};
 use crate::replaced::Replaced;
 use crate::settle::settle;
 use crate::time::advance;
 use pim_data::Leaving;
 use pim_fanout::{Cache, Gathered};
 use pim_hello::hello_keeps_dr;
-use pim_intake::{Admitted, LentEvent, judge};
+use pim_intake::{LentEvent, judge};
 use pim_ip::Ipv4View;
 use pim_macros::SourceSight;
 use pim_messages::Room;
 use pim_mfc::Forward;
 use pim_model::Accepted;
 use pim_mrib::Mrib;
+use pim_plan::{Act, Control, Plan, Planning, planned};
+use pim_state::{Touched, Turn, World};
 use pim_trie::Meter;
 use pim_types::{Addr, Fault, IfaceId, Outcome, Refusal, Series, SourceGroup, Stop, Verdict};
 use pim_wire::Hello;
-use pim_world::{Touched, Turn, World};
 use std::alloc::Global;
 
 // The outcome of an event that changes nothing.
@@ -89,7 +82,7 @@ fn planned_sight<'a>(act: &'a Act<'_>) -> Option<&'a SourceSight>
     ensures { (s : State) → HasRead s act.now → IfSome result (λ sight. IsSourceSight s sight.now) }
 {
     match act {
-        Act::Data { sight, .. } => Some(sight),
+        Act::Data { sight, .. } => Some(&**sight),
         Act::Register { .. } => None,
         Act::Control(_) => None,
     }
@@ -109,6 +102,7 @@ fn change_world(
     requires begun { turn.old.messages ≡ [] }
     requires configured { IsConfigured world.old (act_event act) }
     requires plan { Fits world.old (act_event act) (record { touched = touched.now; act = act }) }
+    requires none { last.old ≡ None }
     ensures outcome { IfOk result (λ changed. changed.outcome
         ≡ outcome_of (taken world.old turn.old.draw (act_event act.entry))) }
     ensures state { OnOk result (world.new ≡ (taken world.old turn.old.draw (act_event act.entry)).state) }
@@ -118,6 +112,11 @@ fn change_world(
     ensures replaced { OnOk result (replaced.new ≡ replaced_after world.old (act_event act.entry) replaced.old) }
     ensures fault { IsOkUnless result Fault.Memory }
 {
+    if is_nothing(touched) {
+        let outcome = change_quietly(world, turn, meter, replaced, act)?;
+        let names = Series::new(turn.alloc);
+        return Ok(Changed { outcome, names });
+    }
     let given = planned_sight(&act);
     let gathered = Gathered::of(world, turn.alloc, touched, given, meter)?;
     let Leaving {
@@ -125,7 +124,7 @@ fn change_world(
         mut registered,
     } = apply(world, turn, meter, replaced, act)?;
     // For the proof: asserts, sources and registers are under keys of their kind.
-    world.recall_keyed();
+    world.proof_keyed();
     let count = copies.len() as u32;
     let mut emissions = Vec::new(turn.alloc);
     let names = settle(world, turn, meter, &gathered, &mut emissions, last)?;
@@ -230,77 +229,60 @@ fn disturbed_where(moves_all: bool, touched: Touched) -> Touched
 
 // Makes a change, and then evaluates the rows of the named sources again.
 fn take_change(
-    world: &mut World,
-    cache: &mut Cache,
-    replaced: &mut Replaced,
+    core: &mut Core,
     turn: &mut Turn,
     meter: &mut Meter,
     plan: Plan<'_>,
 ) -> Result<Outcome, Fault>
-    requires rest { IsAtRest world.old }
-    requires shown { ShowsRows cache.old.mfc.rows (cached world.old) }
-    requires begun { turn.old.messages ≡ [] }
-    requires unlisted { cache.old.changed ≡ [] }
-    requires configured { IsConfigured world.old (act_event plan.act) }
-    requires plan { Fits world.old (act_event plan.act) plan }
-    ensures outcome { IfOk result (λ outcome. outcome
-        ≡ outcome_of (taken world.old turn.old.draw (act_event plan.entry.act))) }
-    ensures state { OnOk result (world.new ≡ (taken world.old turn.old.draw (act_event plan.entry.act)).state) }
-    ensures cache { OnOk result (CacheFollows world.old world.new
-        (named_of world.old turn.old.draw (act_event plan.entry.act)) cache.old cache.new) }
-    ensures disturbed { OnOk result (cache.new.disturbed ≡ joined cache.old.disturbed
-        (disturbed_of world.old turn.old.draw (act_event plan.entry.act))) }
-    ensures once { OnOk result (IsStrictlySortedBy key_cmp cache.new.changed) }
-    ensures touched { OnOk result (touches cache.new ≡ raised (touches cache.old) (touches_in world.new
-        (names_of world.old (change world.old turn.old.draw (act_event plan.entry.act)).state plan.entry.touched))) }
-    ensures replaced { OnOk result (replaced.new
-        ≡ replaced_after world.old (act_event plan.entry.act) replaced.old) }
-    ensures fault { IsOkUnless result Fault.Memory }
+    requires begun { BeginsTurn core.old turn.old (act_event plan.act) }
+    requires plan { Fits core.old.world (act_event plan.act) plan }
+    ensures turn { Turns core.old turn.old.draw (act_event plan.entry.act) result core.new }
+    ensures touched { OnOk result (touches core.new.cache ≡ raised (touches core.old.cache) (touches_in core.new.world
+        (names_of core.old.world (change core.old.world turn.old.draw (act_event plan.entry.act)).state
+        plan.entry.touched))) }
 {
     // For the proof: there are at most 120 interfaces.
-    world.interfaces().recall_few();
+    core.world.interfaces().proof_few();
     let Plan { touched, act } = plan;
-    let moves = moves_all(world, &act);
+    let moves = moves_all(&core.world, &act);
     let mut last = None;
     let Changed { outcome, names } = change_world(
-        world, turn, meter, replaced, &touched, act, &mut last,
+        &mut core.world,
+        turn,
+        meter,
+        &mut core.replaced,
+        &touched,
+        act,
+        &mut last,
     )?;
-    cache.refresh(world, meter, names, disturbed_where(moves, touched), &last)?;
+    core.cache.refresh(
+        &core.world,
+        meter,
+        names,
+        disturbed_where(moves, touched),
+        &last,
+    )?;
     Ok(outcome)
 }
 
 // Takes an accepted event: an Advance lets time pass, and any other event is refused where there is no room for the
 // facts that it names.
 fn take_unless_full(
-    world: &mut World,
-    cache: &mut Cache,
-    replaced: &mut Replaced,
+    core: &mut Core,
     turn: &mut Turn,
     meter: &mut Meter,
     accepted: Accepted<'_>,
-    table: Mrib,
+    table: Option<Box<Mrib>>,
 ) -> Result<Outcome, Fault>
-    requires rest { IsAtRest world.old }
-    requires shown { ShowsRows cache.old.mfc.rows (cached world.old) }
-    requires begun { turn.old.messages ≡ [] }
-    requires unlisted { cache.old.changed ≡ [] }
-    requires configured { IsConfigured world.old accepted }
+    requires begun { BeginsTurn core.old turn.old accepted }
     requires table { Brings accepted table }
-    ensures outcome { IfOk result (λ outcome. outcome ≡ outcome_of (taken_unless_full world.old turn.old.draw accepted.entry)) }
-    ensures state { OnOk result (world.new ≡ (taken_unless_full world.old turn.old.draw accepted.entry).state) }
-    ensures cache { OnOk result (CacheFollows world.old world.new
-        (where_accepted world.old (named_of world.old turn.old.draw) (Ok accepted.entry)) cache.old cache.new) }
-    ensures disturbed { OnOk result (cache.new.disturbed ≡ joined cache.old.disturbed
-        (where_disturbed world.old (disturbed_of world.old turn.old.draw) (Ok accepted.entry))) }
-    ensures replaced { OnOk result (replaced.new ≡ replaced_after world.old accepted.entry replaced.old) }
-    ensures once { OnOk result (IsStrictlySortedBy key_cmp cache.new.changed) }
-    ensures fault { IsOkUnless result Fault.Memory }
+    ensures { TurnsUnlessFull core.old turn.old.draw accepted.entry result core.new }
 {
-    let planning = planned(world, turn, meter, accepted, table)?;
+    let planning = planned(&core.world, turn, meter, accepted, table)?;
     match planning {
-        Planning::Time { moment } => advance(world, cache, turn, meter, moment),
+        Planning::Time { moment } => advance(core, turn, meter, moment),
         Planning::Full => Ok(stopped(turn.alloc, Stop::Refuse(Refusal::Full))),
-        Planning::Change(plan) => take_change(world, cache, replaced, turn, meter, plan),
+        Planning::Change(plan) => take_change(core, turn, meter, plan),
     }
 }
 
@@ -314,40 +296,24 @@ fn has_room_changed(was_full: bool, is_full: bool) -> bool
 
 // Takes an accepted event in a turn of its own.
 #[tactic(auto, unfolding(pim_model::specs::Step::step))]
-fn take_turn(
-    room: &mut Room,
-    world: &mut World,
-    cache: &mut Cache,
-    replaced: &mut Replaced,
+fn take_in_own_turn(
+    core: &mut Core,
     event: &LentEvent<'_>,
     accepted: Accepted<'_>,
-    table: Mrib,
+    table: Option<Box<Mrib>>,
     meter: &mut Meter,
 ) -> Result<Outcome, Fault>
-    requires rest { IsAtRest world.old }
-    requires shown { ShowsRows cache.old.mfc.rows (cached world.old) }
-    requires heard { judged world.old event.now.kind ≡ Ok accepted }
-    requires table { Brings accepted table }
-    requires uncounted { touches cache.old ≡ 0 }
-    requires unlisted { cache.old.changed ≡ [] }
-    requires undisturbed { cache.old.disturbed ≡ TouchedValue.Keys [] }
-    requires unreplaced { replaced.old ≡ NoneReplaced }
-    ensures outcome { IfOk result (λ outcome. outcome ≡ outcome_of (step world.old event.now)) }
-    ensures state { OnOk result (world.new ≡ (step world.old event.now).state) }
-    ensures cache { OnOk result ((IsPlainEvent world.old event.now → IsWithinPath meter.new)
-        → goes_by_answers world.old (judged world.old event.now.kind) ≡ false
-        → CacheAfter world.old event.now world.new cache.new meter.new) }
-    ensures replaced { OnOk result (replaced.new ≡ event_replaced world.old event.now) }
-    ensures fault { IsOkUnless result Fault.Memory }
+    requires { Accepts core.old event.now accepted table }
+    ensures { StepsInTurn core.old event.now result core.new meter.new }
 {
-    let mut turn = Turn::new(room.taken(), event.draw());
-    let was_full = world.passes_limit(1);
-    let outcome = take_unless_full(world, cache, replaced, &mut turn, meter, accepted, table)?;
-    let is_full = world.passes_limit(1);
+    let mut turn = Turn::new(core.room.taken(), event.draw());
+    let was_full = core.world.passes_limit(1);
+    let outcome = take_unless_full(core, &mut turn, meter, accepted, table)?;
+    let is_full = core.world.passes_limit(1);
     let has_changed = has_room_changed(was_full, is_full);
-    cache.disturb_all_if(has_changed);
-    replaced.clear_if(has_changed);
-    *room = turn.room;
+    core.cache.disturb_all_if(has_changed);
+    core.replaced.clear_if(has_changed);
+    core.room = turn.room;
     Ok(outcome)
 }
 
@@ -373,104 +339,60 @@ fn by_row(
 
 // Takes a packet of data: by the row of its source where that decides it, else in a turn of its own.
 fn take_data(
-    room: &mut Room,
-    world: &mut World,
-    cache: &mut Cache,
-    replaced: &mut Replaced,
+    core: &mut Core,
     event: &LentEvent<'_>,
     iface: IfaceId,
     packet: Ipv4View<'_>,
+    table: Option<Box<Mrib>>,
     meter: &mut Meter,
 ) -> Result<Outcome, Fault>
-    requires rest { IsAtRest world.old }
-    requires shown { ShowsRows cache.old.mfc.rows (cached world.old) }
-    requires heard { judged world.old event.now.kind ≡ Ok (Accepted.Data iface packet) }
+    requires begun { Begins core.old }
+    requires heard { judged core.old.world event.now.kind ≡ Ok (Accepted.Data iface packet) }
     requires below { iface.number < 120 }
-    requires uncounted { touches cache.old ≡ 0 }
-    requires unlisted { cache.old.changed ≡ [] }
-    requires undisturbed { cache.old.disturbed ≡ TouchedValue.Keys [] }
-    requires unreplaced { replaced.old ≡ NoneReplaced }
     requires unvisited { meter.old ≡ 0 }
-    ensures outcome { IfOk result (λ outcome. outcome ≡ outcome_of (step world.old event.now)) }
-    ensures state { OnOk result (world.new ≡ (step world.old event.now).state) }
-    ensures cache { OnOk result (CacheAfter world.old event.now world.new cache.new meter.new) }
-    ensures replaced { OnOk result (replaced.new ≡ event_replaced world.old event.now) }
-    ensures fault { IsOkUnless result Fault.Memory }
+    ensures { Steps core.old event.now result core.new meter.new }
 {
-    match by_row(cache, iface, &packet, meter) {
-        Some(forward) => take_plain(room, world, &packet, forward, meter),
-        // The event brings no table.
-        None => {
-            let table = Mrib::new(room.alloc);
-            let accepted = Accepted::Data { iface, packet };
-            take_turn(room, world, cache, replaced, event, accepted, table, meter)
-        }
+    match by_row(&core.cache, iface, &packet, meter) {
+        Some(forward) => take_plain(&mut core.room, &mut core.world, &packet, forward, meter),
+        None => take_in_own_turn(core, event, Accepted::Data { iface, packet }, table, meter),
     }
 }
 
 // Takes an accepted event that is no packet of data, in a turn of its own. It is a function of its own because the
 // prover needs "this is no packet of data" as a premise where the cost of the turn is stated.
-fn take_other(
-    room: &mut Room,
-    world: &mut World,
-    cache: &mut Cache,
-    replaced: &mut Replaced,
+fn take_event_without_data(
+    core: &mut Core,
     event: &LentEvent<'_>,
     accepted: Accepted<'_>,
-    table: Mrib,
+    table: Option<Box<Mrib>>,
     meter: &mut Meter,
 ) -> Result<Outcome, Fault>
-    requires rest { IsAtRest world.old }
-    requires shown { ShowsRows cache.old.mfc.rows (cached world.old) }
-    requires heard { judged world.old event.now.kind ≡ Ok accepted }
-    requires table { Brings accepted table }
+    requires accepts { Accepts core.old event.now accepted table }
     requires other { (i : IfaceValue) (p : Packet) → ¬ (accepted ≡ Accepted.Data i p) }
-    requires uncounted { touches cache.old ≡ 0 }
-    requires unlisted { cache.old.changed ≡ [] }
-    requires undisturbed { cache.old.disturbed ≡ TouchedValue.Keys [] }
-    requires unreplaced { replaced.old ≡ NoneReplaced }
-    ensures outcome { IfOk result (λ outcome. outcome ≡ outcome_of (step world.old event.now)) }
-    ensures state { OnOk result (world.new ≡ (step world.old event.now).state) }
-    ensures cache { OnOk result (CacheAfter world.old event.now world.new cache.new meter.new) }
-    ensures replaced { OnOk result (replaced.new ≡ event_replaced world.old event.now) }
-    ensures fault { IsOkUnless result Fault.Memory }
+    ensures { Steps core.old event.now result core.new meter.new }
 {
-    take_turn(room, world, cache, replaced, event, accepted, table, meter)
+    take_in_own_turn(core, event, accepted, table, meter)
 }
 
 // Takes an accepted event.
 fn take_accepted(
-    room: &mut Room,
-    world: &mut World,
-    cache: &mut Cache,
-    replaced: &mut Replaced,
+    core: &mut Core,
     event: &LentEvent<'_>,
     accepted: Accepted<'_>,
-    table: Mrib,
+    table: Option<Box<Mrib>>,
     meter: &mut Meter,
 ) -> Result<Outcome, Fault>
-    requires rest { IsAtRest world.old }
-    requires shown { ShowsRows cache.old.mfc.rows (cached world.old) }
-    requires heard { judged world.old event.now.kind ≡ Ok accepted }
-    requires table { Brings accepted table }
-    requires uncounted { touches cache.old ≡ 0 }
-    requires unlisted { cache.old.changed ≡ [] }
-    requires undisturbed { cache.old.disturbed ≡ TouchedValue.Keys [] }
-    requires unreplaced { replaced.old ≡ NoneReplaced }
+    requires accepts { Accepts core.old event.now accepted table }
     requires unvisited { is_frame event.now.kind ≡ true → meter.old ≡ 0 }
-    ensures outcome { IfOk result (λ outcome. outcome ≡ outcome_of (step world.old event.now)) }
-    ensures state { OnOk result (world.new ≡ (step world.old event.now).state) }
-    ensures cache { OnOk result (CacheAfter world.old event.now world.new cache.new meter.new) }
-    ensures replaced { OnOk result (replaced.new ≡ event_replaced world.old event.now) }
-    ensures fault { IsOkUnless result Fault.Memory }
+    ensures { Steps core.old event.now result core.new meter.new }
 {
     match accepted {
         Accepted::Data { iface, packet } => {
             // For the proof: the interface is below 120.
-            world.interfaces().recall_few();
-            take_data(room, world, cache, replaced, event, iface, packet, meter)
+            core.world.interfaces().proof_few();
+            take_data(core, event, iface, packet, table, meter)
         }
-        _ => take_other(room, world, cache, replaced, event, accepted, table, meter),
+        _ => take_event_without_data(core, event, accepted, table, meter),
     }
 }
 
@@ -478,37 +400,20 @@ fn take_accepted(
 /// their sources, and the routes or RP ranges that it replaces are kept. The cache's counts and lists begin empty, and
 /// nothing is kept yet; the meter begins at 0 where the event is a frame. The error is want of memory.
 #[tactic(auto, unfolding(pim_model::specs::Step::step))]
-pub fn take_in(
-    room: &mut Room,
-    world: &mut World,
-    cache: &mut Cache,
-    replaced: &mut Replaced,
-    event: &LentEvent<'_>,
-    meter: &mut Meter,
-) -> Result<Outcome, Fault>
-    requires rest { IsAtRest world.old }
-    requires shown { ShowsRows cache.old.mfc.rows (cached world.old) }
-    requires uncounted { touches cache.old ≡ 0 }
-    requires unlisted { cache.old.changed ≡ [] }
-    requires undisturbed { cache.old.disturbed ≡ TouchedValue.Keys [] }
-    requires unreplaced { replaced.old ≡ NoneReplaced }
+pub fn take_in(core: &mut Core, event: &LentEvent<'_>, meter: &mut Meter) -> Result<Outcome, Fault>
+    requires begun { Begins core.old }
     requires unvisited { is_frame event.now.kind ≡ true → meter.old ≡ 0 }
-    ensures outcome { IfOk result (λ outcome. outcome ≡ outcome_of (step world.old event.now)) }
-    ensures state { OnOk result (world.new ≡ (step world.old event.now).state) }
-    ensures rest { OnOk result (IsAtRest world.new) }
-    ensures cache { OnOk result (CacheAfter world.old event.now world.new cache.new meter.new) }
-    ensures replaced { OnOk result (replaced.new ≡ event_replaced world.old event.now) }
-    ensures stays { OnOk result (OffersStay (record { touched = cache.new.disturbed; replaced = replaced.new })
-        world.old world.new) }
-    ensures fault { IsOkUnless result Fault.Memory }
-    ensures sure { IsTrue (needs_no_memory (step world.old event.now).answer) → IsOk result }
+    ensures steps { Steps core.old event.now result core.new meter.new }
+    ensures rest { OnOk result (IsAtRest core.new.world) }
+    ensures stays { OnOk result (OffersStay (record { touched = core.new.cache.disturbed; replaced = core.new.replaced })
+        core.old.world core.new.world) }
+    ensures sure { IsTrue (needs_no_memory (step core.old.world event.now).answer) → IsOk result }
 {
     // For the proof: there are at most 120 interfaces.
-    world.interfaces().recall_few();
-    match judge(room.alloc, world, event, meter)? {
-        Ok(Admitted { accepted, table }) => {
-            take_accepted(room, world, cache, replaced, event, accepted, table, meter)
-        }
-        Err(stop) => Ok(stopped(room.alloc, stop)),
+    core.world.interfaces().proof_few();
+    let mut table = None;
+    match judge(core.room.alloc, &core.world, event, &mut table, meter)? {
+        Ok(accepted) => take_accepted(core, event, accepted, table, meter),
+        Err(stop) => Ok(stopped(core.room.alloc, stop)),
     }
 }

@@ -2,17 +2,15 @@
 //! what follows of the change.
 #![tactic(auto)]
 
-pub mod act;
-mod again;
 pub mod change;
 pub mod event;
-mod few;
+pub mod parts;
 mod plain;
-pub mod plan;
+mod quiet;
 mod replaced;
-mod rerouted;
 pub mod settle;
 pub mod time;
 
 pub use event::take_in;
+pub use parts::Core;
 pub use replaced::Replaced;

@@ -1,6 +1,6 @@
 //! A packet of data that the row of its source decides.
 ghost use Rattle.std.specs.Prelude.{◌≡◌, IfOk, IsOkUnless, OnOk, true};
-ghost use Rattle.pim_cached.specs.Decided.{plainly_taken};
+ghost use Rattle.law_cache.specs.Decided.{plainly_taken};
 ghost use Rattle.pim_ip.specs.declared.fault.Fault.{Fault};
 ghost use Rattle.pim_model.specs.Cache.{Plain};
 ghost use Rattle.pim_model.specs.Plain.{fact_key};
@@ -12,13 +12,13 @@ use pim_data::copies;
 use pim_ip::Ipv4View;
 use pim_messages::Room;
 use pim_mfc::Forward;
+use pim_state::{Meter, World};
 use pim_types::{Fault, Outcome, Series, SourceGroup, Verdict};
-use pim_world::{Meter, World};
 
 /// Forwards a packet as its row says: KAT(S,G) is set or not, and copies leave on links. Nothing else changes, and
 /// nothing is sent upstream, where the source has a row. The row is found by the place that the caller keeps, without a
 /// look-up.
-#[tactic(auto, unfolding(pim_cached::specs::Decided::plainly_taken, pim_cached::specs::Decided::kept_if))]
+#[tactic(auto, unfolding(law_cache::specs::Decided::plainly_taken, law_cache::specs::Decided::kept_if))]
 pub(crate) fn take_plain(
     room: &mut Room,
     world: &mut World,

@@ -2,14 +2,14 @@
 //! sources the routes are others.
 ghost use Rattle.std.specs.Prelude.{◌≡◌, if◌then◌else◌, not};
 ghost use Rattle.pim_event.specs.Replacing.{NoneReplaced, RangesReplaced, RoutesReplaced, may_differ, with_ranges};
-ghost use Rattle.pim_event.specs.OtherRoutes.{with_routes};
-ghost use Rattle.pim_reach.specs.Named.{has_same_routes};
+ghost use Rattle.pim_plan.specs.OtherRoutes.{with_routes};
+ghost use Rattle.law_named.specs.Named.{has_same_routes};
 
-use crate::rerouted::{group_has_other_rp, has_other_route, is_group_moved};
 use pim_fanout::Disturbed;
 use pim_mrib::Mrib;
+use pim_plan::{group_has_other_rp, has_other_route, is_group_moved};
+use pim_state::{Meter, World};
 use pim_types::SourceGroup;
-use pim_world::{Meter, World};
 use std::marker::Model;
 
 // The table of what was replaced.

@@ -3,15 +3,15 @@ ghost use Rattle.std.specs.Prelude.{◌≡◌, ◌++◌, ◌∷◌, [], IfOk, If
 ghost use Rattle.pim_fanout.specs.Named.{keys_of};
 ghost use Rattle.pim_ip.specs.declared.fault.Fault.{Fault};
 ghost use Rattle.pim_macros.specs.Sights.{IsSourceSight};
-ghost use Rattle.pim_opening.specs.After.{IsAfter, opening_in};
+ghost use Rattle.pim_views.specs.After.{AreGathered, openings_in};
 ghost use Rattle.pim_event.specs.Settling.{AreNamed, cleared_by, followed_by, settled_by};
-ghost use Rattle.pim_world.specs.Turns.{saying};
+ghost use Rattle.pim_state.specs.Turns.{saying};
 
 use pim_fanout::{Before, Gathered, named, named_by_sights};
 use pim_macros::{SourceSight, StarSight};
-use pim_opening::{GroupAfter, GroupOpening, Opening, SourceAfter, SourceOpening};
+use pim_state::{Meter, Turn, World};
 use pim_types::{Emission, Fault, Series, SourceGroup};
-use pim_world::{Meter, Turn, World};
+use pim_views::{GroupAfter, GroupOpening, Opening, SourceAfter, SourceOpening};
 use std::alloc::AllocError;
 
 // Settles the registers, then clears the asserts and SPTbits that must go.
@@ -27,26 +27,6 @@ fn clear(
 {
     pim_register::changed(world, meter, opening)?;
     pim_asserts::clear(world, turn, meter, opening)
-}
-
-// Does what follows, group after group of the opening. The sources whose rows of the forwarding cache are to be
-// evaluated again are found between the clearing and the messages upstream.
-#[tactic(auto, unfolding(crate::specs::Settling::followed_by))]
-fn follow_all(
-    world: &mut World,
-    turn: &mut Turn,
-    meter: &mut Meter,
-    opening: &Opening,
-    before: &Before,
-) -> Result<Series<SourceGroup>, AllocError>
-    ensures state { OnOk result (world.new ≡ (followed_by opening.now world.old turn.old.draw).0) }
-    ensures messages { OnOk result (turn.new ≡ saying turn.old (followed_by opening.now world.old turn.old.draw).1) }
-    ensures named { IfOk result (λ names. AreNamed before.now (cleared_by opening.now world.old).0 (keys_of names)) }
-{
-    clear(world, turn, meter, opening)?;
-    let names = named(world, turn.alloc, meter, before)?;
-    pim_upstream::changed(world, turn, meter, opening)?;
-    Ok(names)
 }
 
 // The source as it was opened, with its sight.
@@ -89,11 +69,11 @@ fn follow_source(
     Ok(names)
 }
 
-// Whether a group has no register to settle, and no assert or SPTbit that must go.
+// Whether there is no register to settle, and no assert or SPTbit that must go.
 #[tactic(auto, unfolding(crate::specs::Settling::cleared_by))]
-fn stays(world: &World, seen: &GroupAfter) -> bool
-    requires { IsAfter world.now seen.now }
-    ensures { IsTrue result → cleared_by (opening_in seen.now ∷ []) world.now ≡ (world.now, []) }
+fn stay(world: &World, seen: &[GroupAfter]) -> bool
+    requires { AreGathered world.now seen.now }
+    ensures { IsTrue result → cleared_by (openings_in seen.now) world.now ≡ (world.now, []) }
 {
     if !pim_register::are_settled(world, seen) {
         return false;
@@ -101,49 +81,45 @@ fn stays(world: &World, seen: &GroupAfter) -> bool
     pim_asserts::are_clear(world, seen)
 }
 
-// Settles the registers, then clears what must go, of one group. The group is gathered once, and again only where
-// something was settled or cleared.
-fn clear_group(
-    world: &mut World,
-    turn: &mut Turn,
-    meter: &mut Meter,
-    opened: &Opening,
-    group: &GroupOpening,
-) -> Result<GroupAfter, AllocError>
-    requires { opened.now ≡ group.now ∷ [] }
-    ensures state { OnOk result (world.new ≡ (cleared_by opened.now world.old).0) }
-    ensures messages { OnOk result (turn.new ≡ saying turn.old (cleared_by opened.now world.old).1) }
-    ensures opening { IfOk result (λ seen. opening_in seen ≡ group.now) }
-    ensures seen { IfOk result (λ seen. IsAfter world.new seen) }
-{
-    let seen = GroupAfter::of(world, turn.alloc, group, meter)?;
-    if stays(world, &seen) {
-        return Ok(seen);
-    }
-    clear(world, turn, meter, opened)?;
-    let anew = GroupAfter::of(world, turn.alloc, group, meter)?;
-    Ok(anew)
-}
-
-// Does what follows where one group alone was opened. Which sources are named, and what is sent upstream, is decided by
-// what was gathered once.
-fn follow_group(
+// Settles the registers, then clears what must go. The opened groups are gathered once, and again only where something
+// was settled or cleared.
+fn clear_groups(
     world: &mut World,
     turn: &mut Turn,
     meter: &mut Meter,
     opening: &Opening,
-    group: &GroupOpening,
+) -> Result<Vec<GroupAfter>, AllocError>
+    ensures state { OnOk result (world.new ≡ (cleared_by opening.now world.old).0) }
+    ensures messages { OnOk result (turn.new ≡ saying turn.old (cleared_by opening.now world.old).1) }
+    ensures opening { IfOk result (λ seen. openings_in seen.items ≡ opening.now) }
+    ensures seen { IfOk result (λ seen. AreGathered world.new seen.items) }
+{
+    let groups = opening.groups();
+    let seen = GroupAfter::all_of(world, turn.alloc, groups, meter)?;
+    if stay(world, seen.as_slice()) {
+        return Ok(seen);
+    }
+    clear(world, turn, meter, opening)?;
+    GroupAfter::all_of(world, turn.alloc, groups, meter)
+}
+
+// Does what follows where any groups were opened. Which sources are named, and what is sent upstream, is decided by what
+// was gathered once.
+fn follow_groups(
+    world: &mut World,
+    turn: &mut Turn,
+    meter: &mut Meter,
+    opening: &Opening,
     before: &Before,
 ) -> Result<Series<SourceGroup>, AllocError>
-    requires { opening.now ≡ group.now ∷ [] }
     ensures state { OnOk result (world.new ≡ (followed_by opening.now world.old turn.old.draw).0) }
     ensures messages { OnOk result (turn.new ≡ saying turn.old (followed_by opening.now world.old turn.old.draw).1) }
     ensures named { IfOk result (λ names. AreNamed before.now (cleared_by opening.now world.old).0 (keys_of names)) }
 {
-    let seen = clear_group(world, turn, meter, opening, group)?;
-    let sources = seen.sources.as_slice();
-    let names = named_by_sights(world, turn.alloc, meter, before, &seen.star, sources)?;
-    pim_upstream::changed_group(world, turn, meter, &seen)?;
+    let seen = clear_groups(world, turn, meter, opening)?;
+    let groups = seen.as_slice();
+    let names = named(world, turn.alloc, meter, before, groups)?;
+    pim_upstream::changed(world, turn, meter, groups)?;
     Ok(names)
 }
 
@@ -175,10 +151,7 @@ fn follow(
         return follow_source(world, turn, meter, group, opened, before, last);
     }
     forget(last);
-    let [group] = opening.groups() else {
-        return follow_all(world, turn, meter, opening, before);
-    };
-    follow_group(world, turn, meter, opening, group, before)
+    follow_groups(world, turn, meter, opening, before)
 }
 
 /// Settles a change: does what follows of it, and then writes the packets of all messages after the emissions, those of

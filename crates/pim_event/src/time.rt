@@ -1,43 +1,43 @@
 //! Time that passes: timers expire one after the other, and what follows of each is settled before the next.
-ghost use Rattle.std.specs.List.Sorted.{IsStrictlySortedBy};
 ghost use Rattle.std.specs.Prelude.{◌≡◌, ◌≤◌, ◌^◌, ◌++◌, [], IfOk, IfSome, IsOkUnless, OnOk, if◌then◌else◌, option_map, true};
 ghost use Rattle.pim_fanout.specs.Disturbed.{joined};
 ghost use Rattle.pim_fanout.specs.Laws.{names_of};
 ghost use Rattle.pim_fanout.specs.Refreshing.{touches, touches_in};
 ghost use Rattle.pim_fanout.specs.Named.{keys_of};
 ghost use Rattle.pim_ip.specs.declared.fault.Fault.{Fault};
-ghost use Rattle.pim_laws.specs.Laws.{IsReady, ends_from};
+ghost use Rattle.law_settled.specs.Laws.{IsReady, ends_from};
 ghost use Rattle.pim_macros.specs.Sights.{IsSourceSight};
 ghost use Rattle.pim_mfc.specs.Laws.{ShowsRows};
 ghost use Rattle.pim_model.specs.Cache.{cached};
 ghost use Rattle.pim_model.specs.Reach.{own_firing, told_all, told_instant};
-ghost use Rattle.pim_reach.specs.Named.{named_by};
+ghost use Rattle.law_named.specs.Named.{named_by};
+ghost use Rattle.pim_event.specs.Stepping.{TurnsInTime};
 ghost use Rattle.pim_event.specs.Settling.{AreNames};
-ghost use Rattle.pim_locality.specs.Locality.{IsQuiet};
-ghost use Rattle.pim_locality.specs.Rest.{IsAtRest};
+ghost use Rattle.law_scope.specs.Locality.{IsQuiet};
+ghost use Rattle.law_scope.specs.Rest.{IsAtRest};
 ghost use Rattle.pim_trie.specs.Meter.{raised};
-ghost use Rattle.pim_world.specs.Turns.{saying};
+ghost use Rattle.pim_state.specs.Turns.{saying};
 ghost use Rattle.pim_model.specs.Firing.{fire_all, fire_instant, fire_once, fired};
-ghost use Rattle.pim_model.specs.Step.{advanced, outcome_of};
+ghost use Rattle.pim_model.specs.Step.{advanced};
 ghost use Rattle.pim_model.specs.Timers.{next_due};
-ghost use Rattle.pim_ready.specs.Ready.{IsLawful};
+ghost use Rattle.law_settled.specs.Ready.{IsLawful};
 ghost use Rattle.pim_event.specs.Caching.{CacheFollows};
 ghost use Rattle.pim_event.specs.Disturbing.{ended_all, ended_instant, joined_all, disturbed_at};
-ghost use Rattle.pim_world.specs.declared.touched.Touched.{Touched as TouchedValue};
+ghost use Rattle.pim_state.specs.declared.touched.Touched.{Touched as TouchedValue};
 ghost use Rattle.pim_event.specs.Ends.{disturbed_by_end, end_moves_dr, ending_of, has_other_sources, keeps_group, touched_by_end, touched_by_neighbour, touched_by_source};
 ghost use Rattle.pim_tables.specs.Ends.{due_of};
-ghost use Rattle.pim_types.specs.Keys.{key_cmp};
 
-use crate::few::few_or_all;
+use crate::parts::Core;
 use crate::settle::settle;
 use pim_fanout::{Cache, Gathered};
 use pim_hello::{end_keeps_dr, keys_of_end};
 use pim_macros::SourceSight;
 use pim_messages::Outbox;
+use pim_plan::few_or_all;
+use pim_state::{Meter, Touched, Turn, World};
 use pim_types::{
     Emission, Fault, IfaceId, Key, Outcome, Series, SourceGroup, Timer, TimerKind, Verdict,
 };
-use pim_world::{Meter, Touched, Turn, World};
 use std::alloc::AllocError;
 
 // The timer that expires first, with its timestamp in ms, if it is due by the given timestamp.
@@ -202,50 +202,58 @@ fn fire_world(
     ensures fault { IsOkUnless result Fault.Memory }
 {
     // For the proof: sources and registers are under keys of sources.
-    world.recall_keyed();
+    world.proof_keyed();
     let gathered = Gathered::of(world, turn.alloc, touched, None, meter)?;
     world.set_present(due.0);
     fired(world, turn, meter, due.1)?;
     // For the proof: asserts, sources and registers are under keys of their kind.
-    world.recall_keyed();
+    world.proof_keyed();
     settle(world, turn, meter, &gathered, emissions, last)
 }
 
 // Lets a timer expire, and then evaluates the rows of the named sources again. Messages of an earlier turn are dropped
 // first.
 fn fire_once(
-    world: &mut World,
-    cache: &mut Cache,
+    core: &mut Core,
     turn: &mut Turn,
     meter: &mut Meter,
     due: (u64, Timer),
     emissions: &mut Vec<Emission>,
 ) -> Result<(), Fault>
-    requires lawful { IsLawful world.old }
-    requires quiet { IsQuiet world.old }
-    requires shown { ShowsRows cache.old.mfc.rows (cached world.old) }
+    requires lawful { IsLawful core.old.world }
+    requires quiet { IsQuiet core.old.world }
+    requires shown { ShowsRows core.old.cache.mfc.rows (cached core.old.world) }
     requires within { due.0 ≤ 2 ^ 62 }
-    ensures state { OnOk result (world.new ≡ (fire_once turn.old.draw world.old (ending_of due)).0) }
+    ensures state { OnOk result (core.new.world ≡ (fire_once turn.old.draw core.old.world (ending_of due)).0) }
     ensures sent { OnOk result (emissions.new.items
-        ≡ emissions.old.items ++ (fire_once turn.old.draw world.old (ending_of due)).1) }
-    ensures cache { OnOk result (CacheFollows world.old world.new
-        (named_by world.old (own_firing world.old (ending_of due))) cache.old cache.new) }
-    ensures disturbed { OnOk result (cache.new.disturbed
-        ≡ joined cache.old.disturbed (disturbed_by_end world.old due.1.kind due.1.key)) }
-    ensures touched { OnOk result (touches cache.new ≡ raised (touches cache.old) (touches_in world.new
-        (names_of world.old (own_firing world.old (ending_of due)) (touched_by_end world.old due.1.kind due.1.key)))) }
+        ≡ emissions.old.items ++ (fire_once turn.old.draw core.old.world (ending_of due)).1) }
+    ensures cache { OnOk result (CacheFollows core.old.world core.new.world
+        (named_by core.old.world (own_firing core.old.world (ending_of due))) core.old.cache core.new.cache) }
+    ensures disturbed { OnOk result (core.new.cache.disturbed
+        ≡ joined core.old.cache.disturbed (disturbed_by_end core.old.world due.1.kind due.1.key)) }
+    ensures touched { OnOk result (touches core.new.cache ≡ raised (touches core.old.cache) (touches_in core.new.world
+        (names_of core.old.world (own_firing core.old.world (ending_of due)) (touched_by_end core.old.world due.1.kind due.1.key)))) }
     ensures draw { OnOk result (turn.new.draw ≡ turn.old.draw) }
+    ensures kept { OnOk result (core.new.replaced ≡ core.old.replaced) }
     ensures fault { IsOkUnless result Fault.Memory }
 {
     // For the proof: there are at most 120 interfaces.
-    world.interfaces().recall_few();
+    core.world.interfaces().proof_few();
     turn.out = Outbox::new(turn.alloc);
-    let touched = touched_by_end(world, turn, meter, due.1)?;
-    let moves_dr = end_moves_dr(world, due.1);
+    let touched = touched_by_end(&core.world, turn, meter, due.1)?;
+    let moves_dr = end_moves_dr(&core.world, due.1);
     let mut last = None;
-    let names = fire_world(world, turn, meter, due, &touched, emissions, &mut last)?;
-    cache.refresh(
-        world,
+    let names = fire_world(
+        &mut core.world,
+        turn,
+        meter,
+        due,
+        &touched,
+        emissions,
+        &mut last,
+    )?;
+    core.cache.refresh(
+        &core.world,
         meter,
         names,
         disturbed_where(moves_dr, touched),
@@ -256,91 +264,83 @@ fn fire_once(
 
 // Lets all timers expire that are due at the timestamp of one that is due.
 fn fire_instant(
-    world: &mut World,
-    cache: &mut Cache,
+    core: &mut Core,
     turn: &mut Turn,
     meter: &mut Meter,
     first: (u64, Timer),
     emissions: &mut Vec<Emission>,
 ) -> Result<(), Fault>
-    requires lawful { IsLawful world.old }
-    requires quiet { IsQuiet world.old }
-    requires shown { ShowsRows cache.old.mfc.rows (cached world.old) }
-    requires from { ends_from first.0 world.old ≡ true }
+    requires lawful { IsLawful core.old.world }
+    requires quiet { IsQuiet core.old.world }
+    requires shown { ShowsRows core.old.cache.mfc.rows (cached core.old.world) }
+    requires from { ends_from first.0 core.old.world ≡ true }
     requires within { first.0 ≤ 2 ^ 62 }
-    ensures state { OnOk result (world.new ≡ (fire_instant turn.old.draw world.old (ending_of first)).0) }
+    ensures state { OnOk result (core.new.world ≡ (fire_instant turn.old.draw core.old.world (ending_of first)).0) }
     ensures sent { OnOk result (emissions.new.items
-        ≡ emissions.old.items ++ (fire_instant turn.old.draw world.old (ending_of first)).1) }
-    ensures cache { OnOk result (CacheFollows world.old world.new
-        (told_instant named_by turn.old.draw world.old (ending_of first)).1 cache.old cache.new) }
-    ensures disturbed { OnOk result (cache.new.disturbed ≡ joined cache.old.disturbed
-        (joined_all (ended_instant disturbed_at turn.old.draw world.old (ending_of first)).1)) }
+        ≡ emissions.old.items ++ (fire_instant turn.old.draw core.old.world (ending_of first)).1) }
+    ensures cache { OnOk result (CacheFollows core.old.world core.new.world
+        (told_instant named_by turn.old.draw core.old.world (ending_of first)).1 core.old.cache core.new.cache) }
+    ensures disturbed { OnOk result (core.new.cache.disturbed ≡ joined core.old.cache.disturbed
+        (joined_all (ended_instant disturbed_at turn.old.draw core.old.world (ending_of first)).1)) }
     ensures draw { OnOk result (turn.new.draw ≡ turn.old.draw) }
+    ensures kept { OnOk result (core.new.replaced ≡ core.old.replaced) }
     ensures fault { IsOkUnless result Fault.Memory }
 {
-    'firings: while let Some(due) = next_due(world, first.0) {
-        fire_once(world, cache, turn, meter, due, emissions)?;
+    'firings: while let Some(due) = next_due(&core.world, first.0) {
+        fire_once(core, turn, meter, due, emissions)?;
     }
     Ok(())
 }
 
 // Lets all timers expire that are due by a timestamp, one instant after another.
 fn fire_all(
-    world: &mut World,
-    cache: &mut Cache,
+    core: &mut Core,
     turn: &mut Turn,
     meter: &mut Meter,
     moment: u64,
     emissions: &mut Vec<Emission>,
 ) -> Result<(), Fault>
-    requires lawful { IsLawful world.old }
-    requires quiet { IsQuiet world.old }
-    requires shown { ShowsRows cache.old.mfc.rows (cached world.old) }
-    requires ready { IsReady world.old.present world.old }
+    requires lawful { IsLawful core.old.world }
+    requires quiet { IsQuiet core.old.world }
+    requires shown { ShowsRows core.old.cache.mfc.rows (cached core.old.world) }
+    requires ready { IsReady core.old.world.present core.old.world }
     requires within { moment ≤ 2 ^ 62 }
-    ensures state { OnOk result (world.new ≡ (fire_all turn.old.draw moment world.old).0) }
+    ensures state { OnOk result (core.new.world ≡ (fire_all turn.old.draw moment core.old.world).0) }
     ensures sent { OnOk result (emissions.new.items
-        ≡ emissions.old.items ++ (fire_all turn.old.draw moment world.old).1) }
-    ensures cache { OnOk result (CacheFollows world.old world.new
-        (told_all named_by turn.old.draw moment world.old).1 cache.old cache.new) }
-    ensures disturbed { OnOk result (cache.new.disturbed ≡ joined cache.old.disturbed
-        (joined_all (ended_all disturbed_at turn.old.draw moment world.old).1)) }
+        ≡ emissions.old.items ++ (fire_all turn.old.draw moment core.old.world).1) }
+    ensures cache { OnOk result (CacheFollows core.old.world core.new.world
+        (told_all named_by turn.old.draw moment core.old.world).1 core.old.cache core.new.cache) }
+    ensures disturbed { OnOk result (core.new.cache.disturbed ≡ joined core.old.cache.disturbed
+        (joined_all (ended_all disturbed_at turn.old.draw moment core.old.world).1)) }
+    ensures kept { OnOk result (core.new.replaced ≡ core.old.replaced) }
     ensures fault { IsOkUnless result Fault.Memory }
 {
-    'instants: while let Some(first) = next_due(world, moment) {
-        fire_instant(world, cache, turn, meter, first, emissions)?;
+    'instants: while let Some(first) = next_due(&core.world, moment) {
+        fire_instant(core, turn, meter, first, emissions)?;
     }
     Ok(())
 }
 
 /// Lets time pass until a timestamp (ms): all timers that are due by then expire in their order.
-#[tactic(auto, unfolding(pim_model::specs::Step::advanced, pim_reach::specs::Named::named_of))]
+#[tactic(auto, unfolding(pim_model::specs::Step::advanced, law_named::specs::Named::named_of))]
 pub(crate) fn advance(
-    world: &mut World,
-    cache: &mut Cache,
+    core: &mut Core,
     turn: &mut Turn,
     meter: &mut Meter,
     moment: u64,
 ) -> Result<Outcome, Fault>
-    requires rest { IsAtRest world.old }
-    requires shown { ShowsRows cache.old.mfc.rows (cached world.old) }
+    requires rest { IsAtRest core.old.world }
+    requires shown { ShowsRows core.old.cache.mfc.rows (cached core.old.world) }
     requires within { moment ≤ 2 ^ 62 }
-    ensures outcome { IfOk result (λ outcome. outcome ≡ outcome_of (advanced world.old turn.old.draw moment)) }
-    ensures state { OnOk result (world.new ≡ (advanced world.old turn.old.draw moment).state) }
-    ensures cache { OnOk result (CacheFollows world.old world.new
-        (told_all named_by turn.old.draw moment world.old).1 cache.old cache.new) }
-    ensures disturbed { OnOk result (cache.new.disturbed ≡ joined cache.old.disturbed
-        (joined_all (ended_all disturbed_at turn.old.draw moment world.old).1)) }
-    ensures once { OnOk result (IsStrictlySortedBy key_cmp cache.new.changed) }
-    ensures fault { IsOkUnless result Fault.Memory }
+    ensures { TurnsInTime core.old turn.old.draw moment result core.new }
 {
     let mut emissions = Vec::new(turn.alloc);
-    fire_all(world, cache, turn, meter, moment, &mut emissions)?;
+    fire_all(core, turn, meter, moment, &mut emissions)?;
     // Several of the timers may have named the same source.
-    cache.list_once();
+    core.cache.list_once();
     // For the proof: there are at most 120 interfaces.
-    world.interfaces().recall_few();
-    world.set_present(moment);
+    core.world.interfaces().proof_few();
+    core.world.set_present(moment);
     Ok(Outcome {
         answer: Ok(Verdict::Done),
         emissions: Series::from_vec(emissions),

@@ -1,22 +1,13 @@
 -- A cache in which all sources with a fact were evaluated has all rows.
-use Rattle.std.proofs.Common.{◌≡◌, ◌||◌, ℕ, Bool, true, false, List, [], ◌∷◌, Some, None, ap, cond, refl, subst, sym, ◌∙◌}
-use Rattle.std.specs.List.{list_any}
-use Rattle.std.specs.Prelude.{map}
-use Rattle.pim_types.proofs.Keys.{equal_keys, same_key_same}
-use Rattle.pim_types.specs.Keys.{group_in, same_key, source_in, source_key}
-use Rattle.pim_types.specs.declared.fact.Key.{Key}
-use Rattle.pim_types.specs.declared.fact.SourceRow.{SourceRow}
-use Rattle.pim_laws.proofs.RowLaws.{has_row_any}
-use Rattle.pim_macros.specs.declared.rows.SourceAnswers.{SourceAnswers}
-use Rattle.pim_model.specs.Cache.{answers, cached}
-use Rattle.pim_model.specs.State.{State}
-use Rattle.pim_model.specs.Tables.{Table, has_row}
-use Rattle.pim_cached.proofs.SameRows.{row_itself}
-use Rattle.pim_cached.specs.Kept.{IsCached, SameRow, is_listed, no_rows, refreshed}
-use Rattle.pim_mfc.specs.Laws.{ShowsRows}
-use Rattle.pim_mfc.proofs.Shown.{none_shown, refreshed_are_shown}
-use Rattle.pim_trie.specs.Meter.{raised}
-use Rattle.pim_fanout.specs.Refreshing.{CacheValue, IsUncounted, Refreshes, touches, uncounted}
+use Rattle.std.{proofs.Common.{◌≡◌, ◌||◌, ℕ, Bool, true, false, List, [], ◌∷◌, Some, None, ap, cond, refl, subst, sym, ◌∙◌}, specs.{List.list_any, Prelude.map}}
+use Rattle.pim_types.{proofs.Keys.{equal_keys, same_key_same}, specs.{Keys.{group_in, same_key, source_in, source_key}, declared.fact.{Key.Key, SourceRow.SourceRow}}}
+use Rattle.law_settled.{proofs.RowLaws.has_row_any}
+use Rattle.pim_macros.{specs.declared.rows.SourceAnswers.SourceAnswers}
+use Rattle.pim_model.{specs.{Cache.{answers, cached}, State.State, Tables.{Table, has_row}}}
+use Rattle.law_cache.{proofs.SameRows.row_itself, specs.Kept.{IsCached, SameRow, is_listed, no_rows, refreshed}}
+use Rattle.pim_mfc.{specs.Laws.ShowsRows, proofs.Shown.{none_shown, refreshed_are_shown}}
+use Rattle.pim_trie.{specs.Meter.raised}
+use Rattle.pim_fanout.{specs.Refreshing.{CacheValue, IsUncounted, Refreshes, touches, uncounted}}
 
 abbrev name_in : Key × SourceRow → Key
 name_in e = source_key 0 (group_in e.0) (source_in e.0)

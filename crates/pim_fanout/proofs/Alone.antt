@@ -1,18 +1,11 @@
 -- A single key that names a source: what it touches is that source alone.
-use Rattle.std.proofs.Common.{◌≡◌, ◌==◌, ◌∷◌, ℕ, true, false, [], Option, Some, None, refl, is_some, eq-eqb}
-use Rattle.std.proofs.lemmas.Bool.{and_right}
-use Rattle.std.specs.Option.{option_map_or}
-use Rattle.pim_ip.specs.declared.addr.Addr.{Addr}
-use Rattle.pim_types.specs.declared.fact.Key.{Key}
-use Rattle.pim_types.specs.declared.name.SourceGroup.{SourceGroup}
-use Rattle.pim_types.specs.Keys.{group_in, is_of_group, source_in, source_key}
-use Rattle.pim_model.specs.State.{State}
-use Rattle.pim_model.specs.Tables.{ascending, insert_number}
-use Rattle.pim_model.specs.Upstream.{groups_of, sources_of}
-use Rattle.pim_world.specs.declared.touched.Touched.{Touched}
-use Rattle.pim_opening.specs.Openings.{is_whole, opening_of, touched_sources}
-use Rattle.pim_fanout.specs.Alone.{TouchesAlone, opening_alone}
-use Rattle.pim_fanout.specs.Before.{opened_sources}
+use Rattle.std.{proofs.{Common.{◌≡◌, ◌==◌, ◌∷◌, ℕ, true, false, [], Option, Some, None, refl, is_some, eq-eqb}, lemmas.Bool.and_right}, specs.Option.option_map_or}
+use Rattle.pim_ip.{specs.declared.addr.Addr.Addr}
+use Rattle.pim_types.{specs.{declared.{fact.Key.Key, name.SourceGroup.SourceGroup}, Keys.{group_in, is_of_group, source_in, source_key}}}
+use Rattle.pim_model.{specs.{State.State, Tables.{ascending, insert_number}, Upstream.{groups_of, sources_of}}}
+use Rattle.pim_state.{specs.declared.touched.Touched.Touched}
+use Rattle.pim_views.{specs.Openings.{is_whole, opening_of, touched_sources}}
+use Rattle.pim_fanout.{specs.{Alone.{TouchesAlone, opening_alone}, Before.opened_sources}}
 
 has_source : (source : Option Addr) → (option_map_or (λ (a : Addr). a.bits) source 0 == 0) ≡ false → is_some source ≡ true
 has_source None e = cc

@@ -1,17 +1,9 @@
 -- Each named source counts for two, a row and a put, or for one, a removal.
-use Rattle.std.proofs.Common.{◌≡◌, ◌≤◌, ℕ, ◌+◌, ◌*◌, Bool, true, false, List, [], ◌∷◌, ◌++◌, ap, length, refl, sym, ◌∙◌, arith}
-use Rattle.std.specs.List.{sum_by}
-use Rattle.std.specs.Prelude.{if◌then◌else◌}
-use Rattle.std.proofs.lemmas.List.{length-map}
-use Rattle.std.proofs.lemmas.List.Sums.{sum_by-cons, sum_by_push}
-use Rattle.pim_trie.specs.Meter.{raised}
-use Rattle.pim_types.specs.declared.fact.Key.{Key}
-use Rattle.pim_model.specs.State.{State}
-use Rattle.pim_model.specs.Tables.{has_row}
-use Rattle.pim_types.specs.declared.name.SourceGroup.{SourceGroup}
-use Rattle.pim_fanout.specs.Before.{name_key}
-use Rattle.pim_fanout.specs.Named.{keys_of}
-use Rattle.pim_fanout.specs.Refreshing.{touches_in, touches_of}
+use Rattle.std.{proofs.{Common.{◌≡◌, ◌≤◌, ℕ, ◌+◌, ◌*◌, Bool, true, false, List, [], ◌∷◌, ◌++◌, ap, length, refl, sym, ◌∙◌, arith}, lemmas.List.{length-map, Sums.{sum_by-cons, sum_by_push}}}, specs.{List.sum_by, Prelude.if◌then◌else◌}}
+use Rattle.pim_trie.{specs.Meter.raised}
+use Rattle.pim_types.{specs.declared.{fact.Key.Key, name.SourceGroup.SourceGroup}}
+use Rattle.pim_model.{specs.{State.State, Tables.has_row}}
+use Rattle.pim_fanout.{specs.{Before.name_key, Named.keys_of, Refreshing.{touches_in, touches_of}}}
 
 both_raised : (c e : ℕ) → raised (raised c 1) (raised e 1) ≡ raised (raised c e) 2
 unfolding raised

@@ -1,18 +1,7 @@
 -- Names of sources that are sorted, of which each is kept once.
-use Rattle.std.proofs.Common.{◌≡◌, Bool, true, false, cond, ◌||◌, List, [], ◌∷◌, map, refl, ap, sym, ◌∙◌}
-use Rattle.std.specs.List.{AllByRecursion, dedup, dedup_from, list_any}
-use Rattle.std.specs.List.Sorted.{IsPermutation, IsSortedByKey, IsStrictlySortedBy}
-use Rattle.std.specs.Cmp.{on_total}
-use Rattle.std.specs.declared.cmp.Ordering.{Ordering}
-use Rattle.std.specs.declared.cmp.Ordering.TheVariants.{Less}
-use Rattle.std.proofs.lemmas.List.Kept.{IsStrictlySortedBy-dedup}
-use Rattle.std.proofs.lemmas.List.Sorted.{list_any-IsPermutation}
-use Rattle.pim_types.specs.Keys.{key_cmp, same_key}
-use Rattle.pim_types.proofs.Keys.{equal_keys, key_cmp_total}
-use Rattle.pim_types.specs.declared.fact.Key.{Key}
-use Rattle.pim_types.specs.declared.name.SourceGroup.{SourceGroup}
-use Rattle.pim_fanout.specs.Before.{name_key}
-use Rattle.pim_fanout.specs.Named.{keys_of}
+use Rattle.std.{proofs.{Common.{◌≡◌, Bool, true, false, cond, ◌||◌, List, [], ◌∷◌, map, refl, ap, sym, ◌∙◌}, lemmas.List.{Kept.IsStrictlySortedBy-dedup, Sorted.list_any-IsPermutation}}, specs.{List.{AllByRecursion, dedup, dedup_from, list_any, Sorted.{IsPermutation, IsSortedByKey, IsStrictlySortedBy}}, Cmp.on_total, declared.cmp.Ordering.{Ordering, TheVariants.Less}}}
+use Rattle.pim_types.{specs.{Keys.{key_cmp, same_key}, declared.{fact.Key.Key, name.SourceGroup.SourceGroup}}, proofs.Keys.{equal_keys, key_cmp_total}}
+use Rattle.pim_fanout.{specs.{Before.name_key, Named.keys_of}}
 
 abbrev pub by_key : SourceGroup → SourceGroup → Ordering
 by_key x y = key_cmp (name_key x) (name_key y)

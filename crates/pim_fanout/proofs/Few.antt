@@ -1,32 +1,13 @@
 -- No more of the touched sources are named than of all, and where no neighbour differs only those that are reached.
-use Rattle.std.proofs.Common.{◌≡◌, ◌≤◌, ◌||◌, ℕ, Bool, true, List, [], ◌∷◌, map, length, refl, sym, ap, ◌∙◌}
-use Rattle.std.specs.Cmp.{first_so, second_so}
-use Rattle.std.specs.List.{AllByRecursion, flat_map, list_all, list_any}
-use Rattle.pim_types.specs.declared.fact.Key.{Key}
-use Rattle.pim_types.specs.Keys.{group_in, same_key, source_in, source_key}
-use Rattle.pim_model.specs.Clearing.{clear}
-use Rattle.pim_model.specs.declared.accepted.Accepted.{Accepted}
-use Rattle.pim_model.specs.Reach.{differs_among, own_firing, passes}
-use Rattle.pim_model.specs.State.{State}
-use Rattle.pim_model.specs.Step.{change}
-use Rattle.pim_model.specs.Tables.{has_row}
-use Rattle.pim_model.specs.Timers.{Ending}
-use Rattle.pim_model.specs.Upstream.{groups_of}
-use Rattle.pim_laws.proofs.ListLaws.{each_append, each_both, each_filter, each_passes, list_of_each}
-use Rattle.pim_reach.specs.Named.{is_source_named, named, named_by}
-use Rattle.pim_reach.proofs.Within.{rising_within}
-use Rattle.pim_reach.proofs.Configured.{change_configured, firing_configured}
-use Rattle.pim_reach.proofs.Reached.{IsConfigured, named_is_reached}
-use Rattle.pim_reach.specs.Calm.{is_calm}
-use Rattle.pim_cached.specs.Kept.{is_listed}
-use Rattle.pim_cached.proofs.Listed.{listed}
-use Rattle.pim_world.specs.declared.touched.Touched.{Touched}
-use Rattle.pim_world.specs.Touches.{concerned_keys}
-use Rattle.pim_opening.specs.Openings.{touched_sources}
-use Rattle.pim_fanout.specs.Before.{opened_sources}
-use Rattle.pim_fanout.specs.Named.{is_changed, named_among}
-use Rattle.pim_fanout.proofs.Listed.{passing}
-use Rattle.pim_fanout.proofs.Opened.{names_rise}
+use Rattle.std.{proofs.Common.{◌≡◌, ◌≤◌, ◌||◌, ℕ, Bool, true, List, [], ◌∷◌, map, length, refl, sym, ap, ◌∙◌}, specs.{Cmp.{first_so, second_so}, List.{AllByRecursion, flat_map, list_all, list_any}}}
+use Rattle.pim_types.{specs.{declared.fact.Key.Key, Keys.{group_in, same_key, source_in, source_key}}}
+use Rattle.pim_model.{specs.{Clearing.clear, declared.accepted.Accepted.Accepted, Reach.{differs_among, own_firing, passes}, State.State, Step.change, Tables.has_row, Timers.Ending, Upstream.groups_of}}
+use Rattle.law_settled.{proofs.ListLaws.{each_append, each_both, each_filter, each_passes, list_of_each}}
+use Rattle.law_named.{specs.{Named.{is_source_named, named, named_by}, Calm.is_calm}, proofs.{Within.rising_within, Configured.{change_configured, firing_configured}, Reached.{IsConfigured, named_is_reached}}}
+use Rattle.law_cache.{specs.Kept.is_listed, proofs.Listed.listed}
+use Rattle.pim_state.{specs.{declared.touched.Touched.Touched, Touches.concerned_keys}}
+use Rattle.pim_views.{specs.Openings.touched_sources}
+use Rattle.pim_fanout.{specs.{Before.opened_sources, Named.{is_changed, named_among}}, proofs.{Listed.passing, Opened.names_rise}}
 
 -- the key is that of the source fact of its group and source
 abbrev OfSource : Key → Type 0

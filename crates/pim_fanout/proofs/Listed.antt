@@ -1,45 +1,15 @@
 -- From a quiet state the touched sources that are named are those that are named of all.
-use Rattle.std.proofs.Common.{◌≡◌, ◌==◌, ◌&&◌, ◌||◌, ℕ, Bool, true, false, cond, Option, Some, None, is_some, filter, List, [], ◌++◌, inl, inr, map, refl, sym, ap, subst, ◌∙◌, eq-eqb}
-use Rattle.std.proofs.Math.Bool.{or-true}
-use Rattle.std.proofs.lemmas.Bool.{or_left}
-use Rattle.std.proofs.lemmas.List.Folds.{list_any-append}
-use Rattle.std.proofs.lemmas.Map.Views.{any-filter_same}
-use Rattle.std.specs.Cmp.{first_so}
-use Rattle.std.specs.Cmp.Derive.{both_true}
-use Rattle.std.specs.List.{list_any}
-use Rattle.std.specs.Option.{option_map_or}
-use Rattle.pim_ip.specs.declared.addr.Addr.{Addr}
-use Rattle.pim_types.specs.declared.fact.Key.{Key}
-use Rattle.pim_types.specs.declared.fact.SourceRow.{SourceRow}
-use Rattle.pim_types.specs.Keys.{group_in, is_of_group, names_source, same_key, source_in, source_key}
-use Rattle.pim_types.proofs.Keys.{equal_keys}
-use Rattle.pim_model.specs.Clearing.{Cleared, ClearAssert, ClearSptBit, clear, clear_all, clearable_count, cleared, to_clear}
-use Rattle.pim_model.specs.Asserts.{assert_forgotten, without_spt, without_spt_bit}
-use Rattle.pim_model.specs.Reach.{with_facts}
-use Rattle.pim_model.specs.Registers.{settle_registers}
-use Rattle.pim_model.specs.State.{State}
-use Rattle.pim_model.specs.Tables.{has_row, is_among, keys_in}
-use Rattle.pim_model.specs.Upstream.{fact_keys, groups_of, sources_of}
-use Rattle.pim_laws.proofs.ListLaws.{any_more, either}
-use Rattle.pim_laws.proofs.Numbers.{any_ascending}
-use Rattle.pim_laws.proofs.RowLaws.{has_row_any, still_absent}
-use Rattle.pim_laws.proofs.TableLaws.{any_in_filter, any_of_either, any_of_map}
-use Rattle.pim_laws.proofs.TurnLaws.{kept_to_the_end}
-use Rattle.pim_locality.specs.Locality.{IsQuiet, touching}
-use Rattle.pim_locality.specs.Scopes.{reads}
-use Rattle.pim_reach.specs.Named.{is_source_named, named, named_by}
-use Rattle.pim_reach.proofs.Moved.{moved_names}
-use Rattle.pim_reach.proofs.Taken.{facts_stay}
-use Rattle.pim_reach.proofs.Touched.{touched_names}
-use Rattle.pim_adjacent.proofs.Stays.{adjoins_names}
-use Rattle.pim_cached.specs.Kept.{is_listed}
-use Rattle.pim_cached.proofs.Listed.{listed}
-use Rattle.pim_world.specs.declared.touched.Touched.{Touched}
-use Rattle.pim_opening.specs.Openings.{facts_of_whole, has_facts, is_of_all, opened_keys, touched_sources}
-use Rattle.pim_fanout.specs.Before.{opened_sources}
-use Rattle.pim_fanout.specs.Contains.{Contains}
-use Rattle.pim_fanout.specs.Named.{is_changed, named_among}
-use Rattle.pim_fanout.proofs.Opened.{opened}
+use Rattle.std.{proofs.{Common.{◌≡◌, ◌==◌, ◌&&◌, ◌||◌, ℕ, Bool, true, false, cond, Option, Some, None, is_some, filter, List, [], ◌++◌, inl, inr, map, refl, sym, ap, subst, ◌∙◌, eq-eqb}, Math.Bool.or-true, lemmas.{Bool.or_left, List.Folds.list_any-append, Map.Views.any-filter_same}}, specs.{Cmp.{first_so, Derive.both_true}, List.list_any, Option.option_map_or}}
+use Rattle.pim_ip.{specs.declared.addr.Addr.Addr}
+use Rattle.pim_types.{specs.{declared.fact.{Key.Key, SourceRow.SourceRow}, Keys.{group_in, is_of_group, names_source, same_key, source_in, source_key}}, proofs.Keys.equal_keys}
+use Rattle.pim_model.{specs.{Clearing.{Cleared, ClearAssert, ClearSptBit, clear, clear_all, clearable_count, cleared, to_clear}, Asserts.{assert_forgotten, without_spt, without_spt_bit}, Reach.with_facts, Registers.settle_registers, State.State, Tables.{has_row, is_among, keys_in}, Upstream.{fact_keys, groups_of, sources_of}}}
+use Rattle.law_settled.{proofs.{ListLaws.{any_more, either}, Numbers.any_ascending, RowLaws.{has_row_any, still_absent}, TableLaws.{any_in_filter, any_of_either, any_of_map}, TurnLaws.kept_to_the_end}}
+use Rattle.law_scope.{specs.{Locality.{IsQuiet, touching}, Scopes.reads}}
+use Rattle.law_named.{specs.Named.{is_source_named, named, named_by}, proofs.{Moved.moved_names, Taken.facts_stay, Touched.touched_names, NeighbourStays.adjoins_names}}
+use Rattle.law_cache.{specs.Kept.is_listed, proofs.Listed.listed}
+use Rattle.pim_state.{specs.declared.touched.Touched.Touched}
+use Rattle.pim_views.{specs.Openings.{facts_of_whole, has_facts, is_of_all, opened_keys, touched_sources}}
+use Rattle.pim_fanout.{specs.{Before.opened_sources, Contains.Contains, Named.{is_changed, named_among}}, proofs.Opened.opened}
 
 -- ---- clearing makes no source fact
 

@@ -1,26 +1,11 @@
 -- The touched sources, each under its key: they rise, and each is there whose group and whose source are touched.
-use Rattle.std.proofs.Common.{◌≡◌, ◌<◌, ◌==◌, ◌||◌, ℕ, suc, Bool, true, List, [], ◌∷◌, ◌++◌, map, refl, sym, ◌∙◌, arith, eqb-true}
-use Rattle.std.proofs.lemmas.Bool.{or_left, or_right}
-use Rattle.std.proofs.lemmas.List.Folds.{list_any-append}
-use Rattle.std.proofs.lemmas.List.Kept.{IsStrictlySortedBy-filter}
-use Rattle.std.specs.Cmp.{nat_cmp_is}
-use Rattle.std.specs.declared.cmp.Ordering.TheVariants.{Less}
-use Rattle.std.specs.List.{AllByRecursion, flat_map, list_any}
-use Rattle.std.specs.List.Sorted.{IsStrictlySortedBy}
-use Rattle.std.specs.Ordering.{nat_cmp}
-use Rattle.pim_types.specs.declared.fact.Key.{Key}
-use Rattle.pim_types.specs.Keys.{addr_cmp, key_cmp, same_key, source_key}
-use Rattle.pim_types.proofs.Keys.{nat_cmp_same, same_key_same}
-use Rattle.pim_model.specs.State.{State}
-use Rattle.pim_model.specs.Tables.{is_among}
-use Rattle.pim_model.specs.Upstream.{groups_of, sources_of}
-use Rattle.pim_laws.proofs.ListLaws.{each_append, either}
-use Rattle.pim_laws.proofs.Numbers.{RisesFrom, rises_ascending}
-use Rattle.pim_world.specs.declared.touched.Touched.{Touched}
-use Rattle.pim_world.specs.Touches.{concerned_keys}
-use Rattle.pim_opening.specs.Openings.{touched_sources}
-use Rattle.pim_fanout.specs.Before.{opened_sources}
-use Rattle.pim_fanout.specs.Named.{is_changed, named_among}
+use Rattle.std.{proofs.{Common.{◌≡◌, ◌<◌, ◌==◌, ◌||◌, ℕ, suc, Bool, true, List, [], ◌∷◌, ◌++◌, map, refl, sym, ◌∙◌, arith, eqb-true}, lemmas.{Bool.{or_left, or_right}, List.{Folds.list_any-append, Kept.IsStrictlySortedBy-filter}}}, specs.{Cmp.nat_cmp_is, declared.cmp.Ordering.TheVariants.Less, List.{AllByRecursion, flat_map, list_any, Sorted.IsStrictlySortedBy}, Ordering.nat_cmp}}
+use Rattle.pim_types.{specs.{declared.fact.Key.Key, Keys.{addr_cmp, key_cmp, same_key, source_key}}, proofs.Keys.{nat_cmp_same, same_key_same}}
+use Rattle.pim_model.{specs.{State.State, Tables.is_among, Upstream.{groups_of, sources_of}}}
+use Rattle.law_settled.{proofs.{ListLaws.{each_append, either}, Numbers.{RisesFrom, rises_ascending}}}
+use Rattle.pim_state.{specs.{declared.touched.Touched.Touched, Touches.concerned_keys}}
+use Rattle.pim_views.{specs.Openings.touched_sources}
+use Rattle.pim_fanout.{specs.{Before.opened_sources, Named.{is_changed, named_among}}}
 
 -- ---- they rise
 

@@ -1,16 +1,11 @@
 -- A put under the name that a row was evaluated of.
-use Rattle.std.proofs.Common.{◌≡◌, true, List, [], ◌∷◌, ◌++◌}
-use Rattle.pim_ip.specs.declared.addr.Addr.{Addr}
-use Rattle.pim_types.specs.declared.fact.Key.{Key}
-use Rattle.pim_types.specs.Keys.{source_key}
-use Rattle.pim_model.specs.Cache.{answers}
-use Rattle.pim_model.specs.State.{State}
-use Rattle.pim_model.specs.Tables.{has_row}
-use Rattle.pim_cached.specs.Kept.{Cache, refreshed}
-use Rattle.pim_macros.specs.Rows.{MadeRow, ShowsAnswers}
-use Rattle.pim_mfc.specs.Kept.{Kept, with_source_row}
-use Rattle.pim_mfc.specs.Laws.{ShowsRows}
-use Rattle.pim_mfc.proofs.Shown.{put_refreshes}
+use Rattle.std.{proofs.Common.{◌≡◌, true, List, [], ◌∷◌, ◌++◌}}
+use Rattle.pim_ip.{specs.declared.addr.Addr.Addr}
+use Rattle.pim_types.{specs.{declared.fact.Key.Key, Keys.source_key}}
+use Rattle.pim_model.{specs.{Cache.answers, State.State, Tables.has_row}}
+use Rattle.law_cache.{specs.Kept.{Cache, refreshed}}
+use Rattle.pim_macros.{specs.Rows.{MadeRow, ShowsAnswers}}
+use Rattle.pim_mfc.{specs.{Kept.{Kept, with_source_row}, Laws.ShowsRows}, proofs.Shown.put_refreshes}
 
 pub put_named : (s : State) (c : Cache) (names : List Key) (k : Kept) (m : MadeRow) (g src : Addr) → m.group ≡ g
     → m.source ≡ src → has_row s.sources (source_key 0 g.bits src.bits) ≡ true

@@ -1,24 +1,11 @@
 -- What is compared of two sights of a source is what is compared of the states of which they are true.
-use Rattle.std.proofs.Common.{◌≡◌, ◌&&◌, ◌+◌, ◌≤◌, ◌<◌, ℕ, zero, suc, Bool, true, false, not, nat_lt, refl, sym, ap, subst, ◌∙◌, arith}
-use Rattle.std.proofs.lemmas.Bool.Decides.{nat_tests}
-use Rattle.std.specs.List.{list_all, range_with_len}
-use Rattle.pim_ifset.specs.Members.{Members, has}
-use Rattle.pim_types.specs.Keys.{group_in, source_in, source_key}
-use Rattle.pim_model.specs.Rows.{same_both, same_path, same_register_state}
-use Rattle.pim_model.specs.Limits.{most_ifaces}
-use Rattle.pim_model.specs.Sets.{Set}
-use Rattle.pim_model.specs.State.{State}
-use Rattle.pim_model.specs.Tables.{has_row, same_bool, same_hop, same_option}
-use Rattle.pim_reach.specs.Named.{IsMask, is_source_named, is_same_beside, is_same_sight, is_same_star, same_set}
-use Rattle.pim_reach.proofs.Kept.{Low}
-use Rattle.pim_reach.proofs.Masks.{same_masks}
-use Rattle.pim_macros.specs.Sights.{ShowsSource, ShowsStar}
-use Rattle.pim_macros.specs.declared.sight.SourceSight.{SourceSight}
-use Rattle.pim_macros.specs.declared.sight.StarSight.{StarSight}
-use Rattle.pim_fanout.specs.Before.{IsKnown, KnownAs, seen_key}
-use Rattle.pim_fanout.specs.Named.{is_changed, is_same_source}
-use Rattle.pim_fanout.specs.Same.{same_asserts, same_beside, same_common, same_members, same_routes, same_sight, same_source, same_star, same_star_routes}
-use Rattle.pim_fanout.specs.declared.before.KnownSource.{KnownSource}
+use Rattle.std.{proofs.{Common.{◌≡◌, ◌&&◌, ◌+◌, ◌≤◌, ◌<◌, ℕ, zero, suc, Bool, true, false, not, nat_lt, refl, sym, ap, subst, ◌∙◌, arith}, lemmas.Bool.Decides.nat_tests}, specs.List.{list_all, range_with_len}}
+use Rattle.pim_ifset.{specs.Members.{Members, has}}
+use Rattle.pim_types.{specs.Keys.{group_in, source_in, source_key}}
+use Rattle.pim_model.{specs.{Rows.{same_both, same_path, same_register_state}, Limits.most_ifaces, Sets.Set, State.State, Tables.{has_row, same_bool, same_hop, same_option}}}
+use Rattle.law_named.{specs.Named.{IsMask, is_source_named, is_same_beside, is_same_sight, is_same_star, same_set}, proofs.{Kept.Low, Masks.same_masks}}
+use Rattle.pim_macros.{specs.{Sights.{ShowsSource, ShowsStar}, declared.sight.{SourceSight.SourceSight, StarSight.StarSight}}}
+use Rattle.pim_fanout.{specs.{Before.{IsKnown, KnownAs, seen_key}, Named.{is_changed, is_same_source}, Same.{same_asserts, same_beside, same_common, same_members, same_routes, same_sight, same_source, same_star, same_star_routes}, declared.before.KnownSource.KnownSource}}
 
 -- ---- what two sets have in common
 

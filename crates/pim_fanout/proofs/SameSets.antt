@@ -1,8 +1,6 @@
 -- Two sets are the same where nothing is in one of them alone.
-use Rattle.std.proofs.Common.{◌≡◌, ◌==◌, ◌&&◌, ◌||◌, ℕ, Bool, true, false, not, IsTrue, ◌↔◌, refl, sym, ap, ◌∙◌, eq-eqb, eqb-true}
-use Rattle.std.specs.Int.{bit_at}
-use Rattle.pim_ifset.specs.Members.{Members, has}
-use Rattle.pim_ifset.proofs.Sets.{same_members}
+use Rattle.std.{proofs.Common.{◌≡◌, ◌==◌, ◌&&◌, ◌||◌, ℕ, Bool, true, false, not, IsTrue, ◌↔◌, refl, sym, ap, ◌∙◌, eq-eqb, eqb-true}, specs.Int.bit_at}
+use Rattle.pim_ifset.{specs.Members.{Members, has}, proofs.Sets.same_members}
 
 none_alone : (a b : Bool) → ((a && not b) || (b && not a)) ≡ false → a ≡ b
 none_alone true true e = refl

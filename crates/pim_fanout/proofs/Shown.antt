@@ -1,36 +1,15 @@
 -- Where the named rows are made anew all rows are those of the state.
-use Rattle.std.proofs.Common.{◌≡◌, ◌≤◌, ℕ, List, [], cond, length, sym, subst}
-use Rattle.pim_ip.specs.Ipv4.{Packet}
-use Rattle.pim_types.specs.declared.config.Config.{Config}
-use Rattle.pim_types.specs.declared.event.Event.{Event}
-use Rattle.pim_types.specs.declared.fact.Key.{Key}
-use Rattle.pim_types.specs.Keys.{source_key}
-use Rattle.pim_model.specs.Cache.{Plain, cached}
-use Rattle.pim_model.specs.Clearing.{clear}
-use Rattle.pim_model.specs.declared.accepted.Accepted.{Accepted}
-use Rattle.pim_model.specs.Firing.{fire_once}
-use Rattle.pim_model.specs.Limits.{most_ifaces}
-use Rattle.pim_model.specs.Reach.{own_firing}
-use Rattle.pim_model.specs.State.{State, opening}
-use Rattle.pim_model.specs.Step.{change, done, step}
-use Rattle.pim_model.specs.Tables.{Table, row_at}
-use Rattle.pim_model.specs.Timers.{Ending}
-use Rattle.pim_locality.specs.Locality.{IsQuiet}
-use Rattle.pim_locality.specs.Rest.{IsAtRest}
-use Rattle.pim_reach.specs.Named.{named_by}
-use Rattle.pim_cached.specs.Decided.{IsDecided}
-use Rattle.pim_cached.specs.Kept.{Cache, IsCached, SameRow, is_listed, no_rows, refreshed}
-use Rattle.pim_cached.proofs.PlainPackets.{plain_keeps_cache}
-use Rattle.pim_cached.proofs.RowsOfEvents.{event_keeps_cache, firing_keeps_cache, present_keeps_cache}
-use Rattle.pim_cached.proofs.RowsOfSteps.{opening_is_cached}
-use Rattle.pim_cached.proofs.SameRows.{row_itself}
-use Rattle.pim_macros.specs.declared.rows.SourceAnswers.{SourceAnswers}
-use Rattle.pim_mfc.specs.Laws.{ShowsRow, ShowsRows}
-use Rattle.pim_mfc.proofs.Shown.{none_shown, refreshed_are_shown}
-use Rattle.pim_world.specs.declared.touched.Touched.{Touched}
-use Rattle.pim_fanout.specs.Contains.{Contains}
-use Rattle.pim_fanout.specs.Named.{named_among}
-use Rattle.pim_fanout.proofs.Listed.{names_are_named}
+use Rattle.std.{proofs.Common.{◌≡◌, ◌≤◌, ℕ, List, [], cond, length, sym, subst}}
+use Rattle.pim_ip.{specs.Ipv4.Packet}
+use Rattle.pim_types.{specs.{declared.{config.Config.Config, event.Event.Event, fact.Key.Key}, Keys.source_key}}
+use Rattle.pim_model.{specs.{Cache.{Plain, cached}, Clearing.clear, declared.accepted.Accepted.Accepted, Firing.fire_once, Limits.most_ifaces, Reach.own_firing, State.{State, opening}, Step.{change, done, step}, Tables.{Table, row_at}, Timers.Ending}}
+use Rattle.law_scope.{specs.{Locality.IsQuiet, Rest.IsAtRest}}
+use Rattle.law_named.{specs.Named.named_by}
+use Rattle.law_cache.{specs.{Decided.IsDecided, Kept.{Cache, IsCached, SameRow, is_listed, no_rows, refreshed}}, proofs.{PlainPackets.plain_keeps_cache, RowsOfEvents.{event_keeps_cache, firing_keeps_cache, present_keeps_cache}, RowsOfSteps.opening_is_cached, SameRows.row_itself}}
+use Rattle.pim_macros.{specs.declared.rows.SourceAnswers.SourceAnswers}
+use Rattle.pim_mfc.{specs.Laws.{ShowsRow, ShowsRows}, proofs.Shown.{none_shown, refreshed_are_shown}}
+use Rattle.pim_state.{specs.declared.touched.Touched.Touched}
+use Rattle.pim_fanout.{specs.{Contains.Contains, Named.named_among}, proofs.Listed.names_are_named}
 
 own_rows : (s : State) → IsCached (cached s) s
 own_rows s g src = row_itself (cached s g src)

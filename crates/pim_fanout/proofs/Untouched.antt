@@ -1,20 +1,11 @@
 -- A source that a change doesn't touch isn't named, whether it has a fact or not, where routes and RP ranges are as
 -- they were.
-use Rattle.std.proofs.Common.{◌≡◌, ℕ, List, inl, inr, true, sym, ap, ◌∙◌}
-use Rattle.std.specs.Cmp.Derive.{both_true}
-use Rattle.std.specs.Prelude.{option_and_then}
-use Rattle.pim_types.specs.declared.config.Route.{Route}
-use Rattle.pim_types.specs.declared.config.RpRange.{RpRange}
-use Rattle.pim_model.specs.State.{State}
-use Rattle.pim_model.specs.Unicast.{route, route_among, rp_among, rp_of, rp_route}
-use Rattle.pim_reach.specs.Moved.{IsRerouted}
-use Rattle.pim_reach.specs.Named.{has_same_routes, has_same_rp}
-use Rattle.pim_reach.proofs.Rerouted.{around_rerouted, rerouted_beside, rerouted_unnamed}
-use Rattle.pim_reach.proofs.Sights.{options_same, paths_same}
-use Rattle.pim_reach.proofs.Touched.{touched_names}
-use Rattle.pim_world.specs.declared.touched.Touched.{Touched}
-use Rattle.pim_fanout.specs.Disturbed.{is_disturbed}
-use Rattle.pim_fanout.specs.Laws.{UntouchedIsUnnamed}
+use Rattle.std.{proofs.Common.{◌≡◌, ℕ, List, inl, inr, true, sym, ap, ◌∙◌}, specs.{Cmp.Derive.both_true, Prelude.option_and_then}}
+use Rattle.pim_types.{specs.declared.config.{Route.Route, RpRange.RpRange}}
+use Rattle.pim_model.{specs.{State.State, Unicast.{route, route_among, rp_among, rp_of, rp_route}}}
+use Rattle.law_named.{specs.{Moved.IsRerouted, Named.{has_same_routes, has_same_rp}}, proofs.{Rerouted.{around_rerouted, rerouted_beside, rerouted_unnamed}, Sights.{options_same, paths_same}, Touched.touched_names}}
+use Rattle.pim_state.{specs.declared.touched.Touched.Touched}
+use Rattle.pim_fanout.{specs.{Disturbed.is_disturbed, Laws.UntouchedIsUnnamed}}
 
 module _ (o c : State) (is : IsRerouted o c) (routes : o.routes ≡ c.routes) (ranges : o.ranges ≡ c.ranges) where
   route_same : (address : ℕ) → route o address ≡ route c address

@@ -1,12 +1,9 @@
 -- A source that is touched and no other, as it is in a state.
-use Rattle.std.specs.Prelude.{[], false, ◌≡◌, ◌∷◌}
-use Rattle.pim_types.specs.declared.name.SourceGroup.{SourceGroup}
-use Rattle.pim_model.specs.State.{State}
-use Rattle.pim_model.specs.Upstream.{groups_of, star_view}
-use Rattle.pim_world.specs.Touches.{concerned_keys}
-use Rattle.pim_world.specs.declared.touched.Touched.{Touched}
-use Rattle.pim_opening.specs.Openings.{is_whole, source_opening, touched_sources}
-use Rattle.pim_opening.specs.declared.opening.GroupOpening.{GroupOpening}
+use Rattle.std.{specs.Prelude.{[], false, ◌≡◌, ◌∷◌}}
+use Rattle.pim_types.{specs.declared.name.SourceGroup.SourceGroup}
+use Rattle.pim_model.{specs.{State.State, Upstream.{groups_of, star_view}}}
+use Rattle.pim_state.{specs.{Touches.concerned_keys, declared.touched.Touched.Touched}}
+use Rattle.pim_views.{specs.{Openings.{is_whole, source_opening, touched_sources}, declared.opening.GroupOpening.GroupOpening}}
 
 -- The source is touched, and nothing else of its group or of other groups.
 pub record TouchesAlone (touched : Touched) (name : SourceGroup) : Type 0 where
@@ -14,7 +11,7 @@ pub record TouchesAlone (touched : Touched) (name : SourceGroup) : Type 0 where
   pub part : is_whole touched name.group.bits ≡ false
   pub sources : (s : State) → touched_sources s touched name.group.bits ≡ name.source.bits ∷ []
 
--- The source's group, as it is opened.
+-- The opening of a group of which one source alone is touched.
 abbrev pub opening_alone : State → SourceGroup → GroupOpening
 opening_alone s name = record {
   group = name.group;

@@ -1,23 +1,11 @@
 -- The sources that a change touches, as they are in a state.
-use Rattle.std.specs.List.{AllByRecursion, flat_map}
-use Rattle.std.specs.Prelude.{List, false, map, true, ℕ, ◌≡◌}
-use Rattle.pim_types.specs.Keys.{source_key}
-use Rattle.pim_types.specs.declared.fact.Key.{Key}
-use Rattle.pim_model.specs.Cache.{may_register}
-use Rattle.pim_model.specs.Desires.{join_desired}
-use Rattle.pim_model.specs.Registers.{could_register}
-use Rattle.pim_model.specs.Sets.{register_state}
-use Rattle.pim_model.specs.State.{State}
-use Rattle.pim_model.specs.Tables.{has_row}
-use Rattle.pim_model.specs.Upstream.{groups_of}
-use Rattle.pim_world.specs.Touches.{concerned_keys}
-use Rattle.pim_world.specs.declared.touched.Touched.{Touched}
-use Rattle.pim_macros.specs.Sights.{ShowsSource}
-use Rattle.pim_macros.specs.declared.sight.SourceSight.{SourceSight}
-use Rattle.pim_opening.specs.Openings.{touched_sources}
-use Rattle.pim_fanout.specs.declared.before.KnownSource.{KnownSource}
-use Rattle.pim_fanout.specs.declared.before.SourceBefore.{SourceBefore}
-use Rattle.pim_types.specs.declared.name.SourceGroup.{SourceGroup}
+use Rattle.std.{specs.{List.{AllByRecursion, flat_map}, Prelude.{List, false, map, true, ℕ, ◌≡◌}}}
+use Rattle.pim_types.{specs.{Keys.source_key, declared.{fact.Key.Key, name.SourceGroup.SourceGroup}}}
+use Rattle.pim_model.{specs.{Cache.may_register, Desires.join_desired, Registers.could_register, Sets.register_state, State.State, Tables.has_row, Upstream.groups_of}}
+use Rattle.pim_state.{specs.{Touches.concerned_keys, declared.touched.Touched.Touched}}
+use Rattle.pim_macros.{specs.{Sights.ShowsSource, declared.sight.SourceSight.SourceSight}}
+use Rattle.pim_views.{specs.Openings.touched_sources}
+use Rattle.pim_fanout.{specs.declared.before.{KnownSource.KnownSource, SourceBefore.SourceBefore}}
 
 -- The touched sources, each under its key, in ascending order: by group, then by source.
 unfoldable pub opened_sources : State → Touched → List Key
@@ -28,9 +16,11 @@ opened_sources o touched =
 abbrev pub name_key : SourceGroup → Key
 name_key n = source_key 0 n.group.bits n.source.bits
 
+-- The key of the source of a sight.
 abbrev pub seen_key : SourceSight → Key
 seen_key sight = source_key 0 sight.star.group.bits sight.source.bits
 
+-- The key of a source that is compared, with a fact or without one.
 abbrev pub key_before : SourceBefore → Key
 key_before (SourceBefore.Unknown n) = name_key n
 key_before (SourceBefore.Known k) = seen_key k.sight
@@ -52,6 +42,7 @@ abbrev pub IsSourceBefore : State → SourceBefore → Type 0
 IsSourceBefore o (SourceBefore.Unknown n) = has_row o.sources (name_key n) ≡ false
 IsSourceBefore o (SourceBefore.Known k) = IsKnown o k
 
+-- All sources that are compared are as they were in a state.
 abbrev pub AreBefore : State → List SourceBefore → Type 0
 AreBefore o sources = AllByRecursion (IsSourceBefore o) sources
 

@@ -1,10 +1,9 @@
 -- What follows of a change concerns the touched keys alone.
-use Rattle.std.specs.Prelude.{◌⊎◌}
-use Rattle.pim_model.specs.State.{State}
-use Rattle.pim_reach.specs.Moved.{MovesAlone}
-use Rattle.pim_adjacent.specs.Adjacent.{AdjoinsAlone}
-use Rattle.pim_world.specs.declared.touched.Touched.{Touched}
-use Rattle.pim_opening.specs.Covers.{Covers}
+use Rattle.std.{specs.Prelude.◌⊎◌}
+use Rattle.pim_model.{specs.State.State}
+use Rattle.law_named.{specs.{Moved.MovesAlone, Adjacent.AdjoinsAlone}}
+use Rattle.pim_state.{specs.declared.touched.Touched.Touched}
+use Rattle.pim_views.{specs.Covers.Covers}
 
 -- New routes or RP ranges move what has facts under the touched keys, and nothing else.
 abbrev pub Moves : Touched → State → State → Type 0

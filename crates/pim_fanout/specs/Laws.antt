@@ -1,34 +1,15 @@
 -- Which sources an event names, and how rows that are evaluated again for them are those of the state.
-use Rattle.std.specs.List.Sorted.{IsStrictlySortedBy}
-use Rattle.std.specs.Prelude.{List, [], false, length, true, ℕ, ◌||◌, ◌≡◌, ◌≤◌}
-use Rattle.pim_ip.specs.Ipv4.{Packet}
-use Rattle.pim_types.specs.declared.config.Config.{Config}
-use Rattle.pim_types.specs.declared.event.Event.{Event}
-use Rattle.pim_types.specs.declared.fact.Key.{Key}
-use Rattle.pim_types.specs.Keys.{key_cmp, source_key}
-use Rattle.pim_model.specs.Cache.{Plain, cached}
-use Rattle.pim_model.specs.Clearing.{clear}
-use Rattle.pim_model.specs.declared.accepted.Accepted.{Accepted}
-use Rattle.pim_model.specs.Firing.{fire_once}
-use Rattle.pim_model.specs.Limits.{most_ifaces}
-use Rattle.pim_model.specs.Reach.{differs_among, own_firing, passes}
-use Rattle.pim_model.specs.State.{State, opening}
-use Rattle.pim_model.specs.Step.{change, done, step}
-use Rattle.pim_model.specs.Tables.{Table, has_row}
-use Rattle.pim_model.specs.Timers.{Ending}
-use Rattle.pim_locality.specs.Locality.{IsQuiet}
-use Rattle.pim_locality.specs.Rest.{IsAtRest}
-use Rattle.pim_reach.specs.Calm.{is_calm}
-use Rattle.pim_reach.specs.Keeps.{KeepsAnswers}
-use Rattle.pim_reach.specs.Named.{is_source_named, named_by}
-use Rattle.pim_cached.specs.Decided.{IsDecided}
-use Rattle.pim_cached.specs.Kept.{is_listed, refreshed}
-use Rattle.pim_world.specs.declared.touched.Touched.{Touched}
-use Rattle.pim_macros.specs.declared.rows.SourceAnswers.{SourceAnswers}
-use Rattle.pim_mfc.specs.Laws.{ShowsRows}
-use Rattle.pim_fanout.specs.Contains.{Contains, CoversOrMoves}
-use Rattle.pim_fanout.specs.Disturbed.{is_disturbed}
-use Rattle.pim_fanout.specs.Named.{named_among}
+use Rattle.std.{specs.{List.Sorted.IsStrictlySortedBy, Prelude.{List, [], false, length, true, ℕ, ◌||◌, ◌≡◌, ◌≤◌}}}
+use Rattle.pim_ip.{specs.Ipv4.Packet}
+use Rattle.pim_types.{specs.{declared.{config.Config.Config, event.Event.Event, fact.Key.Key}, Keys.{key_cmp, source_key}}}
+use Rattle.pim_model.{specs.{Cache.{Plain, cached}, Clearing.clear, declared.accepted.Accepted.Accepted, Firing.fire_once, Limits.most_ifaces, Reach.{differs_among, own_firing, passes}, State.{State, opening}, Step.{change, done, step}, Tables.{Table, has_row}, Timers.Ending}}
+use Rattle.law_scope.{specs.{Locality.IsQuiet, Rest.IsAtRest}}
+use Rattle.law_named.{specs.{Calm.is_calm, Keeps.KeepsAnswers, Named.{is_source_named, named_by}}}
+use Rattle.law_cache.{specs.{Decided.IsDecided, Kept.{is_listed, refreshed}}}
+use Rattle.pim_state.{specs.declared.touched.Touched.Touched}
+use Rattle.pim_macros.{specs.declared.rows.SourceAnswers.SourceAnswers}
+use Rattle.pim_mfc.{specs.Laws.ShowsRows}
+use Rattle.pim_fanout.{specs.{Contains.{Contains, CoversOrMoves}, Disturbed.is_disturbed, Named.named_among}}
 
 -- ---- who is named
 
@@ -70,22 +51,22 @@ FiredNamesAreReached = (s : State) (e : Ending) → is_calm s (own_firing s e) �
 
 -- ---- who isn't
 
--- there is a fact of the source in one of the states
+-- (S,G) has a source fact in one of two states
 abbrev pub HasFact : ℕ → ℕ → State → State → Type 0
 HasFact g src o a =
     (has_row o.sources (source_key 0 g src) || has_row a.sources (source_key 0 g src)) ≡ true
 
 -- A source with a fact that an event doesn't name keeps SPTbit, CouldRegister, the states of its register fact and of
 -- both its asserts, and every macro, to the end of the event.
-abbrev pub OthersKeep : Type 0
-OthersKeep = (s : State) → IsQuiet s → length s.configured ≤ most_ifaces → (w : ℕ) (a : Accepted) (touched : Touched)
+abbrev pub UnnamedSourcesKeepTheirAnswers : Type 0
+UnnamedSourcesKeepTheirAnswers = (s : State) → IsQuiet s → length s.configured ≤ most_ifaces → (w : ℕ) (a : Accepted) (touched : Touched)
     → Contains touched s (change s w a).state → (g src : ℕ) → HasFact g src s (done s w (change s w a)).state
     → is_listed (names_of s (change s w a).state touched) g src ≡ false
     → KeepsAnswers g src s (done s w (change s w a)).state
 
--- A source with a fact that the expiry of a timer doesn't name keeps what `OthersKeep` lists.
-abbrev pub FiredOthersKeep : Type 0
-FiredOthersKeep = (s : State) → IsQuiet s → length s.configured ≤ most_ifaces → (w : ℕ) (e : Ending) (touched : Touched)
+-- A source with a fact that the expiry of a timer doesn't name keeps what `UnnamedSourcesKeepTheirAnswers` lists.
+abbrev pub ExpiryKeepsUnnamedSources : Type 0
+ExpiryKeepsUnnamedSources = (s : State) → IsQuiet s → length s.configured ≤ most_ifaces → (w : ℕ) (e : Ending) (touched : Touched)
     → Contains touched s (own_firing s e) → (g src : ℕ) → HasFact g src s (fire_once w s e).0
     → is_listed (names_of s (own_firing s e) touched) g src ≡ false → KeepsAnswers g src s (fire_once w s e).0
 
@@ -116,7 +97,7 @@ abbrev pub PlainShowsRows : Type 0
 PlainShowsRows = (s : State) (e : Event) (p : Packet) (how : Plain) → IsAtRest s → IsDecided s e p how
     → (rows : Table SourceAnswers) → ShowsRows rows (cached s) → ShowsRows rows (cached (step s e).state)
 
--- The rows are those of the state after the present time alone changed.
+-- The cache's rows are those of the state after the present time alone changed.
 abbrev pub PresentShowsRows : Type 0
 PresentShowsRows = (s : State) (m : ℕ) → length s.configured ≤ most_ifaces → (rows : Table SourceAnswers)
     → ShowsRows rows (cached s) → ShowsRows rows (cached (record s { present = m }))

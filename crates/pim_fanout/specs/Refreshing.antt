@@ -1,23 +1,23 @@
 -- The forwarding cache with the number of evaluated rows, the sources whose rows have changed and the touched keys, and
 -- what it is to evaluate named rows again.
-use Rattle.std.specs.List.{sum_by}
-use Rattle.std.specs.Prelude.{List, [], if◌then◌else◌, ℕ, ◌++◌, ◌∷◌, ◌≡◌}
-use Rattle.pim_trie.specs.Meter.{raised}
-use Rattle.pim_types.specs.declared.fact.Key.{Key}
-use Rattle.pim_model.specs.State.{State}
-use Rattle.pim_model.specs.Tables.{Table, has_row}
-use Rattle.pim_world.specs.declared.touched.Touched.{Touched}
-use Rattle.pim_macros.specs.declared.rows.SourceAnswers.{SourceAnswers}
-use Rattle.pim_cached.specs.Kept.{Cache, refreshed}
-use Rattle.pim_mfc.specs.Kept.{Kept}
-use Rattle.pim_mfc.specs.Laws.{ShowsRows}
+use Rattle.std.{specs.{List.sum_by, Prelude.{List, [], if◌then◌else◌, ℕ, ◌++◌, ◌∷◌, ◌≡◌}}}
+use Rattle.pim_trie.{specs.Meter.raised}
+use Rattle.pim_types.{specs.declared.fact.Key.Key}
+use Rattle.pim_model.{specs.{State.State, Tables.{Table, has_row}}}
+use Rattle.pim_state.{specs.declared.touched.Touched.Touched}
+use Rattle.pim_macros.{specs.declared.rows.SourceAnswers.SourceAnswers}
+use Rattle.law_cache.{specs.Kept.{Cache, refreshed}}
+use Rattle.pim_mfc.{specs.{Kept.Kept, Laws.ShowsRows}}
 
+-- The forwarding cache as its users see it: its rows, how many were evaluated, which sources changed, and what changes
+-- touched.
 pub record CacheValue : Type 0 where
   pub mfc : Kept
   pub evaluated : ℕ
   pub changed : List Key
   pub disturbed : Touched
 
+-- A forwarding cache without rows.
 abbrev pub nothing_cached : CacheValue
 nothing_cached = record { mfc = record { rows = []; changes = 0 }; evaluated = 0; changed = []; disturbed = Touched.Keys [] }
 
@@ -37,6 +37,7 @@ IsUncounted c = (touches c ≡ 0) × (c.changed ≡ []) × (c.disturbed ≡ Touc
 abbrev pub touches_of : State → Key → ℕ
 touches_of s k = if has_row s.sources k then 2 else 1
 
+-- How many rows are touched where the rows of some sources are evaluated again.
 abbrev pub touches_in : State → List Key → ℕ
 touches_in s names = sum_by (touches_of s) names
 

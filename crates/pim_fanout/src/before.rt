@@ -7,16 +7,16 @@ ghost use Rattle.pim_fanout.specs.Before.{AreBefore, IsBefore, IsSourceBefore, I
 ghost use Rattle.pim_macros.specs.Sights.{IsSourceSight, IsStarSight};
 ghost use Rattle.pim_model.specs.Sets.{register_state};
 ghost use Rattle.pim_model.specs.Tables.{has_row};
-ghost use Rattle.pim_opening.specs.Openings.{group_opening, opening_of, source_opening, touched_sources};
+ghost use Rattle.pim_views.specs.Openings.{group_opening, opening_of, source_opening, touched_sources};
 ghost use Rattle.pim_types.specs.Keys.{source_key};
-ghost use Rattle.pim_world.specs.Groups.{numbers_of};
-ghost use Rattle.pim_world.specs.declared.touched.Touched.{Touched as TouchedKeys};
+ghost use Rattle.pim_state.specs.Groups.{numbers_of};
+ghost use Rattle.pim_state.specs.declared.touched.Touched.{Touched as TouchedKeys};
 
 use pim_macros::{SourceSight, StarSight};
-use pim_opening::{GroupOpening, Opening, SourceOpening, is_whole, touched_sources};
+use pim_state::{Meter, Touched, World};
 use pim_types::fact::RegisterState;
 use pim_types::{Addr, Key, Series, SourceGroup};
-use pim_world::{Meter, Touched, World};
+use pim_views::{GroupOpening, Opening, SourceOpening, is_whole, touched_sources};
 use std::alloc::{AllocError, Global};
 use std::collections::BTreeMap;
 use std::marker::Model;
@@ -363,39 +363,6 @@ fn known_by(world: &World, sight: &SourceSight) -> KnownSource
     }
 }
 
-// A source with a fact, in the present state.
-fn known(world: &World, meter: &mut Meter, star: &StarSight, source: Addr) -> KnownSource
-    requires sight { IsStarSight world.now star.now }
-    requires fact { has_row world.now.sources (source_key 0 star.now.group.bits source.bits) ≡ true }
-    ensures known { IsKnown world.now result }
-    ensures star { result.sight.star ≡ star.now }
-    ensures source { result.sight.source ≡ source }
-{
-    known_by(world, &SourceSight::of(world, *star, source, meter))
-}
-
-/// A source as it is compared, in the present state. The sight of its group is gathered unless it is the last one that
-/// was. The meter rises by the nodes visited.
-pub(crate) fn compared(
-    world: &World,
-    meter: &mut Meter,
-    last: &mut Option<StarSight>,
-    name: SourceGroup,
-) -> SourceBefore
-    requires { IfSome last.old (IsStarSight world.now) }
-    ensures key { key_before result ≡ name_key name }
-    ensures before { IsSourceBefore world.now result }
-    ensures last { IfSome last.new (IsStarSight world.now) }
-{
-    if !has_fact(world, name) {
-        return SourceBefore::Unknown(name);
-    }
-    let star = star_of(world, meter, last, name.group);
-    let known = known(world, meter, &star, name.source);
-    *last = Some(star);
-    SourceBefore::Known(known)
-}
-
 /// Whether there is a fact of the source.
 #[tactic(auto, unfolding(pim_model::specs::Tables::has_row))]
 pub(crate) fn has_fact(world: &World, name: SourceGroup) -> bool
@@ -409,16 +376,4 @@ fn register_of(world: &World, name: SourceGroup) -> Option<RegisterState>
     ensures { result ≡ register_state world.now name.group.bits name.source.bits }
 {
     Some(world.store().register(name.key())?.state)
-}
-
-// What the macros of (*,G) read: the sight that was gathered last, if it is of the same group, else a new one.
-fn star_of(world: &World, meter: &mut Meter, last: &Option<StarSight>, group: Addr) -> StarSight
-    requires { IfSome last.now (IsStarSight world.now) }
-    ensures sight { IsStarSight world.now result }
-    ensures group { result.group ≡ group }
-{
-    match last {
-        Some(star) if star.group == group => *star,
-        _ => StarSight::of(world, group, meter),
-    }
 }

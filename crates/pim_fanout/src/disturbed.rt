@@ -1,13 +1,13 @@
 //! Which sources changes may have disturbed, whether they have a fact or not.
 ghost use Rattle.std.specs.Prelude.{◌≡◌, ◌++◌, [], OnOk};
 ghost use Rattle.pim_fanout.specs.Disturbed.{is_disturbed, joined};
-ghost use Rattle.pim_locality.specs.Locality.{touching};
-ghost use Rattle.pim_locality.specs.Scopes.{reads};
+ghost use Rattle.law_scope.specs.Locality.{touching};
+ghost use Rattle.law_scope.specs.Scopes.{reads};
 ghost use Rattle.pim_types.specs.Keys.{source_key};
-ghost use Rattle.pim_world.specs.declared.touched.Touched.{Touched as TouchedValue};
+ghost use Rattle.pim_state.specs.declared.touched.Touched.{Touched as TouchedValue};
 
+use pim_state::Touched;
 use pim_types::{Addr, Key, SourceGroup};
-use pim_world::Touched;
 use std::alloc::{AllocError, Global};
 use std::marker::Model;
 
@@ -26,7 +26,7 @@ impl Drop for Disturbed {
 
 impl Model for Disturbed {
     ghost use Rattle.std.specs.Prelude.{if◌then◌else◌};
-    ghost use Rattle.pim_world.specs.declared.touched.Touched.{Touched};
+    ghost use Rattle.pim_state.specs.declared.touched.Touched.{Touched};
 
     ghost Value = { Touched };
 
@@ -34,7 +34,7 @@ impl Model for Disturbed {
 }
 
 // Whether a fact under the key is read by the machines of the source.
-#[tactic(auto, unfolding(pim_locality::specs::Scopes::reads))]
+#[tactic(auto, unfolding(law_scope::specs::Scopes::reads))]
 fn is_read(name: SourceGroup, key: Key) -> bool
     ensures { result ≡ reads (source_key 0 name.group.bits name.source.bits) key }
 {
@@ -43,7 +43,7 @@ fn is_read(name: SourceGroup, key: Key) -> bool
 }
 
 // Whether the machines of the source read a fact under one of the keys.
-#[tactic(auto, unfolding(pim_locality::specs::Locality::touching))]
+#[tactic(auto, unfolding(law_scope::specs::Locality::touching))]
 fn is_touched(keys: &[Key], name: SourceGroup) -> bool
     ensures { result ≡ touching keys.now (source_key 0 name.group.bits name.source.bits) }
 {
@@ -66,7 +66,7 @@ impl Disturbed {
         }
     }
 
-    /// Removes all keys, and the mark.
+    /// Removes all keys, and the mark that all sources are touched.
     pub fn clear(&mut self)
         ensures { self.new ≡ TouchedValue.Keys [] }
     {
@@ -74,7 +74,7 @@ impl Disturbed {
         self.keys.clear();
     }
 
-    /// Marks that all are touched.
+    /// Marks that all sources are touched.
     pub fn add_all(&mut self)
         ensures { self.new ≡ TouchedValue.All }
     {

@@ -1,6 +1,6 @@
 //! Laws of which sources are named, and of the rows, each the contract of a function with nothing to do.
 
-ghost use Rattle.pim_fanout.specs.Laws.{EventShowsRows, FiredNamesAreReached, FiredOthersKeep, FiringShowsRows, NamesAreFew, NamesAreNamed, NamesAreReached, NamesRise, OpeningShowsRows, OthersKeep, PlainShowsRows, PresentShowsRows, UntouchedIsUnnamed};
+ghost use Rattle.pim_fanout.specs.Laws.{EventShowsRows, FiredNamesAreReached, ExpiryKeepsUnnamedSources, FiringShowsRows, NamesAreFew, NamesAreNamed, NamesAreReached, NamesRise, OpeningShowsRows, UnnamedSourcesKeepTheirAnswers, PlainShowsRows, PresentShowsRows, UntouchedIsUnnamed};
 
 /// Each named source is listed once.
 #[tactic(auto, using(crate::proofs::Opened::names_rise))]
@@ -39,14 +39,14 @@ pub fn fired_names_are_reached()
 {}
 
 /// A source with a fact that an event doesn't name keeps its answers to the macros.
-#[tactic(auto, using(crate::proofs::Others::others_keep))]
-pub fn others_keep()
-    ensures { OthersKeep }
+#[tactic(auto, using(crate::proofs::Others::unnamed_sources_keep_their_answers))]
+pub fn unnamed_sources_keep_their_answers()
+    ensures { UnnamedSourcesKeepTheirAnswers }
 {}
 
 /// A source with a fact that the expiry of a timer doesn't name keeps its answers to the macros.
-pub fn fired_others_keep()
-    ensures { FiredOthersKeep }
+pub fn expiry_keeps_unnamed_sources()
+    ensures { ExpiryKeepsUnnamedSources }
 {}
 
 /// A cache without rows is the cache of the opening.

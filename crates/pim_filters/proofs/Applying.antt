@@ -1,24 +1,9 @@
 -- A record after a message, by the cases of its sources.
-use Rattle.std.proofs.Common.{◌≡◌, ℕ, Bool, true, false, cond, List, [], ◌∷◌, ◌++◌, map, filter, Option, Some, None, refl, ap, subst, sym, ◌∙◌, ◌==◌, ◌||◌, nat_lt}
-use Rattle.std.specs.List.{AllByRecursion, cons_option, filter_map}
-use Rattle.std.specs.List.Sorted.{IsStrictlySortedBy}
-use Rattle.std.specs.Ordering.{nat_cmp}
-use Rattle.std.specs.declared.cmp.Ordering.TheVariants.{Less}
-use Rattle.std.proofs.lemmas.List.Folds.{list_any-append}
-use Rattle.igmp_wire.specs.declared.report.RecordType.{RecordType}
-use Rattle.pim_filters.specs.Asking.{asked_in_order}
-use Rattle.pim_filters.specs.Cases.{CaseValue, cases_in, cases_with, member_case, new_case, case_value}
-use Rattle.pim_filters.specs.Changes.{asked_after, entry_after}
-use Rattle.pim_filters.specs.Members.{IsAscending, bits_of, member_entries, member_entry, fate_at, fate_of}
-use Rattle.pim_filters.specs.Rules.{asks_group, asks_sources, fate_after, is_asked, kept_or, timer_after}
-use Rattle.pim_filters.specs.declared.case.Case.{Case}
-use Rattle.pim_filters.specs.declared.member.Member.{Member}
-use Rattle.pim_filters.specs.declared.rule.Rule.{Rule}
-use Rattle.pim_filters.proofs.Merging.{AtLeast-zero, Rises-cases, Tells, among_cases, fate_among, keys, sources_in, values_of_cases}
-use Rattle.pim_filters.proofs.Orders.{Rises, Rises-ascending, Rises-from_sorted, is_among-ascending, same_rising, sorted_from_Rises}
+use Rattle.std.{proofs.{Common.{◌≡◌, ℕ, Bool, true, false, cond, List, [], ◌∷◌, ◌++◌, map, filter, Option, Some, None, refl, ap, subst, sym, ◌∙◌, ◌==◌, ◌||◌, nat_lt}, lemmas.List.Folds.list_any-append}, specs.{List.{AllByRecursion, cons_option, filter_map, Sorted.IsStrictlySortedBy}, Ordering.nat_cmp, declared.cmp.Ordering.TheVariants.Less}}
+use Rattle.igmp_wire.{specs.declared.report.RecordType.RecordType}
+use Rattle.pim_filters.{specs.{Asking.asked_in_order, Cases.{CaseValue, cases_in, cases_with, member_case, new_case, case_value}, Changes.{asked_after, entry_after}, Members.{IsAscending, bits_of, member_entries, member_entry, source_state_at, source_state_of}, Rules.{asks_group, asks_sources, source_state_after, is_asked, kept_or, timer_after}, declared.{case.Case.Case, member.Member.Member, rule.Rule.Rule}}, proofs.{Merging.{AtLeast-zero, Rises-cases, Tells, among_cases, source_state_among, keys, sources_in, values_of_cases}, Orders.{Rises, Rises-ascending, Rises-from_sorted, is_among-ascending, same_rising, sorted_from_Rises}}}
+use Rattle.pim_model.{specs.{Records.{GroupRecord, apply_record, asks, source_state_in, from_exclude, from_include, record_with, sources_of_both}, Tables.{ascending, is_among}}}
 use Rattle.pim_model.specs.Records as records
-use Rattle.pim_model.specs.Records.{GroupRecord, apply_record, asks, fate_in, from_exclude, from_include, record_with, sources_of_both}
-use Rattle.pim_model.specs.Tables.{ascending, is_among}
 
 -- ---- the cases are the sources of both
 
@@ -35,18 +20,18 @@ keys_of_cases ms named rises =
 
 -- what is said of a source of a record and a message
 abbrev pub told_of : List records.Member → List ℕ → ℕ → CaseValue
-told_of es named k = (k, fate_among es k, is_among k named)
+told_of es named k = (k, source_state_among es k, is_among k named)
 
 pub values_are : (ms : List Member) (named : List ℕ) → IsAscending (member_entries ms)
     → map case_value (cases_in ms (ascending named)) ≡ map (told_of (member_entries ms) named) (ascending (sources_in ms ++ named))
 values_are ms named ascends =
     let rises : Rises (sources_in ms) = Rises-from_sorted (sources_in ms) ascends in
     let g : ℕ → Bool = λ k. is_among k named in
-    let tells : Tells 0 (fate_among (member_entries ms)) g ms (ascending named) = record {
-      fates = λ k le. refl;
+    let tells : Tells 0 (source_state_among (member_entries ms)) g ms (ascending named) = record {
+      source_states = λ k le. refl;
       names = λ k le. sym (is_among-ascending k named);
     } in
-    values_of_cases (fate_among (member_entries ms)) g 0 ms (ascending named) (AtLeast-zero (sources_in ms)) (AtLeast-zero (ascending named)) rises (Rises-ascending named) tells
+    values_of_cases (source_state_among (member_entries ms)) g 0 ms (ascending named) (AtLeast-zero (sources_in ms)) (AtLeast-zero (ascending named)) rises (Rises-ascending named) tells
     ∙ ap (map (told_of (member_entries ms) named)) (keys_of_cases ms named rises)
 
 -- ---- what a test or a change makes of values
@@ -73,7 +58,7 @@ map_itself (n ∷ ns) = ap (λ ms. n ∷ ms) (map_itself ns)
 
 module _ (full : ℕ) (timer : Option ℕ) (type : RecordType) where
   abbrev pub entry_told : CaseValue → Option records.Member
-  entry_told v = records.member_of v.0 (fate_after full timer type v.1 v.2)
+  entry_told v = records.member_of v.0 (source_state_after full timer type v.1 v.2)
 
   pub entries_are : (ms : List Member) (named : List ℕ) → IsAscending (member_entries ms)
       → filter_map (λ c. entry_told (case_value c)) (cases_in ms (ascending named))
@@ -109,7 +94,7 @@ entry_before v = records.member_of v.0 v.1
 entry_of_member : (b : Bool) (m : Member) → entry_before (case_value (member_case b m)) ≡ Some (member_entry m)
 entry_of_member b m = go m.end
   where
-    go : (end : Option ℕ) → records.member_of m.source.bits (fate_of (fate_at end)) ≡ Some (m.source.bits, end)
+    go : (end : Option ℕ) → records.member_of m.source.bits (source_state_of (source_state_at end)) ≡ Some (m.source.bits, end)
     go None = refl
     go (Some end) = refl
 
@@ -147,15 +132,15 @@ abbrev pub queries_after : Option ℕ → RecordType → List records.Member →
 queries_after timer type es named =
     cond (asks_sources type) (asked_in_order (Some (filter (λ k. is_told_asked timer type (told_of es named k)) (all_of es named))) (asks_group timer type)) []
 
-excluded_or_kept : (f : records.Fate) → cond (records.is_running f) f records.Excluded ≡ kept_or records.Excluded f
-excluded_or_kept records.Gone = refl
+excluded_or_kept : (f : records.SourceState) → cond (records.is_running f) f records.Excluded ≡ kept_or records.Excluded f
+excluded_or_kept records.Absent = refl
 excluded_or_kept records.Excluded = refl
-excluded_or_kept (records.Until end) = refl
+excluded_or_kept (records.Included end) = refl
 
-kept_or_until_is : (end : ℕ) (f : records.Fate) → records.kept_or_until end f ≡ kept_or (records.Until end) f
-kept_or_until_is end records.Gone = refl
+kept_or_until_is : (end : ℕ) (f : records.SourceState) → records.kept_or_until end f ≡ kept_or (records.Included end) f
+kept_or_until_is end records.Absent = refl
 kept_or_until_is end records.Excluded = refl
-kept_or_until_is end (records.Until e) = refl
+kept_or_until_is end (records.Included e) = refl
 
 abbrev record_of : Option ℕ → List records.Member → GroupRecord
 record_of timer es = record { timer = timer; members = es }
@@ -164,10 +149,10 @@ abbrev names_of : List ℕ → ℕ → Bool
 names_of named src = is_among src named
 
 module _ (es : List records.Member) (named : List ℕ) where
-  -- a record of each source's fate, whichever way it is told
-  same_fates : (timer : Option ℕ) (queries : List records.Asked) (f g : ℕ → records.Fate) → ((k : ℕ) → f k ≡ g k)
+  -- a record of each source's state, whichever way it is told
+  same_source_states : (timer : Option ℕ) (queries : List records.Asked) (f g : ℕ → records.SourceState) → ((k : ℕ) → f k ≡ g k)
       → ◌≡◌ {A = GroupRecord × List records.Asked} (record_with timer f (all_of es named), queries) (record_with timer g (all_of es named), queries)
-  same_fates timer queries f g same = λ i. (record_with timer (λ k. same k i) (all_of es named), queries)
+  same_source_states timer queries f g same = λ i. (record_with timer (λ k. same k i) (all_of es named), queries)
 
   abbrev pub Applies : ℕ → Option ℕ → RecordType → Type 0
   Applies full timer type =
@@ -175,33 +160,33 @@ module _ (es : List records.Member) (named : List ℕ) where
 
   in_include : (full : ℕ) (type : RecordType)
       → filter_map (λ k. entry_before (told_of es named k)) (all_of es named) ≡ es → Applies full None type
-  unfolding apply_record from_include record_with fate_in
+  unfolding apply_record from_include record_with source_state_in
   in_include full RecordType.IsInclude stays = refl
   in_include full RecordType.Allow stays = refl
   in_include full RecordType.ToInclude stays = refl
   in_include full RecordType.IsExclude stays =
-      same_fates (Some full) [] _ (λ k. cond (is_among k named) (kept_or records.Excluded (fate_among es k)) records.Gone)
-      (λ k. ap (λ f. cond (is_among k named) f records.Gone) (excluded_or_kept (fate_among es k)))
+      same_source_states (Some full) [] _ (λ k. cond (is_among k named) (kept_or records.Excluded (source_state_among es k)) records.Absent)
+      (λ k. ap (λ f. cond (is_among k named) f records.Absent) (excluded_or_kept (source_state_among es k)))
   in_include full RecordType.ToExclude stays =
-      same_fates (Some full) _ _ (λ k. cond (is_among k named) (kept_or records.Excluded (fate_among es k)) records.Gone)
-      (λ k. ap (λ f. cond (is_among k named) f records.Gone) (excluded_or_kept (fate_among es k)))
+      same_source_states (Some full) _ _ (λ k. cond (is_among k named) (kept_or records.Excluded (source_state_among es k)) records.Absent)
+      (λ k. ap (λ f. cond (is_among k named) f records.Absent) (excluded_or_kept (source_state_among es k)))
   in_include full RecordType.Block stays =
       ap (λ (ms : List records.Member). (record_of None ms, asks (records.in_both (record_of None es) (names_of named)) (all_of es named))) (sym stays)
 
   in_exclude : (full end : ℕ) (type : RecordType) → Applies full (Some end) type
-  unfolding apply_record from_exclude record_with fate_in
+  unfolding apply_record from_exclude record_with source_state_in
   in_exclude full end RecordType.IsInclude = refl
   in_exclude full end RecordType.Allow = refl
   in_exclude full end RecordType.ToInclude = refl
   in_exclude full end RecordType.IsExclude =
-      same_fates (Some full) [] _ (λ k. cond (is_among k named) (kept_or (records.Until full) (fate_among es k)) records.Gone)
-      (λ k. ap (λ f. cond (is_among k named) f records.Gone) (kept_or_until_is full (fate_among es k)))
+      same_source_states (Some full) [] _ (λ k. cond (is_among k named) (kept_or (records.Included full) (source_state_among es k)) records.Absent)
+      (λ k. ap (λ f. cond (is_among k named) f records.Absent) (kept_or_until_is full (source_state_among es k)))
   in_exclude full end RecordType.ToExclude =
-      same_fates (Some full) _ _ (λ k. cond (is_among k named) (kept_or (records.Until end) (fate_among es k)) records.Gone)
-      (λ k. ap (λ f. cond (is_among k named) f records.Gone) (kept_or_until_is end (fate_among es k)))
+      same_source_states (Some full) _ _ (λ k. cond (is_among k named) (kept_or (records.Included end) (source_state_among es k)) records.Absent)
+      (λ k. ap (λ f. cond (is_among k named) f records.Absent) (kept_or_until_is end (source_state_among es k)))
   in_exclude full end RecordType.Block =
-      same_fates (Some end) _ _ (λ k. cond (is_among k named) (kept_or (records.Until end) (fate_among es k)) (fate_among es k))
-      (λ k. ap (λ f. cond (is_among k named) f (fate_among es k)) (kept_or_until_is end (fate_among es k)))
+      same_source_states (Some end) _ _ (λ k. cond (is_among k named) (kept_or (records.Included end) (source_state_among es k)) (source_state_among es k))
+      (λ k. ap (λ f. cond (is_among k named) f (source_state_among es k)) (kept_or_until_is end (source_state_among es k)))
 
   applies : (full : ℕ) (timer : Option ℕ) (type : RecordType)
       → filter_map (λ k. entry_before (told_of es named k)) (all_of es named) ≡ es → Applies full timer type
@@ -230,33 +215,33 @@ applied rule ms named ascends =
 
 -- ---- the order of what is made
 
-all_of_entries : (P : ℕ → Type 0) (f : ℕ → records.Fate) (ns : List ℕ) → AllByRecursion P ns
+all_of_entries : (P : ℕ → Type 0) (f : ℕ → records.SourceState) (ns : List ℕ) → AllByRecursion P ns
     → AllByRecursion P (map (λ (e : records.Member). e.0) (filter_map (λ k. records.member_of k (f k)) ns))
 all_of_entries P f [] all = tt
 all_of_entries P f (n ∷ ns) all = go (f n) (all_of_entries P f ns all.1)
   where
-    go : (fate : records.Fate) → AllByRecursion P (map (λ (e : records.Member). e.0) (filter_map (λ k. records.member_of k (f k)) ns))
-        → AllByRecursion P (map (λ (e : records.Member). e.0) (cons_option (records.member_of n fate) (filter_map (λ k. records.member_of k (f k)) ns)))
-    go records.Gone rest = rest
+    go : (source_state : records.SourceState) → AllByRecursion P (map (λ (e : records.Member). e.0) (filter_map (λ k. records.member_of k (f k)) ns))
+        → AllByRecursion P (map (λ (e : records.Member). e.0) (cons_option (records.member_of n source_state) (filter_map (λ k. records.member_of k (f k)) ns)))
+    go records.Absent rest = rest
     go records.Excluded rest = (all.0, rest)
-    go (records.Until end) rest = (all.0, rest)
+    go (records.Included end) rest = (all.0, rest)
 
-entries_ascend : (f : ℕ → records.Fate) (ns : List ℕ) → IsStrictlySortedBy nat_cmp ns
+entries_ascend : (f : ℕ → records.SourceState) (ns : List ℕ) → IsStrictlySortedBy nat_cmp ns
     → IsAscending (filter_map (λ k. records.member_of k (f k)) ns)
 unfolding IsStrictlySortedBy
 entries_ascend f [] sorted = tt
 entries_ascend f (n ∷ ns) sorted = go (f n) (all_of_entries (λ m. nat_cmp n m ≡ Less) f ns sorted.0) (entries_ascend f ns sorted.1)
   where
-    go : (fate : records.Fate) → AllByRecursion (λ m. nat_cmp n m ≡ Less) (map (λ (e : records.Member). e.0) (filter_map (λ k. records.member_of k (f k)) ns))
+    go : (source_state : records.SourceState) → AllByRecursion (λ m. nat_cmp n m ≡ Less) (map (λ (e : records.Member). e.0) (filter_map (λ k. records.member_of k (f k)) ns))
         → IsAscending (filter_map (λ k. records.member_of k (f k)) ns)
-        → IsAscending (cons_option (records.member_of n fate) (filter_map (λ k. records.member_of k (f k)) ns))
-    go records.Gone all rest = rest
+        → IsAscending (cons_option (records.member_of n source_state) (filter_map (λ k. records.member_of k (f k)) ns))
+    go records.Absent all rest = rest
     go records.Excluded all rest = (all, rest)
-    go (records.Until end) all rest = (all, rest)
+    go (records.Included end) all rest = (all, rest)
 
 pub IsAscending-after : (rule : Rule) (ms : List Member) (named : List ℕ) → IsAscending (member_entries ms)
     → IsAscending (filter_map (entry_after rule) (cases_in ms (ascending named)))
 IsAscending-after rule ms named ascends =
     subst IsAscending (sym (entries_are rule.full rule.timer rule.record_type ms named ascends))
-    (entries_ascend (λ k. fate_after rule.full rule.timer rule.record_type (fate_among (member_entries ms) k) (is_among k named))
+    (entries_ascend (λ k. source_state_after rule.full rule.timer rule.record_type (source_state_among (member_entries ms) k) (is_among k named))
     (all_of (member_entries ms) named) (sorted_from_Rises _ (Rises-ascending (sources_in ms ++ named))))

@@ -1,22 +1,10 @@
 -- Members of a record: one among them, those that stay, and their order.
-use Rattle.std.proofs.Common.{◌≡◌, ℕ, Bool, true, false, cond, List, [], ◌∷◌, map, length, Option, Some, None, refl, ap, sym, subst, ◌∙◌, ◌==◌, ◌||◌, arith}
-use Rattle.std.specs.List.{AllByRecursion, filter, find}
-use Rattle.std.specs.List.Retain.{RetainsInTurn}
-use Rattle.std.specs.List.Sorted.{IsStrictlySortedBy}
-use Rattle.std.specs.Option.{option_map, option_map_or}
-use Rattle.std.specs.Ordering.{nat_cmp}
-use Rattle.std.specs.declared.cmp.Ordering.TheVariants.{Less}
-use Rattle.std.proofs.lemmas.Bool.Decides.{nat_tests}
-use Rattle.std.proofs.lemmas.List.{length-map}
-use Rattle.smallvec.proofs.SmallVecLemmas.{items-with_items}
-use Rattle.smallvec.specs.SmallVec.{SmallVec, with_items}
-use Rattle.pim_filters.specs.declared.member.Member.{Member}
-use Rattle.pim_filters.specs.Lowering.{member_lowered}
-use Rattle.pim_filters.specs.Members.{IsAscending, bits_of, member_entry, member_entries, fate_at, fate_of, is_named_source, with_end_lowered, without_end}
-use Rattle.pim_model.specs.Querier.{lowered}
-use Rattle.pim_ip.specs.declared.addr.Addr.{Addr}
+use Rattle.std.{proofs.{Common.{◌≡◌, ℕ, Bool, true, false, cond, List, [], ◌∷◌, map, length, Option, Some, None, refl, ap, sym, subst, ◌∙◌, ◌==◌, ◌||◌, arith}, lemmas.{Bool.Decides.nat_tests, List.length-map}}, specs.{List.{AllByRecursion, filter, find, Retain.RetainsInTurn, Sorted.IsStrictlySortedBy}, Option.{option_map, option_map_or}, Ordering.nat_cmp, declared.cmp.Ordering.TheVariants.Less}}
+use Rattle.smallvec.{proofs.SmallVecLemmas.items-with_items, specs.SmallVec.{SmallVec, with_items}}
+use Rattle.pim_filters.{specs.{declared.member.Member.Member, Lowering.member_lowered, Members.{IsAscending, bits_of, member_entry, member_entries, source_state_at, source_state_of, is_named_source, with_end_lowered, without_end}}}
+use Rattle.pim_model.{specs.{Querier.lowered, Tables.is_among}}
+use Rattle.pim_ip.{specs.declared.addr.Addr.Addr}
 use Rattle.pim_model.specs.Records as records
-use Rattle.pim_model.specs.Tables.{is_among}
 
 -- the entry found is that of the member found
 pub find_entry : (s : ℕ) (ms : List Member)
@@ -27,24 +15,24 @@ find_entry s (m ∷ ms) = elim (m.source.bits == s) as (λ b. cond b (Some (memb
   | false ↦ find_entry s ms
 ]
 
-pub fate_at-is : (end : Option ℕ) → option_map_or records.Until end records.Excluded ≡ fate_of (fate_at end)
-fate_at-is None = refl
-fate_at-is (Some end) = refl
+pub source_state_at-is : (end : Option ℕ) → option_map_or records.Included end records.Excluded ≡ source_state_of (source_state_at end)
+source_state_at-is None = refl
+source_state_at-is (Some end) = refl
 
 -- the end of a found member says what the record does
-pub fate_found : (r : records.GroupRecord) (s : ℕ) (ms : List Member) (o : Option Member) → member_entries ms ≡ r.members
+pub source_state_found : (r : records.GroupRecord) (s : ℕ) (ms : List Member) (o : Option Member) → member_entries ms ≡ r.members
     → o ≡ find (λ (m : Member). m.source.bits == s) ms
-    → records.fate_in r s ≡ option_map_or (λ (m : Member). fate_of (fate_at m.end)) o records.Gone
-unfolding records.fate_in
-fate_found r s ms o are found =
-    let told : Option records.Member → records.Fate = λ o. option_map_or (λ (e : records.Member). option_map_or records.Until e.1 records.Excluded) o records.Gone in
+    → records.source_state_in r s ≡ option_map_or (λ (m : Member). source_state_of (source_state_at m.end)) o records.Absent
+unfolding records.source_state_in
+source_state_found r s ms o are found =
+    let told : Option records.Member → records.SourceState = λ o. option_map_or (λ (e : records.Member). option_map_or records.Included e.1 records.Excluded) o records.Absent in
     ap (λ es. told (find (λ (e : records.Member). e.0 == s) es)) (sym are)
     ∙ ap told (find_entry s ms ∙ ap (option_map member_entry) (sym found))
     ∙ of_option o
   where
-    of_option : (o : Option Member) → option_map_or (λ (e : records.Member). option_map_or records.Until e.1 records.Excluded) (option_map member_entry o) records.Gone ≡ option_map_or (λ (m : Member). fate_of (fate_at m.end)) o records.Gone
+    of_option : (o : Option Member) → option_map_or (λ (e : records.Member). option_map_or records.Included e.1 records.Excluded) (option_map member_entry o) records.Absent ≡ option_map_or (λ (m : Member). source_state_of (source_state_at m.end)) o records.Absent
     of_option None = refl
-    of_option (Some m) = fate_at-is m.end
+    of_option (Some m) = source_state_at-is m.end
 
 -- the entries of those that stay are those that stay of the entries
 pub entries_of-filter : (p : records.Member → Bool) (ms : List Member)

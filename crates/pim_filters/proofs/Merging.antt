@@ -1,16 +1,8 @@
 -- The sources of a record and of a message in one list: each of them once, in order, and what is said of it.
-use Rattle.std.proofs.Common.{◌≡◌, ℕ, suc, ◌<◌, ◌≤◌, Bool, true, false, cond, List, [], ◌∷◌, map, refl, ap, subst, sym, ◌∙◌, ◌==◌, ◌||◌, nat_lt, arith}
-use Rattle.std.specs.List.{find}
-use Rattle.std.specs.Option.{option_map_or}
-use Rattle.std.proofs.lemmas.Bool.Decides.{nat_tests}
-use Rattle.pim_filters.specs.Cases.{CaseValue, cases_in, cases_with, member_case, new_case, case_value}
-use Rattle.pim_filters.specs.Members.{member_entries, fate_at, fate_of}
-use Rattle.pim_filters.specs.declared.case.Case.{Case}
-use Rattle.pim_filters.specs.declared.member.Member.{Member}
-use Rattle.pim_filters.proofs.Members.{fate_at-is, sources}
-use Rattle.pim_filters.proofs.Orders.{Below, Below-lower, Rises, among_head, among_tail, none_below}
+use Rattle.std.{proofs.{Common.{◌≡◌, ℕ, suc, ◌<◌, ◌≤◌, Bool, true, false, cond, List, [], ◌∷◌, map, refl, ap, subst, sym, ◌∙◌, ◌==◌, ◌||◌, nat_lt, arith}, lemmas.Bool.Decides.nat_tests}, specs.{List.find, Option.option_map_or}}
+use Rattle.pim_filters.{specs.{Cases.{CaseValue, cases_in, cases_with, member_case, new_case, case_value}, Members.{member_entries, source_state_at, source_state_of}, declared.{case.Case.Case, member.Member.Member}}, proofs.{Members.{source_state_at-is, sources}, Orders.{Below, Below-lower, Rises, among_head, among_tail, none_below}}}
+use Rattle.pim_model.{specs.Tables.is_among}
 use Rattle.pim_model.specs.Records as records
-use Rattle.pim_model.specs.Tables.{is_among}
 
 abbrev pub keys : List Case → List ℕ
 keys cs = map (λ (c : Case). c.source.bits) cs
@@ -103,22 +95,22 @@ Rises-cases (m ∷ ms) (n ∷ ns) first second =
 -- ---- what is said of each
 
 -- what the members of a record say of a source
-abbrev pub fate_among : List records.Member → ℕ → records.Fate
-fate_among es src = option_map_or (λ (e : records.Member). option_map_or records.Until e.1 records.Excluded) (find (λ (e : records.Member). e.0 == src) es) records.Gone
+abbrev pub source_state_among : List records.Member → ℕ → records.SourceState
+source_state_among es src = option_map_or (λ (e : records.Member). option_map_or records.Included e.1 records.Excluded) (find (λ (e : records.Member). e.0 == src) es) records.Absent
 
-fate_head : (m : Member) (ms : List Member) (k : ℕ) → (m.source.bits == k) ≡ true
-    → fate_among (member_entries (m ∷ ms)) k ≡ fate_of (fate_at m.end)
-fate_head m ms k here = rw here (fate_at-is m.end)
+source_state_head : (m : Member) (ms : List Member) (k : ℕ) → (m.source.bits == k) ≡ true
+    → source_state_among (member_entries (m ∷ ms)) k ≡ source_state_of (source_state_at m.end)
+source_state_head m ms k here = rw here (source_state_at-is m.end)
 
-fate_tail : (m : Member) (ms : List Member) (k : ℕ) → (m.source.bits == k) ≡ false
-    → fate_among (member_entries (m ∷ ms)) k ≡ fate_among (member_entries ms) k
-fate_tail m ms k apart = rw apart refl
+source_state_tail : (m : Member) (ms : List Member) (k : ℕ) → (m.source.bits == k) ≡ false
+    → source_state_among (member_entries (m ∷ ms)) k ≡ source_state_among (member_entries ms) k
+source_state_tail m ms k apart = rw apart refl
 
-fate_none : (k : ℕ) (ms : List Member) → Below k (sources_in ms) → fate_among (member_entries ms) k ≡ records.Gone
-fate_none k [] below = refl
-fate_none k (m ∷ ms) below =
+source_state_none : (k : ℕ) (ms : List Member) → Below k (sources_in ms) → source_state_among (member_entries ms) k ≡ records.Absent
+source_state_none k [] below = refl
+source_state_none k (m ∷ ms) below =
     let apart : (m.source.bits == k) ≡ false = grind (arith, nat_tests, below.0) in
-    fate_tail m ms k apart ∙ fate_none k ms below.1
+    source_state_tail m ms k apart ∙ source_state_none k ms below.1
 
 -- at least a number
 abbrev pub AtLeast : ℕ → List ℕ → Type 0
@@ -138,31 +130,31 @@ AtLeast-zero [] = tt
 AtLeast-zero (n ∷ ns) = (omega arith, AtLeast-zero ns)
 
 -- f and g tell, from a number on, what the members and the names do
-pub record Tells (low : ℕ) (f : ℕ → records.Fate) (g : ℕ → Bool) (ms : List Member) (ns : List ℕ) : Type 0 where
-  pub fates : (k : ℕ) → low ≤ k → f k ≡ fate_among (member_entries ms) k
+pub record Tells (low : ℕ) (f : ℕ → records.SourceState) (g : ℕ → Bool) (ms : List Member) (ns : List ℕ) : Type 0 where
+  pub source_states : (k : ℕ) → low ≤ k → f k ≡ source_state_among (member_entries ms) k
   pub names : (k : ℕ) → low ≤ k → g k ≡ is_among k ns
 
-module _ (f : ℕ → records.Fate) (g : ℕ → Bool) where
+module _ (f : ℕ → records.SourceState) (g : ℕ → Bool) where
   abbrev pub told : List ℕ → List CaseValue
   told ks = map (λ k. (k, f k, g k)) ks
 
   without_member : (low : ℕ) (m : Member) (ms : List Member) (ns : List ℕ) → low ≤ m.source.bits
       → Tells low f g (m ∷ ms) ns → Tells (suc m.source.bits) f g ms ns
   without_member low m ms ns le tells = record {
-    fates = λ k after. let apart : (m.source.bits == k) ≡ false = grind (arith, nat_tests, after) in tells.fates k (omega arith) ∙ fate_tail m ms k apart;
+    source_states = λ k after. let apart : (m.source.bits == k) ≡ false = grind (arith, nat_tests, after) in tells.source_states k (omega arith) ∙ source_state_tail m ms k apart;
     names = λ k after. tells.names k (omega arith);
   }
 
   without_name : (low n : ℕ) (ms : List Member) (ns : List ℕ) → low ≤ n → Tells low f g ms (n ∷ ns) → Tells (suc n) f g ms ns
   without_name low n ms ns le tells = record {
-    fates = λ k after. tells.fates k (omega arith);
+    source_states = λ k after. tells.source_states k (omega arith);
     names = λ k after. let apart : (n == k) ≡ false = grind (arith, nat_tests, after) in tells.names k (omega arith) ∙ among_tail k n ns apart;
   }
 
   without_both : (low n : ℕ) (m : Member) (ms : List Member) (ns : List ℕ) → n ≡ m.source.bits → low ≤ m.source.bits
       → Tells low f g (m ∷ ms) (n ∷ ns) → Tells (suc m.source.bits) f g ms ns
   without_both low n m ms ns e le tells = record {
-    fates = λ k after. let apart : (m.source.bits == k) ≡ false = grind (arith, nat_tests, after) in tells.fates k (omega arith) ∙ fate_tail m ms k apart;
+    source_states = λ k after. let apart : (m.source.bits == k) ≡ false = grind (arith, nat_tests, after) in tells.source_states k (omega arith) ∙ source_state_tail m ms k apart;
     names = λ k after. let apart : (n == k) ≡ false = grind (arith, nat_tests, after, e) in tells.names k (omega arith) ∙ among_tail k n ns apart;
   }
 
@@ -171,7 +163,7 @@ module _ (f : ℕ → records.Fate) (g : ℕ → Bool) where
   values_new low [] least rises tells = refl
   values_new low (n ∷ ns) least rises tells =
       let named : g n ≡ true = tells.names n least.0 ∙ among_head n ns in
-      λ i. (n, sym (tells.fates n least.0) i, sym named i) ∷ values_new (suc n) ns (AtLeast-from_below n ns rises.0) rises.1 (without_name low n [] ns least.0 tells) i
+      λ i. (n, sym (tells.source_states n least.0) i, sym named i) ∷ values_new (suc n) ns (AtLeast-from_below n ns rises.0) rises.1 (without_name low n [] ns least.0 tells) i
 
   values_step : (low : ℕ) (m : Member) (ms : List Member) (n : ℕ) (ns : List ℕ) (b c : Bool)
       → nat_lt n m.source.bits ≡ b → (n == m.source.bits) ≡ c → low ≤ m.source.bits → low ≤ n
@@ -182,21 +174,21 @@ module _ (f : ℕ → records.Fate) (g : ℕ → Bool) where
       → (let cs = cond b (new_case n ∷ cases_with m (cases_in ms) ns) (cond c (member_case true m ∷ cases_in ms ns) (member_case false m ∷ cases_in ms (n ∷ ns))) in map case_value cs ≡ told (keys cs))
   values_step low m ms n ns true c less same first second below_ms below_ns tells earlier both later =
       let before : n < m.source.bits = grind (arith, nat_tests) in
-      let gone : f n ≡ records.Gone = tells.fates n second ∙ fate_none n (m ∷ ms) (before, Below-lower n m.source.bits (sources_in ms) before below_ms) in
+      let gone : f n ≡ records.Absent = tells.source_states n second ∙ source_state_none n (m ∷ ms) (before, Below-lower n m.source.bits (sources_in ms) before below_ms) in
       let named : g n ≡ true = tells.names n second ∙ among_head n ns in
       λ i. (n, sym gone i, sym named i) ∷ earlier before i
   values_step low m ms n ns false true less same first second below_ms below_ns tells earlier both later =
       let e : n ≡ m.source.bits = grind (arith, nat_tests) in
       let here : (m.source.bits == m.source.bits) ≡ true = grind (arith, nat_tests) in
-      let fate : f m.source.bits ≡ fate_of (fate_at m.end) = tells.fates m.source.bits first ∙ fate_head m ms m.source.bits here in
+      let source_state : f m.source.bits ≡ source_state_of (source_state_at m.end) = tells.source_states m.source.bits first ∙ source_state_head m ms m.source.bits here in
       let named : g m.source.bits ≡ true = tells.names m.source.bits first ∙ ap (λ s. is_among s (n ∷ ns)) (sym e) ∙ among_head n ns in
-      λ i. (m.source.bits, sym fate i, sym named i) ∷ both e i
+      λ i. (m.source.bits, sym source_state i, sym named i) ∷ both e i
   values_step low m ms n ns false false less same first second below_ms below_ns tells earlier both later =
       let after : m.source.bits < n = grind (arith, nat_tests) in
       let here : (m.source.bits == m.source.bits) ≡ true = grind (arith, nat_tests) in
-      let fate : f m.source.bits ≡ fate_of (fate_at m.end) = tells.fates m.source.bits first ∙ fate_head m ms m.source.bits here in
+      let source_state : f m.source.bits ≡ source_state_of (source_state_at m.end) = tells.source_states m.source.bits first ∙ source_state_head m ms m.source.bits here in
       let unnamed : g m.source.bits ≡ false = tells.names m.source.bits first ∙ none_below m.source.bits m.source.bits (n ∷ ns) (omega arith) (after, Below-lower m.source.bits n ns after below_ns) in
-      λ i. (m.source.bits, sym fate i, sym unnamed i) ∷ later after i
+      λ i. (m.source.bits, sym source_state i, sym unnamed i) ∷ later after i
 
   -- the cases tell of each of their sources what f and g do
   pub values_of_cases : (low : ℕ) (ms : List Member) (ns : List ℕ) → AtLeast low (sources_in ms) → AtLeast low ns
@@ -204,10 +196,10 @@ module _ (f : ℕ → records.Fate) (g : ℕ → Bool) where
   values_of_cases low [] ns first second rises_ms rises_ns tells = values_new low ns second rises_ns tells ∙ ap told (sym (keys_new ns))
   values_of_cases low (m ∷ ms) [] first second rises_ms rises_ns tells =
       let here : (m.source.bits == m.source.bits) ≡ true = grind (arith, nat_tests) in
-      let fate : f m.source.bits ≡ fate_of (fate_at m.end) = tells.fates m.source.bits first.0 ∙ fate_head m ms m.source.bits here in
+      let source_state : f m.source.bits ≡ source_state_of (source_state_at m.end) = tells.source_states m.source.bits first.0 ∙ source_state_head m ms m.source.bits here in
       let unnamed : g m.source.bits ≡ false = tells.names m.source.bits first.0 ∙ none_below m.source.bits m.source.bits [] (omega arith) tt in
       let later : map case_value (cases_in ms []) ≡ told (keys (cases_in ms [])) = values_of_cases (suc m.source.bits) ms [] (AtLeast-from_below m.source.bits (sources_in ms) rises_ms.0) tt rises_ms.1 tt (without_member low m ms [] first.0 tells) in
-      λ i. (m.source.bits, sym fate i, sym unnamed i) ∷ later i
+      λ i. (m.source.bits, sym source_state i, sym unnamed i) ∷ later i
   values_of_cases low (m ∷ ms) (n ∷ ns) first second rises_ms rises_ns tells =
       values_step low m ms n ns (nat_lt n m.source.bits) (n == m.source.bits) refl refl first.0 second.0 rises_ms.0 rises_ns.0 tells
       (λ before. values_of_cases (suc n) (m ∷ ms) ns

@@ -1,14 +1,6 @@
 -- Ascending lists of numbers: what is among them, and that those with the same numbers are the same.
-use Rattle.std.proofs.Common.{◌≡◌, ℕ, ◌<◌, ◌≤◌, Bool, true, false, cond, List, [], ◌∷◌, refl, ap, eqb, subst, sym, ◌∙◌, ◌==◌, ◌||◌, nat_lt, arith}
-use Rattle.std.specs.List.{AllByRecursion, dedup, dedup_from, fold}
-use Rattle.std.specs.List.Sorted.{IsPermutation, IsSorted, IsStrictlySortedBy}
-use Rattle.std.proofs.lemmas.List.Sorted.{list_any-IsPermutation}
-use Rattle.std.proofs.lemmas.Map.Keys.{IsStrictlyIncreasing-dedup, sorted_from_strictly_increasing}
-use Rattle.std.specs.Ordering.{nat_cmp}
-use Rattle.std.specs.declared.cmp.Ordering.TheVariants.{Less}
-use Rattle.std.proofs.lemmas.Bool.Decides.{nat_tests}
-use Rattle.std.proofs.lemmas.Grind.{common_steps}
-use Rattle.pim_model.specs.Tables.{ascending, insert_number, is_among}
+use Rattle.std.{proofs.{Common.{◌≡◌, ℕ, ◌<◌, ◌≤◌, Bool, true, false, cond, List, [], ◌∷◌, refl, ap, eqb, subst, sym, ◌∙◌, ◌==◌, ◌||◌, nat_lt, arith}, lemmas.{List.Sorted.list_any-IsPermutation, Map.Keys.{IsStrictlyIncreasing-dedup, sorted_from_strictly_increasing}, Bool.Decides.nat_tests, Grind.common_steps}}, specs.{List.{AllByRecursion, dedup, dedup_from, fold, Sorted.{IsPermutation, IsSorted, IsStrictlySortedBy}}, Ordering.nat_cmp, declared.cmp.Ordering.TheVariants.Less}}
+use Rattle.pim_model.{specs.Tables.{ascending, insert_number, is_among}}
 
 -- below each of the numbers
 abbrev pub Below : ℕ → List ℕ → Type 0

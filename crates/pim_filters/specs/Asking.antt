@@ -1,6 +1,6 @@
 -- The queries that a group record requests: one of sources, then one of the group.
-use Rattle.std.specs.Prelude.{Bool, List, None, Option, Some, [], false, true, if◌then◌else◌, ℕ, ◌++◌, ◌∷◌}
-use Rattle.pim_model.specs.Records.{AskGroup, AskSources, Asked}
+use Rattle.std.{specs.Prelude.{Bool, List, None, Option, Some, [], false, true, if◌then◌else◌, ℕ, ◌++◌, ◌∷◌}}
+use Rattle.pim_model.{specs.Records.{AskGroup, AskSources, Asked}}
 
 abbrev pub source_queries : Option (List ℕ) → List Asked
 source_queries None = []

@@ -1,17 +1,14 @@
 -- The sources of a record and those that a message names, in one ascending list.
-use Rattle.std.specs.Prelude.{Bool, List, [], false, if◌then◌else◌, map, nat_lt, true, ℕ, ◌==◌, ◌∷◌}
-use Rattle.pim_filters.specs.Members.{fate_at, fate_of}
-use Rattle.pim_filters.specs.declared.case.Case.{Case}
-use Rattle.pim_filters.specs.declared.member.Fate.TheVariants.{Gone}
-use Rattle.pim_filters.specs.declared.member.Member.{Member}
+use Rattle.std.{specs.Prelude.{Bool, List, [], false, if◌then◌else◌, map, nat_lt, true, ℕ, ◌==◌, ◌∷◌}}
+use Rattle.pim_filters.{specs.{Members.{source_state_at, source_state_of}, declared.{case.Case.Case, member.{SourceState.TheVariants.Absent, Member.Member}}}}
 use Rattle.pim_model.specs.Records as records
 
 -- a named source that is no member, and a member
 abbrev pub new_case : ℕ → Case
-new_case n = record { source = record { bits = n }; before = Gone; named = true }
+new_case n = record { source = record { bits = n }; before = Absent; named = true }
 
 abbrev pub member_case : Bool → Member → Case
-member_case named m = record { source = m.source; before = fate_at m.end; named = named }
+member_case named m = record { source = m.source; before = source_state_at m.end; named = named }
 
 -- the cases from a member on, where `rest` has those of the later members
 abbrev pub cases_with : Member → (List ℕ → List Case) → List ℕ → List Case
@@ -27,7 +24,7 @@ cases_in (m ∷ ms) ns = cases_with m (cases_in ms) ns
 
 -- a source, what it was, and whether it is named
 abbrev pub CaseValue : Type 0
-CaseValue = ℕ × records.Fate × Bool
+CaseValue = ℕ × records.SourceState × Bool
 
 abbrev pub case_value : Case → CaseValue
-case_value c = (c.source.bits, fate_of c.before, c.named)
+case_value c = (c.source.bits, source_state_of c.before, c.named)

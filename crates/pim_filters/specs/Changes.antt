@@ -1,18 +1,14 @@
 -- What a message makes of the cases of a record.
-use Rattle.std.specs.Prelude.{Bool, List, Option, Some, [], filter, if◌then◌else◌, map}
-use Rattle.pim_filters.specs.Asking.{asked_in_order}
-use Rattle.pim_filters.specs.Members.{bits_of, fate_of}
-use Rattle.pim_filters.specs.Rules.{asks_group, asks_sources, fate_after, is_asked}
-use Rattle.pim_filters.specs.declared.case.Case.{Case}
-use Rattle.pim_filters.specs.declared.rule.Rule.{Rule}
-use Rattle.pim_model.specs.Records.{Asked, Member, member_of}
+use Rattle.std.{specs.Prelude.{Bool, List, Option, Some, [], filter, if◌then◌else◌, map}}
+use Rattle.pim_filters.{specs.{Asking.asked_in_order, Members.{bits_of, source_state_of}, Rules.{asks_group, asks_sources, source_state_after, is_asked}, declared.{case.Case.Case, rule.Rule.Rule}}}
+use Rattle.pim_model.{specs.Records.{Asked, Member, member_of}}
 
 abbrev pub entry_after : Rule → Case → Option Member
 entry_after rule c =
-    member_of c.source.bits (fate_after rule.full rule.timer rule.record_type (fate_of c.before) c.named)
+    member_of c.source.bits (source_state_after rule.full rule.timer rule.record_type (source_state_of c.before) c.named)
 
 abbrev pub is_case_asked : Rule → Case → Bool
-is_case_asked rule c = is_asked rule.timer rule.record_type (fate_of c.before) c.named
+is_case_asked rule c = is_asked rule.timer rule.record_type (source_state_of c.before) c.named
 
 abbrev pub asked_after : Rule → List Case → List Asked
 asked_after rule cs =

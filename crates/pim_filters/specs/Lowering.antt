@@ -1,8 +1,6 @@
 -- Timers of a group record lowered to a timestamp, where they run (RFC 3376, section 6.6.3).
-use Rattle.std.specs.Prelude.{List, if◌then◌else◌, map, ℕ}
-use Rattle.pim_model.specs.Querier.{lowered}
-use Rattle.pim_model.specs.Records.{GroupRecord, Member}
-use Rattle.pim_model.specs.Tables.{is_among}
+use Rattle.std.{specs.Prelude.{List, if◌then◌else◌, map, ℕ}}
+use Rattle.pim_model.{specs.{Querier.lowered, Records.{GroupRecord, Member}, Tables.is_among}}
 
 abbrev pub group_lowered : ℕ → GroupRecord → GroupRecord
 group_lowered end r = record r { timer = lowered end r.timer }

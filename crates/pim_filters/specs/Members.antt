@@ -1,14 +1,9 @@
 -- The members of a group record: what a contract sees of one, and their order.
-use Rattle.std.specs.List.{list_any}
-use Rattle.std.specs.List.Sorted.{IsStrictlySortedBy}
-use Rattle.std.specs.Ordering.{nat_cmp}
-use Rattle.std.specs.Prelude.{Bool, List, None, Option, Some, if◌then◌else◌, map, ℕ, ◌==◌}
-use Rattle.pim_filters.specs.declared.member.Fate.{Fate}
-use Rattle.pim_filters.specs.declared.member.Fate.TheVariants.{Gone, Excluded, Until}
-use Rattle.pim_filters.specs.declared.member.Member.{Member}
-use Rattle.pim_ip.specs.declared.addr.Addr.{Addr}
-pub use Rattle.igmp_wire.specs.Written.{bits_of}
-use Rattle.pim_model.specs.Querier.{lowered}
+use Rattle.std.{specs.{List.{list_any, Sorted.IsStrictlySortedBy}, Ordering.nat_cmp, Prelude.{Bool, List, None, Option, Some, if◌then◌else◌, map, ℕ, ◌==◌}}}
+use Rattle.pim_filters.{specs.declared.member.{SourceState.{SourceState, TheVariants.{Absent, Excluded, Included}}, Member.Member}}
+use Rattle.pim_ip.{specs.declared.addr.Addr.Addr}
+pub use Rattle.igmp_wire.{specs.Written.bits_of}
+use Rattle.pim_model.{specs.Querier.lowered}
 use Rattle.pim_model.specs.Records as records
 
 abbrev pub member_entry : Member → records.Member
@@ -17,15 +12,15 @@ member_entry m = (m.source.bits, m.end)
 abbrev pub member_entries : List Member → List records.Member
 member_entries ms = map member_entry ms
 
-abbrev pub fate_of : Fate → records.Fate
-fate_of Gone = records.Gone
-fate_of Excluded = records.Excluded
-fate_of (Until end) = records.Until end
+abbrev pub source_state_of : SourceState → records.SourceState
+source_state_of Absent = records.Absent
+source_state_of Excluded = records.Excluded
+source_state_of (Included end) = records.Included end
 
 -- What becomes of a member, by when its timer expires, if it has one.
-abbrev pub fate_at : Option ℕ → Fate
-fate_at None = Excluded
-fate_at (Some end) = Until end
+abbrev pub source_state_at : Option ℕ → SourceState
+source_state_at None = Excluded
+source_state_at (Some end) = Included end
 
 -- the sources ascend, and each is there once
 abbrev pub IsAscending : List records.Member → Type 0

@@ -1,8 +1,8 @@
 -- The tables of RFC 3376, section 6.4, for one source: what becomes of it, by what it was and whether the message names
 -- it. `full` is when a timer that is set expires, `timer` when the group timer does.
-use Rattle.std.specs.Prelude.{Bool, None, Option, Some, false, if◌then◌else◌, is_some, not, true, ℕ, ◌&&◌}
-use Rattle.igmp_wire.specs.declared.report.RecordType.{RecordType}
-use Rattle.pim_model.specs.Records.{Fate, Gone, Excluded, Until, is_excluded, is_running}
+use Rattle.std.{specs.Prelude.{Bool, None, Option, Some, false, if◌then◌else◌, is_some, not, true, ℕ, ◌&&◌}}
+use Rattle.igmp_wire.{specs.declared.report.RecordType.RecordType}
+use Rattle.pim_model.{specs.Records.{SourceState, Absent, Excluded, Included, is_excluded, is_running}}
 
 abbrev pub timer_after : ℕ → Option ℕ → RecordType → Option ℕ
 timer_after full timer RecordType.IsExclude = Some full
@@ -10,23 +10,23 @@ timer_after full timer RecordType.ToExclude = Some full
 timer_after full timer _ = timer
 
 -- what a source becomes that the record didn't have
-abbrev pub fresh_fate : ℕ → Option ℕ → RecordType → Fate
-fresh_fate full None type = Excluded
-fresh_fate full (Some end) RecordType.IsExclude = Until full
-fresh_fate full (Some end) _ = Until end
+abbrev pub fresh_source_state : ℕ → Option ℕ → RecordType → SourceState
+fresh_source_state full None type = Excluded
+fresh_source_state full (Some end) RecordType.IsExclude = Included full
+fresh_source_state full (Some end) _ = Included end
 
-abbrev pub kept_or : Fate → Fate → Fate
-kept_or fresh Gone = fresh
-kept_or fresh fate = fate
+abbrev pub kept_or : SourceState → SourceState → SourceState
+kept_or fresh Absent = fresh
+kept_or fresh source_state = source_state
 
-abbrev pub fate_after : ℕ → Option ℕ → RecordType → Fate → Bool → Fate
-fate_after full timer RecordType.IsExclude before named =
-    if named then kept_or (fresh_fate full timer RecordType.IsExclude) before else Gone
-fate_after full timer RecordType.ToExclude before named =
-    if named then kept_or (fresh_fate full timer RecordType.ToExclude) before else Gone
-fate_after full timer RecordType.Block before named =
-    if is_some timer && named then kept_or (fresh_fate full timer RecordType.Block) before else before
-fate_after full timer _ before named = if named then Until full else before
+abbrev pub source_state_after : ℕ → Option ℕ → RecordType → SourceState → Bool → SourceState
+source_state_after full timer RecordType.IsExclude before named =
+    if named then kept_or (fresh_source_state full timer RecordType.IsExclude) before else Absent
+source_state_after full timer RecordType.ToExclude before named =
+    if named then kept_or (fresh_source_state full timer RecordType.ToExclude) before else Absent
+source_state_after full timer RecordType.Block before named =
+    if is_some timer && named then kept_or (fresh_source_state full timer RecordType.Block) before else before
+source_state_after full timer _ before named = if named then Included full else before
 
 abbrev pub asks_sources : RecordType → Bool
 asks_sources RecordType.Block = true
@@ -35,7 +35,7 @@ asks_sources RecordType.ToInclude = true
 asks_sources _ = false
 
 -- the source is among those that a query names
-abbrev pub is_asked : Option ℕ → RecordType → Fate → Bool → Bool
+abbrev pub is_asked : Option ℕ → RecordType → SourceState → Bool → Bool
 is_asked timer RecordType.ToInclude before named = is_running before && not named
 is_asked timer _ before named =
     if is_some timer then named && not (is_excluded before) else is_running before && named

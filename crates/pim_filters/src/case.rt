@@ -3,7 +3,7 @@ ghost use Rattle.std.specs.Iterator.{YieldsFirst, item_count};
 ghost use Rattle.std.specs.Prelude.{◌≡◌};
 ghost use Rattle.pim_filters.specs.Cases.{cases_in, member_case, new_case};
 
-use crate::member::{Fate, Member};
+use crate::member::{Member, SourceState};
 use pim_ip::Addr;
 
 /// A source that a record has or a message names.
@@ -11,28 +11,30 @@ use pim_ip::Addr;
 pub(crate) struct Case {
     pub(crate) source: Addr,
     /// What the record says of it before the message.
-    pub(crate) before: Fate,
-    /// Whether the message names it.
+    pub(crate) before: SourceState,
+    /// Whether the message names the source.
     pub(crate) named: bool,
 }
 
 impl Case {
+    // A source that a message names, and that the group's record didn't have.
     fn of_name(name: u32) -> Case
         ensures { result ≡ new_case name }
     {
         Case {
             source: Addr { bits: name },
-            before: Fate::Gone,
+            before: SourceState::Absent,
             named: true,
         }
     }
 
+    // A source of the group's record, which a message names or not.
     fn of_member(member: Member, named: bool) -> Case
         ensures { result ≡ member_case named member }
     {
         Case {
             source: member.source,
-            before: member.fate(),
+            before: member.source_state(),
             named,
         }
     }

@@ -4,7 +4,7 @@ ghost use Rattle.std.specs.Prelude.{◌≡◌, ◌==◌, false, filter, find, ma
 ghost use Rattle.pim_filters.specs.Members.{bits_of, with_end_lowered, without_end};
 
 use crate::asking::Asking;
-use crate::member::{Fate, Member, Members, lowered_end};
+use crate::member::{Member, Members, SourceState, lowered_end};
 use crate::names::ascending;
 use crate::rule::Rule;
 use igmp_wire::RecordType;
@@ -45,8 +45,8 @@ impl Model for GroupRecord {
 impl GroupRecord {
     ghost use Rattle.std.specs.Prelude.{◌≡◌, IfOk, OnErr, OnOk, is_some};
     ghost use Rattle.pim_filters.specs.Lowering.{group_lowered, sources_lowered};
-    ghost use Rattle.pim_filters.specs.Members.{IsAscending, member_entries, fate_of};
-    ghost use Rattle.pim_model.specs.Records.{apply_record, fate_in, group_expired, is_no_record, no_record, source_expired};
+    ghost use Rattle.pim_filters.specs.Members.{IsAscending, member_entries, source_state_of};
+    ghost use Rattle.pim_model.specs.Records.{apply_record, source_state_in, group_expired, is_no_record, no_record, source_expired};
 
     /// No record of the group.
     pub fn new(alloc: Global) -> GroupRecord
@@ -93,7 +93,7 @@ impl GroupRecord {
         self.timer.is_some()
     }
 
-    /// The sources, ascending by their addresses.
+    /// The record's sources, ascending by their addresses.
     pub fn members(&self) -> &[Member]
         ensures members { member_entries result.now ≡ self.now.members }
         ensures ascending { IsAscending self.now.members }
@@ -102,12 +102,12 @@ impl GroupRecord {
     }
 
     /// What the record says of a source.
-    pub fn fate(&self, source: Addr) -> Fate
-        ensures { fate_of result ≡ fate_in self.now source.bits }
+    pub fn source_state(&self, source: Addr) -> SourceState
+        ensures { source_state_of result ≡ source_state_in self.now source.bits }
     {
         match member_of(self.members(), source) {
-            Some(member) => member.fate(),
-            None => Fate::Gone,
+            Some(member) => member.source_state(),
+            None => SourceState::Absent,
         }
     }
 

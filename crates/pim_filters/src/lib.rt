@@ -11,4 +11,4 @@ mod rule;
 
 pub use asking::Asking;
 pub use group_record::GroupRecord;
-pub use member::{Fate, Member};
+pub use member::{Member, SourceState};

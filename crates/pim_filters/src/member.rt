@@ -1,7 +1,7 @@
 //! A source of a group record, with its timer.
 ghost use Rattle.std.specs.Option.{option_map_or};
 ghost use Rattle.std.specs.Prelude.{◌≡◌, None, false, nat_lt};
-ghost use Rattle.pim_filters.specs.Members.{fate_at, fate_of, is_named_source, with_end_lowered, without_end};
+ghost use Rattle.pim_filters.specs.Members.{source_state_at, source_state_of, is_named_source, with_end_lowered, without_end};
 ghost use Rattle.pim_filters.specs.Rules.{kept_or};
 ghost use Rattle.pim_model.specs.Querier.{lowered};
 ghost use Rattle.pim_model.specs.Records.{is_running};
@@ -32,42 +32,42 @@ impl Default for Member {
 
 /// What a group record says of a source.
 #[derive(Clone, Copy, PartialEq, Eq)]
-pub enum Fate {
+pub enum SourceState {
     /// The record doesn't have the source.
-    Gone,
+    Absent,
     /// The source has no timer: its packets are refused.
     Excluded,
     /// The source's timer runs until this timestamp, in ms.
-    Until(u64),
+    Included(u64),
 }
 
-impl Fate {
-    /// The fate, or another in place of `Gone`.
-    pub(crate) fn or(self, fresh: Fate) -> Fate
-        ensures { fate_of result ≡ kept_or (fate_of fresh) (fate_of self) }
+impl SourceState {
+    /// The state, or another in place of `Absent`.
+    pub(crate) fn or(self, fresh: SourceState) -> SourceState
+        ensures { source_state_of result ≡ kept_or (source_state_of fresh) (source_state_of self) }
     {
         match self {
-            Fate::Gone => fresh,
-            Fate::Excluded | Fate::Until(_) => self,
+            SourceState::Absent => fresh,
+            SourceState::Excluded | SourceState::Included(_) => self,
         }
     }
 
     /// Whether the source's timer runs.
     pub fn is_running(self) -> bool
-        ensures { result ≡ is_running (fate_of self) }
+        ensures { result ≡ is_running (source_state_of self) }
     {
-        matches!(self, Fate::Until(_))
+        matches!(self, SourceState::Included(_))
     }
 }
 
 impl Member {
     /// What the record says of the source.
-    pub fn fate(self) -> Fate
-        ensures { result ≡ fate_at self.end }
+    pub fn source_state(self) -> SourceState
+        ensures { result ≡ source_state_at self.end }
     {
         match self.end {
-            Some(end) => Fate::Until(end),
-            None => Fate::Excluded,
+            Some(end) => SourceState::Included(end),
+            None => SourceState::Excluded,
         }
     }
 

@@ -4,12 +4,12 @@ ghost use Rattle.std.specs.Prelude.{◌≡◌, IfOk, filter, filter_map, map};
 ghost use Rattle.pim_filters.specs.Asking.{asked_in_order};
 ghost use Rattle.pim_filters.specs.Cases.{cases_in};
 ghost use Rattle.pim_filters.specs.Changes.{asked_after, entry_after, is_case_asked};
-ghost use Rattle.pim_filters.specs.Members.{member_entries, member_entry, fate_of};
-ghost use Rattle.pim_filters.specs.Rules.{asks_group, asks_sources, fate_after, fresh_fate, is_asked, kept_or, timer_after};
+ghost use Rattle.pim_filters.specs.Members.{member_entries, member_entry, source_state_of};
+ghost use Rattle.pim_filters.specs.Rules.{asks_group, asks_sources, source_state_after, fresh_source_state, is_asked, kept_or, timer_after};
 
 use crate::asking::Asking;
 use crate::case::{Case, Cases};
-use crate::member::{Fate, Member, Members};
+use crate::member::{Member, Members, SourceState};
 use igmp_wire::RecordType;
 use pim_ip::Addr;
 use smallvec::SmallVec;
@@ -36,30 +36,34 @@ impl Rule {
         }
     }
 
-    /// What a source becomes that the record didn't have.
-    fn fresh_fate(self) -> Fate
-        ensures { fate_of result ≡ fresh_fate self.full self.timer self.record_type }
+    /// The state of a source that the group's record didn't have.
+    fn fresh_source_state(self) -> SourceState
+        ensures { source_state_of result ≡ fresh_source_state self.full self.timer self.record_type }
     {
         match (self.timer, self.record_type) {
-            (None, _) => Fate::Excluded,
-            (Some(_), RecordType::IsExclude) => Fate::Until(self.full),
-            (Some(end), _) => Fate::Until(end),
+            (None, _) => SourceState::Excluded,
+            (Some(_), RecordType::IsExclude) => SourceState::Included(self.full),
+            (Some(end), _) => SourceState::Included(end),
         }
     }
 
     /// What becomes of a source.
-    fn fate_after(self, case: Case) -> Fate
-        ensures { fate_of result ≡ fate_after self.full self.timer self.record_type (fate_of case.before) case.named }
+    fn source_state_after(self, case: Case) -> SourceState
+        ensures { source_state_of result ≡ source_state_after self.full self.timer self.record_type (source_state_of case.before) case.named }
     {
         let before = case.before;
         match (self.record_type, case.named) {
-            (RecordType::IsExclude | RecordType::ToExclude, false) => Fate::Gone,
-            (RecordType::IsExclude | RecordType::ToExclude, true) => before.or(self.fresh_fate()),
-            (RecordType::Block, true) if self.timer.is_some() => before.or(self.fresh_fate()),
+            (RecordType::IsExclude | RecordType::ToExclude, false) => SourceState::Absent,
+            (RecordType::IsExclude | RecordType::ToExclude, true) => before.or(
+                self.fresh_source_state(),
+            ),
+            (RecordType::Block, true) if self.timer.is_some() => before.or(
+                self.fresh_source_state(),
+            ),
             (RecordType::Block, _) => before,
             (RecordType::IsInclude | RecordType::Allow | RecordType::ToInclude, false) => before,
             (RecordType::IsInclude | RecordType::Allow | RecordType::ToInclude, true) => {
-                Fate::Until(self.full)
+                SourceState::Included(self.full)
             }
         }
     }
@@ -69,10 +73,10 @@ impl Rule {
         ensures { option_map member_entry result ≡ entry_after self case }
     {
         let source = case.source;
-        match self.fate_after(case) {
-            Fate::Gone => None,
-            Fate::Excluded => Some(Member { source, end: None }),
-            Fate::Until(end) => Some(Member {
+        match self.source_state_after(case) {
+            SourceState::Absent => None,
+            SourceState::Excluded => Some(Member { source, end: None }),
+            SourceState::Included(end) => Some(Member {
                 source,
                 end: Some(end),
             }),
@@ -103,7 +107,7 @@ impl Rule {
     {
         match self.record_type {
             RecordType::ToInclude => case.before.is_running() && !case.named,
-            _ if self.timer.is_some() => case.named && case.before != Fate::Excluded,
+            _ if self.timer.is_some() => case.named && case.before != SourceState::Excluded,
             _ => case.named && case.before.is_running(),
         }
     }
@@ -126,7 +130,7 @@ impl Rule {
         Ok(asked)
     }
 
-    /// Whether there is a query of sources, though it may name none.
+    /// Whether the record makes the router query sources, though it may name none.
     fn asks_sources(self) -> bool
         ensures { result ≡ asks_sources self.record_type }
     {
@@ -136,7 +140,7 @@ impl Rule {
         )
     }
 
-    /// Whether there is a query of the group.
+    /// Whether the record makes the router query the group.
     fn asks_group(self) -> bool
         ensures { result ≡ asks_group self.timer self.record_type }
     {

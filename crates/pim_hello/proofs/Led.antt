@@ -1,11 +1,8 @@
 -- What looks to a neighbour of a group.
-use Rattle.std.proofs.Common.{◌≡◌, ◌++◌, ℕ, Bool, true, false, List, [], ◌∷◌, append-nil, filter, map, refl, sym, ap, ◌∙◌}
-use Rattle.pim_types.specs.Keys.{source_key, star_key}
-use Rattle.pim_model.specs.State.{State}
-use Rattle.pim_model.specs.Unicast.{route, rp_route}
-use Rattle.pim_model.specs.Upstream.{fact_keys, sources_of}
-use Rattle.pim_types.specs.declared.fact.Key.{Key}
-use Rattle.pim_adjacent.specs.Adjacent.{dr_keys, keys_of_dr, leads_to, led_of_group, led_sources}
+use Rattle.std.{proofs.Common.{◌≡◌, ◌++◌, ℕ, Bool, true, false, List, [], ◌∷◌, append-nil, filter, map, refl, sym, ap, ◌∙◌}}
+use Rattle.pim_types.{specs.{Keys.{source_key, star_key}, declared.fact.Key.Key}}
+use Rattle.pim_model.{specs.{State.State, Unicast.{route, rp_route}, Upstream.{fact_keys, sources_of}}}
+use Rattle.law_named.{specs.Adjacent.{dr_keys, keys_of_dr, leads_to, led_of_group, led_sources}}
 
 module _ (s : State) (i address g : ℕ) (led : Bool) (is : led ≡ leads_to i address (rp_route s g)) where
   pub all_led : led ≡ true → star_key 0 g ∷ [] ≡ led_of_group s i address g

@@ -3,3 +3,4 @@ mod StartedAnew
 mod Losses
 mod Ranked
 mod Led
+mod OffLink

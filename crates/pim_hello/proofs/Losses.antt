@@ -1,15 +1,8 @@
 -- Asserts lost to a neighbour, ended by their keys.
-use Rattle.std.proofs.Common.{◌≡◌, Bool, true, false, cond, not, ◌&&◌, List, [], ◌∷◌, filter, refl, ap, ◌∙◌}
-use Rattle.std.specs.List.{AllByRecursion}
-use Rattle.std.specs.List.Sorted.{IsStrictlySortedBy}
-use Rattle.std.specs.Ordering.{is_eq}
-use Rattle.std.specs.declared.cmp.Ordering.TheVariants.{Less}
-use Rattle.pim_types.specs.declared.fact.Key.{Key}
-use Rattle.pim_types.specs.Keys.{key_cmp, same_key}
-use Rattle.pim_types.proofs.Keys.{same_key_same}
-use Rattle.pim_model.specs.Downstream.{is_named}
-use Rattle.pim_model.specs.Tables.{Table, keys_in}
-use Rattle.pim_laws.proofs.RowLaws.{same_key_swap}
+use Rattle.std.{proofs.Common.{◌≡◌, Bool, true, false, cond, not, ◌&&◌, List, [], ◌∷◌, filter, refl, ap, ◌∙◌}, specs.{List.{AllByRecursion, Sorted.IsStrictlySortedBy}, Ordering.is_eq, declared.cmp.Ordering.TheVariants.Less}}
+use Rattle.pim_types.{specs.{declared.fact.Key.Key, Keys.{key_cmp, same_key}}, proofs.Keys.same_key_same}
+use Rattle.pim_model.{specs.{Downstream.is_named, Tables.{Table, keys_in}}}
+use Rattle.law_settled.{proofs.RowLaws.same_key_swap}
 
 kept_unnamed : (b : Bool) → not (b && false) ≡ true
 kept_unnamed true = refl

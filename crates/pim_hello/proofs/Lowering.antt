@@ -1,14 +1,9 @@
 -- Join timers lowered one after the other, and all at once.
-use Rattle.std.proofs.Common.{◌≡◌, ◌≤◌, ℕ, Bool, ap, ◌∙◌, sym, filter, map, min, arith}
-use Rattle.std.specs.Prelude.{if◌then◌else◌}
-use Rattle.std.proofs.Math.Nat.{min-le_right}
-use Rattle.pim_types.specs.declared.fact.JoinTimerRow.{JoinTimerRow}
-use Rattle.pim_types.specs.declared.fact.Key.{Key}
-use Rattle.pim_model.specs.State.{State}
-use Rattle.pim_model.specs.Tables.{Table, keys_in}
-use Rattle.pim_laws.specs.Rows.{all_changed}
-use Rattle.pim_laws.proofs.ChosenRows.{chosen_changed}
-use Rattle.pim_store.specs.PimTables.{lowered_join_timer}
+use Rattle.std.{proofs.{Common.{◌≡◌, ◌≤◌, ℕ, Bool, ap, ◌∙◌, sym, filter, map, min, arith}, Math.Nat.min-le_right}, specs.Prelude.if◌then◌else◌}
+use Rattle.pim_types.{specs.declared.fact.{JoinTimerRow.JoinTimerRow, Key.Key}}
+use Rattle.pim_model.{specs.{State.State, Tables.{Table, keys_in}}}
+use Rattle.law_settled.{specs.Rows.all_changed, proofs.ChosenRows.chosen_changed}
+use Rattle.pim_store.{specs.PimTables.lowered_join_timer}
 
 abbrev low : ℕ → JoinTimerRow → JoinTimerRow
 low end r = record { end = min r.end end }

@@ -1,23 +1,10 @@
 -- The election of the DR where one neighbour's row is another: by that row, and by the other neighbours.
-use Rattle.std.proofs.Common.{◌≡◌, ◌&&◌, ◌||◌, ℕ, Bool, true, false, not, cond, [], ◌∷◌, Option, Some, None, is_none, is_some, refl, sym, ap, ◌∙◌, eq-eqb}
-use Rattle.std.specs.BTreeMap.{insert_entry}
-use Rattle.std.specs.List.{AllByRecursion, list_any}
-use Rattle.std.specs.List.Sorted.{IsStrictlySortedBy}
-use Rattle.std.specs.Option.{option_map_or}
-use Rattle.std.specs.Ordering.{is_eq, match_ordering}
-use Rattle.std.specs.declared.cmp.Ordering.{Ordering}
-use Rattle.std.specs.declared.cmp.Ordering.TheVariants.{Less, Equal, Greater}
-use Rattle.pim_types.specs.declared.fact.Key.{Key}
-use Rattle.pim_types.specs.declared.fact.NeighbourRow.{NeighbourRow}
-use Rattle.pim_types.specs.Keys.{iface_in, is_on, key_cmp, same_key}
-use Rattle.pim_types.proofs.Keys.{equal_keys}
-use Rattle.pim_model.specs.Neighbours.{all_have_priority, is_better_dr, is_dr_among}
-use Rattle.pim_model.specs.Tables.{Table, drop_at, drop_where, has_row, keys_in, put, rows_on, set_row}
-use Rattle.pim_laws.proofs.ListLaws.{or_swapped}
-use Rattle.pim_laws.proofs.TableLaws.{any_in_filter}
-use Rattle.pim_locality.proofs.OwnKeys.{all_later, none_below}
-use Rattle.pim_locality.proofs.Registers.{nothing_dropped}
-use Rattle.pim_hello.specs.Election.{is_other, is_unranked, some_other}
+use Rattle.std.{proofs.Common.{◌≡◌, ◌&&◌, ◌||◌, ℕ, Bool, true, false, not, cond, [], ◌∷◌, Option, Some, None, is_none, is_some, refl, sym, ap, ◌∙◌, eq-eqb}, specs.{BTreeMap.insert_entry, List.{AllByRecursion, list_any, Sorted.IsStrictlySortedBy}, Option.option_map_or, Ordering.{is_eq, match_ordering}, declared.cmp.Ordering.{Ordering, TheVariants.{Less, Equal, Greater}}}}
+use Rattle.pim_types.{specs.{declared.fact.{Key.Key, NeighbourRow.NeighbourRow}, Keys.{iface_in, is_on, key_cmp, same_key}}, proofs.Keys.equal_keys}
+use Rattle.pim_model.{specs.{Neighbours.{all_have_priority, is_better_dr, is_dr_among}, Tables.{Table, drop_at, drop_where, has_row, keys_in, put, rows_on, set_row}}}
+use Rattle.law_settled.{proofs.{ListLaws.or_swapped, TableLaws.any_in_filter}}
+use Rattle.law_scope.{proofs.{OwnKeys.{all_later, none_below}, Registers.nothing_dropped}}
+use Rattle.pim_hello.{specs.Election.{is_other, is_unranked, some_other}}
 
 -- ---- what passes in a table where one row is set
 

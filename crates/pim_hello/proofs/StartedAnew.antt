@@ -1,24 +1,11 @@
 -- A neighbour that restarted.
-use Rattle.std.proofs.Common.{◌≡◌, ℕ, true, not, ◌&&◌, List, ◌+◌, Some, refl, ap, sym, ◌∙◌, filter}
-use Rattle.std.specs.Cmp.{first_so, second_so}
-use Rattle.std.specs.List.Sorted.{IsStrictlySortedBy}
-use Rattle.pim_types.specs.declared.fact.AssertRow.{AssertRow}
-use Rattle.pim_types.specs.declared.fact.JoinTimerRow.{JoinTimerRow}
-use Rattle.pim_types.specs.declared.fact.Key.{Key}
-use Rattle.pim_types.specs.Keys.{is_on, key_cmp}
-use Rattle.pim_wire.specs.declared.hello.Hello.{Hello as HelloValue}
-use Rattle.pim_model.specs.Downstream.{asserts_after_joins}
-use Rattle.pim_model.specs.Hellos.{hello_triggered, is_lost_to, neighbour_replaced, neighbour_restarted}
-use Rattle.pim_model.specs.Neighbours.{t_override}
-use Rattle.pim_model.specs.Sets.{is_loser}
-use Rattle.pim_model.specs.State.{State}
-use Rattle.pim_model.specs.Tables.{Table, hop_at, keys_in}
-use Rattle.pim_laws.specs.Rows.{all_changed}
-use Rattle.pim_laws.proofs.ChosenRows.{keys_of_passing}
-use Rattle.pim_store.specs.PimTables.{lowered_join_timer}
-use Rattle.pim_hello.specs.Towards.{is_towards}
-use Rattle.pim_hello.proofs.Losses.{losses_ended}
-use Rattle.pim_hello.proofs.Lowering.{lowered_where}
+use Rattle.std.{proofs.Common.{◌≡◌, ℕ, true, not, ◌&&◌, List, ◌+◌, Some, refl, ap, sym, ◌∙◌, filter}, specs.{Cmp.{first_so, second_so}, List.Sorted.IsStrictlySortedBy}}
+use Rattle.pim_types.{specs.{declared.fact.{AssertRow.AssertRow, JoinTimerRow.JoinTimerRow, Key.Key}, Keys.{is_on, key_cmp}}}
+use Rattle.pim_wire.{specs.declared.hello.Hello.Hello as HelloValue}
+use Rattle.pim_model.{specs.{Downstream.asserts_after_joins, Hellos.{hello_triggered, is_lost_to, neighbour_replaced, neighbour_restarted}, Neighbours.t_override, Sets.is_loser, State.State, Tables.{Table, hop_at, keys_in}}}
+use Rattle.law_settled.{specs.Rows.all_changed, proofs.ChosenRows.keys_of_passing}
+use Rattle.pim_store.{specs.PimTables.lowered_join_timer}
+use Rattle.pim_hello.{specs.Towards.is_towards, proofs.{Losses.losses_ended, Lowering.lowered_where}}
 
 -- what is lost to somebody is lost
 lost_so : (i a : ℕ) (e : Key × AssertRow) → is_lost_to i a e ≡ true → is_loser (Some e.1) ≡ true

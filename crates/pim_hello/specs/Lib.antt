@@ -1,3 +1,4 @@
 pub mod Ends
 pub mod Election
 pub mod Towards
+pub mod Linked

@@ -1,17 +1,17 @@
 //! Whether a Hello, or the expiry of a neighbour, leaves unchanged whether the router is the DR of the interface (RFC
 //! 7761, section 4.3.2).
 ghost use Rattle.std.specs.Prelude.{◌≡◌, ◌||◌, None, Some, is_none, not};
-ghost use Rattle.pim_adjacent.specs.Adjacent.{end_keeps_dr, hello_keeps_dr};
+ghost use Rattle.law_named.specs.Adjacent.{end_keeps_dr, hello_keeps_dr};
 ghost use Rattle.pim_hello.specs.Election.{is_dr_with, is_other, is_unranked, row_of_hello, some_other};
 ghost use Rattle.pim_model.specs.Neighbours.{is_better_dr};
 ghost use Rattle.pim_model.specs.State.{my_address, my_priority};
 ghost use Rattle.pim_types.specs.Keys.{same_key};
 
 use pim_neighbours::{holdtime_end, is_better_dr};
+use pim_state::World;
 use pim_types::fact::NeighbourRow;
 use pim_types::{Addr, IfaceId, InterfaceConfig, Key};
 use pim_wire::{DEFAULT_HOLDTIME, Hello};
-use pim_world::World;
 
 // What is configured of the interface.
 fn own(world: &World, iface: IfaceId) -> InterfaceConfig
@@ -32,14 +32,14 @@ fn is_same(first: Key, second: Key) -> bool
     first.cmp(&second).is_eq()
 }
 
-// Whether it is another neighbour than that with the key, and announced no priority.
+// Whether a neighbour is another one than that with the key, and announced no priority.
 fn is_other_unranked(key: Key, other: Key, row: NeighbourRow) -> bool
     ensures { result ≡ is_other key is_unranked (other, row) }
 {
     !is_same(key, other) && row.priority.is_none()
 }
 
-// Whether it is another, and comes before the router.
+// Whether a neighbour is another one than that with the key, and comes before the router in the election of the DR.
 fn is_other_better(
     by_priority: bool,
     own: &InterfaceConfig,
@@ -64,7 +64,7 @@ fn some_other_unranked(world: &World, key: Key) -> bool
     false
 }
 
-// Whether another there comes before the router.
+// Whether a neighbour other than that with the key comes before the router in the election of the DR.
 fn some_other_better(world: &World, by_priority: bool, own: &InterfaceConfig, key: Key) -> bool
     ensures { result ≡ some_other key (is_better_dr by_priority own.now.priority own.now.address.bits)
         world.now.neighbours }
@@ -88,14 +88,14 @@ fn is_dr_without(world: &World, key: Key) -> bool
     !some_other_better(world, by_priority, &own, key)
 }
 
-// Whether each neighbour announced its priority where that with the key has this row.
+// Whether each neighbour on the interface announced its priority, where the neighbour with the key has this row.
 fn all_are_ranked(world: &World, key: Key, row: NeighbourRow) -> bool
     ensures { result ≡ not (is_none row.priority || some_other key is_unranked world.now.neighbours) }
 {
     !(row.priority.is_none() || some_other_unranked(world, key))
 }
 
-// Whether it, or another, comes before the router.
+// Whether the neighbour with the key, or another one, comes before the router in the election of the DR.
 fn some_are_better(
     world: &World,
     by_priority: bool,
@@ -109,7 +109,7 @@ fn some_are_better(
     is_better_dr(by_priority, own, &key, &row) || some_other_better(world, by_priority, own, key)
 }
 
-// Whether it is the DR where the neighbour with the key has this row.
+// Whether the router is the DR where the neighbour with the key has this row.
 fn is_dr_beside(world: &World, key: Key, row: NeighbourRow) -> bool
     ensures { result ≡ is_dr_with world.now key (Some row) }
 {
@@ -120,7 +120,7 @@ fn is_dr_beside(world: &World, key: Key, row: NeighbourRow) -> bool
     !some_are_better(world, by_priority, &own, key, row)
 }
 
-// Whether it is the DR where the neighbour's row is this one, or there is none.
+// Whether the router is the DR where the neighbour with the key has this row, or isn't one.
 fn is_dr_with(world: &World, key: Key, row: Option<NeighbourRow>) -> bool
     ensures { result ≡ is_dr_with world.now key row }
 {
@@ -148,7 +148,7 @@ fn row_of_hello(world: &World, hello: &Hello) -> Option<NeighbourRow>
 }
 
 /// Whether a Hello from the address leaves unchanged whether the router is the DR of the interface.
-#[tactic(auto, unfolding(pim_adjacent::specs::Adjacent::hello_keeps_dr, pim_model::specs::Hellos::neighbour_replaced, pim_model::specs::Hellos::neighbours_replaced, pim_model::specs::Neighbours::is_dr))]
+#[tactic(auto, unfolding(law_named::specs::Adjacent::hello_keeps_dr, pim_model::specs::Hellos::neighbour_replaced, pim_model::specs::Hellos::neighbours_replaced, pim_model::specs::Neighbours::is_dr))]
 pub fn hello_keeps_dr(world: &World, iface: IfaceId, from: Addr, hello: &Hello) -> bool
     ensures { result ≡ hello_keeps_dr world.now iface.number from.bits hello.now }
 {
@@ -158,7 +158,7 @@ pub fn hello_keeps_dr(world: &World, iface: IfaceId, from: Addr, hello: &Hello) 
 }
 
 /// Whether the expiry of the neighbour with this key leaves unchanged whether the router is the DR of its interface.
-#[tactic(auto, unfolding(pim_adjacent::specs::Adjacent::end_keeps_dr, pim_model::specs::Hellos::neighbour_due, pim_model::specs::Neighbours::is_dr, pim_model::specs::Tables::set_row))]
+#[tactic(auto, unfolding(law_named::specs::Adjacent::end_keeps_dr, pim_model::specs::Hellos::neighbour_due, pim_model::specs::Neighbours::is_dr, pim_model::specs::Tables::set_row))]
 pub fn end_keeps_dr(world: &World, key: Key) -> bool
     ensures { result ≡ end_keeps_dr world.now key }
 {

@@ -3,9 +3,9 @@ ghost use Rattle.std.specs.Prelude.{◌≡◌};
 ghost use Rattle.pim_model.specs.Full.{hello_is_full};
 ghost use Rattle.pim_model.specs.Hellos.{hello_holdtime_of};
 
+use pim_state::World;
 use pim_types::{Addr, IfaceId};
 use pim_wire::{DEFAULT_HOLDTIME, Hello};
-use pim_world::World;
 
 /// The most neighbours of an interface.
 const MOST_NEIGHBOURS: usize = 64;

@@ -5,9 +5,9 @@ ghost use Rattle.pim_model.specs.Tables.{delay_in};
 
 use crate::restarted::{asserts_lost_to, lower_timers, timers_towards};
 use pim_neighbours::delay_in;
+use pim_state::{Meter, Turn, World};
 use pim_types::{Addr, Hop, IfaceId};
 use pim_wire::Hello;
-use pim_world::{Meter, Turn, World};
 use std::alloc::AllocError;
 
 // Triggered_Hello_Delay (RFC 7761, section 4.11), in ms.
@@ -80,7 +80,7 @@ fn restart(
     trigger(world, iface, turn.draw)?;
     world.replace_neighbour(iface, from, hello)?;
     // For the proof: the keys of asserts rise, so that each is listed once.
-    world.recall_keyed();
+    world.proof_keyed();
     let lost = asserts_lost_to(world, turn, neighbour)?;
     world.store_mut().end_losses(&lost, meter);
     let end = world.present() + world.override_delay(iface, turn.draw);

@@ -1,12 +1,12 @@
 //! Ends of the timers of neighbours and of Hellos.
 ghost use Rattle.std.specs.Prelude.{◌≡◌, OnOk, true};
 ghost use Rattle.pim_hello.specs.Ends.{is_hello_kind};
-ghost use Rattle.pim_world.specs.Turns.{saying};
+ghost use Rattle.pim_state.specs.Turns.{saying};
 ghost use Rattle.pim_model.specs.Firing.{fire_row, fired};
 ghost use Rattle.pim_model.specs.Hellos.{hello_due};
 
+use pim_state::{Turn, World};
 use pim_types::{Key, TimerKind};
-use pim_world::{Turn, World};
 use std::alloc::AllocError;
 
 /// Takes the expiry of the timer of a neighbour, which is removed, or of a Hello timer (RFC 7761, section 4.3.1): a

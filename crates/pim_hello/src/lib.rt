@@ -6,6 +6,7 @@ pub mod election;
 pub mod full;
 pub mod hello;
 pub mod hello_timers;
+mod linked;
 mod restarted;
 mod served;
 pub mod towards;

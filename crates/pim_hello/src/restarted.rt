@@ -3,14 +3,14 @@ ghost use Rattle.std.specs.Prelude.{◌≡◌, IfOk, OnOk, Some, filter};
 ghost use Rattle.pim_model.specs.Hellos.{is_lost_to, upstream_of};
 ghost use Rattle.pim_model.specs.Tables.{change_row, keys_in, same_hop};
 ghost use Rattle.pim_hello.specs.Towards.{is_towards};
-ghost use Rattle.pim_laws.specs.Rows.{all_changed};
+ghost use Rattle.law_settled.specs.Rows.{all_changed};
 ghost use Rattle.pim_store.specs.PimTables.{lowered_join_timer};
 
 use pim_macros::desires::is_same_hop;
 use pim_macros::upstream_of;
+use pim_state::{Meter, Turn, World};
 use pim_types::fact::{AssertRole, AssertRow};
 use pim_types::{Hop, Key};
-use pim_world::{Meter, Turn, World};
 use std::alloc::{AllocError, Global};
 
 // The keys of all Join timers, ascending.

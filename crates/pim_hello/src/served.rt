@@ -2,13 +2,14 @@
 //! sources on its link.
 ghost use Rattle.std.specs.List.{flat_map};
 ghost use Rattle.std.specs.Prelude.{◌≡◌, ◌++◌, OnOk, filter, map};
-ghost use Rattle.pim_adjacent.specs.Adjacent.{is_linked, keys_of_dr, linked_of_group, linked_sources, receiver_sources, receiver_stars};
+ghost use Rattle.law_named.specs.Adjacent.{is_linked, keys_of_dr, linked_of_group, linked_sources, receiver_sources, receiver_stars};
 ghost use Rattle.pim_model.specs.Unicast.{route};
 ghost use Rattle.pim_types.specs.Keys.{source_key};
-ghost use Rattle.pim_world.specs.Groups.{numbers_of};
+ghost use Rattle.pim_state.specs.Groups.{numbers_of};
 
+use crate::linked::may_link;
+use pim_state::{Meter, Turn, World};
 use pim_types::{Addr, IfaceId, Key, Path, SourceGroup};
-use pim_world::{Meter, Turn, World};
 use std::alloc::{AllocError, Global};
 use std::collections::BTreeMap;
 
@@ -23,7 +24,7 @@ fn is_linked(iface: IfaceId, path: Option<Path>) -> bool
 }
 
 // Puts the groups with a receiver of all their sources on the interface behind other keys.
-#[tactic(auto, unfolding(pim_adjacent::specs::Adjacent::receiver_stars))]
+#[tactic(auto, unfolding(law_named::specs::Adjacent::receiver_stars))]
 fn put_stars(world: &World, iface: IfaceId, keys: &mut Vec<Key>) -> Result<(), AllocError>
     ensures { OnOk result (keys.new.items ≡ keys.old.items ++ receiver_stars world.now iface.number) }
 {
@@ -36,7 +37,7 @@ fn put_stars(world: &World, iface: IfaceId, keys: &mut Vec<Key>) -> Result<(), A
 }
 
 // Puts the sources with a receiver on the interface behind other keys.
-#[tactic(auto, unfolding(pim_adjacent::specs::Adjacent::receiver_sources))]
+#[tactic(auto, unfolding(law_named::specs::Adjacent::receiver_sources))]
 fn put_sources(world: &World, iface: IfaceId, keys: &mut Vec<Key>) -> Result<(), AllocError>
     ensures { OnOk result (keys.new.items ≡ keys.old.items ++ receiver_sources world.now iface.number) }
 {
@@ -48,7 +49,7 @@ fn put_sources(world: &World, iface: IfaceId, keys: &mut Vec<Key>) -> Result<(),
     Ok(())
 }
 
-// Puts those of the sources of a group that are on the interface's link behind other keys.
+// Adds the keys of the sources of a group that are on the interface's link.
 fn put_linked(
     world: &World,
     meter: &mut Meter,
@@ -73,7 +74,7 @@ fn put_linked(
 }
 
 // Puts the sources of the group with any fact that are on the interface's link behind other keys.
-#[tactic(auto, unfolding(pim_adjacent::specs::Adjacent::linked_of_group))]
+#[tactic(auto, unfolding(law_named::specs::Adjacent::linked_of_group))]
 fn put_linked_of(
     world: &World,
     alloc: Global,
@@ -88,7 +89,7 @@ fn put_linked_of(
     put_linked(world, meter, iface, group, &sources, keys)
 }
 
-// Puts those of the given groups behind other keys.
+// Adds the keys of the sources of the given groups that are on the interface's link.
 fn put_linked_of_groups(
     world: &World,
     alloc: Global,
@@ -106,8 +107,9 @@ fn put_linked_of_groups(
     Ok(())
 }
 
-// Puts all sources with any fact that are on the interface's link behind other keys.
-#[tactic(auto, unfolding(pim_adjacent::specs::Adjacent::linked_sources))]
+// Puts all sources with any fact that are on the interface's link behind other keys. If none is in its subnet, no group is
+// read.
+#[tactic(auto, unfolding(law_named::specs::Adjacent::linked_sources))]
 fn put_linked_sources(
     world: &World,
     alloc: Global,
@@ -117,13 +119,16 @@ fn put_linked_sources(
 ) -> Result<(), AllocError>
     ensures { OnOk result (keys.new.items ≡ keys.old.items ++ linked_sources world.now iface.number) }
 {
+    if !may_link(world, meter, iface) {
+        return Ok(());
+    }
     let groups = world.groups(alloc, meter)?;
     put_linked_of_groups(world, alloc, meter, iface, &groups, keys)
 }
 
 /// Puts the keys of what asks whether the router is the DR of the interface behind other keys. The meter rises by the
 /// nodes visited.
-#[tactic(auto, unfolding(pim_adjacent::specs::Adjacent::keys_of_dr))]
+#[tactic(auto, unfolding(law_named::specs::Adjacent::keys_of_dr))]
 pub(crate) fn put_keys_of_dr(
     world: &World,
     turn: &Turn,

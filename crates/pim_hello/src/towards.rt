@@ -2,18 +2,18 @@
 //! the asserts that the router lost to it.
 ghost use Rattle.std.specs.List.{flat_map};
 ghost use Rattle.std.specs.Prelude.{◌≡◌, ◌++◌, IfOk, OnOk, filter, map};
-ghost use Rattle.pim_adjacent.specs.Adjacent.{keys_of_end, keys_of_hello, keys_of_neighbour, keys_towards, leads_to, led_keys, led_of_group, may_lead};
+ghost use Rattle.law_named.specs.Adjacent.{keys_of_end, keys_of_hello, keys_of_neighbour, keys_towards, leads_to, led_keys, led_of_group, may_lead};
 ghost use Rattle.pim_model.specs.Unicast.{route, rp_route};
 ghost use Rattle.pim_types.specs.Keys.{source_key};
-ghost use Rattle.pim_world.specs.Groups.{numbers_of};
+ghost use Rattle.pim_state.specs.Groups.{numbers_of};
 
 use crate::election::{end_keeps_dr, hello_keeps_dr};
 use crate::restarted::asserts_lost_to;
 use crate::served::put_keys_of_dr;
-use pim_adjacent::laws::leads_nowhere;
+use law_named::neighbours::leads_nowhere;
+use pim_state::{Meter, Turn, World};
 use pim_types::{Addr, Hop, IfaceId, Key, Path, SourceGroup};
 use pim_wire::{DEFAULT_HOLDTIME, Hello};
-use pim_world::{Meter, Turn, World};
 use std::alloc::{AllocError, Global};
 use std::collections::BTreeMap;
 
@@ -27,7 +27,7 @@ fn leads_to(neighbour: Hop, path: Option<Path>) -> bool
     }
 }
 
-// Whether it leads to the RP of the group.
+// Whether the neighbour is the next hop to RP(G).
 fn is_group_led(world: &World, meter: &mut Meter, neighbour: Hop, group: Addr) -> bool
     ensures { result
         ≡ leads_to neighbour.iface.number neighbour.address.bits (rp_route world.now group.bits) }
@@ -36,7 +36,7 @@ fn is_group_led(world: &World, meter: &mut Meter, neighbour: Hop, group: Addr) -
     leads_to(neighbour, world.rp_route(group, rp, meter))
 }
 
-// Whether it leads to the source.
+// Whether the neighbour is the next hop to the source.
 fn is_source_led(world: &World, meter: &mut Meter, neighbour: Hop, source: Addr) -> bool
     ensures { result
         ≡ leads_to neighbour.iface.number neighbour.address.bits (route world.now source.bits) }
@@ -44,7 +44,7 @@ fn is_source_led(world: &World, meter: &mut Meter, neighbour: Hop, source: Addr)
     leads_to(neighbour, world.route(source, meter))
 }
 
-// Puts those of the sources of a group to which it leads behind other keys.
+// Adds the keys of the sources of a group to which the neighbour is the next hop.
 fn put_sources(
     world: &World,
     meter: &mut Meter,
@@ -69,8 +69,8 @@ fn put_sources(
     Ok(())
 }
 
-// Puts what looks to it of a group behind other keys: all of it where it leads to the RP, or else the sources with any
-// fact to which it leads.
+// Adds the keys of a group whose upstream neighbour a change of the neighbour moves: all of the group where the
+// neighbour is the next hop to RP(G), or else the sources with any fact to which it is the next hop.
 fn put_group(
     world: &World,
     alloc: Global,
@@ -110,7 +110,7 @@ fn keys_of_groups(
 
 // Whether a path may lead to a neighbour with the address: it is a route's next hop, a range's RP, or a source of which
 // there is a fact.
-#[tactic(auto, unfolding(pim_adjacent::specs::Adjacent::may_lead))]
+#[tactic(auto, unfolding(law_named::specs::Adjacent::may_lead))]
 fn may_lead(world: &World, address: Addr, meter: &mut Meter) -> bool
     ensures { result ≡ may_lead world.now address.bits }
 {
@@ -119,7 +119,7 @@ fn may_lead(world: &World, address: Addr, meter: &mut Meter) -> bool
 
 // The groups to whose RP the path leads over the neighbour, and the sources to which it does. If no path may lead
 // there, no group is read.
-#[tactic(auto, unfolding(pim_adjacent::specs::Adjacent::led_keys))]
+#[tactic(auto, unfolding(law_named::specs::Adjacent::led_keys))]
 fn keys_by_paths(
     world: &World,
     alloc: Global,
@@ -138,7 +138,7 @@ fn keys_by_paths(
 }
 
 // The keys with facts of what depends on the neighbour.
-#[tactic(auto, unfolding(pim_adjacent::specs::Adjacent::keys_towards))]
+#[tactic(auto, unfolding(law_named::specs::Adjacent::keys_towards))]
 fn keys_towards(
     world: &World,
     turn: &Turn,
@@ -156,7 +156,7 @@ fn keys_towards(
 
 // The keys of what a Hello moves but for what asks for the DR. For a neighbour that stays they are the asserts that the
 // router lost to it, which are removed where it restarted; for one that comes or goes they are all that depends on it.
-#[tactic(auto, unfolding(pim_adjacent::specs::Adjacent::keys_of_neighbour))]
+#[tactic(auto, unfolding(law_named::specs::Adjacent::keys_of_neighbour))]
 fn keys_of_neighbour(
     world: &World,
     turn: &Turn,

@@ -1,16 +1,9 @@
 -- The first link that an address is on, number after number.
-use Rattle.std.proofs.Common.{◌≡◌, ◌<◌, ◌≤◌, ◌+◌, ◌-◌, ◌/◌, ◌^◌, ◌==◌, ◌&&◌, ℕ, zero, suc, Bool, true, false, List, [], ◌∷◌, Some, length, map, get_or, refl, sym, ap, ◌∙◌, subst, arith}
-use Rattle.std.specs.List.{find, range_with_len, slice_get}
-use Rattle.std.specs.Option.{option_map_or}
-use Rattle.std.proofs.lemmas.List.{length-map}
-use Rattle.pim_ip.specs.Prefixes.{contains}
-use Rattle.pim_types.specs.declared.config.InterfaceConfig.{InterfaceConfig}
-use Rattle.pim_types.specs.declared.fact.InterfaceRow.{InterfaceRow}
-use Rattle.pim_types.specs.Keys.{iface_key}
-use Rattle.pim_model.specs.Tables.{Table, has_row}
-use Rattle.pim_model.specs.Unicast.{is_on_link_among, subnet}
-use Rattle.pim_ifaces.specs.declared.configured.Subnet.{Subnet}
-use Rattle.pim_ifaces.specs.Subnets.{subnet_of}
+use Rattle.std.{proofs.{Common.{◌≡◌, ◌<◌, ◌≤◌, ◌+◌, ◌-◌, ◌/◌, ◌^◌, ◌==◌, ◌&&◌, ℕ, zero, suc, Bool, true, false, List, [], ◌∷◌, Some, length, map, get_or, refl, sym, ap, ◌∙◌, subst, arith}, lemmas.List.length-map}, specs.{List.{find, range_with_len, slice_get}, Option.option_map_or}}
+use Rattle.pim_ip.{specs.Prefixes.contains}
+use Rattle.pim_types.{specs.{declared.{config.InterfaceConfig.InterfaceConfig, fact.InterfaceRow.InterfaceRow}, Keys.iface_key}}
+use Rattle.pim_model.{specs.{Tables.{Table, has_row}, Unicast.{is_on_link_among, subnet}}}
+use Rattle.pim_ifaces.{specs.{declared.configured.Subnet.Subnet, Subnets.subnet_of}}
 
 module _ (test : ℕ → Bool) (n m : ℕ) (lt : n < m) where
   one_more : m - n ≡ suc (m - (n + 1))

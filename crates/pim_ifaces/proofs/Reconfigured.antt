@@ -1,11 +1,8 @@
 -- Rows of interfaces that other interfaces have too.
-use Rattle.std.proofs.Common.{◌≡◌, ℕ, ◌+◌, ◌&&◌, nat_lt, Bool, true, false, List, [], ◌∷◌, length, refl, ltb-true}
-use Rattle.std.specs.List.{list_all}
-use Rattle.pim_types.specs.declared.config.InterfaceConfig.{InterfaceConfig}
-use Rattle.pim_types.specs.declared.fact.InterfaceRow.{InterfaceRow}
-use Rattle.pim_types.specs.Keys.{iface_in}
-use Rattle.pim_model.specs.Tables.{Table}
-use Rattle.pim_ifaces.specs.Interfaces.{InterfacesRise, IsHeld}
+use Rattle.std.{proofs.Common.{◌≡◌, ℕ, ◌+◌, ◌&&◌, nat_lt, Bool, true, false, List, [], ◌∷◌, length, refl, ltb-true}, specs.List.list_all}
+use Rattle.pim_types.{specs.{declared.{config.InterfaceConfig.InterfaceConfig, fact.InterfaceRow.InterfaceRow}, Keys.iface_in}}
+use Rattle.pim_model.{specs.Tables.Table}
+use Rattle.pim_ifaces.{specs.Interfaces.{InterfacesRise, IsHeld}}
 
 first_and : (a b : Bool) → (a && b) ≡ true → (a ≡ true) × (b ≡ true)
 first_and true b e = (refl, e)

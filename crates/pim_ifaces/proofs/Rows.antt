@@ -1,21 +1,8 @@
 -- The rows of interfaces, by rising number.
-use Rattle.std.proofs.Common.{◌≡◌, ℕ, ◌+◌, ◌<◌, ◌≤◌, Bool, true, false, cond, not, List, [], ◌∷◌, length, map, min, Some, None, Result, Ok, Err, OnOk, OnErr, is_some, refl, sym, ap, ◌∙◌, arith, eqb}
-use Rattle.std.specs.List.{cons_option}
-use Rattle.std.specs.Map.{lookup}
-use Rattle.std.specs.BTreeMap.{insert_entry, is_at}
-use Rattle.std.specs.declared.cmp.Ordering.{Ordering}
-use Rattle.std.specs.declared.cmp.Ordering.TheVariants.{Less, Equal, Greater}
-use Rattle.std.specs.Ordering.{is_eq, match_ordering, nat_cmp, ordering_then}
-use Rattle.std.proofs.lemmas.Grind.{common_steps}
-use Rattle.pim_types.specs.declared.config.InterfaceConfig.{InterfaceConfig}
-use Rattle.pim_types.specs.declared.fact.InterfaceRow.{InterfaceRow}
-use Rattle.pim_types.specs.declared.fact.Key.{Key}
-use Rattle.pim_model.specs.Tables.{Table, change_row, changed_entry, drop_at, drop_where, has_row, put, row_at}
-use Rattle.pim_types.specs.Keys.{addr_cmp, iface_in, iface_key, is_on, key_cmp, same_key}
-use Rattle.pim_model.specs.State.{InterfaceTable}
-use Rattle.pim_model.specs.Hellos.{hellos_triggered}
-use Rattle.pim_model.specs.Writing.{hellos_paid}
-use Rattle.pim_ifaces.specs.Interfaces.{InterfacesRise, IsHeld}
+use Rattle.std.{proofs.{Common.{◌≡◌, ℕ, ◌+◌, ◌<◌, ◌≤◌, Bool, true, false, cond, not, List, [], ◌∷◌, length, map, min, Some, None, Result, Ok, Err, OnOk, OnErr, is_some, refl, sym, ap, ◌∙◌, arith, eqb}, lemmas.Grind.common_steps}, specs.{List.cons_option, Map.lookup, BTreeMap.{insert_entry, is_at}, declared.cmp.Ordering.{Ordering, TheVariants.{Less, Equal, Greater}}, Ordering.{is_eq, match_ordering, nat_cmp, ordering_then}}}
+use Rattle.pim_types.{specs.{declared.{config.InterfaceConfig.InterfaceConfig, fact.{InterfaceRow.InterfaceRow, Key.Key}}, Keys.{addr_cmp, iface_in, iface_key, is_on, key_cmp, same_key}}}
+use Rattle.pim_model.{specs.{Tables.{Table, change_row, changed_entry, drop_at, drop_where, has_row, put, row_at}, State.InterfaceTable, Hellos.hellos_triggered, Writing.hellos_paid}}
+use Rattle.pim_ifaces.{specs.Interfaces.{InterfacesRise, IsHeld}}
 
 -- keys of interfaces compare as the numbers do
 then-equal : (o : Ordering) → ordering_then o Equal ≡ o

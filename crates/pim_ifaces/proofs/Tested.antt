@@ -1,11 +1,9 @@
 -- What a tested configuration has.
-use Rattle.std.proofs.Common.{◌≡◌, ◌≤◌, Bool, true, false, ◌&&◌, List, length, Result, Ok, Err, refl, arith, leb}
-use Rattle.std.proofs.lemmas.Bool.Decides.{nat_tests}
-use Rattle.pim_ip.specs.Tests.{expect, ◌>>◌}
-use Rattle.pim_ip.specs.declared.refusal.Refusal.{Refusal}
-use Rattle.pim_types.specs.declared.config.InterfaceConfig.{InterfaceConfig}
-use Rattle.pim_model.specs.Limits.{is_between}
-use Rattle.pim_ifaces.specs.Interfaces.{interfaces_test}
+use Rattle.std.{proofs.{Common.{◌≡◌, ◌≤◌, Bool, true, false, ◌&&◌, List, length, Result, Ok, Err, refl, arith, leb}, lemmas.Bool.Decides.nat_tests}}
+use Rattle.pim_ip.{specs.{Tests.{expect, ◌>>◌}, declared.refusal.Refusal.Refusal}}
+use Rattle.pim_types.{specs.declared.config.InterfaceConfig.InterfaceConfig}
+use Rattle.pim_model.{specs.Limits.is_between}
+use Rattle.pim_ifaces.{specs.Interfaces.interfaces_test}
 
 then_ok : (a b : Result (Unit {0}) Refusal) → (a >> b) ≡ Ok tt → a ≡ Ok tt
 then_ok (Ok done) b h = refl

@@ -1,11 +1,8 @@
 -- The keys of the rows of interfaces that are up.
-use Rattle.std.proofs.Common.{◌≡◌, ◌+◌, ◌<◌, ◌&&◌, ℕ, Bool, true, false, [], ◌∷◌, refl, subst, sym, arith}
-use Rattle.std.proofs.lemmas.Bool.Decides.{nat_tests}
-use Rattle.std.specs.List.{list_all}
-use Rattle.pim_model.specs.Tables.{Table}
-use Rattle.pim_types.specs.Keys.{iface_in, iface_key}
-use Rattle.pim_types.specs.declared.fact.{InterfaceRow.InterfaceRow, Key.Key}
-use Rattle.pim_ifaces.specs.Interfaces.{InterfacesRise, is_up_key}
+use Rattle.std.{proofs.{Common.{◌≡◌, ◌+◌, ◌<◌, ◌&&◌, ℕ, Bool, true, false, [], ◌∷◌, refl, subst, sym, arith}, lemmas.Bool.Decides.nat_tests}, specs.List.list_all}
+use Rattle.pim_model.{specs.Tables.Table}
+use Rattle.pim_types.{specs.{Keys.{iface_in, iface_key}, declared.fact.{InterfaceRow.InterfaceRow, Key.Key}}}
+use Rattle.pim_ifaces.{specs.Interfaces.{InterfacesRise, is_up_key}}
 
 both : (a b : Bool) → a ≡ true → b ≡ true → (a && b) ≡ true
 both true b f g = g

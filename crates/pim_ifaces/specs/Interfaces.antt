@@ -1,14 +1,8 @@
 -- The interfaces of a router as one value, and the tests of a configuration that are about them.
-use Rattle.std.specs.List.{list_all}
-use Rattle.std.specs.Prelude.{Bool, List, Result, [], is_none, length, nat_lt, not, ℕ, ◌&&◌, ◌+◌, ◌<◌, ◌==◌, ◌≡◌, ◌≤◌, ◌∷◌}
-use Rattle.pim_ip.specs.declared.refusal.Refusal.{Refusal}
-use Rattle.pim_ip.specs.Ipv4.{is_unicast}
-use Rattle.pim_ip.specs.Tests.{expect, ◌>>◌}
-use Rattle.pim_types.specs.declared.config.InterfaceConfig.{InterfaceConfig}
-use Rattle.pim_types.specs.declared.fact.{InterfaceRow.InterfaceRow, Key.Key}
-use Rattle.pim_model.specs.Limits.{are_apart, is_between, is_delay_config, most_ifaces}
-use Rattle.pim_model.specs.Tables.{Table}
-use Rattle.pim_types.specs.Keys.{group_in, iface_in, iface_key}
+use Rattle.std.{specs.{List.list_all, Prelude.{Bool, List, Result, [], is_none, length, nat_lt, not, ℕ, ◌&&◌, ◌+◌, ◌<◌, ◌==◌, ◌≡◌, ◌≤◌, ◌∷◌}}}
+use Rattle.pim_ip.{specs.{declared.refusal.Refusal.Refusal, Ipv4.is_unicast, Tests.{expect, ◌>>◌}}}
+use Rattle.pim_types.{specs.{declared.{config.InterfaceConfig.InterfaceConfig, fact.{InterfaceRow.InterfaceRow, Key.Key}}, Keys.{group_in, iface_in, iface_key}}}
+use Rattle.pim_model.{specs.{Limits.{are_apart, is_between, is_delay_config, most_ifaces}, Tables.Table}}
 
 -- the tests on how many interfaces there are, on their addresses and on their subnets
 unfoldable pub interfaces_test : List InterfaceConfig → Result (Unit {0}) Refusal
@@ -28,7 +22,7 @@ InterfacesRise low count [] = Unit {0}
 InterfacesRise low count (e ∷ es) =
     (e.0 ≡ iface_key (iface_in e.0)) × (low ≤ iface_in e.0) × (iface_in e.0 < count) × InterfacesRise (iface_in e.0 + 1) count es
 
--- The configured interfaces are these, and the rows are those of the interfaces that are up.
+-- The configured interfaces are the given ones, and the rows are those of the interfaces that are up.
 pub record IsHeld (configured : List InterfaceConfig) (rows : Table InterfaceRow) : Type 0 where
   pub within : length configured ≤ most_ifaces
   pub rise : InterfacesRise 0 (length configured) rows

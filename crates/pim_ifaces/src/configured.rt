@@ -91,7 +91,7 @@ impl Configured {
         self.interfaces.as_slice()
     }
 
-    // Their subnets, by their numbers.
+    // The subnets of the interfaces, by the interfaces' numbers.
     pub(crate) fn subnets(&self) -> &[Subnet]
         ensures { result.now ≡ map subnet_of self.now }
     {

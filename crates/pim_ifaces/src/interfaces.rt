@@ -72,14 +72,14 @@ impl Interfaces {
 
     /// For the proof: at most 120 interfaces are configured, so a configured interface has a number below 120. Does
     /// nothing when it runs.
-    pub fn recall_few(&self)
+    pub fn proof_few(&self)
         ensures { length self.now.configured ≤ MOST_INTERFACES }
     {
         let _ = &self.configured;
     }
 
     /// For the proof: each row is under the key of an interface that is configured. Does nothing when it runs.
-    pub fn recall_kinds(&self)
+    pub fn proof_kinds(&self)
         ensures { IsTrue (list_all (λ e. is_up_key (length self.now.configured) e.0) self.now.rows) }
     {
         let _ = &self.rows;
@@ -92,12 +92,12 @@ impl Interfaces {
         self.configured.as_slice()
     }
 
-    /// The rows of those that are up, by rising number.
+    /// The rows of the interfaces that are up, by rising number.
     pub fn rows(&self) -> Iter<'_, Key, InterfaceRow>
         ensures rows { result ≡ self.now.rows }
         ensures rising { IsStrictlySortedBy key_cmp (keys_in self.now.rows) }
     {
-        self.rows.recall_rising();
+        self.rows.proof_rising();
         self.rows.rows().iter()
     }
 

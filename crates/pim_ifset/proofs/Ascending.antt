@@ -1,16 +1,8 @@
 -- The interfaces of a set, ascending: the first one and the others, and how many there are.
-use Rattle.std.proofs.Common.{◌≡◌, ◌≢◌, ℕ, zero, suc, ◌+◌, ◌*◌, ◌/◌, ◌%◌, ◌^◌, ◌<◌, ◌≤◌, Bool, true, false, not, ◌&&◌, ◌==◌, refl, ap, sym, ◌∙◌, arith, nat_lt, cond, add-one, List, [], ◌∷◌, filter, map, length, inl, inr, IsTrue, count_ones, bit_and}
-use Rattle.std.specs.List.{range_with_len, list_all}
-use Rattle.std.specs.Int.{bit_at, bit_not, trailing_zeros, w128}
-use Rattle.std.proofs.lemmas.List.{length-map}
-use Rattle.std.proofs.lemmas.Nat.{shr-shr, shr_below, ones_le_self}
-use Rattle.std.proofs.lemmas.Bool.{cases_order}
-use lib.Count.{ones_step, ones-le}
-use Rattle.std.proofs.lemmas.Bool.Decides.{nat_tests}
-use Rattle.std.proofs.lemmas.Nat.Bits.{bit_at-trailing_zeros, bit_at_above, bit_at-lt}
-use Rattle.pim_ifset.proofs.Masks.{and_true, has_empty, has_without, itself}
-use Rattle.pim_types.specs.declared.config.IfaceId.{IfaceId}
-use Rattle.pim_ifset.specs.Members.{Members, has, interfaces, iface_of, passing_below}
+use Rattle.std.{proofs.{Common.{◌≡◌, ◌≢◌, ℕ, zero, suc, ◌+◌, ◌*◌, ◌/◌, ◌%◌, ◌^◌, ◌<◌, ◌≤◌, Bool, true, false, not, ◌&&◌, ◌==◌, refl, ap, sym, ◌∙◌, arith, nat_lt, cond, add-one, List, [], ◌∷◌, filter, map, length, inl, inr, IsTrue, count_ones, bit_and}, lemmas.{List.length-map, Nat.{shr-shr, shr_below, ones_le_self, Bits.{bit_at-trailing_zeros, bit_at_above, bit_at-lt}}, Bool.{cases_order, Decides.nat_tests}}}, specs.{List.{range_with_len, list_all}, Int.{bit_at, bit_not, trailing_zeros, w128}}}
+use lib.{Count.{ones_step, ones-le}}
+use Rattle.pim_ifset.{proofs.Masks.{and_true, has_empty, has_without, itself}, specs.Members.{Members, has, interfaces, iface_of, passing_below}}
+use Rattle.pim_types.{specs.declared.config.IfaceId.IfaceId}
 
 -- p without n
 abbrev pub but : (ℕ → Bool) → ℕ → ℕ → Bool
@@ -22,8 +14,7 @@ but_other p n q other = let e : (q == n) ≡ false = grind (arith, nat_tests) in
 -- past n the two tests keep the same
 past : (p : ℕ → Bool) (n a k : ℕ) → n < a → filter p (range_with_len a k) ≡ filter (but p n) (range_with_len a k)
 past p n a zero above = refl
-past p n a (suc k) above =
-    rw (past p n (a + 1) k (omega arith)) (ap (λ b. cond b (a ∷ filter (but p n) (range_with_len (a + 1) k)) (filter (but p n) (range_with_len (a + 1) k))) (but_other p n a (omega arith)))
+past p n a (suc k) above = grind (arith, past p n (a + 1) k (omega arith), but_other)
 
 -- where n is the first that passes, the numbers that pass are n and those that pass without it
 pub least_first : (p : ℕ → Bool) (n a k : ℕ) → p n ≡ true → ((q : ℕ) → a ≤ q → q < n → p q ≡ false) → a ≤ n → n < a + k → filter p (range_with_len a k) ≡ n ∷ filter (but p n) (range_with_len a k)
@@ -74,9 +65,7 @@ interfaces_first m t some small =
     ap (map iface_of) (first_number _ _ (trailing_zeros w128 m) 120 low.1 low.2 low.0 (λ q. has_without m (trailing_zeros w128 m) t t q small low.0))
 
 first_counted : (d : ℕ) → d < 2 → (a : ℕ) (rest : List ℕ) → length (cond (d == 1) (a ∷ rest) rest) ≡ d + length rest
-first_counted zero digit a rest = omega arith
-first_counted (suc zero) digit a rest = omega arith
-first_counted (suc (suc d)) digit a rest = absurd (omega arith)
+first_counted d digit a rest = grind arith
 
 -- how many from a on, where no bit is past a + k
 ones_from : (m : ℕ) (t : Bool) (a k : ℕ) → m / 2 ^ a < 2 ^ k → length (filter (has (record { mask = m; tunnel = t })) (range_with_len a k)) ≡ count_ones (m / 2 ^ a)
@@ -110,10 +99,7 @@ in_set s iface = nat_lt iface.number 120 && has s iface.number
 
 each_from : (s : Members) (a k : ℕ) → a + k ≤ 120 → IsTrue (list_all (in_set s) (map iface_of (filter (has s) (range_with_len a k))))
 each_from s a zero within = refl
-each_from s a (suc k) within = elim (has s a) as (λ b. has s a ≡ b → IsTrue (list_all (in_set s) (map iface_of (cond b (a ∷ filter (has s) (range_with_len (a + 1) k)) (filter (has s) (range_with_len (a + 1) k)))))) [
-  | true ↦ λ e. let small : nat_lt a 120 ≡ true = grind (arith, nat_tests) in rw (e, small) (each_from s (a + 1) k (omega arith))
-  | false ↦ λ e. each_from s (a + 1) k (omega arith)
-] refl
+each_from s a (suc k) within = grind (arith, each_from s (a + 1) k (omega arith), nat_tests)
 
 each_below : (s : Members) (k : ℕ) → k ≤ 120 → IsTrue (list_all (in_set s) (map iface_of (passing_below (has s) k)))
 unfolding passing_below

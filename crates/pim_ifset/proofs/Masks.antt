@@ -1,14 +1,7 @@
 -- Which interfaces are in the sets that the operations make, by the bits of their masks, and that the masks stay below
 -- 2 ^ 120.
-use Rattle.std.proofs.Common.{◌≡◌, ◌≢◌, ℕ, ◌-◌, ◌*◌, ◌/◌, ◌%◌, ◌^◌, ◌<◌, ◌≤◌, min, max, Bool, true, false, not, ◌&&◌, ◌||◌, ◌==◌, bit_and, refl, ap, ◌∙◌, arith, inl, inr, nat_lt}
-use Rattle.std.specs.Int.{bit_at, bit_not, w128}
-use Rattle.std.proofs.Math.Nat.{pow-le-pow_right}
-use Rattle.std.proofs.Math.Pow.{pow-lt}
-use Rattle.std.proofs.lemmas.Bool.{cases_order}
-use Rattle.std.proofs.lemmas.Nat.Bits.{bit_at-lt, bit_at_and, bit_at_not, bit_at-pow_same, bit_at-pow_other, bit_at_above, bit_at-zero, bit_at_ones, bit_at_ones_above, shr_and_one}
-use Rattle.std.proofs.lemmas.Bool.Decides.{nat_tests}
-use Rattle.std.proofs.lemmas.Grind.{one_shifted}
-use Rattle.pim_ifset.specs.Members.{has}
+use Rattle.std.{proofs.{Common.{◌≡◌, ℕ, ◌-◌, ◌*◌, ◌/◌, ◌%◌, ◌^◌, ◌<◌, ◌≤◌, min, max, Bool, true, false, not, ◌&&◌, ◌||◌, ◌==◌, bit_and, refl, ap, ◌∙◌, arith, inl, inr, nat_lt}, Math.{Nat.pow-le-pow_right, Pow.pow-lt}, lemmas.{Bool.{cases_order, Decides.nat_tests}, Nat.Bits.{bit_at-lt, bit_at_and, bit_at_not, bit_at-pow_same, bit_at-pow_other, bit_at_above, bit_at-zero, bit_at_ones, bit_at_ones_above, shr_and_one}, Grind.one_shifted}}, specs.Int.{bit_at, bit_not, w128}}
+use Rattle.pim_ifset.{specs.Members.has}
 
 pub max_test : (x y : ℕ) → x < 2 → y < 2 → (max x y == 1) ≡ (x == 1 || y == 1)
 max_test x y p q = grind (arith, nat_tests)
@@ -24,14 +17,10 @@ pub itself : (n : ℕ) → (n == n) ≡ true
 itself n = grind (arith, nat_tests)
 
 pub and_true : (b : Bool) → b ≡ (b && true)
-and_true true = refl
-and_true false = refl
+and_true b = grind arith
 
 pub swapped : (a b : Bool) → (a || b) ≡ (b || a)
-swapped true true = refl
-swapped true false = refl
-swapped false true = refl
-swapped false false = refl
+swapped a b = grind arith
 
 -- the empty set has no interface
 pub has_empty : (t : Bool) (q : ℕ) → has (record { mask = 0; tunnel = t }) q ≡ false
@@ -67,10 +56,7 @@ has_and_not a b t u v q small small_b =
 -- one interface
 has_power : (k : ℕ) (t : Bool) (q : ℕ) → has (record { mask = 2 ^ k; tunnel = t }) q ≡ (q == k)
 unfolding has
-has_power k t q = elim (q == k) as (λ b. (q == k) ≡ b → (bit_at (2 ^ k) q == 1) ≡ b) [
-  | true ↦ λ e. let same : q ≡ k = grind (arith, nat_tests) in rw (same, bit_at-pow_same k)
-  | false ↦ λ e. let other : q ≢ k = grind (arith, nat_tests) in rw (bit_at-pow_other k q other)
-] refl
+has_power k t q = grind (arith, nat_tests, bit_at-pow_same, bit_at-pow_other)
 
 pub power_lt : (k : ℕ) → k < 120 → 2 ^ k < 2 ^ 120
 power_lt k within = pow-lt {i = k} {j = 120} within
@@ -88,10 +74,7 @@ has_without m k t u q small within =
 
 -- an interface that no set has is in none, and without it a set is as it was
 pub has_but_above : (m k : ℕ) (t : Bool) (q : ℕ) → m < 2 ^ 120 → 120 ≤ k → has (record { mask = m; tunnel = t }) q ≡ (has (record { mask = m; tunnel = t }) q && not (q == k))
-has_but_above m k t q small above = elim (q == k) as (λ b. (q == k) ≡ b → has (record { mask = m; tunnel = t }) q ≡ (has (record { mask = m; tunnel = t }) q && not b)) [
-  | true ↦ λ e. let same : q ≡ k = grind (arith, nat_tests) in rw (has_above m t q small (omega arith))
-  | false ↦ λ e. and_true _
-] refl
+has_but_above m k t q small above = grind (arith, nat_tests, has_above, and_true)
 
 pub has_by_shift : (m : ℕ) (t : Bool) (k : ℕ) → (bit_and (m / 2 ^ k) 1 == 1) ≡ has (record { mask = m; tunnel = t }) k
 unfolding has
@@ -102,26 +85,13 @@ ones_shifted : (k : ℕ) → k ≤ 120 → 1 * 2 ^ k % 2 ^ 128 - 1 ≡ 2 ^ k - 1
 ones_shifted k within = ap (λ n. n - 1) ((one_shifted k _ refl (omega arith)).0)
 
 pub ones_lt : (k : ℕ) → k ≤ 120 → 1 * 2 ^ k % 2 ^ 128 - 1 < 2 ^ 120
-ones_lt k within =
-    let most : 2 ^ k ≤ 2 ^ 120 = pow-le-pow_right {n = 2} (omega arith) {i = k} {j = 120} within in
-    rw (ones_shifted k within) (omega (arith, most))
+ones_lt k within = grind (arith, pow-le-pow_right, ones_shifted)
 
 pub has_ones : (k : ℕ) (t : Bool) (q : ℕ) → k ≤ 120
     → has (record { mask = 1 * 2 ^ k % 2 ^ 128 - 1; tunnel = t }) q ≡ nat_lt q k
 unfolding has
-has_ones k t q within =
-    rw (ones_shifted k within)
-    (elim (nat_lt q k) as (λ b. nat_lt q k ≡ b → (bit_at (2 ^ k - 1) q == 1) ≡ b) [
-      | true ↦ λ e. let below : q < k = grind (arith, nat_tests) in rw (bit_at_ones k q below) refl
-      | false ↦ λ e. let above : k ≤ q = grind (arith, nat_tests) in rw (bit_at_ones_above k q above) refl
-    ] refl)
+has_ones k t q within = grind (arith, ones_shifted, nat_tests, bit_at_ones, bit_at_ones_above)
 
 pub has_below_limit : (m : ℕ) (t u : Bool) (q : ℕ) → m < 2 ^ 120
     → has (record { mask = m; tunnel = t }) q ≡ (nat_lt q 120 && has (record { mask = m; tunnel = u }) q)
-has_below_limit m t u q small =
-    has_tunnel m t u q
-    ∙ elim (nat_lt q 120) as (λ b. nat_lt q 120 ≡ b
-    → has (record { mask = m; tunnel = u }) q ≡ (b && has (record { mask = m; tunnel = u }) q)) [
-      | true ↦ λ e. refl
-      | false ↦ λ e. let above : 120 ≤ q = grind (arith, nat_tests) in has_above m u q small above
-    ] refl
+has_below_limit m t u q small = grind (arith, has_tunnel, nat_tests, has_above)

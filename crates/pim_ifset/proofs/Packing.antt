@@ -1,16 +1,8 @@
 -- Sets as one number: that the number stays one of a set, which interfaces an operation on numbers leaves, and whether
 -- the tunnel.
-use Rattle.std.proofs.Common.{◌≡◌, ◌≢◌, ℕ, zero, suc, ◌+◌, ◌-◌, ◌*◌, ◌/◌, ◌%◌, ◌^◌, ◌<◌, ◌≤◌, Bool, true, false, not, ◌&&◌, ◌||◌, ◌==◌, bit_and, bit_or, refl, ap, sym, ◌∙◌, arith, nat_lt, if◌then◌else◌, count_ones, length, IsTrue, ◌↔◌}
-use Rattle.std.specs.Int.{bit_at, bit_not, w128}
-use lib.Count.{ones_step}
-use Rattle.std.proofs.lemmas.Nat.{ones_le_self, and_mod, or_mod, and_le_l, and_mask, or_lt, ones_cat, shr_split}
-use Rattle.std.proofs.lemmas.Nat.Bits.{and_pow, bit_at-lt, bit_at_and, bit_at_or, bit_at_not, bit_at_above, bit_at_cat_low}
-use Rattle.std.proofs.lemmas.Bool.Decides.{nat_tests}
-use Rattle.pim_ifset.proofs.Ascending.{interfaces_tunnel, length_interfaces}
-use Rattle.pim_ifset.proofs.Masks.{and_true, has_by_shift, has_empty, has_ones, has_single, max_test, min_test, not_test, ones_lt, power_lt, shifted, swapped}
-use Rattle.pim_ifset.proofs.Sets.{no_bits}
-use Rattle.pim_ifset.specs.Members.{has, interfaces}
-use Rattle.pim_ifset.specs.Packed.{IsPacked, unpacked}
+use Rattle.std.{proofs.{Common.{◌≡◌, ℕ, zero, suc, ◌+◌, ◌-◌, ◌*◌, ◌/◌, ◌%◌, ◌^◌, ◌<◌, ◌≤◌, Bool, true, false, not, ◌&&◌, ◌||◌, ◌==◌, bit_and, bit_or, refl, ap, sym, ◌∙◌, arith, nat_lt, if◌then◌else◌, count_ones, length, IsTrue, ◌↔◌, rules}, lemmas.{Nat.{ones_le_self, and_mod, or_mod, and_le_l, and_mask, or_lt, ones_cat, shr_split, Bits.{and_pow, bit_at-lt, bit_at_and, bit_at_or, bit_at_not, bit_at_above, bit_at_cat_low}}, Bool.Decides.nat_tests, Grind.common_steps}}, specs.Int.{bit_at, bit_not, w128}}
+use lib.{Count.ones_step}
+use Rattle.pim_ifset.{proofs.{Ascending.{interfaces_tunnel, length_interfaces}, Masks.{and_true, has_by_shift, has_empty, has_ones, has_single, max_test, min_test, not_test, ones_lt, power_lt, shifted, swapped}, Sets.no_bits}, specs.{Members.{has, interfaces}, Packed.{IsPacked, unpacked}}}
 
 -- the number's bits below the tunnel's
 abbrev pub low : ℕ → ℕ
@@ -29,23 +21,13 @@ top_bit n within = omega arith
 
 -- a number of 128 bits whose interfaces are below 120
 pub is_packed : (n : ℕ) → n < 2 ^ 128 → low n < 2 ^ 120 → IsPacked n
-is_packed n within small = (
-  elim (bit_at n 127 == 1) as (λ b. (bit_at n 127 == 1) ≡ b → low n + (if b then 2 ^ 127 else 0) ≡ n) [
-    | true ↦ λ e. let one : bit_at n 127 ≡ 1 = grind (arith, nat_tests) in omega (arith, halves n, top_bit n within, one)
-    | false ↦ λ e. let other : bit_at n 127 ≢ 1 = grind (arith, nat_tests) in let none : bit_at n 127 ≡ 0 = omega (arith, other, bit_at-lt n 127) in omega (arith, halves n, top_bit n within, none)
-  ] refl,
-  small,
-)
+is_packed n within small = grind arith
 
 pub within_128 : (n : ℕ) → IsPacked n → n < 2 ^ 128
-within_128 n held = elim (bit_at n 127 == 1) as (λ b. low n + (if b then 2 ^ 127 else 0) ≡ n → n < 2 ^ 128) [
-  | true ↦ λ e. omega (arith, e, low_lt n)
-  | false ↦ λ e. omega (arith, e, low_lt n)
-] held.0
+within_128 n held = grind arith
 
 pub or_packed : (a b : ℕ) → IsPacked a → IsPacked b → IsPacked (bit_or a b)
-or_packed a b held_a held_b =
-    is_packed (bit_or a b) (or_lt 128 a b (within_128 a held_a) (within_128 b held_b)) (rw (or_mod a b 127) (or_lt 120 (low a) (low b) held_a.1 held_b.1))
+or_packed a b held_a held_b = search (rules, is_packed, or_lt, within_128, or_mod)
 
 pub and_packed : (a b : ℕ) → IsPacked a → IsPacked (bit_and a b)
 and_packed a b held =
@@ -67,16 +49,13 @@ has_unpacked n q = elim (nat_lt q 127) as (λ b. nat_lt q 127 ≡ b → (bit_at 
 ] refl
 
 both_or : (t a b : Bool) → (t && (a || b)) ≡ ((t && a) || (t && b))
-both_or true a b = refl
-both_or false a b = refl
+both_or t a b = grind arith
 
 both_and : (t a b : Bool) → (t && (a && b)) ≡ ((t && a) && (t && b))
-both_and true a b = refl
-both_and false a b = refl
+both_and t a b = grind arith
 
 both_minus : (t a b : Bool) → (t && (a && not b)) ≡ ((t && a) && not (t && b))
-both_minus true a b = refl
-both_minus false a b = refl
+both_minus t a b = grind arith
 
 or_bit : (a b q : ℕ) → (bit_at (bit_or a b) q == 1) ≡ (bit_at a q == 1 || bit_at b q == 1)
 or_bit a b q = rw (bit_at_or a b q) (max_test (bit_at a q) (bit_at b q) (bit_at-lt a q) (bit_at-lt b q))
@@ -92,32 +71,21 @@ minus_bit a b q within below = and_bit a (bit_not w128 b) q ∙ ap (λ x. bit_at
 
 -- what is in either
 pub has_either : (a b q : ℕ) → has (unpacked (bit_or a b)) q ≡ (has (unpacked a) q || has (unpacked b) q)
-has_either a b q =
-    has_unpacked (bit_or a b) q ∙ ap (λ x. nat_lt q 127 && x) (or_bit a b q) ∙ both_or (nat_lt q 127) (bit_at a q == 1) (bit_at b q == 1)
-    ∙ (λ i. sym (has_unpacked a q) i || sym (has_unpacked b q) i)
+has_either a b q = grind (arith, has_unpacked, or_bit, both_or)
 
 pub tunnel_either : (a b : ℕ) → (unpacked (bit_or a b)).tunnel ≡ ((unpacked a).tunnel || (unpacked b).tunnel)
 tunnel_either a b = or_bit a b 127
 
 -- what is in both
 pub has_both : (a b q : ℕ) → has (unpacked (bit_and a b)) q ≡ (has (unpacked a) q && has (unpacked b) q)
-has_both a b q =
-    has_unpacked (bit_and a b) q ∙ ap (λ x. nat_lt q 127 && x) (and_bit a b q) ∙ both_and (nat_lt q 127) (bit_at a q == 1) (bit_at b q == 1)
-    ∙ (λ i. sym (has_unpacked a q) i && sym (has_unpacked b q) i)
+has_both a b q = grind (arith, has_unpacked, and_bit, both_and)
 
 pub tunnel_both : (a b : ℕ) → (unpacked (bit_and a b)).tunnel ≡ ((unpacked a).tunnel && (unpacked b).tunnel)
 tunnel_both a b = and_bit a b 127
 
 -- what is in the first and not in the second
 pub has_minus : (a b q : ℕ) → b < 2 ^ 128 → has (unpacked (bit_and a (bit_not w128 b))) q ≡ (has (unpacked a) q && not (has (unpacked b) q))
-has_minus a b q within =
-    has_unpacked (bit_and a (bit_not w128 b)) q
-    ∙ elim (nat_lt q 127) as (λ t. nat_lt q 127 ≡ t → (t && bit_at (bit_and a (bit_not w128 b)) q == 1) ≡ (t && (bit_at a q == 1 && not (bit_at b q == 1)))) [
-      | true ↦ λ e. let below : q < 128 = grind (arith, nat_tests) in minus_bit a b q within below
-      | false ↦ λ e. refl
-    ] refl
-    ∙ both_minus (nat_lt q 127) (bit_at a q == 1) (bit_at b q == 1)
-    ∙ (λ i. sym (has_unpacked a q) i && not (sym (has_unpacked b q) i))
+has_minus a b q within = grind (arith, has_unpacked, nat_tests, minus_bit, both_minus)
 
 pub tunnel_minus : (a b : ℕ) → b < 2 ^ 128 → (unpacked (bit_and a (bit_not w128 b))).tunnel ≡ ((unpacked a).tunnel && not (unpacked b).tunnel)
 tunnel_minus a b within = minus_bit a b 127 within (omega arith)
@@ -148,8 +116,7 @@ one_without_tunnel : (k : ℕ) → k < 120 → (unpacked (single k)).tunnel ≡ 
 one_without_tunnel k below = rw (bit_at_above (single k) 120 127 (single_lt k below) (omega arith)) refl
 
 or_false : (b : Bool) → (b || false) ≡ b
-or_false true = refl
-or_false false = refl
+or_false b = grind arith
 
 -- one interface more
 pub with_packed : (n k : ℕ) → IsPacked n → k < 120 → IsPacked (bit_or n (single k))
@@ -166,8 +133,7 @@ pub has_without : (n k q : ℕ) → k < 120 → has (unpacked (bit_and n (bit_no
 has_without n k q below = has_minus n (single k) q (single_within k below) ∙ ap (λ b. has (unpacked n) q && not b) (has_one k q below)
 
 pub tunnel_without : (n k : ℕ) → k < 120 → (unpacked (bit_and n (bit_not w128 (single k)))).tunnel ≡ (unpacked n).tunnel
-tunnel_without n k below =
-    tunnel_minus n (single k) (single_within k below) ∙ ap (λ b. (unpacked n).tunnel && not b) (one_without_tunnel k below) ∙ sym (and_true (unpacked n).tunnel)
+tunnel_without n k below = grind (arith, tunnel_minus, single_within, one_without_tunnel, and_true)
 
 -- the interfaces below one
 abbrev pub ones : ℕ → ℕ
@@ -188,14 +154,11 @@ below_without_tunnel k within = rw (bit_at_above (ones k) 120 127 (ones_lt k wit
 -- an interface by its bit, shifted down
 pub has_shifted : (n k : ℕ) → k < 120 → (bit_and (n / 2 ^ k) 1 == 1) ≡ has (unpacked n) k
 unfolding has
-has_shifted n k below =
-    has_by_shift n false k ∙ sym (has_unpacked n k ∙ (let within : nat_lt k 127 ≡ true = grind (arith, nat_tests) in ap (λ t. t && bit_at n k == 1) within))
+has_shifted n k below = grind (arith, common_steps, has_by_shift, has_unpacked, nat_tests)
 
 -- the tunnel by its bit
 bit_power : (d : ℕ) → d < 2 → not (d * 2 ^ 127 == 0) ≡ (d == 1)
-bit_power zero small = refl
-bit_power (suc zero) small = refl
-bit_power (suc (suc d)) small = absurd (omega arith)
+bit_power d small = grind arith
 
 pub tunnel_masked : (n : ℕ) → not (bit_and n (2 ^ 127) == 0) ≡ (unpacked n).tunnel
 tunnel_masked n = rw (and_pow n 127) (bit_power (bit_at n 127) (bit_at-lt n 127))
@@ -228,8 +191,7 @@ tunnel_only : (unpacked (2 ^ 127)).tunnel ≡ true
 tunnel_only = refl
 
 or_true : (b : Bool) → (b || true) ≡ true
-or_true true = refl
-or_true false = refl
+or_true b = grind arith
 
 tunnel_packed : IsPacked (2 ^ 127)
 tunnel_packed = is_packed (2 ^ 127) (omega arith) (omega arith)
@@ -245,10 +207,7 @@ with_tunnel n = tunnel_either n (2 ^ 127) ∙ ap (λ b. (unpacked n).tunnel || b
 
 -- nothing is in where no bit is set
 pub is_nothing : (n : ℕ) → IsPacked n → IsTrue (n == 0) ↔ (((q : ℕ) → has (unpacked n) q ≡ false) × ((unpacked n).tunnel ≡ false))
-is_nothing n held = (
-  λ h. let none : n ≡ 0 = grind (arith, nat_tests) in rw none (λ q. has_empty false q, refl),
-  λ h. let none : n ≡ 0 = sym held.0 ∙ (λ i. no_bits (low n) (unpacked n).tunnel h.0 i + (if h.1 i then 2 ^ 127 else 0)) in grind (arith, nat_tests),
-)
+is_nothing n held = grind (arith, nat_tests, has_empty, no_bits)
 
 -- how many bits are set
 one_digit : (d : ℕ) → d < 2 → count_ones d ≡ (if d == 1 then 1 else 0)

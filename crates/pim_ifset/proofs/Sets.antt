@@ -1,12 +1,6 @@
 -- Sets by their members: two with the same members are equal, and `set_of` has those that pass.
-use Rattle.std.proofs.Common.{◌≡◌, ◌≢◌, ℕ, zero, suc, ◌+◌, ◌-◌, ◌*◌, ◌^◌, ◌<◌, Bool, true, false, ◌&&◌, ◌==◌, refl, ap, sym, ◌∙◌, arith, nat_lt, if◌then◌else◌, cond, add-zero, inl, inr}
-use Rattle.std.specs.Int.{bit_at}
-use Rattle.std.proofs.Math.Nat.{pow-suc}
-use Rattle.std.proofs.lemmas.Nat.Bits.{bit_at-lt, bit_at_above, bit_at-zero, bit_at_cat_low, bit_at_cat_high, same_from_bits}
-use Rattle.std.proofs.lemmas.Bool.{cases_order}
-use Rattle.std.proofs.lemmas.Bool.Decides.{nat_tests}
-use Rattle.pim_ifset.proofs.Masks.{has_empty, itself}
-use Rattle.pim_ifset.specs.Members.{Members, has, mask_of, set_of}
+use Rattle.std.{proofs.{Common.{◌≡◌, ◌≢◌, ℕ, zero, suc, ◌+◌, ◌-◌, ◌*◌, ◌^◌, ◌<◌, Bool, true, false, ◌&&◌, ◌==◌, refl, ap, sym, ◌∙◌, arith, nat_lt, if◌then◌else◌, cond, add-zero}, Math.Nat.pow-suc, lemmas.{Nat.Bits.{bit_at-lt, bit_at_above, bit_at-zero, bit_at_cat_low, bit_at_cat_high, same_from_bits}, Bool.{cases_order, Decides.nat_tests}}}, specs.Int.bit_at}
+use Rattle.pim_ifset.{proofs.Masks.{has_empty, itself}, specs.Members.{Members, has, mask_of, set_of}}
 
 same_digit : (x y : ℕ) → x < 2 → y < 2 → (x == 1) ≡ (y == 1) → x ≡ y
 same_digit x y p q e = grind (arith, nat_tests)
@@ -26,10 +20,7 @@ digit_low : (n m q : ℕ) → q < n → bit_at (m + 2 ^ n) q ≡ bit_at m q
 digit_low n m q below = let e : m + 2 ^ n ≡ 1 * 2 ^ n + m = omega arith in rw (e, bit_at_cat_low 1 n m q below)
 
 digit_here : (n m : ℕ) → m < 2 ^ n → bit_at (m + 2 ^ n) n ≡ 1
-digit_here n m small =
-    let e : m + 2 ^ n ≡ 1 * 2 ^ n + m = omega arith in
-    let z : n - n ≡ 0 = omega arith in
-    rw (e, bit_at_cat_high 1 n m n small (omega arith), z)
+digit_here n m small = grind arith
 
 digit_high : (n m q : ℕ) → m < 2 ^ n → n < q → bit_at (m + 2 ^ n) q ≡ 0
 digit_high n m q small above =
@@ -37,16 +28,8 @@ digit_high n m q small above =
     rw (e, bit_at_cat_high 1 n m q small (omega arith)) (bit_at_above 1 1 (q - n) (omega arith) (omega arith))
 
 digit_test : (b : Bool) (n m q : ℕ) → m < 2 ^ n → (bit_at (m + (if b then 2 ^ n else 0)) q == 1) ≡ cond (q == n) b (bit_at m q == 1)
-digit_test true n m q small = elim (cases_order q n) [
-  | inr (inl below) ↦ rw (digit_low n m q below, not_same q n (omega arith))
-  | inl same ↦ rw (same, digit_here n m small, itself n)
-  | inr (inr above) ↦ rw (digit_high n m q small above, not_same q n (omega arith), bit_at_above m n q small (omega arith))
-]
-digit_test false n m q small = elim (cases_order q n) [
-  | inr (inl below) ↦ rw (add-zero m, not_same q n (omega arith))
-  | inl same ↦ rw (add-zero m, same, itself n, bit_at_above m n n small (omega arith))
-  | inr (inr above) ↦ rw (add-zero m, not_same q n (omega arith))
-]
+digit_test b n m q small =
+    grind (arith, cases_order, digit_low, not_same, digit_here, itself, digit_high, bit_at_above, add-zero)
 
 pub mask_of_lt : (p : ℕ → Bool) (n : ℕ) → mask_of p n < 2 ^ n
 unfolding mask_of
@@ -58,17 +41,12 @@ mask_of_lt p (suc n) = elim (p n) as (λ b. mask_of p n + (if b then 2 ^ n else 
 
 -- below n, the test says it at n and the mask below
 next_test : (p : ℕ → Bool) (n q : ℕ) → cond (q == n) (p n) (nat_lt q n && p q) ≡ (nat_lt q (suc n) && p q)
-next_test p n q = elim (cases_order q n) [
-  | inr (inl below) ↦ let l : nat_lt q n ≡ true = grind (arith, nat_tests) in let m : nat_lt q (suc n) ≡ true = grind (arith, nat_tests) in rw (not_same q n (omega arith), l, m)
-  | inl same ↦ let m : nat_lt n (suc n) ≡ true = grind (arith, nat_tests) in rw (same, itself n, m)
-  | inr (inr above) ↦ let l : nat_lt q n ≡ false = grind (arith, nat_tests) in let m : nat_lt q (suc n) ≡ false = grind (arith, nat_tests) in rw (not_same q n (omega arith), l, m)
-]
+next_test p n q = grind arith
 
 has_mask_of : (p : ℕ → Bool) (n : ℕ) (t : Bool) (q : ℕ) → has (record { mask = mask_of p n; tunnel = t }) q ≡ (nat_lt q n && p q)
 unfolding has mask_of
 has_mask_of p zero t q = let l : nat_lt q 0 ≡ false = grind (arith, nat_tests) in rw (bit_at-zero q, l)
-has_mask_of p (suc n) t q =
-    digit_test (p n) n (mask_of p n) q (mask_of_lt p n) ∙ ap (cond (q == n) (p n)) (has_mask_of p n t q) ∙ next_test p n q
+has_mask_of p (suc n) t q = grind (arith, has_mask_of p n t q, digit_test, mask_of_lt, next_test)
 
 pub has_set_of : (p : ℕ → Bool) (t : Bool) (q : ℕ) → has (set_of p t) q ≡ (nat_lt q 120 && p q)
 unfolding set_of

@@ -1,8 +1,6 @@
 -- What a set of interfaces is: which interfaces are in it, and whether the register tunnel is.
-use Rattle.std.specs.Prelude.{ℕ, zero, suc, ◌+◌, ◌^◌, ◌==◌, Bool, if◌then◌else◌, List, filter, map}
-use Rattle.std.specs.Int.{bit_at}
-use Rattle.std.specs.List.{range_with_len}
-use Rattle.pim_types.specs.declared.config.IfaceId.{IfaceId}
+use Rattle.std.{specs.{Prelude.{ℕ, zero, suc, ◌+◌, ◌^◌, ◌==◌, Bool, if◌then◌else◌, List, filter, map}, Int.bit_at, List.range_with_len}}
+use Rattle.pim_types.{specs.declared.config.IfaceId.IfaceId}
 
 -- the interfaces as the bits of a number, interface 0 the lowest, and the register tunnel
 pub record Members : Type 0 where

@@ -1,7 +1,6 @@
 -- A set of interfaces and of the register tunnel as one number of 128 bits.
-use Rattle.std.specs.Prelude.{◌≡◌, ℕ, ◌+◌, ◌%◌, ◌^◌, ◌<◌, ◌==◌, if◌then◌else◌}
-use Rattle.std.specs.Int.{bit_at}
-use Rattle.pim_ifset.specs.Members.{Members}
+use Rattle.std.{specs.{Prelude.{◌≡◌, ℕ, ◌+◌, ◌%◌, ◌^◌, ◌<◌, ◌==◌, if◌then◌else◌}, Int.bit_at}}
+use Rattle.pim_ifset.{specs.Members.Members}
 
 -- the set of a number: its lower bits are the interfaces, its bit 127 the register tunnel
 abbrev pub unpacked : ℕ → Members

@@ -82,7 +82,7 @@ impl IfSet {
         }
     }
 
-    /// What is in either set.
+    /// The interfaces, and the tunnel, that are in either set.
     pub fn union(self, other: IfSet) -> IfSet
         ensures interfaces { (q : ℕ) → has result q ≡ (has self q || has other q) }
         ensures tunnel { result.tunnel ≡ (self.tunnel || other.tunnel) }
@@ -92,7 +92,7 @@ impl IfSet {
         }
     }
 
-    /// What is in this set and not in the other.
+    /// The interfaces, and the tunnel, that are in this set and not in the other.
     pub fn minus(self, other: IfSet) -> IfSet
         ensures interfaces { (q : ℕ) → has result q ≡ (has self q && not (has other q)) }
         ensures tunnel { result.tunnel ≡ (self.tunnel && not other.tunnel) }
@@ -102,7 +102,7 @@ impl IfSet {
         }
     }
 
-    /// What is in both sets.
+    /// The interfaces, and the tunnel, that are in both sets.
     pub fn intersection(self, other: IfSet) -> IfSet
         ensures interfaces { (q : ℕ) → has result q ≡ (has self q && has other q) }
         ensures tunnel { result.tunnel ≡ (self.tunnel && other.tunnel) }
@@ -119,7 +119,7 @@ impl IfSet {
         self.mask == 0
     }
 
-    /// How many there are in the set: its interfaces, and the tunnel where it is in.
+    /// How many members the set has: its interfaces, and the tunnel where it is in.
     pub fn len(self) -> usize
         ensures { result ≡ length (interfaces self) + (if self.tunnel then 1 else 0) }
     {

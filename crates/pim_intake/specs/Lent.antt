@@ -1,7 +1,8 @@
 -- The event that a borrowed event stands for.
-use Rattle.pim_types.specs.declared.event.EventKind.{EventKind}
-use Rattle.pim_intake.specs.declared.lent.LentKind.{LentKind}
+use Rattle.pim_types.{specs.declared.event.EventKind.EventKind}
+use Rattle.pim_intake.{specs.declared.lent.LentKind.LentKind}
 
+-- a lent event's kind as that of an event
 unfoldable pub event_kind : LentKind → EventKind
 event_kind (LentKind.Advance moment) = EventKind.Advance moment
 event_kind (LentKind.Frame iface bytes) = EventKind.Frame iface bytes

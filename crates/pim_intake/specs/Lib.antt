@@ -1,4 +1,4 @@
-pub mod Admitted
+pub mod Brought
 pub mod Lent
 pub mod Memory
 pub mod Visits

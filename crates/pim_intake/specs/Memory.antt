@@ -1,6 +1,6 @@
 -- Which events are tested in memory.
-use Rattle.std.specs.Prelude.{Bool, false, true}
-use Rattle.pim_types.specs.declared.event.EventKind.{EventKind}
+use Rattle.std.{specs.Prelude.{Bool, false, true}}
+use Rattle.pim_types.{specs.declared.event.EventKind.EventKind}
 
 -- routes and RP ranges
 abbrev pub is_tested_in_memory : EventKind → Bool

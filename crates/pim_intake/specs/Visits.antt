@@ -1,13 +1,10 @@
 -- How many nodes of tries are visited where an event is judged: those that lead to the RP of a Register-Stop's group.
-use Rattle.std.specs.Prelude.{Err, List, Ok, Result, if◌then◌else◌, ℕ, ◌==◌}
-use Rattle.pim_ip.specs.Ipv4.{Packet, ipv4_reading, protocol_pim}
-use Rattle.pim_ip.specs.declared.refusal.Refusal.{Refusal}
-use Rattle.pim_types.specs.declared.event.EventKind.{EventKind}
-use Rattle.pim_wire.specs.Messages.{pim_reading}
-use Rattle.pim_wire.specs.declared.register.RegisterStop.{RegisterStop}
-use Rattle.pim_wire.specs.declared.view.PimView.{PimView}
-use Rattle.pim_model.specs.State.{State, is_own}
-use Rattle.pim_mrib.specs.Routes.{rp_nodes}
+use Rattle.std.{specs.Prelude.{Err, List, Ok, Result, if◌then◌else◌, ℕ, ◌==◌}}
+use Rattle.pim_ip.{specs.{Ipv4.{Packet, ipv4_reading, protocol_pim}, declared.refusal.Refusal.Refusal}}
+use Rattle.pim_types.{specs.declared.event.EventKind.EventKind}
+use Rattle.pim_wire.{specs.{Messages.pim_reading, declared.{register.RegisterStop.RegisterStop, view.PimView.PimView}}}
+use Rattle.pim_model.{specs.State.{State, is_own}}
+use Rattle.pim_mrib.{specs.Routes.rp_nodes}
 
 -- what is looked up of a value that was read
 abbrev pub read_nodes : {A : Type 0} → Result A Refusal → (A → ℕ) → ℕ
@@ -33,7 +30,7 @@ unicast_packet_nodes s p =
 unfoldable pub unicast_nodes : State → List ℕ → ℕ
 unicast_nodes s bytes = read_nodes (ipv4_reading bytes) (unicast_packet_nodes s)
 
--- an event: of all others nothing
+-- the nodes visited for the tests of an event: only a unicast packet needs a look-up
 abbrev pub judged_nodes : State → EventKind → ℕ
 judged_nodes s (EventKind.Unicast bytes) = unicast_nodes s bytes
 judged_nodes s _ = 0

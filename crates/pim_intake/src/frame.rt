@@ -6,8 +6,8 @@ use crate::igmp::judge_igmp;
 use crate::message::judge_pim;
 use pim_ip::{Addr, FRAME_LIMIT, Ipv4View, PROTOCOL_IGMP, PROTOCOL_PIM, Refusal, read_ipv4};
 use pim_model::Accepted;
+use pim_state::World;
 use pim_types::{IfaceId, Ignored, Stop};
-use pim_world::World;
 
 // A packet of another protocol.
 #[tactic(auto, unfolding(pim_model::specs::Judging::data_judged))]

@@ -5,8 +5,8 @@ ghost use Rattle.pim_model.specs.Judging.{igmp_accepted, igmp_message_judged};
 use igmp_wire::{IgmpView, read_igmp};
 use pim_ip::{Addr, Ipv4View};
 use pim_model::Accepted;
+use pim_state::World;
 use pim_types::{IfaceId, Ignored, Stop};
-use pim_world::World;
 
 // What the router acts on of a message.
 fn accepted<'a>(iface: IfaceId, from: Addr, message: IgmpView<'a>) -> Accepted<'a>

@@ -9,5 +9,5 @@ pub mod lent;
 mod message;
 mod unicast;
 
-pub use event::{Admitted, judge};
+pub use event::judge;
 pub use lent::LentEvent;

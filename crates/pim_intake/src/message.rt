@@ -5,10 +5,11 @@ ghost use Rattle.pim_model.specs.State.{my_address};
 
 use pim_ip::{Addr, Ipv4View};
 use pim_model::Accepted;
+use pim_state::World;
 use pim_types::{IfaceId, Ignored, Stop};
 use pim_wire::{Assert, DEFAULT_HOLDTIME, Hello, JoinPruneView, PimView, read_pim};
-use pim_world::World;
 
+// The tests of a Hello: one with holdtime 0 has to be of a known neighbour (RFC 7761, section 4.3.2).
 #[tactic(auto, unfolding(pim_model::specs::Judging::hello_judged))]
 fn judge_hello<'a>(
     world: &World,
@@ -32,6 +33,7 @@ fn is_mine(world: &World, iface: IfaceId, address: Addr) -> bool
     world.address(iface) == address
 }
 
+// The tests of a Join/Prune: its sender is a neighbour (RFC 7761, section 4.5); it is to the router or only seen by it.
 #[tactic(auto, unfolding(pim_model::specs::Judging::join_prune_judged))]
 fn judge_join_prune<'a>(
     world: &World,
@@ -50,6 +52,7 @@ fn judge_join_prune<'a>(
     Ok(Accepted::JoinPruneSeen { iface, message })
 }
 
+// The tests of an Assert: its mask is that of one group, its group isn't link-local, and its sender is a neighbour.
 #[tactic(auto, unfolding(pim_model::specs::Judging::assert_judged))]
 fn judge_assert<'a>(
     world: &World,

@@ -6,11 +6,12 @@ ghost use Rattle.pim_trie.specs.Meter.{raised};
 
 use pim_ip::{Addr, Ipv4View, PROTOCOL_PIM, read_ipv4};
 use pim_model::Accepted;
+use pim_state::World;
 use pim_trie::Meter;
 use pim_types::{Ignored, Stop};
 use pim_wire::{PimView, RegisterStop, RegisterView, read_pim};
-use pim_world::World;
 
+// The tests of a Register: its group isn't link-local.
 #[tactic(auto, unfolding(pim_model::specs::Judging::register_judged))]
 fn judge_register<'a>(
     packet: Ipv4View<'a>,
@@ -24,7 +25,8 @@ fn judge_register<'a>(
     Ok(Accepted::Register { packet, register })
 }
 
-#[tactic(auto, using(pim_world::proofs::Visits::raised_by_none), unfolding(pim_model::specs::Judging::register_stop_judged))]
+// The tests of a Register-Stop: it is of one group, and comes from RP(G). The meter rises by the nodes of RP(G).
+#[tactic(auto, using(pim_state::proofs::Visits::raised_by_none), unfolding(pim_model::specs::Judging::register_stop_judged))]
 fn judge_register_stop<'a>(
     world: &World,
     from: Addr,
@@ -43,7 +45,8 @@ fn judge_register_stop<'a>(
     Ok(Accepted::RegisterStop { from, stop })
 }
 
-#[tactic(auto, using(pim_world::proofs::Visits::raised_by_none), unfolding(pim_model::specs::Judging::pim_to_me_judged))]
+// The tests of a PIM message to the router's address: a Register or a Register-Stop, and nothing else.
+#[tactic(auto, using(pim_state::proofs::Visits::raised_by_none), unfolding(pim_model::specs::Judging::pim_to_me_judged))]
 fn judge_message<'a>(
     world: &World,
     packet: Ipv4View<'a>,
@@ -60,8 +63,8 @@ fn judge_message<'a>(
     }
 }
 
-// A packet that was read.
-#[tactic(auto, using(pim_world::proofs::Visits::raised_by_none), unfolding(pim_model::specs::Judging::unicast_packet_judged, crate::specs::Visits::unicast_packet_nodes))]
+// The tests of a unicast packet: it is a PIM message to an address of the router.
+#[tactic(auto, using(pim_state::proofs::Visits::raised_by_none), unfolding(pim_model::specs::Judging::unicast_packet_judged, crate::specs::Visits::unicast_packet_nodes))]
 fn judge_packet<'a>(
     world: &World,
     packet: Ipv4View<'a>,
@@ -81,7 +84,7 @@ fn judge_packet<'a>(
 }
 
 /// A packet to the router's own address. The meter rises by the nodes that lead to the RP of a Register-Stop's group.
-#[tactic(auto, using(pim_world::proofs::Visits::raised_by_none), unfolding(pim_model::specs::Judging::unicast_judged, crate::specs::Visits::unicast_nodes))]
+#[tactic(auto, using(pim_state::proofs::Visits::raised_by_none), unfolding(pim_model::specs::Judging::unicast_judged, crate::specs::Visits::unicast_nodes))]
 pub(crate) fn judge_unicast<'a>(
     world: &World,
     bytes: &'a [u8],

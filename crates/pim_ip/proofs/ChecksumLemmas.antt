@@ -1,10 +1,7 @@
 -- The one's complement sum, and bytes that hold their checksum.
-use Rattle.std.proofs.Common.{◌≡◌, ℕ, zero, suc, ◌+◌, ◌*◌, ◌-◌, ◌/◌, ◌%◌, ◌<◌, ◌≤◌, List, [], ◌∷◌, ◌++◌, length, take, drop, get_or, refl, sym, ap, ◌∙◌, arith, inl, inr}
-use Rattle.std.proofs.lemmas.Bool.{cases_lt}
-use Rattle.std.proofs.lemmas.List.{append_assoc, take_all}
-use Rattle.byteorder.specs.Endian.{big_bytes, big_from}
-use Rattle.pim_ip.specs.Ipv4.{version_of}
-use Rattle.pim_ip.specs.Checksum.{sum_of_words, ones, sum16, with_checksum}
+use Rattle.std.{proofs.{Common.{◌≡◌, ℕ, zero, suc, ◌+◌, ◌*◌, ◌-◌, ◌/◌, ◌%◌, ◌<◌, ◌≤◌, List, [], ◌∷◌, ◌++◌, length, take, drop, get_or, refl, sym, ap, ◌∙◌, arith, inl, inr}, lemmas.{Bool.cases_lt, List.{append_assoc, take_all}}}}
+use Rattle.byteorder.{specs.Endian.{big_bytes, big_from}}
+use Rattle.pim_ip.{specs.{Ipv4.version_of, Checksum.{sum_of_words, ones, sum16, with_checksum}}}
 
 -- the value of a sum above 0
 ones-positive : (n : ℕ) → 0 < n → ones n ≡ (n - 1) % 65535 + 1

@@ -1,12 +1,6 @@
 -- What the tests of a packet answer, each where those before it passed.
-use Rattle.std.proofs.Common.{◌≡◌, ◌≢◌, ℕ, ◌<◌, ◌≤◌, true, false, List, length, take, slice_range, Ok, Err, sym, ap, ◌∙◌, arith}
-use Rattle.std.proofs.lemmas.Bool.Decides.{nat_tests}
-use Rattle.std.proofs.lemmas.Grind.{and_numeral}
-use Rattle.std.proofs.lemmas.List.{get_or-take}
-use Rattle.pim_ip.specs.declared.refusal.Refusal.TheVariants.{Short, BadVersion, BadChecksum, BadLength, BadAddress, Fragment}
-use Rattle.pim_ip.specs.Checksum.{sum16}
-use Rattle.pim_ip.specs.Ipv4.{packet_limit, version_of, header_length_of, total_length_of, fragment_of, protocol_of, source_address_of, is_source, packet_of, ipv4_reading}
-use Rattle.pim_ip.specs.View.{packet_from}
+use Rattle.std.{proofs.{Common.{◌≡◌, ◌≢◌, ℕ, ◌<◌, ◌≤◌, true, false, List, length, take, slice_range, Ok, Err, sym, ap, ◌∙◌, arith}, lemmas.{Bool.Decides.nat_tests, Grind.and_numeral, List.get_or-take}}}
+use Rattle.pim_ip.{specs.{declared.refusal.Refusal.TheVariants.{Short, BadVersion, BadChecksum, BadLength, BadAddress, Fragment}, Checksum.sum16, Ipv4.{packet_limit, version_of, header_length_of, total_length_of, fragment_of, protocol_of, source_address_of, is_source, packet_of, ipv4_reading}, View.packet_from}}
 
 -- the fields stand in the first 20 bytes
 packet_from-take : (b : List ℕ) (n : ℕ) (payload : List ℕ) → 20 ≤ n

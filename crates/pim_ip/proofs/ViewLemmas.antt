@@ -1,16 +1,8 @@
 -- A packet is read as itself, whatever follows it within the limit: a packet that was read, a copy of it, and a
 -- written header with its payload.
-use Rattle.std.proofs.Common.{◌≡◌, ℕ, ◌+◌, ◌-◌, ◌/◌, ◌%◌, ◌^◌, ◌<◌, ◌≤◌, IsTrue, List, [], ◌∷◌, ◌++◌, length, take, drop, get_or, slice_range, Ok, refl, sym, ap, ◌∙◌, arith}
-use Rattle.std.proofs.lemmas.Bool.Decides.{nat_tests}
-use Rattle.std.proofs.lemmas.List.{append_assoc, length-append, get_or_append_left, get_or-take, get_or-drop, get_or-append_right, take_at, drop_at, length-drop, length-take-le}
-use Rattle.byteorder.specs.Endian.{big_from, big_bytes}
-use Rattle.byteorder.specs.Numbers.{big_number-reads_back}
-use Rattle.pim_ip.specs.Checksum.{sum16, with_checksum}
-use Rattle.pim_ip.specs.Ipv4.{Packet, packet_limit, header_length_of, total_length_of, protocol_of, source_address_of, is_source, header_text, copy_text, ipv4_reading}
-use Rattle.pim_ip.specs.View.{packet_from, IsPacket, ReadsAs, copied_header, copied, written_packet}
-use Rattle.pim_ip.proofs.ReadingLemmas.{IsMeasured, packet_found}
-use Rattle.pim_ip.proofs.ChecksumLemmas.{sum16-with_checksum}
-use Rattle.pim_ip.proofs.WritingLemmas.{length-with_checksum}
+use Rattle.std.{proofs.{Common.{◌≡◌, ℕ, ◌+◌, ◌-◌, ◌/◌, ◌%◌, ◌^◌, ◌<◌, ◌≤◌, IsTrue, List, [], ◌∷◌, ◌++◌, length, take, drop, get_or, slice_range, Ok, refl, sym, ap, ◌∙◌, arith}, lemmas.{Bool.Decides.nat_tests, List.{append_assoc, length-append, get_or_append_left, get_or-take, get_or-drop, get_or-append_right, take_at, drop_at, length-drop, length-take-le}}}}
+use Rattle.byteorder.{specs.{Endian.{big_from, big_bytes}, Numbers.big_number-reads_back}}
+use Rattle.pim_ip.{specs.{Checksum.{sum16, with_checksum}, Ipv4.{Packet, packet_limit, header_length_of, total_length_of, protocol_of, source_address_of, is_source, header_text, copy_text, ipv4_reading}, View.{packet_from, IsPacket, ReadsAs, copied_header, copied, written_packet}}, proofs.{ReadingLemmas.{IsMeasured, packet_found}, ChecksumLemmas.sum16-with_checksum, WritingLemmas.length-with_checksum}}
 
 -- a header, its payload and what follows
 module _ (header payload more : List ℕ) where

@@ -1,10 +1,8 @@
 -- How headers are written.
-use Rattle.std.proofs.Common.{◌≡◌, ℕ, ◌+◌, ◌-◌, ◌/◌, ◌%◌, ◌≤◌, List, [], ◌∷◌, ◌++◌, length, take, drop, set, get_or, refl, sym, ap, ◌∙◌, arith}
-use Rattle.std.proofs.lemmas.List.{append_assoc, drop_all, length-append, length-drop, length-set, drop-set-lt, get_or-set_other, take_more, take_more_set, drop-drop, take_at, drop_at, take-append-le, drop-append-le, length-take-le}
-use borrow.Rule.Slice.PartMut.{put_mid}
-use Rattle.byteorder.specs.Endian.{big_bytes}
-use Rattle.pim_ip.specs.Checksum.{sum16, with_checksum}
-use Rattle.pim_ip.specs.View.{lowered_header}
+use Rattle.std.{proofs.{Common.{◌≡◌, ℕ, ◌+◌, ◌-◌, ◌/◌, ◌%◌, ◌≤◌, List, [], ◌∷◌, ◌++◌, length, take, drop, set, get_or, refl, sym, ap, ◌∙◌, arith}, lemmas.List.{append_assoc, drop_all, length-append, length-drop, length-set, drop-set-lt, get_or-set_other, take_more, take_more_set, drop-drop, take_at, drop_at, take-append-le, drop-append-le, length-take-le}}}
+use borrow.{Rule.Slice.PartMut.put_mid}
+use Rattle.byteorder.{specs.Endian.big_bytes}
+use Rattle.pim_ip.{specs.{Checksum.{sum16, with_checksum}, View.lowered_header}}
 
 -- nothing of two elements is left past two
 drop-take-2 : (xs : List ℕ) → drop 2 (take 2 xs) ≡ []

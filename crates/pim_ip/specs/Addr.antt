@@ -1,8 +1,8 @@
 -- An IPv4 address, and what it prints.
-use Rattle.std.specs.Prelude.{ℕ, List, ◌++◌, codes, decimal}
-use Rattle.std.specs.Int.{byte_at}
-use Rattle.pim_ip.specs.declared.addr.Addr.{Addr}
+use Rattle.std.{specs.{Prelude.{ℕ, List, ◌++◌, codes, decimal}, Int.byte_at}}
+use Rattle.pim_ip.{specs.declared.addr.Addr.Addr}
 
+-- the address of these bits
 abbrev pub addr : ℕ → Addr
 addr bits = record { bits = bits }
 

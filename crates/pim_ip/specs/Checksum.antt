@@ -1,6 +1,6 @@
 -- The Internet checksum (RFC 1071) as a function of whole numbers.
-use Rattle.std.specs.Prelude.{ℕ, zero, suc, ◌+◌, ◌*◌, ◌-◌, ◌%◌, List, [], ◌∷◌, ◌++◌}
-use Rattle.byteorder.specs.Endian.{big_bytes}
+use Rattle.std.{specs.Prelude.{ℕ, zero, suc, ◌+◌, ◌*◌, ◌-◌, ◌%◌, List, [], ◌∷◌, ◌++◌}}
+use Rattle.byteorder.{specs.Endian.big_bytes}
 
 -- the sum of the 16-bit words, the highest byte first; a last byte alone is followed by a zero byte
 unfoldable pub sum_of_words : List ℕ → ℕ

@@ -1,8 +1,6 @@
 -- The header of a control packet by its fields.
-use Rattle.std.specs.Prelude.{◌≡◌, ℕ, if◌then◌else◌, IsTrue, List, [], ◌++◌, length}
-use Rattle.pim_ip.specs.declared.write.ControlHeader.{ControlHeader}
-use Rattle.pim_ip.specs.Ipv4.{is_source, header_text, router_alert}
-use Rattle.pim_ip.specs.View.{ReadsAs, written_packet}
+use Rattle.std.{specs.Prelude.{◌≡◌, ℕ, if◌then◌else◌, IsTrue, List, [], ◌++◌, length}}
+use Rattle.pim_ip.{specs.{declared.write.ControlHeader.ControlHeader, Ipv4.{is_source, header_text, router_alert}, View.{ReadsAs, written_packet}}}
 
 -- Router Alert or no option
 abbrev pub options_of : ControlHeader → List ℕ

@@ -1,10 +1,7 @@
 -- IPv4 packets (RFC 791): the reading as tests in their order over places, and the written texts.
-use Rattle.std.specs.Prelude.{ℕ, ◌+◌, ◌*◌, ◌-◌, ◌/◌, ◌%◌, Bool, ◌&&◌, ◌||◌, ◌==◌, nat_le, nat_lt, List, [], ◌∷◌, ◌++◌, length, take, drop, slice_index, slice_range, Result, Ok}
-use Rattle.byteorder.specs.Endian.{big_from, big_bytes}
-use Rattle.pim_ip.specs.declared.refusal.Refusal.{Refusal}
-use Rattle.pim_ip.specs.declared.refusal.Refusal.TheVariants.{Short, BadVersion, BadChecksum, BadLength, BadAddress, Fragment}
-use Rattle.pim_ip.specs.Tests.{expect, ◌>>◌}
-use Rattle.pim_ip.specs.Checksum.{sum16, with_checksum}
+use Rattle.std.{specs.Prelude.{ℕ, ◌+◌, ◌*◌, ◌-◌, ◌/◌, ◌%◌, Bool, ◌&&◌, ◌||◌, ◌==◌, nat_le, nat_lt, List, [], ◌∷◌, ◌++◌, length, take, drop, slice_index, slice_range, Result, Ok}}
+use Rattle.byteorder.{specs.Endian.{big_from, big_bytes}}
+use Rattle.pim_ip.{specs.{declared.refusal.Refusal.{Refusal, TheVariants.{Short, BadVersion, BadChecksum, BadLength, BadAddress, Fragment}}, Tests.{expect, ◌>>◌}, Checksum.{sum16, with_checksum}}}
 
 -- what a packet says: the header fields that the router uses, the header's bytes with its options,
 -- and the payload, without the bytes past the total length
@@ -44,16 +41,19 @@ is_link_local address = address / 0x100 == 0xE0_0000
 abbrev pub is_source_specific : ℕ → Bool
 is_source_specific group = group / 0x100_0000 == 232
 
--- ALL-PIM-ROUTERS and all systems
+-- ALL-PIM-ROUTERS, 224.0.0.13 (RFC 7761, section 4.3.1)
 abbrev pub all_pim_routers : ℕ
 all_pim_routers = 0xE000_000D
 
+-- all systems, 224.0.0.1 (RFC 3376, section 4.1.12)
 abbrev pub all_systems : ℕ
 all_systems = 0xE000_0001
 
+-- the protocol number of IGMP in an IPv4 header
 abbrev pub protocol_igmp : ℕ
 protocol_igmp = 2
 
+-- the protocol number of PIM in an IPv4 header (RFC 7761, section 4.9)
 abbrev pub protocol_pim : ℕ
 protocol_pim = 103
 
@@ -82,6 +82,7 @@ abbrev pub is_source : ℕ → ℕ → Bool
 is_source protocol address =
     nat_lt address first_multicast && (nat_lt 0 address || (protocol == protocol_igmp))
 
+-- the packet in the bytes of one: its header's fields, and its payload
 unfoldable pub packet_of : List ℕ → Packet
 packet_of b = record {
   protocol = protocol_of b;

@@ -1,6 +1,6 @@
 -- Prefixes of IPv4 addresses, and the longest match.
-use Rattle.std.specs.Prelude.{ℕ, ◌-◌, ◌/◌, ◌%◌, ◌^◌, Bool, if◌then◌else◌, ◌==◌, nat_lt, List, [], ◌∷◌, Option, Some, None}
-use Rattle.pim_ip.specs.declared.addr.Prefix.{Prefix}
+use Rattle.std.{specs.Prelude.{ℕ, ◌-◌, ◌/◌, ◌%◌, ◌^◌, Bool, if◌then◌else◌, ◌==◌, nat_lt, List, [], ◌∷◌, Option, Some, None}}
+use Rattle.pim_ip.{specs.declared.addr.Prefix.Prefix}
 
 -- the address lies in the prefix: the highest `length` bits are the same
 unfoldable pub contains : Prefix → ℕ → Bool
@@ -11,7 +11,7 @@ unfoldable pub is_host_clear : Prefix → Bool
 is_host_clear p = p.address.bits % 2 ^ (32 - p.length) == 0
 
 module _ {X : Type 0} (prefix_of : X → Prefix) where
-  -- the one with the longer prefix
+  -- of a value with a prefix and another, if there is one, that of the longer prefix
   unfoldable pub longer : X → Option X → X
   longer x None = x
   longer x (Some y) = if nat_lt (prefix_of y).length (prefix_of x).length then x else y

@@ -1,8 +1,8 @@
 -- The numbers by which refusals are known in scenarios and printed lines.
-use Rattle.std.specs.Prelude.{ℕ}
-use Rattle.pim_ip.specs.declared.refusal.Refusal.{Refusal}
-use Rattle.pim_ip.specs.declared.refusal.Refusal.TheVariants.{Short, BadVersion, BadChecksum, BadLength, BadAddress, NotMulticast, OldVersion, UnknownType, Fragment, MomentBack, MomentFar, NoInterface, InterfaceDown, Full, BadRoutes, BadRps, BadMove, InterfaceCount, InterfaceAddress, InterfaceLength, Overlap, BadLimit, BadQuerier, BadDelay, ConfiguredRoutes, ConfiguredRps, BadScenario}
+use Rattle.std.{specs.Prelude.ℕ}
+use Rattle.pim_ip.{specs.declared.refusal.Refusal.{Refusal, TheVariants.{Short, BadVersion, BadChecksum, BadLength, BadAddress, NotMulticast, OldVersion, UnknownType, Fragment, MomentBack, MomentFar, NoInterface, InterfaceDown, Full, BadRoutes, BadRps, BadMove, InterfaceCount, InterfaceAddress, InterfaceLength, Overlap, BadLimit, BadQuerier, BadDelay, ConfiguredRoutes, ConfiguredRps, BadScenario}}}
 
+-- the number under which a refusal is printed and told to C
 abbrev pub refusal_number : Refusal → ℕ
 refusal_number Short = 1
 refusal_number BadVersion = 2

@@ -1,8 +1,7 @@
 -- What a packet's header and payload say, and when they are a whole packet.
-use Rattle.std.specs.Prelude.{◌≡◌, ℕ, ◌+◌, ◌-◌, ◌≤◌, IsTrue, List, [], ◌∷◌, ◌++◌, length, take, drop, slice_index, Ok}
-use Rattle.byteorder.specs.Endian.{big_from}
-use Rattle.pim_ip.specs.Checksum.{sum16, with_checksum}
-use Rattle.pim_ip.specs.Ipv4.{Packet, packet_limit, version_of, header_length_of, total_length_of, fragment_of, protocol_of, source_address_of, is_source, header_text, ipv4_reading}
+use Rattle.std.{specs.Prelude.{◌≡◌, ℕ, ◌+◌, ◌-◌, ◌≤◌, IsTrue, List, [], ◌∷◌, ◌++◌, length, take, drop, slice_index, Ok}}
+use Rattle.byteorder.{specs.Endian.big_from}
+use Rattle.pim_ip.{specs.{Checksum.{sum16, with_checksum}, Ipv4.{Packet, packet_limit, version_of, header_length_of, total_length_of, fragment_of, protocol_of, source_address_of, is_source, header_text, ipv4_reading}}}
 
 -- the packet of this header and this payload
 abbrev pub packet_from : List ℕ → List ℕ → Packet

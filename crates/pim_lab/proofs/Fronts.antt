@@ -1,28 +1,10 @@
 -- Routers behind their fronts: what the front gives, and what one event then is.
-use Rattle.std.proofs.Common.{◌≡◌, ◌∙◌, ℕ, suc, zero, Bool, false, List, [], ◌∷◌, Option, Some, None, Ok, Err, refl, sym, ap, subst}
-use Rattle.std.specs.List.{slice_get}
-use Rattle.std.specs.Option.{option_map_or}
-use Rattle.std.specs.Prelude.{IfSome, option_and_then, set}
-use Rattle.pim_types.specs.Keys.{star_key}
-use Rattle.pim_types.specs.declared.config.IfaceId.{IfaceId}
-use Rattle.pim_types.specs.declared.event.Event.{Event}
-use Rattle.pim_types.specs.declared.event.EventKind.{EventKind}
-use Rattle.pim_types.specs.declared.outcome.Outcome.{Outcome}
-use Rattle.pim_types.specs.declared.outcome.Verdict.{Verdict}
-use Rattle.pim_model.specs.Network.{At, Network, Station, event_of, moved, moved_at, station_at, stepped}
-use Rattle.pim_model.specs.State.{State}
-use Rattle.pim_model.specs.Step.{step}
-use Rattle.pim_model.specs.Tables.{has_row, row_at}
-use Rattle.pim_net.specs.Carried.{AreMoves, HasMoved, carried_packet}
-use Rattle.pim_net.specs.declared.moves.Move.{Move}
-use Rattle.pim_net.specs.Showing.{Standing, shown_state}
-use Rattle.igmp_older.specs.Joined.{Both, bytes_given, event_given, joined_step, kind_given, known_after, known_if, older_in, older_of, present_end, rows_of}
-use Rattle.igmp_older.specs.Presence.{Present, hosts_on}
-use Rattle.igmp_older.specs.Translation.{Gives, Translation, packet_given, translation}
-use Rattle.igmp_older.specs.declared.front.Given.{Given}
-use Rattle.igmp_older.specs.declared.older.Older.{Older}
-use Rattle.pim_lab.specs.Fronts.{IsMarkOf, Stands, behind, marked}
-use Rattle.pim_lab.specs.declared.front.Mark.{Mark}
+use Rattle.std.{proofs.Common.{◌≡◌, ◌∙◌, ℕ, suc, zero, Bool, false, List, [], ◌∷◌, Option, Some, None, Ok, Err, refl, sym, ap, subst}, specs.{List.slice_get, Option.option_map_or, Prelude.{IfSome, option_and_then, set}}}
+use Rattle.pim_types.{specs.{Keys.star_key, declared.{config.IfaceId.IfaceId, event.{Event.Event, EventKind.EventKind}, outcome.{Outcome.Outcome, Verdict.Verdict}}}}
+use Rattle.pim_model.{specs.{Network.{At, Network, Station, event_of, moved, moved_at, station_at, stepped}, State.State, Step.step, Tables.{has_row, row_at}}}
+use Rattle.pim_net.{specs.{Carried.{AreMoves, HasMoved, carried_packet}, declared.moves.Move.Move, Showing.{Standing, shown_state}}}
+use Rattle.igmp_older.{specs.{Joined.{Both, bytes_given, event_given, joined_step, kind_given, known_after, known_if, older_in, older_of, present_end, rows_of}, Presence.{Present, hosts_on}, Translation.{Gives, Translation, packet_given, translation}, declared.{front.Given.Given, older.Older.Older}}}
+use Rattle.pim_lab.{specs.{Fronts.{IsMarkOf, Stands, behind, marked}, declared.front.Mark.Mark}}
 
 -- ---- what is asked of a router
 

@@ -1,5 +1,5 @@
 -- A list of as many settings as there are interfaces.
-use Rattle.std.proofs.Common.{◌≡◌, ◌<◌, ℕ, suc, zero, List, [], ◌∷◌, ◌++◌, arith, ap, refl, length, map, take}
+use Rattle.std.{proofs.Common.{◌≡◌, ◌<◌, ℕ, suc, zero, List, [], ◌∷◌, ◌++◌, arith, ap, refl, length, map, take}}
 
 pub same_more : {A B : Type 0} (x : B) (xs : List A) (i : ℕ) → i < length xs
     → map (λ _. x) (take (suc i) xs) ≡ map (λ _. x) (take i xs) ++ x ∷ []

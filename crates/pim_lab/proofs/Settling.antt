@@ -1,13 +1,7 @@
 -- Where a settle delivers: by the list that is left.
-use Rattle.std.proofs.Common.{◌≡◌, ◌∙◌, ◌<◌, ◌≤◌, ◌+◌, ◌++◌, ℕ, suc, List, [], ◌∷◌, Option, Some, None, ap, sym, refl, arith, append_assoc, append-nil, add-one, drop, drop-cons, get_or, length, option_to_list}
-use Rattle.std.proofs.lemmas.List.{drop_all}
-use Rattle.std.specs.Prelude.{MatchOption}
-use Rattle.pim_scenario.specs.declared.scenario.Link.{Link}
-use Rattle.pim_lab.specs.Settling.{deliveries_of, next_delivery, received, to_interfaces, to_routers}
-use Rattle.pim_lab.specs.declared.frames.Delivery.{Delivery}
-use Rattle.pim_lab.specs.declared.frames.Frame.{Frame}
-use Rattle.pim_lab.specs.declared.frames.OnLink.{OnLink}
-use Rattle.pim_lab.specs.declared.station.Station.{Station}
+use Rattle.std.{proofs.{Common.{◌≡◌, ◌∙◌, ◌<◌, ◌≤◌, ◌+◌, ◌++◌, ℕ, suc, List, [], ◌∷◌, Option, Some, None, ap, sym, refl, arith, append_assoc, append-nil, add-one, drop, drop-cons, get_or, length, option_to_list}, lemmas.List.drop_all}, specs.Prelude.MatchOption}
+use Rattle.pim_scenario.{specs.declared.scenario.Link.Link}
+use Rattle.pim_lab.{specs.{Settling.{deliveries_of, next_delivery, received, to_interfaces, to_routers}, declared.{frames.{Delivery.Delivery, Frame.Frame, OnLink.OnLink}, station.Station.Station}}}
 
 -- a list of no length
 pub no_items : {A : Type 0} (xs : List A) (n : ℕ) → n ≡ length xs → n ≡ 0 → xs ≡ []

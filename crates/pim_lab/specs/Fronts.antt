@@ -1,18 +1,11 @@
 -- Routers behind their fronts for older hosts.
-use Rattle.std.specs.Prelude.{◌≡◌, ℕ, List, Option, Some, option_map, Result, Ok, map}
-use Rattle.pim_ip.specs.declared.refusal.Refusal.{Refusal}
-use Rattle.pim_types.specs.declared.config.Config.{Config}
-use Rattle.pim_types.specs.declared.event.EventKind.{EventKind}
-use Rattle.pim_types.specs.declared.fact.GroupRecordRow.{GroupRecordRow}
-use Rattle.pim_types.specs.declared.outcome.Verdict.{Verdict}
-use Rattle.pim_model.specs.State.{State}
-use Rattle.pim_model.specs.Tables.{Table}
-use Rattle.pim_net.specs.Showing.{Standing}
-use Rattle.igmp_older.specs.Joined.{Both, known_if, noted_answered, older_in}
-use Rattle.igmp_older.specs.Laws.{none_known}
-use Rattle.igmp_older.specs.Presence.{Present, left, looked}
-use Rattle.igmp_older.specs.declared.setting.OlderHosts.{OlderHosts}
-use Rattle.pim_lab.specs.declared.front.Mark.{Mark}
+use Rattle.std.{specs.Prelude.{◌≡◌, ℕ, List, Option, Some, option_map, Result, Ok, map}}
+use Rattle.pim_ip.{specs.declared.refusal.Refusal.Refusal}
+use Rattle.pim_types.{specs.declared.{config.Config.Config, event.EventKind.EventKind, fact.GroupRecordRow.GroupRecordRow, outcome.Verdict.Verdict}}
+use Rattle.pim_model.{specs.{State.State, Tables.Table}}
+use Rattle.pim_net.{specs.Showing.Standing}
+use Rattle.igmp_older.{specs.{Joined.{Both, known_if, noted_answered, older_in}, Laws.none_known, Presence.{Present, left, looked}, declared.setting.OlderHosts.OlderHosts}}
+use Rattle.pim_lab.{specs.declared.front.Mark.Mark}
 
 -- the router hasn't failed, and this is its state
 abbrev pub Stands : Option Standing → State → Type 0
@@ -44,7 +37,8 @@ marked p groups (Mark.Forget moment) packet answer = marked_if p groups (Mark.Fo
 marked p groups (Mark.Leave i) packet answer = marked_if p groups (Mark.Leave i) answer
 marked p groups Mark.Stay packet answer = p
 
--- With this mark the rows become what is known after an event of this kind, whatever the router answers.
+-- A mark says how the rows of older hosts become what is known after an event of this kind, whatever the router
+-- answers.
 abbrev pub IsMarkOf : Both → EventKind → Mark → List ℕ → Type 0
 IsMarkOf b kind mark packet =
     (after : State) (answer : Result Verdict Refusal)

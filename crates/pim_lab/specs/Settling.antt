@@ -1,17 +1,10 @@
 -- Where a settle delivers the frames that wait for it.
-use Rattle.std.specs.List.{list_any, position}
-use Rattle.std.specs.Option.{option_map_or}
-use Rattle.std.specs.Prelude.{Bool, List, None, Option, Some, [], if◌then◌else◌, not, option_and_then, option_map, slice_get, suc, ℕ, ◌&&◌, ◌++◌, ◌+◌, ◌==◌, ◌∷◌}
-use Rattle.pim_ip.specs.declared.addr.Addr.{Addr}
-use Rattle.pim_net.specs.declared.moves.Move.{Move}
-use Rattle.pim_scenario.specs.declared.scenario.Link.{Link}
-use Rattle.pim_types.specs.declared.config.IfaceId.{IfaceId}
-use Rattle.pim_types.specs.declared.outcome.Emission.{Emission}
-use Rattle.pim_lab.specs.declared.frames.Delivery.{Delivery}
-use Rattle.pim_lab.specs.declared.frames.Departure.{Departure}
-use Rattle.pim_lab.specs.declared.frames.Frame.{Frame}
-use Rattle.pim_lab.specs.declared.frames.OnLink.{OnLink}
-use Rattle.pim_lab.specs.declared.station.Station.{Station}
+use Rattle.std.{specs.{List.{list_any, position}, Option.option_map_or, Prelude.{Bool, List, None, Option, Some, [], if◌then◌else◌, not, option_and_then, option_map, slice_get, suc, ℕ, ◌&&◌, ◌++◌, ◌+◌, ◌==◌, ◌∷◌}}}
+use Rattle.pim_ip.{specs.declared.addr.Addr.Addr}
+use Rattle.pim_net.{specs.declared.moves.Move.Move}
+use Rattle.pim_scenario.{specs.declared.scenario.Link.Link}
+use Rattle.pim_types.{specs.declared.{config.IfaceId.IfaceId, outcome.Emission.Emission}}
+use Rattle.pim_lab.{specs.declared.{frames.{Delivery.Delivery, Departure.Departure, Frame.Frame, OnLink.OnLink}, station.Station.Station}}
 
 -- How many frames were sent, the deliveries that are left of the current frame, and the frames that no settle has
 -- taken.
@@ -78,7 +71,8 @@ deliveries_of stations frame (Departure.Interface router iface) =
 deliveries_of stations frame (Departure.Unicast destination) =
     option_map_or (λ router. delivery_to router None frame ∷ []) (owner_of stations destination.bits) []
 
--- The next delivery, and what is left: the next of the current frame, or the first of the next frame that has one.
+-- The next delivery of a settle, and what is left: the next of the current frame, or the first of the next frame that
+-- has one.
 unfoldable pub next_delivery : List Station → ℕ → List Frame → List Delivery → Option Delivery × Queue
 next_delivery stations sent [] [] = (None, record { sent = sent; begun = []; waiting = [] })
 next_delivery stations sent (f ∷ fs) [] =

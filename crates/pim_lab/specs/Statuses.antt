@@ -1,15 +1,10 @@
 -- What becomes of a scenario's text before its first move, and what is reported of it.
-use Rattle.std.specs.Prelude.{Err, List, Ok, Result, map, ℕ, ⊤, ◌≡◌, ◌⊎◌}
-use Rattle.pim_ip.specs.declared.fault.Fault.{Fault}
-use Rattle.pim_ip.specs.declared.refusal.Refusal.{Refusal}
-use Rattle.pim_model.specs.Network.{nodes_test}
-use Rattle.pim_scenario.specs.Scenario.{IsReadFrom}
-use Rattle.pim_types.specs.declared.config.Config.{Config}
-use Rattle.pim_scenario.specs.declared.scenario.Link.{Link}
-use Rattle.pim_scenario.specs.declared.complaint.Complaint.{Complaint}
-use Rattle.pim_scenario.specs.declared.scenario.RouterText.{RouterText}
-use Rattle.pim_scenario.specs.declared.scenario.Scenario.{Scenario}
-use Rattle.pim_lab.specs.declared.trouble.Trouble.{Trouble}
+use Rattle.std.{specs.Prelude.{Err, List, Ok, Result, map, ℕ, ⊤, ◌≡◌, ◌⊎◌}}
+use Rattle.pim_ip.{specs.declared.{fault.Fault.Fault, refusal.Refusal.Refusal}}
+use Rattle.pim_model.{specs.Network.nodes_test}
+use Rattle.pim_scenario.{specs.{Scenario.IsReadFrom, declared.{scenario.{Link.Link, RouterText.RouterText, Scenario.Scenario}, complaint.Complaint.Complaint}}}
+use Rattle.pim_types.{specs.declared.config.Config.Config}
+use Rattle.pim_lab.{specs.declared.trouble.Trouble.Trouble}
 
 -- The line by which a trouble is reported.
 abbrev pub complaint_of : Trouble → Complaint

@@ -18,7 +18,7 @@ use std::marker::Model;
 pub(crate) enum Departure {
     /// On an interface of a router.
     Interface { router: usize, iface: IfaceId },
-    /// To this address.
+    /// A packet routed to an address.
     Unicast { destination: Addr },
 }
 

@@ -93,7 +93,7 @@ impl Mark {
         }
     }
 
-    // The same after an event at the router of a network, which has a log of one outcome.
+    // Keeps what is known of older hosts after an event at a router of the network, which has a log of one outcome.
     fn keep_logged<W: Wire>(
         self,
         presence: &mut Presence,
@@ -126,7 +126,7 @@ struct Passed {
 }
 
 impl Passed {
-    // An event of this kind that isn't a packet on a link, given as it came.
+    // An event that isn't a packet on a link, given to the router as it came.
     fn same(alloc: Global, draw: u32, kind: EventKind, mark: Mark) -> Passed
         ensures event { result.event ≡ record { draw = draw; kind = kind } }
         ensures mark { result.mark ≡ mark }

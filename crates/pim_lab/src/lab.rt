@@ -32,6 +32,13 @@ const TABLES: [Table; 8] = [
     Table::Active,
 ];
 
+/// Where a scenario is: the number of the move that is made, from 1, and the place of its router, from 0.
+#[derive(Clone, Copy)]
+struct At {
+    number: usize,
+    router: usize,
+}
+
 /// The routers of a scenario with the frames that they sent.
 #[derive(Drop)]
 pub(crate) struct Lab<W> {
@@ -68,47 +75,49 @@ impl<W: Wire> Lab<W> {
         })
     }
 
-    /// Does a move, and prints its outcome.
+    /// Makes a move, and prints its outcome.
     pub(crate) fn make(
         &mut self,
         number: usize,
-        step: ScenarioMove,
+        made: ScenarioMove,
         lines: &mut Lines,
     ) -> Result<(), Trouble>
         ensures { IfErr result (λ t. IsFault t) }
     {
-        match step {
-            ScenarioMove::Event { router, event } => self.happen(number, router, event, lines),
+        match made {
+            ScenarioMove::Event { router, event } => {
+                self.happen(At { number, router }, event, lines)
+            }
             ScenarioMove::Deliver {
                 router,
                 iface,
                 frame,
                 draw,
             } => {
-                let step = Move::Deliver {
+                let action = Move::Deliver {
                     router,
                     iface,
                     frame,
                     draw,
                 };
-                self.step(number, router, step, lines)
+                self.play(At { number, router }, action, lines)
             }
             ScenarioMove::Carry {
                 router,
                 frame,
                 draw,
             } => {
-                let step = Move::DeliverUnicast {
+                let action = Move::DeliverUnicast {
                     router,
                     frame,
                     draw,
                 };
-                self.step(number, router, step, lines)
+                self.play(At { number, router }, action, lines)
             }
             ScenarioMove::Settle { draw } => self.settle(number, draw, lines),
-            ScenarioMove::Restart { router } => self.restart(number, router, lines),
+            ScenarioMove::Restart { router } => self.restart(At { number, router }, lines),
             ScenarioMove::Reload { router, draw, next } => {
-                self.reload(number, router, draw, next, lines)
+                self.reload(At { number, router }, draw, next, lines)
             }
         }
     }
@@ -144,23 +153,22 @@ impl<W: Wire> Lab<W> {
     }
 
     // Saves a router, and makes it anew of its bytes. Its front stays.
-    fn restart(&mut self, number: usize, router: usize, lines: &mut Lines) -> Result<(), Trouble>
+    fn restart(&mut self, at: At, lines: &mut Lines) -> Result<(), Trouble>
         ensures { IfErr result (λ t. IsFault t) }
     {
-        self.net.restart(router)?;
+        self.net.restart(at.router)?;
         let outcome = Outcome {
             answer: Ok(Verdict::Done),
             emissions: Series::new(self.alloc),
             copies: 0,
         };
-        self.print_with_tables(number, router, outcome, lines)
+        self.print_with_tables(at, outcome, lines)
     }
 
     // Puts a router and its front under another configuration. Its packets are printed with the links that it had.
     fn reload(
         &mut self,
-        number: usize,
-        router: usize,
+        at: At,
         draw: u32,
         next: ConfigText,
         lines: &mut Lines,
@@ -174,14 +182,14 @@ impl<W: Wire> Lab<W> {
         } = next;
         let links = self.names.links(self.alloc, links)?;
         let (reloaded, node) = Reloaded::of(self.alloc, config, links, older_hosts)?;
-        let outcome = self.net.reload(router, draw, node)?;
+        let outcome = self.net.reload(at.router, draw, node)?;
         let is_done = outcome.answer.is_ok();
-        self.print(number, router, outcome, lines)?;
+        self.print(at, outcome, lines)?;
         if is_done {
-            self.keep(router, reloaded)?;
+            self.keep(at.router, reloaded)?;
         }
         if self.tables_each {
-            self.print_tables_at(router, lines)?;
+            self.print_tables_at(at.router, lines)?;
         }
         Ok(())
     }
@@ -199,89 +207,64 @@ impl<W: Wire> Lab<W> {
     }
 
     // An event at a router, behind its front.
-    fn happen(
-        &mut self,
-        number: usize,
-        router: usize,
-        event: Event,
-        lines: &mut Lines,
-    ) -> Result<(), Trouble>
+    fn happen(&mut self, at: At, event: Event, lines: &mut Lines) -> Result<(), Trouble>
         ensures { IfErr result (λ t. IsFault t) }
     {
         // Each move names one of the routers.
-        let Some(station) = self.stations.get_mut(router) else {
+        let Some(station) = self.stations.get_mut(at.router) else {
             return Err(Trouble::Fault(Fault::Failed));
         };
-        let log = station.run(self.alloc, &mut self.net, router, event)?;
-        self.print_all(number, router, log, lines)
+        let log = station.run(self.alloc, &mut self.net, at.router, event)?;
+        self.print_all(at, log, lines)
     }
 
-    // One delivery of the network, to this router. What routers send isn't changed by a front: it is no report.
-    fn step(
-        &mut self,
-        number: usize,
-        router: usize,
-        step: Move,
-        lines: &mut Lines,
-    ) -> Result<(), Trouble>
+    // Plays one delivery of the network to a router, which passes no front: what routers send is no report.
+    fn play(&mut self, at: At, action: Move, lines: &mut Lines) -> Result<(), Trouble>
         ensures { IfErr result (λ t. IsFault t) }
     {
-        let log = self.net.run(&[step])?;
-        self.print_all(number, router, log, lines)
+        let log = self.net.run(&[action])?;
+        self.print_all(at, log, lines)
     }
 
-    // What became of moves that concern a router, with the tables if they are printed.
-    fn print_all(
-        &mut self,
-        number: usize,
-        router: usize,
-        log: NetLog,
-        lines: &mut Lines,
-    ) -> Result<(), Trouble>
+    // Prints what became of moves that concern a router, with the tables if they are printed.
+    fn print_all(&mut self, at: At, log: NetLog, lines: &mut Lines) -> Result<(), Trouble>
         ensures { IfErr result (λ t. IsFault t) }
     {
         for outcome in log {
-            self.print_with_tables(number, router, outcome, lines)?;
+            self.print_with_tables(at, outcome, lines)?;
         }
         Ok(())
     }
 
-    // What became of a move, with the tables if they are printed.
+    // Prints what became of a move, with the tables if they are printed.
     fn print_with_tables(
         &mut self,
-        number: usize,
-        router: usize,
+        at: At,
         outcome: Outcome,
         lines: &mut Lines,
     ) -> Result<(), Trouble>
         ensures { IfErr result (λ t. IsFault t) }
     {
-        self.print(number, router, outcome, lines)?;
+        self.print(at, outcome, lines)?;
         if self.tables_each {
-            self.print_tables_at(router, lines)?;
+            self.print_tables_at(at.router, lines)?;
         }
         Ok(())
     }
 
-    // What became of a move, and the packets that left.
-    fn print(
-        &mut self,
-        number: usize,
-        router: usize,
-        outcome: Outcome,
-        lines: &mut Lines,
-    ) -> Result<(), Trouble>
+    // Prints what became of a move, and the packets that left.
+    fn print(&mut self, at: At, outcome: Outcome, lines: &mut Lines) -> Result<(), Trouble>
         ensures { IfErr result (λ t. IsFault t) }
     {
         // Each move names one of the routers.
-        let Some(station) = self.stations.get(router) else {
+        let Some(station) = self.stations.get(at.router) else {
             return Err(Trouble::Fault(Fault::Failed));
         };
-        lines.push(station.move_line(number, outcome.answer))?;
+        lines.push(station.move_line(at.number, outcome.answer))?;
         let emissions = outcome.emissions.as_slice();
         let first = first_copy(emissions, outcome.copies);
         for (place, emission) in emissions.iter().enumerate() {
-            let frame = self.frames.send(router, emission)?;
+            let frame = self.frames.send(at.router, emission)?;
             lines.push(station.packet_line(frame, emission, place >= first))?;
         }
         Ok(())
@@ -296,7 +279,11 @@ impl<W: Wire> Lab<W> {
             let Some(delivery) = self.frames.next(self.alloc, &self.stations)? else {
                 break;
             };
-            self.step(number, delivery.router, delivery.with_draw(draw), lines)?;
+            let at = At {
+                number,
+                router: delivery.router,
+            };
+            self.play(at, delivery.with_draw(draw), lines)?;
         }
         self.frames.end_settle();
         Ok(())

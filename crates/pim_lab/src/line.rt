@@ -29,11 +29,11 @@ impl fmt::Display for MoveLine<'_> {
 /// Where a packet went.
 #[derive(Clone, Copy)]
 pub(crate) enum Way<'a> {
-    /// On the link of this name.
+    /// A packet that leaves on the link of this name.
     Link(&'a str),
-    /// On the link of this name, as a copy of a data packet.
+    /// A copy of a data packet that leaves on the link of this name.
     Copy(&'a str),
-    /// To this address.
+    /// A packet that leaves to be routed to this address.
     Address(Addr),
 }
 

@@ -44,8 +44,8 @@ pub fn play<W: Wire, O: Write, E: Write>(
     play_with(alloc, text, wire, tables, out, err)
 }
 
-/// As [`play`], with these tables: after each answer and its packets those of the router that answered; at the end
-/// those of all routers; both, or none.
+/// Plays a scenario as [`play`], with tables: after each answer and its packets those of the router that answered; at
+/// the end those of all routers; both, or none.
 pub fn play_with<W: Wire, O: Write, E: Write>(
     alloc: Global,
     text: &str,

@@ -26,7 +26,7 @@ pub struct States<'a> {
     pub save: Option<&'a str>,
 }
 
-/// What ends such a run before its end.
+/// What ends a run from saved states, or to one, before its end.
 #[derive(Clone, Copy)]
 enum Stop {
     Trouble(Trouble),

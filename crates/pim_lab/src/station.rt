@@ -24,7 +24,7 @@ pub(crate) struct Reloaded {
 }
 
 impl Reloaded {
-    /// Another configuration with its links, and the node of the network for it.
+    /// What the lab keeps of another configuration, and the network's node of it, with its links.
     pub(crate) fn of(
         alloc: Global,
         config: Config,
@@ -55,7 +55,7 @@ pub(crate) struct Station {
     pub(crate) links: Series<Link>,
     /// The address of each interface.
     pub(crate) addresses: Series<Addr>,
-    /// What its front knows of older hosts. Where none are heard the front changes nothing.
+    /// What the router's front knows of older hosts. Where none are heard the front changes nothing.
     pub(crate) presence: Presence,
 }
 

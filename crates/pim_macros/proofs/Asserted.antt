@@ -1,15 +1,9 @@
 -- Asserts by the sets of the interfaces on which the router lost or won one.
-use Rattle.std.proofs.Common.{◌≡◌, ℕ, Bool, true, false, ◌&&◌, ◌||◌, nat_lt, Option, Some, None, is_some, refl, ap, sym, ◌∙◌}
-use Rattle.std.specs.Option.{option_map_or}
-use Rattle.pim_ifset.specs.Members.{Members, has}
-use Rattle.pim_types.specs.declared.fact.AssertMetric.{AssertMetric}
-use Rattle.pim_types.specs.declared.fact.AssertRole.{AssertRole}
-use Rattle.pim_types.specs.declared.fact.AssertRow.{AssertRow}
-use Rattle.pim_types.specs.Keys.{source_key}
-use Rattle.pim_model.specs.Sets.{Set, is_beaten, is_better, is_loser, is_winner, spt_metric}
-use Rattle.pim_model.specs.State.{State}
-use Rattle.pim_model.specs.Tables.{has_row, row_at}
-use Rattle.pim_world.specs.Shown.{Shows}
+use Rattle.std.{proofs.Common.{◌≡◌, ℕ, Bool, true, false, ◌&&◌, ◌||◌, nat_lt, Option, Some, None, is_some, refl, ap, sym, ◌∙◌}, specs.Option.option_map_or}
+use Rattle.pim_ifset.{specs.Members.{Members, has}}
+use Rattle.pim_types.{specs.{declared.fact.{AssertMetric.AssertMetric, AssertRole.AssertRole, AssertRow.AssertRow}, Keys.source_key}}
+use Rattle.pim_model.{specs.{Sets.{Set, is_beaten, is_better, is_loser, is_winner, spt_metric}, State.State, Tables.{has_row, row_at}}}
+use Rattle.pim_state.{specs.Shown.Shows}
 
 some_row : (test : AssertRow → Bool) (o : Option AssertRow)
     → (is_some o && option_map_or test o false) ≡ option_map_or test o false

@@ -1,9 +1,7 @@
 -- The configured interfaces of a set, as the numbers that pass the test that it shows.
-use Rattle.std.proofs.Common.{◌≡◌, ℕ, zero, suc, ◌+◌, ◌-◌, ◌<◌, ◌≤◌, Bool, true, false, ◌&&◌, nat_lt, List, [], ◌∷◌, filter, map, cond, refl, ap, zero-add, ◌∙◌, arith}
-use Rattle.std.proofs.lemmas.Bool.Decides.{nat_tests}
-use Rattle.std.specs.List.{range_with_len}
-use Rattle.pim_ifset.specs.Members.{Members, has, iface_of, interfaces, passing_below}
-use Rattle.pim_types.specs.declared.config.IfaceId.{IfaceId}
+use Rattle.std.{proofs.{Common.{◌≡◌, ℕ, zero, suc, ◌+◌, ◌-◌, ◌<◌, ◌≤◌, Bool, true, false, ◌&&◌, nat_lt, List, [], ◌∷◌, filter, map, cond, refl, ap, zero-add, ◌∙◌, arith}, lemmas.Bool.Decides.nat_tests}, specs.List.range_with_len}
+use Rattle.pim_ifset.{specs.Members.{Members, has, iface_of, interfaces, passing_below}}
+use Rattle.pim_types.{specs.declared.config.IfaceId.IfaceId}
 
 numbers_of_interfaces : (ns : List ℕ) → map (λ (iface : IfaceId). iface.number) (map iface_of ns) ≡ ns
 numbers_of_interfaces [] = refl

@@ -1,9 +1,5 @@
 -- Whether a configured interface passes a test, by the configured interfaces of a set that shows it.
-use Rattle.std.proofs.Common.{◌≡◌, ℕ, zero, suc, ◌+◌, ◌<◌, ◌≤◌, Bool, true, false, not, ◌&&◌, IsTrue, ◌↔◌, nat_lt, refl, get_or, zero-add, ◌∙◌, arith}
-use Rattle.std.proofs.lemmas.Bool.Decides.{nat_tests}
-use Rattle.std.proofs.lemmas.List.Folds.{list_any_at}
-use Rattle.std.proofs.lemmas.List.FromFn.{get_or-range_with_len, length-range_with_len}
-use Rattle.std.specs.List.{list_any, range_with_len}
+use Rattle.std.{proofs.{Common.{◌≡◌, ℕ, zero, suc, ◌+◌, ◌<◌, ◌≤◌, Bool, true, false, not, ◌&&◌, IsTrue, ◌↔◌, nat_lt, refl, get_or, zero-add, ◌∙◌, arith}, lemmas.{Bool.Decides.nat_tests, List.{Folds.list_any_at, FromFn.{get_or-range_with_len, length-range_with_len}}}}, specs.List.{list_any, range_with_len}}
 
 none_from : (test : ℕ → Bool) (a n : ℕ) → ((i : ℕ) → i < a + n → test i ≡ false)
     → list_any test (range_with_len a n) ≡ false

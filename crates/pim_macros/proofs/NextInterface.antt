@@ -1,7 +1,5 @@
 -- A set of the interfaces below one that pass a test, with the next one or without it.
-use Rattle.std.proofs.Common.{◌≡◌, ℕ, ◌+◌, Bool, true, false, ◌&&◌, ◌||◌, ◌==◌, nat_lt, arith, inl, inr}
-use Rattle.std.proofs.lemmas.Bool.{cases_order}
-use Rattle.std.proofs.lemmas.Bool.Decides.{nat_tests}
+use Rattle.std.{proofs.{Common.{◌≡◌, ℕ, ◌+◌, Bool, true, false, ◌&&◌, ◌||◌, ◌==◌, nat_lt, arith, inl, inr}, lemmas.Bool.{cases_order, Decides.nat_tests}}}
 
 pub with_next : (p : ℕ → Bool) (n q : ℕ) (old new : Bool) → true ≡ p n → old ≡ (nat_lt q n && p q)
     → new ≡ (q == n || old) → new ≡ (nat_lt q (n + 1) && p q)

@@ -1,22 +1,9 @@
 -- What a sight shows where only sources change, or only registers.
-use Rattle.std.proofs.Common.{◌≡◌, ◌+◌, ℕ, Bool, Option, true, false, None, Some, ap, refl, sym, ◌∙◌}
-use Rattle.std.specs.Option.{option_map_or}
-use Rattle.std.specs.Prelude.{is_some, option_and_then}
-use Rattle.pim_types.specs.declared.fact.RegisterRow.{RegisterRow}
-use Rattle.pim_types.specs.declared.fact.SourceRow.{SourceRow}
-use Rattle.pim_types.specs.Keys.{source_key}
-use Rattle.pim_laws.proofs.RowLaws.{row_put}
-use Rattle.pim_model.specs.Asserts.{with_spt_bit}
-use Rattle.pim_model.specs.Neighbours.{is_dr, nbr}
-use Rattle.pim_model.specs.Receivers.{is_exclude, local_receiver_exclude, local_receiver_include}
-use Rattle.pim_model.specs.Registers.{with_keepalive}
-use Rattle.pim_model.specs.Sets.{is_beaten, is_kept_alive, joins, joins_star, prunes, spt_bit, spt_metric, tunnel}
-use Rattle.pim_model.specs.State.{State}
-use Rattle.pim_model.specs.Tables.{Table, put, row_at}
-use Rattle.pim_model.specs.Unicast.{route, rp_of, rp_route, rpf_interface, rpf_interface_rp}
-use Rattle.pim_macros.specs.declared.sight.SourceSight.{SourceSight}
-use Rattle.pim_macros.specs.declared.sight.StarSight.{StarSight}
-use Rattle.pim_macros.specs.Sights.{ShowsSource, ShowsStar}
+use Rattle.std.{proofs.Common.{◌≡◌, ◌+◌, ℕ, Bool, Option, true, false, None, Some, ap, refl, sym, ◌∙◌}, specs.{Option.option_map_or, Prelude.{is_some, option_and_then}}}
+use Rattle.pim_types.{specs.{declared.fact.{RegisterRow.RegisterRow, SourceRow.SourceRow}, Keys.source_key}}
+use Rattle.law_settled.{proofs.RowLaws.row_put}
+use Rattle.pim_model.{specs.{Asserts.with_spt_bit, Neighbours.{is_dr, nbr}, Receivers.{is_exclude, local_receiver_exclude, local_receiver_include}, Registers.with_keepalive, Sets.{is_beaten, is_kept_alive, joins, joins_star, prunes, spt_bit, spt_metric, tunnel}, State.State, Tables.{Table, put, row_at}, Unicast.{route, rp_of, rp_route, rpf_interface, rpf_interface_rp}}}
+use Rattle.pim_macros.{specs.{declared.sight.{SourceSight.SourceSight, StarSight.StarSight}, Sights.{ShowsSource, ShowsStar}}}
 
 -- the state with these sources and registers
 abbrev with_rows : State → Table SourceRow → Table RegisterRow → State

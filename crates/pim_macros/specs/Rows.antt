@@ -1,11 +1,11 @@
 -- A row of the forwarding cache: its answers about its source, and when these are those of a state.
-use Rattle.std.specs.Prelude.{Option, Some, false, nat_lt, option_map, true, ℕ, ◌≡◌}
-use Rattle.pim_ifset.specs.Members.{has}
-use Rattle.pim_ip.specs.declared.addr.Addr.{Addr}
-use Rattle.pim_types.specs.declared.config.IfaceId.{IfaceId}
-use Rattle.pim_model.specs.Cache.{Answers}
-use Rattle.pim_world.specs.Shown.{Shows}
-use Rattle.pim_macros.specs.declared.rows.SourceAnswers.{SourceAnswers}
+use Rattle.std.{specs.Prelude.{Option, Some, false, nat_lt, option_map, true, ℕ, ◌≡◌}}
+use Rattle.pim_ifset.{specs.Members.has}
+use Rattle.pim_ip.{specs.declared.addr.Addr.Addr}
+use Rattle.pim_types.{specs.declared.config.IfaceId.IfaceId}
+use Rattle.pim_model.{specs.Cache.Answers}
+use Rattle.pim_state.{specs.Shown.Shows}
+use Rattle.pim_macros.{specs.declared.rows.SourceAnswers.SourceAnswers}
 
 -- what is evaluated of a source
 pub record MadeRow : Type 0 where
@@ -13,6 +13,7 @@ pub record MadeRow : Type 0 where
   pub source : Addr
   pub answers : SourceAnswers
 
+-- the number of an interface, if there is one
 abbrev pub number_of : Option IfaceId → Option ℕ
 number_of iface = option_map (λ (i : IfaceId). i.number) iface
 
@@ -36,7 +37,7 @@ answers_of row = record {
   contested = has row.contested;
 }
 
--- The row has these answers. Whether SPTbit is reached is only compared where RPF_interface(S) is below 120.
+-- A row has the answers of a source. Whether SPTbit is reached is only compared where RPF_interface(S) is below 120.
 pub record ShowsAnswers (row : SourceAnswers) (a : Answers) : Type 0 where
   pub immediate : Shows row.immediate a.immediate
   pub immediate_tunnel : row.immediate.tunnel ≡ a.has_tunnel

@@ -1,20 +1,10 @@
 -- What a sight shows of a state: each of its fields, by the definition in pim_model.
-use Rattle.std.specs.Option.{option_map_or}
-use Rattle.std.specs.Prelude.{Option, Some, false, nat_lt, not, option_map, ℕ, ◌&&◌, ◌||◌, ◌≡◌, ◌≤◌}
-use Rattle.pim_ip.specs.declared.addr.Addr.{Addr}
-use Rattle.pim_types.specs.declared.path.Path.{Path}
-use Rattle.pim_model.specs.Desires.{join_desired, join_desired_star, winner_hop}
-use Rattle.pim_model.specs.Neighbours.{is_dr, nbr}
-use Rattle.pim_model.specs.Receivers.{is_exclude, local_receiver_exclude, local_receiver_include}
-use Rattle.pim_model.specs.Registers.{is_dr_of_path, is_spt_wanted}
-use Rattle.pim_model.specs.Sets.{Set, assert_source, assert_star, is_beaten, is_kept_alive, is_loser, is_winner, joins, joins_star, pim_exclude, pim_include_star, prunes, spt_bit, tunnel, ◌∖◌, ◌∪◌}
-use Rattle.pim_model.specs.State.{State, iface_count, is_own}
-use Rattle.pim_model.specs.Tables.{same_option}
-use Rattle.pim_model.specs.Unicast.{is_rpf_interface, is_rpf_interface_rp, route, rp_of, rp_route, rpf_interface, rpf_interface_rp}
-use Rattle.pim_world.specs.Shown.{Shows}
-use Rattle.pim_world.specs.Short.{IsShort}
-use Rattle.pim_macros.specs.declared.sight.SourceSight.{SourceSight}
-use Rattle.pim_macros.specs.declared.sight.StarSight.{StarSight}
+use Rattle.std.{specs.{Option.option_map_or, Prelude.{Option, Some, false, nat_lt, not, option_map, ℕ, ◌&&◌, ◌||◌, ◌≡◌, ◌≤◌}}}
+use Rattle.pim_ip.{specs.declared.addr.Addr.Addr}
+use Rattle.pim_types.{specs.declared.path.Path.Path}
+use Rattle.pim_model.{specs.{Desires.{join_desired, join_desired_star, winner_hop}, Neighbours.{is_dr, nbr}, Receivers.{is_exclude, local_receiver_exclude, local_receiver_include}, Registers.{is_dr_of_path, is_spt_wanted}, Sets.{Set, assert_source, assert_star, is_beaten, is_kept_alive, is_loser, is_winner, joins, joins_star, pim_exclude, pim_include_star, prunes, spt_bit, tunnel, ◌∖◌, ◌∪◌}, State.{State, iface_count, is_own}, Tables.same_option, Unicast.{is_rpf_interface, is_rpf_interface_rp, route, rp_of, rp_route, rpf_interface, rpf_interface_rp}}}
+use Rattle.pim_state.{specs.{Shown.Shows, Short.IsShort}}
+use Rattle.pim_macros.{specs.declared.sight.{SourceSight.SourceSight, StarSight.StarSight}}
 
 -- the interface of a route
 abbrev pub is_interface_of : Option Path → Set

@@ -1,6 +1,6 @@
 //! The macros of the assert machines (RFC 7761, sections 4.6.1 to 4.6.3).
 ghost use Rattle.std.specs.Prelude.{◌≡◌, ◌<◌, ◌^◌, ℕ};
-ghost use Rattle.pim_world.specs.Shown.{Shows};
+ghost use Rattle.pim_state.specs.Shown.{Shows};
 ghost use Rattle.pim_macros.specs.Sights.{InSource, InStar, IsSourceSight, IsStarSight, is_tracked_upstream};
 ghost use Rattle.pim_model.specs.AssertMacros.{could_assert, could_assert_star, infinite, is_infinite, is_tracking_desired, is_tracking_desired_star, my_metric, my_metric_star};
 ghost use Rattle.pim_model.specs.Sets.{is_better, route_metric, rpt_metric, spt_metric};

@@ -1,7 +1,7 @@
 //! What the router wants of its upstream neighbours (RFC 7761, sections 4.5.4 to 4.5.7), and who they are (section
 //! 4.1.5).
 ghost use Rattle.std.specs.Prelude.{◌≡◌, ℕ, Bool};
-ghost use Rattle.pim_world.specs.Shown.{Shows};
+ghost use Rattle.pim_state.specs.Shown.{Shows};
 ghost use Rattle.pim_macros.specs.Sights.{InSource, InStar, IsStarSight};
 ghost use Rattle.pim_model.specs.Desires.{is_immediate_empty, is_inherited_empty, join_desired, join_desired_star, prune_desired, rpf_rpt, rpf_source, rpf_star, tree_state};
 ghost use Rattle.pim_model.specs.Sets.{is_empty};

@@ -14,17 +14,17 @@ ghost use Rattle.pim_model.specs.Tables.{has_row, row_at};
 ghost use Rattle.pim_model.specs.Unicast.{route};
 ghost use Rattle.pim_types.specs.Keys.{source_key};
 ghost use Rattle.pim_types.specs.declared.path.Path.{Path as PathValue};
-ghost use Rattle.pim_world.specs.Shown.{Shows};
+ghost use Rattle.pim_state.specs.Shown.{Shows};
 
 use crate::asserts::{is_better, route_metric};
 use crate::interfaces::interfaces_where;
 use crate::sight::{SourceSight, StarSight};
+use igmp_membership::SourceReceivers;
 use pim_ifset::IfSet;
-use pim_membership::SourceReceivers;
+use pim_state::World;
 use pim_trie::Meter;
 use pim_types::fact::{AssertRole, RegisterState};
 use pim_types::{Addr, Hop, IfaceId, Key, Path, SourceGroup, SptSwitch};
-use pim_world::World;
 
 // The winner of the assert that the router lost on the interface of a route, of the key's group and source.
 fn winner_along(world: &World, path: Option<Path>, key: Key) -> Option<Hop>
@@ -125,7 +125,7 @@ impl StarSight {
         ensures group { result.group ≡ group }
     {
         // For the proof: preferences have 31 bits.
-        world.recall_short_preferences();
+        world.proof_short_preferences();
         let rp = world.rp(group, meter);
         let rp_path = world.rp_route(group, rp, meter);
         let marks = world.store().marks(group, None, meter);
@@ -157,7 +157,7 @@ impl SourceSight {
         ensures source { result.source ≡ source }
     {
         // For the proof: preferences have 31 bits.
-        world.recall_short_preferences();
+        world.proof_short_preferences();
         let name = SourceGroup {
             source,
             group: star.group,

@@ -4,7 +4,7 @@ ghost use Rattle.pim_macros.specs.Sights.{is_interface_of};
 ghost use Rattle.pim_model.specs.Sets.{members};
 ghost use Rattle.pim_model.specs.State.{State, iface_count};
 ghost use Rattle.pim_types.specs.declared.config.IfaceId.{IfaceId as IfaceValue};
-ghost use Rattle.pim_world.specs.Shown.{Shows};
+ghost use Rattle.pim_state.specs.Shown.{Shows};
 
 use pim_ifset::{IfSet, Iter};
 use pim_types::{IfaceId, Path};

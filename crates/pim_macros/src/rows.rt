@@ -13,14 +13,14 @@ ghost use Rattle.pim_model.specs.State.{State};
 ghost use Rattle.pim_model.specs.Tables.{has_row};
 ghost use Rattle.pim_model.specs.Unicast.{rpf_interface, rpf_interface_rp};
 ghost use Rattle.pim_trie.specs.Meter.{raised};
-ghost use Rattle.pim_world.specs.Shown.{Shows};
+ghost use Rattle.pim_state.specs.Shown.{Shows};
 ghost use Rattle.pim_types.specs.Keys.{source_key, star_key};
 
 use crate::sight::{SourceSight, StarSight};
 use pim_ifset::IfSet;
+use pim_state::World;
 use pim_trie::Meter;
 use pim_types::{Addr, IfaceId, SourceGroup};
-use pim_world::World;
 use std::marker::Model;
 
 /// What is read of a source of a group when its data comes. Each set says only which of the interfaces below 120 are in
@@ -89,7 +89,7 @@ impl Evaluations {
         self.count
     }
 
-    // Counts one more row.
+    // Counts one more evaluated row.
     #[tactic(auto, unfolding(pim_trie::specs::Meter::raised))]
     fn raise(&mut self)
         ensures { self.new ≡ raised self.old 1 }
@@ -131,7 +131,7 @@ impl Made {
         self.source
     }
 
-    /// Its answers.
+    /// The answers of the row's source.
     pub fn answers(&self) -> SourceAnswers
         ensures { result ≡ self.now.answers }
     {

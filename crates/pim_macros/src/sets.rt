@@ -1,6 +1,6 @@
 //! The sets of interfaces of RFC 7761, section 4.1.5.
 ghost use Rattle.std.specs.Prelude.{◌≡◌};
-ghost use Rattle.pim_world.specs.Shown.{Shows};
+ghost use Rattle.pim_state.specs.Shown.{Shows};
 ghost use Rattle.pim_macros.specs.Sights.{InSource, InStar, wanted_by_group};
 ghost use Rattle.pim_model.specs.AssertMacros.{forwarding_set};
 ghost use Rattle.pim_model.specs.Neighbours.{is_dr};

@@ -1,8 +1,6 @@
 -- A Hello has room for 16 bits of a delay.
-use Rattle.std.proofs.Common.{◌≡◌, ℕ, ◌/◌, ◌%◌, List, [], ◌∷◌, ◌++◌, ap, ◌∙◌, arith}
-use Rattle.std.specs.Int.{bytes_high_first}
-use Rattle.pim_wire.specs.Encoded.{pim_text}
-use Rattle.pim_wire.specs.Hellos.{generation_option, hello_holdtime, hello_text, holdtime_option, lan_delay_option, option_text, priority_option}
+use Rattle.std.{proofs.Common.{◌≡◌, ℕ, ◌/◌, ◌%◌, List, [], ◌∷◌, ◌++◌, ap, ◌∙◌, arith}, specs.Int.bytes_high_first}
+use Rattle.pim_wire.{specs.{Encoded.pim_text, Hellos.{generation_option, hello_holdtime, hello_text, holdtime_option, lan_delay_option, option_text, priority_option}}}
 
 -- the higher and the lower of the 16 bits
 high_bits : (n : ℕ) → n % 65536 / 256 % 256 ≡ n / 256 % 256

@@ -1,21 +1,8 @@
 -- How long the messages are.
-use Rattle.std.proofs.Common.{◌≡◌, ◌≤◌, ℕ, ◌+◌, ◌-◌, ◌*◌, Bool, if◌then◌else◌, List, [], ◌∷◌, ◌++◌, drop, length, take, refl, arith}
-use Rattle.std.proofs.lemmas.List.{length-append, length-drop, length-map, length-take}
-use Rattle.std.specs.List.{flat_map}
-use Rattle.std.specs.Int.{bytes_high_first}
-use Rattle.pim_ip.specs.Checksum.{with_checksum}
-use Rattle.pim_ip.specs.Ipv4.{Packet, copy_text, packet_limit}
-use Rattle.pim_ip.proofs.WritingLemmas.{length-with_checksum}
-use Rattle.pim_ip.specs.declared.addr.Addr.{Addr}
-use Rattle.pim_wire.specs.declared.join_prune.Entry.{Entry}
-use Rattle.pim_wire.specs.Asserts.{assert_text}
-use Rattle.pim_wire.specs.Encoded.{group_text, pim_text, unicast_text}
-use Rattle.pim_wire.specs.Hellos.{hello_text}
-use Rattle.pim_wire.specs.JoinPrunes.{entry_text, join_prune_holdtime, join_prune_text}
-use Rattle.pim_wire.specs.Registers.{dummy_text, null_register_text, register_stop_text, register_text}
-use Rattle.igmp_wire.specs.declared.write.QueryHeader.{QueryHeader}
-use Rattle.igmp_wire.specs.Queries.{query_text}
-use Rattle.igmp_wire.specs.Written.{bits_of, query_with}
+use Rattle.std.{proofs.{Common.{◌≡◌, ◌≤◌, ℕ, ◌+◌, ◌-◌, ◌*◌, Bool, if◌then◌else◌, List, [], ◌∷◌, ◌++◌, drop, length, take, refl, arith}, lemmas.List.{length-append, length-drop, length-map, length-take}}, specs.{List.flat_map, Int.bytes_high_first}}
+use Rattle.pim_ip.{specs.{Checksum.with_checksum, Ipv4.{Packet, copy_text, packet_limit}, declared.addr.Addr.Addr}, proofs.WritingLemmas.length-with_checksum}
+use Rattle.pim_wire.{specs.{declared.join_prune.Entry.Entry, Asserts.assert_text, Encoded.{group_text, pim_text, unicast_text}, Hellos.hello_text, JoinPrunes.{entry_text, join_prune_holdtime, join_prune_text}, Registers.{dummy_text, null_register_text, register_stop_text, register_text}}}
+use Rattle.igmp_wire.{specs.{declared.write.QueryHeader.QueryHeader, Queries.query_text, Written.{bits_of, query_with}}}
 
 pub length-pim_text : (type : ℕ) (body : List ℕ) → length (pim_text type body) ≡ 4 + length body
 unfolding pim_text

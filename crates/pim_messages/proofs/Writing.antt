@@ -1,14 +1,8 @@
 -- Messages that are written one after the other.
-use Rattle.std.proofs.Common.{◌≡◌, ◌<◌, ◌≤◌, ℕ, suc, ◌+◌, add-one, List, [], ◌∷◌, ◌++◌, length, drop, get_or, subst, ap, ◌∙◌, sym, append_assoc, append-nil}
-use Rattle.std.proofs.Math.ListN.{drop_of_length-le}
-use Rattle.std.proofs.Math.Seq.{drop-cons}
-use Rattle.pim_types.specs.declared.outcome.Emission.{Emission}
-use Rattle.pim_model.specs.Messages.{Message}
-use Rattle.pim_model.specs.Querier.{each_in_turn}
-use Rattle.pim_model.specs.State.{InterfaceTable}
-use Rattle.pim_model.specs.Writing.{all_written, written}
-use Rattle.pim_messages.specs.declared.message.Message.{Message as Held}
-use Rattle.pim_messages.specs.Sendable.{message_of, messages_of}
+use Rattle.std.{proofs.{Common.{◌≡◌, ◌<◌, ◌≤◌, ℕ, suc, ◌+◌, add-one, List, [], ◌∷◌, ◌++◌, length, drop, get_or, subst, ap, ◌∙◌, sym, append_assoc, append-nil}, Math.{ListN.drop_of_length-le, Seq.drop-cons}}}
+use Rattle.pim_types.{specs.declared.outcome.Emission.Emission}
+use Rattle.pim_model.{specs.{Messages.Message, Querier.each_in_turn, State.InterfaceTable, Writing.{all_written, written}}}
+use Rattle.pim_messages.{specs.{declared.message.Message.Message as Held, Sendable.{message_of, messages_of}}}
 
 -- the messages that are left, after what was sent, end as all of them do
 pub record Sends (left : List Message) (t : InterfaceTable) (sent : List Emission) (ms : List Message)

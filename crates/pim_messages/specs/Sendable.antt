@@ -1,15 +1,10 @@
--- The messages of this crate as those of the specification.
-use Rattle.std.specs.Option.{option_map_or}
-use Rattle.std.specs.Prelude.{List, None, Option, Some, length, map, ◌+◌, ◌^◌, ◌<◌, ◌≤◌}
-use Rattle.pim_ip.specs.declared.addr.Addr.{Addr}
-use Rattle.pim_types.specs.declared.config.IfaceId.{IfaceId}
-use Rattle.igmp_wire.specs.Written.{query_with}
-use Rattle.pim_model.specs.Messages.{Message as ModelMessage}
-use Rattle.pim_messages.specs.declared.outbox.TheConstants.{MOST_ENTRIES, MOST_SOURCES}
-use Rattle.pim_messages.specs.declared.message.Assert.{Assert}
-use Rattle.pim_messages.specs.declared.message.JoinPrune.{JoinPrune}
-use Rattle.pim_messages.specs.declared.message.Message.{Message}
-use Rattle.pim_messages.specs.declared.message.Query.{Query}
+-- The messages of pim_messages as those of the specification.
+use Rattle.std.{specs.{Option.option_map_or, Prelude.{List, None, Option, Some, length, map, ◌+◌, ◌^◌, ◌<◌, ◌≤◌}}}
+use Rattle.pim_ip.{specs.declared.addr.Addr.Addr}
+use Rattle.pim_types.{specs.declared.config.IfaceId.IfaceId}
+use Rattle.igmp_wire.{specs.Written.query_with}
+use Rattle.pim_model.{specs.Messages.Message as ModelMessage}
+use Rattle.pim_messages.{specs.declared.{outbox.TheConstants.{MOST_ENTRIES, MOST_SOURCES}, message.{Assert.Assert, JoinPrune.JoinPrune, Message.Message, Query.Query}}}
 
 -- what a message says
 abbrev pub message_of : Message → ModelMessage

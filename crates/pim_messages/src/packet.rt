@@ -114,6 +114,7 @@ pub(crate) fn hello_packet(
     Ok(packet)
 }
 
+// The packet of a Join/Prune, to ALL-PIM-ROUTERS on its interface.
 #[tactic(auto, using(crate::proofs::Lengths::text_lengths), unfolding(pim_model::specs::Writing::emission_of))]
 fn join_prune_packet(
     room: &mut Room,
@@ -139,6 +140,7 @@ fn join_prune_packet(
     Ok(packet)
 }
 
+// The packet of an Assert, to ALL-PIM-ROUTERS on its interface.
 #[tactic(auto, using(crate::proofs::Lengths::text_lengths), unfolding(pim_model::specs::Writing::emission_of))]
 fn assert_packet(
     room: &mut Room,
@@ -174,6 +176,7 @@ fn query_destination(group: Addr) -> Addr
     }
 }
 
+// The packet of an IGMPv3 query, to all systems or to its group, on its interface.
 #[tactic(auto, using(crate::proofs::Lengths::text_lengths), unfolding(pim_model::specs::Writing::emission_of))]
 fn query_packet(
     room: &mut Room,
@@ -197,6 +200,7 @@ fn query_packet(
     })
 }
 
+// The unicast packet of a Register-Stop, to the router that sent the Register.
 #[tactic(auto, using(crate::proofs::Lengths::text_lengths))]
 fn register_stop_packet(room: &mut Room, message: &RegisterMessage) -> Result<Emission, AllocError>
     ensures { IfOk result (λ e. e ≡ pim_to message.now.from.bits message.now.to.bits
@@ -209,6 +213,7 @@ fn register_stop_packet(room: &mut Room, message: &RegisterMessage) -> Result<Em
     Ok(packet)
 }
 
+// The unicast packet of a Null-Register, to RP(G).
 #[tactic(auto, using(crate::proofs::Lengths::text_lengths))]
 fn null_register_packet(room: &mut Room, message: &RegisterMessage) -> Result<Emission, AllocError>
     ensures { IfOk result (λ e. e ≡ pim_to message.now.from.bits message.now.to.bits

@@ -40,7 +40,7 @@ impl Room {
         }
     }
 
-    /// All that it holds; none is left.
+    /// The room with all that it holds; what stays behind is empty.
     pub fn taken(&mut self) -> Room {
         let alloc = self.alloc;
         mem::replace(self, Room::new(alloc))

@@ -1,7 +1,7 @@
 -- The macros of the assert machines. Sections are those of RFC 7761.
-use Rattle.std.specs.Prelude.{Bool, if◌then◌else◌, not, true, ℕ, ◌&&◌, ◌==◌, ◌||◌}
-use Rattle.pim_types.specs.declared.fact.AssertMetric.{AssertMetric}
-use Rattle.pim_model.specs.{Desires.{join_desired, join_desired_star}, Neighbours.is_dr, Receivers.{local_receiver_include, local_receiver_star}, Sets.{Set, assert_source, assert_star, is_winner, joins, joins_star, lost_assert_star, metric_of, pim_exclude, pim_include, pim_include_star, prunes, rpt_metric, spt_bit, spt_metric, unreachable_preference, ◌∖◌, ◌∪◌}, State.State, Unicast.{is_rpf_interface, is_rpf_interface_rp}}
+use Rattle.std.{specs.Prelude.{Bool, if◌then◌else◌, not, true, ℕ, ◌&&◌, ◌==◌, ◌||◌}}
+use Rattle.pim_types.{specs.declared.fact.AssertMetric.AssertMetric}
+use Rattle.pim_model.{specs.{Desires.{join_desired, join_desired_star}, Neighbours.is_dr, Receivers.{local_receiver_include, local_receiver_star}, Sets.{Set, assert_source, assert_star, is_winner, joins, joins_star, lost_assert_star, metric_of, pim_exclude, pim_include, pim_include_star, prunes, rpt_metric, spt_bit, spt_metric, unreachable_preference, ◌∖◌, ◌∪◌}, State.State, Unicast.{is_rpf_interface, is_rpf_interface_rp}}}
 
 -- (joins(*,G) (-) prunes(S,G,rpt)) (+) (pim_include(*,G) (-) pim_exclude(S,G)) (-) lost_assert(*,G) (+) joins(S,G):
 -- what CouldAssert(S,G,I) and AssertTrackingDesired(S,G,I) have in common (4.6.1)

@@ -1,10 +1,10 @@
 -- The assert machines of (S,G) and (*,G) (RFC 7761, sections 4.6.1 and 4.6.2), by the actions A1 to A6 of their tables.
 -- A row is "I am Assert Winner" (W) or "I am Assert Loser" (L), no row NoInfo (NI). Which asserts must go after a
 -- change is in `Clearing`.
-use Rattle.std.specs.Prelude.{Bool, List, None, Option, Some, [], false, if◌then◌else◌, is_some, not, option_and_then, true, ℕ, ◌&&◌, ◌++◌, ◌+◌, ◌==◌, ◌||◌, ◌∷◌}
-use Rattle.pim_types.specs.{Keys.{group_in, iface_in, is_star, source_in, source_key, star_key}, declared.fact.{AssertMetric.AssertMetric, AssertRole.AssertRole, AssertRow.AssertRow, Key.Key, SourceRow.SourceRow}}
-use Rattle.pim_wire.specs.declared.assert.Assert.{Assert as AssertMessage}
-use Rattle.pim_model.specs.{AssertMacros.{could_assert, could_assert_star, infinite, is_infinite, is_tracking_desired, is_tracking_desired_star, my_metric, my_metric_star}, Desires.join_desired, Messages.Message, Sets.{is_better, is_winner, metric_of, rpt_metric, spt_metric}, State.State, Tables.{change_row, drop_at, has_row, put, row_at}, Unicast.is_rpf_interface}
+use Rattle.std.{specs.Prelude.{Bool, List, None, Option, Some, [], false, if◌then◌else◌, is_some, not, option_and_then, true, ℕ, ◌&&◌, ◌++◌, ◌+◌, ◌==◌, ◌||◌, ◌∷◌}}
+use Rattle.pim_types.{specs.{Keys.{group_in, iface_in, is_star, source_in, source_key, star_key}, declared.fact.{AssertMetric.AssertMetric, AssertRole.AssertRole, AssertRow.AssertRow, Key.Key, SourceRow.SourceRow}}}
+use Rattle.pim_wire.{specs.declared.assert.Assert.Assert as AssertMessage}
+use Rattle.pim_model.{specs.{AssertMacros.{could_assert, could_assert_star, infinite, is_infinite, is_tracking_desired, is_tracking_desired_star, my_metric, my_metric_star}, Desires.join_desired, Messages.Message, Sets.{is_better, is_winner, metric_of, rpt_metric, spt_metric}, State.State, Tables.{change_row, drop_at, has_row, put, row_at}, Unicast.is_rpf_interface}}
 
 -- Assert_Time - Assert_Override_Interval (4.11), in ms
 abbrev pub winner_time : ℕ

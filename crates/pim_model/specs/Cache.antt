@@ -1,11 +1,12 @@
 -- The forwarding cache: what is read of a source of a group when its data comes (RFC 7761, section 4.2), and which
 -- packets these answers decide alone.
-use Rattle.std.specs.{Option.option_map_or, Prelude.{Bool, None, Option, Some, false, if◌then◌else◌, nat_lt, not, ℕ, ◌&&◌, ◌==◌, ◌||◌}}
-use Rattle.pim_types.specs.Keys.{source_key, star_key}
-use Rattle.pim_model.specs.{AssertMacros.{could_assert, could_assert_star}, Desires.{is_inherited_empty, join_desired}, Forwarding.{has_local_receivers, is_spt_reached, no_interface}, Registers.{has_other_rp, is_dr_of_path, is_spt_wanted}, Sets.{Set, immediate_olist, inherited_olist, inherited_olist_rpt, spt_bit, tunnel}, State.State, Tables.{has_row, same_option}, Unicast.{is_connected, route, rpf_interface, rpf_interface_rp}}
+use Rattle.std.{specs.{Option.option_map_or, Prelude.{Bool, None, Option, Some, false, if◌then◌else◌, nat_lt, not, ℕ, ◌&&◌, ◌==◌, ◌||◌}}}
+use Rattle.pim_types.{specs.Keys.{source_key, star_key}}
+use Rattle.pim_model.{specs.{AssertMacros.{could_assert, could_assert_star}, Desires.{is_inherited_empty, join_desired}, Forwarding.{has_local_receivers, is_spt_reached, no_interface}, Registers.{has_other_rp, is_dr_of_path, is_spt_wanted}, Sets.{Set, immediate_olist, inherited_olist, inherited_olist_rpt, spt_bit, tunnel}, State.State, Tables.{has_row, same_option}, Unicast.{is_connected, route, rpf_interface, rpf_interface_rp}}}
 
 -- ---- what is read of a source
 
+-- what a row of the forwarding cache says of (S,G): outgoing lists, RPF interfaces, and what a packet changes
 pub record Answers : Type 0 where
   -- immediate_olist(S,G), inherited_olist(S,G), inherited_olist(S,G,rpt)
   pub immediate : Set
@@ -74,17 +75,18 @@ answers s g src = record {
 unfoldable pub cached : State → ℕ → ℕ → Option Answers
 cached s g src = if has_row s.sources (source_key 0 g src) then Some (answers s g src) else None
 
--- ---- what they decide
+-- ---- what the answers of a row decide of a packet
 
 -- how a plain packet is forwarded: whether it sets KAT(S,G), and on which interfaces copies leave
 pub record Plain : Type 0 where
   pub keeps : Bool
   pub list : Set
 
--- the packet came by RPF_interface(S), or by RPF_interface(RP(G))
+-- a packet's interface is RPF_interface(S): it came on the source's tree
 abbrev pub is_on_tree : Answers → ℕ → Bool
 is_on_tree r iif = same_option r.rpf (Some iif)
 
+-- a packet's interface is RPF_interface(RP(G)): it came on the shared tree
 abbrev pub is_on_shared_tree : Answers → ℕ → Bool
 is_on_shared_tree r iif = same_option r.rp_rpf (Some iif)
 

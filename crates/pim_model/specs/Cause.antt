@@ -1,12 +1,12 @@
 -- Nothing flows unasked: what is the cause of a copy of a packet on a link. A Join/Prune is one for as long as its
 -- holdtime says (RFC 7761, section 4.5), a membership report for the Group Membership Interval (RFC 3376, section 8.4),
 -- and neither beyond a Down of the interface.
-use Rattle.std.specs.{List.{All, list_any}, Prelude.{Bool, List, None, Ok, Option, Result, Some, [], drop, false, filter, length, nat_lt, not, true, ℕ, ◌&&◌, ◌*◌, ◌+◌, ◌-◌, ◌==◌, ◌||◌, ◌≡◌, ◌∷◌}}
-use Rattle.pim_ip.specs.{Ipv4.{Packet, copy_text}, declared.refusal.Refusal.Refusal}
-use Rattle.pim_types.specs.{Keys.{source_key, star_key}, declared.{event.Event.Event, outcome.{Emission.Emission, Outcome.Outcome, Verdict.Verdict}}}
-use Rattle.pim_wire.specs.Values.{Encapsulated, JoinPrune}
-use Rattle.igmp_wire.specs.{Values.Record, declared.report.RecordType.RecordType}
-use Rattle.pim_model.specs.{Downstream.{holdtime_forever, is_named, joined_keys}, Judging.{Judged, judged}, Querier.{group_membership_interval, is_excluding, is_skipped}, State.State, Step.step, Tables.is_among, Writing.on_link, declared.accepted.Accepted.Accepted}
+use Rattle.std.{specs.{List.{All, list_any}, Prelude.{Bool, List, None, Ok, Option, Result, Some, [], drop, false, filter, length, nat_lt, not, true, ℕ, ◌&&◌, ◌*◌, ◌+◌, ◌-◌, ◌==◌, ◌||◌, ◌≡◌, ◌∷◌}}}
+use Rattle.pim_ip.{specs.{Ipv4.{Packet, copy_text}, declared.refusal.Refusal.Refusal}}
+use Rattle.pim_types.{specs.{Keys.{source_key, star_key}, declared.{event.Event.Event, outcome.{Emission.Emission, Outcome.Outcome, Verdict.Verdict}}}}
+use Rattle.pim_wire.{specs.Values.{Encapsulated, JoinPrune}}
+use Rattle.igmp_wire.{specs.{Values.Record, declared.report.RecordType.RecordType}}
+use Rattle.pim_model.{specs.{Downstream.{holdtime_forever, is_named, joined_keys}, Judging.{Judged, judged}, Querier.{group_membership_interval, is_excluding, is_skipped}, State.State, Step.step, Tables.is_among, Writing.on_link, declared.accepted.Accepted.Accepted}}
 
 -- an event with the state that it found, whose present is the event's timestamp
 pub record Happened : Type 0 where
@@ -17,6 +17,7 @@ pub record Happened : Type 0 where
 abbrev pub Past : Type 0
 Past = List Happened
 
+-- the past of a router after more events
 unfoldable pub past_after : Past → State → List Event → Past
 past_after past s [] = past
 past_after past s (e ∷ es) = past_after (record { before = s; event = e } ∷ past) (step s e).state es
@@ -26,6 +27,7 @@ abbrev pub if_done : Result Verdict Refusal → Judged → Option Accepted
 if_done (Ok Verdict.Done) (Ok a) = Some a
 if_done answer _ = None
 
+-- what an event of the past was judged to be, where its answer was Done
 unfoldable pub done_as : Happened → Option Accepted
 done_as h = if_done (step h.before h.event).answer (judged h.before h.event.kind)
 
@@ -38,6 +40,7 @@ is_join_for now i g src s m =
     (is_named (joined_keys s i m) (star_key i g) || is_named (joined_keys s i m) (source_key i g src))
     && ((m.holdtime == holdtime_forever) || nat_lt now (s.present + 1000 * m.holdtime))
 
+-- a type of record that asks for the sources that it names
 abbrev pub is_including : RecordType → Bool
 is_including RecordType.IsInclude = true
 is_including RecordType.Allow = true
@@ -50,8 +53,8 @@ is_record_for g src r =
     not (is_skipped r) && (r.group == g)
     && (is_excluding r.type || (is_including r.type && is_among src r.sources))
 
--- a report with such a record (`is_record_for`), where the interface's Group Membership Interval from it hasn't expired
--- yet
+-- a report that has a record for the group and the source (`is_record_for`), where the interface's Group Membership
+-- Interval from it hasn't expired yet
 unfoldable pub is_report_for : ℕ → ℕ → ℕ → ℕ → State → List Record → Bool
 is_report_for now i g src s records =
     list_any (is_record_for g src) records && nat_lt now (s.present + group_membership_interval s i)
@@ -62,6 +65,7 @@ asks_for now i g src s (Some (Accepted.JoinPruneToMe j m)) = (j.number == i) && 
 asks_for now i g src s (Some (Accepted.Report j records)) = (j.number == i) && is_report_for now i g src s records
 asks_for now i g src s _ = false
 
+-- what an event was judged to be is that the interface goes down
 abbrev pub is_down_of : ℕ → Option Accepted → Bool
 is_down_of i (Some (Accepted.Down j)) = j.number == i
 is_down_of i _ = false
@@ -80,6 +84,7 @@ packet_in (Some (Accepted.Data i p)) = Some p
 packet_in (Some (Accepted.Register p (Encapsulated inner))) = Some inner
 packet_in _ = None
 
+-- a packet leaves on an interface, and isn't routed to an address
 abbrev pub is_on_link : Emission → Bool
 is_on_link (Emission.Link i bytes) = true
 is_on_link (Emission.Unicast to bytes) = false

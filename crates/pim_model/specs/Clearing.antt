@@ -1,11 +1,11 @@
 -- What must go after a change: asserts whose state doesn't hold any more (RFC 7761, sections 4.6.1 and 4.6.2), and
 -- SPTbits (4.5.5). Here: the registers are settled first; then one fact goes after the other, and all macros are
 -- evaluated anew after each.
-use Rattle.std.specs.{Option.{option_cmp, option_or}, Ordering.{is_lt, nat_cmp, ordering_then}, Prelude.{Bool, List, None, Option, Some, [], filter, find, if◌then◌else◌, length, not, option_map, ℕ, ◌&&◌, ◌+◌, ◌||◌, ◌∷◌}, declared.cmp.Ordering.Ordering}
-use Rattle.pim_types.specs.{Keys.{addr_cmp, group_in, iface_in, is_star, source_in}, declared.fact.{AssertRow.AssertRow, Key.Key, SourceRow.SourceRow}}
-use Rattle.pim_model.specs.{Asserts.{assert_cancel, assert_forgotten, could_assert_at, is_tracking_at, my_metric_at, without_spt_bit}, Desires.join_desired, Messages.Message, Neighbours.is_neighbour, Registers.settle_registers, Repeat.until_none, Sets.{is_better, is_winner}, State.State, Unicast.{is_rpf_interface, is_rpf_interface_rp}}
+use Rattle.std.{specs.{Option.{option_cmp, option_or}, Ordering.{is_lt, nat_cmp, ordering_then}, Prelude.{Bool, List, None, Option, Some, [], filter, find, if◌then◌else◌, length, not, option_map, ℕ, ◌&&◌, ◌+◌, ◌||◌, ◌∷◌}, declared.cmp.Ordering.Ordering}}
+use Rattle.pim_types.{specs.{Keys.{addr_cmp, group_in, iface_in, is_star, source_in}, declared.fact.{AssertRow.AssertRow, Key.Key, SourceRow.SourceRow}}}
+use Rattle.pim_model.{specs.{Asserts.{assert_cancel, assert_forgotten, could_assert_at, is_tracking_at, my_metric_at, without_spt_bit}, Desires.join_desired, Messages.Message, Neighbours.is_neighbour, Registers.settle_registers, Repeat.until_none, Sets.{is_better, is_winner}, State.State, Unicast.{is_rpf_interface, is_rpf_interface_rp}}}
 
--- here: asserts are cleared by group, (*,G) before its sources, source, interface
+-- here: the order in which asserts are cleared: by group, (*,G) before its sources, source, interface
 unfoldable pub assert_cmp : Key → Key → Ordering
 assert_cmp a b =
     ordering_then (addr_cmp a.group b.group)
@@ -41,7 +41,7 @@ module _ {X : Type 0} (is_first : X → X → Bool) where
   first_by [] = None
   first_by (x ∷ xs) = Some (first_of_both x (first_by xs))
 
--- one assert is cleared before another
+-- of two asserts the first is cleared before the second
 abbrev pub is_assert_first : Key × AssertRow → Key × AssertRow → Bool
 is_assert_first a b = is_lt (assert_cmp a.0 b.0)
 

@@ -1,9 +1,9 @@
 -- What the router wants of its upstream neighbours, and who they are. Sections are those of RFC 7761. No upstream state
 -- is stored: UpstreamJPState(*,G) == Joined is JoinDesired(*,G), that of (S,G) is JoinDesired(S,G), and the state of
 -- (S,G,rpt) follows from PruneDesired(S,G,rpt).
-use Rattle.std.specs.{Option.option_or, Prelude.{Bool, None, Option, Some, if◌then◌else◌, not, option_and_then, ℕ, ◌&&◌, ◌||◌}}
-use Rattle.pim_types.specs.declared.{fact.AssertRow.AssertRow, path.Hop.Hop, upstream.TreeState.TreeState}
-use Rattle.pim_model.specs.{Neighbours.nbr, Sets.{assert_source, assert_star, immediate_olist, immediate_olist_star, inherited_olist, inherited_olist_rpt, is_empty, is_kept_alive, is_loser, spt_bit, tunnel}, State.State, Tables.{hop_at, same_hop}, Unicast.{route, rp_route, rpf_interface, rpf_interface_rp}}
+use Rattle.std.{specs.{Option.option_or, Prelude.{Bool, None, Option, Some, if◌then◌else◌, not, option_and_then, ℕ, ◌&&◌, ◌||◌}}}
+use Rattle.pim_types.{specs.declared.{fact.AssertRow.AssertRow, path.Hop.Hop, upstream.TreeState.TreeState}}
+use Rattle.pim_model.{specs.{Neighbours.nbr, Sets.{assert_source, assert_star, immediate_olist, immediate_olist_star, inherited_olist, inherited_olist_rpt, is_empty, is_kept_alive, is_loser, spt_bit, tunnel}, State.State, Tables.{hop_at, same_hop}, Unicast.{route, rp_route, rpf_interface, rpf_interface_rp}}}
 
 -- JoinDesired(*,G) = (immediate_olist(*,G) != NULL) (4.5.4); RPTJoinDesired(G) = JoinDesired(*,G) (4.5.7)
 -- reads: what immediate_olist(*,G) reads

@@ -1,11 +1,11 @@
 -- A Join/Prune to the router, and the downstream machines of (*,G), (S,G) and (S,G,rpt). Sections are those of RFC
 -- 7761. A message is judged as a whole: what becomes of each key depends on all of the message, and on the state that
 -- it finds.
-use Rattle.std.specs.{List.list_any, Option.option_map_or, Prelude.{Bool, List, None, Option, Some, [], false, filter, flat_map, fold, if◌then◌else◌, map, max, nat_lt, not, suc, true, zero, ℕ, ◌&&◌, ◌*◌, ◌++◌, ◌+◌, ◌==◌, ◌||◌, ◌∷◌}}
-use Rattle.pim_ip.specs.Ipv4.{is_link_local, is_source_specific}
-use Rattle.pim_types.specs.{Keys.{group_in, iface_in, is_on, is_star, rpt_key, same_key, source_in, source_key, star_key}, declared.fact.{AssertRow.AssertRow, DownstreamRow.DownstreamRow, Key.Key}}
-use Rattle.pim_wire.specs.{Values.{Group, JoinPrune}, declared.join_prune.{Entry.Entry, EntryKind.EntryKind}}
-use Rattle.pim_model.specs.{Messages.{Message, entry}, Neighbours.{join_prune_override_interval, neighbour_count}, Sets.is_loser, State.{State, my_address}, Tables.{Table, change_row, drop_at, keys_in, later_end, row_at, set_row}, Unicast.{is_rp, rp_of}}
+use Rattle.std.{specs.{List.list_any, Option.option_map_or, Prelude.{Bool, List, None, Option, Some, [], false, filter, flat_map, fold, if◌then◌else◌, map, max, nat_lt, not, suc, true, zero, ℕ, ◌&&◌, ◌*◌, ◌++◌, ◌+◌, ◌==◌, ◌||◌, ◌∷◌}}}
+use Rattle.pim_ip.{specs.Ipv4.{is_link_local, is_source_specific}}
+use Rattle.pim_types.{specs.{Keys.{group_in, iface_in, is_on, is_star, rpt_key, same_key, source_in, source_key, star_key}, declared.fact.{AssertRow.AssertRow, DownstreamRow.DownstreamRow, Key.Key}}}
+use Rattle.pim_wire.{specs.{Values.{Group, JoinPrune}, declared.join_prune.{Entry.Entry, EntryKind.EntryKind}}}
+use Rattle.pim_model.{specs.{Messages.{Message, entry}, Neighbours.{join_prune_override_interval, neighbour_count}, Sets.is_loser, State.{State, my_address}, Tables.{Table, change_row, drop_at, keys_in, later_end, row_at, set_row}, Unicast.{is_rp, rp_of}}}
 
 -- the holdtime that never expires (4.9.2, 4.9.5)
 abbrev pub holdtime_forever : ℕ
@@ -26,11 +26,12 @@ is_kind EntryKind.Source EntryKind.Source = true
 is_kind EntryKind.SourceRpt EntryKind.SourceRpt = true
 is_kind _ _ = false
 
--- an entry with its group
+-- an entry of a Join/Prune with its group
 abbrev pub Named : Type 0
 Named = ℕ × Entry
 
--- here: groups of 224.0.0.0/24 are skipped; of an SSM group only the entries of (S,G) count (4.8.1)
+-- here: the entries that count: groups of 224.0.0.0/24 are skipped; of an SSM group only the entries of (S,G) count
+-- (4.8.1)
 abbrev pub is_used : Named → Bool
 is_used n = not (is_link_local n.0) && (not (is_source_specific n.0) || is_kind (n.1).kind EntryKind.Source)
 

@@ -1,8 +1,8 @@
 -- A change with what follows from it, and timers that expire in their order (RFC 7761, section 4.10; RFC 3376, section
 -- 8).
-use Rattle.std.specs.{Option.option_map_or, Prelude.{List, None, Some, [], if◌then◌else◌, length, ℕ, ◌++◌, ◌+◌, ◌-◌}}
-use Rattle.pim_types.specs.{Keys.{group_in, iface_in, source_in}, declared.{fact.{GroupRepeatRow.GroupRepeatRow, Key.Key, QuerierRole.QuerierRole, QuerierRow.QuerierRow, RegisterRow.RegisterRow, SourceRow.SourceRow}, outcome.Emission.Emission, timer.TimerKind.TimerKind}}
-use Rattle.pim_model.specs.{Asserts.assert_due, Clearing.clear, Downstream.{downstream_expired, prune_pending_due}, Hellos.{hello_due, neighbour_due}, Messages.Message, Querier.{general_query_due, group_record_due, group_repeat_due, other_querier_gone, source_record_due, source_repeat_due}, Registers.register_due, Repeat.until_none, State.State, Tables.{Table, change_row, row_at}, Timers.{Ending, next_due, timers}, Upstream.{join_timer_due, override_timer_due, upstream}, Writing.write_all}
+use Rattle.std.{specs.{Option.option_map_or, Prelude.{List, None, Some, [], if◌then◌else◌, length, ℕ, ◌++◌, ◌+◌, ◌-◌}}}
+use Rattle.pim_types.{specs.{Keys.{group_in, iface_in, source_in}, declared.{fact.{GroupRepeatRow.GroupRepeatRow, Key.Key, QuerierRole.QuerierRole, QuerierRow.QuerierRow, RegisterRow.RegisterRow, SourceRow.SourceRow}, outcome.Emission.Emission, timer.TimerKind.TimerKind}}}
+use Rattle.pim_model.{specs.{Asserts.assert_due, Clearing.clear, Downstream.{downstream_expired, prune_pending_due}, Hellos.{hello_due, neighbour_due}, Messages.Message, Querier.{general_query_due, group_record_due, group_repeat_due, other_querier_gone, source_record_due, source_repeat_due}, Registers.register_due, Repeat.until_none, State.State, Tables.{Table, change_row, row_at}, Timers.{Ending, next_due, timers}, Upstream.{join_timer_due, override_timer_due, upstream}, Writing.write_all}}
 
 -- a change without messages
 abbrev pub silent : State → State × List Message

@@ -1,8 +1,8 @@
 -- Data packets (4.2), and Registers at the RP (4.4.2). Sections are those of RFC 7761.
-use Rattle.std.specs.Prelude.{Bool, List, [], false, if◌then◌else◌, is_some, not, true, ℕ, ◌&&◌, ◌==◌, ◌||◌, ◌∷◌}
-use Rattle.pim_ip.specs.Ipv4.{Packet}
-use Rattle.pim_types.specs.{Keys.{source_key, star_key}, declared.fact.Key.Key}
-use Rattle.pim_model.specs.{Asserts.{data_seen, with_spt_bit}, Desires.{is_inherited_empty, join_desired, rpf_source, rpf_star}, Messages.Message, Registers.{is_spt_wanted, settle_register, with_keepalive}, Sets.{Set, assert_source, inherited_olist, inherited_olist_rpt, is_empty, is_loser, pim_exclude, pim_include, pim_include_star, spt_bit, tunnel, ◌∖◌, ◌∪◌}, State.State, Tables.{same_hop, same_option}, Unicast.{is_connected, is_rp, is_rpf_interface, is_rpf_interface_rp, rpf_interface, rpf_interface_rp}}
+use Rattle.std.{specs.Prelude.{Bool, List, [], false, if◌then◌else◌, is_some, not, true, ℕ, ◌&&◌, ◌==◌, ◌||◌, ◌∷◌}}
+use Rattle.pim_ip.{specs.Ipv4.Packet}
+use Rattle.pim_types.{specs.{Keys.{source_key, star_key}, declared.fact.Key.Key}}
+use Rattle.pim_model.{specs.{Asserts.{data_seen, with_spt_bit}, Desires.{is_inherited_empty, join_desired, rpf_source, rpf_star}, Messages.Message, Registers.{is_spt_wanted, settle_register, with_keepalive}, Sets.{Set, assert_source, inherited_olist, inherited_olist_rpt, is_empty, is_loser, pim_exclude, pim_include, pim_include_star, spt_bit, tunnel, ◌∖◌, ◌∪◌}, State.State, Tables.{same_hop, same_option}, Unicast.{is_connected, is_rp, is_rpf_interface, is_rpf_interface_rp, rpf_interface, rpf_interface_rp}}}
 
 -- the list of outgoing interfaces of a packet, with the tunnel, and the messages on the way
 pub record Forwarded : Type 0 where

@@ -1,9 +1,9 @@
 -- The limit on counted facts: an event that needs more new facts than there is room for is refused whole.
-use Rattle.std.specs.Prelude.{Bool, List, [], false, filter, flat_map, fold, if◌then◌else◌, length, map, nat_le, nat_lt, not, ℕ, ◌&&◌, ◌++◌, ◌+◌, ◌==◌, ◌||◌, ◌∷◌}
-use Rattle.pim_types.specs.{Keys.{source_key, star_key}, declared.fact.Key.Key}
-use Rattle.pim_wire.specs.{RegisterParts.{registered_group, registered_source}, Values.JoinPrune, declared.assert.Assert.Assert as AssertMessage}
-use Rattle.igmp_wire.specs.Values.{Record}
-use Rattle.pim_model.specs.{AssertMacros.is_infinite, Asserts.theirs_of, Downstream.{is_named, joined_keys, pruned_keys}, Hellos.hello_holdtime_of, Neighbours.{is_neighbour, neighbour_count}, Querier.is_skipped, State.State, Tables.{Table, has_row}, Unicast.is_rp, declared.accepted.Accepted.Accepted}
+use Rattle.std.{specs.Prelude.{Bool, List, [], false, filter, flat_map, fold, if◌then◌else◌, length, map, nat_le, nat_lt, not, ℕ, ◌&&◌, ◌++◌, ◌+◌, ◌==◌, ◌||◌, ◌∷◌}}
+use Rattle.pim_types.{specs.{Keys.{source_key, star_key}, declared.fact.Key.Key}}
+use Rattle.pim_wire.{specs.{RegisterParts.{registered_group, registered_source}, Values.JoinPrune, declared.assert.Assert.Assert as AssertMessage}}
+use Rattle.igmp_wire.{specs.Values.Record}
+use Rattle.pim_model.{specs.{AssertMacros.is_infinite, Asserts.theirs_of, Downstream.{is_named, joined_keys, pruned_keys}, Hellos.hello_holdtime_of, Neighbours.{is_neighbour, neighbour_count}, Querier.is_skipped, State.State, Tables.{Table, has_row}, Unicast.is_rp, declared.accepted.Accepted.Accepted}}
 
 -- the facts that count
 unfoldable pub counted : State → ℕ
@@ -23,7 +23,7 @@ distinct ks = fold once_more [] ks
 unfoldable pub needed : {R : Type 0} → Table R → List Key → ℕ
 needed t ks = length (filter (λ k. not (has_row t k)) (distinct ks))
 
--- this many more facts would pass the limit
+-- so many more facts would pass the limit on counted facts; no more never do
 unfoldable pub passes_limit : State → ℕ → Bool
 passes_limit s more = not (more == 0) && nat_lt s.settings.limit (counted s + more)
 

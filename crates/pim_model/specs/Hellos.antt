@@ -1,8 +1,8 @@
 -- Hellos received and sent. Sections are those of RFC 7761.
-use Rattle.std.specs.Prelude.{Bool, List, None, Option, Some, [], false, filter, if◌then◌else◌, map, min, not, option_and_then, true, unwrap_or, ℕ, ◌&&◌, ◌+◌, ◌==◌, ◌||◌, ◌∷◌}
-use Rattle.pim_types.specs.{Keys.{group_in, iface_in, is_on, is_star, neighbour_key, source_in}, declared.{fact.{AssertRow.AssertRow, InterfaceRow.InterfaceRow, JoinTimerRow.JoinTimerRow, Key.Key, NeighbourRow.NeighbourRow}, path.Hop.Hop}}
-use Rattle.pim_wire.specs.declared.hello.Hello.{Hello as HelloValue}
-use Rattle.pim_model.specs.{Desires.{rpf_source, rpf_star}, Downstream.holdtime_end_from, Messages.Message, Neighbours.{is_neighbour, t_override}, Sets.is_loser, State.State, Tables.{change_row, delay_in, drop_at, hop_at, row_at, same_hop, set_row, Table}}
+use Rattle.std.{specs.Prelude.{Bool, List, None, Option, Some, [], false, filter, if◌then◌else◌, map, min, not, option_and_then, true, unwrap_or, ℕ, ◌&&◌, ◌+◌, ◌==◌, ◌||◌, ◌∷◌}}
+use Rattle.pim_types.{specs.{Keys.{group_in, iface_in, is_on, is_star, neighbour_key, source_in}, declared.{fact.{AssertRow.AssertRow, InterfaceRow.InterfaceRow, JoinTimerRow.JoinTimerRow, Key.Key, NeighbourRow.NeighbourRow}, path.Hop.Hop}}}
+use Rattle.pim_wire.{specs.declared.hello.Hello.Hello as HelloValue}
+use Rattle.pim_model.{specs.{Desires.{rpf_source, rpf_star}, Downstream.holdtime_end_from, Messages.Message, Neighbours.{is_neighbour, t_override}, Sets.is_loser, State.State, Tables.{change_row, delay_in, drop_at, hop_at, row_at, same_hop, set_row, Table}}}
 
 -- Default_Hello_Holdtime (4.11), in seconds: for a Hello without a Holdtime option (4.3.2)
 abbrev pub default_holdtime : ℕ

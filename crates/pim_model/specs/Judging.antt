@@ -1,11 +1,11 @@
 -- The judgement of an event, before anything changes: how it is read, its tests in their order, and what the router is
 -- then to act on. An event that is refused or ignored changes nothing. Sections are those of RFC 7761.
-use Rattle.std.specs.Prelude.{Bool, Err, List, Ok, Result, false, if◌then◌else◌, length, nat_le, nat_lt, not, true, ℕ, ◌&&◌, ◌==◌, ◌^◌}
-use Rattle.pim_ip.specs.{Addr.addr, Ipv4.{Packet, all_pim_routers, frame_limit, ipv4_reading, is_link_local, is_multicast, protocol_igmp, protocol_pim}, declared.refusal.Refusal.Refusal}
-use Rattle.pim_types.specs.declared.{config.{IfaceId.IfaceId, Route.Route, RpRange.RpRange}, event.EventKind.EventKind, outcome.{Ignored.Ignored, Stop.Stop}}
-use Rattle.pim_wire.specs.{Messages.pim_reading, RegisterParts.registered_group, Values.{JoinPrune, Register}, declared.{assert.Assert.Assert as AssertMessage, hello.Hello.Hello as HelloValue, register.RegisterStop.RegisterStop, view.PimView.PimView}}
-use Rattle.igmp_wire.specs.{Messages.igmp_reading, declared.view.IgmpView.IgmpView}
-use Rattle.pim_model.specs.{Hellos.hello_holdtime_of, Limits.{are_routes, are_rps}, Neighbours.is_neighbour, State.{State, iface_count, is_own, is_up, my_address}, Unicast.is_rp, declared.accepted.Accepted.Accepted}
+use Rattle.std.{specs.Prelude.{Bool, Err, List, Ok, Result, false, if◌then◌else◌, length, nat_le, nat_lt, not, true, ℕ, ◌&&◌, ◌==◌, ◌^◌}}
+use Rattle.pim_ip.{specs.{Addr.addr, Ipv4.{Packet, all_pim_routers, frame_limit, ipv4_reading, is_link_local, is_multicast, protocol_igmp, protocol_pim}, declared.refusal.Refusal.Refusal}}
+use Rattle.pim_types.{specs.declared.{config.{IfaceId.IfaceId, Route.Route, RpRange.RpRange}, event.EventKind.EventKind, outcome.{Ignored.Ignored, Stop.Stop}}}
+use Rattle.pim_wire.{specs.{Messages.pim_reading, RegisterParts.registered_group, Values.{JoinPrune, Register}, declared.{assert.Assert.Assert as AssertMessage, hello.Hello.Hello as HelloValue, register.RegisterStop.RegisterStop, view.PimView.PimView}}}
+use Rattle.igmp_wire.{specs.{Messages.igmp_reading, declared.view.IgmpView.IgmpView}}
+use Rattle.pim_model.{specs.{Hellos.hello_holdtime_of, Limits.{are_routes, are_rps}, Neighbours.is_neighbour, State.{State, iface_count, is_own, is_up, my_address}, Unicast.is_rp, declared.accepted.Accepted.Accepted}}
 
 -- an accepted event, or why it is refused or ignored
 abbrev pub Judged : Type 0
@@ -23,6 +23,7 @@ ignore_if false reason = Ok tt
 
 -- the second test where the first one passed, else what stopped at the first
 infixr 20 ◌>>◌
+-- two tests of an event in their order: the second counts where the first holds
 abbrev pub ◌>>◌ : {A : Type 0} → Result (Unit {0}) Stop → Result A Stop → Result A Stop
 ◌>>◌ (Ok held) next = next
 ◌>>◌ (Err stop) next = Err stop

@@ -1,8 +1,8 @@
 -- The configurations, routes and RP ranges that are accepted.
-use Rattle.std.specs.{List.{list_all, list_any}, Prelude.{Bool, List, Result, [], length, map, nat_le, nat_lt, not, true, ℕ, ◌&&◌, ◌*◌, ◌==◌, ◌||◌, ◌∷◌}}
-use Rattle.pim_ip.specs.{Ipv4.{is_multicast, is_unicast}, Prefixes.{contains, is_host_clear}, Tests.{expect, ◌>>◌}, declared.{addr.Prefix.Prefix, refusal.Refusal.Refusal}}
-use Rattle.pim_types.specs.declared.config.{Config.Config, InterfaceConfig.InterfaceConfig, Route.Route, RpRange.RpRange}
-use Rattle.pim_model.specs.{State.is_own_among, Unicast.subnet}
+use Rattle.std.{specs.{List.{list_all, list_any}, Prelude.{Bool, List, Result, [], length, map, nat_le, nat_lt, not, true, ℕ, ◌&&◌, ◌*◌, ◌==◌, ◌||◌, ◌∷◌}}}
+use Rattle.pim_ip.{specs.{Ipv4.{is_multicast, is_unicast}, Prefixes.{contains, is_host_clear}, Tests.{expect, ◌>>◌}, declared.{addr.Prefix.Prefix, refusal.Refusal.Refusal}}}
+use Rattle.pim_types.{specs.declared.config.{Config.Config, InterfaceConfig.InterfaceConfig, Route.Route, RpRange.RpRange}}
+use Rattle.pim_model.{specs.{State.is_own_among, Unicast.subnet}}
 
 -- ---- routes and RP ranges
 

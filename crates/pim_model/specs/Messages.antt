@@ -1,12 +1,12 @@
 -- What the machines send, as data (RFC 7761, section 4.9; RFC 3376, section 4.1). It becomes packets at the end of a
 -- change.
-use Rattle.std.specs.Prelude.{List, ℕ}
-use Rattle.pim_ip.specs.Addr.{addr}
-use Rattle.pim_types.specs.declared.fact.AssertMetric.{AssertMetric}
-use Rattle.pim_wire.specs.declared.join_prune.{Entry.Entry, EntryKind.EntryKind}
-use Rattle.igmp_wire.specs.Values.{Query as QueryValue}
+use Rattle.std.{specs.Prelude.{List, ℕ}}
+use Rattle.pim_ip.{specs.Addr.addr}
+use Rattle.pim_types.{specs.declared.fact.AssertMetric.AssertMetric}
+use Rattle.pim_wire.{specs.declared.join_prune.{Entry.Entry, EntryKind.EntryKind}}
+use Rattle.igmp_wire.{specs.Values.Query as QueryValue}
 
--- a message, before it is written
+-- a message that the router sends, before its bytes are written
 pub data Message : Type 0 where
   -- a Hello on an interface
   Hello : ℕ → Message

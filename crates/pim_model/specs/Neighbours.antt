@@ -1,8 +1,8 @@
 -- PIM neighbours: NBR, the DR, and the delays of a LAN. Sections are those of RFC 7761.
-use Rattle.std.specs.{List.{list_all, list_any}, Option.option_map_or, Prelude.{Bool, None, Option, Some, false, fold, if◌then◌else◌, is_some, length, max, nat_lt, not, unwrap_or, ℕ, ◌&&◌, ◌+◌, ◌==◌}}
-use Rattle.pim_ip.specs.declared.lan.LanDelay.{LanDelay}
-use Rattle.pim_types.specs.{Keys.{neighbour_key, source_in}, declared.{fact.{Key.Key, NeighbourRow.NeighbourRow}, path.{Hop.Hop, Path.Path}}}
-use Rattle.pim_model.specs.{State.{State, my_address, my_override_interval, my_priority, my_propagation_delay}, Tables.{Table, delay_in, has_row, rows_on}}
+use Rattle.std.{specs.{List.{list_all, list_any}, Option.option_map_or, Prelude.{Bool, None, Option, Some, false, fold, if◌then◌else◌, is_some, length, max, nat_lt, not, unwrap_or, ℕ, ◌&&◌, ◌+◌, ◌==◌}}}
+use Rattle.pim_ip.{specs.declared.lan.LanDelay.LanDelay}
+use Rattle.pim_types.{specs.{Keys.{neighbour_key, source_in}, declared.{fact.{Key.Key, NeighbourRow.NeighbourRow}, path.{Hop.Hop, Path.Path}}}}
+use Rattle.pim_model.{specs.{State.{State, my_address, my_override_interval, my_priority, my_propagation_delay}, Tables.{Table, delay_in, has_row, rows_on}}}
 
 -- a neighbour from whose address a Hello came, and whose Neighbor Liveness Timer NLT(N,I) runs (4.3.2)
 abbrev pub is_neighbour : State → ℕ → ℕ → Bool

@@ -1,9 +1,9 @@
 -- Several routers, and the frames that they ever sent: no frame is taken out, so loss, repeats and any order of
 -- delivery are lists of moves.
-use Rattle.std.specs.{List.list_all, Option.option_map_or, Prelude.{Bool, Err, List, None, Ok, Option, Result, Some, [], if◌then◌else◌, is_some, length, map, nat_le, option_and_then, option_map, set, slice_get, suc, zero, ℕ, ◌&&◌, ◌++◌, ◌==◌, ◌∷◌}}
-use Rattle.pim_ip.specs.{Tests.{expect, ◌>>◌}, declared.refusal.Refusal.Refusal}
-use Rattle.pim_types.specs.declared.{config.Config.Config, event.{Event.Event, EventKind.EventKind}, outcome.{Emission.Emission, Outcome.Outcome}}
-use Rattle.pim_model.specs.{Limits.config_test, State.{State, opening}, Step.{Answered, outcome_of, step}, Tables.same_option}
+use Rattle.std.{specs.{List.list_all, Option.option_map_or, Prelude.{Bool, Err, List, None, Ok, Option, Result, Some, [], if◌then◌else◌, is_some, length, map, nat_le, option_and_then, option_map, set, slice_get, suc, zero, ℕ, ◌&&◌, ◌++◌, ◌==◌, ◌∷◌}}}
+use Rattle.pim_ip.{specs.{Tests.{expect, ◌>>◌}, declared.refusal.Refusal.Refusal}}
+use Rattle.pim_types.{specs.declared.{config.Config.Config, event.{Event.Event, EventKind.EventKind}, outcome.{Emission.Emission, Outcome.Outcome}}}
+use Rattle.pim_model.{specs.{Limits.config_test, State.{State, opening}, Step.{Answered, outcome_of, step}, Tables.same_option}}
 
 -- a frame with the link on which it was sent; none for a unicast
 pub record Sent : Type 0 where

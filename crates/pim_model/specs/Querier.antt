@@ -1,10 +1,10 @@
 -- The querier of an interface. Sections are those of RFC 3376: queries (6.1), the reception of reports (6.4) and
 -- queries (6.6), and the values of timers (8), which the RFC writes in brackets. All times are in ms.
-use Rattle.std.specs.{List.list_any, Option.option_map_or, Prelude.{Bool, List, None, Option, Some, [], drop, false, filter, filter_map, fold, if◌then◌else◌, length, map, min, nat_lt, not, option_and_then, suc, take, true, zero, ℕ, ◌&&◌, ◌*◌, ◌++◌, ◌+◌, ◌-◌, ◌/◌, ◌==◌, ◌||◌, ◌∷◌}}
-use Rattle.pim_ip.specs.Ipv4.{is_source_specific}
-use Rattle.pim_types.specs.{Keys.{iface_key, is_on, same_key, source_in, source_key, star_key}, declared.fact.{GroupRecordRow.GroupRecordRow, GroupRepeatRow.GroupRepeatRow, Key.Key, QuerierRole.QuerierRole, QuerierRow.QuerierRow, SendingRow.SendingRow, SourceRecordRow.SourceRecordRow, SourceRepeatRow.SourceRepeatRow}}
-use Rattle.igmp_wire.specs.{Codes.{code_value, value_code}, Values.{Query as QueryValue, Record}, declared.report.RecordType.RecordType}
-use Rattle.pim_model.specs.{Messages.Message, Records.{AskGroup, AskSources, Asked, GroupRecord, apply_record, group_expired, is_at_group, record_of, source_expired, with_members, with_record}, State.{State, my_address}, Tables.{Table, change_row, drop_where, is_among, is_empty_list, put, row_at, set_row}}
+use Rattle.std.{specs.{List.list_any, Option.option_map_or, Prelude.{Bool, List, None, Option, Some, [], drop, false, filter, filter_map, fold, if◌then◌else◌, length, map, min, nat_lt, not, option_and_then, suc, take, true, zero, ℕ, ◌&&◌, ◌*◌, ◌++◌, ◌+◌, ◌-◌, ◌/◌, ◌==◌, ◌||◌, ◌∷◌}}}
+use Rattle.pim_ip.{specs.Ipv4.is_source_specific}
+use Rattle.pim_types.{specs.{Keys.{iface_key, is_on, same_key, source_in, source_key, star_key}, declared.fact.{GroupRecordRow.GroupRecordRow, GroupRepeatRow.GroupRepeatRow, Key.Key, QuerierRole.QuerierRole, QuerierRow.QuerierRow, SendingRow.SendingRow, SourceRecordRow.SourceRecordRow, SourceRepeatRow.SourceRepeatRow}}}
+use Rattle.igmp_wire.{specs.{Codes.{code_value, value_code}, Values.{Query as QueryValue, Record}, declared.report.RecordType.RecordType}}
+use Rattle.pim_model.{specs.{Messages.Message, Records.{AskGroup, AskSources, Asked, GroupRecord, apply_record, group_expired, is_at_group, record_of, source_expired, with_members, with_record}, State.{State, my_address}, Tables.{Table, change_row, drop_where, is_among, is_empty_list, put, row_at, set_row}}}
 
 -- the querier row of an interface, which has one while it is up
 abbrev pub querier_on : State → ℕ → Option QuerierRow
@@ -239,7 +239,8 @@ sources_sent s i g =
           ++ specific_queries s i g false (filter (λ src. not (runs_on src)) sources),
     )
 
--- the next sending is [Last Member Query Interval] from the present time, while any source has one left
+-- the next sending of queries of the group's sources is [Last Member Query Interval] from the present time, while any
+-- source has one left
 unfoldable pub next_sending : State → ℕ → ℕ → Option SourceRepeatRow
 next_sending s i g =
     if list_any (is_sending i g) s.sendings
@@ -251,7 +252,7 @@ send_sources s i g =
     let sent : State × List Message = sources_sent s i g in
     (record (sent.0) { source_repeats = set_row s.source_repeats (star_key i g) (next_sending sent.0 i g) }, sent.1)
 
--- a sending is due
+-- the Group-and-Source-Specific Queries of a group are due to be sent again (6.6.3.2)
 unfoldable pub source_repeat_due : State → ℕ → ℕ → State × List Message
 source_repeat_due s i g =
     let sent : State × List Message = sources_sent s i g in

@@ -1,8 +1,8 @@
 -- The reach of an event: the sources with a fact of which a row, or a route, differs between two of the states that the
 -- event passes through. The reach of an Advance is the reaches of the timers that expire, one after the other.
-use Rattle.std.specs.{List.list_any, Prelude.{Bool, Err, List, Ok, [], false, filter, if◌then◌else◌, length, not, ℕ, ◌&&◌, ◌++◌, ◌+◌, ◌-◌, ◌||◌, ◌∷◌}}
-use Rattle.pim_types.specs.{Keys.{group_in, is_of_group, is_star, names_source, source_in}, declared.{event.Event.Event, fact.Key.Key}}
-use Rattle.pim_model.specs.{Clearing.{Cleared, clear, clearable_count, cleared, to_clear}, Firing.{fire_once, fired}, Full.is_full, Judging.{Judged, judged}, Registers.settle_registers, Repeat.until_none, Rows.{same_assert, same_both, same_downstream, same_group_record, same_interface, same_neighbour, same_path, same_register, same_rows, same_source, same_source_record}, State.State, Step.change, Tables.{Table, has_row, keys_in, rows_where, same_option}, Timers.{Ending, next_due, timers}, Unicast.{route, rp_of, rp_route}, declared.accepted.Accepted.Accepted}
+use Rattle.std.{specs.{List.list_any, Prelude.{Bool, Err, List, Ok, [], false, filter, if◌then◌else◌, length, not, ℕ, ◌&&◌, ◌++◌, ◌+◌, ◌-◌, ◌||◌, ◌∷◌}}}
+use Rattle.pim_types.{specs.{Keys.{group_in, is_of_group, is_star, names_source, source_in}, declared.{event.Event.Event, fact.Key.Key}}}
+use Rattle.pim_model.{specs.{Clearing.{Cleared, clear, clearable_count, cleared, to_clear}, Firing.{fire_once, fired}, Full.is_full, Judging.{Judged, judged}, Registers.settle_registers, Repeat.until_none, Rows.{same_assert, same_both, same_downstream, same_group_record, same_interface, same_neighbour, same_path, same_register, same_rows, same_source, same_source_record}, State.State, Step.change, Tables.{Table, has_row, keys_in, rows_where, same_option}, Timers.{Ending, next_due, timers}, Unicast.{route, rp_of, rp_route}, declared.accepted.Accepted.Accepted}}
 
 -- ---- two states
 

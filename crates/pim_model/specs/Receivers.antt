@@ -1,7 +1,7 @@
 -- Local receivers: IGMP membership as PIM sees it (RFC 7761, section 4.1.5; RFC 3376, sections 6.2 and 6.3).
-use Rattle.std.specs.{Option.option_map_or, Prelude.{Bool, Option, false, is_none, is_some, not, ℕ, ◌&&◌}}
-use Rattle.pim_types.specs.{Keys.{source_key, star_key}, declared.fact.{GroupRecordRow.GroupRecordRow, SourceRecordRow.SourceRecordRow}}
-use Rattle.pim_model.specs.{State.State, Tables.{Table, has_row, row_at}}
+use Rattle.std.{specs.{Option.option_map_or, Prelude.{Bool, Option, false, is_none, is_some, not, ℕ, ◌&&◌}}}
+use Rattle.pim_types.{specs.{Keys.{source_key, star_key}, declared.fact.{GroupRecordRow.GroupRecordRow, SourceRecordRow.SourceRecordRow}}}
+use Rattle.pim_model.{specs.{State.State, Tables.{Table, has_row, row_at}}}
 
 -- the router filter-mode of the group on I is EXCLUDE: its group timer runs (RFC 3376, sections 6.2.1 and 6.2.2)
 unfoldable pub is_exclude_among : Table GroupRecordRow → ℕ → ℕ → Bool

@@ -1,9 +1,9 @@
 -- One IGMPv3 group record. Sections are those of RFC 3376: its tables of current-state records (6.4.1), of changes
 -- (6.4.2), and of timers that expire (6.2.2, 6.2.3, 6.5), as equations between sets, for each source by itself.
-use Rattle.std.specs.{List.list_any, Option.option_map_or, Prelude.{Bool, List, None, Option, Some, [], false, filter, filter_map, find, fold, if◌then◌else◌, is_none, is_some, map, nat_lt, not, option_and_then, true, ℕ, ◌&&◌, ◌++◌, ◌==◌, ◌∷◌}}
-use Rattle.pim_types.specs.{Keys.{is_of_group, is_on, source_in, source_key, star_key}, declared.fact.{GroupRecordRow.GroupRecordRow, Key.Key, SendingRow.SendingRow, SourceRecordRow.SourceRecordRow}}
-use Rattle.pim_model.specs.{Sets.Set, State.State, Tables.{Table, ascending, drop_at, drop_where, has_row, is_among, is_empty_list, put, row_at}}
-pub use Rattle.igmp_wire.specs.declared.report.RecordType.{RecordType}
+use Rattle.std.{specs.{List.list_any, Option.option_map_or, Prelude.{Bool, List, None, Option, Some, [], false, filter, filter_map, find, fold, if◌then◌else◌, is_none, is_some, map, nat_lt, not, option_and_then, true, ℕ, ◌&&◌, ◌++◌, ◌==◌, ◌∷◌}}}
+use Rattle.pim_types.{specs.{Keys.{is_of_group, is_on, source_in, source_key, star_key}, declared.fact.{GroupRecordRow.GroupRecordRow, Key.Key, SendingRow.SendingRow, SourceRecordRow.SourceRecordRow}}}
+use Rattle.pim_model.{specs.{Sets.Set, State.State, Tables.{Table, ascending, drop_at, drop_where, has_row, is_among, is_empty_list, put, row_at}}}
+pub use Rattle.igmp_wire.{specs.declared.report.RecordType.RecordType}
 
 -- a source record (6.2): a source with its source timer; without a timer the timer is 0 and the source excluded
 abbrev pub Member : Type 0
@@ -29,38 +29,38 @@ pub data Asked : Type 0 where
   AskSources : List ℕ → Asked
 
 -- what becomes of a source of a record
-pub data Fate : Type 0 where
+pub data SourceState : Type 0 where
   -- the source is in neither set
-  Gone : Fate
-  Excluded : Fate
-  Until : ℕ → Fate
+  Absent : SourceState
+  Excluded : SourceState
+  Included : ℕ → SourceState
 
 -- what a source is in a record
-unfoldable pub fate_in : GroupRecord → ℕ → Fate
-fate_in r src = option_map_or (λ (m : Member). option_map_or Until m.1 Excluded) (find (λ m. m.0 == src) r.members) Gone
+unfoldable pub source_state_in : GroupRecord → ℕ → SourceState
+source_state_in r src = option_map_or (λ (m : Member). option_map_or Included m.1 Excluded) (find (λ m. m.0 == src) r.members) Absent
 
 -- the source record of a source that isn't gone
-abbrev pub member_of : ℕ → Fate → Option Member
-member_of src Gone = None
+abbrev pub member_of : ℕ → SourceState → Option Member
+member_of src Absent = None
 member_of src Excluded = Some (src, None)
-member_of src (Until end) = Some (src, Some end)
+member_of src (Included end) = Some (src, Some end)
 
 -- the sources of a record and those of a message, ascending
 abbrev pub sources_of_both : GroupRecord → List ℕ → List ℕ
 sources_of_both r named = ascending (map (λ (m : Member). m.0) r.members ++ named)
 
 -- the record in which each source is what a function says
-unfoldable pub record_with : Option ℕ → (ℕ → Fate) → List ℕ → GroupRecord
-record_with timer fate sources =
-    record { timer = timer; members = filter_map (λ src. member_of src (fate src)) sources }
+unfoldable pub record_with : Option ℕ → (ℕ → SourceState) → List ℕ → GroupRecord
+record_with timer source_state sources =
+    record { timer = timer; members = filter_map (λ src. member_of src (source_state src)) sources }
 
 -- the source is in A of INCLUDE (A), or in X of EXCLUDE (X,Y)
-abbrev pub is_running : Fate → Bool
-is_running (Until end) = true
+abbrev pub is_running : SourceState → Bool
+is_running (Included end) = true
 is_running _ = false
 
 -- the source is in Y of EXCLUDE (X,Y)
-abbrev pub is_excluded : Fate → Bool
+abbrev pub is_excluded : SourceState → Bool
 is_excluded Excluded = true
 is_excluded _ = false
 
@@ -71,45 +71,45 @@ asks test sources = AskSources (filter test sources) ∷ []
 -- ---- INCLUDE (A) and a record with the sources B; a timer that is set expires at `full`
 
 -- IS_IN (B), ALLOW (B), TO_IN (B): INCLUDE (A+B), (B)=GMI
-abbrev pub include_more : ℕ → GroupRecord → Set → ℕ → Fate
-include_more full r named src = if named src then Until full else fate_in r src
+abbrev pub include_more : ℕ → GroupRecord → Set → ℕ → SourceState
+include_more full r named src = if named src then Included full else source_state_in r src
 
 -- IS_EX (B), TO_EX (B): EXCLUDE (A*B,B-A), (B-A)=0, Delete (A-B)
-abbrev pub include_to_exclude : GroupRecord → Set → ℕ → Fate
+abbrev pub include_to_exclude : GroupRecord → Set → ℕ → SourceState
 include_to_exclude r named src =
-    if named src then (if is_running (fate_in r src) then fate_in r src else Excluded) else Gone
+    if named src then (if is_running (source_state_in r src) then source_state_in r src else Excluded) else Absent
 
 -- ---- EXCLUDE (X, Y) and a record with the sources A
 
 -- IS_IN (A), ALLOW (A), TO_IN (A): EXCLUDE (X+A,Y-A), (A)=GMI
-abbrev pub exclude_less : ℕ → GroupRecord → Set → ℕ → Fate
-exclude_less full r named src = if named src then Until full else fate_in r src
+abbrev pub exclude_less : ℕ → GroupRecord → Set → ℕ → SourceState
+exclude_less full r named src = if named src then Included full else source_state_in r src
 
 -- (A-X-Y)=`end`: a source in neither set gets this timer; those of X keep theirs, and those of Y stay excluded
-abbrev pub kept_or_until : ℕ → Fate → Fate
-kept_or_until end Gone = Until end
-kept_or_until end fate = fate
+abbrev pub kept_or_until : ℕ → SourceState → SourceState
+kept_or_until end Absent = Included end
+kept_or_until end source_state = source_state
 
 -- IS_EX (A): EXCLUDE (A-Y,Y*A), (A-X-Y)=GMI, Delete (X-A), Delete (Y-A). TO_EX (A): EXCLUDE (A-Y,Y*A), (A-X-Y)=Group
 -- Timer, Delete (X-A), Delete (Y-A)
-abbrev pub exclude_again : ℕ → GroupRecord → Set → ℕ → Fate
-exclude_again end r named src = if named src then kept_or_until end (fate_in r src) else Gone
+abbrev pub exclude_again : ℕ → GroupRecord → Set → ℕ → SourceState
+exclude_again end r named src = if named src then kept_or_until end (source_state_in r src) else Absent
 
 -- BLOCK (A): EXCLUDE (X+(A-Y),Y), (A-X-Y)=Group Timer
-abbrev pub exclude_more : ℕ → GroupRecord → Set → ℕ → Fate
-exclude_more end r named src = if named src then kept_or_until end (fate_in r src) else fate_in r src
+abbrev pub exclude_more : ℕ → GroupRecord → Set → ℕ → SourceState
+exclude_more end r named src = if named src then kept_or_until end (source_state_in r src) else source_state_in r src
 
 -- A*B: the source is in the record and in the message
 abbrev pub in_both : GroupRecord → Set → Set
-in_both r named src = is_running (fate_in r src) && named src
+in_both r named src = is_running (source_state_in r src) && named src
 
 -- A-B of INCLUDE (A), X-A of EXCLUDE (X,Y): the source's timer runs, and the message doesn't name it
 abbrev pub running_unnamed : GroupRecord → Set → Set
-running_unnamed r named src = is_running (fate_in r src) && not (named src)
+running_unnamed r named src = is_running (source_state_in r src) && not (named src)
 
 -- A-Y: the message names the source, and it isn't excluded
 abbrev pub named_not_excluded : GroupRecord → Set → Set
-named_not_excluded r named src = named src && not (is_excluded (fate_in r src))
+named_not_excluded r named src = named src && not (is_excluded (source_state_in r src))
 
 -- the lines of both tables (6.4.1, 6.4.2) that begin with INCLUDE (A); `full` is GMI from the present time
 unfoldable pub from_include : ℕ → GroupRecord → RecordType → Set → List ℕ → GroupRecord × List Asked

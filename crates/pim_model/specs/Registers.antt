@@ -1,7 +1,7 @@
 -- Registering with the RP. Sections are those of RFC 7761. Where there is no register row the state is NoInfo.
-use Rattle.std.specs.{Option.option_map_or, Prelude.{Bool, List, Some, [], false, fold, if◌then◌else◌, map, not, true, unwrap_or, ℕ, ◌&&◌, ◌++◌, ◌+◌, ◌==◌, ◌||◌, ◌∷◌}}
-use Rattle.pim_types.specs.{Keys.{group_in, source_in, source_key}, declared.{config.SptSwitch.SptSwitch, fact.{Key.Key, RegisterRow.RegisterRow, RegisterState.RegisterState}, path.Path.Path}}
-use Rattle.pim_model.specs.{Messages.Message, Neighbours.is_dr, Sets.{is_kept_alive, spt_bit}, State.{State, is_own, my_address}, Tables.{Table, change_row, delay_in, drop_at, has_row, keys_in, put, same_option}, Unicast.{route, rp_of, rpf_interface}}
+use Rattle.std.{specs.{Option.option_map_or, Prelude.{Bool, List, Some, [], false, fold, if◌then◌else◌, map, not, true, unwrap_or, ℕ, ◌&&◌, ◌++◌, ◌+◌, ◌==◌, ◌||◌, ◌∷◌}}}
+use Rattle.pim_types.{specs.{Keys.{group_in, source_in, source_key}, declared.{config.SptSwitch.SptSwitch, fact.{Key.Key, RegisterRow.RegisterRow, RegisterState.RegisterState}, path.Path.Path}}}
+use Rattle.pim_model.{specs.{Messages.Message, Neighbours.is_dr, Sets.{is_kept_alive, spt_bit}, State.{State, is_own, my_address}, Tables.{Table, change_row, delay_in, drop_at, has_row, keys_in, put, same_option}, Unicast.{route, rp_of, rpf_interface}}}
 
 -- Keepalive_Period, and at the RP max(Keepalive_Period, RP_Keepalive_Period) = max(210 s, 185 s) (4.11), in ms
 abbrev pub keepalive_period : ℕ

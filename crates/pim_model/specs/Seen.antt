@@ -1,10 +1,10 @@
 -- A Join/Prune between other routers, seen by the upstream machines of (*,G) (4.5.4), (S,G) (4.5.5) and (S,G,rpt)
 -- (4.5.7). Sections are those of RFC 7761. Here: a message is judged by the desires and upstream neighbours in the
 -- state that it finds.
-use Rattle.std.specs.{Option.option_map_or, Prelude.{Bool, List, None, Option, Some, false, filter, fold, if◌then◌else◌, map, max, min, not, ℕ, ◌&&◌, ◌*◌, ◌+◌}}
-use Rattle.pim_types.specs.{Keys.{is_of_group, is_star, rpt_key, source_in, source_key, star_key}, declared.{fact.{JoinTimerRow.JoinTimerRow, Key.Key, OverrideTimerRow.OverrideTimerRow}, path.Hop.Hop, upstream.TreeState.TreeState}}
-use Rattle.pim_wire.specs.{Values.JoinPrune, declared.join_prune.EntryKind.EntryKind}
-use Rattle.pim_model.specs.{Desires.{rpf_rpt, rpf_source, rpf_star, tree_state}, Downstream.{Named, accepted_joins, accepted_prunes, is_kind}, Neighbours.{t_override, t_suppressed}, State.State, Tables.{drop_at, hop_at, keys_in, put, row_at, same_hop, set_row}}
+use Rattle.std.{specs.{Option.option_map_or, Prelude.{Bool, List, None, Option, Some, false, filter, fold, if◌then◌else◌, map, max, min, not, ℕ, ◌&&◌, ◌*◌, ◌+◌}}}
+use Rattle.pim_types.{specs.{Keys.{is_of_group, is_star, rpt_key, source_in, source_key, star_key}, declared.{fact.{JoinTimerRow.JoinTimerRow, Key.Key, OverrideTimerRow.OverrideTimerRow}, path.Hop.Hop, upstream.TreeState.TreeState}}}
+use Rattle.pim_wire.{specs.{Values.JoinPrune, declared.join_prune.EntryKind.EntryKind}}
+use Rattle.pim_model.{specs.{Desires.{rpf_rpt, rpf_source, rpf_star, tree_state}, Downstream.{Named, accepted_joins, accepted_prunes, is_kind}, Neighbours.{t_override, t_suppressed}, State.State, Tables.{drop_at, hop_at, keys_in, put, row_at, same_hop, set_row}}}
 
 -- Increase Join Timer to a timestamp: a later one is kept, and without a timer nothing is done
 abbrev pub raised_row : ℕ → Option JoinTimerRow → Option JoinTimerRow

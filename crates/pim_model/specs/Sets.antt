@@ -2,10 +2,10 @@
 -- (4.6.5). A set of interfaces is its test. The register tunnel is no member of such a set, so `is_immediate_empty` and
 -- `is_inherited_empty` say whether a list of (S,G) is empty. The line `reads:` of a macro names the rows that it
 -- depends on: no other row can change what it says.
-use Rattle.std.specs.{List.list_any, Option.option_map_or, Prelude.{Bool, List, None, Option, Some, false, filter, if◌then◌else◌, is_none, is_some, nat_lt, not, option_map, true, ℕ, ◌&&◌, ◌==◌, ◌||◌}}
-use Rattle.pim_ip.specs.Addr.{addr}
-use Rattle.pim_types.specs.{Keys.{rpt_key, source_key, star_key}, declared.{fact.{AssertMetric.AssertMetric, AssertRole.AssertRole, AssertRow.AssertRow, DownstreamRow.DownstreamRow, RegisterRow.RegisterRow, RegisterState.RegisterState, SourceRow.SourceRow}, path.Path.Path}}
-use Rattle.pim_model.specs.{Neighbours.is_dr, Receivers.{local_receiver_exclude, local_receiver_include, local_receiver_star}, State.{State, ifaces, is_own, my_address}, Tables.{has_row, row_at, same_bool}, Unicast.{is_rpf_interface, is_rpf_interface_rp, route, rp_of, rp_route}}
+use Rattle.std.{specs.{List.list_any, Option.option_map_or, Prelude.{Bool, List, None, Option, Some, false, filter, if◌then◌else◌, is_none, is_some, nat_lt, not, option_map, true, ℕ, ◌&&◌, ◌==◌, ◌||◌}}}
+use Rattle.pim_ip.{specs.Addr.addr}
+use Rattle.pim_types.{specs.{Keys.{rpt_key, source_key, star_key}, declared.{fact.{AssertMetric.AssertMetric, AssertRole.AssertRole, AssertRow.AssertRow, DownstreamRow.DownstreamRow, RegisterRow.RegisterRow, RegisterState.RegisterState, SourceRow.SourceRow}, path.Path.Path}}}
+use Rattle.pim_model.{specs.{Neighbours.is_dr, Receivers.{local_receiver_exclude, local_receiver_include, local_receiver_star}, State.{State, ifaces, is_own, my_address}, Tables.{has_row, row_at, same_bool}, Unicast.{is_rpf_interface, is_rpf_interface_rp, route, rp_of, rp_route}}}
 
 -- a set of interfaces
 abbrev pub Set : Type 0

@@ -1,9 +1,10 @@
 -- The state of the specification: plain facts (RFC 7761, sections 4.1.1 to 4.1.4; RFC 3376, section 6.2). It has no
 -- upstream state and no RPF neighbour, since these follow from the facts.
-use Rattle.std.specs.{List.list_any, Option.option_map_or, Prelude.{Bool, List, Option, [], length, slice_get, ℕ, ◌==◌}}
-use Rattle.pim_types.specs.{Keys.iface_key, declared.{config.{Config.Config, InterfaceConfig.InterfaceConfig, Route.Route, RpRange.RpRange, Settings.Settings}, fact.{AssertRow.AssertRow, DownstreamRow.DownstreamRow, GroupRecordRow.GroupRecordRow, GroupRepeatRow.GroupRepeatRow, InterfaceRow.InterfaceRow, JoinTimerRow.JoinTimerRow, NeighbourRow.NeighbourRow, OverrideTimerRow.OverrideTimerRow, QuerierRow.QuerierRow, RegisterRow.RegisterRow, SendingRow.SendingRow, SourceRecordRow.SourceRecordRow, SourceRepeatRow.SourceRepeatRow, SourceRow.SourceRow}}}
-use Rattle.pim_model.specs.Tables.{Table, below, has_row}
+use Rattle.std.{specs.{List.list_any, Option.option_map_or, Prelude.{Bool, List, Option, [], length, slice_get, ℕ, ◌==◌}}}
+use Rattle.pim_types.{specs.{Keys.iface_key, declared.{config.{Config.Config, InterfaceConfig.InterfaceConfig, Route.Route, RpRange.RpRange, Settings.Settings}, fact.{AssertRow.AssertRow, DownstreamRow.DownstreamRow, GroupRecordRow.GroupRecordRow, GroupRepeatRow.GroupRepeatRow, InterfaceRow.InterfaceRow, JoinTimerRow.JoinTimerRow, NeighbourRow.NeighbourRow, OverrideTimerRow.OverrideTimerRow, QuerierRow.QuerierRow, RegisterRow.RegisterRow, SendingRow.SendingRow, SourceRecordRow.SourceRecordRow, SourceRepeatRow.SourceRepeatRow, SourceRow.SourceRow}}}}
+use Rattle.pim_model.{specs.Tables.{Table, below, has_row}}
 
+-- the whole state of a router: its configuration, its present time, and its facts in tables
 pub record State : Type 0 where
   pub settings : Settings
   -- what is configured of each interface, in the order of their numbers

@@ -1,10 +1,10 @@
 -- One step of the specification: the judgement of an event, its own change, and what follows from it. Sections are
 -- those of RFC 7761.
-use Rattle.std.specs.Prelude.{Err, List, Ok, Result, [], false, length, true, ℕ, ◌++◌, ◌+◌, ◌∷◌}
-use Rattle.pim_ip.specs.{Ipv4.Packet, declared.refusal.Refusal.Refusal}
-use Rattle.pim_types.specs.{Keys.{iface_key, is_on}, declared.{config.RpRange.RpRange, event.Event.Event, fact.InterfaceRow.InterfaceRow, outcome.{Emission.Emission, Outcome.Outcome, Stop.Stop, Verdict.Verdict}}}
-use Rattle.pim_wire.specs.{RegisterParts.{is_null, registered_group, registered_source}, Values.{Encapsulated, Null, Register}}
-use Rattle.pim_model.specs.{Asserts.assert_received, Downstream.to_me, Firing.{fire_all, settled}, Forwarding.{Forwarded, forwarded, register_received}, Full.is_full, Hellos.{hello_received, triggered_hello_delay}, Judging.{Judged, judged}, Messages.Message, Querier.{querier_up, query_seen, report_seen}, Registers.{register_stop_seen, registers_after_rps}, Seen.seen, State.State, Tables.{delay_in, drop_where, put}, Writing.{copies_of, tunnel_of}, declared.accepted.Accepted.Accepted}
+use Rattle.std.{specs.Prelude.{Err, List, Ok, Result, [], false, length, true, ℕ, ◌++◌, ◌+◌, ◌∷◌}}
+use Rattle.pim_ip.{specs.{Ipv4.Packet, declared.refusal.Refusal.Refusal}}
+use Rattle.pim_types.{specs.{Keys.{iface_key, is_on}, declared.{config.RpRange.RpRange, event.Event.Event, fact.InterfaceRow.InterfaceRow, outcome.{Emission.Emission, Outcome.Outcome, Stop.Stop, Verdict.Verdict}}}}
+use Rattle.pim_wire.{specs.{RegisterParts.{is_null, registered_group, registered_source}, Values.{Encapsulated, Null, Register}}}
+use Rattle.pim_model.{specs.{Asserts.assert_received, Downstream.to_me, Firing.{fire_all, settled}, Forwarding.{Forwarded, forwarded, register_received}, Full.is_full, Hellos.{hello_received, triggered_hello_delay}, Judging.{Judged, judged}, Messages.Message, Querier.{querier_up, query_seen, report_seen}, Registers.{register_stop_seen, registers_after_rps}, Seen.seen, State.State, Tables.{delay_in, drop_where, put}, Writing.{copies_of, tunnel_of}, declared.accepted.Accepted.Accepted}}
 
 -- ---- changes
 

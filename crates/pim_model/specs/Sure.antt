@@ -1,8 +1,9 @@
 -- Which answers need no memory: a call that gives one of them can't fail for want of it.
-use Rattle.std.specs.Prelude.{Bool, Err, Ok, Result, false, nat_le, true, ℕ, ◌&&◌, ◌||◌}
-use Rattle.pim_ip.specs.{Refusal.refusal_number, declared.refusal.Refusal.Refusal}
-use Rattle.pim_types.specs.declared.outcome.Verdict.{Verdict}
+use Rattle.std.{specs.Prelude.{Bool, Err, Ok, Result, false, nat_le, true, ℕ, ◌&&◌, ◌||◌}}
+use Rattle.pim_ip.{specs.{Refusal.refusal_number, declared.refusal.Refusal.Refusal}}
+use Rattle.pim_types.{specs.declared.outcome.Verdict.Verdict}
 
+-- a number is from a first one to a last one
 abbrev pub is_from_to : ℕ → ℕ → ℕ → Bool
 is_from_to first last n = nat_le first n && nat_le n last
 

@@ -1,8 +1,8 @@
 -- Facts as rows of tables, each under its key, in the order of the keys. One key serves every fact and
 -- every timer.
-use Rattle.std.specs.{BTreeMap.{insert_entry, is_at}, List.{list_any, range_with_len}, Map.lookup, Prelude.{Bool, List, None, Option, Some, [], false, filter, filter_map, fold, if◌then◌else◌, is_some, map, max, nat_lt, not, option_map, true, ℕ, ◌%◌, ◌&&◌, ◌+◌, ◌-◌, ◌==◌, ◌∷◌}}
-use Rattle.pim_ip.specs.{Addr.addr, declared.addr.Addr.Addr}
-use Rattle.pim_types.specs.{Keys.{is_on, key_cmp, same_key}, declared.{config.IfaceId.IfaceId, fact.Key.Key, path.Hop.Hop}}
+use Rattle.std.{specs.{BTreeMap.{insert_entry, is_at}, List.{list_any, range_with_len}, Map.lookup, Prelude.{Bool, List, None, Option, Some, [], false, filter, filter_map, fold, if◌then◌else◌, is_some, map, max, nat_lt, not, option_map, true, ℕ, ◌%◌, ◌&&◌, ◌+◌, ◌-◌, ◌==◌, ◌∷◌}}}
+use Rattle.pim_ip.{specs.{Addr.addr, declared.addr.Addr.Addr}}
+use Rattle.pim_types.{specs.{Keys.{is_on, key_cmp, same_key}, declared.{config.IfaceId.IfaceId, fact.Key.Key, path.Hop.Hop}}}
 
 -- a list of rows, each under its key, ascending
 abbrev pub Table : Type 0 → Type 0
@@ -13,7 +13,7 @@ module _ {R : Type 0} where
   unfoldable pub row_at : Table R → Key → Option R
   row_at t k = lookup (is_at (key_cmp k)) t
 
-  -- there is a row at a key
+  -- a table has a row at a key
   unfoldable pub has_row : Table R → Key → Bool
   has_row t k = is_some (row_at t k)
 
@@ -73,7 +73,7 @@ ascending ns = fold (λ sorted n. insert_number n sorted) [] ns
 unfoldable pub is_among : ℕ → List ℕ → Bool
 is_among n ns = list_any (λ m. m == n) ns
 
--- both are true, or neither is
+-- two Booleans are the same
 abbrev pub same_bool : Bool → Bool → Bool
 same_bool true b = b
 same_bool false b = not b

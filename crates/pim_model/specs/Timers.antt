@@ -1,7 +1,7 @@
 -- Which timers run, and when they expire: each timer of a row (RFC 7761, section 4.10) is under the row's key.
-use Rattle.std.specs.{Ordering.{is_lt, nat_cmp, ordering_then}, Prelude.{Bool, List, None, Option, Some, filter, filter_map, nat_le, option_map, ℕ, ◌++◌}, declared.cmp.Ordering.Ordering}
-use Rattle.pim_types.specs.{Timers.timer_cmp, declared.{fact.{AssertRow.AssertRow, DownstreamRow.DownstreamRow, GroupRecordRow.GroupRecordRow, GroupRepeatRow.GroupRepeatRow, InterfaceRow.InterfaceRow, JoinTimerRow.JoinTimerRow, Key.Key, NeighbourRow.NeighbourRow, OverrideTimerRow.OverrideTimerRow, QuerierRole.QuerierRole, QuerierRow.QuerierRow, RegisterRow.RegisterRow, RegisterState.RegisterState, SourceRecordRow.SourceRecordRow, SourceRepeatRow.SourceRepeatRow, SourceRow.SourceRow}, timer.{Timer.Timer, TimerKind.TimerKind}}}
-use Rattle.pim_model.specs.{Clearing.first_by, State.State, Tables.Table}
+use Rattle.std.{specs.{Ordering.{is_lt, nat_cmp, ordering_then}, Prelude.{Bool, List, None, Option, Some, filter, filter_map, nat_le, option_map, ℕ, ◌++◌}, declared.cmp.Ordering.Ordering}}
+use Rattle.pim_types.{specs.{Timers.timer_cmp, declared.{fact.{AssertRow.AssertRow, DownstreamRow.DownstreamRow, GroupRecordRow.GroupRecordRow, GroupRepeatRow.GroupRepeatRow, InterfaceRow.InterfaceRow, JoinTimerRow.JoinTimerRow, Key.Key, NeighbourRow.NeighbourRow, OverrideTimerRow.OverrideTimerRow, QuerierRole.QuerierRole, QuerierRow.QuerierRow, RegisterRow.RegisterRow, RegisterState.RegisterState, SourceRecordRow.SourceRecordRow, SourceRepeatRow.SourceRepeatRow, SourceRow.SourceRow}, timer.{Timer.Timer, TimerKind.TimerKind}}}}
+use Rattle.pim_model.{specs.{Clearing.first_by, State.State, Tables.Table}}
 
 -- a timestamp, and the timer that expires then
 pub record Ending : Type 0 where
@@ -58,7 +58,7 @@ unfoldable pub ending_cmp : Ending → Ending → Ordering
 ending_cmp a b =
     ordering_then (nat_cmp a.end b.end) (timer_cmp a.timer b.timer)
 
--- a timer expires before another
+-- of two timers the first expires before the second
 abbrev pub is_ending_first : Ending → Ending → Bool
 is_ending_first a b = is_lt (ending_cmp a b)
 

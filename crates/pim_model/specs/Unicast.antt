@@ -1,9 +1,9 @@
 -- Unicast routes, which the RFC calls the MRIB, and static RPs. Sections are those of RFC 7761. A line `here:` says
 -- where this profile decides what the RFC leaves open, or does otherwise.
-use Rattle.std.specs.{Option.option_map_or, Prelude.{Bool, None, Option, Some, false, find, if◌then◌else◌, option_and_then, option_map, true, ℕ, ◌&&◌, List, length, slice_get}}
-use Rattle.pim_ip.specs.{Addr.addr, Ipv4.is_source_specific, Prefixes.{contains, longest_match}, declared.addr.Prefix.Prefix}
-use Rattle.pim_types.specs.{Keys.iface_key, declared.{config.{InterfaceConfig.InterfaceConfig, Route.Route, RpRange.RpRange}, fact.InterfaceRow.InterfaceRow, path.Path.Path}}
-use Rattle.pim_model.specs.{State.{State, is_own_among}, Tables.{same_option, Table, has_row, below}}
+use Rattle.std.{specs.{Option.option_map_or, Prelude.{Bool, None, Option, Some, false, find, if◌then◌else◌, option_and_then, option_map, true, ℕ, ◌&&◌, List, length, slice_get}}}
+use Rattle.pim_ip.{specs.{Addr.addr, Ipv4.is_source_specific, Prefixes.{contains, longest_match}, declared.addr.Prefix.Prefix}}
+use Rattle.pim_types.{specs.{Keys.iface_key, declared.{config.{InterfaceConfig.InterfaceConfig, Route.Route, RpRange.RpRange}, fact.InterfaceRow.InterfaceRow, path.Path.Path}}}
+use Rattle.pim_model.{specs.{State.{State, is_own_among}, Tables.{same_option, Table, has_row, below}}}
 
 -- the prefix of an interface's link
 abbrev pub subnet : InterfaceConfig → Prefix
@@ -31,7 +31,7 @@ link_path address i = record {
   is_connected = true;
 }
 
--- the route as it was configured
+-- the path of a configured route: its interface, next hop, preference and metric
 abbrev pub route_path : Route → Path
 route_path r = record {
   iface = r.iface;

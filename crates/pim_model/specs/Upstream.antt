@@ -1,11 +1,11 @@
 -- The upstream machines of (*,G) (4.5.4), (S,G) (4.5.5) and (S,G,rpt) (4.5.6, 4.5.7). Sections are those of RFC 7761.
 -- The messages follow from the desires and the upstream neighbours at the opening of an event, compared with those
 -- after its change. The macros read the state after the change, in which none of these timers has moved yet.
-use Rattle.std.specs.{Option.option_map_or, Prelude.{Bool, List, None, Option, Some, [], filter, if◌then◌else◌, is_none, is_some, map, min, not, option_map, take, ℕ, ◌&&◌, ◌++◌, ◌+◌, ◌||◌, ◌∷◌}}
-use Rattle.pim_ip.specs.{Addr.addr, declared.addr.Addr.Addr}
-use Rattle.pim_types.specs.{Keys.{group_in, is_of_group, is_star, rpt_key, source_in, source_key, star_key}, declared.{config.IfaceId.IfaceId, fact.{JoinTimerRow.JoinTimerRow, Key.Key, OverrideTimerRow.OverrideTimerRow}, path.{Hop.Hop, Path.Path}, upstream.{SourceView.SourceView, StarView.StarView, TreeState.TreeState}}}
-use Rattle.pim_wire.specs.declared.join_prune.{Entry.Entry, EntryKind.EntryKind}
-use Rattle.pim_model.specs.{Desires.{join_desired, join_desired_star, rpf_rpt, rpf_source, rpf_star, tree_state}, Messages.{Message, entry}, Neighbours.{is_neighbour, nbr, t_override}, Querier.each_in_turn, Sets.{inherited_olist_rpt, is_empty, joins, prunes, spt_bit}, State.State, Tables.{ascending, change_row, drop_at, keys_in, row_at, same_address, same_hop, same_iface, set_row}, Unicast.{route, rp_of, rp_route}}
+use Rattle.std.{specs.{Option.option_map_or, Prelude.{Bool, List, None, Option, Some, [], filter, if◌then◌else◌, is_none, is_some, map, min, not, option_map, take, ℕ, ◌&&◌, ◌++◌, ◌+◌, ◌||◌, ◌∷◌}}}
+use Rattle.pim_ip.{specs.{Addr.addr, declared.addr.Addr.Addr}}
+use Rattle.pim_types.{specs.{Keys.{group_in, is_of_group, is_star, rpt_key, source_in, source_key, star_key}, declared.{config.IfaceId.IfaceId, fact.{JoinTimerRow.JoinTimerRow, Key.Key, OverrideTimerRow.OverrideTimerRow}, path.{Hop.Hop, Path.Path}, upstream.{SourceView.SourceView, StarView.StarView, TreeState.TreeState}}}}
+use Rattle.pim_wire.{specs.declared.join_prune.{Entry.Entry, EntryKind.EntryKind}}
+use Rattle.pim_model.{specs.{Desires.{join_desired, join_desired_star, rpf_rpt, rpf_source, rpf_star, tree_state}, Messages.{Message, entry}, Neighbours.{is_neighbour, nbr, t_override}, Querier.each_in_turn, Sets.{inherited_olist_rpt, is_empty, joins, prunes, spt_bit}, State.State, Tables.{ascending, change_row, drop_at, keys_in, row_at, same_address, same_hop, same_iface, set_row}, Unicast.{route, rp_of, rp_route}}}
 
 -- t_periodic (4.11), in ms
 abbrev pub join_period : ℕ
@@ -199,7 +199,7 @@ rpt_told_from a w g src old new _ _ = nothing_told
 unfoldable pub rpt_told : State → ℕ → ℕ → ℕ → SourceView → SourceView → Told
 rpt_told a w g src old new = rpt_told_from a w g src old new old.tree new.tree
 
--- ---- all of them
+-- ---- what all groups and sources send upstream
 
 -- when a timer expires after a change of it
 abbrev pub changed_end : TimerChange → Option ℕ → Option ℕ

@@ -1,11 +1,11 @@
 -- Messages become packets, in their order (RFC 7761, section 4.9; RFC 3376, section 4). A Hello that is owed goes
 -- directly before the next Join/Prune or Assert on its interface (RFC 7761, section 4.3.1).
-use Rattle.std.specs.{Option.option_map_or, Prelude.{Bool, List, [], false, if◌then◌else◌, map, nat_lt, ℕ, ◌&&◌, ◌==◌, ◌∷◌}}
-use Rattle.pim_ip.specs.{Addr.addr, Ipv4.{Packet, all_pim_routers, all_systems, copy_text, igmp_packet_text, pim_packet_text}}
-use Rattle.pim_types.specs.{Keys.{iface_key, is_on}, declared.{fact.{InterfaceRow.InterfaceRow, Key.Key}, outcome.Emission.Emission}}
-use Rattle.pim_wire.specs.{Asserts.assert_text, Hellos.hello_text, JoinPrunes.join_prune_text, Registers.{null_register_text, register_stop_text, register_text}}
-use Rattle.igmp_wire.specs.Queries.{query_text}
-use Rattle.pim_model.specs.{Messages.Message, Querier.each_in_turn, Registers.registering_address, Sets.{Set, joins, members, prunes}, State.{InterfaceTable, State, address_among, interfaces_of, value_among}, Tables.{row_at, Table}, Unicast.rp_of, Upstream.upstream}
+use Rattle.std.{specs.{Option.option_map_or, Prelude.{Bool, List, [], false, if◌then◌else◌, map, nat_lt, ℕ, ◌&&◌, ◌==◌, ◌∷◌}}}
+use Rattle.pim_ip.{specs.{Addr.addr, Ipv4.{Packet, all_pim_routers, all_systems, copy_text, igmp_packet_text, pim_packet_text}}}
+use Rattle.pim_types.{specs.{Keys.{iface_key, is_on}, declared.{fact.{InterfaceRow.InterfaceRow, Key.Key}, outcome.Emission.Emission}}}
+use Rattle.pim_wire.{specs.{Asserts.assert_text, Hellos.hello_text, JoinPrunes.join_prune_text, Registers.{null_register_text, register_stop_text, register_text}}}
+use Rattle.igmp_wire.{specs.Queries.query_text}
+use Rattle.pim_model.{specs.{Messages.Message, Querier.each_in_turn, Registers.registering_address, Sets.{Set, joins, members, prunes}, State.{InterfaceTable, State, address_among, interfaces_of, value_among}, Tables.{row_at, Table}, Unicast.rp_of, Upstream.upstream}}
 
 -- here: the TTL of a Register and a Register-Stop
 abbrev pub unicast_time_to_live : ℕ

@@ -4,8 +4,8 @@ use pim_ip::{Addr, Ipv4View};
 use pim_types::{IfaceId, Lent, Route, RpRange};
 use pim_wire::{Assert, Hello, JoinPruneView, RegisterStop, RegisterView};
 
-/// An event that passed its tests, but for the limit on facts, with what was read of its packet. A view borrows from
-/// the event.
+/// An event that passed its tests, but for that of the limit on facts, with what was read of its packet. A view borrows
+/// from the event.
 #[derive(Drop)]
 pub enum Accepted<'a> {
     Advance {

@@ -1,12 +1,8 @@
 -- Which lists of routes and of RP ranges are accepted.
-use Rattle.std.proofs.Common.{◌≡◌, Bool, true, false, ◌&&◌, List, [], ◌∷◌, length, map, refl, ap}
-use Rattle.std.specs.List.{list_all}
-use Rattle.std.specs.Prelude.{nat_le}
-use Rattle.pim_types.specs.declared.config.InterfaceConfig.{InterfaceConfig}
-use Rattle.pim_types.specs.declared.config.Route.{Route}
-use Rattle.pim_types.specs.declared.config.RpRange.{RpRange}
-use Rattle.pim_trie.specs.Entries.{is_canonical}
-use Rattle.pim_model.specs.Limits.{are_distinct, are_routes, are_rps, is_route, is_rp_range, most_routes, most_rps}
+use Rattle.std.{proofs.Common.{◌≡◌, Bool, true, false, ◌&&◌, List, [], ◌∷◌, length, map, refl, ap}, specs.{List.list_all, Prelude.nat_le}}
+use Rattle.pim_types.{specs.declared.config.{InterfaceConfig.InterfaceConfig, Route.Route, RpRange.RpRange}}
+use Rattle.pim_trie.{specs.Entries.is_canonical}
+use Rattle.pim_model.{specs.Limits.{are_distinct, are_routes, are_rps, is_route, is_rp_range, most_routes, most_rps}}
 
 pub and_first : (a b : Bool) → (a && b) ≡ true → a ≡ true
 and_first true b e = refl

@@ -1,22 +1,9 @@
 -- A trie filled with the values of a list, the last first.
-use Rattle.std.proofs.Common.{◌≡◌, ℕ, zero, suc, ◌+◌, ◌<◌, ◌≤◌, Bool, true, false, cond, eqb, not, ◌&&◌, ◌||◌, List, [], ◌∷◌, length, get_or, drop, map, Option, Some, None, option_map, is_some, refl, sym, ap, subst, ◌∙◌, arith, add-one}
-use Rattle.std.proofs.Math.Seq.{drop-cons}
-use Rattle.std.specs.List.{list_all, list_any}
-use Rattle.std.specs.Map.{lookup}
-use Rattle.std.specs.BTreeMap.{insert_entry, is_at}
-use Rattle.std.specs.declared.cmp.Ordering.{Ordering}
-use Rattle.std.specs.declared.cmp.Ordering.TheVariants.{Less, Equal, Greater}
-use Rattle.std.specs.Ordering.{is_eq, match_ordering, nat_cmp, ordering_then}
-use Rattle.std.specs.Prelude.{nat_lt}
-use Rattle.std.proofs.lemmas.Grind.{common_steps}
-use Rattle.pim_model.specs.Limits.{are_distinct, same_prefix}
-use Rattle.pim_ip.specs.declared.addr.Prefix.{Prefix}
-use Rattle.pim_ip.specs.Prefixes.{contains, longer, longest_match}
-use Rattle.pim_trie.specs.Entries.{is_canonical, nodes_along, prefix_cmp}
-use Rattle.pim_trie.proofs.Counts.{along_same}
-use Rattle.pim_mrib.specs.Index.{IsIndexOf, prefix_entry, nodes_visited}
-use Rattle.pim_mrib.proofs.Inserted.{any-insert, is_some-lookup}
-use Rattle.pim_mrib.proofs.Longest.{candidates_swap, ties_are_equal, with_candidate}
+use Rattle.std.{proofs.{Common.{◌≡◌, ℕ, zero, suc, ◌+◌, ◌<◌, ◌≤◌, Bool, true, false, cond, eqb, not, ◌&&◌, ◌||◌, List, [], ◌∷◌, length, get_or, drop, map, Option, Some, None, option_map, is_some, refl, sym, ap, subst, ◌∙◌, arith, add-one}, Math.Seq.drop-cons, lemmas.Grind.common_steps}, specs.{List.{list_all, list_any}, Map.lookup, BTreeMap.{insert_entry, is_at}, declared.cmp.Ordering.{Ordering, TheVariants.{Less, Equal, Greater}}, Ordering.{is_eq, match_ordering, nat_cmp, ordering_then}, Prelude.nat_lt}}
+use Rattle.pim_model.{specs.Limits.{are_distinct, same_prefix}}
+use Rattle.pim_ip.{specs.{declared.addr.Prefix.Prefix, Prefixes.{contains, longer, longest_match}}}
+use Rattle.pim_trie.{specs.Entries.{is_canonical, nodes_along, prefix_cmp}, proofs.Counts.along_same}
+use Rattle.pim_mrib.{specs.Index.{IsIndexOf, prefix_entry, nodes_visited}, proofs.{Inserted.{any-insert, is_some-lookup}, Longest.{candidates_swap, ties_are_equal, with_candidate}}}
 
 or_first : (a b : Bool) → (a || b) ≡ false → a ≡ false
 or_first true b e = cc

@@ -1,13 +1,8 @@
 -- The set of next hops as it grows, route by route.
-use Rattle.std.proofs.Common.{◌≡◌, ◌<◌, ◌+◌, ◌==◌, ◌||◌, ℕ, Bool, true, false, List, ap, cond, get_or, length, refl, sym, take, ◌∙◌, arith}
-use Rattle.std.specs.List.{list_any}
-use Rattle.std.specs.Ordering.{is_eq, nat_cmp}
-use Rattle.std.proofs.lemmas.Bool.Decides.{nat_tests}
-use Rattle.std.proofs.lemmas.Grind.{common_steps}
-use Rattle.std.proofs.lemmas.List.Folds.{list_any_more}
-use Rattle.pim_ip.specs.declared.addr.Addr.{Addr}
-use Rattle.pim_types.specs.declared.config.Route.{Route}
-use Rattle.pim_mrib.specs.Hops.{AreNextHops}
+use Rattle.std.{proofs.{Common.{◌≡◌, ◌<◌, ◌+◌, ◌==◌, ◌||◌, ℕ, Bool, true, false, List, ap, cond, get_or, length, refl, sym, take, ◌∙◌, arith}, lemmas.{Bool.Decides.nat_tests, Grind.common_steps, List.Folds.list_any_more}}, specs.{List.list_any, Ordering.{is_eq, nat_cmp}}}
+use Rattle.pim_ip.{specs.declared.addr.Addr.Addr}
+use Rattle.pim_types.{specs.declared.config.Route.Route}
+use Rattle.pim_mrib.{specs.Hops.AreNextHops}
 
 equal_numbers : (m n : ℕ) → is_eq (nat_cmp m n) ≡ (m == n)
 equal_numbers m n = grind (arith, nat_tests, common_steps)

@@ -1,16 +1,7 @@
 -- The longest match does not depend on the order of its candidates where no two of them tie.
-use Rattle.std.proofs.Common.{◌≡◌, ℕ, ◌-◌, ◌*◌, ◌/◌, ◌%◌, ◌^◌, ◌<◌, Bool, true, false, cond, eqb, ltb, leb, Option, Some, None, refl, sym, ap, subst, ◌∙◌, arith}
-use Rattle.std.specs.Cmp.{second_so}
-use Rattle.std.specs.declared.cmp.Ordering.{Ordering}
-use Rattle.std.specs.declared.cmp.Ordering.TheVariants.{Equal}
-use Rattle.std.proofs.lemmas.Nat.{pow_pos}
-use Rattle.std.specs.Ordering.{is_eq, nat_cmp, ordering_then}
-use Rattle.std.specs.BTreeMap.{is_at}
-use Rattle.std.proofs.lemmas.Grind.{common_steps}
-use Rattle.std.proofs.lemmas.Bool.Decides.{nat_tests}
-use Rattle.pim_ip.specs.declared.addr.Prefix.{Prefix}
-use Rattle.pim_ip.specs.Prefixes.{contains, is_host_clear, longer}
-use Rattle.pim_trie.specs.Entries.{is_canonical, prefix_cmp}
+use Rattle.std.{proofs.{Common.{◌≡◌, ℕ, ◌-◌, ◌*◌, ◌/◌, ◌%◌, ◌^◌, ◌<◌, Bool, true, false, cond, eqb, ltb, leb, Option, Some, None, refl, sym, ap, subst, ◌∙◌, arith}, lemmas.{Nat.pow_pos, Grind.common_steps, Bool.Decides.nat_tests}}, specs.{Cmp.second_so, declared.cmp.Ordering.{Ordering, TheVariants.Equal}, Ordering.{is_eq, nat_cmp, ordering_then}, BTreeMap.is_at}}
+use Rattle.pim_ip.{specs.{declared.addr.Prefix.Prefix, Prefixes.{contains, is_host_clear, longer}}}
+use Rattle.pim_trie.{specs.Entries.{is_canonical, prefix_cmp}}
 
 -- ---- two candidates change places
 

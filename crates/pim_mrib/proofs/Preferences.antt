@@ -1,22 +1,9 @@
 -- The preferences of routes have 31 bits.
-use Rattle.std.proofs.Common.{◌≡◌, ◌<◌, ◌^◌, ℕ, Bool, true, false, List, [], ◌∷◌, Option, Some, None, ap, ◌∙◌, arith}
-use Rattle.std.specs.List.{list_all}
-use Rattle.std.specs.Option.{IfSome, option_map_or}
-use Rattle.std.specs.Prelude.{nat_le, nat_lt, if◌then◌else◌, option_and_then}
-use Rattle.std.proofs.lemmas.Bool.Decides.{nat_tests}
-use Rattle.pim_ip.specs.declared.addr.Prefix.{Prefix}
-use Rattle.pim_ip.specs.Prefixes.{contains, longer, longest_match}
-use Rattle.pim_types.specs.declared.config.InterfaceConfig.{InterfaceConfig}
-use Rattle.pim_types.specs.declared.config.Route.{Route}
-use Rattle.pim_types.specs.declared.fact.InterfaceRow.{InterfaceRow}
-use Rattle.pim_types.specs.declared.path.Path.{Path}
-use Rattle.pim_types.specs.Keys.{iface_key}
-use Rattle.pim_model.specs.State.{is_own_among}
-use Rattle.pim_model.specs.Tables.{Table, has_row}
-use Rattle.pim_model.specs.Limits.{is_route}
-use Rattle.pim_model.specs.Unicast.{link_among, link_path, path_if_up, route_among, route_path, routed_among}
-use Rattle.pim_mrib.specs.Routes.{are_preferred}
-use Rattle.pim_mrib.proofs.Accepted.{all_pass, and_first, and_second, pass_each}
+use Rattle.std.{proofs.{Common.{◌≡◌, ◌<◌, ◌^◌, ℕ, Bool, true, false, List, [], ◌∷◌, Option, Some, None, ap, ◌∙◌, arith}, lemmas.Bool.Decides.nat_tests}, specs.{List.list_all, Option.{IfSome, option_map_or}, Prelude.{nat_le, nat_lt, if◌then◌else◌, option_and_then}}}
+use Rattle.pim_ip.{specs.{declared.addr.Prefix.Prefix, Prefixes.{contains, longer, longest_match}}}
+use Rattle.pim_types.{specs.{declared.{config.{InterfaceConfig.InterfaceConfig, Route.Route}, fact.InterfaceRow.InterfaceRow, path.Path.Path}, Keys.iface_key}}
+use Rattle.pim_model.{specs.{State.is_own_among, Tables.{Table, has_row}, Limits.is_route, Unicast.{link_among, link_path, path_if_up, route_among, route_path, routed_among}}}
+use Rattle.pim_mrib.{specs.Routes.are_preferred, proofs.Accepted.{all_pass, and_first, and_second, pass_each}}
 
 -- what passes a test that all members pass
 module _ {X : Type 0} (prefix_of : X → Prefix) (test : X → Bool) where

@@ -1,18 +1,10 @@
 -- Routes and RPs, by what was found on the way, and the nodes that were visited.
-use Rattle.std.proofs.Common.{◌≡◌, ℕ, true, false, List, Option, Some, None, option_map, refl, arith}
-use Rattle.pim_ip.specs.Prefixes.{longest_match}
-use Rattle.pim_types.specs.declared.config.InterfaceConfig.{InterfaceConfig}
-use Rattle.pim_types.specs.declared.config.Route.{Route}
-use Rattle.pim_types.specs.declared.config.RpRange.{RpRange}
-use Rattle.pim_types.specs.declared.fact.InterfaceRow.{InterfaceRow}
-use Rattle.pim_trie.specs.Meter.{raised}
-use Rattle.pim_model.specs.State.{is_own_among}
-use Rattle.pim_model.specs.Tables.{Table, has_row}
-use Rattle.pim_types.specs.Keys.{iface_key}
-use Rattle.pim_model.specs.Unicast.{link_among, link_path, route_among, route_path, routed_among, rp_among}
-use Rattle.pim_ip.specs.Ipv4.{is_source_specific}
-use Rattle.pim_mrib.specs.Index.{nodes_visited}
-use Rattle.pim_mrib.specs.Routes.{route_nodes, rp_nodes}
+use Rattle.std.{proofs.Common.{◌≡◌, ℕ, true, false, List, Option, Some, None, option_map, refl, arith}}
+use Rattle.pim_ip.{specs.{Prefixes.longest_match, Ipv4.is_source_specific}}
+use Rattle.pim_types.{specs.{declared.{config.{InterfaceConfig.InterfaceConfig, Route.Route, RpRange.RpRange}, fact.InterfaceRow.InterfaceRow}, Keys.iface_key}}
+use Rattle.pim_trie.{specs.Meter.raised}
+use Rattle.pim_model.{specs.{State.is_own_among, Tables.{Table, has_row}, Unicast.{link_among, link_path, route_among, route_path, routed_among, rp_among}}}
+use Rattle.pim_mrib.{specs.{Index.nodes_visited, Routes.{route_nodes, rp_nodes}}}
 
 module _ (configured : List InterfaceConfig) (up : Table InterfaceRow) (routes : List Route) (address : ℕ) where
   pub route_own : is_own_among configured address ≡ true → route_among configured up routes address ≡ None

@@ -1,9 +1,7 @@
 -- The next hops of routes as a set of addresses.
-use Rattle.std.specs.List.{list_any}
-use Rattle.std.specs.Ordering.{is_eq, nat_cmp}
-use Rattle.std.specs.Prelude.{List, ◌==◌, ◌≡◌}
-use Rattle.pim_ip.specs.declared.addr.Addr.{Addr}
-use Rattle.pim_types.specs.declared.config.Route.{Route}
+use Rattle.std.{specs.{List.list_any, Ordering.{is_eq, nat_cmp}, Prelude.{List, ◌==◌, ◌≡◌}}}
+use Rattle.pim_ip.{specs.declared.addr.Addr.Addr}
+use Rattle.pim_types.{specs.declared.config.Route.Route}
 
 -- the set has the next hops of the routes, and no other address
 abbrev pub AreNextHops : List Route → List Addr → Type 0

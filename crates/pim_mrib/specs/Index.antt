@@ -1,9 +1,7 @@
 -- A list of values under prefixes, and a trie of the same values.
-use Rattle.std.specs.Prelude.{◌≡◌, ℕ, Bool, List, map, option_map}
-use Rattle.std.specs.List.{list_any}
-use Rattle.pim_ip.specs.declared.addr.Prefix.{Prefix}
-use Rattle.pim_ip.specs.Prefixes.{longest_match}
-use Rattle.pim_trie.specs.Entries.{nodes_along}
+use Rattle.std.{specs.{Prelude.{◌≡◌, ℕ, Bool, List, map, option_map}, List.list_any}}
+use Rattle.pim_ip.{specs.{declared.addr.Prefix.Prefix, Prefixes.longest_match}}
+use Rattle.pim_trie.{specs.Entries.nodes_along}
 
 module _ {T : Type 0} (prefix_of : T → Prefix) where
   -- the value under its prefix

@@ -1,15 +1,9 @@
 -- The routes and the RP ranges as one value, and how many trie nodes a look-up visits.
-use Rattle.std.specs.List.{list_all}
-use Rattle.std.specs.Prelude.{Bool, ℕ, List, if◌then◌else◌, is_some, nat_le, ◌||◌}
-use Rattle.pim_types.specs.declared.config.InterfaceConfig.{InterfaceConfig}
-use Rattle.pim_types.specs.declared.config.Route.{Route}
-use Rattle.pim_types.specs.declared.config.RpRange.{RpRange}
-use Rattle.pim_types.specs.declared.fact.InterfaceRow.{InterfaceRow}
-use Rattle.pim_model.specs.State.{is_own_among}
-use Rattle.pim_model.specs.Tables.{Table}
-use Rattle.pim_model.specs.Unicast.{link_among}
-use Rattle.pim_ip.specs.Ipv4.{is_source_specific}
-use Rattle.pim_mrib.specs.Index.{nodes_visited}
+use Rattle.std.{specs.{List.list_all, Prelude.{Bool, ℕ, List, if◌then◌else◌, is_some, nat_le, ◌||◌}}}
+use Rattle.pim_types.{specs.declared.{config.{InterfaceConfig.InterfaceConfig, Route.Route, RpRange.RpRange}, fact.InterfaceRow.InterfaceRow}}
+use Rattle.pim_model.{specs.{State.is_own_among, Tables.Table, Unicast.link_among}}
+use Rattle.pim_ip.{specs.Ipv4.is_source_specific}
+use Rattle.pim_mrib.{specs.Index.nodes_visited}
 
 -- the unicast routes and the RP ranges, each in the order in which they were given
 pub record RouteTable : Type 0 where

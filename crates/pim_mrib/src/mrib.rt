@@ -252,7 +252,7 @@ impl Mrib {
     }
 
     /// The preference of every route has 31 bits, whichever interfaces are up.
-    pub fn recall_short_preferences(&self)
+    pub fn proof_short_preferences(&self)
         ensures { (configured : List InterfaceConfig) (up : Table InterfaceRow) (address : ℕ)
             → IfSome (route_among configured up self.now.routes address) (λ path. path.preference < 2 ^ 31) }
     {

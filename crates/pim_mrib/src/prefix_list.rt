@@ -73,7 +73,7 @@ impl<T: Prefixed> PrefixList<T> {
         self.values.as_slice()
     }
 
-    // Whether they are these values, in this order.
+    // Whether the list has these values, in this order.
     pub(crate) fn are(&self, values: &[T]) -> bool
         ensures { IsTrue result ↔ (self.now ≡ values.now) }
     {
@@ -109,7 +109,7 @@ impl<T: Prefixed> PrefixList<T> {
     }
 }
 
-// Whether they are the same values in the same order.
+// Whether two lists have the same values in the same order.
 fn are_same<T: Prefixed>(first: &[T], second: &[T]) -> bool
     ensures { IsTrue result ↔ (first.now ≡ second.now) }
 {

@@ -1,15 +1,10 @@
 -- In the first run of a network each copy has a cause.
-use Rattle.std.proofs.Common.{◌≡◌, Bool, true, false, List, ℕ, Option, None, map, Ok, Err, Result, sym, subst}
-use Rattle.std.specs.Prelude.{IfOk, if◌then◌else◌}
-use Rattle.pim_ip.specs.declared.fault.Fault.{Fault}
-use Rattle.pim_types.specs.declared.config.Config.{Config}
-use Rattle.pim_types.specs.declared.outcome.Outcome.{Outcome}
-use Rattle.std.proofs.Common.{Global, Vec}
-use Rattle.pim_asked.proofs.Networks.{network_is_asked}
-use Rattle.pim_asked.specs.Networks.{MovesAreAsked}
-use Rattle.pim_model.specs.Network.{Network, network, network_ran, nodes_test}
-use Rattle.pim_net.specs.Showing.{move_of}
-use Rattle.pim_net.specs.declared.moves.Move.{Move}
+use Rattle.std.{proofs.Common.{◌≡◌, Bool, true, false, List, ℕ, Option, None, map, Ok, Err, Result, sym, subst, Global, Vec}, specs.Prelude.{IfOk, if◌then◌else◌}}
+use Rattle.pim_ip.{specs.declared.fault.Fault.Fault}
+use Rattle.pim_types.{specs.declared.{config.Config.Config, outcome.Outcome.Outcome}}
+use Rattle.law_causes.{proofs.Networks.network_is_asked, specs.Networks.MovesAreAsked}
+use Rattle.pim_model.{specs.Network.{Network, network, network_ran, nodes_test}}
+use Rattle.pim_net.{specs.{Showing.move_of, declared.moves.Move.Move}}
 
 -- what a net that works shows
 pub shown_works : (failed : Bool) (n shown : Option Network) → (if failed then None else n) ≡ shown → failed ≡ false

@@ -1,17 +1,10 @@
 -- Moves over a wire, whichever it is.
-use Rattle.std.proofs.Common.{◌≡◌, ◌∙◌, Bool, true, false, List, Option, Some, None, Result, Ok, Err, ap, refl, subst, sym, ℕ}
-use Rattle.std.specs.Prelude.{IfOk, IsOkUnless, IsSome, OnOk, if◌then◌else◌, option_and_then, option_map}
-use Rattle.pim_ip.specs.declared.fault.Fault.{Fault}
-use Rattle.pim_types.specs.declared.config.IfaceId.{IfaceId}
-use Rattle.pim_types.specs.declared.event.Event.{Event}
-use Rattle.pim_types.specs.declared.outcome.Outcome.{Outcome}
-use Rattle.pim_model.specs.Network.{Network, Sent, Station, bad_move, event_of, frame_at, is_on_frame_link, moved, moved_at, station_at}
+use Rattle.std.{proofs.Common.{◌≡◌, ◌∙◌, Bool, true, false, List, Option, Some, None, Result, Ok, Err, ap, refl, subst, sym, ℕ}, specs.Prelude.{IfOk, IsOkUnless, IsSome, OnOk, if◌then◌else◌, option_and_then, option_map}}
+use Rattle.pim_ip.{specs.declared.fault.Fault.Fault}
+use Rattle.pim_types.{specs.declared.{config.IfaceId.IfaceId, event.Event.Event, outcome.Outcome.Outcome}}
+use Rattle.pim_model.{specs.Network.{Network, Sent, Station, bad_move, event_of, frame_at, is_on_frame_link, moved, moved_at, station_at}}
+use Rattle.pim_net.{specs.{Carried.{IsCarried, IsMove, IsMoveOf, MovesTo, bytes_of_kind, carried_packet, moved_with, port_of}, Showing.{brought_on, brought_to, move_of}, Wires.failures_after, declared.moves.Move.Move}, proofs.Events.{moved_event, moved_none, moved_some}}
 use Rattle.pim_model.specs.Network as written
-use Rattle.pim_net.specs.Carried.{IsCarried, IsMove, IsMoveOf, MovesTo, bytes_of_kind, carried_packet, moved_with, port_of}
-use Rattle.pim_net.specs.Showing.{brought_on, brought_to, move_of}
-use Rattle.pim_net.specs.Wires.{failures_after}
-use Rattle.pim_net.specs.declared.moves.Move.{Move}
-use Rattle.pim_net.proofs.Events.{moved_event, moved_none, moved_some}
 
 abbrev event_bytes : ℕ × Event → List ℕ
 event_bytes e = bytes_of_kind (e.1).kind

@@ -1,9 +1,8 @@
 -- Deliveries as events.
-use Rattle.std.proofs.Common.{◌≡◌, ℕ, Bool, true, Option, Some, None, refl, ap}
-use Rattle.std.specs.Prelude.{IfSome, if◌then◌else◌, is_some, option_map}
-use Rattle.pim_types.specs.declared.event.Event.{Event}
-use Rattle.pim_model.specs.Network.{At, Deliver, DeliverUnicast, Move, Network, Sent, Station, bad_move, event_of, frame_at, is_on_frame_link, moved, moved_at, station_at}
-use Rattle.pim_net.specs.Showing.{brought_on, brought_to}
+use Rattle.std.{proofs.Common.{◌≡◌, ℕ, Bool, true, Option, Some, None, refl, ap}, specs.Prelude.{IfSome, if◌then◌else◌, is_some, option_map}}
+use Rattle.pim_types.{specs.declared.event.Event.Event}
+use Rattle.pim_model.{specs.Network.{At, Deliver, DeliverUnicast, Move, Network, Sent, Station, bad_move, event_of, frame_at, is_on_frame_link, moved, moved_at, station_at}}
+use Rattle.pim_net.{specs.Showing.{brought_on, brought_to}}
 
 module _ (net : Network) (r k w : ℕ) where
   pub no_station : (i : ℕ) → station_at net r ≡ None

@@ -1,11 +1,8 @@
 -- The fault of one station of a network.
-use Rattle.std.proofs.Common.{◌≡◌, ℕ, true, List, Option, Some, None, Result}
-use Rattle.std.specs.List.{slice_get}
-use Rattle.std.specs.Prelude.{IfSome, IsOkUnless, is_some}
-use Rattle.pim_ip.specs.declared.fault.Fault.{Fault}
-use Rattle.pim_model.specs.Network.{Network, Sent, Station}
-use Rattle.pim_net.proofs.Lookups.{Shows}
-use Rattle.pim_net.proofs.Stations.{one_there}
+use Rattle.std.{proofs.Common.{◌≡◌, ℕ, true, List, Option, Some, None, Result}, specs.{List.slice_get, Prelude.{IfSome, IsOkUnless, is_some}}}
+use Rattle.pim_ip.{specs.declared.fault.Fault.Fault}
+use Rattle.pim_model.{specs.Network.{Network, Sent, Station}}
+use Rattle.pim_net.{proofs.{Lookups.Shows, Stations.one_there}}
 
 fault_of : {T : Type 0} (o : Result T Fault) (s : Option Station) → is_some s ≡ true
     → IfSome s (λ st. IsOkUnless o Fault.Memory) → IsOkUnless o Fault.Memory

@@ -1,13 +1,7 @@
 -- Stations and frames by their numbers.
-use Rattle.std.proofs.Common.{◌≡◌, ◌∙◌, ◌≤◌, ◌-◌, ℕ, suc, zero, List, Option, Some, None, refl, sym, ap, Bor, arith}
-use Rattle.std.proofs.lemmas.Option.{slice_get_past, slice_get_read}
-use Rattle.std.specs.List.{slice_get}
-use Rattle.std.specs.Option.{option_copied}
-use Rattle.std.specs.Prelude.{IfNone, IfSome, IsSome, option_map}
-use Rattle.std.specs.Slice.{IsItemAt}
-use Rattle.pim_model.specs.Network.{Network, Sent, Station, frame_at, station_at}
-use Rattle.pim_net.specs.Showing.{all_of}
-use Rattle.pim_net.proofs.Stations.{none_there, one_there}
+use Rattle.std.{proofs.{Common.{◌≡◌, ◌∙◌, ◌≤◌, ◌-◌, ℕ, suc, zero, List, Option, Some, None, refl, sym, ap, Bor, arith}, lemmas.Option.{slice_get_past, slice_get_read}}, specs.{List.slice_get, Option.option_copied, Prelude.{IfNone, IfSome, IsSome, option_map}, Slice.IsItemAt}}
+use Rattle.pim_model.{specs.Network.{Network, Sent, Station, frame_at, station_at}}
+use Rattle.pim_net.{specs.Showing.all_of, proofs.Stations.{none_there, one_there}}
 
 abbrev pub shown : List (Option Station) → List Sent → Option Network
 shown stations frames = option_map (λ ss. record { stations = ss; frames = frames }) (all_of stations)

@@ -1,18 +1,10 @@
 -- The nodes of a network, opened one after the other.
-use Rattle.std.proofs.Common.{◌≡◌, ◌∙◌, ◌≤◌, ◌<◌, ◌+◌, ◌*◌, ◌&&◌, ℕ, suc, Bool, true, false, List, [], ◌∷◌, ◌++◌, length, map, Option, Some, Result, Ok, Err, refl, sym, ap, arith, append_assoc, append-nil, length-append, nat_le}
-use Rattle.std.proofs.lemmas.Bool.Decides.{nat_tests}
-use Rattle.std.specs.List.{list_all}
-use Rattle.pim_ip.specs.Tests.{expect, ◌>>◌}
-use Rattle.pim_ip.specs.declared.refusal.Refusal.{Refusal}
-use Rattle.pim_types.specs.declared.config.Config.{Config}
-use Rattle.pim_model.specs.Limits.{config_test}
-use Rattle.pim_model.specs.Network.{Sent, Station, configs_test, is_node, most_routers, network, nodes_test, station_of}
-use Rattle.pim_laws.proofs.Accepted.{few_interfaces}
-use Rattle.pim_net.specs.Ports.{first_ports, ports_from}
-use Rattle.pim_net.specs.Showing.{all_of, node_of}
-use Rattle.pim_net.specs.declared.node.Node.{Node}
-use Rattle.pim_net.proofs.Lookups.{shown}
-use Rattle.pim_net.proofs.Stations.{all_there}
+use Rattle.std.{proofs.{Common.{◌≡◌, ◌∙◌, ◌≤◌, ◌<◌, ◌+◌, ◌*◌, ◌&&◌, ℕ, suc, Bool, true, false, List, [], ◌∷◌, ◌++◌, length, map, Option, Some, Result, Ok, Err, refl, sym, ap, arith, append_assoc, append-nil, length-append, nat_le}, lemmas.Bool.Decides.nat_tests}, specs.List.list_all}
+use Rattle.pim_ip.{specs.{Tests.{expect, ◌>>◌}, declared.refusal.Refusal.Refusal}}
+use Rattle.pim_types.{specs.declared.config.Config.Config}
+use Rattle.pim_model.{specs.{Limits.config_test, Network.{Sent, Station, configs_test, is_node, most_routers, network, nodes_test, station_of}}}
+use Rattle.law_settled.{proofs.Accepted.few_interfaces}
+use Rattle.pim_net.{specs.{Ports.{first_ports, ports_from}, Showing.{all_of, node_of}, declared.node.Node.Node}, proofs.{Lookups.shown, Stations.all_there}}
 
 abbrev pub configs_of : List Node → List Config
 configs_of nodes = map (λ (n : Node). n.config) nodes

@@ -1,22 +1,11 @@
 -- A router of a network that gets another configuration.
-use Rattle.std.proofs.Common.{◌≡◌, ◌∙◌, ◌≤◌, ◌++◌, ℕ, true, false, List, length, map, Option, Some, None, Result, Ok, Err, refl, sym, ap, arith}
-use Rattle.std.proofs.lemmas.Bool.Decides.{nat_tests}
-use Rattle.std.proofs.lemmas.List.{set-get_or}
-use Rattle.std.proofs.lemmas.Option.{get_or_from_slice_get, slice_get_past}
-use Rattle.std.specs.List.{slice_get}
-use Rattle.std.specs.Prelude.{IfOk, IfSome, IsOkUnless, OnOk, is_some, set}
-use Rattle.pim_ip.specs.declared.fault.Fault.{Fault}
-use Rattle.pim_ip.specs.declared.refusal.Refusal.{Refusal}
-use Rattle.pim_types.specs.declared.config.Config.{Config}
-use Rattle.pim_types.specs.declared.outcome.{Emission.Emission, Outcome.Outcome}
-use Rattle.pim_model.specs.Limits.{config_test}
-use Rattle.pim_model.specs.Network.{Network, Sent, Station, bad_move, is_node, sent_by, station_at}
-use Rattle.pim_reloaded.specs.Reloading.{reload}
-use Rattle.pim_net.specs.Reloading.{done_with, node_test, refused_as, reloaded, reloaded_at, reloaded_if}
-use Rattle.pim_net.specs.Showing.{all_of}
-use Rattle.pim_net.proofs.Lookups.{Shows, shown}
-use Rattle.pim_laws.proofs.Accepted.{few_interfaces}
-use Rattle.pim_net.proofs.Stations.{none_there, of_some, one_replaced, one_there}
+use Rattle.std.{proofs.{Common.{◌≡◌, ◌∙◌, ◌≤◌, ◌++◌, ℕ, true, false, List, length, map, Option, Some, None, Result, Ok, Err, refl, sym, ap, arith}, lemmas.{Bool.Decides.nat_tests, List.set-get_or, Option.{get_or_from_slice_get, slice_get_past}}}, specs.{List.slice_get, Prelude.{IfOk, IfSome, IsOkUnless, OnOk, is_some, set}}}
+use Rattle.pim_ip.{specs.declared.{fault.Fault.Fault, refusal.Refusal.Refusal}}
+use Rattle.pim_types.{specs.declared.{config.Config.Config, outcome.{Emission.Emission, Outcome.Outcome}}}
+use Rattle.pim_model.{specs.{Limits.config_test, Network.{Network, Sent, Station, bad_move, is_node, sent_by, station_at}}}
+use Rattle.law_reloaded.{specs.Reloading.reload}
+use Rattle.pim_net.{specs.{Reloading.{done_with, node_test, refused_as, reloaded, reloaded_at, reloaded_if}, Showing.all_of}, proofs.{Lookups.{Shows, shown}, Stations.{none_there, of_some, one_replaced, one_there}}}
+use Rattle.law_settled.{proofs.Accepted.few_interfaces}
 
 abbrev Test : Type 0
 Test = Result (Unit {0}) Refusal

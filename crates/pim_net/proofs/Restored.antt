@@ -1,18 +1,10 @@
 -- A router that is put into a saved state.
-use Rattle.std.proofs.Common.{◌≡◌, ◌∙◌, ℕ, Bool, true, false, List, Option, Some, None, Result, Ok, Err, ap, refl}
-use Rattle.std.specs.List.{slice_get}
-use Rattle.std.specs.Prelude.{IfOk, IfSome, OnErr, OnOk, if◌then◌else◌, is_some, option_map, set}
-use Rattle.pim_ip.specs.declared.fault.Fault.{Fault}
-use Rattle.pim_model.specs.Network.{Network, Sent, Station, station_at}
-use Rattle.pim_model.specs.State.{State}
-use Rattle.pim_rested.specs.Resuming.{read_test, restore_test}
-use Rattle.pim_router.specs.Standing.{Shown, Standing, begun}
-use Rattle.pim_saved.specs.Reading.{reading}
-use Rattle.pim_saved.specs.declared.refusal.SavedRefusal.{SavedRefusal}
-use Rattle.pim_net.specs.Showing.{Wired, all_of, with_state_at}
-use Rattle.pim_net.specs.declared.unrestored.Unrestored.{Unrestored}
-use Rattle.pim_net.proofs.Lookups.{Shows, shown, shows}
-use Rattle.pim_net.proofs.Stations.{if_some, one_replaced, one_there}
+use Rattle.std.{proofs.Common.{◌≡◌, ◌∙◌, ℕ, Bool, true, false, List, Option, Some, None, Result, Ok, Err, ap, refl}, specs.{List.slice_get, Prelude.{IfOk, IfSome, OnErr, OnOk, if◌then◌else◌, is_some, set}}}
+use Rattle.pim_ip.{specs.declared.fault.Fault.Fault}
+use Rattle.pim_model.{specs.{Network.{Network, Sent, Station, station_at}, State.State}}
+use Rattle.pim_rested.{specs.Resuming.{read_test, restore_test}}
+use Rattle.pim_saved.{specs.{Reading.reading, declared.refusal.SavedRefusal.SavedRefusal}}
+use Rattle.pim_net.{specs.{Showing.{Wired, all_of, with_state_at}, declared.unrestored.Unrestored.Unrestored}, proofs.{Lookups.{Shows, shown, shows}, Stations.{if_some, one_replaced, one_there}}}
 
 -- bytes that pass all tests say a state
 pub read_as : (bytes : List ℕ) → restore_test bytes ≡ Ok tt → (s : State) × (reading bytes ≡ Ok s)
@@ -21,18 +13,6 @@ read_as bytes passes = go (reading bytes) refl passes
     go : (r : Result State SavedRefusal) → reading bytes ≡ r → read_test r ≡ Ok tt → (s : State) × (reading bytes ≡ Ok s)
     go (Ok s) is passes = (s, is)
     go (Err refusal) is passes = absurd cc
-
-abbrev pub standing_at : List ℕ → Option Standing → Option Station
-standing_at links o = option_map (λ (r : Standing). record { links = links; state = r.state }) o
-
--- a station with another router
-pub station_put : (links bytes : List ℕ) (old : Option Standing) (fresh : Shown)
-    → ((s : State) × (reading bytes ≡ Ok s) × (fresh ≡ begun s))
-    → (s : State) × (reading bytes ≡ Ok s)
-    × IfSome (standing_at links old) (λ st. standing_at links fresh.standing ≡ Some (record st { state = s }))
-station_put links bytes None fresh made = (made.0, made.1, tt)
-station_put links bytes (Some r) fresh made =
-    (made.0, made.1, ap (λ (f : Shown). standing_at links f.standing) made.2)
 
 module _ (stations : List (Option Station)) (frames : List Sent) (net : Network) (is : Shows stations frames net) (r : ℕ)
     (state : State) where

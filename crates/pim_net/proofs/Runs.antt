@@ -1,15 +1,8 @@
 -- Moves, one after the other.
-use Rattle.std.proofs.Common.{◌≡◌, ◌∙◌, ◌≤◌, ◌<◌, ◌+◌, ℕ, suc, zero, Bool, true, List, [], ◌∷◌, ◌++◌, length, map, take, Option, Some, refl, sym, subst, ap, arith, get_or, add-one}
-use Rattle.std.proofs.Math.Seq.{take-suc}
-use Rattle.std.proofs.lemmas.Option.{slice_get_read}
-use Rattle.std.specs.Prelude.{IfSome, IsSome, option_and_then}
-use Rattle.pim_types.specs.declared.outcome.Outcome.{Outcome}
-use Rattle.pim_model.specs.Network.{Network, network_ran}
-use Rattle.pim_net.specs.Carried.{AreMoves, HasMoved, IsMove, IsPartWay, MovesTo, carried_packet}
-use Rattle.pim_net.specs.Showing.{move_of}
-use Rattle.pim_net.specs.declared.moves.Move.{Move}
-use Rattle.pim_net.proofs.Carries.{is_written}
-use Rattle.pim_net.proofs.Stations.{of_some}
+use Rattle.std.{proofs.{Common.{◌≡◌, ◌∙◌, ◌≤◌, ◌<◌, ◌+◌, ℕ, suc, zero, Bool, true, List, [], ◌∷◌, ◌++◌, length, map, take, Option, Some, refl, sym, subst, ap, arith, get_or, add-one}, Math.Seq.take-suc, lemmas.Option.slice_get_read}, specs.Prelude.{IfSome, IsSome, option_and_then}}
+use Rattle.pim_types.{specs.declared.outcome.Outcome.Outcome}
+use Rattle.pim_model.{specs.Network.{Network, network_ran}}
+use Rattle.pim_net.{specs.{Carried.{AreMoves, HasMoved, IsMove, IsPartWay, MovesTo, carried_packet}, Showing.move_of, declared.moves.Move.Move}, proofs.{Carries.is_written, Stations.of_some}}
 
 taken : (ms : List Move) (i : ℕ) (m : Move) → i < length ms → m ≡ get_or ms i m → take (i + 1) ms ≡ take i ms ++ m ∷ []
 taken ms i m lt is =

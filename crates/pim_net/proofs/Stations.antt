@@ -1,8 +1,6 @@
 -- What is shown of a list of stations: reads and writes of one of them.
-use Rattle.std.proofs.Common.{◌≡◌, ◌∙◌, ℕ, suc, zero, true, List, [], ◌∷◌, map, Option, Some, None, Result, Ok, Err, refl, sym, ap, subst}
-use Rattle.std.specs.List.{slice_get}
-use Rattle.std.specs.Prelude.{IfErr, IfNone, IfOk, IfSome, IsErrAnd, is_some, option_and_then, option_map, set}
-use Rattle.pim_net.specs.Showing.{all_of}
+use Rattle.std.{proofs.Common.{◌≡◌, ◌∙◌, ℕ, suc, zero, true, List, [], ◌∷◌, map, Option, Some, None, Result, Ok, Err, refl, sym, ap, subst}, specs.{List.slice_get, Prelude.{IfErr, IfNone, IfOk, IfSome, IsErrAnd, is_some, option_and_then, option_map, set}}}
+use Rattle.pim_net.{specs.Showing.all_of}
 
 -- what is to be shown of a value is, where there is one
 pub if_some : {A : Type 0} (o : Option A) (P : A → Type 0) → ((x : A) → o ≡ Some x → P x) → IfSome o P

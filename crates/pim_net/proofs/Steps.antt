@@ -1,16 +1,9 @@
 -- An event at a station of a network.
-use Rattle.std.proofs.Common.{◌≡◌, ◌∙◌, ◌≤◌, ◌++◌, ℕ, true, List, length, map, Option, Some, None, Result, Ok, Err, refl, sym, ap}
-use Rattle.std.proofs.lemmas.Option.{slice_get_past}
-use Rattle.std.specs.List.{slice_get}
-use Rattle.std.specs.Prelude.{IfOk, IfSome, IsOkUnless, OnOk, is_some, set}
-use Rattle.pim_ip.specs.declared.fault.Fault.{Fault}
-use Rattle.pim_types.specs.declared.event.Event.{Event}
-use Rattle.pim_types.specs.declared.outcome.Outcome.{Outcome}
-use Rattle.pim_model.specs.Network.{Network, Sent, Station, bad_move, moved_at, sent_by, station_at, stepped}
-use Rattle.pim_model.specs.Step.{outcome_of, step}
-use Rattle.pim_net.specs.Showing.{all_of}
-use Rattle.pim_net.proofs.Lookups.{Shows, shown}
-use Rattle.pim_net.proofs.Stations.{none_there, of_some, one_replaced, one_there}
+use Rattle.std.{proofs.{Common.{◌≡◌, ◌∙◌, ◌≤◌, ◌++◌, ℕ, true, List, length, map, Option, Some, None, Result, Ok, Err, refl, sym, ap}, lemmas.Option.slice_get_past}, specs.{List.slice_get, Prelude.{IfOk, IfSome, IsOkUnless, OnOk, is_some, set}}}
+use Rattle.pim_ip.{specs.declared.fault.Fault.Fault}
+use Rattle.pim_types.{specs.declared.{event.Event.Event, outcome.Outcome.Outcome}}
+use Rattle.pim_model.{specs.{Network.{Network, Sent, Station, bad_move, moved_at, sent_by, station_at, stepped}, Step.{outcome_of, step}}}
+use Rattle.pim_net.{specs.Showing.all_of, proofs.{Lookups.{Shows, shown}, Stations.{none_there, of_some, one_replaced, one_there}}}
 
 module _ (stations : List (Option Station)) (frames : List Sent) (net : Network) (is : Shows stations frames net) (r : ℕ)
     (e : Event) where

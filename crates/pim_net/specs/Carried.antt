@@ -1,13 +1,10 @@
 -- What moves require of a wire, whichever it is, and what the network becomes by what the wire returns.
-use Rattle.std.specs.Option.{option_map_or}
-use Rattle.std.specs.Prelude.{Bool, IsSome, List, None, Option, Some, [], get_or, length, option_and_then, option_map, slice_get, take, true, ℕ, ◌+◌, ◌<◌, ◌≡◌, ◌∷◌}
-use Rattle.pim_types.specs.declared.event.Event.{Event}
-use Rattle.pim_types.specs.declared.event.EventKind.{EventKind}
-use Rattle.pim_types.specs.declared.outcome.Outcome.{Outcome}
-use Rattle.pim_model.specs.Network.{Network, Station, event_of, moved, moved_at, station_at}
-use Rattle.pim_net.specs.Showing.{brought_on, brought_to, move_of}
-use Rattle.pim_net.specs.declared.moves.Move.{Move}
+use Rattle.std.{specs.{Option.option_map_or, Prelude.{Bool, IsSome, List, None, Option, Some, [], get_or, length, option_and_then, option_map, slice_get, take, true, ℕ, ◌+◌, ◌<◌, ◌≡◌, ◌∷◌}}}
+use Rattle.pim_types.{specs.declared.{event.{Event.Event, EventKind.EventKind}, outcome.Outcome.Outcome}}
+use Rattle.pim_model.{specs.Network.{Network, Station, event_of, moved, moved_at, station_at}}
+use Rattle.pim_net.{specs.{Showing.{brought_on, brought_to, move_of}, declared.moves.Move.Move}}
 
+-- the bytes of the packet that an event brings
 abbrev pub bytes_of_kind : EventKind → List ℕ
 bytes_of_kind (EventKind.Frame iface bytes) = bytes
 bytes_of_kind (EventKind.Unicast bytes) = bytes
@@ -27,6 +24,7 @@ moved_with n (Move.Event router event) bytes = moved_at n (router, event)
 moved_with n (Move.Deliver router iface frame draw) bytes = moved_at n (router, brought_on iface.number draw bytes)
 moved_with n (Move.DeliverUnicast router frame draw) bytes = moved_at n (router, brought_to draw bytes)
 
+-- the number of links of a router of a network
 abbrev pub link_count : Network → ℕ → ℕ
 link_count n r = option_map_or (λ (s : Station). length s.links) (station_at n r) 0
 
@@ -65,6 +63,7 @@ module _ {W : Type 0} (is_faithful : Bool) (sends : W → ℕ → List ℕ → W
     IsMoveOf None n before m o next after = ((o, next) ≡ moved n (move_of m)) × (after ≡ before)
     IsMoveOf (Some packet) n before m o next after = IsDelivery n before m packet o next after
 
+    -- A move over a wire does what the network does, with the packet that the wire gives.
     abbrev pub IsMove : Network → W → Move → Outcome → Network → W → Type 0
     IsMove n before m o next after = IsMoveOf (carried_packet n m) n before m o next after
 

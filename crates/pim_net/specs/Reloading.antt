@@ -1,14 +1,9 @@
 -- A router of a network that gets another configuration.
-use Rattle.std.specs.Option.{option_map_or}
-use Rattle.std.specs.Prelude.{Err, List, Ok, Result, [], map, set, ℕ, ◌++◌}
-use Rattle.pim_ip.specs.Tests.{expect, ◌>>◌}
-use Rattle.pim_ip.specs.declared.refusal.Refusal.{Refusal}
-use Rattle.pim_types.specs.declared.config.Config.{Config}
-use Rattle.pim_types.specs.declared.outcome.{Emission.Emission, Outcome.Outcome, Verdict.Verdict}
-use Rattle.pim_model.specs.Limits.{config_test}
-use Rattle.pim_model.specs.Network.{Network, Station, bad_move, is_node, sent_by, station_at}
-use Rattle.pim_model.specs.State.{State}
-use Rattle.pim_reloaded.specs.Reloading.{reload}
+use Rattle.std.{specs.{Option.option_map_or, Prelude.{Err, List, Ok, Result, [], map, set, ℕ, ◌++◌}}}
+use Rattle.pim_ip.{specs.{Tests.{expect, ◌>>◌}, declared.refusal.Refusal.Refusal}}
+use Rattle.pim_types.{specs.declared.{config.Config.Config, outcome.{Emission.Emission, Outcome.Outcome, Verdict.Verdict}}}
+use Rattle.pim_model.{specs.{Limits.config_test, Network.{Network, Station, bad_move, is_node, sent_by, station_at}, State.State}}
+use Rattle.law_reloaded.{specs.Reloading.reload}
 
 -- the first refusal of a configuration with its links
 unfoldable pub node_test : Config × List ℕ → Result (Unit {0}) Refusal
@@ -18,7 +13,7 @@ node_test node = expect (is_node node) Refusal.BadScenario >> config_test node.0
 abbrev pub refused_as : Refusal → Outcome
 refused_as refusal = record { answer = Err refusal; emissions = []; copies = 0 }
 
--- the outcome of one that isn't
+-- the outcome of a reload that isn't refused
 abbrev pub done_with : List Emission → Outcome
 done_with sent = record { answer = Ok Verdict.Done; emissions = sent; copies = 0 }
 
@@ -33,12 +28,12 @@ reloaded n r draw node st =
       },
     )
 
--- the same, unless the configuration is refused
+-- a reload of the router of a station, unless the configuration is refused
 abbrev pub reloaded_if : Result (Unit {0}) Refusal → Network → ℕ → ℕ → Config × List ℕ → Station → Outcome × Network
 reloaded_if (Ok done) n r draw node st = reloaded n r draw node st
 reloaded_if (Err refusal) n r draw node st = (refused_as refusal, n)
 
--- the same of a router, counted from 0
+-- a reload of a router of the network by its number, from 0
 unfoldable pub reloaded_at : Network → ℕ → ℕ → Config × List ℕ → Outcome × Network
 reloaded_at n r draw node =
     option_map_or (reloaded_if (node_test node) n r draw node) (station_at n r) (bad_move, n)

@@ -1,25 +1,23 @@
 -- What a network shows: the network of the specification, and its wire.
-use Rattle.std.specs.Option.{option_map_or}
-use Rattle.std.specs.Prelude.{List, Option, Some, [], option_and_then, option_map, set, ℕ, ◌∷◌}
-use Rattle.pim_types.specs.declared.config.Config.{Config}
-use Rattle.pim_types.specs.declared.event.Event.{Event}
-use Rattle.pim_types.specs.declared.event.EventKind.{EventKind}
-use Rattle.pim_model.specs.Network.{Network, Station, station_at}
+use Rattle.std.{specs.{Option.option_map_or, Prelude.{List, Option, Some, [], option_and_then, option_map, set, ℕ, ◌∷◌}}}
+use Rattle.pim_types.{specs.declared.{config.Config.Config, event.{Event.Event, EventKind.EventKind}}}
+use Rattle.pim_model.{specs.{Network.{Network, Station, station_at}, State.State}}
+pub use Rattle.pim_router.{specs.Standing.Standing}
+use Rattle.pim_net.{specs.declared.{node.Node.Node, moves.Move.Move}}
 use Rattle.pim_model.specs.Network as written
-use Rattle.pim_model.specs.State.{State}
+
 -- how a router of the network stands, for those who read it
-pub use Rattle.pim_router.specs.Standing.{Standing}
-use Rattle.pim_net.specs.declared.node.Node.{Node}
-use Rattle.pim_net.specs.declared.moves.Move.{Move}
 
 -- The list of all values, if each is there.
 unfoldable pub all_of : {A : Type 0} → List (Option A) → Option (List A)
 all_of [] = Some []
 all_of (x ∷ xs) = option_and_then (λ y. option_map (λ ys. y ∷ ys) (all_of xs)) x
 
+-- a node as its configuration and its links
 abbrev pub node_of : Node → Config × List ℕ
 node_of n = (n.config, n.links)
 
+-- a move of the code as one of the specification
 abbrev pub move_of : Move → written.Move
 move_of (Move.Event router event) = written.At router event
 move_of (Move.Deliver router iface frame draw) = written.Deliver router iface.number frame draw
@@ -29,6 +27,7 @@ move_of (Move.DeliverUnicast router frame draw) = written.DeliverUnicast router 
 abbrev pub brought_on : ℕ → ℕ → List ℕ → Event
 brought_on i draw bytes = record { draw = draw; kind = EventKind.Frame (record { number = i }) bytes }
 
+-- the event by which a unicast packet comes to a router
 abbrev pub brought_to : ℕ → List ℕ → Event
 brought_to draw bytes = record { draw = draw; kind = EventKind.Unicast bytes }
 

@@ -1,6 +1,6 @@
 -- The failures of a wire.
-use Rattle.std.specs.Prelude.{Err, Ok, Result, min, ℕ, ⊤, ◌+◌, ◌<◌, ◌≡◌, ◌⊎◌}
-use Rattle.pim_ip.specs.declared.fault.Fault.{Fault}
+use Rattle.std.{specs.Prelude.{Err, Ok, Result, min, ℕ, ⊤, ◌+◌, ◌<◌, ◌≡◌, ◌⊎◌}}
+use Rattle.pim_ip.{specs.declared.fault.Fault.Fault}
 
 -- the count at which a wire stops counting
 abbrev pub most_failures : ℕ

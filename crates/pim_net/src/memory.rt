@@ -54,7 +54,7 @@ impl Wire for MemoryWire {
         Ok(())
     }
 
-    /// Where there is no packet for the port, it has no bytes.
+    /// Takes the packet for the port. Where there is none, no bytes are received.
     fn recv(&mut self, port: u32, buffer: &mut [u8]) -> Result<usize, Fault> {
         if self.port != port {
             return Ok(0);

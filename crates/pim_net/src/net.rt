@@ -1,7 +1,7 @@
 //! A network over a wire: moves in, outcomes out.
 ghost use Rattle.std.specs.Prelude.{Err, IfErr, IfNone, IfOk, IfSome, IsOk, IsOkUnless, IsSome, List, None, Ok, OnErr, OnOk, Some, [], get_or, is_some, map, option_map, true, ℕ, ◌↔◌, ◌≡◌};
 ghost use Rattle.pim_ip.specs.declared.fault.Fault.{Fault};
-ghost use Rattle.pim_asked.specs.Networks.{MovesAreAsked};
+ghost use Rattle.law_causes.specs.Networks.{MovesAreAsked};
 ghost use Rattle.pim_model.specs.Network.{network, network_ran, nodes_test};
 ghost use Rattle.pim_net.specs.Carried.{HasMoved, IsCarried, IsPartWay, MovesTo, carried_packet};
 ghost use Rattle.pim_net.specs.Ports.{first_ports};

@@ -11,7 +11,7 @@ ghost use Rattle.pim_net.specs.Carried.{link_count};
 ghost use Rattle.pim_net.specs.Ports.{first_ports};
 ghost use Rattle.pim_net.specs.Reloading.{done_with, node_test, refused_as, reloaded_at};
 ghost use Rattle.pim_model.specs.State.{State};
-ghost use Rattle.pim_reloaded.specs.Reloading.{reload};
+ghost use Rattle.law_reloaded.specs.Reloading.{reload};
 ghost use Rattle.pim_rested.specs.Resuming.{restore_test};
 ghost use Rattle.pim_rested.specs.declared.refusal.RestoreRefusal.{RestoreRefusal};
 ghost use Rattle.pim_saved.specs.Reading.{reading};

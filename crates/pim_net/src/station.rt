@@ -5,7 +5,7 @@ ghost use Rattle.pim_model.specs.Limits.{config_test, most_ifaces};
 ghost use Rattle.pim_model.specs.Network.{is_on_frame_link, sent_by, station_of};
 ghost use Rattle.pim_model.specs.Step.{outcome_of, step};
 ghost use Rattle.pim_model.specs.State.{State};
-ghost use Rattle.pim_reloaded.specs.Reloading.{reload};
+ghost use Rattle.law_reloaded.specs.Reloading.{reload};
 ghost use Rattle.pim_rested.specs.Resuming.{restore_test};
 ghost use Rattle.pim_rested.specs.declared.refusal.RestoreRefusal.{RestoreRefusal};
 ghost use Rattle.pim_router.specs.Standing.{begun};

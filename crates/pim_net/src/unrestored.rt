@@ -4,7 +4,7 @@ use pim_rested::RestoreRefusal;
 /// Why a router of a network isn't put into a saved state.
 #[derive(Clone, Copy, PartialEq, Eq, Debug)]
 pub enum Unrestored {
-    /// There is no such router.
+    /// The network has no such router.
     NoRouter,
     /// No router is made of the bytes.
     Bytes(RestoreRefusal),

@@ -5,10 +5,10 @@ ghost use Rattle.pim_rows.specs.Printed.{active_line, register_name, upstream_li
 use crate::line::Printed;
 use pim_rows::Row;
 use pim_rows::table::RegisterName;
+use pim_state::World;
 use pim_store::JoinTimerRows;
 use pim_types::Key;
 use pim_types::fact::{RegisterRow, RegisterState, SourceRow};
-use pim_world::World;
 use std::alloc::{AllocError, Global};
 use std::collections::btree_map::Iter;
 
@@ -64,7 +64,7 @@ fn active_row(world: &World, key: Key, row: &SourceRow) -> Row
     }
 }
 
-/// The sources, with their registers.
+/// The rows of the sources, with their registers.
 pub fn active(world: &World, alloc: Global) -> Result<Vec<Row>, AllocError>
     ensures { IfOk result (λ rows. rows.items ≡ map (active_line world.now) world.now.sources) }
 {

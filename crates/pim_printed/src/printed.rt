@@ -5,8 +5,8 @@ ghost use Rattle.pim_rows.specs.Printed.{rows};
 use crate::facts::{active, lines, timer_lines};
 use crate::trees::trees;
 use pim_rows::{Row, Table};
+use pim_state::World;
 use pim_trie::Meter;
-use pim_world::World;
 use std::alloc::{AllocError, Global};
 
 /// The rows of a table, ascending by their keys. The meter rises by the nodes visited. An error is want of memory.

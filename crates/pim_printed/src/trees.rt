@@ -7,9 +7,9 @@ ghost use Rattle.pim_printed.specs.Trees.{lines_of_group};
 
 use pim_macros::{SourceSight, StarSight};
 use pim_rows::Row;
+use pim_state::World;
 use pim_trie::Meter;
 use pim_types::{Addr, TreeState};
-use pim_world::World;
 use std::alloc::{AllocError, Global};
 
 /// The (S,G,rpt) states of the sources with a fact, where their group is joined. The meter rises by the nodes visited.

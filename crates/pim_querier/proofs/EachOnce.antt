@@ -1,17 +1,9 @@
 -- The rows of a table that pass a test, changed key by key: each key is listed once, so each row is changed once.
-use Rattle.std.proofs.Common.{◌≡◌, Bool, true, false, cond, [], ◌∷◌, map, Option, Some, None, option_map, refl, ap, ◌∙◌}
-use Rattle.std.specs.List.{AllByRecursion, cons_option, filter, filter_map}
-use Rattle.std.specs.List.Sorted.{IsStrictlySortedBy}
-use Rattle.std.specs.Ordering.{is_eq}
-use Rattle.std.specs.Prelude.{if◌then◌else◌}
-use Rattle.std.specs.declared.cmp.Ordering.TheVariants.{Less}
-use Rattle.pim_types.specs.declared.fact.Key.{Key}
-use Rattle.pim_types.specs.Keys.{key_cmp, same_key}
-use Rattle.pim_types.proofs.Keys.{same_key_same}
-use Rattle.pim_model.specs.Tables.{Table, change_row, changed_entry, keys_in}
-use Rattle.pim_laws.proofs.ListLaws.{each_filter}
-use Rattle.pim_laws.proofs.RowLaws.{same_key_swap}
-use Rattle.pim_querier.specs.Changes.{each_changed}
+use Rattle.std.{proofs.Common.{◌≡◌, Bool, true, false, cond, [], ◌∷◌, map, Option, Some, None, option_map, refl, ap, ◌∙◌}, specs.{List.{AllByRecursion, cons_option, filter, filter_map, Sorted.IsStrictlySortedBy}, Ordering.is_eq, Prelude.if◌then◌else◌, declared.cmp.Ordering.TheVariants.Less}}
+use Rattle.pim_types.{specs.{declared.fact.Key.Key, Keys.{key_cmp, same_key}}, proofs.Keys.same_key_same}
+use Rattle.pim_model.{specs.Tables.{Table, change_row, changed_entry, keys_in}}
+use Rattle.law_settled.{proofs.{ListLaws.each_filter, RowLaws.same_key_swap}}
+use Rattle.pim_querier.{specs.Changes.each_changed}
 
 module _ {R : Type 0} where
   -- the keys differ from this one

@@ -1,12 +1,8 @@
 -- The values and the end of a querier that is elected.
-use Rattle.std.proofs.Common.{◌≡◌, ℕ, ◌+◌, ◌*◌, ◌/◌, sym, ap, ◌∙◌, arith}
-use Rattle.pim_types.specs.declared.fact.QuerierRole.{QuerierRole}
-use Rattle.pim_types.specs.declared.fact.QuerierRow.{QuerierRow}
-use Rattle.pim_types.specs.Keys.{iface_key, is_on}
-use Rattle.pim_model.specs.Querier.{given_or, other_querier_interval, querier_elected, query_interval, robustness}
-use Rattle.pim_model.specs.State.{State}
-use Rattle.pim_model.specs.Tables.{drop_where, put}
-use Rattle.pim_laws.proofs.RowLaws.{row_put}
+use Rattle.std.{proofs.Common.{◌≡◌, ℕ, ◌+◌, ◌*◌, ◌/◌, sym, ap, ◌∙◌, arith}}
+use Rattle.pim_types.{specs.{declared.fact.{QuerierRole.QuerierRole, QuerierRow.QuerierRow}, Keys.{iface_key, is_on}}}
+use Rattle.pim_model.{specs.{Querier.{given_or, other_querier_interval, querier_elected, query_interval, robustness}, State.State, Tables.{drop_where, put}}}
+use Rattle.law_settled.{proofs.RowLaws.row_put}
 
 module _ (s : State) (i rv qi : ℕ) where
   abbrev row : ℕ → QuerierRow

@@ -1,10 +1,8 @@
 -- The record of a group whose interface is below 120 where it has sources, and after a timer of it has ended.
-use Rattle.std.proofs.Common.{◌≡◌, ℕ, ◌<◌, ◌≤◌, List, Result, Ok, Err, IfOk, length, ap, subst, sym, ◌∙◌, arith}
-use Rattle.std.proofs.lemmas.List.{length-map}
-use Rattle.pim_filters.specs.Members.{member_entries, member_entry}
-use Rattle.pim_filters.specs.declared.member.Member.{Member}
-use Rattle.pim_model.specs.Records.{GroupRecord, group_expired, Member as Entry}
-use Rattle.pim_laws.proofs.ListLaws.{filter_shorter}
+use Rattle.std.{proofs.{Common.{◌≡◌, ℕ, ◌<◌, ◌≤◌, List, Result, Ok, Err, IfOk, length, ap, subst, sym, ◌∙◌, arith}, lemmas.List.length-map}}
+use Rattle.pim_filters.{specs.{Members.{member_entries, member_entry}, declared.member.Member.Member}}
+use Rattle.pim_model.{specs.Records.{GroupRecord, group_expired, Member as Entry}}
+use Rattle.law_settled.{proofs.ListLaws.filter_shorter}
 
 -- the interface of this number is below 120 where there is an entry
 abbrev pub IsNear : ℕ → List Entry → Type 0

@@ -1,12 +1,8 @@
 -- Changes that are made one after the other, with the messages of all.
-use Rattle.std.proofs.Common.{◌≡◌, Bool, true, false, List, [], ◌∷◌, refl, sym, ap, ◌∙◌}
-use Rattle.std.specs.List.{filter}
-use Rattle.std.specs.Prelude.{if◌then◌else◌}
-use Rattle.pim_world.specs.Turns.{Taking, saying}
-use Rattle.pim_model.specs.Messages.{Message}
-use Rattle.pim_model.specs.Querier.{each_in_turn}
-use Rattle.pim_model.specs.State.{State}
-use Rattle.pim_querier.proofs.Starting.{nothing_said, said_twice}
+use Rattle.std.{proofs.Common.{◌≡◌, Bool, true, false, List, [], ◌∷◌, refl, sym, ap, ◌∙◌}, specs.{List.filter, Prelude.if◌then◌else◌}}
+use Rattle.pim_state.{specs.Turns.{Taking, saying}}
+use Rattle.pim_model.{specs.{Messages.Message, Querier.each_in_turn, State.State}}
+use Rattle.pim_querier.{proofs.Starting.{nothing_said, said_twice}}
 
 -- the first of a list, where it passes a test, and where it doesn't
 module _ {A : Type 0} (test : A → Bool) (a : A) (left rest : List A) (is : left ≡ a ∷ rest) where

@@ -1,36 +1,12 @@
 -- A record that asks for sources that it doesn't name. A query is of those alone whose timers expire late enough, so that
 -- the others need not be asked for.
-use Rattle.std.proofs.Common.{◌≡◌, ℕ, ◌==◌, ◌&&◌, ◌||◌, ◌++◌, Bool, true, false, not, nat_lt, cond, List, [], ◌∷◌, fold, map, option_and_then, Option, Some, None, is_some, eqb-true, append-nil, refl, ap, sym, subst, ◌∙◌, arith}
-use Rattle.std.specs.Cmp.{second_so}
-use Rattle.std.specs.List.{AllByRecursion, filter}
-use Rattle.std.specs.List.Sorted.{IsStrictlySortedBy}
-use Rattle.std.specs.Option.{option_map_or}
-use Rattle.std.specs.Ordering.{nat_cmp}
-use Rattle.std.specs.Prelude.{if◌then◌else◌}
-use Rattle.std.specs.declared.cmp.Ordering.TheVariants.{Less}
-use Rattle.igmp_wire.specs.declared.report.RecordType.{RecordType}
-use Rattle.pim_types.specs.declared.fact.Key.{Key}
-use Rattle.pim_types.specs.declared.fact.SendingRow.{SendingRow}
-use Rattle.pim_types.specs.declared.fact.SourceRecordRow.{SourceRecordRow}
-use Rattle.pim_types.specs.Keys.{key_cmp, source_in, source_key}
-use Rattle.pim_model.specs.Messages.{Message}
-use Rattle.pim_model.specs.Querier.{each_in_turn, exceeds, group_end, last_member_query_time, lower_sources, query_asked, query_end, query_sources, robustness, send_sources, source_end}
-use Rattle.pim_model.specs.Records.{Asked, Excluded, Fate, Gone, GroupRecord, Member, Until, apply_record, is_at_group, is_running, members_of, put_member, record_of, with_members, with_record, with_repeats_of_rows}
-use Rattle.pim_model.specs.State.{State}
-use Rattle.pim_model.specs.Tables.{Table, drop_where, is_among, is_empty_list, keys_in, put, row_at}
-use Rattle.pim_filters.specs.Asking.{asked_in_order}
-use Rattle.pim_filters.specs.Members.{IsAscending, member_entries}
-use Rattle.pim_filters.specs.Rules.{is_asked}
-use Rattle.pim_filters.specs.declared.member.Member.{Member as CodeMember}
-use Rattle.pim_filters.proofs.Applying.{all_of, queries_after}
-use Rattle.pim_filters.proofs.Merging.{fate_among}
-use Rattle.pim_filters.proofs.Orders.{Rises, Rises-ascending, Rises-from_sorted, none_below, same_rising}
-use Rattle.pim_querier.specs.Reports.{AsksAlike, asks_named, keeps_others}
-use Rattle.pim_querier.proofs.NamedRecords.{all_among, among_filter, fates, gone_of, is_member, members_among, neither, record_made, rises_filtered, told}
-use Rattle.pim_querier.proofs.NamedSources.{anew_row, known, row_of}
-use Rattle.pim_querier.proofs.OneSource.{AreSources}
-use Rattle.pim_querier.proofs.Reported.{numbers_of_rows}
-use Rattle.pim_tables.proofs.RisingRows.{up_of_sorted}
+use Rattle.std.{proofs.Common.{◌≡◌, ℕ, ◌==◌, ◌&&◌, ◌||◌, ◌++◌, Bool, true, false, not, nat_lt, cond, List, [], ◌∷◌, fold, map, option_and_then, Option, Some, None, is_some, eqb-true, append-nil, refl, ap, sym, subst, ◌∙◌, arith}, specs.{Cmp.second_so, List.{AllByRecursion, filter, Sorted.IsStrictlySortedBy}, Option.option_map_or, Ordering.nat_cmp, Prelude.if◌then◌else◌, declared.cmp.Ordering.TheVariants.Less}}
+use Rattle.igmp_wire.{specs.declared.report.RecordType.RecordType}
+use Rattle.pim_types.{specs.{declared.fact.{Key.Key, SendingRow.SendingRow, SourceRecordRow.SourceRecordRow}, Keys.{key_cmp, source_in, source_key}}}
+use Rattle.pim_model.{specs.{Messages.Message, Querier.{each_in_turn, exceeds, group_end, last_member_query_time, lower_sources, query_asked, query_end, query_sources, robustness, send_sources, source_end}, Records.{Asked, Excluded, SourceState, Absent, GroupRecord, Member, Included, apply_record, is_at_group, is_running, members_of, put_member, record_of, with_members, with_record, with_repeats_of_rows}, State.State, Tables.{Table, drop_where, is_among, is_empty_list, keys_in, put, row_at}}}
+use Rattle.pim_filters.{specs.{Asking.asked_in_order, Members.{IsAscending, member_entries}, Rules.is_asked, declared.member.Member.Member as CodeMember}, proofs.{Applying.{all_of, queries_after}, Merging.source_state_among, Orders.{Rises, Rises-ascending, Rises-from_sorted, none_below, same_rising}}}
+use Rattle.pim_querier.{specs.Reports.{AsksAlike, asks_named, keeps_others}, proofs.{NamedRecords.{all_among, among_filter, source_states, gone_of, is_member, members_among, neither, record_made, rises_filtered, told}, NamedSources.{anew_row, known, row_of}, OneSource.AreSources, Reported.numbers_of_rows}}
+use Rattle.pim_tables.{proofs.RisingRows.up_of_sorted}
 
 -- TO_IN is the only such record
 pub to_include : (type : RecordType) → keeps_others type ≡ true → asks_named type ≡ false → type ≡ RecordType.ToInclude
@@ -48,22 +24,22 @@ module _ (moment : ℕ) where
   late_members es = filter (λ (m : Member). exceeds moment m.1) es
 
   -- the timer of a source that fares so expires late
-  abbrev pub is_late : Fate → Bool
-  is_late (Until end) = nat_lt moment end
+  abbrev pub is_late : SourceState → Bool
+  is_late (Included end) = nat_lt moment end
   is_late _ = false
 
-  late_by_end : (end : Option ℕ) → is_late (option_map_or Until end Excluded) ≡ exceeds moment end
+  late_by_end : (end : Option ℕ) → is_late (option_map_or Included end Excluded) ≡ exceeds moment end
   late_by_end None = refl
   late_by_end (Some end) = refl
 
-  running_by_end : (end : Option ℕ) → exceeds moment end ≡ true → is_running (option_map_or Until end Excluded) ≡ true
+  running_by_end : (end : Option ℕ) → exceeds moment end ≡ true → is_running (option_map_or Included end Excluded) ≡ true
   running_by_end None e = cc
   running_by_end (Some end) e = refl
 
   late_step : (src : ℕ) (m : Member) (es : List Member) (b c : Bool) → (m.0 == src) ≡ b → exceeds moment m.1 ≡ c
-      → (b ≡ true → fate_among es src ≡ Gone)
-      → is_running (fate_among (late_members es) src) ≡ is_late (fate_among es src)
-      → is_running (fate_among (cond c (m ∷ late_members es) (late_members es)) src) ≡ is_late (fate_among (m ∷ es) src)
+      → (b ≡ true → source_state_among es src ≡ Absent)
+      → is_running (source_state_among (late_members es) src) ≡ is_late (source_state_among es src)
+      → is_running (source_state_among (cond c (m ∷ late_members es) (late_members es)) src) ≡ is_late (source_state_among (m ∷ es) src)
   late_step src m es true true own late gone rest =
       rw own (running_by_end m.1 late ∙ sym (late_by_end m.1 ∙ late))
   late_step src m es true false own late gone rest =
@@ -72,42 +48,42 @@ module _ (moment : ℕ) where
   late_step src m es false false own late gone rest = rw own rest
 
   -- such a record has a source whose timer runs, where the whole one has it with a late end
-  pub late_fate : (src : ℕ) (es : List Member) → Rises (map (λ (m : Member). m.0) es)
-      → is_running (fate_among (late_members es) src) ≡ is_late (fate_among es src)
-  late_fate src [] rises = refl
-  late_fate src (m ∷ es) rises =
+  pub late_source_state : (src : ℕ) (es : List Member) → Rises (map (λ (m : Member). m.0) es)
+      → is_running (source_state_among (late_members es) src) ≡ is_late (source_state_among es src)
+  late_source_state src [] rises = refl
+  late_source_state src (m ∷ es) rises =
       late_step src m es (m.0 == src) (exceeds moment m.1) refl refl
-      (λ own. gone_of (fate_among es src)
+      (λ own. gone_of (source_state_among es src)
       (sym (members_among src es)
       ∙ none_below src m.0 (map (λ (e : Member). e.0) es) (omega (arith, eqb-true m.0 src own)) rises.0))
-      (late_fate src es rises.1)
+      (late_source_state src es rises.1)
 
   -- ---- who is asked for
 
   module _ (timer : Option ℕ) (named : List ℕ) where
     abbrev pub asked_of : List Member → ℕ → Bool
-    asked_of es src = is_asked timer RecordType.ToInclude (fate_among es src) (is_among src named)
+    asked_of es src = is_asked timer RecordType.ToInclude (source_state_among es src) (is_among src named)
 
     abbrev pub asked_sources : List Member → List ℕ
     asked_sources es = filter (asked_of es) (all_of es named)
 
-    one_asked : (f : Fate) (b : Bool) → ((is_running f && not b) && (is_member f || b)) ≡ (is_running f && not b)
-    one_asked Gone b = refl
+    one_asked : (f : SourceState) (b : Bool) → ((is_running f && not b) && (is_member f || b)) ≡ (is_running f && not b)
+    one_asked Absent b = refl
     one_asked Excluded b = refl
-    one_asked (Until end) true = refl
-    one_asked (Until end) false = refl
+    one_asked (Included end) true = refl
+    one_asked (Included end) false = refl
 
     who_asked : (es : List Member) (src : ℕ)
-        → is_among src (asked_sources es) ≡ (is_running (fate_among es src) && not (is_among src named))
+        → is_among src (asked_sources es) ≡ (is_running (source_state_among es src) && not (is_among src named))
     who_asked es src =
         among_filter src (asked_of es) (all_of es named)
         ∙ ap (λ (b : Bool). asked_of es src && b) (all_among src es named)
-        ∙ one_asked (fate_among es src) (is_among src named)
+        ∙ one_asked (source_state_among es src) (is_among src named)
 
-    late_too : (f : Fate) (b : Bool) → (is_late f && not b) ≡ (is_late f && (is_running f && not b))
-    late_too Gone b = refl
+    late_too : (f : SourceState) (b : Bool) → (is_late f && not b) ≡ (is_late f && (is_running f && not b))
+    late_too Absent b = refl
     late_too Excluded b = refl
-    late_too (Until end) b = refl
+    late_too (Included end) b = refl
 
     asked_rise : (es : List Member) → Rises (asked_sources es)
     asked_rise es =
@@ -115,14 +91,14 @@ module _ (moment : ℕ) where
 
     -- of the late members alone those are asked for that are late
     pub late_asked : (es : List Member) → Rises (map (λ (m : Member). m.0) es)
-        → asked_sources (late_members es) ≡ filter (λ src. is_late (fate_among es src)) (asked_sources es)
+        → asked_sources (late_members es) ≡ filter (λ src. is_late (source_state_among es src)) (asked_sources es)
     late_asked es rises =
-        let late : ℕ → Bool = λ src. is_late (fate_among es src) in
+        let late : ℕ → Bool = λ src. is_late (source_state_among es src) in
         same_rising (asked_sources (late_members es)) (filter late (asked_sources es)) (asked_rise (late_members es))
         (rises_filtered late (asked_sources es) (asked_rise es))
         (λ src. who_asked (late_members es) src
-        ∙ ap (λ (b : Bool). b && not (is_among src named)) (late_fate src es rises)
-        ∙ late_too (fate_among es src) (is_among src named)
+        ∙ ap (λ (b : Bool). b && not (is_among src named)) (late_source_state src es rises)
+        ∙ late_too (source_state_among es src) (is_among src named)
         ∙ ap (λ (b : Bool). late src && b) (sym (who_asked es src))
         ∙ sym (among_filter src late (asked_sources es)))
 
@@ -184,7 +160,7 @@ module _ (s : State) (i g full : ℕ) (type : RecordType) (named : List ℕ)
   whole = known i g s.source_records
 
   abbrev late : ℕ → Bool
-  late src = is_late moment (fate_among whole src)
+  late src = is_late moment (source_state_among whole src)
 
   ascends : IsAscending whole
   ascends =
@@ -204,30 +180,30 @@ module _ (s : State) (i g full : ℕ) (type : RecordType) (named : List ℕ)
   unfolding record_of
   whole_told = told full timer RecordType.ToInclude named whole ascends
 
-  abbrev fate : ℕ → Fate
-  fate = fates full timer RecordType.ToInclude whole named
+  abbrev source_state : ℕ → SourceState
+  source_state = source_states full timer RecordType.ToInclude whole named
 
-  all_told : (src : ℕ) → is_among src (all_of whole named) ≡ false → fate src ≡ Gone
+  all_told : (src : ℕ) → is_among src (all_of whole named) ≡ false → source_state src ≡ Absent
   all_told src is =
-      let none = neither (is_member (fate_among whole src)) (is_among src named) (sym (all_among src whole named) ∙ is) in
-      rw none.1 (gone_of (fate_among whole src) none.0)
+      let none = neither (is_member (source_state_among whole src)) (is_among src named) (sym (all_among src whole named) ∙ is) in
+      rw none.1 (gone_of (source_state_among whole src) none.0)
 
   -- the row afterwards of a source that isn't named
   row_stays : (src : ℕ) → is_among src named ≡ false
-      → row_at after.source_records (source_key i g src) ≡ row_of (fate_among whole src)
+      → row_at after.source_records (source_key i g src) ≡ row_of (source_state_among whole src)
   unfolding with_record with_members with_repeats_of_rows
   row_stays src unnamed =
       ap (λ (p : GroupRecord × List Asked).
       row_at (fold (put_member i g) (drop_where (is_at_group i g) s.source_records) p.0.members) (source_key i g src))
       whole_told
-      ∙ anew_row i g s.source_records (up_of_sorted s.source_records rise) under fate (all_of whole named) all_told src
-      ∙ ap (λ (b : Bool). row_of (if b then Until full else fate_among whole src)) unnamed
+      ∙ anew_row i g s.source_records (up_of_sorted s.source_records rise) under source_state (all_of whole named) all_told src
+      ∙ ap (λ (b : Bool). row_of (if b then Included full else source_state_among whole src)) unnamed
 
-  late_row : (m : ℕ) (f : Fate)
+  late_row : (m : ℕ) (f : SourceState)
       → exceeds m (option_and_then (λ (r : SourceRecordRow). r.end) (row_of f)) ≡ is_late m f
-  late_row m Gone = refl
+  late_row m Absent = refl
   late_row m Excluded = refl
-  late_row m (Until end) = refl
+  late_row m (Included end) = refl
 
   same_end : query_end after i ≡ moment
   unfolding with_record with_members with_repeats_of_rows last_member_query_time robustness
@@ -237,11 +213,11 @@ module _ (s : State) (i g full : ℕ) (type : RecordType) (named : List ℕ)
       → late src ≡ exceeds (query_end after i) (source_end after i g src)
   late_afterwards src asked =
       let unnamed : is_among src named ≡ false =
-      not_so (is_among src named) (second_so (is_running (fate_among whole src)) (not (is_among src named)) asked) in
+      not_so (is_among src named) (second_so (is_running (source_state_among whole src)) (not (is_among src named)) asked) in
       sym (ap (λ (m : ℕ). exceeds m (source_end after i g src)) same_end
       ∙ ap (λ (o : Option SourceRecordRow). exceeds moment (option_and_then (λ (r : SourceRecordRow). r.end) o))
       (row_stays src unnamed)
-      ∙ late_row moment (fate_among whole src))
+      ∙ late_row moment (source_state_among whole src))
     where
       not_so : (b : Bool) → not b ≡ true → b ≡ false
       not_so false e = refl
@@ -302,7 +278,7 @@ module _ (moment : ℕ) where
   rise_step m es true below rise = (below, rise)
   rise_step m es false below rise = rise
 
-  late_rise : (es : List Member) → IsAscending es → IsAscending (late_members moment es)
+  pub late_rise : (es : List Member) → IsAscending es → IsAscending (late_members moment es)
   unfolding IsStrictlySortedBy
   late_rise [] rise = tt
   late_rise (m ∷ es) rise =

@@ -3,6 +3,7 @@ mod Electing
 mod Expired
 mod InTurn
 mod LateSources
+mod Looking
 mod Lowered
 mod Missing
 pub mod NamedRecords

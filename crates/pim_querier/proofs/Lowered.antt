@@ -1,25 +1,11 @@
 -- Source records that are lowered one after the other, and all at once.
-use Rattle.std.proofs.Common.{◌≡◌, ℕ, Bool, true, false, cond, ◌&&◌, ◌||◌, ◌==◌, List, [], ◌∷◌, fold, map, min, Option, Some, None, option_map, refl, sym, subst, ap, ◌∙◌, arith}
-use Rattle.std.specs.List.{AllByRecursion, cons_option}
-use Rattle.std.specs.List.Sorted.{IsStrictlySortedBy}
-use Rattle.std.specs.Ordering.{is_eq}
-use Rattle.std.specs.Prelude.{if◌then◌else◌}
-use Rattle.std.proofs.lemmas.Bool.Decides.{nat_tests}
-use Rattle.std.specs.declared.cmp.Ordering.TheVariants.{Less}
-use Rattle.pim_ip.specs.declared.addr.Addr.{Addr}
-use Rattle.pim_types.specs.declared.fact.Key.{Key}
-use Rattle.pim_types.specs.declared.fact.SourceRecordRow.{SourceRecordRow}
-use Rattle.pim_types.specs.Keys.{key_cmp, same_key, source_in, source_key}
-use Rattle.pim_types.proofs.Keys.{equal_keys}
-use Rattle.pim_model.specs.Querier.{lower_sources, lowered}
-use Rattle.pim_model.specs.Records.{is_at_group}
-use Rattle.pim_model.specs.State.{State}
-use Rattle.pim_model.specs.Tables.{Table, change_row, changed_entry, is_among, keys_in, row_at}
-use Rattle.pim_laws.specs.Laws.{is_under_source}
-use Rattle.pim_laws.proofs.ListLaws.{each_map}
-use Rattle.pim_querier.specs.Changes.{each_lowered, one_lowered, source_lowered}
-use Rattle.igmp_wire.specs.Written.{bits_of}
-use Rattle.pim_querier.proofs.OneSource.{AreSources, same_source}
+use Rattle.std.{proofs.{Common.{◌≡◌, ℕ, Bool, true, false, cond, ◌&&◌, ◌||◌, ◌==◌, List, [], ◌∷◌, fold, map, min, Option, Some, None, option_map, refl, sym, subst, ap, ◌∙◌, arith}, lemmas.Bool.Decides.nat_tests}, specs.{List.{AllByRecursion, cons_option, Sorted.IsStrictlySortedBy}, Ordering.is_eq, Prelude.if◌then◌else◌, declared.cmp.Ordering.TheVariants.Less}}
+use Rattle.pim_ip.{specs.declared.addr.Addr.Addr}
+use Rattle.pim_types.{specs.{declared.fact.{Key.Key, SourceRecordRow.SourceRecordRow}, Keys.{key_cmp, same_key, source_in, source_key}}, proofs.Keys.equal_keys}
+use Rattle.pim_model.{specs.{Querier.{lower_sources, lowered}, Records.is_at_group, State.State, Tables.{Table, change_row, changed_entry, is_among, keys_in, row_at}}}
+use Rattle.law_settled.{specs.Laws.is_under_source, proofs.ListLaws.each_map}
+use Rattle.pim_querier.{specs.Changes.{each_lowered, one_lowered, source_lowered}, proofs.OneSource.{AreSources, same_source}}
+use Rattle.igmp_wire.{specs.Written.bits_of}
 
 -- ---- a row that is read, and written where it was
 

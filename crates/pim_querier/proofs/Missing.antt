@@ -1,17 +1,8 @@
 -- The keys without a row, each once: as a set that grows key by key, and as they are counted.
-use Rattle.std.proofs.Common.{◌≡◌, ◌<◌, ◌+◌, ℕ, Bool, true, false, cond, not, ◌||◌, List, [], ◌∷◌, ◌++◌, fold, get_or, length, take, refl, ap, sym, arith, ◌∙◌}
-use Rattle.std.proofs.lemmas.List.{take_more}
-use Rattle.std.proofs.lemmas.List.Folds.{list_any-append}
-use Rattle.std.proofs.lemmas.List.Sums.{fold-append}
-use Rattle.std.specs.List.{filter, list_any}
-use Rattle.std.specs.Prelude.{if◌then◌else◌}
-use Rattle.pim_types.specs.declared.fact.Key.{Key}
-use Rattle.pim_types.specs.Keys.{same_key}
-use Rattle.pim_types.proofs.Keys.{equal_keys}
-use Rattle.pim_model.specs.Downstream.{is_named}
-use Rattle.pim_model.specs.Full.{distinct, needed, once_more}
-use Rattle.pim_model.specs.Tables.{Table, has_row}
-use Rattle.pim_laws.proofs.RowLaws.{same_key_swap}
+use Rattle.std.{proofs.{Common.{◌≡◌, ◌<◌, ◌+◌, ℕ, Bool, true, false, cond, not, ◌||◌, List, [], ◌∷◌, ◌++◌, fold, get_or, length, take, refl, ap, sym, arith, ◌∙◌}, lemmas.List.{take_more, Folds.list_any-append, Sums.fold-append}}, specs.{List.{filter, list_any}, Prelude.if◌then◌else◌}}
+use Rattle.pim_types.{specs.{declared.fact.Key.Key, Keys.same_key}, proofs.Keys.equal_keys}
+use Rattle.pim_model.{specs.{Downstream.is_named, Full.{distinct, needed, once_more}, Tables.{Table, has_row}}}
+use Rattle.law_settled.{proofs.RowLaws.same_key_swap}
 
 module _ {R : Type 0} (t : Table R) where
   abbrev lacks : Key → Bool

@@ -1,53 +1,23 @@
 -- A record of a report that deletes no source, applied to what is known of the sources that it names alone.
-use Rattle.std.proofs.Common.{◌≡◌, ℕ, append-nil, Result, Ok, Err, IfOk, ◌==◌, ◌&&◌, ◌||◌, ◌++◌, Bool, true, false, not, cond, List, [], ◌∷◌, find, fold, map, Option, Some, None, is_none, option_map, eqb-true, eq-eqb, refl, ap, sym, subst, ◌∙◌}
-use Rattle.std.proofs.lemmas.Bool.{or_right}
-use Rattle.std.proofs.lemmas.List.Folds.{list_any-append}
-use Rattle.std.proofs.lemmas.List.Kept.{IsStrictlySortedBy-filter}
-use Rattle.std.specs.List.{AllByRecursion, cons_option, filter, list_any}
-use Rattle.std.specs.List.Sorted.{IsStrictlySortedBy}
-use Rattle.std.specs.Option.{option_map_or}
-use Rattle.std.specs.Ordering.{is_eq, match_ordering, nat_cmp}
-use Rattle.std.specs.Prelude.{if◌then◌else◌}
-use Rattle.std.specs.declared.cmp.Ordering.{Ordering}
-use Rattle.std.specs.declared.cmp.Ordering.TheVariants.{Less, Equal, Greater}
-use Rattle.igmp_wire.specs.declared.report.RecordType.{RecordType}
-use Rattle.pim_ip.specs.Addr.{addr}
-use Rattle.pim_ip.specs.declared.addr.Addr.{Addr}
-use Rattle.pim_types.specs.declared.fact.GroupRecordRow.{GroupRecordRow}
-use Rattle.pim_types.specs.declared.fact.Key.{Key}
-use Rattle.pim_types.specs.declared.fact.SourceRecordRow.{SourceRecordRow}
-use Rattle.pim_types.specs.Keys.{addr_cmp, key_cmp, source_in, source_key, star_key}
-use Rattle.pim_types.proofs.Keys.{equal_keys}
-use Rattle.pim_model.specs.Querier.{group_end}
-use Rattle.pim_model.specs.Records.{Asked, Fate, Gone, Excluded, Until, GroupRecord, Member, apply_record, fate_in, is_at_group, is_no_record, is_running, put_member, record_of, with_members, with_record, with_repeats_of_rows}
-use Rattle.pim_model.specs.State.{State}
-use Rattle.pim_model.specs.Tables.{Table, drop_at, drop_where, is_among, is_empty_list, keys_in, put, row_at}
-use Rattle.pim_filters.specs.Asking.{asked_in_order}
-use Rattle.pim_filters.specs.Members.{IsAscending, member_entries}
-use Rattle.pim_filters.specs.Rules.{asks_group, asks_sources, fate_after, is_asked, timer_after}
-use Rattle.pim_filters.specs.declared.member.Member.{Member as CodeMember}
-use Rattle.pim_filters.proofs.Applying.{all_of, applied, asked_are, entries_are, queries_after}
-use Rattle.pim_filters.proofs.Merging.{fate_among}
-use Rattle.pim_filters.proofs.Orders.{Rises, Rises-ascending, Rises-from_sorted, is_among-ascending, same_rising, sorted_from_Rises}
-use Rattle.pim_laws.proofs.TableLaws.{any_in_filter}
-use Rattle.pim_querier.specs.Changes.{beside}
-use Rattle.pim_querier.specs.Reports.{asks_named, keeps_others, members_named}
-use Rattle.pim_querier.proofs.OneSource.{AreSources}
-use Rattle.pim_tables.proofs.RisingRows.{Up, up_of_sorted}
-use Rattle.igmp_wire.specs.Written.{bits_of}
-use Rattle.pim_querier.proofs.NamedSet.{bits_rise}
-use Rattle.pim_querier.proofs.NamedSources.{known, known_row, made, row_of, same_written}
-use Rattle.pim_querier.proofs.Reported.{numbers_of_rows}
+use Rattle.std.{proofs.{Common.{◌≡◌, ℕ, append-nil, Result, Ok, Err, IfOk, ◌==◌, ◌&&◌, ◌||◌, ◌++◌, Bool, true, false, not, cond, List, [], ◌∷◌, find, fold, map, Option, Some, None, is_none, option_map, eqb-true, eq-eqb, refl, ap, sym, subst, ◌∙◌}, lemmas.{Bool.or_right, List.{Folds.list_any-append, Kept.IsStrictlySortedBy-filter}}}, specs.{List.{AllByRecursion, cons_option, filter, list_any, Sorted.IsStrictlySortedBy}, Option.option_map_or, Ordering.{is_eq, match_ordering, nat_cmp}, Prelude.if◌then◌else◌, declared.cmp.Ordering.{Ordering, TheVariants.{Less, Equal, Greater}}}}
+use Rattle.igmp_wire.{specs.{declared.report.RecordType.RecordType, Written.bits_of}}
+use Rattle.pim_ip.{specs.{Addr.addr, declared.addr.Addr.Addr}}
+use Rattle.pim_types.{specs.{declared.fact.{GroupRecordRow.GroupRecordRow, Key.Key, SourceRecordRow.SourceRecordRow}, Keys.{addr_cmp, key_cmp, source_in, source_key, star_key}}, proofs.Keys.equal_keys}
+use Rattle.pim_model.{specs.{Querier.group_end, Records.{Asked, SourceState, Absent, Excluded, Included, GroupRecord, Member, apply_record, source_state_in, is_at_group, is_no_record, is_running, put_member, record_of, with_members, with_record, with_repeats_of_rows}, State.State, Tables.{Table, drop_at, drop_where, is_among, is_empty_list, keys_in, put, row_at}}}
+use Rattle.pim_filters.{specs.{Asking.asked_in_order, Members.{IsAscending, member_entries}, Rules.{asks_group, asks_sources, source_state_after, is_asked, timer_after}, declared.member.Member.Member as CodeMember}, proofs.{Applying.{all_of, applied, asked_are, entries_are, queries_after}, Merging.source_state_among, Orders.{Rises, Rises-ascending, Rises-from_sorted, is_among-ascending, same_rising, sorted_from_Rises}}}
+use Rattle.law_settled.{proofs.TableLaws.any_in_filter}
+use Rattle.pim_querier.{specs.{Changes.beside, Reports.{asks_named, keeps_others, members_named}}, proofs.{OneSource.AreSources, NamedSet.bits_rise, NamedSources.{known, known_row, made, row_of, same_written}, Reported.numbers_of_rows}}
+use Rattle.pim_tables.{proofs.RisingRows.{Up, up_of_sorted}}
 
--- ---- a record of each source's fate
+-- ---- a record of each source's state
 
-abbrev pub fates : ℕ → Option ℕ → RecordType → List Member → List ℕ → ℕ → Fate
-fates full timer type es named src = fate_after full timer type (fate_among es src) (is_among src named)
+abbrev pub source_states : ℕ → Option ℕ → RecordType → List Member → List ℕ → ℕ → SourceState
+source_states full timer type es named src = source_state_after full timer type (source_state_among es src) (is_among src named)
 
 abbrev pub record_made : ℕ → Option ℕ → RecordType → List Member → List ℕ → GroupRecord
 record_made full timer type es named = record {
   timer = timer_after full timer type;
-  members = made (fates full timer type es named) (all_of es named);
+  members = made (source_states full timer type es named) (all_of es named);
 }
 
 abbrev as_members : List Member → List CodeMember
@@ -77,8 +47,8 @@ module _ (full : ℕ) (timer : Option ℕ) (type : RecordType) (named : List ℕ
 
 -- ---- records that delete no source
 
-stays : (full : ℕ) (timer : Option ℕ) (type : RecordType) (f : Fate) → keeps_others type ≡ true
-    → fate_after full timer type f false ≡ f
+stays : (full : ℕ) (timer : Option ℕ) (type : RecordType) (f : SourceState) → keeps_others type ≡ true
+    → source_state_after full timer type f false ≡ f
 stays full timer RecordType.IsInclude f keeps = refl
 stays full timer RecordType.Allow f keeps = refl
 stays full timer RecordType.ToInclude f keeps = refl
@@ -87,53 +57,53 @@ stays full (Some end) RecordType.Block f keeps = refl
 stays full timer RecordType.IsExclude f keeps = cc
 stays full timer RecordType.ToExclude f keeps = cc
 
-none_goes : (full : ℕ) (timer : Option ℕ) (type : RecordType) (f : Fate) → keeps_others type ≡ true
-    → fate_after full timer type f true ≡ Gone → f ≡ Gone
+none_goes : (full : ℕ) (timer : Option ℕ) (type : RecordType) (f : SourceState) → keeps_others type ≡ true
+    → source_state_after full timer type f true ≡ Absent → f ≡ Absent
 none_goes full timer RecordType.IsInclude f keeps gone = cc
 none_goes full timer RecordType.Allow f keeps gone = cc
 none_goes full timer RecordType.ToInclude f keeps gone = cc
 none_goes full None RecordType.Block f keeps gone = gone
-none_goes full (Some end) RecordType.Block Gone keeps gone = refl
+none_goes full (Some end) RecordType.Block Absent keeps gone = refl
 none_goes full (Some end) RecordType.Block Excluded keeps gone = cc
-none_goes full (Some end) RecordType.Block (Until n) keeps gone = cc
+none_goes full (Some end) RecordType.Block (Included n) keeps gone = cc
 none_goes full timer RecordType.IsExclude f keeps gone = cc
 none_goes full timer RecordType.ToExclude f keeps gone = cc
 
 -- ---- who is a member
 
-abbrev pub is_member : Fate → Bool
-is_member Gone = false
+abbrev pub is_member : SourceState → Bool
+is_member Absent = false
 is_member _ = true
 
-by_end : (o : Option ℕ) → is_member (option_map_or Until o Excluded) ≡ true
+by_end : (o : Option ℕ) → is_member (option_map_or Included o Excluded) ≡ true
 by_end None = refl
 by_end (Some end) = refl
 
 member_step : (src : ℕ) (m : Member) (es : List Member) (b : Bool)
-    → is_among src (map (λ (e : Member). e.0) es) ≡ is_member (fate_among es src)
+    → is_among src (map (λ (e : Member). e.0) es) ≡ is_member (source_state_among es src)
     → (b || is_among src (map (λ (e : Member). e.0) es))
-    ≡ is_member (option_map_or (λ (e : Member). option_map_or Until e.1 Excluded) (cond b (Some m) (find (λ (e : Member). e.0 == src) es)) Gone)
+    ≡ is_member (option_map_or (λ (e : Member). option_map_or Included e.1 Excluded) (cond b (Some m) (find (λ (e : Member). e.0 == src) es)) Absent)
 member_step src m es true rest = sym (by_end m.1)
 member_step src m es false rest = rest
 
 pub members_among : (src : ℕ) (es : List Member)
-    → is_among src (map (λ (e : Member). e.0) es) ≡ is_member (fate_among es src)
+    → is_among src (map (λ (e : Member). e.0) es) ≡ is_member (source_state_among es src)
 unfolding is_among
 members_among src [] = refl
 members_among src (m ∷ es) = member_step src m es (m.0 == src) (members_among src es)
 
 pub all_among : (src : ℕ) (es : List Member) (named : List ℕ)
-    → is_among src (all_of es named) ≡ (is_member (fate_among es src) || is_among src named)
+    → is_among src (all_of es named) ≡ (is_member (source_state_among es src) || is_among src named)
 unfolding is_among
 all_among src es named =
     is_among-ascending src (map (λ (e : Member). e.0) es ++ named)
     ∙ list_any-append (λ m. m == src) (map (λ (e : Member). e.0) es) named
     ∙ ap (λ (b : Bool). b || is_among src named) (members_among src es)
 
-pub gone_of : (f : Fate) → is_member f ≡ false → f ≡ Gone
-gone_of Gone e = refl
+pub gone_of : (f : SourceState) → is_member f ≡ false → f ≡ Absent
+gone_of Absent e = refl
 gone_of Excluded e = cc
-gone_of (Until end) e = cc
+gone_of (Included end) e = cc
 
 pub neither : (b c : Bool) → (b || c) ≡ false → (b ≡ false) × (c ≡ false)
 neither true c e = cc
@@ -144,7 +114,7 @@ neither false c e = (refl, e)
 -- of each that is named what the whole says, and nothing of others
 abbrev pub KnowsNamed : List Member → List ℕ → List Member → Type 0
 KnowsNamed whole named es =
-    (src : ℕ) → fate_among es src ≡ cond (is_among src named) (fate_among whole src) Gone
+    (src : ℕ) → source_state_among es src ≡ cond (is_among src named) (source_state_among whole src) Absent
 
 module _ (i g full : ℕ) (timer : Option ℕ) (type : RecordType) (keeps : keeps_others type ≡ true) (named : List ℕ)
     (es : List Member) (t : Table SourceRecordRow) (up : Up t) (under : AreSources t)
@@ -152,48 +122,48 @@ module _ (i g full : ℕ) (timer : Option ℕ) (type : RecordType) (keeps : keep
   abbrev whole : List Member
   whole = known i g t
 
-  abbrev fate : ℕ → Fate
-  fate = fates full timer type whole named
+  abbrev source_state : ℕ → SourceState
+  source_state = source_states full timer type whole named
 
-  abbrev few : ℕ → Fate
-  few = fates full timer type es named
+  abbrev few : ℕ → SourceState
+  few = source_states full timer type es named
 
-  same_fate : (src : ℕ) (b : Bool) → is_among src named ≡ b → b ≡ true → fate_among es src ≡ fate_among whole src
-  same_fate src true is e = knows src ∙ ap (λ (c : Bool). cond c (fate_among whole src) Gone) is
-  same_fate src false is e = cc
+  same_source_state : (src : ℕ) (b : Bool) → is_among src named ≡ b → b ≡ true → source_state_among es src ≡ source_state_among whole src
+  same_source_state src true is e = knows src ∙ ap (λ (c : Bool). cond c (source_state_among whole src) Absent) is
+  same_source_state src false is e = cc
 
-  named_so : (src : ℕ) → is_among src named ≡ true → few src ≡ fate src
+  named_so : (src : ℕ) → is_among src named ≡ true → few src ≡ source_state src
   named_so src is =
-      ap (λ (f : Fate). fate_after full timer type f (is_among src named)) (same_fate src (is_among src named) refl is)
+      ap (λ (f : SourceState). source_state_after full timer type f (is_among src named)) (same_source_state src (is_among src named) refl is)
 
-  others_stay : (src : ℕ) → is_among src named ≡ false → fate src ≡ fate_among whole src
+  others_stay : (src : ℕ) → is_among src named ≡ false → source_state src ≡ source_state_among whole src
   others_stay src is =
-      ap (λ (b : Bool). fate_after full timer type (fate_among whole src) b) is
-      ∙ stays full timer type (fate_among whole src) keeps
+      ap (λ (b : Bool). source_state_after full timer type (source_state_among whole src) b) is
+      ∙ stays full timer type (source_state_among whole src) keeps
 
-  some_by : (src : ℕ) (b : Bool) → is_among src named ≡ b → (is_member (fate_among es src) || b) ≡ b
-  some_by src true is = or_right (is_member (fate_among es src)) true refl
+  some_by : (src : ℕ) (b : Bool) → is_among src named ≡ b → (is_member (source_state_among es src) || b) ≡ b
+  some_by src true is = or_right (is_member (source_state_among es src)) true refl
   some_by src false is =
-      ap (λ (f : Fate). is_member f || false) (knows src ∙ ap (λ (c : Bool). cond c (fate_among whole src) Gone) is)
+      ap (λ (f : SourceState). is_member f || false) (knows src ∙ ap (λ (c : Bool). cond c (source_state_among whole src) Absent) is)
 
   some_named : (src : ℕ) → is_among src (all_of es named) ≡ is_among src named
   some_named src = all_among src es named ∙ some_by src (is_among src named) refl
 
-  all_told : (src : ℕ) → is_among src (all_of whole named) ≡ false → fate src ≡ Gone
+  all_told : (src : ℕ) → is_among src (all_of whole named) ≡ false → source_state src ≡ Absent
   all_told src is =
-      let none = neither (is_member (fate_among whole src)) (is_among src named) (sym (all_among src whole named) ∙ is) in
-      others_stay src none.1 ∙ gone_of (fate_among whole src) none.0
+      let none = neither (is_member (source_state_among whole src)) (is_among src named) (sym (all_among src whole named) ∙ is) in
+      others_stay src none.1 ∙ gone_of (source_state_among whole src) none.0
 
-  named_goes : (src : ℕ) → is_among src named ≡ true → fate src ≡ Gone → fate_among whole src ≡ Gone
+  named_goes : (src : ℕ) → is_among src named ≡ true → source_state src ≡ Absent → source_state_among whole src ≡ Absent
   named_goes src is gone =
-      none_goes full timer type (fate_among whole src) keeps
-      (ap (λ (b : Bool). fate_after full timer type (fate_among whole src) b) (sym is) ∙ gone)
+      none_goes full timer type (source_state_among whole src) keeps
+      (ap (λ (b : Bool). source_state_after full timer type (source_state_among whole src) b) (sym is) ∙ gone)
 
   -- what is written of all, and of the named ones alone
-  pub written_alike : fold (put_member i g) (drop_where (is_at_group i g) t) (made fate (all_of whole named))
+  pub written_alike : fold (put_member i g) (drop_where (is_at_group i g) t) (made source_state (all_of whole named))
       ≡ fold (put_member i g) t (made few (all_of es named))
   written_alike =
-      same_written i g t up under named fate few (all_of whole named) (all_of es named) named_so others_stay some_named
+      same_written i g t up under named source_state few (all_of whole named) (all_of es named) named_so others_stay some_named
       all_told named_goes
 
 -- ---- whether a member is left
@@ -279,7 +249,7 @@ pub rises_filtered : (p : ℕ → Bool) (ms : List ℕ) → Rises ms → Rises (
 rises_filtered p ms rises =
     Rises-from_sorted (filter p ms) (IsStrictlySortedBy-filter nat_cmp p ms (sorted_from_Rises ms rises))
 
-unnamed_unasked : (timer : Option ℕ) (f : Fate) → is_asked timer RecordType.Block f false ≡ false
+unnamed_unasked : (timer : Option ℕ) (f : SourceState) → is_asked timer RecordType.Block f false ≡ false
 unnamed_unasked None f = none (is_running f)
   where
     none : (a : Bool) → (a && false) ≡ false
@@ -289,21 +259,21 @@ unnamed_unasked (Some end) f = refl
 
 module _ (timer : Option ℕ) (named : List ℕ) (whole es : List Member) (knows : KnowsNamed whole named es) where
   abbrev asked_of : List Member → ℕ → Bool
-  asked_of ms k = is_asked timer RecordType.Block (fate_among ms k) (is_among k named)
+  asked_of ms k = is_asked timer RecordType.Block (source_state_among ms k) (is_among k named)
 
   both_asked : (k : ℕ) (b : Bool) → is_among k named ≡ b
       → (asked_of whole k && is_among k (all_of whole named)) ≡ (asked_of es k && is_among k (all_of es named))
   both_asked k true is =
       let there : (ms : List Member) → is_among k (all_of ms named) ≡ true =
-      λ ms. all_among k ms named ∙ or_right (is_member (fate_among ms k)) (is_among k named) is in
-      let same : fate_among es k ≡ fate_among whole k =
-      knows k ∙ ap (λ (c : Bool). cond c (fate_among whole k) Gone) is in
+      λ ms. all_among k ms named ∙ or_right (is_member (source_state_among ms k)) (is_among k named) is in
+      let same : source_state_among es k ≡ source_state_among whole k =
+      knows k ∙ ap (λ (c : Bool). cond c (source_state_among whole k) Absent) is in
       ap (λ (b : Bool). asked_of whole k && b) (there whole)
-      ∙ ap (λ (f : Fate). is_asked timer RecordType.Block f (is_among k named) && true) (sym same)
+      ∙ ap (λ (f : SourceState). is_asked timer RecordType.Block f (is_among k named) && true) (sym same)
       ∙ sym (ap (λ (b : Bool). asked_of es k && b) (there es))
   both_asked k false is =
       let un : (ms : List Member) → asked_of ms k ≡ false =
-      λ ms. ap (λ (b : Bool). is_asked timer RecordType.Block (fate_among ms k) b) is ∙ unnamed_unasked timer (fate_among ms k) in
+      λ ms. ap (λ (b : Bool). is_asked timer RecordType.Block (source_state_among ms k) b) is ∙ unnamed_unasked timer (source_state_among ms k) in
       ap (λ (b : Bool). b && is_among k (all_of whole named)) (un whole)
       ∙ sym (ap (λ (b : Bool). b && is_among k (all_of es named)) (un es))
 
@@ -395,15 +365,15 @@ module _ (s : State) (i g full : ℕ) (type : RecordType) (named : List ℕ) (fe
     (sources_rise : IsStrictlySortedBy nat_cmp (map (λ (e : Key × SourceRecordRow). source_in e.0)
     (filter (λ e. is_at_group i g e.0) s.source_records)))
     (timed : few.timer ≡ group_end s i g) (few_ascend : IsAscending few.members)
-    (fares : (src : ℕ) → fate_in few src
-    ≡ (if is_among src named then fate_in (record_of s i g) src else Gone)) where
+    (fares : (src : ℕ) → source_state_in few src
+    ≡ (if is_among src named then source_state_in (record_of s i g) src else Absent)) where
   ascends : IsAscending (known i g s.source_records)
   ascends =
       subst (IsStrictlySortedBy nat_cmp)
       (sym (numbers_of_rows (filter (λ e. is_at_group i g e.0) s.source_records))) sources_rise
 
   knows : KnowsNamed (known i g s.source_records) named few.members
-  unfolding fate_in record_of
+  unfolding source_state_in record_of
   knows src = fares src
 
   few_applied : apply_record full few type named ≡ of_named s i g full type named few.members rise under ascends few_ascend knows
@@ -432,47 +402,47 @@ module _ (i g : ℕ) (t : Table SourceRecordRow) where
   abbrev gathered : List ℕ → List Member
   gathered ns = members_named i g t ns
 
-  abbrev fate_of_row : Option SourceRecordRow → Fate
-  fate_of_row o = option_map_or (λ (r : SourceRecordRow). option_map_or Until r.end Excluded) o Gone
+  abbrev source_state_of_row : Option SourceRecordRow → SourceState
+  source_state_of_row o = option_map_or (λ (r : SourceRecordRow). option_map_or Included r.end Excluded) o Absent
 
-  abbrev row_fate : ℕ → Fate
-  row_fate src = fate_of_row (row_at t (source_key i g src))
+  abbrev row_source_state : ℕ → SourceState
+  row_source_state src = source_state_of_row (row_at t (source_key i g src))
 
   gathered_step : (src n : ℕ) (ns : List ℕ) (b : Bool) → (n == src) ≡ b → (o : Option SourceRecordRow)
       → row_at t (source_key i g n) ≡ o
-      → fate_among (gathered ns) src ≡ cond (is_among src ns) (row_fate src) Gone
-      → fate_among (cons_option (option_map (λ (r : SourceRecordRow). let m : Member = (n, r.end) in m) o) (gathered ns)) src
-      ≡ cond (b || is_among src ns) (row_fate src) Gone
+      → source_state_among (gathered ns) src ≡ cond (is_among src ns) (row_source_state src) Absent
+      → source_state_among (cons_option (option_map (λ (r : SourceRecordRow). let m : Member = (n, r.end) in m) o) (gathered ns)) src
+      ≡ cond (b || is_among src ns) (row_source_state src) Absent
   gathered_step src n ns true is (Some r) found rest =
-      rw is (ap fate_of_row (sym found) ∙ ap row_fate (eqb-true n src is))
+      rw is (ap source_state_of_row (sym found) ∙ ap row_source_state (eqb-true n src is))
   gathered_step src n ns true is None found rest =
-      let gone : row_fate src ≡ Gone = ap row_fate (sym (eqb-true n src is)) ∙ ap fate_of_row found in
+      let gone : row_source_state src ≡ Absent = ap row_source_state (sym (eqb-true n src is)) ∙ ap source_state_of_row found in
       rest ∙ by_among (is_among src ns) gone
     where
-      by_among : (c : Bool) → row_fate src ≡ Gone → cond c (row_fate src) Gone ≡ row_fate src
+      by_among : (c : Bool) → row_source_state src ≡ Absent → cond c (row_source_state src) Absent ≡ row_source_state src
       by_among true gone = refl
       by_among false gone = sym gone
   gathered_step src n ns false is (Some r) found rest = rw is rest
   gathered_step src n ns false is None found rest = rest
 
-  gathered_fate : (src : ℕ) (ns : List ℕ) → fate_among (gathered ns) src ≡ cond (is_among src ns) (row_fate src) Gone
+  gathered_source_state : (src : ℕ) (ns : List ℕ) → source_state_among (gathered ns) src ≡ cond (is_among src ns) (row_source_state src) Absent
   unfolding is_among
-  gathered_fate src [] = refl
-  gathered_fate src (n ∷ ns) =
-      gathered_step src n ns (n == src) refl (row_at t (source_key i g n)) refl (gathered_fate src ns)
+  gathered_source_state src [] = refl
+  gathered_source_state src (n ∷ ns) =
+      gathered_step src n ns (n == src) refl (row_at t (source_key i g n)) refl (gathered_source_state src ns)
 
-  row_fate_is : (f : Fate) → fate_of_row (row_of f) ≡ f
-  row_fate_is Gone = refl
-  row_fate_is Excluded = refl
-  row_fate_is (Until end) = refl
+  row_source_state_is : (f : SourceState) → source_state_of_row (row_of f) ≡ f
+  row_source_state_is Absent = refl
+  row_source_state_is Excluded = refl
+  row_source_state_is (Included end) = refl
 
   pub gathered_knows : (ns named : List ℕ) → AreSources t → ((n : ℕ) → is_among n ns ≡ is_among n named)
       → KnowsNamed (known i g t) named (gathered ns)
   gathered_knows ns named under same src =
-      gathered_fate src ns
-      ∙ ap (λ (b : Bool). cond b (row_fate src) Gone) (same src)
-      ∙ ap (λ (f : Fate). cond (is_among src named) f Gone)
-      (ap fate_of_row (known_row i g src t under) ∙ row_fate_is (fate_among (known i g t) src))
+      gathered_source_state src ns
+      ∙ ap (λ (b : Bool). cond b (row_source_state src) Absent) (same src)
+      ∙ ap (λ (f : SourceState). cond (is_among src named) f Absent)
+      (ap source_state_of_row (known_row i g src t under) ∙ row_source_state_is (source_state_among (known i g t) src))
 
   below_step : (n m : ℕ) (o : Option SourceRecordRow) (rest : List Member) → nat_cmp n m ≡ Less
       → AllByRecursion (λ k. nat_cmp n k ≡ Less) (map (λ (x : Member). x.0) rest)
@@ -503,10 +473,10 @@ module _ (i g : ℕ) (t : Table SourceRecordRow) where
 -- what a record of these sources says of each
 pub gathered_fares : (s : State) (i g : ℕ) (ns named : List ℕ) (few : GroupRecord) → AreSources s.source_records
     → ((n : ℕ) → is_among n ns ≡ is_among n named) → few.members ≡ members_named i g s.source_records ns → (src : ℕ)
-    → fate_in few src ≡ (if is_among src named then fate_in (record_of s i g) src else Gone)
-unfolding fate_in record_of
+    → source_state_in few src ≡ (if is_among src named then source_state_in (record_of s i g) src else Absent)
+unfolding source_state_in record_of
 gathered_fares s i g ns named few under same are src =
-    ap (λ (es : List Member). fate_among es src) are ∙ gathered_knows i g s.source_records ns named under same src
+    ap (λ (es : List Member). source_state_among es src) are ∙ gathered_knows i g s.source_records ns named under same src
 
 -- those that were gathered of a set rise
 pub gathered_rise : (i g : ℕ) (t : Table SourceRecordRow) (ms : List CodeMember) (left set : List Addr) → left ≡ []

@@ -1,17 +1,10 @@
 -- The sources that a record of a report names, as a set.
-use Rattle.std.proofs.Common.{◌≡◌, ◌<◌, ◌+◌, ℕ, Bool, true, false, cond, ◌||◌, ◌==◌, List, [], ◌∷◌, get_or, length, take, refl, sym, ap, ◌∙◌, arith}
-use Rattle.std.specs.List.{AllByRecursion, list_any}
-use Rattle.std.specs.List.Sorted.{IsStrictlySortedBy}
-use Rattle.std.specs.Ordering.{is_eq, nat_cmp}
-use Rattle.std.specs.declared.cmp.Ordering.TheVariants.{Less}
-use Rattle.std.proofs.lemmas.Bool.Decides.{nat_tests}
-use Rattle.std.proofs.lemmas.List.Folds.{list_any_more}
-use Rattle.pim_filters.specs.Members.{is_named_source}
-use Rattle.pim_filters.proofs.Orders.{Rises-ascending, Rises-from_sorted, is_among-ascending, same_rising}
-use Rattle.pim_ip.specs.declared.addr.Addr.{Addr}
-use Rattle.pim_types.specs.Keys.{addr_cmp}
-use Rattle.pim_model.specs.Tables.{ascending, is_among}
-use Rattle.igmp_wire.specs.Written.{bits_of}
+use Rattle.std.{proofs.{Common.{◌≡◌, ◌<◌, ◌+◌, ℕ, Bool, true, false, cond, ◌||◌, ◌==◌, List, [], ◌∷◌, get_or, length, take, refl, sym, ap, ◌∙◌, arith}, lemmas.{Bool.Decides.nat_tests, List.Folds.list_any_more}}, specs.{List.{AllByRecursion, list_any, Sorted.IsStrictlySortedBy}, Ordering.{is_eq, nat_cmp}, declared.cmp.Ordering.TheVariants.Less}}
+use Rattle.pim_filters.{specs.Members.is_named_source, proofs.Orders.{Rises-ascending, Rises-from_sorted, is_among-ascending, same_rising}}
+use Rattle.pim_ip.{specs.declared.addr.Addr.Addr}
+use Rattle.pim_types.{specs.Keys.addr_cmp}
+use Rattle.pim_model.{specs.Tables.{ascending, is_among}}
+use Rattle.igmp_wire.{specs.Written.bits_of}
 
 -- ---- the sources as a set
 

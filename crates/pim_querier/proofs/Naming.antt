@@ -1,13 +1,9 @@
 -- What the records of a report name, and which sources they move, record by record.
-use Rattle.std.proofs.Common.{◌≡◌, ℕ, Bool, true, false, cond, List, [], ◌∷◌, ◌++◌, flat_map, map, not, refl, sym, ap, ◌∙◌, append-nil, append_assoc}
-use Rattle.std.specs.List.{filter}
-use Rattle.igmp_wire.specs.Values.{Record}
-use Rattle.pim_types.specs.declared.fact.Key.{Key}
-use Rattle.pim_types.specs.Keys.{source_key, star_key}
-use Rattle.pim_model.specs.Full.{reported_groups, reported_sources}
-use Rattle.pim_model.specs.Querier.{is_skipped}
-use Rattle.pim_model.specs.State.{State}
-use Rattle.pim_querier.specs.Reports.{moved_by, moved_sources}
+use Rattle.std.{proofs.Common.{◌≡◌, ℕ, Bool, true, false, cond, List, [], ◌∷◌, ◌++◌, flat_map, map, not, refl, sym, ap, ◌∙◌, append-nil, append_assoc}, specs.List.filter}
+use Rattle.igmp_wire.{specs.Values.Record}
+use Rattle.pim_types.{specs.{declared.fact.Key.Key, Keys.{source_key, star_key}}}
+use Rattle.pim_model.{specs.{Full.{reported_groups, reported_sources}, Querier.is_skipped, State.State}}
+use Rattle.pim_querier.{specs.Reports.{moved_by, moved_sources}}
 
 module _ (i : ℕ) where
   groups_by : (b : Bool) (r : Record) (rs : List Record)

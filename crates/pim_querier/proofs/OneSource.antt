@@ -1,24 +1,9 @@
 -- The rows of a group's record that are changed one by one, and the whole record written anew: they are the same.
-use Rattle.std.proofs.Common.{◌≡◌, ℕ, ◌==◌, ◌&&◌, Bool, true, false, not, cond, List, [], ◌∷◌, map, fold, Option, Some, None, is_none, is_some, option_map, eqb-true, eq-eqb, refl, ap, sym, subst, ◌∙◌}
-use Rattle.std.specs.Cmp.{first_so, second_so}
-use Rattle.std.specs.List.{AllByRecursion, cons_option, filter, filter_map, list_any}
-use Rattle.std.specs.List.Sorted.{IsStrictlySortedBy}
-use Rattle.std.specs.Ordering.{ordering_reverse}
-use Rattle.std.specs.Prelude.{if◌then◌else◌}
-use Rattle.std.specs.declared.cmp.Ordering.TheVariants.{Less, Greater}
-use Rattle.pim_types.specs.declared.fact.GroupRecordRow.{GroupRecordRow}
-use Rattle.pim_types.specs.declared.fact.Key.{Key}
-use Rattle.pim_types.specs.declared.fact.SourceRecordRow.{SourceRecordRow}
-use Rattle.pim_types.specs.Keys.{key_cmp, same_key, source_in, source_key, star_key}
-use Rattle.pim_types.proofs.Keys.{equal_keys, key_cmp_total, same_key_same}
-use Rattle.pim_model.specs.Records.{GroupRecord, Member, is_at_group, is_no_record, members_of, put_member, record_of, source_expired, with_members, with_repeats_of_rows}
-use Rattle.pim_model.specs.Querier.{group_end, source_record_due}
-use Rattle.pim_model.specs.State.{State}
-use Rattle.pim_model.specs.Tables.{Table, change_row, changed_entry, drop_at, drop_where, is_empty_list, keys_in, put}
-use Rattle.pim_laws.specs.Laws.{is_under_source}
-use Rattle.pim_querier.specs.Changes.{without_empty, without_source_record}
-use Rattle.pim_laws.proofs.ListLaws.{each_filter}
-use Rattle.pim_laws.proofs.RecordsKept.{equal_forms}
+use Rattle.std.{proofs.Common.{◌≡◌, ℕ, ◌==◌, ◌&&◌, Bool, true, false, not, cond, List, [], ◌∷◌, map, fold, Option, Some, None, is_none, is_some, option_map, eqb-true, eq-eqb, refl, ap, sym, subst, ◌∙◌}, specs.{Cmp.{first_so, second_so}, List.{AllByRecursion, cons_option, filter, filter_map, list_any, Sorted.IsStrictlySortedBy}, Ordering.ordering_reverse, Prelude.if◌then◌else◌, declared.cmp.Ordering.TheVariants.{Less, Greater}}}
+use Rattle.pim_types.{specs.{declared.fact.{GroupRecordRow.GroupRecordRow, Key.Key, SourceRecordRow.SourceRecordRow}, Keys.{key_cmp, same_key, source_in, source_key, star_key}}, proofs.Keys.{equal_keys, key_cmp_total, same_key_same}}
+use Rattle.pim_model.{specs.{Records.{GroupRecord, Member, is_at_group, is_no_record, members_of, put_member, record_of, source_expired, with_members, with_repeats_of_rows}, Querier.{group_end, source_record_due}, State.State, Tables.{Table, change_row, changed_entry, drop_at, drop_where, is_empty_list, keys_in, put}}}
+use Rattle.law_settled.{specs.Laws.is_under_source, proofs.{ListLaws.each_filter, RecordsKept.equal_forms}}
+use Rattle.pim_querier.{specs.Changes.{without_empty, without_source_record}}
 
 abbrev Rows : Type 0
 Rows = Table SourceRecordRow
@@ -71,13 +56,13 @@ module _ (i g : ℕ) where
 
   -- ---- what becomes of each row of the group: another row, or none
 
-  module _ (fate : Entry → Option SourceRecordRow) where
+  module _ (source_state : Entry → Option SourceRecordRow) where
     abbrev pub member_after : Entry → Option Member
-    member_after e = option_map (λ (r : SourceRecordRow). let m : Member = (source_in e.0, r.end) in m) (fate e)
+    member_after e = option_map (λ (r : SourceRecordRow). let m : Member = (source_in e.0, r.end) in m) (source_state e)
 
     abbrev pub row_after : Entry → Option Entry
     row_after e =
-        if at_group e then option_map (λ (r : SourceRecordRow). let x : Entry = (e.0, r) in x) (fate e) else Some e
+        if at_group e then option_map (λ (r : SourceRecordRow). let x : Entry = (e.0, r) in x) (source_state e) else Some e
 
     abbrev members : Rows → List Member
     members t = filter_map member_after (filter at_group t)
@@ -92,7 +77,7 @@ module _ (i g : ℕ) where
         → is_under_source e ≡ true → Behind k (members t)
         → Behind k (filter_map member_after (cond b (e ∷ filter at_group t) (filter at_group t)))
     behind_step k e t true here above under rest =
-        cons_behind k (source_in e.0) (fate e) (members t)
+        cons_behind k (source_in e.0) (source_state e) (members t)
         (ap (λ (q : Key). key_cmp q k) (equal_forms i g e here under) ∙ reversed k e.0 above) rest
     behind_step k e t false here above under rest = rest
 
@@ -104,13 +89,13 @@ module _ (i g : ℕ) where
     abbrev others : Rows → Rows
     others t = filter (λ e. not (is_at_group i g e.0)) t
 
-    step : (e : Entry) (t : Rows) (b : Bool) → at_group e ≡ b → (o : Option SourceRecordRow) → fate e ≡ o → Above e.0 t
+    step : (e : Entry) (t : Rows) (b : Bool) → at_group e ≡ b → (o : Option SourceRecordRow) → source_state e ≡ o → Above e.0 t
         → AreSources t → is_under_source e ≡ true
         → fold (put_member i g) (others t) (members t) ≡ filter_map row_after t
         → fold (put_member i g) (cond (not b) (e ∷ others t) (others t))
         (filter_map member_after (cond b (e ∷ filter at_group t) (filter at_group t)))
         ≡ cons_option
-        (if b then option_map (λ (r : SourceRecordRow). let x : Entry = (e.0, r) in x) (fate e) else Some e)
+        (if b then option_map (λ (r : SourceRecordRow). let x : Entry = (e.0, r) in x) (source_state e) else Some e)
         (filter_map row_after t)
     step e t true here None is above under own rest = rw is rest
     step e t true here (Some r) is above under own rest =
@@ -129,7 +114,7 @@ module _ (i g : ℕ) where
     unfolding IsStrictlySortedBy
     all_rebuilt [] rise under = refl
     all_rebuilt (e ∷ t) rise under =
-        step e t (at_group e) refl (fate e) refl (entries_above e.0 t rise.0) under.1 under.0
+        step e t (at_group e) refl (source_state e) refl (entries_above e.0 t rise.0) under.1 under.0
         (all_rebuilt t rise.1 under.1)
 
     -- a record that is written anew, of what becomes of each of its rows
@@ -156,7 +141,7 @@ module _ (i g : ℕ) where
     none_left [] = refl
     none_left (e ∷ t) =
         ap (λ (ms : List Member). is_empty_list ms) (members_cons e t (at_group e))
-        ∙ empty_step e t (at_group e) refl (fate e) (none_left t)
+        ∙ empty_step e t (at_group e) refl (source_state e) (none_left t)
 
   module _ (src : ℕ) where
     abbrev pub own_key : Key

@@ -1,16 +1,9 @@
 -- The queries of many sources, in parts that a frame holds.
-use Rattle.std.proofs.Common.{◌≡◌, ◌≤◌, ◌==◌, ℕ, zero, suc, Bool, true, false, List, [], ◌∷◌, ◌++◌, length, take, drop, min, nat_le, refl, sym, ap, ◌∙◌, arith, append_assoc, append-nil, length-drop}
-use Rattle.std.proofs.lemmas.List.{drop_all, take_all}
-use Rattle.std.specs.List.{drop-map, take-map}
-use Rattle.std.proofs.lemmas.Bool.Decides.{nat_tests}
-use Rattle.pim_ip.specs.declared.addr.Addr.{Addr}
-use Rattle.igmp_wire.specs.declared.write.QueryHeader.{QueryHeader}
-use Rattle.igmp_wire.specs.Written.{query_with}
-use Rattle.pim_model.specs.Messages.{Message}
-use Rattle.pim_model.specs.Querier.{queries_of}
-use Rattle.pim_model.specs.Tables.{is_empty_list}
-use Rattle.pim_querier.specs.Queries.{all_queries, asking}
-use Rattle.igmp_wire.specs.Written.{bits_of}
+use Rattle.std.{proofs.{Common.{◌≡◌, ◌≤◌, ◌==◌, ℕ, zero, suc, Bool, true, false, List, [], ◌∷◌, ◌++◌, length, take, drop, min, nat_le, refl, sym, ap, ◌∙◌, arith, append_assoc, append-nil, length-drop}, lemmas.{List.{drop_all, take_all}, Bool.Decides.nat_tests}}, specs.List.{drop-map, take-map}}
+use Rattle.pim_ip.{specs.declared.addr.Addr.Addr}
+use Rattle.igmp_wire.{specs.{declared.write.QueryHeader.QueryHeader, Written.{query_with, bits_of}}}
+use Rattle.pim_model.{specs.{Messages.Message, Querier.queries_of, Tables.is_empty_list}}
+use Rattle.pim_querier.{specs.Queries.{all_queries, asking}}
 
 module _ (message : List ℕ → Message) where
   -- however many messages there may be, as long as there may be enough

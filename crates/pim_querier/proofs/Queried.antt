@@ -1,23 +1,12 @@
 -- The queries that a record asks for.
-use Rattle.std.proofs.Common.{◌≡◌, ℕ, ◌+◌, ◌-◌, ◌==◌, Bool, true, false, List, [], ◌∷◌, ◌++◌, length, Option, Some, None, refl, sym, ap, ◌∙◌, append-nil, arith}
-use Rattle.std.proofs.lemmas.Bool.Decides.{nat_tests}
-use Rattle.std.specs.List.{filter}
-use Rattle.std.specs.Prelude.{fold}
-use Rattle.pim_filters.specs.Asking.{asked_in_order, source_queries}
-use Rattle.pim_ip.specs.declared.addr.Addr.{Addr}
-use Rattle.pim_world.specs.Turns.{Taking, saying}
-use Rattle.pim_types.specs.declared.fact.SendingRow.{SendingRow}
-use Rattle.pim_types.specs.declared.fact.SourceRepeatRow.{SourceRepeatRow}
-use Rattle.pim_types.specs.Keys.{source_key, star_key}
-use Rattle.pim_model.specs.Messages.{Message}
-use Rattle.pim_model.specs.Querier.{each_in_turn, exceeds, last_member_query_interval, lower_group, lower_sources, next_sending, query_asked, query_end, query_group, query_sources, robustness, send_sources, source_end, sources_sent}
-use Rattle.pim_model.specs.Records.{Asked}
-use Rattle.pim_model.specs.State.{State}
-use Rattle.pim_model.specs.Tables.{is_empty_list, put, set_row}
-use Rattle.pim_querier.specs.Changes.{sending_put, sendings_put}
-use Rattle.igmp_wire.specs.Written.{bits_of}
-use Rattle.pim_querier.proofs.Parts.{is_some, not_empty}
-use Rattle.pim_querier.proofs.Starting.{said_twice}
+use Rattle.std.{proofs.{Common.{◌≡◌, ℕ, ◌+◌, ◌-◌, ◌==◌, Bool, true, false, List, [], ◌∷◌, ◌++◌, length, Option, Some, None, refl, sym, ap, ◌∙◌, append-nil, arith}, lemmas.Bool.Decides.nat_tests}, specs.{List.filter, Prelude.fold}}
+use Rattle.pim_filters.{specs.Asking.{asked_in_order, source_queries}}
+use Rattle.pim_ip.{specs.declared.addr.Addr.Addr}
+use Rattle.pim_state.{specs.Turns.{Taking, saying}}
+use Rattle.pim_types.{specs.{declared.fact.{SendingRow.SendingRow, SourceRepeatRow.SourceRepeatRow}, Keys.{source_key, star_key}}}
+use Rattle.pim_model.{specs.{Messages.Message, Querier.{each_in_turn, exceeds, last_member_query_interval, lower_group, lower_sources, next_sending, query_asked, query_end, query_group, query_sources, robustness, send_sources, source_end, sources_sent}, Records.Asked, State.State, Tables.{is_empty_list, put, set_row}}}
+use Rattle.pim_querier.{specs.Changes.{sending_put, sendings_put}, proofs.{Parts.{is_some, not_empty}, Starting.said_twice}}
+use Rattle.igmp_wire.{specs.Written.bits_of}
 
 module _ (i g : ℕ) where
   -- ---- the group

@@ -1,20 +1,10 @@
 -- A group record of a report, applied to what is known of its group.
-use Rattle.std.proofs.Common.{◌≡◌, ◌<◌, ℕ, ◌++◌, true, false, List, [], ◌∷◌, append-nil, arith, length, map, refl, sym, ap, subst, ◌∙◌}
-use Rattle.std.proofs.lemmas.List.{length-map}
-use Rattle.std.specs.List.Sorted.{IsStrictlySortedBy}
-use Rattle.std.specs.Ordering.{nat_cmp}
-use Rattle.igmp_wire.specs.Values.{Record}
-use Rattle.pim_filters.specs.Members.{IsAscending, member_entries}
-use Rattle.pim_filters.specs.declared.member.Member.{Member}
-use Rattle.pim_types.specs.declared.fact.Key.{Key}
-use Rattle.pim_types.specs.declared.fact.SourceRecordRow.{SourceRecordRow}
-use Rattle.pim_types.specs.Keys.{source_in}
-use Rattle.pim_model.specs.Querier.{each_in_turn, is_querier, query_asked, record_seen}
-use Rattle.pim_model.specs.Records.{Asked, Member as Entry, members_of, with_record}
-use Rattle.pim_model.specs.State.{State}
-use Rattle.pim_model.specs.Tables.{Table}
-use Rattle.pim_querier.specs.Changes.{applied}
-use Rattle.pim_querier.specs.Reports.{AsksAlike}
+use Rattle.std.{proofs.{Common.{◌≡◌, ◌<◌, ℕ, ◌++◌, true, false, List, [], ◌∷◌, append-nil, arith, length, map, refl, sym, ap, subst, ◌∙◌}, lemmas.List.length-map}, specs.{List.Sorted.IsStrictlySortedBy, Ordering.nat_cmp}}
+use Rattle.igmp_wire.{specs.Values.Record}
+use Rattle.pim_filters.{specs.{Members.{IsAscending, member_entries}, declared.member.Member.Member}}
+use Rattle.pim_types.{specs.{declared.fact.{Key.Key, SourceRecordRow.SourceRecordRow}, Keys.source_in}}
+use Rattle.pim_model.{specs.{Querier.{each_in_turn, is_querier, query_asked, record_seen}, Records.{Asked, Member as Entry, members_of, with_record}, State.State, Tables.Table}}
+use Rattle.pim_querier.{specs.{Changes.applied, Reports.AsksAlike}}
 
 -- the numbers of the members are the sources of the rows
 pub numbers_of_rows : (rows : Table SourceRecordRow)

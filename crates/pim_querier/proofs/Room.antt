@@ -1,16 +1,10 @@
 -- How many keys a report names, and that there is room for what it needs where there is room for them.
-use Rattle.std.proofs.Common.{◌≡◌, ◌+◌, ℕ, Bool, true, false, not, List, [], ◌∷◌, arith, filter, length, length-append, map, refl}
-use Rattle.std.proofs.lemmas.List.{length-map}
-use Rattle.std.specs.List.{flat_map}
-use Rattle.std.specs.Prelude.{if◌then◌else◌}
-use Rattle.igmp_wire.specs.Values.{Record}
-use Rattle.pim_types.specs.Keys.{source_key, star_key}
-use Rattle.pim_types.specs.declared.fact.Key.{Key}
-use Rattle.pim_model.specs.Full.{passes_limit, report_is_full, reported_groups, reported_sources}
-use Rattle.pim_model.specs.Querier.{is_skipped}
-use Rattle.pim_model.specs.State.{State}
-use Rattle.pim_world.proofs.Room.{needed_within, room_for_fewer}
-use Rattle.pim_querier.specs.Reports.{named_count}
+use Rattle.std.{proofs.{Common.{◌≡◌, ◌+◌, ℕ, Bool, true, false, not, List, [], ◌∷◌, arith, filter, length, length-append, map, refl}, lemmas.List.length-map}, specs.{List.flat_map, Prelude.if◌then◌else◌}}
+use Rattle.igmp_wire.{specs.Values.Record}
+use Rattle.pim_types.{specs.{Keys.{source_key, star_key}, declared.fact.Key.Key}}
+use Rattle.pim_model.{specs.{Full.{passes_limit, report_is_full, reported_groups, reported_sources}, Querier.is_skipped, State.State}}
+use Rattle.pim_state.{proofs.Room.{needed_within, room_for_fewer}}
+use Rattle.pim_querier.{specs.Reports.named_count}
 
 keys_of : ℕ → List Record → ℕ
 keys_of i rs = length (reported_groups i rs) + length (reported_sources i rs)

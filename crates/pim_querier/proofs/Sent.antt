@@ -1,23 +1,10 @@
 -- Sendings and records that are changed one after the other, and all at once.
-use Rattle.std.proofs.Common.{◌≡◌, ◌<◌, ◌+◌, ℕ, add-one, drop, drop-cons, get_or, is_none, length, Bool, true, false, not, ◌&&◌, List, [], ◌∷◌, Option, Some, None, option_map, refl, sym, ap, ◌∙◌, nat_lt, ◌-◌}
-use Rattle.std.specs.List.{filter, filter_map, list_any}
-use Rattle.std.specs.List.Sorted.{IsStrictlySortedBy}
-use Rattle.std.specs.Prelude.{fold, if◌then◌else◌}
-use Rattle.pim_filters.specs.Members.{member_entries}
-use Rattle.pim_filters.specs.declared.member.Member.{Member}
-use Rattle.pim_types.specs.declared.fact.Key.{Key}
-use Rattle.pim_types.specs.declared.fact.SendingRow.{SendingRow}
-use Rattle.pim_types.specs.Keys.{key_cmp}
-use Rattle.pim_types.specs.Keys.{star_key}
-use Rattle.pim_types.specs.declared.fact.SourceRepeatRow.{SourceRepeatRow}
-use Rattle.pim_model.specs.Querier.{exceeds, is_sending, next_sending, one_sent, query_end, source_end, source_repeat_due, sources_sent, sources_to_send, specific_queries}
-use Rattle.pim_world.specs.Turns.{Taking, saying}
-use Rattle.pim_model.specs.Records.{GroupRecord, is_at_group, is_no_record, put_member, with_members, with_repeats_of_rows}
-use Rattle.pim_model.specs.State.{State}
-use Rattle.pim_model.specs.Tables.{Table, change_row, drop_where, has_row, keys_in, put, same_bool}
-use Rattle.pim_querier.specs.Changes.{beside, each_changed, member_put, members_put, one_less, sending_changed, sendings_changed, row_sources, without_empty, without_group_repeat, without_source_repeat}
-use Rattle.pim_querier.proofs.Starting.{said_twice}
-use Rattle.pim_querier.proofs.EachOnce.{each_is_changed_once, left_of}
+use Rattle.std.{proofs.Common.{◌≡◌, ◌<◌, ◌+◌, ℕ, add-one, drop, drop-cons, get_or, is_none, length, Bool, true, false, not, ◌&&◌, List, [], ◌∷◌, Option, Some, None, option_map, refl, sym, ap, ◌∙◌, nat_lt, ◌-◌}, specs.{List.{filter, filter_map, list_any, Sorted.IsStrictlySortedBy}, Prelude.{fold, if◌then◌else◌}}}
+use Rattle.pim_filters.{specs.{Members.member_entries, declared.member.Member.Member}}
+use Rattle.pim_types.{specs.{declared.fact.{Key.Key, SendingRow.SendingRow, SourceRepeatRow.SourceRepeatRow}, Keys.{key_cmp, star_key}}}
+use Rattle.pim_model.{specs.{Querier.{exceeds, is_sending, next_sending, one_sent, query_end, source_end, source_repeat_due, sources_sent, sources_to_send, specific_queries}, Records.{GroupRecord, is_at_group, is_no_record, put_member, with_members, with_repeats_of_rows}, State.State, Tables.{Table, change_row, drop_where, has_row, keys_in, put, same_bool}}}
+use Rattle.pim_state.{specs.Turns.{Taking, saying}}
+use Rattle.pim_querier.{specs.Changes.{beside, each_changed, member_put, members_put, one_less, sending_changed, sendings_changed, row_sources, without_empty, without_group_repeat, without_source_repeat}, proofs.{Starting.said_twice, EachOnce.{each_is_changed_once, left_of}}}
 
 -- they change the one table
 sendings_in_table : (change : SendingRow → Option SendingRow) (es : Table SendingRow) (s : State)

@@ -1,19 +1,12 @@
 -- How querying starts and goes on, with the intervals as numbers.
-use Rattle.std.proofs.Common.{◌≡◌, ℕ, Bool, true, false, List, [], ◌∷◌, ◌++◌, Result, Ok, Err, OnOk, Option, Some, None, option_map, refl, ap, subst, ◌∙◌, ◌+◌, ◌*◌, ◌/◌, ◌-◌, arith, append-nil, append_assoc}
-use Rattle.pim_types.specs.declared.fact.Key.{Key}
-use Rattle.pim_types.specs.declared.fact.QuerierRow.{QuerierRow}
-use Rattle.pim_types.specs.Keys.{iface_key, same_key}
-use Rattle.igmp_wire.specs.Written.{query_with}
-use Rattle.igmp_wire.specs.declared.write.QueryHeader.{QueryHeader}
-use Rattle.pim_ip.specs.declared.addr.Addr.{Addr}
-use Rattle.pim_model.specs.Messages.{Message}
-use Rattle.pim_model.specs.Querier.{general_query, other_querier_gone, querier_on, querier_row, querier_up, query_interval, query_sent, querying, querying_on, specific_queries, specific_query, startup_query_interval}
-use Rattle.pim_model.specs.State.{State}
-use Rattle.pim_model.specs.Tables.{Table, change_row, changed_entry, row_at}
-use Rattle.pim_laws.proofs.RowLaws.{row_put}
-use Rattle.pim_world.specs.Turns.{Taking, saying}
-use Rattle.pim_querier.specs.Queries.{all_queries, asking, general_header, specific_header}
-use Rattle.igmp_wire.specs.Written.{bits_of}
+use Rattle.std.{proofs.Common.{◌≡◌, ℕ, Bool, true, false, List, [], ◌∷◌, ◌++◌, Result, Ok, Err, OnOk, Option, Some, None, option_map, refl, ap, subst, ◌∙◌, ◌+◌, ◌*◌, ◌/◌, ◌-◌, arith, append-nil, append_assoc}}
+use Rattle.pim_types.{specs.{declared.fact.{Key.Key, QuerierRow.QuerierRow}, Keys.{iface_key, same_key}}}
+use Rattle.igmp_wire.{specs.{Written.{query_with, bits_of}, declared.write.QueryHeader.QueryHeader}}
+use Rattle.pim_ip.{specs.declared.addr.Addr.Addr}
+use Rattle.pim_model.{specs.{Messages.Message, Querier.{general_query, other_querier_gone, querier_on, querier_row, querier_up, query_interval, query_sent, querying, querying_on, specific_queries, specific_query, startup_query_interval}, State.State, Tables.{Table, change_row, changed_entry, row_at}}}
+use Rattle.law_settled.{proofs.RowLaws.row_put}
+use Rattle.pim_state.{specs.Turns.{Taking, saying}}
+use Rattle.pim_querier.{specs.Queries.{all_queries, asking, general_header, specific_header}}
 
 module _ {R : Type 0} (k : Key) (r : R) where
   replaced_step : (e : Key × R) (t : Table R) (b : Bool) → same_key k e.0 ≡ b

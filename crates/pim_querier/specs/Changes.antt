@@ -1,19 +1,10 @@
 -- Rows that are changed key by key, and the members of a group's record.
-use Rattle.std.specs.List.{list_any}
-use Rattle.std.specs.Prelude.{Bool, List, None, Option, Some, fold, if◌then◌else◌, is_none, map, nat_lt, not, ℕ, ◌&&◌, ◌+◌, ◌-◌}
-use Rattle.pim_filters.specs.Members.{member_entry}
-use Rattle.pim_filters.specs.declared.member.Member.{Member}
-use Rattle.igmp_wire.specs.Values.{Record}
-use Rattle.pim_ip.specs.declared.addr.Addr.{Addr}
-use Rattle.pim_types.specs.declared.fact.GroupRepeatRow.{GroupRepeatRow}
-use Rattle.pim_types.specs.declared.fact.Key.{Key}
-use Rattle.pim_types.specs.declared.fact.SendingRow.{SendingRow}
-use Rattle.pim_types.specs.declared.fact.SourceRecordRow.{SourceRecordRow}
-use Rattle.pim_types.specs.Keys.{source_in, source_key, star_key}
-use Rattle.pim_model.specs.Querier.{group_membership_interval, is_sending, last_member_query_interval, lowered}
-use Rattle.pim_model.specs.Records.{Asked, GroupRecord, apply_record, is_at_group, put_member, record_of, with_repeats_of_rows}
-use Rattle.pim_model.specs.State.{State}
-use Rattle.pim_model.specs.Tables.{Table, change_row, drop_at, has_row, put}
+use Rattle.std.{specs.{List.list_any, Prelude.{Bool, List, None, Option, Some, fold, if◌then◌else◌, is_none, map, nat_lt, not, ℕ, ◌&&◌, ◌+◌, ◌-◌}}}
+use Rattle.pim_filters.{specs.{Members.member_entry, declared.member.Member.Member}}
+use Rattle.igmp_wire.{specs.Values.Record}
+use Rattle.pim_ip.{specs.declared.addr.Addr.Addr}
+use Rattle.pim_types.{specs.{declared.fact.{GroupRepeatRow.GroupRepeatRow, Key.Key, SendingRow.SendingRow, SourceRecordRow.SourceRecordRow}, Keys.{source_in, source_key, star_key}}}
+use Rattle.pim_model.{specs.{Querier.{group_membership_interval, is_sending, last_member_query_interval, lowered}, Records.{Asked, GroupRecord, apply_record, is_at_group, put_member, record_of, with_repeats_of_rows}, State.State, Tables.{Table, change_row, drop_at, has_row, put}}}
 
 -- a sending with one less, or none where it was the last
 abbrev pub one_less : SendingRow → Option SendingRow
@@ -35,7 +26,7 @@ sending_changed change s e = record s { sendings = change_row (λ _. change e.1)
 unfoldable pub sendings_changed : (SendingRow → Option SendingRow) → State → Table SendingRow → State
 sendings_changed change s entries = fold (sending_changed change) s entries
 
--- the sources of these entries
+-- the sources of a table's entries
 abbrev pub row_sources : {R : Type 0} → Table R → List ℕ
 row_sources entries = map (λ e. source_in e.0) entries
 

@@ -1,6 +1,6 @@
 -- The timers of an interface's querier.
-use Rattle.std.specs.Prelude.{Bool, false, true}
-use Rattle.pim_types.specs.declared.timer.TimerKind.{TimerKind}
+use Rattle.std.{specs.Prelude.{Bool, false, true}}
+use Rattle.pim_types.{specs.declared.timer.TimerKind.TimerKind}
 
 -- a timer of IGMP
 abbrev pub is_igmp_kind : TimerKind → Bool

@@ -1,4 +1,5 @@
 pub mod Changes
 pub mod Kinds
+pub mod Looking
 pub mod Queries
 pub mod Reports

@@ -1,11 +1,8 @@
 -- Queries as they are put together, and the sources that they name.
-use Rattle.std.specs.Prelude.{Bool, List, false, length, ℕ, ◌/◌}
-use Rattle.pim_ip.specs.Addr.{addr}
-use Rattle.igmp_wire.specs.Codes.{value_code}
-use Rattle.igmp_wire.specs.declared.write.QueryHeader.{QueryHeader}
-use Rattle.pim_model.specs.Messages.{Message}
-use Rattle.pim_model.specs.Querier.{queries_of, query_interval, robustness}
-use Rattle.pim_model.specs.State.{State}
+use Rattle.std.{specs.Prelude.{Bool, List, false, length, ℕ, ◌/◌}}
+use Rattle.pim_ip.{specs.Addr.addr}
+use Rattle.igmp_wire.{specs.{Codes.value_code, declared.write.QueryHeader.QueryHeader}}
+use Rattle.pim_model.{specs.{Messages.Message, Querier.{queries_of, query_interval, robustness}, State.State}}
 
 -- a query on an interface before its sources
 abbrev pub header_of : State → ℕ → ℕ → ℕ → Bool → QueryHeader
@@ -23,7 +20,7 @@ general_header s i = header_of s i s.settings.query_response_interval 0 false
 abbrev pub specific_header : State → ℕ → ℕ → Bool → QueryHeader
 specific_header s i g suppress = header_of s i s.settings.last_member_query_interval g suppress
 
--- the query with these sources
+-- a query on an interface with a header's values and these sources
 abbrev pub asking : ℕ → QueryHeader → List ℕ → Message
 asking i header sources = Message.Query i (record {
   max_response_code = header.max_response_code;

@@ -1,18 +1,9 @@
 -- The records of a report: those that leave what they don't name, what is known of the sources that they name, and
 -- which sources they move.
-use Rattle.std.specs.List.{filter_map, flat_map, list_all, list_any}
-use Rattle.std.specs.Option.{option_map_or}
-use Rattle.std.specs.Prelude.{Bool, List, Option, [], ◌∷◌, false, filter, if◌then◌else◌, is_some, length, map, not, option_map, true, ℕ, ◌&&◌, ◌++◌, ◌+◌, ◌||◌, ◌≡◌}
-use Rattle.igmp_wire.specs.Values.{Record}
-use Rattle.igmp_wire.specs.declared.report.RecordType.{RecordType}
-use Rattle.pim_types.specs.declared.fact.Key.{Key}
-use Rattle.pim_types.specs.declared.fact.SourceRecordRow.{SourceRecordRow}
-use Rattle.pim_types.specs.Keys.{source_key, star_key}
-use Rattle.pim_model.specs.Cause.{is_including}
-use Rattle.pim_model.specs.Querier.{each_in_turn, group_end, is_skipped, query_asked}
-use Rattle.pim_model.specs.Records.{Asked, GroupRecord, Member, is_at_group, with_record}
-use Rattle.pim_model.specs.State.{State}
-use Rattle.pim_model.specs.Tables.{Table, ascending, has_row, row_at}
+use Rattle.std.{specs.{List.{filter_map, flat_map, list_all, list_any}, Option.option_map_or, Prelude.{Bool, List, Option, [], ◌∷◌, false, filter, if◌then◌else◌, is_some, length, map, not, option_map, true, ℕ, ◌&&◌, ◌++◌, ◌+◌, ◌||◌, ◌≡◌}}}
+use Rattle.igmp_wire.{specs.{Values.Record, declared.report.RecordType.RecordType}}
+use Rattle.pim_types.{specs.{declared.fact.{Key.Key, SourceRecordRow.SourceRecordRow}, Keys.{source_key, star_key}}}
+use Rattle.pim_model.{specs.{Cause.is_including, Querier.{each_in_turn, group_end, is_skipped, query_asked}, Records.{Asked, GroupRecord, Member, is_at_group, with_record}, State.State, Tables.{Table, ascending, has_row, row_at}}}
 
 -- Sources that the record doesn't name are unchanged.
 abbrev pub keeps_others : RecordType → Bool
@@ -27,7 +18,7 @@ asks_named RecordType.Allow = true
 asks_named RecordType.Block = true
 asks_named _ = false
 
--- Those of the given sources of the group that have a record on the interface, in their order.
+-- The record of a source of the group on the interface, if it has one.
 abbrev pub member_named : ℕ → ℕ → Table SourceRecordRow → ℕ → Option Member
 member_named i g t n =
     option_map (λ (r : SourceRecordRow). let m : Member = (n, r.end) in m) (row_at t (source_key i g n))
@@ -50,12 +41,12 @@ AsksAlike s i g applied asked =
 
 -- ---- the sources that a report moves
 
--- A named source with this row has a row afterwards, on the same side.
+-- A source that a record names still has a row after it, on the same side, by its row before.
 abbrev pub stays : RecordType → Option SourceRecordRow → Bool
 stays type o = option_map_or (λ (r : SourceRecordRow). not (is_including type) || is_some r.end) o false
 
--- The group keeps its mode. In EXCLUDE it does. In INCLUDE it does where the sources that aren't named are unchanged,
--- and there is one of them exactly where the group has a record.
+-- A record leaves the mode of its group. In EXCLUDE it does. In INCLUDE it does where the sources that aren't named are
+-- unchanged, and there is one of them exactly where the group has a record.
 unfoldable pub keeps_mode : State → ℕ → Record → Bool
 keeps_mode s i r =
     let listed : Bool = list_any (λ e. is_at_group i r.group e.0) s.source_records in
@@ -72,10 +63,12 @@ abbrev pub moved_named : Table SourceRecordRow → ℕ → Record → List Key
 moved_named t i r =
     map (source_key i r.group) (filter (λ src. not (stays r.type (row_at t (source_key i r.group src)))) r.sources)
 
+-- the sources of the group that a record moves without naming them
 abbrev pub moved_others : Table SourceRecordRow → ℕ → Record → List Key
 moved_others t i r =
     if keeps_others r.type then [] else map (λ e. e.0) (filter (λ e. is_at_group i r.group e.0) t)
 
+-- the sources that a record of a report moves
 abbrev pub moved_by : Table SourceRecordRow → ℕ → Record → List Key
 moved_by t i r = moved_named t i r ++ moved_others t i r
 

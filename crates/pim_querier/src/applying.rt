@@ -1,22 +1,24 @@
 //! A record of a report, applied to what is known of its group (RFC 3376, section 6.4).
 ghost use Rattle.std.specs.List.{list_any};
-ghost use Rattle.std.specs.Prelude.{◌≡◌, ◌<◌, ◌&&◌, ℕ, IfOk, OnOk, false, filter, if◌then◌else◌, is_none, not, option_map, true};
+ghost use Rattle.std.specs.Prelude.{◌≡◌, ◌<◌, ◌&&◌, ◌==◌, ℕ, IfOk, OnOk, false, filter, if◌then◌else◌, is_none, not, option_map, true};
 ghost use Rattle.pim_filters.specs.Members.{IsAscending, member_entries, member_entry, is_named_source};
 ghost use Rattle.pim_model.specs.Querier.{exceeds, group_end};
-ghost use Rattle.pim_model.specs.Records.{Gone, apply_record, fate_in, is_at_group, record_of, with_record};
+ghost use Rattle.pim_model.specs.Records.{Absent, apply_record, source_state_in, is_at_group, record_of, with_record};
 ghost use Rattle.pim_model.specs.Tables.{is_among};
 ghost use Rattle.pim_querier.specs.Changes.{beside};
+ghost use Rattle.pim_querier.specs.Looking.{ListsLate};
 ghost use Rattle.igmp_wire.specs.Written.{bits_of};
 ghost use Rattle.pim_querier.specs.Reports.{AsksAlike, asks_named, keeps_others, member_named, members_named, record_named};
 
 use crate::intervals::{exceeds, query_end};
+use crate::looked::Looked;
 use crate::place::IfaceGroup;
 use crate::records::{drop_empty, drop_repeats, has_sources, put_members, record_of, set_record};
 use igmp_wire::RecordType;
 use pim_filters::{Asking, GroupRecord, Member};
+use pim_state::{Meter, World};
 use pim_types::Addr;
 use pim_types::fact::GroupRecordRow;
-use pim_world::{Meter, World};
 use std::alloc::{AllocError, Global};
 use std::collections::BTreeSet;
 
@@ -87,14 +89,14 @@ fn named_record(
 ) -> Result<GroupRecord, AllocError>
     ensures timer { IfOk result (λ known. known.timer ≡ group_end world.now place.iface.number place.group.bits) }
     ensures ascending { IfOk result (λ known. IsAscending known.members) }
-    ensures fates { IfOk result (λ known. (src : ℕ) → fate_in known src
+    ensures source_states { IfOk result (λ known. (src : ℕ) → source_state_in known src
         ≡ (if is_among src (bits_of sources.now)
-        then fate_in (record_of world.now place.iface.number place.group.bits) src else Gone)) }
+        then source_state_in (record_of world.now place.iface.number place.group.bits) src else Absent)) }
     ensures named { IfOk result (λ known. known
         ≡ record_named world.now place.iface.number place.group.bits (bits_of sources.now)) }
 {
     // For the proof: each is under the key of a source.
-    world.membership().recall_keyed_source_records();
+    world.membership().proof_keyed_source_records();
     let named = set_of(alloc, sources)?;
     // For the proof: the sources rise.
     let _ = named.len();
@@ -131,19 +133,92 @@ fn members_past(
     Ok(members)
 }
 
+// Those of these members whose timers expire after the timestamp, in ms.
+fn past(alloc: Global, members: &[Member], moment: u64) -> Result<Vec<Member>, AllocError>
+    ensures { IfOk result (λ late. member_entries late.items
+        ≡ filter (λ m. exceeds moment m.1) (member_entries members.now)) }
+{
+    let mut late = Vec::new(alloc);
+    for member in members {
+        if exceeds(moment, member.end) {
+            late.push(*member)?;
+        }
+    }
+    Ok(late)
+}
+
+// Those sources of the group's record on the interface whose timers expire after the timestamp, in ms, where they are
+// listed.
+fn listed_past(
+    world: &World,
+    alloc: Global,
+    place: IfaceGroup,
+    moment: u64,
+    looked: &Looked,
+) -> Result<Vec<Member>, AllocError>
+    requires listed { ((looked.now.end == moment) && is_named_source place.group.bits looked.now.groups.items) ≡ true }
+    requires known { ListsLate place.iface.number looked.now.end looked.now.groups.items looked.now.late.items
+        world.now.source_records }
+    ensures members { IfOk result (λ members. member_entries members.items
+        ≡ filter (λ m. exceeds moment m.1) (record_of world.now place.iface.number place.group.bits).members) }
+    ensures ascending { IfOk result (λ members. IsAscending (member_entries members.items)) }
+{
+    // For the proof: each is under the key of a source, and the sources rise.
+    world.membership().proof_keyed_source_records();
+    let _ = world
+        .membership()
+        .source_records_at(place.iface, place.group);
+    let listed = looked.sources_of(alloc, place)?;
+    let sources = set_of(alloc, &listed)?;
+    // For the proof: the sources rise.
+    let _ = sources.len();
+    let members = members_among(world, alloc, place, &sources)?;
+    past(alloc, &members, moment)
+}
+
+// Those sources of the group's record on the interface whose timers expire after the timestamp, in ms: of the listed
+// ones, where the group was gone over before.
+fn late_members(
+    world: &World,
+    alloc: Global,
+    place: IfaceGroup,
+    moment: u64,
+    looked: &mut Looked,
+) -> Result<Vec<Member>, AllocError>
+    requires { ListsLate place.iface.number looked.old.end looked.old.groups.items looked.old.late.items
+        world.now.source_records }
+    ensures members { IfOk result (λ members. member_entries members.items
+        ≡ filter (λ m. exceeds moment m.1) (record_of world.now place.iface.number place.group.bits).members) }
+    ensures ascending { IfOk result (λ members. IsAscending (member_entries members.items)) }
+    ensures known { OnOk result (ListsLate place.iface.number looked.new.end looked.new.groups.items
+        looked.new.late.items world.now.source_records) }
+{
+    if looked.lists(place.group, moment) {
+        return listed_past(world, alloc, place, moment, looked);
+    }
+    let members = members_past(world, alloc, place, moment)?;
+    looked.remember(world, place, moment, &members)?;
+    Ok(members)
+}
+
 // The group's record on the interface, with those of its sources alone whose timers expire after the timestamp, in ms.
 fn record_past(
     world: &World,
     alloc: Global,
     place: IfaceGroup,
     moment: u64,
+    looked: &mut Looked,
 ) -> Result<GroupRecord, AllocError>
+    requires { ListsLate place.iface.number looked.old.end looked.old.groups.items looked.old.late.items
+        world.now.source_records }
     ensures timer { IfOk result (λ known. known.timer ≡ group_end world.now place.iface.number place.group.bits) }
     ensures members { IfOk result (λ known. known.members
         ≡ filter (λ m. exceeds moment m.1) (record_of world.now place.iface.number place.group.bits).members) }
     ensures ascending { IfOk result (λ known. IsAscending known.members) }
+    ensures known { OnOk result (ListsLate place.iface.number looked.new.end looked.new.groups.items
+        looked.new.late.items world.now.source_records) }
 {
-    let members = members_past(world, alloc, place, moment)?;
+    let members = late_members(world, alloc, place, moment, looked)?;
     GroupRecord::with(alloc, world.group_end(place.iface, place.group), &members)
 }
 
@@ -199,8 +274,8 @@ fn apply_to_named(
         (bits_of sources.now)).1) }
 {
     // For the proof: each source has one record, under its own key, and the sources rise.
-    world.membership().recall_rising_source_records();
-    world.membership().recall_keyed_source_records();
+    world.membership().proof_rising_source_records();
+    world.membership().proof_keyed_source_records();
     let _ = world
         .membership()
         .source_records_at(seen.place.iface, seen.place.group);
@@ -218,21 +293,26 @@ fn asked_of_running(
     alloc: Global,
     seen: SeenRecord,
     sources: &[Addr],
+    looked: &mut Looked,
 ) -> Result<Asking, AllocError>
     requires keeps { keeps_others seen.record_type ≡ true }
     requires others { asks_named seen.record_type ≡ false }
-    ensures { IfOk result (λ asked. AsksAlike world.now seen.place.iface.number seen.place.group.bits
+    requires known { ListsLate seen.place.iface.number looked.old.end looked.old.groups.items looked.old.late.items
+        world.now.source_records }
+    ensures asked { IfOk result (λ asked. AsksAlike world.now seen.place.iface.number seen.place.group.bits
         (apply_record seen.full (record_of world.now seen.place.iface.number seen.place.group.bits) seen.record_type
         (bits_of sources.now)) asked) }
+    ensures known { OnOk result (ListsLate seen.place.iface.number looked.new.end looked.new.groups.items
+        looked.new.late.items world.now.source_records) }
 {
     // For the proof: each source has one record, under its own key, and the sources rise.
-    world.membership().recall_rising_source_records();
-    world.membership().recall_keyed_source_records();
+    world.membership().proof_rising_source_records();
+    world.membership().proof_keyed_source_records();
     let _ = world
         .membership()
         .source_records_at(seen.place.iface, seen.place.group);
     let end = query_end(world, seen.place.iface);
-    let mut known = record_past(world, alloc, seen.place, end)?;
+    let mut known = record_past(world, alloc, seen.place, end, looked)?;
     let mut asked = Asking::new();
     known.apply(seen.record_type, sources, seen.full, &mut asked)?;
     Ok(asked)
@@ -281,7 +361,8 @@ fn asks_named(record_type: RecordType) -> bool
 /// Applies a record of a report, on an interface below 120, with when its timers expire, in ms, if they are set. The
 /// result is the queries that the record requests, if the router sends them, perhaps without sources that are then not
 /// queried, since their timers expire soon enough. If the record deletes no source, the records of sources that it
-/// doesn't name aren't written, and they aren't read but for such queries. The meter rises by the nodes visited.
+/// doesn't name aren't written, and they aren't read but for such queries, where no earlier record of the report read
+/// them. The meter rises by the nodes visited.
 pub fn apply(
     world: &mut World,
     meter: &mut Meter,
@@ -289,8 +370,11 @@ pub fn apply(
     seen: SeenRecord,
     sources: &[Addr],
     queries: bool,
+    looked: &mut Looked,
 ) -> Result<Asking, AllocError>
-    requires { seen.place.iface.number < 120 }
+    requires below { seen.place.iface.number < 120 }
+    requires known { ListsLate seen.place.iface.number looked.old.end looked.old.groups.items looked.old.late.items
+        world.old.source_records }
     ensures state { OnOk result (world.new ≡ with_record world.old seen.place.iface.number seen.place.group.bits
         (apply_record seen.full (record_of world.old seen.place.iface.number seen.place.group.bits) seen.record_type
         (bits_of sources.now)).0) }
@@ -298,6 +382,8 @@ pub fn apply(
         seen.place.group.bits
         (apply_record seen.full (record_of world.old seen.place.iface.number seen.place.group.bits) seen.record_type
         (bits_of sources.now)) asked) }
+    ensures known { OnOk result (ListsLate seen.place.iface.number looked.new.end looked.new.groups.items
+        looked.new.late.items world.old.source_records) }
 {
     if !keeps_others(seen.record_type) {
         return apply_to_all(world, meter, alloc, seen, sources);
@@ -305,7 +391,7 @@ pub fn apply(
     if asks_named(seen.record_type) || !queries {
         return apply_to_named(world, meter, alloc, seen, sources);
     }
-    let asked = asked_of_running(world, alloc, seen, sources)?;
+    let asked = asked_of_running(world, alloc, seen, sources, looked)?;
     apply_to_named(world, meter, alloc, seen, sources)?;
     Ok(asked)
 }

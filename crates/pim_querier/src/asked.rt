@@ -1,7 +1,7 @@
 //! The queries that a record of a report requests (RFC 3376, section 6.6.3).
 ghost use Rattle.std.specs.Prelude.{◌≡◌, IfOk, OnOk, filter, option_map};
 ghost use Rattle.pim_filters.specs.Asking.{source_queries};
-ghost use Rattle.pim_world.specs.Turns.{saying};
+ghost use Rattle.pim_state.specs.Turns.{saying};
 ghost use Rattle.pim_model.specs.Querier.{each_in_turn, exceeds, query_asked, query_group, query_sources, source_end};
 ghost use Rattle.pim_querier.specs.Changes.{sendings_put};
 ghost use Rattle.igmp_wire.specs.Written.{bits_of};
@@ -12,9 +12,9 @@ use crate::place::IfaceGroup;
 use crate::queries::specific_query;
 use crate::repeats::send_sources;
 use pim_filters::Asking;
+use pim_state::{Meter, Turn, World};
 use pim_types::Addr;
 use pim_types::fact::{GroupRepeatRow, SendingRow};
-use pim_world::{Meter, Turn, World};
 use std::alloc::{AllocError, Global};
 
 // Queries the group at once, and again [Last Member Query Count] - 1 times; lowers its timer (RFC 3376, section
@@ -47,7 +47,7 @@ fn query_group(
     turn.out.query(place.iface, &query, &[])
 }
 
-// Those of the sources whose timers expire after this timestamp, in ms.
+// The given sources whose timers expire after a timestamp, in ms.
 fn running_past(
     world: &World,
     alloc: Global,

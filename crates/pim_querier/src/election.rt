@@ -1,12 +1,12 @@
 //! Which router queries (RFC 3376, section 6.6.2).
 ghost use Rattle.std.specs.Prelude.{◌≡◌, ◌≤◌, ℕ, OnOk};
 ghost use Rattle.pim_model.specs.Querier.{given_or, is_querier, other_querier_gone, querier_elected};
-ghost use Rattle.pim_world.specs.Turns.{saying};
+ghost use Rattle.pim_state.specs.Turns.{saying};
 
 use crate::queries::general_query;
+use pim_state::{Turn, World};
 use pim_types::IfaceId;
 use pim_types::fact::{QuerierRole, QuerierRow};
-use pim_world::{Turn, World};
 use std::alloc::AllocError;
 
 /// Whether the router is the querier of the interface.
@@ -20,7 +20,8 @@ pub fn is_querier(world: &World, iface: IfaceId) -> bool
     }
 }
 
-/// The other querier was silent: the router queries again, with the configured values.
+/// The Other-Querier-Present timer expires (RFC 3376, section 6.6.2): the router queries again, with the configured
+/// values.
 pub fn other_querier_gone(
     world: &mut World,
     turn: &mut Turn,
@@ -30,7 +31,7 @@ pub fn other_querier_gone(
     ensures messages { OnOk result (turn.new ≡ saying turn.old (other_querier_gone world.old iface.number).1) }
 {
     let interval = 1000 * u64::from(world.settings().query_interval);
-    world.keep_querying(iface, world.present() + interval, 0)?;
+    world.update_querier(iface, world.present() + interval, 0)?;
     turn.out.query(iface, &general_query(world, iface), &[])
 }
 
@@ -42,8 +43,9 @@ fn given_or(given: u32, configured: u32) -> u32
     if given == 0 { configured } else { given }
 }
 
-/// Another router becomes the querier of the interface. Its values are adopted (the interval in seconds), or the
-/// configured ones where they are 0. Queries that the router was to repeat there are dropped.
+/// A router with a lower address becomes the querier of the interface (RFC 3376, section 6.6.2). Its values are adopted
+/// (the interval in seconds), or the configured ones where they are 0. Queries that the router was to repeat there are
+/// dropped.
 pub fn querier_elected(
     world: &mut World,
     iface: IfaceId,

@@ -1,6 +1,6 @@
 //! The expiry of a querier's timers.
 ghost use Rattle.std.specs.Prelude.{◌≡◌, OnOk, true};
-ghost use Rattle.pim_world.specs.Turns.{saying};
+ghost use Rattle.pim_state.specs.Turns.{saying};
 ghost use Rattle.pim_model.specs.Firing.{fired, startup_left};
 ghost use Rattle.pim_types.specs.declared.timer.TimerKind.{TimerKind};
 ghost use Rattle.pim_querier.specs.Kinds.{is_igmp_kind};
@@ -10,9 +10,9 @@ use crate::place::IfaceGroup;
 use crate::records::{group_record_due, source_record_due};
 use crate::repeats::{group_repeat_due, source_repeat_due};
 use crate::startup::general_query_due;
+use pim_state::{Meter, Turn, World};
 use pim_types::fact::QuerierRole;
 use pim_types::{Key, TimerKind};
-use pim_world::{Meter, Turn, World};
 use std::alloc::AllocError;
 
 // How many of the startup queries are still to leave.

@@ -2,8 +2,8 @@
 ghost use Rattle.std.specs.Prelude.{◌≡◌, ◌≤◌, ◌<◌, ◌^◌};
 ghost use Rattle.pim_model.specs.Querier.{exceeds, group_membership_interval, last_member_query_interval, query_end, query_interval, robustness, startup_query_interval};
 
+use pim_state::World;
 use pim_types::IfaceId;
-use pim_world::World;
 
 /// [Robustness Variable] (RFC 3376, section 8.1): that of the querier, which is adopted, or the configured one.
 #[tactic(auto, unfolding(pim_model::specs::Querier::robustness))]

@@ -9,6 +9,7 @@ pub mod asked;
 pub mod election;
 pub mod firing;
 pub mod intervals;
+mod looked;
 pub mod lowering;
 mod moving;
 pub mod named;

@@ -5,10 +5,10 @@ ghost use Rattle.pim_querier.specs.Changes.{each_lowered, one_lowered};
 ghost use Rattle.igmp_wire.specs.Written.{bits_of};
 
 use crate::place::IfaceGroup;
+use pim_state::querying::lowered;
+use pim_state::{Meter, World};
 use pim_types::fact::SourceRecordRow;
 use pim_types::{Addr, Key};
-use pim_world::querying::lowered;
-use pim_world::{Meter, World};
 use std::alloc::AllocError;
 
 // Lowers the source timer on the interface to a timestamp, in ms, where it runs and expires later.
@@ -22,7 +22,7 @@ fn lower_source(
     ensures { OnOk result (world.new ≡ one_lowered place.iface.number place.group.bits end world.old source) }
 {
     // For the proof: each key is listed once.
-    world.membership().recall_rising_source_records();
+    world.membership().proof_rising_source_records();
     let Some(row) = world
         .membership()
         .source_record(place.iface, place.group, source)
@@ -70,6 +70,6 @@ pub fn lower_sources(
         ≡ lower_sources world.old place.iface.number place.group.bits (bits_of sources.now) end) }
 {
     // For the proof: each is under the key of a source.
-    world.membership().recall_keyed_source_records();
+    world.membership().proof_keyed_source_records();
     lower_each(world, meter, place, sources, end)
 }

@@ -10,9 +10,9 @@ use crate::place::IfaceGroup;
 use crate::records::has_sources;
 use crate::report::is_skipped;
 use igmp_wire::{RecordType, RecordView, ReportView};
+use pim_state::World;
 use pim_types::fact::SourceRecordRow;
 use pim_types::{IfaceId, Key, Series};
-use pim_world::World;
 use std::alloc::{AllocError, Global};
 
 // Whether the sources that a record of this type names are included afterwards.
@@ -25,7 +25,7 @@ fn is_including(record_type: RecordType) -> bool
     )
 }
 
-// Whether a source with this row that the record names has a row afterwards, on the same side.
+// Whether a source that the record names still has a row after it, on the same side, by its row before.
 fn stays(record_type: RecordType, row: Option<SourceRecordRow>) -> bool
     ensures { result ≡ stays record_type row }
 {
@@ -98,7 +98,7 @@ fn push_sources_at(world: &World, place: IfaceGroup, keys: &mut Vec<Key>) -> Res
     Ok(())
 }
 
-// Puts those of the record's group behind the others, where it deletes what it doesn't name.
+// Adds the sources of the group that a record of this type deletes where it doesn't name them.
 fn push_others(
     world: &World,
     iface: IfaceId,

@@ -8,9 +8,9 @@ ghost use Rattle.pim_types.specs.Keys.{source_key};
 
 use crate::report::is_skipped;
 use igmp_wire::{RecordView, ReportView};
+use pim_state::World;
 use pim_types::fact::{GroupRecordRow, SourceRecordRow};
 use pim_types::{IfaceId, Key, Series};
-use pim_world::World;
 use std::alloc::{AllocError, Global};
 use std::collections::BTreeSet;
 
@@ -94,10 +94,10 @@ pub fn named_keys(
 
 // A record that a report makes where there is none.
 trait Made {
-    // The table of such records.
+    // The table of the records of one kind.
     ghost rows: { State → Table Self };
 
-    // Whether there is one under the key.
+    // Whether a record of the kind is under the key.
     fn is_there(world: &World, key: Key) -> bool
         ensures { result ≡ has_row (rows world.now) key };
 }

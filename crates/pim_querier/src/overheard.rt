@@ -9,8 +9,8 @@ use crate::intervals::query_end;
 use crate::lowering::lower_sources;
 use crate::place::IfaceGroup;
 use igmp_wire::{QueryView, code_value};
+use pim_state::{Meter, Turn, World};
 use pim_types::{Addr, IfaceId};
-use pim_world::{Meter, Turn, World};
 use std::alloc::{AllocError, Global};
 
 // The sources that the query names, in its order.

@@ -1,7 +1,7 @@
 //! Queries as they are put together (RFC 3376, section 4.1).
 ghost use Rattle.std.specs.Prelude.{◌≡◌, ◌<◌, ◌++◌, OnOk, false};
 ghost use Rattle.pim_model.specs.Querier.{specific_queries};
-ghost use Rattle.pim_world.specs.Turns.{saying};
+ghost use Rattle.pim_state.specs.Turns.{saying};
 ghost use Rattle.pim_querier.specs.Queries.{all_queries, asking, general_header, header_of, specific_header};
 ghost use Rattle.igmp_wire.specs.Written.{bits_of};
 
@@ -9,8 +9,8 @@ use crate::intervals::{query_interval, robustness};
 use crate::place::IfaceGroup;
 use igmp_wire::{QueryHeader, value_code};
 use pim_messages::{MOST_SOURCES, Outbox};
+use pim_state::{Turn, World};
 use pim_types::{Addr, IfaceId};
-use pim_world::{Turn, World};
 use std::alloc::AllocError;
 
 // A query without its sources; hosts answer within `response` tenths of a second.

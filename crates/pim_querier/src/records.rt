@@ -8,9 +8,9 @@ ghost use Rattle.pim_querier.specs.Changes.{members_put, with_excluded, without_
 
 use crate::place::IfaceGroup;
 use pim_filters::{GroupRecord, Member};
+use pim_state::{Meter, World};
 use pim_types::fact::{GroupRecordRow, SourceRecordRow};
 use pim_types::{Addr, Key};
-use pim_world::{Meter, World};
 use std::alloc::{AllocError, Global};
 
 // ---- the sources of a record
@@ -38,7 +38,7 @@ fn members_at(world: &World, alloc: Global, place: IfaceGroup) -> Result<Vec<Mem
 
 // ---- the rows of a record
 
-// Puts the records of these sources of the group.
+// Puts the records of the given sources of the group, in place of those that they have.
 #[tactic(auto, unfolding(crate::specs::Changes::members_put, crate::specs::Changes::member_put, pim_model::specs::Tables::set_row))]
 pub(crate) fn put_members(
     world: &mut World,
@@ -58,7 +58,7 @@ pub(crate) fn put_members(
     Ok(())
 }
 
-// Takes the group's record away, where it is none.
+// Removes the group's record, where it says no more than none would: INCLUDE of no source.
 pub(crate) fn drop_empty(world: &mut World, meter: &mut Meter, place: IfaceGroup, is_none: bool)
     ensures { world.new ≡ without_empty is_none place.iface.number place.group.bits world.old }
 {
@@ -157,7 +157,7 @@ pub fn set_record(
     set_members(world, meter, alloc, place, known)
 }
 
-// ---- the ends of its timers
+// ---- the expiry of a group's timers
 
 /// The group timer expired: INCLUDE of the sources whose timers run on (RFC 3376, section 6.5). The meter rises by the
 /// nodes visited.
@@ -231,8 +231,8 @@ fn end_source(
         ≡ source_record_due world.old place.iface.number place.group.bits source.bits) }
 {
     // For the proof: each source has one record, under its own key.
-    world.membership().recall_rising_source_records();
-    world.membership().recall_keyed_source_records();
+    world.membership().proof_rising_source_records();
+    world.membership().proof_keyed_source_records();
     if world.group_end(place.iface, place.group).is_some() {
         return exclude_source(world, meter, place, source);
     }

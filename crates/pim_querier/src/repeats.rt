@@ -1,15 +1,15 @@
 //! Queries that are repeated (RFC 3376, section 6.6.3).
 ghost use Rattle.std.specs.Prelude.{◌≡◌, OnOk};
 ghost use Rattle.pim_model.specs.Querier.{group_repeat_due, next_sending, send_sources, source_repeat_due, sources_sent};
-ghost use Rattle.pim_world.specs.Turns.{saying};
+ghost use Rattle.pim_state.specs.Turns.{saying};
 ghost use Rattle.pim_querier.specs.Changes.{one_repeat_less};
 
 use crate::intervals::{exceeds, last_member_query_interval, query_end};
 use crate::place::IfaceGroup;
 use crate::queries::{say_sources, specific_query};
 use crate::sendings::{lessen, sendings_at, sources_by_end};
+use pim_state::{Turn, World};
 use pim_types::fact::{GroupRepeatRow, SourceRepeatRow};
-use pim_world::{Turn, World};
 use std::alloc::AllocError;
 
 // What is left to repeat after a query of a group of which `left` were still to leave.
@@ -65,7 +65,7 @@ pub fn send(world: &mut World, turn: &mut Turn, place: IfaceGroup) -> Result<(),
     say_sources(world, turn, place, true, &running)?;
     say_sources(world, turn, place, false, &others)?;
     // For the proof: each key is listed once.
-    world.membership().recall_rising_sendings();
+    world.membership().proof_rising_sendings();
     lessen(world, &sendings);
     Ok(())
 }

@@ -1,9 +1,12 @@
 //! A report of a host (RFC 3376, sections 4.2 and 6.4).
 ghost use Rattle.std.specs.Prelude.{◌≡◌, ◌<◌, IfOk, OnOk, true};
-ghost use Rattle.pim_world.specs.Turns.{saying};
+ghost use Rattle.pim_state.specs.Turns.{saying};
 ghost use Rattle.pim_model.specs.Querier.{is_skipped, record_seen, report_seen};
 ghost use Rattle.pim_model.specs.Records.{with_record};
+ghost use Rattle.pim_model.specs.Tables.{Table};
 ghost use Rattle.pim_querier.specs.Changes.{applied};
+ghost use Rattle.pim_querier.specs.Looking.{GrowsLate, ListsLate};
+ghost use Rattle.pim_types.specs.declared.fact.SourceRecordRow.{SourceRecordRow};
 ghost use Rattle.pim_querier.specs.Reports.{AsksAlike};
 ghost use Rattle.igmp_wire.specs.Written.{bits_of};
 
@@ -11,11 +14,12 @@ use crate::applying::{SeenRecord, apply};
 use crate::asked::query_asked;
 use crate::election::is_querier;
 use crate::intervals::group_membership_interval;
+use crate::looked::Looked;
 use crate::place::IfaceGroup;
 use igmp_wire::{RecordType, RecordView, ReportView};
 use pim_filters::Asking;
+use pim_state::{Meter, Turn, World};
 use pim_types::{Addr, IfaceId};
-use pim_world::{Meter, Turn, World};
 use std::alloc::{AllocError, Global};
 
 // The sources that the group record names, in its order.
@@ -38,12 +42,18 @@ fn apply_record(
     iface: IfaceId,
     group_record: &RecordView<'_>,
     queries: bool,
+    looked: &mut Looked,
 ) -> Result<Asking, AllocError>
-    requires { iface.number < 120 }
+    requires below { iface.number < 120 }
+    requires known { ListsLate iface.number looked.old.end looked.old.groups.items looked.old.late.items
+        world.old.source_records }
     ensures state { OnOk result (world.new ≡ with_record world.old iface.number group_record.now.group
         (applied world.old iface.number group_record.now).0) }
     ensures asked { queries ≡ true → IfOk result (λ asked. AsksAlike world.old iface.number group_record.now.group
         (applied world.old iface.number group_record.now) asked) }
+    ensures known { OnOk result ((after : Table SourceRecordRow)
+        → GrowsLate iface.number group_record.now.group group_record.now.sources world.old.source_records after
+        → ListsLate iface.number looked.new.end looked.new.groups.items looked.new.late.items after) }
 {
     let full = world.present() + group_membership_interval(world, iface);
     let sources = sources_of(alloc, group_record)?;
@@ -55,7 +65,9 @@ fn apply_record(
         record_type: group_record.record_type(),
         full,
     };
-    apply(world, meter, alloc, seen, &sources, queries)
+    let asked = apply(world, meter, alloc, seen, &sources, queries, looked)?;
+    looked.name(seen.place, &sources)?;
+    Ok(asked)
 }
 
 // Takes a group record; the queries that it requests are sent, if the router is the querier.
@@ -65,14 +77,29 @@ fn record_seen(
     meter: &mut Meter,
     iface: IfaceId,
     group_record: &RecordView<'_>,
+    looked: &mut Looked,
 ) -> Result<(), AllocError>
-    requires { iface.number < 120 }
+    requires below { iface.number < 120 }
+    requires known { ListsLate iface.number looked.old.end looked.old.groups.items looked.old.late.items
+        world.old.source_records }
     ensures state { OnOk result (world.new ≡ (record_seen iface.number world.old group_record.now).0) }
     ensures messages { OnOk result (turn.new
         ≡ saying turn.old (record_seen iface.number world.old group_record.now).1) }
+    ensures known { OnOk result (ListsLate iface.number looked.new.end looked.new.groups.items
+        looked.new.late.items world.new.source_records) }
 {
+    // For the proof: each is under the key of a source.
+    world.membership().proof_keyed_source_records();
     let queries = is_querier(world, iface);
-    let asked = apply_record(world, meter, turn.alloc, iface, group_record, queries)?;
+    let asked = apply_record(
+        world,
+        meter,
+        turn.alloc,
+        iface,
+        group_record,
+        queries,
+        looked,
+    )?;
     if !queries {
         return Ok(());
     }
@@ -110,9 +137,10 @@ pub fn report_seen(
     ensures state { OnOk result (world.new ≡ (report_seen world.old iface.number report.now).0) }
     ensures messages { OnOk result (turn.new ≡ saying turn.old (report_seen world.old iface.number report.now).1) }
 {
+    let mut looked = Looked::new(turn.alloc);
     for group_record in report.records() {
         if !is_skipped(&group_record) {
-            record_seen(world, turn, meter, iface, &group_record)?;
+            record_seen(world, turn, meter, iface, &group_record, &mut looked)?;
         }
     }
     Ok(())

@@ -7,9 +7,9 @@ ghost use Rattle.igmp_wire.specs.Written.{bits_of};
 
 use crate::intervals::exceeds;
 use crate::place::IfaceGroup;
+use pim_state::World;
 use pim_types::fact::SendingRow;
 use pim_types::{Addr, Key};
-use pim_world::World;
 use std::alloc::{AllocError, Global};
 
 /// The sendings of the group's sources on the interface, by rising key.

@@ -1,12 +1,12 @@
 //! How querying starts, and goes on.
 ghost use Rattle.std.specs.Prelude.{◌≡◌, ◌<◌, ◌^◌, OnOk, if◌then◌else◌, nat_lt};
 ghost use Rattle.pim_model.specs.Querier.{general_query_due, querier_up, query_interval, startup_query_interval};
-ghost use Rattle.pim_world.specs.Turns.{saying};
+ghost use Rattle.pim_state.specs.Turns.{saying};
 
 use crate::intervals::{query_interval, startup_query_interval};
 use crate::queries::general_query;
+use pim_state::{Turn, World};
 use pim_types::IfaceId;
-use pim_world::{Turn, World};
 use std::alloc::AllocError;
 
 // [Startup Query Interval] is a quarter of the query interval, in ms here.
@@ -53,6 +53,6 @@ pub fn general_query_due(
 {
     let query = general_query(world, iface);
     let next_query = world.present() + interval_after(world, iface, startup_left);
-    world.keep_querying(iface, next_query, startup_left.saturating_sub(1))?;
+    world.update_querier(iface, next_query, startup_left.saturating_sub(1))?;
     turn.out.query(iface, &query, &[])
 }

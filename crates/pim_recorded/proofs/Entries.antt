@@ -1,12 +1,7 @@
 -- The table of CRC-32: what each byte makes of a register of 0, by computing each.
-use Rattle.std.proofs.Common.{◌≡◌, ℕ, suc, zero, ◌+◌, ◌<◌, Bool, true, false, eqb, List, [], ◌∷◌, ◌++◌, ◌&&◌, length, slice_index_or, refl, sym, ap, ◌∙◌, arith}
-use Rattle.std.proofs.lemmas.Bool.{eqb-true}
-use Rattle.std.proofs.lemmas.List.Concat.{flat_map-cons}
-use Rattle.std.specs.List.{flat_map}
-use Rattle.pim_types.specs.declared.outcome.Emission.{Emission}
-use Rattle.pim_recorded.specs.Crc.{after_bytes, entry, shifted, with_byte}
-use Rattle.pim_recorded.specs.Laws.{CrcIsKnown}
-use Rattle.pim_recorded.specs.Records.{after_sent, emission_text}
+use Rattle.std.{proofs.{Common.{◌≡◌, ℕ, suc, zero, ◌+◌, ◌<◌, Bool, true, false, eqb, List, [], ◌∷◌, ◌++◌, ◌&&◌, length, slice_index_or, refl, sym, ap, ◌∙◌, arith}, lemmas.{Bool.eqb-true, List.Concat.flat_map-cons}}, specs.List.flat_map}
+use Rattle.pim_types.{specs.declared.outcome.Emission.Emission}
+use Rattle.pim_recorded.{specs.{Crc.{after_bytes, entry, shifted, with_byte}, Laws.CrcIsKnown, Records.{after_sent, emission_text}}}
 
 -- a list has the entries from one on
 abbrev pub has_entries : ℕ → List ℕ → Bool

@@ -1,5 +1,5 @@
 -- Texts put one behind the other, as a record's are.
-use Rattle.std.proofs.Common.{◌≡◌, ℕ, List, ◌++◌, ap, ◌∙◌, append_assoc}
+use Rattle.std.{proofs.Common.{◌≡◌, ℕ, List, ◌++◌, ap, ◌∙◌, append_assoc}}
 
 pub two_fields : (o l a b t o1 o2 o3 r : List ℕ) → o1 ≡ o ++ l → o2 ≡ o1 ++ a → o3 ≡ o2 ++ b → r ≡ o3 ++ t → r ≡ o ++ ((l ++ (a ++ b)) ++ t)
 two_fields o l a b t o1 o2 o3 r e1 e2 e3 e4 =

@@ -1,24 +1,9 @@
 -- Each record is read of its bytes, and of no others: of bytes, of each kind of call, and of records.
-use Rattle.std.proofs.Common.{◌≡◌, ℕ, ◌+◌, ◌≤◌, Bool, true, false, cond, eqb, ltb, List, [], ◌∷◌, ◌++◌, length, take, drop, Result, Ok, Err, refl, sym, ap, subst, ◌∙◌, append_assoc, arith, inl, inr, ◌⊎◌}
-use Rattle.std.proofs.lemmas.Bool.{eqb-true, ltb-false, le-ltb}
-use Rattle.std.proofs.lemmas.List.{take_at, drop_at, take-append-drop, length-append, length-take, get_or-drop}
-use Rattle.std.proofs.lemmas.List.Concat.{flat_map-cons}
-use Rattle.std.specs.List.{AllByRecursion, flat_map}
-use Rattle.pim_ip.specs.declared.addr.Addr.{Addr}
-use Rattle.pim_types.specs.declared.config.{IfaceId.IfaceId, Route.Route, RpRange.RpRange}
-use Rattle.pim_types.specs.declared.event.{EventKind.EventKind}
-use Rattle.pim_saved.specs.declared.refusal.SavedRefusal.{SavedRefusal}
-use Rattle.pim_saved.specs.Fits.{FitsWord}
-use Rattle.pim_saved.specs.Laws.{AreBytes}
-use Rattle.pim_saved.specs.Reading.{Reader, iface_at, made, moment_at}
-use Rattle.pim_saved.specs.Text.{moment_text, word_text}
-use Rattle.pim_saved.proofs.Spelled.{AreBytes-rest, IsSpelled, Takes, Takes-then, bind_ok, both, guard_ok, list, made_of, moment, ok_is, word}
-use Rattle.pim_saved.proofs.SpelledRows.{address, interface, range, route, settings}
-use Rattle.pim_recorded.specs.Fits.{FitsAnswered, FitsBytes, FitsCall, FitsEvent, FitsRecord}
-use Rattle.pim_recorded.specs.Laws.{OneRecording, ReadingIsRecord, RecordIsRead}
-use Rattle.pim_recorded.specs.Reading.{Configured, answered_at, by_letter, bytes_at, bytes_of_length, call_at, drawn, kinds, record_at}
-use Rattle.pim_recorded.specs.Records.{Call, Happened, Hosts, Kept, Record, Reloaded, Seen, Version, answered_text, bytes_text, call_text, event_text, record_text}
-use Rattle.pim_recorded.specs.declared.answered.Answered.{Answered}
+use Rattle.std.{proofs.{Common.{◌≡◌, ℕ, ◌+◌, ◌≤◌, Bool, true, false, cond, eqb, ltb, List, [], ◌∷◌, ◌++◌, length, take, drop, Result, Ok, Err, refl, sym, ap, subst, ◌∙◌, append_assoc, arith, inl, inr, ◌⊎◌}, lemmas.{Bool.{eqb-true, ltb-false, le-ltb}, List.{take_at, drop_at, take-append-drop, length-append, length-take, get_or-drop, Concat.flat_map-cons}}}, specs.List.{AllByRecursion, flat_map}}
+use Rattle.pim_ip.{specs.declared.addr.Addr.Addr}
+use Rattle.pim_types.{specs.declared.{config.{IfaceId.IfaceId, Route.Route, RpRange.RpRange}, event.EventKind.EventKind}}
+use Rattle.pim_saved.{specs.{declared.refusal.SavedRefusal.SavedRefusal, Fits.FitsWord, Laws.AreBytes, Reading.{Reader, iface_at, made, moment_at}, Text.{moment_text, word_text}}, proofs.{Spelled.{AreBytes-rest, IsSpelled, Takes, Takes-then, bind_ok, both, guard_ok, list, made_of, moment, ok_is, word}, SpelledRows.{address, interface, range, route, settings}}}
+use Rattle.pim_recorded.{specs.{Fits.{FitsAnswered, FitsBytes, FitsCall, FitsEvent, FitsRecord}, Laws.{OneRecording, ReadingIsRecord, RecordIsRead}, Reading.{Configured, answered_at, by_letter, bytes_at, bytes_of_length, call_at, drawn, kinds, record_at}, Records.{Call, Happened, Hosts, Kept, Record, Reloaded, Seen, Version, answered_text, bytes_text, call_text, event_text, record_text}, declared.answered.Answered.Answered}}
 
 -- ---- bytes behind their count
 

@@ -1,9 +1,8 @@
 -- Whether what a record says fits the widths in which it is written.
-use Rattle.std.specs.Prelude.{List, length, ℕ, ◌<◌, ◌^◌}
-use Rattle.pim_types.specs.declared.event.{EventKind.EventKind}
-use Rattle.pim_saved.specs.Fits.{FitsAddress, FitsInterface, FitsList, FitsMoment, FitsRange, FitsRoute, FitsSettings, FitsWord}
-use Rattle.pim_recorded.specs.Records.{Call, Happened, Hosts, Kept, Record, Reloaded, Seen, Version}
-use Rattle.pim_recorded.specs.declared.answered.Answered.{Answered}
+use Rattle.std.{specs.Prelude.{List, length, ℕ, ◌<◌, ◌^◌}}
+use Rattle.pim_types.{specs.declared.event.EventKind.EventKind}
+use Rattle.pim_saved.{specs.Fits.{FitsAddress, FitsInterface, FitsList, FitsMoment, FitsRange, FitsRoute, FitsSettings, FitsWord}}
+use Rattle.pim_recorded.{specs.{Records.{Call, Happened, Hosts, Kept, Record, Reloaded, Seen, Version}, declared.answered.Answered.Answered}}
 
 abbrev pub FitsBytes : List ℕ → Type 0
 FitsBytes bytes = length bytes < 2 ^ 64

@@ -1,11 +1,7 @@
 -- A record and its bytes determine each other, whatever follows, and so do a whole recording and its bytes.
-use Rattle.std.specs.List.{AllByRecursion, flat_map}
-use Rattle.std.specs.Prelude.{List, Ok, [], ◌++◌, ◌∷◌, ◌≡◌, ℕ}
-use Rattle.pim_saved.specs.Laws.{AreBytes}
-use Rattle.pim_recorded.specs.Crc.{crc32}
-use Rattle.pim_recorded.specs.Fits.{FitsRecord}
-use Rattle.pim_recorded.specs.Reading.{record_at}
-use Rattle.pim_recorded.specs.Records.{Record, record_text}
+use Rattle.std.{specs.{List.{AllByRecursion, flat_map}, Prelude.{List, Ok, [], ◌++◌, ◌∷◌, ◌≡◌, ℕ}}}
+use Rattle.pim_saved.{specs.Laws.AreBytes}
+use Rattle.pim_recorded.{specs.{Crc.crc32, Fits.FitsRecord, Reading.record_at, Records.{Record, record_text}}}
 
 -- what is read from the front is the record that was written, and what followed it
 abbrev pub RecordIsRead : Type 0

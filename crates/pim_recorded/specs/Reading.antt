@@ -1,12 +1,9 @@
 -- A record read from the front of bytes.
-use Rattle.std.specs.Prelude.{Err, List, Ok, [], drop, if◌then◌else◌, length, nat_lt, take, ℕ, ◌==◌, ◌∷◌}
-use Rattle.pim_ip.specs.declared.addr.Addr.{Addr}
-use Rattle.pim_types.specs.declared.config.{IfaceId.IfaceId, InterfaceConfig.InterfaceConfig, Route.Route, RpRange.RpRange, Settings.Settings}
-use Rattle.pim_types.specs.declared.event.{EventKind.EventKind}
-use Rattle.pim_saved.specs.Reading.{Reader, address_at, iface_at, in_turn, interface_at, list_at, made, moment_at, range_at, route_at, settings_at, word_at, ◌>>=◌}
-use Rattle.pim_saved.specs.declared.refusal.SavedRefusal.{SavedRefusal}
-use Rattle.pim_recorded.specs.Records.{Call, Happened, Hosts, Kept, Record, Reloaded, Seen, Version}
-use Rattle.pim_recorded.specs.declared.answered.Answered.{Answered}
+use Rattle.std.{specs.Prelude.{Err, List, Ok, [], drop, if◌then◌else◌, length, nat_lt, take, ℕ, ◌==◌, ◌∷◌}}
+use Rattle.pim_ip.{specs.declared.addr.Addr.Addr}
+use Rattle.pim_types.{specs.declared.{config.{IfaceId.IfaceId, InterfaceConfig.InterfaceConfig, Route.Route, RpRange.RpRange, Settings.Settings}, event.EventKind.EventKind}}
+use Rattle.pim_saved.{specs.{Reading.{Reader, address_at, iface_at, in_turn, interface_at, list_at, made, moment_at, range_at, route_at, settings_at, word_at, ◌>>=◌}, declared.refusal.SavedRefusal.SavedRefusal}}
+use Rattle.pim_recorded.{specs.{Records.{Call, Happened, Hosts, Kept, Record, Reloaded, Seen, Version}, declared.answered.Answered.Answered}}
 
 abbrev pub bytes_of_length : ℕ → Reader (List ℕ)
 bytes_of_length n bytes = if nat_lt (length bytes) n then Err SavedRefusal.CutShort else Ok (take n bytes, drop n bytes)

@@ -1,38 +1,36 @@
 -- The bytes of a recording: of each call of a router its letter, what it was given, what it answered, and a sum of what
 -- was sent. Numbers, routes, ranges and counts are written as in a saved state.
-use Rattle.std.specs.List.{flat_map}
-use Rattle.std.specs.Prelude.{List, [], length, ℕ, ◌∷◌}
-use Rattle.pim_ip.specs.declared.addr.Addr.{Addr}
-use Rattle.pim_types.specs.declared.config.{IfaceId.IfaceId, InterfaceConfig.InterfaceConfig, Route.Route, RpRange.RpRange, Settings.Settings}
-use Rattle.pim_types.specs.declared.event.{Event.Event, EventKind.EventKind}
-use Rattle.pim_types.specs.declared.outcome.Emission.{Emission}
-use Rattle.pim_saved.specs.Text.{address_text, interface_text, list_text, moment_text, range_text, route_text, settings_text, word_text, ◌then◌}
-use Rattle.pim_recorded.specs.Crc.{after_bytes, crc32}
-use Rattle.pim_recorded.specs.declared.answered.Answered.{Answered}
+use Rattle.std.{specs.{List.flat_map, Prelude.{List, [], length, ℕ, ◌∷◌}}}
+use Rattle.pim_ip.{specs.declared.addr.Addr.Addr}
+use Rattle.pim_types.{specs.declared.{config.{IfaceId.IfaceId, InterfaceConfig.InterfaceConfig, Route.Route, RpRange.RpRange, Settings.Settings}, event.{Event.Event, EventKind.EventKind}, outcome.Emission.Emission}}
+use Rattle.pim_saved.{specs.Text.{address_text, interface_text, list_text, moment_text, range_text, route_text, settings_text, word_text, ◌then◌}}
+use Rattle.pim_recorded.{specs.{Crc.{after_bytes, crc32}, declared.answered.Answered.Answered}}
 
 -- what a router was given
 pub data Call : Type 0 where
   -- an event
   Happened : (event : Event) → Call
-  -- another configuration
+  -- a reload with another configuration
   Reloaded : (draw : ℕ) (settings : Settings) (interfaces : List InterfaceConfig) (routes : List Route) (ranges : List RpRange) → Call
   -- a data plane saw a packet on an interface
   Seen : (draw : ℕ) (iface : IfaceId) (source group : Addr) → Call
-  -- a data plane forwarded its last packet at a moment
+  -- a data plane forwarded its last packet of (S,G) at a timestamp
   Kept : (source group : Addr) (moment : ℕ) → Call
   -- the older hosts that an interface hears, by their number
   Hosts : (iface : IfaceId) (hosts : ℕ) → Call
   -- the version of the queries that an interface sends
   Version : (iface : IfaceId) (version : ℕ) → Call
 
+-- a record: a call, and what was answered
 pub record Record : Type 0 where
   pub call : Call
   pub answered : Answered
 
--- how many bytes there are, and each
+-- bytes behind their number
 abbrev pub bytes_text : List ℕ → List ℕ
 bytes_text bytes = moment_text (length bytes) then bytes
 
+-- the bytes of an event in a record: the letter of its kind, its draw, and what it brings
 abbrev pub event_text : ℕ → EventKind → List ℕ
 event_text draw (EventKind.Advance moment) = 97 ∷ (word_text draw then moment_text moment)
 event_text draw (EventKind.Frame iface bytes) =
@@ -43,6 +41,7 @@ event_text draw (EventKind.Down iface) = 45 ∷ (word_text draw then word_text i
 event_text draw (EventKind.Routes routes) = 114 ∷ (word_text draw then list_text route_text routes)
 event_text draw (EventKind.Rps ranges) = 103 ∷ (word_text draw then list_text range_text ranges)
 
+-- the bytes of a call in a record
 abbrev pub call_text : Call → List ℕ
 call_text (Happened event) = event_text event.draw event.kind
 call_text (Reloaded draw settings interfaces routes ranges) =
@@ -54,6 +53,7 @@ call_text (Kept source group moment) = 107 ∷ (address_text source then address
 call_text (Hosts iface hosts) = 111 ∷ (word_text iface.number then word_text hosts)
 call_text (Version iface version) = 113 ∷ (word_text iface.number then word_text version)
 
+-- the bytes of an answer in a record: its number, and the sum of what was sent
 abbrev pub answered_text : Answered → List ℕ
 answered_text a = word_text a.answer then word_text a.sum
 
@@ -62,6 +62,7 @@ abbrev pub event_record : ℕ → EventKind → Answered → Record
 event_record draw kind answered =
     record { call = Happened (record { draw = draw; kind = kind }); answered = answered }
 
+-- the bytes of a record
 abbrev pub record_text : Record → List ℕ
 record_text r = call_text r.call then answered_text r.answered
 
@@ -71,6 +72,7 @@ record_text r = call_text r.call then answered_text r.answered
 abbrev pub packet_text : ℕ → ℕ → List ℕ → List ℕ
 packet_text letter place bytes = letter ∷ (word_text place then bytes_text bytes)
 
+-- the bytes of a packet that is sent, for the sum
 abbrev pub emission_text : Emission → List ℕ
 emission_text (Emission.Link iface bytes) = packet_text 102 iface.number bytes
 emission_text (Emission.Unicast destination bytes) = packet_text 117 destination.bits bytes
@@ -80,5 +82,6 @@ abbrev pub after_sent : ℕ → List Emission → ℕ
 after_sent c [] = c
 after_sent c (emission ∷ sent) = after_sent (after_bytes c (emission_text emission)) sent
 
+-- the sum of packets that are sent
 abbrev pub sum_of : List Emission → ℕ
 sum_of sent = crc32 (flat_map emission_text sent)

@@ -269,10 +269,10 @@ fn entry(place: usize) -> u32
     ENTRIES[place]
 }
 
-// The register before the first byte.
+// The register of the checksum before the first byte.
 pub const BEGUN: u32 = 0xffff_ffff;
 
-/// The register after one more byte.
+/// The register of the checksum after one more byte.
 #[tactic(auto, unfolding(crate::specs::Crc::with_byte))]
 pub fn with_byte(register: u32, byte: u8) -> u32
     ensures { result ≡ with_byte register byte }

@@ -9,7 +9,7 @@ use pim_saver::{Saved, write_list};
 use pim_types::{Addr, IfaceId, InterfaceConfig, Route, RpRange, Settings};
 use std::alloc::AllocError;
 
-// Puts how many bytes there are behind the others, and each.
+// Puts the number of bytes at the end, and each byte.
 fn write_bytes(bytes: &[u8], out: &mut Vec<u8>) -> Result<(), AllocError>
     ensures ok { OnOk result (out.new.items ≡ out.old.items ++ bytes_text bytes.now) }
     ensures fitting { OnOk result (FitsBytes bytes.now) }

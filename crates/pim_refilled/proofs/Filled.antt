@@ -1,16 +1,9 @@
 -- Rows whose keys rise, put into an empty table one after the other, are that table.
-use Rattle.std.proofs.Common.{◌≡◌, [], ◌∷◌, ◌++◌, refl, sym, ap, subst, ◌∙◌, append_assoc}
-use Rattle.std.specs.List.{AllByRecursion}
-use Rattle.std.specs.List.Sorted.{IsStrictlySortedBy}
-use Rattle.std.specs.Ordering.{ordering_reverse}
-use Rattle.std.specs.declared.cmp.Ordering.{Ordering}
-use Rattle.std.proofs.lemmas.List.{append-nil}
-use Rattle.pim_types.specs.Keys.{key_cmp}
-use Rattle.pim_types.proofs.Keys.{key_cmp_total}
-use Rattle.pim_types.specs.declared.fact.Key.{Key}
-use Rattle.pim_model.specs.Tables.{Table, keys_in, put}
-use Rattle.pim_store.specs.PimTables.{AllRise, PimTables, no_facts}
-use Rattle.pim_refilled.specs.Refilled.{all_refilled, refilled}
+use Rattle.std.{proofs.{Common.{◌≡◌, [], ◌∷◌, ◌++◌, refl, sym, ap, subst, ◌∙◌, append_assoc}, lemmas.List.append-nil}, specs.{List.{AllByRecursion, Sorted.IsStrictlySortedBy}, Ordering.ordering_reverse, declared.cmp.Ordering.Ordering}}
+use Rattle.pim_types.{specs.{Keys.key_cmp, declared.fact.Key.Key}, proofs.Keys.key_cmp_total}
+use Rattle.pim_model.{specs.Tables.{Table, keys_in, put}}
+use Rattle.pim_store.{specs.PimTables.{AllRise, PimTables, no_facts}}
+use Rattle.pim_refilled.{specs.Refilled.{all_refilled, refilled}}
 
 greater : (q k : Key) → key_cmp q k ≡ Ordering.Less → key_cmp k q ≡ Ordering.Greater
 greater q k less = key_cmp_total.antisymm k q ∙ ap ordering_reverse less

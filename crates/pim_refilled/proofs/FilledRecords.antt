@@ -1,8 +1,7 @@
 -- Rows of IGMP whose keys rise, put into empty tables one after the other, are those tables.
-use Rattle.std.proofs.Common.{◌≡◌}
-use Rattle.pim_membership.specs.MembershipTables.{AllRise, MembershipTables, no_membership}
-use Rattle.pim_refilled.specs.Recorded.{all_refilled}
-use Rattle.pim_refilled.proofs.Filled.{filled}
+use Rattle.std.{proofs.Common.◌≡◌}
+use Rattle.igmp_membership.{specs.MembershipTables.{AllRise, MembershipTables, no_membership}}
+use Rattle.pim_refilled.{specs.Recorded.all_refilled, proofs.Filled.filled}
 
 pub all_filled : (rows : MembershipTables) → AllRise rows → all_refilled no_membership rows ≡ rows
 all_filled rows h = λ j. record {

@@ -1,11 +1,9 @@
 -- The keys of a state's tables rise in each of its components.
-use Rattle.std.proofs.Common.{◌≡◌, Option, Some, None, Result, Ok, Err}
-use Rattle.std.specs.Option.{IfSome}
-use Rattle.std.specs.Prelude.{IfOk}
-use Rattle.pim_ip.specs.declared.fault.Fault.{Fault}
-use Rattle.pim_model.specs.State.{State}
-use Rattle.pim_ready.specs.Ready.{IsOrdered}
-use Rattle.pim_refilled.specs.Rows.{StateRises}
+use Rattle.std.{proofs.Common.{◌≡◌, Option, Some, None, Result, Ok, Err}, specs.{Option.IfSome, Prelude.IfOk}}
+use Rattle.pim_ip.{specs.declared.fault.Fault.Fault}
+use Rattle.pim_model.{specs.State.State}
+use Rattle.law_settled.{specs.Ready.IsOrdered}
+use Rattle.pim_refilled.{specs.Rows.StateRises}
 
 rises : (s : State) → IsOrdered s → StateRises s
 rises s ordered = record {

@@ -1,11 +1,9 @@
 -- The test of a settled state decides it.
-use Rattle.std.proofs.Common.{◌≡◌, ◌&&◌, Bool, true, false, refl}
-use Rattle.pim_laws.specs.Laws.{ends_after}
-use Rattle.pim_model.specs.State.{State}
-use Rattle.pim_ready.specs.Ready.{IsOrdered, IsSettled}
-use Rattle.pim_restored.proofs.RestTests.{firable_is, firable_so, tidy_is, tidy_so}
-use Rattle.pim_restored.specs.Resting.{all_pass, firing_tests, tidy_tests}
-use Rattle.pim_refilled.specs.Settled.{SettledIsDecided, is_settled}
+use Rattle.std.{proofs.Common.{◌≡◌, ◌&&◌, Bool, true, false, refl}}
+use Rattle.law_settled.{specs.{Laws.ends_after, Ready.{IsOrdered, IsSettled}}}
+use Rattle.pim_model.{specs.State.State}
+use Rattle.law_restored.{proofs.RestTests.{firable_is, firable_so, tidy_is, tidy_so}, specs.Resting.{all_pass, firing_tests, tidy_tests}}
+use Rattle.pim_refilled.{specs.Settled.{SettledIsDecided, is_settled}}
 
 first : (a b : Bool) → (a && b) ≡ true → a ≡ true
 first true b e = refl

@@ -1,20 +1,13 @@
 -- A world under an accepted configuration can be made again of its rows.
-use Rattle.std.proofs.Common.{◌≡◌, ◌≤◌, ◌&&◌, ◌^◌, ◌∙◌, ℕ, Bool, true, false, Ok, Err, ap, arith, length, nat_le, refl, sym}
-use Rattle.std.proofs.lemmas.Bool.Decides.{nat_tests}
-use Rattle.std.specs.List.{list_all}
-use Rattle.std.specs.Prelude.{Result, is_ok}
-use Rattle.pim_ip.specs.Tests.{expect, ◌>>◌}
-use Rattle.pim_ip.specs.declared.refusal.Refusal.{Refusal}
-use Rattle.pim_ifaces.specs.Interfaces.{is_up_key}
-use Rattle.pim_membership.specs.MembershipTables as membership
-use Rattle.pim_model.specs.Limits.{are_routes, are_rps, config_test}
-use Rattle.pim_model.specs.State.{State}
-use Rattle.pim_restored.specs.Reload.{config_of}
+use Rattle.std.{proofs.{Common.{◌≡◌, ◌≤◌, ◌&&◌, ◌^◌, ◌∙◌, ℕ, Bool, true, false, Ok, Err, ap, arith, length, nat_le, refl, sym}, lemmas.Bool.Decides.nat_tests}, specs.{List.list_all, Prelude.{Result, is_ok}}}
+use Rattle.pim_ip.{specs.{Tests.{expect, ◌>>◌}, declared.refusal.Refusal.Refusal}}
+use Rattle.pim_ifaces.{specs.Interfaces.is_up_key}
+use Rattle.pim_model.{specs.{Limits.{are_routes, are_rps, config_test}, State.State}}
+use Rattle.law_restored.{specs.Reload.config_of}
+use Rattle.pim_state.{proofs.Accepted.{in_two_parts, interfaces_tested}, specs.{Configurations.settings_test, Lending.membership_tables}}
+use Rattle.pim_refilled.{specs.Rows.can_hold}
+use Rattle.igmp_membership.specs.MembershipTables as membership
 use Rattle.pim_store.specs.PimTables as store
-use Rattle.pim_world.proofs.Accepted.{in_two_parts, interfaces_tested}
-use Rattle.pim_world.specs.Configurations.{settings_test}
-use Rattle.pim_world.specs.Lending.{membership_tables}
-use Rattle.pim_refilled.specs.Rows.{can_hold}
 
 first : (a b : Result (Unit {0}) Refusal) → (a >> b) ≡ Ok tt → a ≡ Ok tt
 first (Ok done) b e = refl

@@ -1,6 +1,5 @@
 -- Tests that pass one after the other.
-use Rattle.std.proofs.Common.{◌≡◌, ◌&&◌, Bool, true, false, refl, Option, Some, None}
-use Rattle.std.specs.Prelude.{is_some}
+use Rattle.std.{proofs.Common.{◌≡◌, ◌&&◌, Bool, true, false, refl, Option, Some, None}, specs.Prelude.is_some}
 
 -- ten tests, of which nine passed
 pub ten_tests : (a b c d e f g h i j r : Bool) → a ≡ true → b ≡ true → c ≡ true → d ≡ true → e ≡ true → f ≡ true → g ≡ true

@@ -1,9 +1,9 @@
 -- Rows of IGMP put one after the other.
-use Rattle.pim_membership.specs.MembershipTables.{MembershipTables}
-use Rattle.pim_types.specs.declared.fact.QuerierRow.{QuerierRow}
-use Rattle.pim_model.specs.Tables.{Table}
-use Rattle.pim_saver.specs.declared.state.SavedRecords.{SavedRecords}
-use Rattle.pim_refilled.specs.Refilled.{refilled}
+use Rattle.igmp_membership.{specs.MembershipTables.MembershipTables}
+use Rattle.pim_types.{specs.declared.fact.QuerierRow.QuerierRow}
+use Rattle.pim_model.{specs.Tables.Table}
+use Rattle.pim_saver.{specs.declared.state.SavedRecords.SavedRecords}
+use Rattle.pim_refilled.{specs.Refilled.refilled}
 
 -- IGMP's facts as they were read
 abbrev pub tables_in : Table QuerierRow → SavedRecords → MembershipTables

@@ -1,8 +1,8 @@
--- Rows put one after the other.
-use Rattle.std.specs.Prelude.{[], ◌∷◌}
-use Rattle.pim_model.specs.Tables.{Table, put}
-use Rattle.pim_saver.specs.declared.state.SavedTrees.{SavedTrees}
-use Rattle.pim_store.specs.PimTables.{PimTables}
+-- Rows of a saved state put into tables, one after the other.
+use Rattle.std.{specs.Prelude.{[], ◌∷◌}}
+use Rattle.pim_model.{specs.Tables.{Table, put}}
+use Rattle.pim_saver.{specs.declared.state.SavedTrees.SavedTrees}
+use Rattle.pim_store.{specs.PimTables.PimTables}
 
 -- a table with these rows put into it
 abbrev pub refilled : {R : Type 0} → Table R → Table R → Table R

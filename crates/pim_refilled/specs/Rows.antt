@@ -1,13 +1,10 @@
 -- Whether a world can have the rows of a state.
-use Rattle.std.specs.List.{list_all}
-use Rattle.std.specs.Prelude.{Bool, is_ok, length, ◌&&◌}
-use Rattle.pim_ifaces.specs.Interfaces.{interfaces_test, is_up_key}
-use Rattle.pim_model.specs.Limits.{are_routes, are_rps}
-use Rattle.pim_model.specs.State.{State}
-use Rattle.pim_membership.specs.MembershipTables as membership
+use Rattle.std.{specs.{List.list_all, Prelude.{Bool, is_ok, length, ◌&&◌}}}
+use Rattle.pim_ifaces.{specs.Interfaces.{interfaces_test, is_up_key}}
+use Rattle.pim_model.{specs.{Limits.{are_routes, are_rps}, State.State}}
+use Rattle.pim_state.{specs.{Lending.membership_tables, PartsOf.are_held}}
+use Rattle.igmp_membership.specs.MembershipTables as membership
 use Rattle.pim_store.specs.PimTables as store
-use Rattle.pim_world.specs.Lending.{membership_tables}
-use Rattle.pim_world.specs.PartsOf.{are_held}
 
 -- the keys of each table rise, component by component
 pub record StateRises (s : State) : Type 0 where

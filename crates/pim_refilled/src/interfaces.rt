@@ -40,7 +40,7 @@ fn put_ups(interfaces: &mut Interfaces, rows: &[(Key, InterfaceRow)]) -> Result<
     Ok(true)
 }
 
-/// These interfaces with these rows; or none where one can't be held.
+/// Configured interfaces with the given rows; none where a row can't be held.
 pub(crate) fn interfaces_of(
     alloc: Global,
     configured: &[InterfaceConfig],

@@ -4,11 +4,12 @@
 mod interfaces;
 mod membership;
 mod neighbours;
+mod refill;
 mod settled;
 mod store;
 mod world;
 mod written;
 
 pub use settled::{is_settled, settled_is_decided};
-pub use world::{recall_held, world_of};
+pub use world::{proof_held, world_of};
 pub use written::write_world;

@@ -1,15 +1,15 @@
 //! Whether a world is settled.
 ghost use Rattle.std.specs.List.{list_all};
 ghost use Rattle.std.specs.Prelude.{◌≡◌, ◌||◌, is_some};
-ghost use Rattle.pim_laws.specs.Laws.{ends_after, is_querier_entry, is_under_source, is_under_star};
-ghost use Rattle.pim_restored.specs.Resting.{all_pass, are_up, firing_tests, tidy_tests};
+ghost use Rattle.law_settled.specs.Laws.{ends_after, is_querier_entry, is_under_source, is_under_star};
+ghost use Rattle.law_restored.specs.Resting.{all_pass, are_up, firing_tests, tidy_tests};
 ghost use Rattle.pim_types.specs.Keys.{same_key};
 ghost use Rattle.pim_refilled.specs.Settled.{SettledIsDecided, is_settled};
 
+use pim_state::World;
 use pim_tables::PlacedRows;
 use pim_types::Key;
 use pim_types::fact::{QuerierRow, SourceRow};
-use pim_world::World;
 use std::collections::btree_map::Iter;
 
 // Whether both are the same.
@@ -121,7 +121,7 @@ fn is_firable(world: &World) -> bool
 }
 
 // Whether all ends are later than the present.
-#[tactic(auto, using(pim_restored::proofs::Ahead::next_tells_ahead))]
+#[tactic(auto, using(law_restored::proofs::Ahead::next_tells_ahead))]
 fn is_ahead(world: &World) -> bool
     ensures { result ≡ ends_after world.now.present world.now }
 {

@@ -2,8 +2,8 @@
 ghost use Rattle.std.specs.Prelude.{◌≡◌, ◌&&◌, IfErr, IfOk, IfSome, IsTrue, Ok, is_some};
 ghost use Rattle.pim_ip.specs.declared.fault.Fault.{Fault};
 ghost use Rattle.pim_model.specs.Limits.{are_routes, are_rps, config_test};
-ghost use Rattle.pim_ready.specs.Ready.{IsOrdered};
-ghost use Rattle.pim_restored.specs.Reload.{config_of};
+ghost use Rattle.law_settled.specs.Ready.{IsOrdered};
+ghost use Rattle.law_restored.specs.Reload.{config_of};
 ghost use Rattle.pim_saver.specs.Views.{state_view};
 ghost use Rattle.pim_refilled.specs.Rows.{StateRises, can_hold};
 
@@ -14,8 +14,8 @@ use crate::store::store_of;
 use pim_ifaces::Interfaces;
 use pim_mrib::Mrib;
 use pim_saver::SavedState;
+use pim_state::{Meter, World};
 use pim_types::{Fault, Route, RpRange};
-use pim_world::{Meter, World};
 use std::alloc::Global;
 
 // The routes and RP ranges; or none where they aren't accepted.
@@ -40,7 +40,7 @@ fn mrib_of(
     Ok(Some(mrib))
 }
 
-// The world of these rows; or none where one can't be held.
+// The world with the rows of a saved state; none where a row can't be held.
 fn world_of_rows(
     alloc: Global,
     state: &SavedState,
@@ -92,13 +92,13 @@ pub fn world_of(
 
 /// For the proof: a world under an accepted configuration can be made again of its rows, by `world_of`. Does nothing when
 /// it runs.
-pub fn recall_held(world: &World)
+pub fn proof_held(world: &World)
     ensures { config_test (config_of world.now) ≡ Ok tt → IsTrue (can_hold world.now) }
 {
-    world.interfaces().recall_kinds();
-    world.membership().recall_kinds();
-    world.store().recall_kinds();
-    // These tell the ranges of the settings and of the present.
+    world.interfaces().proof_kinds();
+    world.membership().proof_kinds();
+    world.store().proof_kinds();
+    // For the proof: `settings` and `present` tell the ranges of their values.
     let _ = world.settings();
     let _ = world.present();
 }

@@ -6,13 +6,14 @@ ghost use Rattle.pim_saved.specs.Text.{entry_text, ground_text, join_timer_text,
 ghost use Rattle.pim_saved.specs.Parts.{ground_of, links_of, records_of, trees_of};
 
 use pim_saver::{MAGIC, Saved, VERSION, write_entry, write_list, write_table};
+use pim_state::{Meter, World};
 use pim_store::{JoinTimerRows, Store};
 use pim_tables::PlacedRows;
 use pim_types::Key;
 use pim_types::fact::{JoinTimerRow, SourceRow};
-use pim_world::{Meter, World};
 use std::alloc::AllocError;
 
+// Puts the world's configuration and present time at the end.
 #[tactic(auto, unfolding(pim_saved::specs::Text::ground_text))]
 fn write_ground(world: &World, out: &mut Vec<u8>) -> Result<(), AllocError>
     ensures ok { OnOk result (out.new.items ≡ out.old.items ++ ground_text (ground_of world.now)) }
@@ -26,27 +27,29 @@ fn write_ground(world: &World, out: &mut Vec<u8>) -> Result<(), AllocError>
     Ok(())
 }
 
+// Puts the facts of the world's interfaces at the end: interfaces, neighbours, queriers.
 #[tactic(auto, unfolding(pim_saved::specs::Text::links_text))]
 fn write_links(world: &World, out: &mut Vec<u8>) -> Result<(), AllocError>
     ensures ok { OnOk result (out.new.items ≡ out.old.items ++ links_text (links_of world.now)) }
     ensures fitting { OnOk result (FitsLink (links_of world.now)) }
 {
-    // These tell that the keys rise.
+    // For the proof: `len` and `proof_rising` tell that the keys rise.
     let _ = world.neighbours().len();
-    world.membership().recall_rising();
+    world.membership().proof_rising();
     write_table(world.interfaces().rows(), out)?;
     write_table(world.neighbours().iter(), out)?;
     write_table(world.membership().querier_rows(), out)?;
     Ok(())
 }
 
+// Puts IGMP's facts of the world at the end.
 #[tactic(auto, unfolding(pim_saved::specs::Text::records_text))]
 fn write_records(world: &World, out: &mut Vec<u8>) -> Result<(), AllocError>
     ensures ok { OnOk result (out.new.items ≡ out.old.items ++ records_text (records_of world.now)) }
     ensures fitting { OnOk result (FitsRecord (records_of world.now)) }
 {
     let membership = world.membership();
-    membership.recall_rising();
+    membership.proof_rising();
     write_table(membership.group_record_rows(), out)?;
     write_table(membership.source_record_rows(), out)?;
     write_table(membership.group_repeat_rows(), out)?;
@@ -55,7 +58,7 @@ fn write_records(world: &World, out: &mut Vec<u8>) -> Result<(), AllocError>
     Ok(())
 }
 
-// Puts Join timers behind the others.
+// Puts the bytes of each Join timer at the end, under its key.
 fn write_each_join_timer(rows: JoinTimerRows<'_>, out: &mut Vec<u8>) -> Result<(), AllocError>
     ensures ok { OnOk result (out.new.items ≡ out.old.items ++ flat_map (entry_text join_timer_text) rows.entry) }
     ensures fitting { OnOk result (AllByRecursion (FitsEntry FitsJoinTimer) rows.entry) }
@@ -77,7 +80,7 @@ fn write_join_timers(store: &Store, out: &mut Vec<u8>, meter: &mut Meter) -> Res
     Ok(())
 }
 
-// Puts sources behind the others.
+// Puts the bytes of each source's row at the end, under its key.
 fn write_each_source(rows: PlacedRows<'_, SourceRow>, out: &mut Vec<u8>) -> Result<(), AllocError>
     ensures ok { OnOk result (out.new.items ≡ out.old.items ++ flat_map (entry_text source_text) rows.entry) }
     ensures fitting { OnOk result (AllByRecursion (FitsEntry FitsSource) rows.entry) }
@@ -99,13 +102,14 @@ fn write_sources(store: &Store, out: &mut Vec<u8>) -> Result<(), AllocError>
     Ok(())
 }
 
+// Puts PIM's facts of the world at the end.
 #[tactic(auto, unfolding(pim_saved::specs::Text::trees_text))]
 fn write_trees(world: &World, out: &mut Vec<u8>, meter: &mut Meter) -> Result<(), AllocError>
     ensures ok { OnOk result (out.new.items ≡ out.old.items ++ trees_text (trees_of world.now)) }
     ensures fitting { OnOk result (FitsTree (trees_of world.now)) }
 {
     let store = world.store();
-    store.recall_rising();
+    store.proof_rising();
     write_table(store.downstream_rows(), out)?;
     write_table(store.assert_rows(), out)?;
     write_join_timers(store, out, meter)?;

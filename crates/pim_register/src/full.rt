@@ -1,30 +1,20 @@
 //! The limit on facts, where a packet or a Register may make a source's.
-ghost use Rattle.std.specs.Prelude.{◌≡◌, ◌∷◌, [], ◌&&◌};
+ghost use Rattle.std.specs.Prelude.{◌≡◌, ◌&&◌};
 ghost use Rattle.pim_wire.specs.RegisterParts.{registered_group, registered_source};
-ghost use Rattle.pim_model.specs.Full.{needed, source_is_full};
+ghost use Rattle.pim_model.specs.Full.{source_is_full};
 ghost use Rattle.pim_model.specs.Unicast.{is_rp};
-ghost use Rattle.pim_types.specs.Keys.{source_key};
 
 use crate::rendezvous::registered;
 use pim_ip::Ipv4View;
+use pim_state::{Meter, World};
 use pim_types::SourceGroup;
 use pim_wire::RegisterView;
-use pim_world::{Meter, World};
 
-// How many rows the source needs that it hasn't: one, or none.
-#[tactic(auto, using(crate::proofs::Needed::one_needed))]
-fn missing(world: &World, name: SourceGroup) -> usize
-    ensures { result ≡ needed world.now.sources (source_key 0 name.group.bits name.source.bits ∷ []) }
-{
-    usize::from(world.store().source(name.key()).is_none())
-}
-
-/// Whether the row that a source may get passes the limit on facts.
-#[tactic(auto, unfolding(pim_model::specs::Full::source_is_full))]
+/// Whether the row that a source may get passes the limit on facts. It isn't looked up where there is room for one.
 pub fn source_is_full(world: &World, name: SourceGroup) -> bool
     ensures { result ≡ source_is_full world.now name.group.bits name.source.bits }
 {
-    world.passes_limit(missing(world, name))
+    world.passes_limit(1) && world.store().source(name.key()).is_none()
 }
 
 /// Whether the row that a Register may make passes it: at another router than the RP a Register makes none. The meter

@@ -1,8 +1,8 @@
 //! Registers that came to one of the router's addresses (RFC 7761, section 4.4.2).
 ghost use Rattle.std.specs.Prelude.{◌≡◌, ◌&&◌, ◌||◌, IfOk, OnOk, false, if◌then◌else◌};
-ghost use Rattle.pim_world.specs.Shown.{Shows};
+ghost use Rattle.pim_state.specs.Shown.{Shows};
 ghost use Rattle.pim_macros.specs.Sights.{InSource};
-ghost use Rattle.pim_world.specs.Turns.{saying};
+ghost use Rattle.pim_state.specs.Turns.{saying};
 ghost use Rattle.pim_wire.specs.RegisterParts.{is_null, registered_group, registered_source};
 ghost use Rattle.pim_model.specs.Desires.{is_inherited_empty};
 ghost use Rattle.pim_model.specs.Forwarding.{no_interface, register_at_rp, register_received, register_stop_to};
@@ -13,9 +13,9 @@ ghost use Rattle.pim_register.specs.Outgoing.{LeavesOn};
 use pim_ifset::IfSet;
 use pim_ip::Ipv4View;
 use pim_macros::SourceSight;
+use pim_state::{Meter, Turn, World};
 use pim_types::SourceGroup;
 use pim_wire::RegisterView;
-use pim_world::{Meter, Turn, World};
 use std::alloc::AllocError;
 
 // A Register-Stop, from the address that the Register came to back to where it came from.

@@ -3,15 +3,15 @@ ghost use Rattle.std.specs.Prelude.{◌≡◌, ◌∷◌, [], IsTrue, OnOk, fold
 ghost use Rattle.pim_types.specs.Keys.{source_key};
 ghost use Rattle.pim_model.specs.Registers.{settle_register};
 ghost use Rattle.pim_macros.specs.Sights.{IsSourceSight, IsStarSight};
-ghost use Rattle.pim_opening.specs.After.{AreAfter, IsAfter, opened_in, opening_in};
+ghost use Rattle.pim_views.specs.After.{AreAfter, AreGathered, IsAfter, opened_in, opening_in, openings_in};
 ghost use Rattle.pim_register.specs.Settling.{registers_by};
 ghost use Rattle.pim_register.specs.Steps.{source_keys};
 
 use pim_macros::{SourceSight, StarSight};
-use pim_opening::{GroupAfter, GroupOpening, Opening, SourceAfter, SourceOpening};
+use pim_state::{Meter, World};
 use pim_types::Addr;
 use pim_types::fact::{RegisterRow, RegisterState};
-use pim_world::{Meter, World};
+use pim_views::{GroupAfter, GroupOpening, Opening, SourceAfter, SourceOpening};
 use std::alloc::AllocError;
 
 /// Settles the register of one source: NoInfo becomes Join where CouldRegister(S,G) holds, and any state becomes NoInfo
@@ -131,11 +131,24 @@ fn are_settled_among(world: &World, star: &StarSight, sources: &[SourceAfter]) -
     true
 }
 
-/// Whether the registers of a group's touched sources are settled already, by what was gathered of them. If so,
-/// `changed` would change nothing.
-pub fn are_settled(world: &World, after: &GroupAfter) -> bool
+// Whether the registers of a group's touched sources are settled already, by what was gathered of them.
+fn are_settled_of(world: &World, after: &GroupAfter) -> bool
     requires { IsAfter world.now after.now }
     ensures { IsTrue result → registers_by (opening_in after.now ∷ []) world.now ≡ world.now }
 {
     are_settled_among(world, &after.star, after.sources.as_slice())
+}
+
+/// Whether the registers of all touched sources are settled already, by what was gathered of their groups. If so,
+/// `changed` would change nothing.
+pub fn are_settled(world: &World, seen: &[GroupAfter]) -> bool
+    requires { AreGathered world.now seen.now }
+    ensures { IsTrue result → registers_by (openings_in seen.now) world.now ≡ world.now }
+{
+    for after in seen {
+        if !are_settled_of(world, after) {
+            return false;
+        }
+    }
+    true
 }

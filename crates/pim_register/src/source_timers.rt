@@ -6,11 +6,11 @@ ghost use Rattle.pim_model.specs.Firing.{fired};
 ghost use Rattle.pim_model.specs.Messages.{Message};
 ghost use Rattle.pim_model.specs.Registers.{registering_address};
 ghost use Rattle.pim_model.specs.Unicast.{rp_of};
-ghost use Rattle.pim_world.specs.Turns.{saying};
+ghost use Rattle.pim_state.specs.Turns.{saying};
 
+use pim_state::{Meter, Turn, World};
 use pim_types::fact::{RegisterRow, RegisterState, SourceRow};
 use pim_types::{Addr, Key};
-use pim_world::{Meter, Turn, World};
 use std::alloc::AllocError;
 
 // Register_Probe_Time (RFC 7761, section 4.11), in ms.

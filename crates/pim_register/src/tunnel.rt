@@ -1,6 +1,6 @@
 //! What a Register-Stop and new RP ranges change of the tunnels (RFC 7761, section 4.4.1).
 ghost use Rattle.std.specs.Prelude.{◌≡◌, ◌==◌, IfOk, OnOk, filter, not, option_map};
-ghost use Rattle.pim_laws.specs.Rows.{all_changed};
+ghost use Rattle.law_settled.specs.Rows.{all_changed};
 ghost use Rattle.pim_model.specs.Registers.{register_stop_seen, state_after_stop};
 ghost use Rattle.pim_model.specs.Step.{rps_replaced};
 ghost use Rattle.pim_model.specs.Tables.{change_row, keys_in, same_option};
@@ -9,9 +9,9 @@ ghost use Rattle.pim_types.specs.Keys.{is_of_group};
 
 use pim_mrib::Mrib;
 use pim_neighbours::delay_in;
+use pim_state::{Meter, Turn, World};
 use pim_types::fact::{RegisterRow, RegisterState};
 use pim_types::{Addr, Key, SourceGroup};
-use pim_world::{Meter, Turn, World};
 use std::alloc::AllocError;
 
 // 0.5 to 1.5 times Register_Suppression_Time, less Register_Probe_Time (RFC 7761, section 4.4.1), in ms.
@@ -47,8 +47,8 @@ fn stop(world: &mut World, meter: &mut Meter, key: Key, end: u64) -> Result<(), 
     ensures { OnOk result (world.new
         ≡ record world.old { registers = change_row (stopping end) key world.old.registers }) }
 {
-    // For the proof: their keys rise, so that the key is listed once.
-    world.recall_keyed();
+    // For the proof: the registers' keys rise, so that the key is listed once.
+    world.proof_keyed();
     let Some(row) = world.store().register(key) else {
         return Ok(());
     };
@@ -57,7 +57,7 @@ fn stop(world: &mut World, meter: &mut Meter, key: Key, end: u64) -> Result<(), 
         .change_register(key, stopped(row, end), meter)
 }
 
-// Lets these registers wait.
+// Sets the registers under the keys to Prune until the timestamp, in ms, unless they are in Prune already.
 fn stop_all(world: &mut World, meter: &mut Meter, keys: &[Key], end: u64) -> Result<(), AllocError>
     ensures { OnOk result (world.new
         ≡ record world.old { registers = all_changed (stopping end) world.old.registers keys.now }) }
@@ -88,7 +88,7 @@ pub fn stop_seen(
     ensures silent { turn.new ≡ turn.old }
 {
     // For the proof: each register is under the key of its source.
-    world.recall_keyed();
+    world.proof_keyed();
     let end = world.present() + delay_in(LEAST_SUPPRESSION, MOST_SUPPRESSION, turn.draw);
     if is_any(name.source) {
         let keys = keys_of(world, turn, name.group)?;
@@ -130,7 +130,7 @@ fn keys_with_new_rp(
     Ok(keys)
 }
 
-// Sets these registers to Join.
+// Sets the registers under the keys to Join.
 fn join_all(world: &mut World, meter: &mut Meter, keys: &[Key]) -> Result<(), AllocError>
     ensures { OnOk result (world.new
         ≡ record world.old { registers = all_changed joining world.old.registers keys.now }) }

@@ -1,24 +1,12 @@
 -- Rows of interfaces that are up are of interfaces that the next configuration has.
-use Rattle.std.proofs.Common.{◌≡◌, ◌==◌, ℕ, ◌&&◌, ◌||◌, nat_lt, not, Bool, true, false, ◌-◌, List, [], ◌∷◌, map, Option, Some, None, length, refl, sym, ap, subst, ◌∙◌, eqb-true}
-use Rattle.std.proofs.lemmas.Bool.{or_right}
-use Rattle.std.specs.List.{AllByRecursion, list_all, list_any, range_with_len}
-use Rattle.std.specs.Prelude.{is_none}
-use Rattle.pim_ip.specs.declared.addr.Addr.{Addr}
-use Rattle.pim_types.proofs.Keys.{equal_keys, same_key_same}
-use Rattle.pim_types.specs.declared.event.Event.{Event}
-use Rattle.pim_types.specs.declared.outcome.Emission.{Emission}
-use Rattle.pim_types.specs.declared.fact.{InterfaceRow.InterfaceRow, Key.Key}
-use Rattle.pim_types.specs.Keys.{group_in, iface_in, iface_key, same_key}
-use Rattle.pim_model.specs.State.{State, iface_count, is_up}
-use Rattle.pim_model.specs.Step.{run, state_after}
-use Rattle.pim_model.specs.Tables.{Table, has_row}
-use Rattle.pim_laws.proofs.ListLaws.{any_among_all, each_both, each_more, each_of_list, list_of_each}
-use Rattle.pim_laws.proofs.RowLaws.{has_row_any}
-use Rattle.pim_ifaces.specs.Interfaces.{is_up_key}
-use Rattle.pim_reloaded.specs.Laws.{AreConfigured}
-use Rattle.pim_restored.specs.Reload.{config_of}
-use Rattle.pim_reloaded.specs.Reloading.{down_event, removals, sent_by}
-use Rattle.pim_reloaded.proofs.Removed.{left_low}
+use Rattle.std.{proofs.{Common.{◌≡◌, ◌==◌, ℕ, ◌&&◌, ◌||◌, nat_lt, not, Bool, true, false, ◌-◌, List, [], ◌∷◌, map, Option, Some, None, length, refl, sym, ap, subst, ◌∙◌, eqb-true}, lemmas.Bool.or_right}, specs.{List.{AllByRecursion, list_all, list_any, range_with_len}, Prelude.is_none}}
+use Rattle.pim_ip.{specs.declared.addr.Addr.Addr}
+use Rattle.pim_types.{proofs.Keys.{equal_keys, same_key_same}, specs.{declared.{event.Event.Event, outcome.Emission.Emission, fact.{InterfaceRow.InterfaceRow, Key.Key}}, Keys.{group_in, iface_in, iface_key, same_key}}}
+use Rattle.pim_model.{specs.{State.{State, iface_count, is_up}, Step.{run, state_after}, Tables.{Table, has_row}}}
+use Rattle.law_settled.{proofs.{ListLaws.{any_among_all, each_both, each_more, each_of_list, list_of_each}, RowLaws.has_row_any}}
+use Rattle.pim_ifaces.{specs.Interfaces.is_up_key}
+use Rattle.law_reloaded.{specs.{Laws.AreConfigured, Reloading.{down_event, removals, sent_by}}, proofs.Removed.left_low}
+use Rattle.law_restored.{specs.Reload.config_of}
 
 both : (a b : Bool) → (a && b) ≡ true → (a ≡ true) × (b ≡ true)
 both true b e = (refl, e)

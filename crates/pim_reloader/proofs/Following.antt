@@ -1,23 +1,16 @@
 -- What follows of another configuration, by what was opened.
-use Rattle.std.proofs.Common.{◌≡◌, ◌++◌, List, [], inl, refl, sym, subst, ap, ◌∙◌}
-use Rattle.pim_types.specs.declared.config.Config.{Config}
-use Rattle.pim_types.specs.Keys.{is_of_group, names_source}
-use Rattle.pim_model.specs.Messages.{Message}
-use Rattle.pim_model.specs.State.{State, settings_of}
-use Rattle.pim_model.specs.Upstream.{fact_keys}
-use Rattle.pim_laws.proofs.FewerFacts.{IsFewer, fewer_both, no_other}
-use Rattle.pim_locality.specs.Rest.{IsAtRest}
-use Rattle.pim_store.specs.PimTables.{AreKeyed, pim_tables}
-use Rattle.pim_world.specs.Turns.{Taking, saying}
-use Rattle.pim_world.specs.declared.touched.Touched.{Touched}
-use Rattle.pim_opening.specs.Covers.{IsWithin}
-use Rattle.pim_opening.specs.Openings.{opening_of}
-use Rattle.pim_opening.specs.declared.opening.GroupOpening.{GroupOpening}
-use Rattle.pim_event.specs.Settling.{settled_by}
-use Rattle.pim_event.proofs.Settling.{settled_as_opened}
-use Rattle.pim_event.proofs.Tunnelled.{rps_leave_facts}
-use Rattle.pim_restored.specs.Reload.{config_of}
-use Rattle.pim_reloaded.specs.Reloading.{hellos_anew, replaced, under}
+use Rattle.std.{proofs.Common.{◌≡◌, ◌++◌, List, [], inl, refl, sym, subst, ap, ◌∙◌}}
+use Rattle.pim_types.{specs.{declared.config.Config.Config, Keys.{is_of_group, names_source}}}
+use Rattle.pim_model.{specs.{Messages.Message, State.{State, settings_of}, Upstream.fact_keys}}
+use Rattle.law_settled.{proofs.FewerFacts.{IsFewer, fewer_both, no_other}}
+use Rattle.law_scope.{specs.Rest.IsAtRest}
+use Rattle.pim_store.{specs.PimTables.{AreKeyed, pim_tables}}
+use Rattle.pim_state.{specs.{Turns.{Taking, saying}, declared.touched.Touched.Touched}}
+use Rattle.pim_views.{specs.{Covers.IsWithin, Openings.opening_of, declared.opening.GroupOpening.GroupOpening}}
+use Rattle.pim_event.{specs.Settling.settled_by, proofs.Settling.settled_as_opened}
+use Rattle.pim_plan.{proofs.Tunnelled.rps_leave_facts}
+use Rattle.law_restored.{specs.Reload.config_of}
+use Rattle.law_reloaded.{specs.Reloading.{hellos_anew, replaced, under}}
 
 within_so : (s t : State) → IsFewer s t → IsWithin s t
 within_so s t fewer = record {

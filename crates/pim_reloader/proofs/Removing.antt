@@ -1,12 +1,9 @@
 -- Interfaces that go down one after the other.
-use Rattle.std.proofs.Common.{◌≡◌, ℕ, suc, ◌+◌, ◌-◌, ◌<◌, ◌≤◌, List, [], ◌∷◌, ◌++◌, map, refl, sym, ap, ◌∙◌, arith, append_assoc, append-nil}
-use Rattle.std.specs.List.{range_with_len}
-use Rattle.pim_types.specs.declared.event.Event.{Event}
-use Rattle.pim_types.specs.declared.outcome.{Emission.Emission}
-use Rattle.pim_locality.specs.Rest.{IsAtRest}
-use Rattle.pim_model.specs.State.{State}
-use Rattle.pim_model.specs.Step.{ran, run, state_after, step}
-use Rattle.pim_reloaded.specs.Reloading.{down_event, sent_by}
+use Rattle.std.{proofs.Common.{◌≡◌, ℕ, suc, ◌+◌, ◌-◌, ◌<◌, ◌≤◌, List, [], ◌∷◌, ◌++◌, map, refl, sym, ap, ◌∙◌, arith, append_assoc, append-nil}, specs.List.range_with_len}
+use Rattle.pim_types.{specs.declared.{event.Event.Event, outcome.Emission.Emission}}
+use Rattle.law_scope.{specs.Rest.IsAtRest}
+use Rattle.pim_model.{specs.{State.State, Step.{ran, run, state_after, step}}}
+use Rattle.law_reloaded.{specs.Reloading.{down_event, sent_by}}
 
 -- from a number on
 abbrev pub downs : ℕ → ℕ → ℕ → List Event

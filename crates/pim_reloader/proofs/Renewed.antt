@@ -1,25 +1,14 @@
 -- All rows are evaluated again where all sources with a fact are named, before a change and after it.
-use Rattle.std.proofs.Common.{◌≡◌, ◌||◌, ◌++◌, ℕ, Bool, true, false, List, [], ◌∷◌, Some, None, ap, cond, refl, subst, sym, ◌∙◌}
-use Rattle.std.proofs.lemmas.Bool.{or_right}
-use Rattle.std.proofs.lemmas.List.Folds.{list_any-append}
-use Rattle.std.specs.List.{list_any}
-use Rattle.std.specs.Prelude.{map}
-use Rattle.pim_types.proofs.Keys.{equal_keys, same_key_same}
-use Rattle.pim_types.specs.Keys.{group_in, same_key, source_in, source_key}
-use Rattle.pim_types.specs.declared.fact.{Key.Key, SourceRow.SourceRow}
-use Rattle.pim_laws.proofs.RowLaws.{has_row_any}
-use Rattle.pim_model.specs.Cache.{answers, cached}
-use Rattle.pim_model.specs.State.{State}
-use Rattle.pim_model.specs.Tables.{Table, has_row}
-use Rattle.pim_macros.specs.declared.rows.SourceAnswers.{SourceAnswers}
-use Rattle.pim_cached.proofs.SameRows.{row_itself}
-use Rattle.pim_cached.specs.Kept.{IsCached, SameRow, is_listed, refreshed}
-use Rattle.pim_mfc.specs.Laws.{ShowsRows}
-use Rattle.pim_mfc.proofs.Shown.{refreshed_are_shown}
-use Rattle.pim_fanout.specs.Refreshing.{Refreshes}
-use Rattle.pim_world.specs.declared.touched.Touched.{Touched}
-use Rattle.pim_fanout.specs.Disturbed.{joined}
-use Rattle.pim_reloader.specs.Listing.{AreListed, ListsFacts, sources_in}
+use Rattle.std.{proofs.{Common.{◌≡◌, ◌||◌, ◌++◌, ℕ, Bool, true, false, List, [], ◌∷◌, Some, None, ap, cond, refl, subst, sym, ◌∙◌}, lemmas.{Bool.or_right, List.Folds.list_any-append}}, specs.{List.list_any, Prelude.map}}
+use Rattle.pim_types.{proofs.Keys.{equal_keys, same_key_same}, specs.{Keys.{group_in, same_key, source_in, source_key}, declared.fact.{Key.Key, SourceRow.SourceRow}}}
+use Rattle.law_settled.{proofs.RowLaws.has_row_any}
+use Rattle.pim_model.{specs.{Cache.{answers, cached}, State.State, Tables.{Table, has_row}}}
+use Rattle.pim_macros.{specs.declared.rows.SourceAnswers.SourceAnswers}
+use Rattle.law_cache.{proofs.SameRows.row_itself, specs.Kept.{IsCached, SameRow, is_listed, refreshed}}
+use Rattle.pim_mfc.{specs.Laws.ShowsRows, proofs.Shown.refreshed_are_shown}
+use Rattle.pim_fanout.{specs.{Refreshing.Refreshes, Disturbed.joined}}
+use Rattle.pim_state.{specs.declared.touched.Touched.Touched}
+use Rattle.pim_reloader.{specs.Listing.{AreListed, ListsFacts, sources_in}}
 
 abbrev name_in : Key × SourceRow → Key
 name_in e = source_key 0 (group_in e.0) (source_in e.0)

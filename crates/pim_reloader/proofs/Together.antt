@@ -1,10 +1,8 @@
 -- The removals and what follows are the reload.
-use Rattle.std.proofs.Common.{◌≡◌, ◌++◌, ℕ, List, ◌∙◌}
-use Rattle.pim_types.specs.declared.config.Config.{Config}
-use Rattle.pim_types.specs.declared.outcome.Emission.{Emission}
-use Rattle.pim_model.specs.State.{State}
-use Rattle.pim_model.specs.Step.{run, state_after}
-use Rattle.pim_reloaded.specs.Reloading.{reload, removals, replaced, sent_by}
+use Rattle.std.{proofs.Common.{◌≡◌, ◌++◌, ℕ, List, ◌∙◌}}
+use Rattle.pim_types.{specs.declared.{config.Config.Config, outcome.Emission.Emission}}
+use Rattle.pim_model.{specs.{State.State, Step.{run, state_after}}}
+use Rattle.law_reloaded.{specs.Reloading.{reload, removals, replaced, sent_by}}
 
 module _ (s m n : State) (c : Config) (w v : ℕ) (left : m ≡ state_after s (removals s c w)) (same : v ≡ w) where
   pub whole_state : n ≡ (replaced m c v).0 → n ≡ (reload s c w).0

@@ -1,7 +1,6 @@
 -- Which Hellos are said.
-use Rattle.std.proofs.Common.{◌≡◌, ℕ, zero, suc, ◌+◌, ◌++◌, Bool, true, false, cond, List, [], ◌∷◌, filter, map, append-nil, append_assoc, refl, ap, sym, ◌∙◌, arith}
-use Rattle.std.specs.List.{range_with_len}
-use Rattle.pim_model.specs.Messages.{Message}
+use Rattle.std.{proofs.Common.{◌≡◌, ℕ, zero, suc, ◌+◌, ◌++◌, Bool, true, false, cond, List, [], ◌∷◌, filter, map, append-nil, append_assoc, refl, ap, sym, ◌∙◌, arith}, specs.List.range_with_len}
+use Rattle.pim_model.{specs.Messages.Message}
 
 -- ---- Hellos
 

@@ -1,4 +1,4 @@
-//! Another configuration in a router that works, as the specification (pim_reloaded) says.
+//! Another configuration in a router that works, as the specification (law_reloaded) says.
 #![tactic(auto)]
 
 mod hellos;

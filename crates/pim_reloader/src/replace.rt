@@ -4,27 +4,28 @@ ghost use Rattle.std.specs.List.Sorted.{IsStrictlySortedBy};
 ghost use Rattle.std.specs.Prelude.{◌≡◌, ◌++◌, [], IfOk, IsOkUnless, OnOk, length, map, nat_lt, true};
 ghost use Rattle.pim_fanout.specs.Named.{keys_of};
 ghost use Rattle.pim_ip.specs.declared.fault.Fault.{Fault};
-ghost use Rattle.pim_locality.specs.Rest.{IsAtRest};
+ghost use Rattle.law_scope.specs.Rest.{IsAtRest};
 ghost use Rattle.pim_mfc.specs.Laws.{ShowsRows};
 ghost use Rattle.pim_model.specs.Cache.{cached};
-ghost use Rattle.pim_reloaded.specs.Reloading.{hellos_anew, replaced, under};
+ghost use Rattle.law_reloaded.specs.Reloading.{hellos_anew, replaced, under};
 ghost use Rattle.pim_reloader.specs.Listing.{AreListed, sources_in};
-ghost use Rattle.pim_restored.specs.Reload.{config_of};
+ghost use Rattle.law_restored.specs.Reload.{config_of};
 ghost use Rattle.pim_types.specs.Keys.{group_in, iface_in, key_cmp, source_in, source_key};
-ghost use Rattle.pim_world.specs.Turns.{saying};
-ghost use Rattle.pim_world.specs.declared.touched.Touched.{Touched as TouchedValue};
+ghost use Rattle.pim_state.specs.Turns.{saying};
+ghost use Rattle.pim_state.specs.declared.touched.Touched.{Touched as TouchedValue};
 
 use crate::hellos::tell;
+use pim_event::Core;
 use pim_event::settle::settle;
-use pim_fanout::{Cache, Gathered};
+use pim_fanout::Gathered;
+use pim_state::{Meter, Touched, Turn, World};
 use pim_tables::PlacedRows;
 use pim_types::fact::SourceRow;
 use pim_types::{Emission, Fault, Series, SourceGroup};
-use pim_world::{Meter, Touched, Turn, World};
 use std::alloc::AllocError;
 
 // Puts the world under the configuration of the next one, and says the Hellos that leave at once. All facts stay.
-#[tactic(auto, unfolding(pim_reloaded::specs::Reloading::under, pim_restored::specs::Reload::config_of, pim_model::specs::State::settings_of))]
+#[tactic(auto, unfolding(law_reloaded::specs::Reloading::under, law_restored::specs::Reload::config_of, pim_model::specs::State::settings_of))]
 fn reconfigure(
     world: &mut World,
     turn: &mut Turn,
@@ -42,7 +43,7 @@ fn reconfigure(
 }
 
 // Puts the world under the configuration of the next one, and does what follows. The result is what is sent.
-#[tactic(auto, unfolding(pim_reloaded::specs::Reloading::replaced))]
+#[tactic(auto, unfolding(law_reloaded::specs::Reloading::replaced))]
 fn follow(
     world: &mut World,
     turn: &mut Turn,
@@ -59,7 +60,7 @@ fn follow(
     let gathered = Gathered::of(world, turn.alloc, &Touched::All, None, meter)?;
     reconfigure(world, turn, meter, next)?;
     // For the proof: asserts, sources and registers are under keys of their kind.
-    world.recall_keyed();
+    world.proof_keyed();
     let mut sent = Vec::new(turn.alloc);
     let mut last = None;
     settle(world, turn, meter, &gathered, &mut sent, &mut last)?;
@@ -92,30 +93,36 @@ pub(crate) fn add_sources(names: &mut Vec<SourceGroup>, world: &World) -> Result
 /// up. All facts stay for which its routes and RPs have a use. The given sources, and all with a fact before or after,
 /// are listed as changed, and all sources as disturbed. The result is what is sent. The fault is want of memory.
 pub(crate) fn replace(
-    world: &mut World,
-    cache: &mut Cache,
+    core: &mut Core,
     turn: &mut Turn,
     meter: &mut Meter,
     next: World,
     mut names: Vec<SourceGroup>,
 ) -> Result<Vec<Emission>, Fault>
-    requires rest { IsAtRest world.old }
-    requires shown { ShowsRows cache.old.mfc.rows (cached world.old) }
+    requires rest { IsAtRest core.old.world }
+    requires shown { ShowsRows core.old.cache.mfc.rows (cached core.old.world) }
     requires begun { turn.old.messages ≡ [] }
-    requires below { list_all (λ e. nat_lt (iface_in e.0) (length next.configured)) world.old.interfaces ≡ true }
-    ensures state { OnOk result (world.new ≡ (replaced world.old (config_of next) turn.old.draw).0) }
-    ensures sent { IfOk result (λ sent. sent.items ≡ (replaced world.old (config_of next) turn.old.draw).1) }
-    ensures shown { OnOk result (ShowsRows cache.new.mfc.rows (cached world.new)) }
-    ensures listed { OnOk result (AreListed (keys_of names.items) world.old world.new cache.old.changed
-        cache.new.changed) }
-    ensures once { OnOk result (IsStrictlySortedBy key_cmp cache.new.changed) }
-    ensures disturbed { OnOk result (cache.new.disturbed ≡ TouchedValue.All) }
+    requires below { list_all (λ e. nat_lt (iface_in e.0) (length next.configured)) core.old.world.interfaces ≡ true }
+    ensures state { OnOk result (core.new.world ≡ (replaced core.old.world (config_of next) turn.old.draw).0) }
+    ensures sent { IfOk result (λ sent. sent.items ≡ (replaced core.old.world (config_of next) turn.old.draw).1) }
+    ensures shown { OnOk result (ShowsRows core.new.cache.mfc.rows (cached core.new.world)) }
+    ensures listed { OnOk result (AreListed (keys_of names.items) core.old.world core.new.world core.old.cache.changed
+        core.new.cache.changed) }
+    ensures once { OnOk result (IsStrictlySortedBy key_cmp core.new.cache.changed) }
+    ensures disturbed { OnOk result (core.new.cache.disturbed ≡ TouchedValue.All) }
+    ensures kept { OnOk result (core.new.replaced ≡ core.old.replaced) }
     ensures fault { IsOkUnless result Fault.Memory }
 {
-    add_sources(&mut names, world)?;
-    let sent = follow(world, turn, meter, next)?;
-    add_sources(&mut names, world)?;
-    cache.refresh(world, meter, Series::from_vec(names), Touched::All, &None)?;
-    cache.list_once();
+    add_sources(&mut names, &core.world)?;
+    let sent = follow(&mut core.world, turn, meter, next)?;
+    add_sources(&mut names, &core.world)?;
+    core.cache.refresh(
+        &core.world,
+        meter,
+        Series::from_vec(names),
+        Touched::All,
+        &None,
+    )?;
+    core.cache.list_once();
     Ok(sent)
 }

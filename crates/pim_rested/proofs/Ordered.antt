@@ -1,11 +1,8 @@
 -- The keys of a state that was read rise.
-use Rattle.std.proofs.Common.{◌≡◌, ℕ, List, Ok}
-use Rattle.pim_model.specs.State.{State}
-use Rattle.pim_ready.specs.Ready.{IsOrdered}
-use Rattle.pim_saved.proofs.SpelledStates.{reading_is_text}
-use Rattle.pim_saved.specs.Fits.{FitsState}
-use Rattle.pim_saved.specs.Laws.{AreBytes}
-use Rattle.pim_saved.specs.Reading.{reading}
+use Rattle.std.{proofs.Common.{◌≡◌, ℕ, List, Ok}}
+use Rattle.pim_model.{specs.State.State}
+use Rattle.law_settled.{specs.Ready.IsOrdered}
+use Rattle.pim_saved.{proofs.SpelledStates.reading_is_text, specs.{Fits.FitsState, Laws.AreBytes, Reading.reading}}
 
 in_order : (s : State) → FitsState s → IsOrdered s
 in_order s h =

@@ -1,13 +1,9 @@
 -- What the tests of a state that was read say of its bytes.
-use Rattle.std.proofs.Common.{◌≡◌, ◌∙◌, ℕ, List, Ok, Err, ap, subst, sym}
-use Rattle.pim_model.specs.State.{State}
-use Rattle.pim_ready.specs.Ready.{IsOrdered}
-use Rattle.pim_saved.specs.Laws.{AreBytes}
-use Rattle.pim_saved.specs.Reading.{reading}
-use Rattle.pim_rested.proofs.Ordered.{read_in_order}
-use Rattle.pim_rested.proofs.Tests.{resumable_is_decided}
-use Rattle.pim_rested.specs.Resuming.{IsResumable, read_test, restore_test, resume_test}
-use Rattle.pim_rested.specs.declared.refusal.RestoreRefusal.{RestoreRefusal}
+use Rattle.std.{proofs.Common.{◌≡◌, ◌∙◌, ℕ, List, Ok, Err, ap, subst, sym}}
+use Rattle.pim_model.{specs.State.State}
+use Rattle.law_settled.{specs.Ready.IsOrdered}
+use Rattle.pim_saved.{specs.{Laws.AreBytes, Reading.reading}}
+use Rattle.pim_rested.{proofs.{Ordered.read_in_order, Tests.resumable_is_decided}, specs.{Resuming.{IsResumable, read_test, restore_test, resume_test}, declared.refusal.RestoreRefusal.RestoreRefusal}}
 
 module _ (bytes : List ℕ) (s : State) (are : AreBytes bytes) (read : reading bytes ≡ Ok s) where
   pub refused_read : (refusal : RestoreRefusal) → (IsOrdered s → resume_test s ≡ Err refusal)

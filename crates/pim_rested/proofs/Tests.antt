@@ -1,24 +1,15 @@
 -- The tests of a saved state decide whether a router can be in it.
-use Rattle.std.proofs.Common.{◌≡◌, ◌&&◌, ◌∙◌, Bool, true, false, Ok, Err, ap, refl, sym, length}
-use Rattle.std.specs.List.{list_all}
-use Rattle.std.specs.Prelude.{Result, [], if◌then◌else◌, is_ok, ◌∷◌}
-use Rattle.pim_ip.specs.Tests.{expect, ◌>>◌}
-use Rattle.pim_ip.specs.declared.refusal.Refusal.{Refusal}
-use Rattle.pim_ifaces.specs.Interfaces.{interfaces_test, is_up_key}
-use Rattle.pim_locality.specs.Locality.{IsQuiet}
-use Rattle.pim_model.specs.Limits.{are_routes, are_rps, config_test}
-use Rattle.pim_model.specs.State.{State}
-use Rattle.pim_ready.specs.Ready.{IsOrdered}
-use Rattle.pim_refilled.proofs.SettledTests.{settled_is_decided}
-use Rattle.pim_refilled.specs.Rows.{can_hold}
-use Rattle.pim_refilled.specs.Settled.{is_settled}
-use Rattle.pim_restored.specs.Reload.{config_of}
-use Rattle.pim_restored.specs.Resting.{all_pass}
-use Rattle.pim_saved.proofs.SpelledStates.{text_is_read}
-use Rattle.pim_world.proofs.Accepted.{all_accepted, in_two_parts}
-use Rattle.pim_world.specs.Configurations.{settings_test}
-use Rattle.pim_rested.specs.Resuming.{IsResumable, ResumableIsDecided, SavedIsResumed, has_settings, is_quiet, read_test, resume_test}
-use Rattle.pim_rested.specs.declared.refusal.RestoreRefusal.{RestoreRefusal}
+use Rattle.std.{proofs.Common.{◌≡◌, ◌&&◌, ◌∙◌, Bool, true, false, Ok, Err, ap, refl, sym, length}, specs.{List.list_all, Prelude.{Result, [], if◌then◌else◌, is_ok, ◌∷◌}}}
+use Rattle.pim_ip.{specs.{Tests.{expect, ◌>>◌}, declared.refusal.Refusal.Refusal}}
+use Rattle.pim_ifaces.{specs.Interfaces.{interfaces_test, is_up_key}}
+use Rattle.law_scope.{specs.Locality.IsQuiet}
+use Rattle.pim_model.{specs.{Limits.{are_routes, are_rps, config_test}, State.State}}
+use Rattle.law_settled.{specs.Ready.IsOrdered}
+use Rattle.pim_refilled.{proofs.SettledTests.settled_is_decided, specs.{Rows.can_hold, Settled.is_settled}}
+use Rattle.law_restored.{specs.{Reload.config_of, Resting.all_pass}}
+use Rattle.pim_saved.{proofs.SpelledStates.text_is_read}
+use Rattle.pim_state.{proofs.Accepted.{all_accepted, in_two_parts}, specs.Configurations.settings_test}
+use Rattle.pim_rested.{specs.{Resuming.{IsResumable, ResumableIsDecided, SavedIsResumed, are_settings_accepted, is_quiet, read_test, resume_test}, declared.refusal.RestoreRefusal.RestoreRefusal}}
 
 halves : (a b : Bool) → (a && b) ≡ true → (a ≡ true) × (b ≡ true)
 halves true b e = (refl, e)
@@ -62,14 +53,14 @@ module _ (s : State) where
   abbrev up : Bool
   up = list_all (λ e. is_up_key (length s.configured) e.0) s.interfaces
 
-  accepted_is : can_hold s ≡ true → has_settings s ≡ true → config_test (config_of s) ≡ Ok tt
+  accepted_is : can_hold s ≡ true → are_settings_accepted s ≡ true → config_test (config_of s) ≡ Ok tt
   unfolding config_of
   accepted_is held settings =
       let tables = (halves (is_ok (interfaces_test s.configured) && up) _ held).1 in
       let mrib = halves (are_routes s.configured s.routes) (are_rps s.ranges) (halves _ _ tables).0 in
       all_accepted (config_of s) (is_done (settings_test (config_of s)) settings) mrib.0 mrib.1
 
-  settings_so : config_test (config_of s) ≡ Ok tt → has_settings s ≡ true
+  settings_so : config_test (config_of s) ≡ Ok tt → are_settings_accepted s ≡ true
   unfolding config_of
   settings_so accepted =
       ap is_ok (first (settings_test (config_of s))
@@ -93,7 +84,7 @@ passed false b c d e = cc
 resumable_is : (s : State) → IsOrdered s → resume_test s ≡ Ok tt → IsResumable s
 unfolding resume_test
 resumable_is s ordered e =
-    let p = passed (can_hold s) (has_settings s) (is_settled s) (is_quiet s) e in
+    let p = passed (can_hold s) (are_settings_accepted s) (is_settled s) (is_quiet s) e in
     record {
       held = p.0;
       accepted = accepted_is s p.0 p.1.0;

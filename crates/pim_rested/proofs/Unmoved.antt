@@ -1,13 +1,7 @@
 -- Where nothing has changed, RPF_interface hasn't moved: the other reasons alone decide whether a lost assert must go.
-use Rattle.std.proofs.Common.{◌≡◌, ◌&&◌, ◌||◌, Bool, true, false, not, refl}
-use Rattle.pim_types.specs.declared.fact.AssertRow.{AssertRow}
-use Rattle.pim_types.specs.declared.fact.Key.{Key}
-use Rattle.pim_types.specs.Keys.{iface_in}
-use Rattle.pim_model.specs.Asserts.{is_tracking_at, my_metric_at}
-use Rattle.pim_model.specs.Clearing.{is_rpf_at, loser_must_go}
-use Rattle.pim_model.specs.Neighbours.{is_neighbour}
-use Rattle.pim_model.specs.Sets.{is_better}
-use Rattle.pim_model.specs.State.{State}
+use Rattle.std.{proofs.Common.{◌≡◌, ◌&&◌, ◌||◌, Bool, true, false, not, refl}}
+use Rattle.pim_types.{specs.{declared.fact.{AssertRow.AssertRow, Key.Key}, Keys.iface_in}}
+use Rattle.pim_model.{specs.{Asserts.{is_tracking_at, my_metric_at}, Clearing.{is_rpf_at, loser_must_go}, Neighbours.is_neighbour, Sets.is_better, State.State}}
 
 never_both : (a b c d : Bool) → (not a || not b || c || (d && not d)) ≡ (not a || not b || c)
 never_both false b c d = refl

@@ -1,8 +1,9 @@
 -- The numbers of what is refused.
-use Rattle.std.specs.Prelude.{ℕ}
-use Rattle.pim_saved.specs.Refused.{saved_refusal_number}
-use Rattle.pim_rested.specs.declared.refusal.RestoreRefusal.{RestoreRefusal}
+use Rattle.std.{specs.Prelude.ℕ}
+use Rattle.pim_saved.{specs.Refused.saved_refusal_number}
+use Rattle.pim_rested.{specs.declared.refusal.RestoreRefusal.RestoreRefusal}
 
+-- the number under which a refusal of saved bytes is told
 unfoldable pub restore_refusal_number : RestoreRefusal → ℕ
 restore_refusal_number (RestoreRefusal.Bytes refusal) = saved_refusal_number refusal
 restore_refusal_number RestoreRefusal.NotHeld = 66

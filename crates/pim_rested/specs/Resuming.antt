@@ -1,19 +1,13 @@
 -- Which states a router goes on from, and which bytes are of one.
-use Rattle.std.specs.Prelude.{Bool, Err, List, Ok, Result, if◌then◌else◌, is_ok, true, ℕ, ◌&&◌, ◌≡◌}
-use Rattle.pim_saved.specs.declared.refusal.SavedRefusal.{SavedRefusal}
-use Rattle.pim_locality.specs.Rest.{IsAtRest}
-use Rattle.pim_model.specs.Limits.{config_test}
-use Rattle.pim_model.specs.State.{State}
-use Rattle.pim_ready.specs.Ready.{IsOrdered}
-use Rattle.pim_refilled.specs.Rows.{can_hold}
-use Rattle.pim_refilled.specs.Settled.{is_settled}
-use Rattle.pim_restored.specs.Reload.{config_of}
-use Rattle.pim_restored.specs.Resting.{all_pass, quiet_tests}
-use Rattle.pim_saved.specs.Fits.{FitsState}
-use Rattle.pim_saved.specs.Reading.{reading}
-use Rattle.pim_saved.specs.Text.{text}
-use Rattle.pim_world.specs.Configurations.{settings_test}
-use Rattle.pim_rested.specs.declared.refusal.RestoreRefusal.{RestoreRefusal}
+use Rattle.std.{specs.Prelude.{Bool, Err, List, Ok, Result, if◌then◌else◌, is_ok, true, ℕ, ◌&&◌, ◌≡◌}}
+use Rattle.pim_saved.{specs.{declared.refusal.SavedRefusal.SavedRefusal, Fits.FitsState, Reading.reading, Text.text}}
+use Rattle.law_scope.{specs.Rest.IsAtRest}
+use Rattle.pim_model.{specs.{Limits.config_test, State.State}}
+use Rattle.law_settled.{specs.Ready.IsOrdered}
+use Rattle.pim_refilled.{specs.{Rows.can_hold, Settled.is_settled}}
+use Rattle.law_restored.{specs.{Reload.config_of, Resting.{all_pass, quiet_tests}}}
+use Rattle.pim_state.{specs.Configurations.settings_test}
+use Rattle.pim_rested.{specs.declared.refusal.RestoreRefusal.RestoreRefusal}
 
 -- A router can be in this state: each fact is under a key of its kind, the configuration is accepted, and the state is at
 -- rest.
@@ -23,19 +17,21 @@ pub record IsResumable (s : State) : Type 0 where
   pub rest : IsAtRest s
 
 -- the configuration is accepted, but for its routes and RP ranges
-abbrev pub has_settings : State → Bool
-has_settings s = is_ok (settings_test (config_of s))
+abbrev pub are_settings_accepted : State → Bool
+are_settings_accepted s = is_ok (settings_test (config_of s))
 
+-- the test that nothing is left to be done in a state
 abbrev pub is_quiet : State → Bool
 is_quiet s = all_pass (quiet_tests s)
 
 -- the tests of a state whose keys rise, in their order
 unfoldable pub resume_test : State → Result (Unit {0}) RestoreRefusal
 resume_test s =
-    if can_hold s && has_settings s
+    if can_hold s && are_settings_accepted s
     then (if is_settled s then (if is_quiet s then Ok tt else Err RestoreRefusal.NotQuiet) else Err RestoreRefusal.NotSettled)
     else Err RestoreRefusal.NotHeld
 
+-- the test of what is read of saved bytes
 abbrev pub read_test : Result State SavedRefusal → Result (Unit {0}) RestoreRefusal
 read_test (Ok s) = resume_test s
 read_test (Err refusal) = Err (RestoreRefusal.Bytes refusal)

@@ -11,4 +11,4 @@ mod settings;
 pub use law::{resumable_is_decided, saved_is_resumed};
 pub use quiet::is_quiet;
 pub use refusal::RestoreRefusal;
-pub use resumed::{Resumed, recall_resumable, resume};
+pub use resumed::{Resumed, proof_resumable, resume};

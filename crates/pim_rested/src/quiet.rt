@@ -2,7 +2,7 @@
 //! must go, and all registers are settled (4.4.1).
 ghost use Rattle.std.specs.List.{list_all};
 ghost use Rattle.std.specs.Prelude.{◌≡◌, ◌<◌, ◌||◌, None, Some, false, nat_lt, not, true};
-ghost use Rattle.pim_locality.specs.Locality.{is_register_settled};
+ghost use Rattle.law_scope.specs.Locality.{is_register_settled};
 ghost use Rattle.pim_macros.specs.Sights.{IsSourceSight, IsStarSight};
 ghost use Rattle.pim_model.specs.Clearing.{assert_must_go, spt_must_go};
 ghost use Rattle.pim_model.specs.Desires.{join_desired};
@@ -13,10 +13,10 @@ ghost use Rattle.pim_rested.specs.Resuming.{is_quiet};
 
 use pim_macros::asserts::is_better;
 use pim_macros::{SourceSight, StarSight};
+use pim_state::{Meter, World};
 use pim_tables::PlacedRows;
 use pim_types::fact::{AssertMetric, AssertRole, AssertRow, RegisterRow, SourceRow};
 use pim_types::{IfaceId, Key, SourceGroup};
-use pim_world::{Meter, World};
 use std::collections::btree_map::Iter;
 
 // Whether an assert lost to this winner must go, by AssertTrackingDesired and my_assert_metric.

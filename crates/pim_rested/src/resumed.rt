@@ -1,25 +1,25 @@
 //! The world and the forwarding cache of saved bytes.
 ghost use Rattle.std.specs.Prelude.{◌≡◌, Err, IfErr, IfOk, Ok};
-ghost use Rattle.pim_locality.specs.Rest.{IsAtRest};
+ghost use Rattle.law_scope.specs.Rest.{IsAtRest};
 ghost use Rattle.pim_model.specs.Limits.{config_test};
-ghost use Rattle.pim_restored.specs.Reload.{config_of};
+ghost use Rattle.law_restored.specs.Reload.{config_of};
 ghost use Rattle.pim_fanout.specs.Refreshing.{IsUncounted};
 ghost use Rattle.pim_ip.specs.declared.fault.Fault.{Fault};
 ghost use Rattle.pim_mfc.specs.Laws.{ShowsRows};
 ghost use Rattle.pim_model.specs.Cache.{cached};
-ghost use Rattle.pim_ready.specs.Ready.{IsOrdered};
+ghost use Rattle.law_settled.specs.Ready.{IsOrdered};
 ghost use Rattle.pim_saved.specs.Reading.{reading};
 ghost use Rattle.pim_saver.specs.Views.{state_view};
 ghost use Rattle.pim_rested.specs.Resuming.{IsResumable, restore_test, resume_test};
 
 use crate::quiet::is_quiet;
 use crate::refusal::RestoreRefusal;
-use crate::settings::has_settings;
+use crate::settings::are_settings_accepted;
 use pim_fanout::Cache;
-use pim_refilled::{is_settled, recall_held, world_of};
+use pim_refilled::{is_settled, proof_held, world_of};
 use pim_saver::{ReadFault, SavedState, read_state};
+use pim_state::{Meter, World};
 use pim_types::Fault;
-use pim_world::{Meter, World};
 use std::alloc::Global;
 
 /// What a router keeps of its state: its world, and the forwarding cache with a row for each source that has a fact.
@@ -45,7 +45,7 @@ fn tested_world(
     let Some(world) = world_of(alloc, state, meter)? else {
         return Ok(Err(RestoreRefusal::NotHeld));
     };
-    if !has_settings(&world) {
+    if !are_settings_accepted(&world) {
         return Ok(Err(RestoreRefusal::NotHeld));
     }
     if !is_settled(&world) {
@@ -57,8 +57,8 @@ fn tested_world(
     Ok(Ok(world))
 }
 
-/// The world that these bytes say, with its forwarding cache, where a router can be in that state; or the first test
-/// that fails. The meter rises by the nodes visited. The fault is want of memory.
+/// The world that a saved state's bytes say, with its forwarding cache, where a router can be in that state; or the
+/// first test that fails. The meter rises by the nodes visited. The fault is want of memory.
 pub fn resume(
     alloc: Global,
     bytes: &[u8],
@@ -87,10 +87,10 @@ pub fn resume(
 
 /// For the proof: a world at rest under an accepted configuration is in a state that a router can be in. Does nothing
 /// when it runs.
-pub fn recall_resumable(world: &World)
+pub fn proof_resumable(world: &World)
     requires accepted { config_test (config_of world.now) ≡ Ok tt }
     requires rest { IsAtRest world.now }
     ensures { IsResumable world.now }
 {
-    recall_held(world);
+    proof_held(world);
 }

@@ -1,13 +1,13 @@
 //! Whether the settings that a world is under are accepted.
 ghost use Rattle.std.specs.Prelude.{◌≡◌};
 ghost use Rattle.pim_model.specs.Limits.{is_querier_config};
-ghost use Rattle.pim_restored.specs.Reload.{config_of};
-ghost use Rattle.pim_world.specs.Configurations.{settings_test};
-ghost use Rattle.pim_rested.specs.Resuming.{has_settings};
+ghost use Rattle.law_restored.specs.Reload.{config_of};
+ghost use Rattle.pim_state.specs.Configurations.{settings_test};
+ghost use Rattle.pim_rested.specs.Resuming.{are_settings_accepted};
 
 use pim_ifaces::{test_delays, test_interfaces};
+use pim_state::World;
 use pim_types::Refusal;
-use pim_world::World;
 
 // The limit on counted facts is at most this.
 const MOST_FACTS: u32 = 1_000_000;
@@ -16,7 +16,7 @@ const MOST_FACTS: u32 = 1_000_000;
 const LONGEST_INTERVAL: u32 = 31_744;
 
 // Whether the querier's values are in their ranges.
-#[tactic(auto, unfolding(pim_model::specs::Limits::is_querier_config, pim_restored::specs::Reload::config_of))]
+#[tactic(auto, unfolding(pim_model::specs::Limits::is_querier_config, law_restored::specs::Reload::config_of))]
 fn has_querier_values(world: &World) -> bool
     ensures { result ≡ is_querier_config (config_of world.now) }
 {
@@ -30,7 +30,7 @@ fn has_querier_values(world: &World) -> bool
 
 // Tests the configuration that the world is under but for its routes and RP ranges: the refusal names the first test that
 // fails.
-#[tactic(auto, unfolding(pim_world::specs::Configurations::settings_test, pim_ifaces::specs::Interfaces::interfaces_test, pim_ifaces::specs::Interfaces::delays_test, pim_restored::specs::Reload::config_of))]
+#[tactic(auto, unfolding(pim_state::specs::Configurations::settings_test, pim_ifaces::specs::Interfaces::interfaces_test, pim_ifaces::specs::Interfaces::delays_test, law_restored::specs::Reload::config_of))]
 fn test_settings(world: &World) -> Result<(), Refusal>
     ensures { result ≡ settings_test (config_of world.now) }
 {
@@ -47,8 +47,8 @@ fn test_settings(world: &World) -> Result<(), Refusal>
 }
 
 /// Whether the configuration that the world is under is accepted, but for its routes and RP ranges.
-pub(crate) fn has_settings(world: &World) -> bool
-    ensures { result ≡ has_settings world.now }
+pub(crate) fn are_settings_accepted(world: &World) -> bool
+    ensures { result ≡ are_settings_accepted world.now }
 {
     test_settings(world).is_ok()
 }

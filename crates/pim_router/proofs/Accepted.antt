@@ -1,15 +1,13 @@
 -- A router stays under a configuration that is accepted.
-use Rattle.std.proofs.Common.{◌≡◌, ℕ, Ok, Result, subst, sym}
-use Rattle.std.proofs.lemmas.Result.{on_ok_weaker}
-use Rattle.std.specs.Prelude.{OnOk}
-use Rattle.pim_types.specs.declared.config.Config.{Config}
-use Rattle.pim_types.specs.declared.event.Event.{Event}
-use Rattle.pim_model.specs.Limits.{config_test}
-use Rattle.pim_model.specs.State.{State, opening, settings_of}
-use Rattle.pim_model.specs.Step.{step}
-use Rattle.pim_offload.specs.Keeping.{kept_until}
-use Rattle.pim_restored.proofs.Accepted.{accepted_stays}
-use Rattle.pim_restored.specs.Reload.{config_of}
+use Rattle.std.{proofs.{Common.{◌≡◌, ℕ, Err, Ok, Result, subst, sym}, lemmas.Result.on_ok_weaker}, specs.Prelude.OnOk}
+use Rattle.pim_types.{specs.declared.{config.Config.Config, event.Event.Event}}
+use Rattle.law_scope.{specs.Rest.IsAtRest}
+use Rattle.pim_mfc.{specs.Laws.ShowsRows}
+use Rattle.pim_event.{specs.declared.parts.Core.Core}
+use Rattle.pim_router.{specs.Stepping.Stands}
+use Rattle.pim_model.{specs.{Cache.cached, Limits.config_test, State.{State, opening, settings_of}, Step.step}}
+use Rattle.law_plane.{specs.Keeping.kept_until}
+use Rattle.law_restored.{proofs.Accepted.accepted_stays, specs.Reload.config_of}
 
 abbrev IsAccepted : State → Type 0
 IsAccepted s = config_test (config_of s) ≡ Ok tt
@@ -29,3 +27,9 @@ accepted_next s n e r accepted is =
 pub kept_accepted : (s : State) (g src end : ℕ) (n : State) → n ≡ kept_until s g src end → IsAccepted s → IsAccepted n
 unfolding config_of kept_until
 kept_accepted s g src end n is accepted = subst IsAccepted (sym is) accepted
+
+-- the parts of a router stand where all of this holds after what was taken
+pub stands_next : {A E : Type 0} (t : Core) (r : Result A E) → OnOk r (IsAtRest t.world)
+    → OnOk r (ShowsRows t.cache.mfc.rows (cached t.world)) → OnOk r (IsAccepted t.world) → OnOk r (Stands t)
+stands_next t (Ok x) rest shown accepted = record { rest = rest; shown = shown; accepted = accepted }
+stands_next t (Err e) rest shown accepted = tt

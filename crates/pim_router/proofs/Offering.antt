@@ -1,24 +1,11 @@
 -- What is offered to a data plane, and what one tells of a source.
-use Rattle.std.proofs.Common.{◌≡◌, ◌+◌, ◌<◌, ◌≤◌, ℕ, Bool, true, false, cond, Option, Some, None, is_some, nat_lt, option_and_then, refl, ap, sym, subst, ◌∙◌, arith, lt-ltb}
-use Rattle.std.proofs.lemmas.Bool.Decides.{nat_tests}
-use Rattle.std.specs.Option.{option_map_or}
-use Rattle.pim_types.specs.declared.fact.SourceRow.{SourceRow}
-use Rattle.pim_types.specs.Keys.{source_key}
-use Rattle.pim_model.specs.Cache.{Answers, answers, cached}
-use Rattle.pim_model.specs.Full.{source_is_full}
-use Rattle.pim_model.specs.Sets.{is_kept_alive}
-use Rattle.pim_model.specs.State.{State}
-use Rattle.pim_model.specs.Tables.{Table, has_row, row_at}
-use Rattle.pim_macros.specs.Rows.{ShowsAnswers, answers_of}
-use Rattle.pim_macros.specs.declared.rows.SourceAnswers.{SourceAnswers}
-use Rattle.pim_mfc.specs.Laws.{ShowsRow, ShowsRows}
-use Rattle.pim_locality.specs.Rest.{IsAtRest}
-use Rattle.pim_offload.specs.Keeping.{keep, keepalive_end, kept_until}
-use Rattle.pim_offload.specs.Offered.{offered}
-use Rattle.pim_offload.proofs.Keeps.{keep_changes_no_row, keep_is_at_rest}
-use Rattle.pim_offrow.specs.Shown.{ShowsOffered, TellsOffload, known_offer, unknown_offer}
-use Rattle.pim_offrow.specs.declared.offered.Offered.{Offered}
-use Rattle.pim_offrow.proofs.OfferedAsShown.{shown_is_known, shown_is_unknown}
+use Rattle.std.{proofs.{Common.{◌≡◌, ◌+◌, ◌<◌, ◌≤◌, ℕ, Bool, true, false, cond, Option, Some, None, is_some, nat_lt, option_and_then, refl, ap, sym, subst, ◌∙◌, arith, lt-ltb}, lemmas.Bool.Decides.nat_tests}, specs.Option.option_map_or}
+use Rattle.pim_types.{specs.{declared.fact.SourceRow.SourceRow, Keys.source_key}}
+use Rattle.pim_model.{specs.{Cache.{Answers, answers, cached}, Full.source_is_full, Sets.is_kept_alive, State.State, Tables.{Table, has_row, row_at}}}
+use Rattle.pim_macros.{specs.{Rows.{ShowsAnswers, answers_of}, declared.rows.SourceAnswers.SourceAnswers}}
+use Rattle.pim_mfc.{specs.{Laws.{ShowsRow, ShowsRows}, Shown.{ShowsOffered, TellsOffload, known_offer, unknown_offer}, declared.offered.Offered.Offered}, proofs.OfferedAsShown.{shown_is_known, shown_is_unknown}}
+use Rattle.law_scope.{specs.Rest.IsAtRest}
+use Rattle.law_plane.{specs.{Keeping.{keep, keepalive_end, kept_until}, Offered.offered}, proofs.Keeps.{keep_changes_no_row, keep_is_at_rest}}
 
 -- ---- what is offered
 

@@ -1,13 +1,10 @@
 -- What a reload leaves in a router.
-use Rattle.std.proofs.Common.{◌≡◌, ℕ, Ok, subst, sym, ap, ◌∙◌}
-use Rattle.pim_types.specs.declared.config.Config.{Config}
-use Rattle.pim_locality.specs.Rest.{IsAtRest}
-use Rattle.pim_model.specs.Limits.{config_test}
-use Rattle.pim_model.specs.State.{State, opening, settings_of}
-use Rattle.pim_reloaded.specs.Reloading.{reload}
-use Rattle.pim_reloaded.proofs.Ground.{reload_is_under}
-use Rattle.pim_reloaded.proofs.Rest.{reload_leaves_rest}
-use Rattle.pim_restored.specs.Reload.{config_of}
+use Rattle.std.{proofs.Common.{◌≡◌, ℕ, Ok, subst, sym, ap, ◌∙◌}}
+use Rattle.pim_types.{specs.declared.config.Config.Config}
+use Rattle.law_scope.{specs.Rest.IsAtRest}
+use Rattle.pim_model.{specs.{Limits.config_test, State.{State, opening, settings_of}}}
+use Rattle.law_reloaded.{specs.Reloading.reload, proofs.{Ground.reload_is_under, Rest.reload_leaves_rest}}
+use Rattle.law_restored.{specs.Reload.config_of}
 
 -- the configuration of an opening
 pub opens_with : (c : Config) (s : State) → s ≡ opening c → config_of s ≡ c

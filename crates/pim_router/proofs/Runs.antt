@@ -1,27 +1,13 @@
 -- Runs, event after event.
-use Rattle.std.proofs.Common.{◌≡◌, ℕ, Bool, false, Some, suc, ◌+◌, ◌<◌, ◌≤◌, List, [], ◌∷◌, ◌++◌, length, drop, map, get_or, refl, ap, sym, subst, ◌∙◌, append_assoc, append-nil, add-one}
-use Rattle.std.proofs.Math.ListN.{drop_of_length-le}
-use Rattle.std.proofs.Math.Seq.{drop-cons}
-use Rattle.pim_types.specs.declared.event.Event.{Event}
-use Rattle.pim_types.specs.declared.fact.Key.{Key}
-use Rattle.pim_types.specs.declared.outcome.Outcome.{Outcome}
-use Rattle.pim_locality.specs.Rest.{IsAtRest}
-use Rattle.std.specs.Prelude.{IfSome, if◌then◌else◌}
-use Rattle.pim_types.specs.declared.config.Config.{Config}
-use Rattle.pim_promises.proofs.Bounded.{run_stays_within}
-use Rattle.pim_promises.proofs.Few.{counted_stay_bounded}
-use Rattle.pim_promises.specs.Bounded.{IsBounded, counted_beside_asserts}
-use Rattle.pim_event.specs.Replacing.{Disturbance}
-use Rattle.pim_model.specs.Cause.{OutcomesAreAsked}
-use Rattle.pim_model.specs.State.{State, opening}
-use Rattle.pim_model.specs.Step.{outcome_of, ran, run, state_after, step}
-use Rattle.pim_history.specs.History.{Given, IsLedTo, greatest_limit, past_given}
-use Rattle.pim_history.proofs.Asked.{nothing_flows_unasked_over_reloads}
-use Rattle.pim_history.proofs.Histories.{events_alone_are_a_run}
-use Rattle.pim_history.proofs.Limits.{facts_stay_within_the_greatest}
-use Rattle.pim_restored.proofs.Restarts.{later_state_is_reached}
-use Rattle.pim_router.specs.Standing.{Shown, Standing, nothing_shown}
-use Rattle.pim_router.proofs.Shown.{stands}
+use Rattle.std.{proofs.{Common.{◌≡◌, ℕ, Bool, false, Some, suc, ◌+◌, ◌<◌, ◌≤◌, List, [], ◌∷◌, ◌++◌, length, drop, map, get_or, refl, ap, sym, subst, ◌∙◌, append_assoc, append-nil, add-one}, Math.{ListN.drop_of_length-le, Seq.drop-cons}}, specs.Prelude.{IfSome, if◌then◌else◌}}
+use Rattle.pim_types.{specs.declared.{event.Event.Event, fact.Key.Key, outcome.Outcome.Outcome, config.Config.Config}}
+use Rattle.law_scope.{specs.Rest.IsAtRest}
+use Rattle.law_promises.{proofs.{Bounded.run_stays_within, Few.counted_stay_bounded}, specs.Bounded.{IsBounded, counted_beside_asserts}}
+use Rattle.pim_event.{specs.Replacing.Disturbance}
+use Rattle.pim_model.{specs.{Cause.OutcomesAreAsked, State.{State, opening}, Step.{outcome_of, ran, run, state_after, step}}}
+use Rattle.law_history.{specs.History.{Given, IsLedTo, greatest_limit, past_given}, proofs.{Asked.nothing_flows_unasked_over_reloads, Histories.events_alone_are_a_run, Limits.facts_stay_within_the_greatest}}
+use Rattle.law_restored.{proofs.Restarts.later_state_is_reached}
+use Rattle.pim_router.{specs.Standing.{Shown, Standing, nothing_shown}, proofs.Shown.stands}
 
 -- what was told with what is left is all of it, and the router is at rest
 pub record Runs (first : State) (events : List Event) (s : State) (told : List Outcome)

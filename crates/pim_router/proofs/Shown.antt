@@ -1,23 +1,11 @@
 -- What a router that works shows, by what its state says.
-use Rattle.std.proofs.Common.{◌≡◌, ◌≤◌, ◌<◌, ◌+◌, ℕ, Bool, false, List, Option, Some, None, option_map, option_and_then, Result, IsOk, IsTrue, IfSome, length, refl, ap, ◌∙◌, arith}
-use Rattle.std.specs.Prelude.{if◌then◌else◌}
-use Rattle.pim_types.specs.declared.event.Event.{Event}
-use Rattle.pim_types.specs.declared.fact.Key.{Key}
-use Rattle.pim_types.specs.declared.outcome.Emission.{Emission}
-use Rattle.pim_types.specs.declared.outcome.Outcome.{Outcome}
-use Rattle.pim_types.specs.declared.timer.Timer.{Timer}
-use Rattle.pim_model.specs.Cache.{cached}
-use Rattle.pim_model.specs.Judging.{judged}
-use Rattle.pim_model.specs.State.{State}
-use Rattle.pim_model.specs.Step.{outcome_of, step}
-use Rattle.pim_model.specs.Sure.{needs_no_memory}
-use Rattle.pim_model.specs.Timers.{Ending, next_ending, next_moment}
-use Rattle.pim_mfc.specs.declared.cache_row.CacheRow.{CacheRow}
-use Rattle.pim_mfc.specs.Laws.{TellsRow}
-use Rattle.pim_tables.specs.Ends.{due_of}
-use Rattle.pim_event.specs.Replacing.{Disturbance}
-use Rattle.pim_event.proofs.Taking.{concluded_silently}
-use Rattle.pim_router.specs.Standing.{Shown, Standing, nothing_shown}
+use Rattle.std.{proofs.Common.{◌≡◌, ◌≤◌, ◌<◌, ◌+◌, ℕ, Bool, false, List, Option, Some, None, option_map, option_and_then, Result, IsOk, IsTrue, IfSome, length, refl, ap, ◌∙◌, arith}, specs.Prelude.if◌then◌else◌}
+use Rattle.pim_types.{specs.declared.{event.Event.Event, fact.Key.Key, outcome.{Emission.Emission, Outcome.Outcome}, timer.Timer.Timer}}
+use Rattle.pim_model.{specs.{Cache.cached, Judging.judged, State.State, Step.{outcome_of, step}, Sure.needs_no_memory, Timers.{Ending, next_ending, next_moment}}}
+use Rattle.pim_mfc.{specs.{declared.cache_row.CacheRow.CacheRow, Laws.TellsRow}}
+use Rattle.pim_tables.{specs.Ends.due_of}
+use Rattle.pim_event.{specs.Replacing.Disturbance, proofs.Taking.concluded_silently}
+use Rattle.pim_router.{specs.Standing.{Shown, Standing, nothing_shown}}
 
 -- ---- its state
 

@@ -1,13 +1,10 @@
 -- What a router shows: its state, how many copies its last event sent, what that event cost, and the sources whose rows
 -- of the forwarding cache it changed.
-use Rattle.std.specs.Prelude.{List, None, Option, Some, [], fold, ℕ}
-use Rattle.pim_types.specs.declared.event.Event.{Event}
-use Rattle.pim_types.specs.declared.fact.Key.{Key}
-use Rattle.pim_types.specs.declared.outcome.Outcome.{Outcome}
-use Rattle.pim_model.specs.State.{State}
-use Rattle.pim_model.specs.Step.{Answered, run, state_after}
-use Rattle.pim_world.specs.declared.touched.Touched.{Touched}
-use Rattle.pim_event.specs.Replacing.{Disturbance, NoneReplaced}
+use Rattle.std.{specs.Prelude.{List, None, Option, Some, [], fold, ℕ}}
+use Rattle.pim_types.{specs.declared.{event.Event.Event, fact.Key.Key, outcome.Outcome.Outcome}}
+use Rattle.pim_model.{specs.{State.State, Step.{Answered, run, state_after}}}
+use Rattle.pim_state.{specs.declared.touched.Touched.Touched}
+use Rattle.pim_event.{specs.Replacing.{Disturbance, NoneReplaced}}
 
 pub record Standing : Type 0 where
   pub state : State

@@ -5,7 +5,7 @@ mod plane;
 mod probes;
 pub mod router;
 
-pub use pim_offrow::{Offered, OffloadRow};
+pub use pim_mfc::{Offered, OffloadRow};
 pub use pim_rested::RestoreRefusal;
 pub use pim_rows::{Row, Table};
 pub use pim_trees::{Link, Neighbour, RpfCause, SourceTree, Tree};

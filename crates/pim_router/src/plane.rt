@@ -1,7 +1,7 @@
 //! What the router offers to a data plane (a kernel or a chip that forwards by rows that it was given), and what a data
 //! plane reports to the router.
 ghost use Rattle.std.specs.Prelude.{◌≡◌, ◌≤◌, ◌^◌, IfOk, Ok, OnOk, true};
-ghost use Rattle.pim_locality.specs.Rest.{IsAtRest};
+ghost use Rattle.law_scope.specs.Rest.{IsAtRest};
 ghost use Rattle.pim_macros.specs.declared.rows.SourceAnswers.{SourceAnswers};
 ghost use Rattle.pim_mfc.specs.Laws.{ShowsRows};
 ghost use Rattle.pim_model.specs.Cache.{cached};
@@ -9,20 +9,20 @@ ghost use Rattle.pim_model.specs.Limits.{config_test};
 ghost use Rattle.pim_model.specs.Sets.{is_kept_alive};
 ghost use Rattle.pim_model.specs.Tables.{Table, has_row};
 ghost use Rattle.pim_types.specs.Keys.{source_key};
-ghost use Rattle.pim_offload.specs.Keeping.{keep, keepalive_end, kept_until};
-ghost use Rattle.pim_offload.specs.Offered.{offered};
-ghost use Rattle.pim_offload.specs.Seen.{bare_text};
-ghost use Rattle.pim_offrow.specs.Shown.{TellsOffload};
-ghost use Rattle.pim_restored.specs.Reload.{config_of};
+ghost use Rattle.law_plane.specs.Keeping.{keep, keepalive_end, kept_until};
+ghost use Rattle.law_plane.specs.Offered.{offered};
+ghost use Rattle.law_plane.specs.Seen.{bare_text};
+ghost use Rattle.pim_mfc.specs.Shown.{TellsOffload};
+ghost use Rattle.law_restored.specs.Reload.{config_of};
 
 use pim_fanout::Cache;
 use pim_ip::{ControlHeader, write_header};
 use pim_macros::{Evaluations, row};
 use pim_messages::Room;
-use pim_offrow::Offered;
+use pim_mfc::Offered;
 use pim_register::source_is_full;
+use pim_state::{Meter, World};
 use pim_types::SourceGroup;
-use pim_world::{Meter, World};
 use std::alloc::AllocError;
 
 // Keepalive_Period (RFC 7761, section 4.11), also at the RP, in ms.
@@ -55,7 +55,7 @@ pub(crate) fn offer(
 }
 
 // When KAT(S,G) expires, in ms, if it runs.
-#[tactic(auto, unfolding(pim_offload::specs::Keeping::keepalive_end))]
+#[tactic(auto, unfolding(law_plane::specs::Keeping::keepalive_end))]
 fn keepalive_end(world: &World, name: SourceGroup) -> Option<u64>
     ensures { result ≡ keepalive_end world.now name.group.bits name.source.bits }
 {

@@ -11,7 +11,7 @@ pub(crate) struct Probes {
     pub(crate) meter: Meter,
 }
 
-// Neither an auditor nor a meter is dropped: the one ends the other, and is closed.
+// Drops probes by ending the meter with the auditor and closing the auditor, since neither may be dropped itself.
 impl Drop for Probes {
     fn drop(self) {
         let Probes { auditor, meter } = self;

@@ -10,18 +10,18 @@ ghost use Rattle.pim_event.specs.Costs.{IsCheap, IsLastCheap};
 ghost use Rattle.pim_event.specs.Disturbing.{IsLastDisturbed, event_disturbed};
 ghost use Rattle.pim_model.specs.Judging.{last_moment};
 ghost use Rattle.pim_model.specs.Sets.{is_kept_alive};
-ghost use Rattle.pim_offload.specs.Keeping.{keep};
-ghost use Rattle.pim_offload.specs.Offered.{offered};
-ghost use Rattle.pim_offload.specs.Seen.{seen_event};
-ghost use Rattle.pim_offrow.specs.Shown.{TellsOffload};
+ghost use Rattle.law_plane.specs.Keeping.{keep};
+ghost use Rattle.law_plane.specs.Offered.{offered};
+ghost use Rattle.law_plane.specs.Seen.{seen_event};
+ghost use Rattle.pim_mfc.specs.Shown.{TellsOffload};
 ghost use Rattle.pim_event.specs.Listing.{IsLastListed, ListsSame};
 ghost use Rattle.pim_event.specs.Replacing.{may_differ};
 ghost use Rattle.pim_event.specs.Staying.{LastOffersStay, OffersStay};
 ghost use Rattle.pim_fanout.specs.Named.{keys_of};
-ghost use Rattle.pim_history.specs.History.{Given, IsLedTo, greatest_limit, past_given};
-ghost use Rattle.pim_reach.specs.Named.{event_named};
+ghost use Rattle.law_history.specs.History.{Given, IsLedTo, greatest_limit, past_given};
+ghost use Rattle.law_named.specs.Named.{event_named};
 ghost use Rattle.pim_ip.specs.declared.fault.Fault.{Fault};
-ghost use Rattle.pim_model.specs.Step.{outcome_of, run, state_after, step};
+ghost use Rattle.pim_model.specs.Step.{run, step};
 ghost use Rattle.pim_model.specs.Limits.{config_test};
 ghost use Rattle.pim_model.specs.State.{opening};
 ghost use Rattle.pim_model.specs.Cause.{OutcomesAreAsked};
@@ -29,14 +29,16 @@ ghost use Rattle.pim_rows.specs.Printed.{rows};
 ghost use Rattle.pim_macros.specs.Rows.{number_of};
 ghost use Rattle.pim_model.specs.Timers.{next_moment};
 ghost use Rattle.pim_model.specs.Unicast.{rpf_interface_rp};
-ghost use Rattle.pim_restored.specs.Reload.{config_of};
+ghost use Rattle.law_restored.specs.Reload.{config_of};
+ghost use Rattle.pim_router.specs.Stepping.{RunsTo, Stands, disturbance};
+ghost use Rattle.pim_event.specs.Stepping.{Steps};
 ghost use Rattle.pim_router.specs.Standing.{begun, nothing_shown, last_copies, standing, standing_after, with_state};
 ghost use Rattle.pim_types.specs.Keys.{key_cmp};
 ghost use Rattle.pim_types.specs.declared.config.Config.{Config as ConfigValue};
 ghost use Rattle.pim_types.specs.declared.event.Event.{Event as EventValue};
 ghost use Rattle.pim_model.specs.Sure.{needs_no_memory};
-ghost use Rattle.pim_locality.specs.Rest.{IsAtRest};
-ghost use Rattle.pim_promises.specs.Bounded.{IsBounded, counted_beside_asserts};
+ghost use Rattle.law_scope.specs.Rest.{IsAtRest};
+ghost use Rattle.law_promises.specs.Bounded.{IsBounded, counted_beside_asserts};
 
 mod hosts;
 mod reload;
@@ -45,17 +47,16 @@ mod trees;
 
 use crate::plane::{bare_packet, keep, offer};
 use crate::probes::Probes;
-use pim_event::{Replaced, take_in};
+use pim_event::{Core, Replaced, take_in};
 use pim_fanout::Cache;
 use pim_intake::LentEvent;
 use pim_messages::Room;
-use pim_mfc::CacheRow;
-use pim_offrow::Offered;
+use pim_mfc::{CacheRow, Offered};
 use pim_rows::{Row, Table};
+use pim_state::World;
 use pim_types::{
     Addr, Config, Emission, Event, Fault, IfaceId, Outcome, Refusal, SourceGroup, Verdict,
 };
-use pim_world::World;
 use std::alloc::{AllocError, Global};
 use std::marker::Model;
 
@@ -66,13 +67,8 @@ const LAST_MOMENT: u64 = 1 << 62;
 #[derive(Drop)]
 pub struct Router {
     failed: bool,
-    world: World,
-    // The forwarding cache: a row for each source with a fact.
-    cache: Cache,
-    // The routes or RP ranges that the last event replaced.
-    replaced: Replaced,
-    // The memory in which packets that leave are written.
-    room: Room,
+    // All facts, the forwarding cache, what the last event replaced, and the memory of packets.
+    core: Core,
     // How many copies of a data packet the last event sent on links.
     copies: u32,
     probes: Probes,
@@ -82,26 +78,27 @@ impl Model for Router {
     ghost use Rattle.std.specs.List.Sorted.{IsStrictlySortedBy};
     ghost use Rattle.std.specs.Prelude.{Ok, Some, false, if◌then◌else◌, ◌≡◌};
     ghost use Rattle.pim_fanout.specs.Refreshing.{touches};
-    ghost use Rattle.pim_locality.specs.Rest.{IsAtRest};
+    ghost use Rattle.law_scope.specs.Rest.{IsAtRest};
     ghost use Rattle.pim_mfc.specs.Laws.{ShowsRows};
     ghost use Rattle.pim_model.specs.Cache.{cached};
     ghost use Rattle.pim_model.specs.Limits.{config_test};
-    ghost use Rattle.pim_restored.specs.Reload.{config_of};
+    ghost use Rattle.law_restored.specs.Reload.{config_of};
     ghost use Rattle.pim_router.specs.Standing.{Shown, nothing_shown};
     ghost use Rattle.pim_types.specs.Keys.{key_cmp};
 
     ghost Value = { Shown };
 
     ghost view = { λ r. if r.failed then nothing_shown else record {
-      standing = Some (record { state = r.world; copies = r.copies });
+      standing = Some (record { state = r.core.world; copies = r.copies });
       probes = r.probes.meter;
-      touched = touches r.cache;
-      changed = r.cache.changed;
-      disturbed = record { touched = r.cache.disturbed; replaced = r.replaced };
+      touched = touches r.core.cache;
+      changed = r.core.cache.changed;
+      disturbed = record { touched = r.core.cache.disturbed; replaced = r.core.replaced };
     } };
 
-    ghost invariant = { λ r. r.failed ≡ false → IsAtRest r.world × ShowsRows r.cache.mfc.rows (cached r.world)
-        × IsStrictlySortedBy key_cmp r.cache.changed × (config_test (config_of r.world) ≡ Ok tt) };
+    ghost invariant = { λ r. r.failed ≡ false → IsAtRest r.core.world
+        × ShowsRows r.core.cache.mfc.rows (cached r.core.world) × IsStrictlySortedBy key_cmp r.core.cache.changed
+        × (config_test (config_of r.core.world) ≡ Ok tt) };
 }
 
 impl Router {
@@ -123,10 +120,12 @@ impl Router {
         match made {
             Ok(world) => Ok(Ok(Router {
                 failed: false,
-                world,
-                cache: Cache::new(alloc),
-                replaced: Replaced::none(),
-                room: Room::new(alloc),
+                core: Core {
+                    world,
+                    cache: Cache::new(alloc),
+                    replaced: Replaced::none(),
+                    room: Room::new(alloc),
+                },
                 copies: 0,
                 probes,
             })),
@@ -142,7 +141,7 @@ impl Router {
         if self.failed {
             return None;
         }
-        match self.world.next() {
+        match self.core.world.next() {
             Some(due) => Some(due.0),
             None => None,
         }
@@ -170,7 +169,8 @@ impl Router {
             return None;
         }
         let mut outside = self.probes.outside();
-        self.cache
+        self.core
+            .cache
             .mfc()
             .cached(SourceGroup { source, group }, &mut outside.meter)
     }
@@ -186,8 +186,8 @@ impl Router {
             return None;
         }
         let mut outside = self.probes.outside();
-        let rp = self.world.rp(group, &mut outside.meter);
-        let path = self.world.rp_route(group, rp, &mut outside.meter);
+        let rp = self.core.world.rp(group, &mut outside.meter);
+        let path = self.core.world.rp_route(group, rp, &mut outside.meter);
         path.map(|path| path.iface)
     }
 
@@ -211,7 +211,7 @@ impl Router {
         if self.failed {
             return 0;
         }
-        self.cache.touched()
+        self.core.cache.touched()
     }
 
     /// The sources whose rows of the forwarding cache the last event may have changed: the rows of all other sources
@@ -226,7 +226,7 @@ impl Router {
         if self.failed {
             return &[];
         }
-        self.cache.changed()
+        self.core.cache.changed()
     }
 
     /// What a data plane, which forwards by rows that it was given, may do with the packets of (S,G). For a source with
@@ -242,7 +242,7 @@ impl Router {
         }
         let mut outside = self.probes.outside();
         let name = SourceGroup { source, group };
-        offer(&self.world, &self.cache, name, &mut outside.meter)
+        offer(&self.core.world, &self.core.cache, name, &mut outside.meter)
     }
 
     /// Whether the answer of `offload` for (S,G) may differ from its answer before the last event, whether the source
@@ -261,9 +261,9 @@ impl Router {
         }
         let mut outside = self.probes.outside();
         let name = SourceGroup { source, group };
-        self.replaced.may_differ(
-            self.cache.disturbed(),
-            &self.world,
+        self.core.replaced.may_differ(
+            self.core.cache.disturbed(),
+            &self.core.world,
             name,
             &mut outside.meter,
         )
@@ -280,8 +280,8 @@ impl Router {
             return Err(Fault::Failed);
         }
         let mut outside = self.probes.outside();
-        let alloc = self.room.alloc;
-        Ok(pim_printed::rows(&self.world, alloc, table, &mut outside.meter)?)
+        let alloc = self.core.room.alloc;
+        Ok(pim_printed::rows(&self.core.world, alloc, table, &mut outside.meter)?)
     }
 
     /// Takes one event: it is done, ignored or refused. The packets that leave are added at the end of `emissions`, in
@@ -346,14 +346,7 @@ impl Router {
             return Err(Fault::Failed);
         }
         self.failed = true;
-        let outcome = take_next(
-            &mut self.room,
-            &mut self.world,
-            &mut self.cache,
-            &mut self.replaced,
-            event,
-            &mut self.probes,
-        )?;
+        let outcome = take_next(&mut self.core, event, &mut self.probes)?;
         hand_over(outcome.emissions.into_vec(), emissions)?;
         self.copies = outcome.copies;
         self.failed = false;
@@ -393,12 +386,12 @@ impl Router {
         if self.failed {
             return Err(Fault::Failed);
         }
-        let Ok(packet) = bare_packet(&mut self.room, SourceGroup { source, group }) else {
+        let Ok(packet) = bare_packet(&mut self.core.room, SourceGroup { source, group }) else {
             self.failed = true;
             return Err(Fault::Memory);
         };
         let answer = self.step_lent(&LentEvent::frame(draw, iface, &packet), emissions);
-        self.room.give(packet);
+        self.core.room.give(packet);
         answer
     }
 
@@ -420,7 +413,7 @@ impl Router {
         }
         self.failed = true;
         let runs = keep(
-            &mut self.world,
+            &mut self.core.world,
             SourceGroup { source, group },
             moment.min(LAST_MOMENT),
             &mut self.probes.meter,
@@ -434,7 +427,7 @@ impl Router {
     pub fn take_back(&mut self, packets: Vec<Emission>)
         ensures { self.new ≡ self.old }
     {
-        self.room.take_back(packets);
+        self.core.room.take_back(packets);
     }
 
     /// Takes events one after the other, and returns the outcome of each. After a fault the router answers `Failed`
@@ -470,14 +463,7 @@ impl Router {
             return Err(Fault::Failed);
         }
         self.failed = true;
-        let outcomes = run_world(
-            &mut self.room,
-            &mut self.world,
-            &mut self.cache,
-            &mut self.replaced,
-            events,
-            &mut self.probes,
-        )?;
+        let outcomes = run_world(&mut self.core, events, &mut self.probes)?;
         self.copies = last_copies(self.copies, &outcomes);
         self.failed = false;
         Ok(outcomes)
@@ -512,69 +498,29 @@ fn last_copies(before: u32, outcomes: &[Outcome]) -> u32
 
 // Takes an event. It starts from 0 the count of the nodes that its look-ups visit, the count of the rows of the cache
 // that it touches, and the list of the sources of these rows. What the event before it replaced is let go.
-fn take_next(
-    room: &mut Room,
-    world: &mut World,
-    cache: &mut Cache,
-    replaced: &mut Replaced,
-    event: &LentEvent<'_>,
-    probes: &mut Probes,
-) -> Result<Outcome, Fault>
-    requires rest { IsAtRest world.old }
-    requires shown { ShowsRows cache.old.mfc.rows (cached world.old) }
-    requires accepted { config_test (config_of world.old) ≡ Ok tt }
-    ensures outcome { IfOk result (λ outcome. outcome ≡ outcome_of (step world.old event.now)) }
-    ensures state { OnOk result (world.new ≡ (step world.old event.now).state) }
-    ensures rest { OnOk result (IsAtRest world.new) }
-    ensures shown { OnOk result (ShowsRows cache.new.mfc.rows (cached world.new)) }
-    ensures cheap { OnOk result (IsCheap world.old event.now probes.new.meter (touches cache.new)) }
-    ensures listed { OnOk result (ListsSame cache.new.changed (event_named world.old event.now)) }
-    ensures once { OnOk result (IsStrictlySortedBy key_cmp cache.new.changed) }
-    ensures disturbed { OnOk result (record { touched = cache.new.disturbed; replaced = replaced.new }
-        ≡ event_disturbed world.old event.now) }
-    ensures stays { OnOk result (OffersStay (record { touched = cache.new.disturbed; replaced = replaced.new })
-        world.old world.new) }
-    ensures accepted { OnOk result (config_test (config_of world.new) ≡ Ok tt) }
-    ensures fault { IsOkUnless result Fault.Memory }
-    ensures sure { IsTrue (needs_no_memory (step world.old event.now).answer) → IsOk result }
+fn take_next(core: &mut Core, event: &LentEvent<'_>, probes: &mut Probes) -> Result<Outcome, Fault>
+    requires { Stands core.old }
+    ensures stands { OnOk result (Stands core.new) }
+    ensures steps { Steps core.old event.now result core.new probes.new.meter }
+    ensures stays { OnOk result (OffersStay (disturbance core.new) core.old.world core.new.world) }
+    ensures sure { IsTrue (needs_no_memory (step core.old.world event.now).answer) → IsOk result }
 {
     probes.begin();
-    cache.reset();
-    replaced.clear();
-    take_in(room, world, cache, replaced, event, &mut probes.meter)
+    core.cache.reset();
+    core.replaced.clear();
+    take_in(core, event, &mut probes.meter)
 }
 
 // Takes events one after the other.
-fn run_world(
-    room: &mut Room,
-    world: &mut World,
-    cache: &mut Cache,
-    replaced: &mut Replaced,
-    events: &[Event],
-    probes: &mut Probes,
-) -> Result<Vec<Outcome>, Fault>
-    requires rest { IsAtRest world.old }
-    requires shown { ShowsRows cache.old.mfc.rows (cached world.old) }
-    requires once { IsStrictlySortedBy key_cmp cache.old.changed }
-    requires accepted { config_test (config_of world.old) ≡ Ok tt }
-    ensures outcomes { IfOk result (λ outcomes. outcomes.items ≡ run world.old events.now) }
-    ensures state { OnOk result (world.new ≡ state_after world.old events.now) }
-    ensures rest { OnOk result (IsAtRest world.new) }
-    ensures shown { OnOk result (ShowsRows cache.new.mfc.rows (cached world.new)) }
-    ensures cheap { OnOk result (IsLastCheap world.old events.now probes.new.meter (touches cache.new)) }
-    ensures listed { OnOk result (IsLastListed world.old events.now cache.new.changed) }
-    ensures once { OnOk result (IsStrictlySortedBy key_cmp cache.new.changed) }
-    ensures disturbed { OnOk result (IsLastDisturbed world.old events.now
-        (record { touched = cache.new.disturbed; replaced = replaced.new })) }
-    ensures stays { OnOk result (LastOffersStay world.old events.now
-        (record { touched = cache.new.disturbed; replaced = replaced.new })) }
-    ensures accepted { OnOk result (config_test (config_of world.new) ≡ Ok tt) }
-    ensures fault { IsOkUnless result Fault.Memory }
+fn run_world(core: &mut Core, events: &[Event], probes: &mut Probes) -> Result<Vec<Outcome>, Fault>
+    requires stands { Stands core.old }
+    requires once { IsStrictlySortedBy key_cmp core.old.cache.changed }
+    ensures runs { RunsTo core.old events.now result core.new probes.new.meter }
     ensures sure { events.now ≡ [] → IsOk result }
 {
-    let mut outcomes = Vec::new(room.alloc);
+    let mut outcomes = Vec::new(core.room.alloc);
     for event in events {
-        outcomes.push(take_next(room, world, cache, replaced, &LentEvent::of(event), probes)?)?;
+        outcomes.push(take_next(core, &LentEvent::of(event), probes)?)?;
     }
     Ok(outcomes)
 }

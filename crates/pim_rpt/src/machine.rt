@@ -2,16 +2,16 @@
 ghost use Rattle.std.specs.Prelude.{◌≡◌, IfOk, OnOk};
 ghost use Rattle.pim_model.specs.Upstream.{becomes_star, rpt_told};
 ghost use Rattle.pim_macros.specs.Sights.{IsStarSight};
-ghost use Rattle.pim_world.specs.Turns.{saying};
+ghost use Rattle.pim_state.specs.Turns.{saying};
 ghost use Rattle.pim_rpt.specs.Changes.{change_of};
 
 use crate::change::Change;
 use crate::message::{override_end, say};
 use pim_macros::StarSight;
 use pim_macros::desires::is_same_hop;
+use pim_state::{Turn, World};
 use pim_types::{Addr, SourceView, TreeState};
 use pim_wire::{Entry, EntryKind};
-use pim_world::{Turn, World};
 use std::alloc::AllocError;
 
 /// The entry that names the source on the shared tree.

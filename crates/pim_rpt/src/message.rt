@@ -1,13 +1,13 @@
 //! A Join/Prune to an upstream neighbour, when an override of a Prune is due, and whether a change is by an assert.
 ghost use Rattle.std.specs.Prelude.{◌≡◌, ◌≤◌, ◌+◌, OnOk, length};
 ghost use Rattle.pim_model.specs.Upstream.{if_neighbour, is_due_to_assert, join_prune_to, override_on};
-ghost use Rattle.pim_world.specs.Turns.{saying};
+ghost use Rattle.pim_state.specs.Turns.{saying};
 
 use pim_macros::desires::is_same_hop;
 use pim_messages::MOST_ENTRIES;
+use pim_state::{Turn, World};
 use pim_types::{Addr, Hop, IfaceId};
 use pim_wire::Entry;
-use pim_world::{Turn, World};
 use std::alloc::AllocError;
 
 /// Sends a Join/Prune to a neighbour, where there is one.
@@ -28,7 +28,7 @@ pub fn say(
     }
 }
 
-/// The hop, where its router is still a neighbour.
+/// The upstream neighbour, where it still is a neighbour.
 #[tactic(auto, unfolding(pim_model::specs::Upstream::if_neighbour))]
 pub fn if_neighbour(world: &World, hop: Option<Hop>) -> Option<Hop>
     ensures { result ≡ if_neighbour world.now hop }

@@ -3,13 +3,13 @@ ghost use Rattle.std.specs.Prelude.{◌≡◌, OnOk};
 ghost use Rattle.pim_types.specs.declared.timer.TimerKind.{TimerKind};
 ghost use Rattle.pim_model.specs.Desires.{rpf_rpt};
 ghost use Rattle.pim_model.specs.Firing.{fired};
-ghost use Rattle.pim_world.specs.Turns.{saying};
+ghost use Rattle.pim_state.specs.Turns.{saying};
 
 use crate::machine::entry;
 use crate::message::say;
 use pim_macros::SourceSight;
+use pim_state::{Meter, Turn, World};
 use pim_types::{Hop, Key, SourceGroup};
-use pim_world::{Meter, Turn, World};
 use std::alloc::AllocError;
 
 // RPF'(S,G,rpt).

@@ -1,18 +1,10 @@
 -- Worked runs of Asserts on interface 1.
-use Rattle.std.specs.Prelude.{List, None, Option, Some, false, map, true, ℕ, [], ◌≡◌, ◌∷◌, ◌++◌}
-use Rattle.pim_types.specs.declared.event.Event.{Event}
-use Rattle.pim_types.specs.declared.fact.AssertRole.{AssertRole}
-use Rattle.pim_rows.specs.declared.table.Row.{Row}
-use Rattle.pim_rows.specs.declared.table.Table.{Table}
-use Rattle.pim_ip.specs.Addr.{addr}
-use Rattle.pim_rows.specs.Printed.{rows}
-use Rattle.pim_model.specs.Sets.{spt_bit}
-use Rattle.pim_model.specs.State.{State}
-use Rattle.pim_model.specs.Step.{run, state_after}
-use Rattle.pim_types.specs.Keys.{key_of}
-use Rattle.pim_runs.specs.Base.{after, all_groups, base, group, opened, opened_with, rp_for, source}
-use Rattle.pim_runs.specs.Packets.{assert_source_equal, assert_source_infinite, assert_star_cancel_on_1, assert_star_equal, assert_star_infinite, assert_star_of_rp_on_1, assert_star_on_1, assert_star_worse, copy_on_1, hello_of_10_0_1_3, hello_on_0, hello_on_1, join_source_of_10_0_1_3, join_source_up, join_star, join_star_of_own_rp, join_star_up, packet, prune_source_up, prune_star_up}
-use Rattle.pim_runs.specs.Words.{address, advance, asserts, done_with, done_with_copies, frame}
+use Rattle.std.{specs.Prelude.{List, None, Option, Some, false, map, true, ℕ, [], ◌≡◌, ◌∷◌, ◌++◌}}
+use Rattle.pim_types.{specs.{declared.{event.Event.Event, fact.AssertRole.AssertRole}, Keys.key_of}}
+use Rattle.pim_rows.{specs.{declared.table.{Row.Row, Table.Table}, Printed.rows}}
+use Rattle.pim_ip.{specs.Addr.addr}
+use Rattle.pim_model.{specs.{Sets.spt_bit, State.State, Step.{run, state_after}}}
+use Rattle.pim_runs.{specs.{Base.{after, all_groups, base, group, opened, opened_with, rp_for, source}, Packets.{assert_source_equal, assert_source_infinite, assert_star_cancel_on_1, assert_star_equal, assert_star_infinite, assert_star_of_rp_on_1, assert_star_on_1, assert_star_worse, copy_on_1, hello_of_10_0_1_3, hello_on_0, hello_on_1, join_source_of_10_0_1_3, join_source_up, join_star, join_star_of_own_rp, join_star_up, packet, prune_source_up, prune_star_up}, Words.{address, advance, asserts, done_with, done_with_copies, frame}}}
 
 abbrev pub joined_star : State
 joined_star = after (frame 1 join_star ∷ [])

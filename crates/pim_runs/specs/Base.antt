@@ -1,18 +1,10 @@
 -- The router of the worked runs: interfaces 0, 1 and 2 are up, 10.0.0.1 is a neighbour on 0 and 10.0.1.2 on
 -- 1, and the routes to the RP and to the sources go by 10.0.0.1.
-use Rattle.std.specs.Prelude.{List, [], ℕ, ◌++◌, ◌∷◌}
-use Rattle.pim_ip.specs.declared.addr.Prefix.{Prefix}
-use Rattle.pim_types.specs.declared.config.Config.{Config}
-use Rattle.pim_types.specs.declared.config.InterfaceConfig.{InterfaceConfig}
-use Rattle.pim_types.specs.declared.config.Route.{Route}
-use Rattle.pim_types.specs.declared.config.RpRange.{RpRange}
-use Rattle.pim_types.specs.declared.config.SptSwitch.{SptSwitch}
-use Rattle.pim_types.specs.declared.event.Event.{Event}
-use Rattle.pim_ip.specs.Addr.{addr}
-use Rattle.pim_model.specs.State.{State, opening}
-use Rattle.pim_model.specs.Step.{state_after}
-use Rattle.pim_runs.specs.Packets.{hello_of_10_0_0_1, hello_of_10_0_1_2}
-use Rattle.pim_runs.specs.Words.{address, frame, up}
+use Rattle.std.{specs.Prelude.{List, [], ℕ, ◌++◌, ◌∷◌}}
+use Rattle.pim_ip.{specs.{declared.addr.Prefix.Prefix, Addr.addr}}
+use Rattle.pim_types.{specs.declared.{config.{Config.Config, InterfaceConfig.InterfaceConfig, Route.Route, RpRange.RpRange, SptSwitch.SptSwitch}, event.Event.Event}}
+use Rattle.pim_model.{specs.{State.{State, opening}, Step.state_after}}
+use Rattle.pim_runs.{specs.{Packets.{hello_of_10_0_0_1, hello_of_10_0_1_2}, Words.{address, frame, up}}}
 
 -- the group, a source behind 10.0.0.1, and one on the link of interface 2
 abbrev pub group : ℕ
@@ -92,7 +84,7 @@ opening_events = all_up ++ frame 0 hello_of_10_0_0_1 ∷ frame 1 hello_of_10_0_1
 abbrev pub opened_with : Config → State
 opened_with c = state_after (opening c) opening_events
 
--- the base router after them
+-- the base router after the opening events
 abbrev pub opened : State
 opened = opened_with base
 

@@ -1,17 +1,8 @@
 -- Worked runs of the forwarding cache: what its rows answer, and which packets they decide.
-use Rattle.std.specs.Prelude.{Bool, List, None, Option, Some, [], false, map, option_map, true, ℕ, ◌+◌, ◌∷◌, ◌≡◌}
-use Rattle.pim_rows.specs.declared.table.Table.{Table}
-use Rattle.pim_model.specs.Cache.{Answers, Plain, cached, plain}
-use Rattle.pim_rows.specs.Printed.{rows}
-use Rattle.pim_model.specs.Sets.{members}
-use Rattle.pim_model.specs.State.{State}
-use Rattle.pim_model.specs.Step.{run, state_after}
-use Rattle.pim_model.specs.Tables.{below}
-use Rattle.pim_runs.specs.Base.{after, group, host, opened_with, source}
-use Rattle.pim_runs.specs.Data.{active, joined_and_sent, register_stopped}
-use Rattle.pim_runs.specs.Packets.{allow_source, copy_on_1, data_from, hello_of_10_0_2_9, host_packet, join_host_forever, join_source, join_source_200, join_source_forever, packet, prune_source_up, to_exclude}
-use Rattle.pim_runs.specs.Routes.{rp_on_1, with_longer_route}
-use Rattle.pim_runs.specs.Words.{advance, done_with_copies, down, frame, join_prunes, routes_to}
+use Rattle.std.{specs.Prelude.{Bool, List, None, Option, Some, [], false, map, option_map, true, ℕ, ◌+◌, ◌∷◌, ◌≡◌}}
+use Rattle.pim_rows.{specs.{declared.table.Table.Table, Printed.rows}}
+use Rattle.pim_model.{specs.{Cache.{Answers, Plain, cached, plain}, Sets.members, State.State, Step.{run, state_after}, Tables.below}}
+use Rattle.pim_runs.{specs.{Base.{after, group, host, opened_with, source}, Data.{active, joined_and_sent, register_stopped}, Packets.{allow_source, copy_on_1, data_from, hello_of_10_0_2_9, host_packet, join_host_forever, join_source, join_source_200, join_source_forever, packet, prune_source_up, to_exclude}, Routes.{rp_on_1, with_longer_route}, Words.{advance, done_with_copies, down, frame, join_prunes, routes_to}}}
 
 -- ---- what is looked at
 
@@ -25,7 +16,7 @@ pub record SeenRow : Type 0 where
   pub rpf : Option ℕ
   pub spt : Bool
 
--- A row with the same list as immediate and inherited, no (S,G,rpt), and no tunnel.
+-- a row with one list as immediate and inherited outgoing list, no list of (S,G,rpt), and no tunnel
 abbrev pub seen_row : List ℕ → ℕ → Bool → Option SeenRow
 seen_row list rpf spt = Some (record {
   immediate = list;
@@ -61,7 +52,7 @@ decided_of s src i ttl =
 abbrev pub goes : Bool → List ℕ → Option (Option Way)
 goes keeps list = Some (Some (keeps, list))
 
--- there is a row, and the packet isn't plain
+-- the source has a row, and the packet isn't plain
 abbrev pub not_plain : Option (Option Way)
 not_plain = Some None
 

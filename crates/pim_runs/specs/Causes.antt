@@ -1,13 +1,8 @@
 -- Worked causes: what is the cause of a copy, and until when.
-use Rattle.std.specs.Prelude.{Bool, List, [], false, true, ℕ, ◌++◌, ◌≡◌, ◌∷◌}
-use Rattle.pim_types.specs.declared.event.Event.{Event}
-use Rattle.pim_model.specs.Cause.{Past, copies_in, has_cause, past_after}
-use Rattle.pim_model.specs.Judging.{last_moment}
-use Rattle.pim_model.specs.State.{opening}
-use Rattle.pim_model.specs.Step.{run}
-use Rattle.pim_runs.specs.Base.{after, base, group, host, opening_events, source}
-use Rattle.pim_runs.specs.Packets.{allow_source, copy_on_1, copy_on_2, hello_of_10_0_0_9, join_source, join_source_for_1_s, join_source_forever, join_source_up, join_star, join_star_beside, join_star_of_other_rp, packet, prune_star, to_exclude}
-use Rattle.pim_runs.specs.Words.{advance, done_with_copies, down, frame, up}
+use Rattle.std.{specs.Prelude.{Bool, List, [], false, true, ℕ, ◌++◌, ◌≡◌, ◌∷◌}}
+use Rattle.pim_types.{specs.declared.event.Event.Event}
+use Rattle.pim_model.{specs.{Cause.{Past, copies_in, has_cause, past_after}, Judging.last_moment, State.opening, Step.run}}
+use Rattle.pim_runs.{specs.{Base.{after, base, group, host, opening_events, source}, Packets.{allow_source, copy_on_1, copy_on_2, hello_of_10_0_0_9, join_source, join_source_for_1_s, join_source_forever, join_source_up, join_star, join_star_beside, join_star_of_other_rp, packet, prune_star, to_exclude}, Words.{advance, done_with_copies, down, frame, up}}}
 
 -- the base router's events and further ones, the latest first
 abbrev pub past_of : List Event → Past

@@ -1,23 +1,9 @@
 -- What follows of a change in states that are put together by hand: registers, what must go, what is sent upstream.
-use Rattle.std.specs.Prelude.{List, None, Some, false, true, ℕ, [], ◌≡◌, ◌∷◌}
-use Rattle.pim_types.specs.declared.config.Config.{Config}
-use Rattle.pim_types.specs.declared.fact.AssertRole.{AssertRole}
-use Rattle.pim_types.specs.declared.fact.AssertRow.{AssertRow}
-use Rattle.pim_types.specs.declared.fact.DownstreamRow.{DownstreamRow}
-use Rattle.pim_types.specs.declared.fact.InterfaceRow.{InterfaceRow}
-use Rattle.pim_types.specs.declared.fact.JoinTimerRow.{JoinTimerRow}
-use Rattle.pim_types.specs.declared.outcome.Emission.{Emission}
-use Rattle.pim_wire.specs.declared.hello.Hello.{Hello}
-use Rattle.pim_model.specs.Firing.{settled}
-use Rattle.pim_model.specs.Hellos.{neighbour_replaced}
-use Rattle.pim_model.specs.Sets.{metric_of, spt_bit}
-use Rattle.pim_model.specs.State.{State, opening}
-use Rattle.pim_model.specs.Tables.{drop_at, keys_in, put}
-use Rattle.pim_types.specs.Keys.{iface_key, rpt_key, source_key, star_key}
-use Rattle.pim_runs.specs.Base.{base, group, prefix, route_by, source, source_network}
-use Rattle.pim_runs.specs.Packets.{join_rpt_up, join_source_on_1, join_source_up, join_star_prune_rpt_up, prune_rpt_up, prune_source_up, prune_star_of_10_0_1_2_on_1}
-use Rattle.pim_runs.specs.Routes.{rp_on_1}
-use Rattle.pim_runs.specs.Words.{address}
+use Rattle.std.{specs.Prelude.{List, None, Some, false, true, ℕ, [], ◌≡◌, ◌∷◌}}
+use Rattle.pim_types.{specs.{declared.{config.Config.Config, fact.{AssertRole.AssertRole, AssertRow.AssertRow, DownstreamRow.DownstreamRow, InterfaceRow.InterfaceRow, JoinTimerRow.JoinTimerRow}, outcome.Emission.Emission}, Keys.{iface_key, rpt_key, source_key, star_key}}}
+use Rattle.pim_wire.{specs.declared.hello.Hello.Hello}
+use Rattle.pim_model.{specs.{Firing.settled, Hellos.neighbour_replaced, Sets.{metric_of, spt_bit}, State.{State, opening}, Tables.{drop_at, keys_in, put}}}
+use Rattle.pim_runs.{specs.{Base.{base, group, prefix, route_by, source, source_network}, Packets.{join_rpt_up, join_source_on_1, join_source_up, join_star_prune_rpt_up, prune_rpt_up, prune_source_up, prune_star_of_10_0_1_2_on_1}, Routes.rp_on_1, Words.address}}
 
 -- ---- states
 
@@ -41,7 +27,7 @@ with_neighbours c =
 abbrev pub endless : DownstreamRow
 endless = record { expiry = None; pending = None }
 
--- the next Join leaves at 60000
+-- a Join timer that expires at 60000
 abbrev pub in_a_minute : JoinTimerRow
 in_a_minute = record { end = 60000 }
 
@@ -64,7 +50,7 @@ pruned = record (with_neighbours base) {
   downstream = put (put [] (star_key 1 group) endless) (rpt_key 1 group source) endless;
 }
 
--- that prune is gone again
+-- the state in which the (S,G,rpt) prune of `pruned` is gone again
 abbrev pub unpruned : State
 unpruned =
     let before : State = after_change (with_neighbours base) pruned in
@@ -89,7 +75,7 @@ on_its_tree = record (with_neighbours base) {
 abbrev pub source_lost : State
 source_lost = record on_its_tree { asserts = put [] (source_key 1 group source) lost_row }
 
--- that assert is gone again
+-- the state in which the lost assert of `source_lost` is gone again
 abbrev pub source_found : State
 source_found = record (after_change on_its_tree source_lost) { asserts = [] }
 
@@ -121,11 +107,11 @@ GroupsAssertGoesBeforeItsSources =
 
 -- ---- a route of one source of two
 
--- Another source than 10.0.3.5.
+-- A second source beside 10.0.3.5: 10.0.4.5.
 abbrev pub other_source : ℕ
 other_source = address 10 0 4 5
 
--- 10.0.3.5 is reached over this neighbour on this interface, and 10.0.4.5 by 10.0.0.1 on 0
+-- routes by which 10.0.3.5 is reached over a neighbour on an interface, and 10.0.4.5 by 10.0.0.1 on 0
 abbrev pub source_by : ℕ → ℕ → Config
 source_by i next_hop = record base {
   routes = route_by i next_hop source_network ∷ route_by 0 (address 10 0 0 1) (prefix (address 10 0 4 0) 24) ∷ [];

@@ -1,18 +1,10 @@
 -- Worked runs of data packets and Registers.
-use Rattle.std.specs.Prelude.{Bool, None, Option, Some, false, map, true, ℕ, [], ◌≡◌, ◌∷◌}
-use Rattle.pim_types.specs.declared.fact.RegisterState.{RegisterState}
-use Rattle.pim_rows.specs.declared.table.RegisterName.{RegisterName}
-use Rattle.pim_rows.specs.declared.table.Row.{Row}
-use Rattle.pim_rows.specs.declared.table.Table.{Table}
-use Rattle.pim_ip.specs.Addr.{addr}
-use Rattle.pim_rows.specs.Printed.{rows}
-use Rattle.pim_model.specs.Sets.{immediate_olist, inherited_olist, inherited_olist_rpt, members, register_state, spt_bit}
-use Rattle.pim_model.specs.State.{State}
-use Rattle.pim_model.specs.Step.{run, state_after}
-use Rattle.pim_model.specs.Unicast.{rpf_interface}
-use Rattle.pim_runs.specs.Base.{after, group, host, opened, source}
-use Rattle.pim_runs.specs.Packets.{allow_source, copy_on_1, copy_on_2, hello_on_0, hello_on_1, hello_on_2, host_packet, host_packet_of_ttl_1, join_source, join_source_for_1_s, join_source_up, join_star_up, null_register_sent, packet, prune_source_up, register_of_host, register_sent, register_stop_received, register_stop_sent, to_exclude}
-use Rattle.pim_runs.specs.Words.{advance, done_with, done_with_copies, frame, unicast, unicast_drawn, unicasts}
+use Rattle.std.{specs.Prelude.{Bool, None, Option, Some, false, map, true, ℕ, [], ◌≡◌, ◌∷◌}}
+use Rattle.pim_types.{specs.declared.fact.RegisterState.RegisterState}
+use Rattle.pim_rows.{specs.{declared.table.{RegisterName.RegisterName, Row.Row, Table.Table}, Printed.rows}}
+use Rattle.pim_ip.{specs.Addr.addr}
+use Rattle.pim_model.{specs.{Sets.{immediate_olist, inherited_olist, inherited_olist_rpt, members, register_state, spt_bit}, State.State, Step.{run, state_after}, Unicast.rpf_interface}}
+use Rattle.pim_runs.{specs.{Base.{after, group, host, opened, source}, Packets.{allow_source, copy_on_1, copy_on_2, hello_on_0, hello_on_1, hello_on_2, host_packet, host_packet_of_ttl_1, join_source, join_source_for_1_s, join_source_up, join_star_up, null_register_sent, packet, prune_source_up, register_of_host, register_sent, register_stop_received, register_stop_sent, to_exclude}, Words.{advance, done_with, done_with_copies, frame, unicast, unicast_drawn, unicasts}}}
 
 -- the printed row of a source: keepalive end, SPTbit, register state
 abbrev pub active : ℕ → Option ℕ → Bool → Option RegisterName → Row

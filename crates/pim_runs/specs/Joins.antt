@@ -1,18 +1,10 @@
 -- Worked runs of Joins and Prunes.
-use Rattle.std.specs.Prelude.{List, None, Option, Some, [], map, ℕ, ◌++◌, ◌≡◌, ◌∷◌}
-use Rattle.pim_types.specs.declared.event.Event.{Event}
-use Rattle.pim_types.specs.declared.outcome.Outcome.{Outcome}
-use Rattle.pim_rows.specs.declared.table.DownstreamState.{DownstreamState}
-use Rattle.pim_rows.specs.declared.table.Row.{Row}
-use Rattle.pim_rows.specs.declared.table.Table.{Table}
-use Rattle.pim_ip.specs.Addr.{addr}
-use Rattle.pim_rows.specs.Printed.{rows}
-use Rattle.pim_model.specs.State.{State, opening}
-use Rattle.pim_model.specs.Step.{run, state_after}
-use Rattle.pim_types.specs.Keys.{source_key}
-use Rattle.pim_runs.specs.Base.{after, all_up, base, group, opened, opening_events, source}
-use Rattle.pim_runs.specs.Packets.{general_query_on_0, general_query_on_1, general_query_on_2, hello_of_10_0_0_9, hello_of_10_0_1_2, hello_of_10_0_1_3, hello_of_generation_1, hello_of_generation_2, hello_on_0, join_rpt_up, join_source, join_source_for_0_s, join_source_for_1_s, join_source_forever, join_source_up, join_star, join_star_beside, join_star_of_other_rp, join_star_prune_rpt, join_star_prune_rpt_up, join_star_up, prune_echo_on_1, prune_star, prune_star_beside, prune_star_up}
-use Rattle.pim_runs.specs.Words.{advance, done_with, frame, frame_drawn, join_prunes}
+use Rattle.std.{specs.Prelude.{List, None, Option, Some, [], map, ℕ, ◌++◌, ◌≡◌, ◌∷◌}}
+use Rattle.pim_types.{specs.{declared.{event.Event.Event, outcome.Outcome.Outcome}, Keys.source_key}}
+use Rattle.pim_rows.{specs.{declared.table.{DownstreamState.DownstreamState, Row.Row, Table.Table}, Printed.rows}}
+use Rattle.pim_ip.{specs.Addr.addr}
+use Rattle.pim_model.{specs.{State.{State, opening}, Step.{run, state_after}}}
+use Rattle.pim_runs.{specs.{Base.{after, all_up, base, group, opened, opening_events, source}, Packets.{general_query_on_0, general_query_on_1, general_query_on_2, hello_of_10_0_0_9, hello_of_10_0_1_2, hello_of_10_0_1_3, hello_of_generation_1, hello_of_generation_2, hello_on_0, join_rpt_up, join_source, join_source_for_0_s, join_source_for_1_s, join_source_forever, join_source_up, join_star, join_star_beside, join_star_of_other_rp, join_star_prune_rpt, join_star_prune_rpt_up, join_star_up, prune_echo_on_1, prune_star, prune_star_beside, prune_star_up}, Words.{advance, done_with, frame, frame_drawn, join_prunes}}}
 
 -- a row of (10.0.3.5,G) joined on 1 until an end, and the next Join(*,G) to be sent
 abbrev pub joined_source : Option ℕ → Row

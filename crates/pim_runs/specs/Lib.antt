@@ -16,3 +16,7 @@ pub mod SourceSpecific
 pub mod TwoRouters
 pub mod Readings
 pub mod Transcript
+pub mod ServedChain
+pub mod StreamChain
+pub mod Switch
+pub mod Split

@@ -1,20 +1,10 @@
 -- Worked runs under a limit on facts.
-use Rattle.std.specs.Prelude.{List, None, Some, ℕ, [], ◌≡◌, ◌∷◌, ◌++◌}
-use Rattle.pim_ip.specs.declared.refusal.Refusal.{Refusal}
-use Rattle.pim_types.specs.declared.event.Event.{Event}
-use Rattle.pim_types.specs.declared.fact.AssertRole.{AssertRole}
-use Rattle.pim_rows.specs.declared.table.DownstreamState.{DownstreamState}
-use Rattle.pim_rows.specs.declared.table.Row.{Row}
-use Rattle.pim_rows.specs.declared.table.Table.{Table}
-use Rattle.pim_ip.specs.Addr.{addr}
-use Rattle.pim_model.specs.Full.{counted}
-use Rattle.pim_rows.specs.Printed.{rows}
-use Rattle.pim_model.specs.State.{State}
-use Rattle.pim_model.specs.Step.{run, state_after}
-use Rattle.pim_types.specs.Keys.{source_key}
-use Rattle.pim_runs.specs.Base.{base, group, opened_with, source}
-use Rattle.pim_runs.specs.Packets.{assert_source_equal, assert_source_infinite, assert_source_on_1, copy_on_1, hello_on_0, hello_on_1, hello_on_2, join_source, join_source_6, join_star, join_star_of_group_3_up, packet, packet_6, prune_source_up, to_exclude_group_2, to_exclude_group_3, to_exclude_groups_3_and_4}
-use Rattle.pim_runs.specs.Words.{address, advance, done_with, done_with_copies, frame, refused}
+use Rattle.std.{specs.Prelude.{List, None, Some, ℕ, [], ◌≡◌, ◌∷◌, ◌++◌}}
+use Rattle.pim_ip.{specs.{declared.refusal.Refusal.Refusal, Addr.addr}}
+use Rattle.pim_types.{specs.{declared.{event.Event.Event, fact.AssertRole.AssertRole}, Keys.source_key}}
+use Rattle.pim_rows.{specs.{declared.table.{DownstreamState.DownstreamState, Row.Row, Table.Table}, Printed.rows}}
+use Rattle.pim_model.{specs.{Full.counted, State.State, Step.{run, state_after}}}
+use Rattle.pim_runs.{specs.{Base.{base, group, opened_with, source}, Packets.{assert_source_equal, assert_source_infinite, assert_source_on_1, copy_on_1, hello_on_0, hello_on_1, hello_on_2, join_source, join_source_6, join_star, join_star_of_group_3_up, packet, packet_6, prune_source_up, to_exclude_group_2, to_exclude_group_3, to_exclude_groups_3_and_4}, Words.{address, advance, done_with, done_with_copies, frame, refused}}}
 
 -- the base after its opening, under a limit on facts
 abbrev pub limited_to : ℕ → State

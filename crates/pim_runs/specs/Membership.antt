@@ -1,21 +1,10 @@
 -- Worked runs of the querier and of group membership on interface 2, but where another is named.
-use Rattle.std.specs.Prelude.{List, None, Some, map, true, ℕ, [], ◌≡◌, ◌∷◌, ◌++◌}
-use Rattle.pim_ip.specs.declared.refusal.Refusal.{Refusal}
-use Rattle.pim_types.specs.declared.event.Event.{Event}
-use Rattle.pim_types.specs.declared.fact.QuerierRole.{QuerierRole}
-use Rattle.pim_types.specs.declared.fact.QuerierRow.{QuerierRow}
-use Rattle.pim_rows.specs.declared.table.Row.{Row}
-use Rattle.pim_rows.specs.declared.table.Table.{Table}
-use Rattle.pim_ip.specs.Addr.{addr}
-use Rattle.pim_rows.specs.Printed.{rows}
-use Rattle.pim_model.specs.Querier.{group_membership_interval}
-use Rattle.pim_model.specs.State.{opening, State}
-use Rattle.pim_model.specs.Step.{run, state_after}
-use Rattle.pim_model.specs.Tables.{row_at}
-use Rattle.pim_types.specs.Keys.{iface_key, source_key, star_key}
-use Rattle.pim_runs.specs.Base.{after, base, group, host, opened, source}
-use Rattle.pim_runs.specs.Packets.{allow_host, allow_source, block_host, general_query_on_0, group_query_on_2, hello_on_0, hello_on_1, hello_on_2, is_exclude_source, join_star_up, prune_star_up, query_of_robustness_2, query_of_robustness_3, short_report, source_query_on_2, suppressed_group_query_on_2, to_exclude, to_exclude_two, to_include}
-use Rattle.pim_runs.specs.Words.{address, advance, done_with, frame, join_prunes, queries_on, refused, up}
+use Rattle.std.{specs.Prelude.{List, None, Some, map, true, ℕ, [], ◌≡◌, ◌∷◌, ◌++◌}}
+use Rattle.pim_ip.{specs.{declared.refusal.Refusal.Refusal, Addr.addr}}
+use Rattle.pim_types.{specs.{declared.{event.Event.Event, fact.{QuerierRole.QuerierRole, QuerierRow.QuerierRow}}, Keys.{iface_key, source_key, star_key}}}
+use Rattle.pim_rows.{specs.{declared.table.{Row.Row, Table.Table}, Printed.rows}}
+use Rattle.pim_model.{specs.{Querier.group_membership_interval, State.{opening, State}, Step.{run, state_after}, Tables.row_at}}
+use Rattle.pim_runs.{specs.{Base.{after, base, group, host, opened, source}, Packets.{allow_host, allow_source, block_host, general_query_on_0, group_query_on_2, hello_on_0, hello_on_1, hello_on_2, is_exclude_source, join_star_up, prune_star_up, query_of_robustness_2, query_of_robustness_3, short_report, source_query_on_2, suppressed_group_query_on_2, to_exclude, to_exclude_two, to_include}, Words.{address, advance, done_with, frame, join_prunes, queries_on, refused, up}}}
 
 -- An interface that comes up sends a general query at once.
 abbrev pub UpSendsAGeneralQuery : Type 0

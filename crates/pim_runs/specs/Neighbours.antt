@@ -1,14 +1,8 @@
 -- Worked runs of Hellos, neighbours and the designated router.
-use Rattle.std.specs.Prelude.{List, Some, false, option_map, true, [], ◌≡◌, ◌∷◌}
-use Rattle.pim_types.specs.declared.config.Config.{Config}
-use Rattle.pim_types.specs.declared.event.Event.{Event}
-use Rattle.pim_model.specs.Neighbours.{is_dr}
-use Rattle.pim_model.specs.State.{State}
-use Rattle.pim_model.specs.Step.{run, state_after}
-use Rattle.pim_model.specs.Timers.{Ending, next_ending}
-use Rattle.pim_runs.specs.Base.{base, interface, opened, opened_with}
-use Rattle.pim_runs.specs.Packets.{hello_for_105_s, hello_on_0, hello_on_1, hello_on_2}
-use Rattle.pim_runs.specs.Words.{address, advance, done_with, frame}
+use Rattle.std.{specs.Prelude.{List, Some, false, option_map, true, [], ◌≡◌, ◌∷◌}}
+use Rattle.pim_types.{specs.declared.{config.Config.Config, event.Event.Event}}
+use Rattle.pim_model.{specs.{Neighbours.is_dr, State.State, Step.{run, state_after}, Timers.{Ending, next_ending}}}
+use Rattle.pim_runs.{specs.{Base.{base, interface, opened, opened_with}, Packets.{hello_for_105_s, hello_on_0, hello_on_1, hello_on_2}, Words.{address, advance, done_with, frame}}}
 
 -- After the opening the next timer expires at 1. Then a Hello leaves on 0 and on 1, since a new neighbour triggers it,
 -- and on 2 at 8.

@@ -1,8 +1,8 @@
 -- The packets of the worked runs, byte by byte: a line with the IPv4 header, and one with what it carries.
 -- G is 225.1.1.1, the RP 10.9.9.9.
-use Rattle.std.specs.Prelude.{List, [], ℕ, ◌++◌, ◌-◌, ◌∷◌}
-use Rattle.pim_types.specs.declared.outcome.Emission.{Emission}
-use Rattle.pim_runs.specs.Words.{address, hex, on, to}
+use Rattle.std.{specs.Prelude.{List, [], ℕ, ◌++◌, ◌-◌, ◌∷◌}}
+use Rattle.pim_types.{specs.declared.outcome.Emission.Emission}
+use Rattle.pim_runs.{specs.Words.{address, hex, on, to}}
 
 -- ---- Hellos received: Holdtime 65535 alone
 
@@ -526,7 +526,7 @@ register_of_host =
     hex "45 c0 00 38 00 00 00 00 40 67 61 9e 0a 00 03 01 0a 00 01 01"
     ++ hex "21 00 de ff 00 00 00 00 45 00 00 1c 00 00 00 00 40 11 8c ca 0a 00 02 05 e1 01 01 01 00 01 00 02 00 03 00 04"
 
--- the Register-Stop for it
+-- the Register-Stop for the Register of that source
 abbrev pub register_stop_sent : Emission
 register_stop_sent = to (address 10 0 3 1) (
     hex "45 c0 00 26 00 00 00 00 40 67 61 b0 0a 00 01 01 0a 00 03 01"

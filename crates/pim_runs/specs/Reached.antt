@@ -1,18 +1,8 @@
 -- Worked runs of the reach of events: whose facts they change, and how many that are.
-use Rattle.std.specs.Prelude.{Bool, List, [], false, length, map, true, ℕ, ◌*◌, ◌++◌, ◌+◌, ◌∷◌, ◌≡◌}
-use Rattle.pim_types.specs.declared.event.Event.{Event}
-use Rattle.pim_types.specs.declared.fact.Key.{Key}
-use Rattle.pim_types.specs.Keys.{source_key}
-use Rattle.pim_model.specs.Reach.{event_reach, keeps_neighbours}
-use Rattle.pim_model.specs.State.{State}
-use Rattle.pim_model.specs.Step.{state_after, step}
-use Rattle.pim_model.specs.Tables.{below}
-use Rattle.pim_runs.specs.Base.{after, base_routes, group, source}
-use Rattle.pim_runs.specs.Cached.{asked_and_sent, two_sent, watched_source}
-use Rattle.pim_runs.specs.Data.{joined_and_sent}
-use Rattle.pim_runs.specs.Packets.{data_from, hello_for_105_s, hello_of_10_0_2_9, join_source, join_source_of, packet, prune_source, to_exclude}
-use Rattle.pim_runs.specs.Routes.{other_rp, with_longer_route}
-use Rattle.pim_runs.specs.Words.{advance, down, frame, routes_to}
+use Rattle.std.{specs.Prelude.{Bool, List, [], false, length, map, true, ℕ, ◌*◌, ◌++◌, ◌+◌, ◌∷◌, ◌≡◌}}
+use Rattle.pim_types.{specs.{declared.{event.Event.Event, fact.Key.Key}, Keys.source_key}}
+use Rattle.pim_model.{specs.{Reach.{event_reach, keeps_neighbours}, State.State, Step.{state_after, step}, Tables.below}}
+use Rattle.pim_runs.{specs.{Base.{after, base_routes, group, source}, Cached.{asked_and_sent, two_sent, watched_source}, Data.joined_and_sent, Packets.{data_from, hello_for_105_s, hello_of_10_0_2_9, join_source, join_source_of, packet, prune_source, to_exclude}, Routes.{other_rp, with_longer_route}, Words.{advance, down, frame, routes_to}}}
 
 -- ---- what is looked at
 

@@ -1,16 +1,9 @@
 -- Worked readings and writings of messages.
-use Rattle.std.specs.Prelude.{Err, List, None, Ok, Some, map, ℕ, [], ◌≡◌, ◌∷◌, ◌++◌}
-use Rattle.pim_ip.specs.declared.refusal.Refusal.{Refusal}
-use Rattle.pim_ip.specs.Ipv4.{Packet}
-use Rattle.pim_wire.specs.Messages.{pim_reading}
-use Rattle.pim_wire.specs.Values.{Encapsulated}
-use Rattle.pim_wire.specs.declared.view.PimView.{PimView}
-use Rattle.igmp_wire.specs.Codes.{code_value, value_code}
-use Rattle.igmp_wire.specs.Messages.{igmp_reading}
-use Rattle.igmp_wire.specs.Reports.{report_text}
-use Rattle.igmp_wire.specs.declared.report.RecordType.{RecordType}
-use Rattle.pim_runs.specs.Base.{group, host}
-use Rattle.pim_runs.specs.Words.{hex}
+use Rattle.std.{specs.Prelude.{Err, List, None, Ok, Some, map, ℕ, [], ◌≡◌, ◌∷◌, ◌++◌}}
+use Rattle.pim_ip.{specs.{declared.refusal.Refusal.Refusal, Ipv4.Packet}}
+use Rattle.pim_wire.{specs.{Messages.pim_reading, Values.Encapsulated, declared.view.PimView.PimView}}
+use Rattle.igmp_wire.{specs.{Codes.{code_value, value_code}, Messages.igmp_reading, Reports.report_text, declared.report.RecordType.RecordType}}
+use Rattle.pim_runs.{specs.{Base.{group, host}, Words.hex}}
 
 -- A Hello with Holdtime alone says nothing else.
 abbrev pub HelloWithHoldtimeAlone : Type 0

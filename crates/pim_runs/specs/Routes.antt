@@ -1,20 +1,10 @@
 -- Worked runs of changed routes and RPs.
-use Rattle.std.specs.Prelude.{List, None, Option, Some, false, ℕ, [], ◌≡◌, ◌∷◌, ◌++◌}
-use Rattle.pim_ip.specs.declared.refusal.Refusal.{Refusal}
-use Rattle.pim_types.specs.declared.config.Config.{Config}
-use Rattle.pim_types.specs.declared.config.Route.{Route}
-use Rattle.pim_types.specs.declared.event.Event.{Event}
-use Rattle.pim_types.specs.declared.fact.AssertRole.{AssertRole}
-use Rattle.pim_rows.specs.declared.table.Row.{Row}
-use Rattle.pim_rows.specs.declared.table.Table.{Table}
-use Rattle.pim_ip.specs.Addr.{addr}
-use Rattle.pim_rows.specs.Printed.{rows}
-use Rattle.pim_model.specs.State.{State}
-use Rattle.pim_model.specs.Step.{run, state_after}
-use Rattle.pim_types.specs.Keys.{key_of}
-use Rattle.pim_runs.specs.Base.{after, all_groups, base, base_routes, group, opened, opened_with, prefix, route_by, rp, rp_for, rp_network, source, source_network}
-use Rattle.pim_runs.specs.Packets.{assert_source_better, assert_star_better, hello_of_10_0_1_3, hello_of_10_0_2_9, hello_on_0, hello_on_2, join_source, join_source_200, join_source_200_on_2, join_star, join_star_of_10_0_1_3, join_star_of_other_rp_up, join_star_prune_rpt_up, prune_rpt_up, prune_source_200_up, prune_star_on_1}
-use Rattle.pim_runs.specs.Words.{address, advance, done_with, frame, refused, routes_to, rps_to}
+use Rattle.std.{specs.Prelude.{List, None, Option, Some, false, ℕ, [], ◌≡◌, ◌∷◌, ◌++◌}}
+use Rattle.pim_ip.{specs.{declared.refusal.Refusal.Refusal, Addr.addr}}
+use Rattle.pim_types.{specs.{declared.{config.{Config.Config, Route.Route}, event.Event.Event, fact.AssertRole.AssertRole}, Keys.key_of}}
+use Rattle.pim_rows.{specs.{declared.table.{Row.Row, Table.Table}, Printed.rows}}
+use Rattle.pim_model.{specs.{State.State, Step.{run, state_after}}}
+use Rattle.pim_runs.{specs.{Base.{after, all_groups, base, base_routes, group, opened, opened_with, prefix, route_by, rp, rp_for, rp_network, source, source_network}, Packets.{assert_source_better, assert_star_better, hello_of_10_0_1_3, hello_of_10_0_2_9, hello_on_0, hello_on_2, join_source, join_source_200, join_source_200_on_2, join_star, join_star_of_10_0_1_3, join_star_of_other_rp_up, join_star_prune_rpt_up, prune_rpt_up, prune_source_200_up, prune_star_on_1}, Words.{address, advance, done_with, frame, refused, routes_to, rps_to}}}
 
 abbrev pub joined_for_a_second : State
 joined_for_a_second = after (frame 1 join_star ∷ advance 1000 ∷ [])

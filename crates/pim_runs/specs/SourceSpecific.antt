@@ -1,17 +1,10 @@
 -- Worked runs of source-specific multicast: of 232.1.1.1, and of the groups next to 232.0.0.0/8.
-use Rattle.std.specs.List.{range_with_len}
-use Rattle.std.specs.Prelude.{Bool, Err, None, Ok, Some, false, map, true, ℕ, [], ◌≡◌, ◌∷◌}
-use Rattle.pim_ip.specs.declared.refusal.Refusal.{Refusal}
-use Rattle.pim_types.specs.declared.config.Config.{Config}
-use Rattle.pim_rows.specs.declared.table.Row.{Row}
-use Rattle.pim_rows.specs.declared.table.Table.{Table}
-use Rattle.pim_ip.specs.Addr.{addr}
-use Rattle.pim_model.specs.Limits.{config_test}
-use Rattle.pim_rows.specs.Printed.{all_rows, rows}
-use Rattle.pim_model.specs.Step.{run}
-use Rattle.pim_runs.specs.Base.{after, base, host, interface, opened, source}
-use Rattle.pim_runs.specs.Packets.{hello_on_0, join_star_above_up, join_star_below_up, ssm_allow_source, ssm_copy_on_2, ssm_host_packet, ssm_join_source_up, ssm_join_star, ssm_packet, ssm_register, ssm_register_stop_sent, ssm_to_exclude, to_exclude_above, to_exclude_below}
-use Rattle.pim_runs.specs.Words.{address, done_with, done_with_copies, frame, unicast}
+use Rattle.std.{specs.{List.range_with_len, Prelude.{Bool, Err, None, Ok, Some, false, map, true, ℕ, [], ◌≡◌, ◌∷◌}}}
+use Rattle.pim_ip.{specs.{declared.refusal.Refusal.Refusal, Addr.addr}}
+use Rattle.pim_types.{specs.declared.config.Config.Config}
+use Rattle.pim_rows.{specs.{declared.table.{Row.Row, Table.Table}, Printed.{all_rows, rows}}}
+use Rattle.pim_model.{specs.{Limits.config_test, Step.run}}
+use Rattle.pim_runs.{specs.{Base.{after, base, host, interface, opened, source}, Packets.{hello_on_0, join_star_above_up, join_star_below_up, ssm_allow_source, ssm_copy_on_2, ssm_host_packet, ssm_join_source_up, ssm_join_star, ssm_packet, ssm_register, ssm_register_stop_sent, ssm_to_exclude, to_exclude_above, to_exclude_below}, Words.{address, done_with, done_with_copies, frame, unicast}}}
 
 abbrev pub ssm_group : ℕ
 ssm_group = address 232 1 1 1

@@ -1,14 +1,10 @@
 -- Worked runs of two routers on one link.
-use Rattle.std.specs.Prelude.{List, Some, drop, map, ℕ, [], ◌≡◌, ◌∷◌, ◌++◌}
-use Rattle.pim_ip.specs.declared.refusal.Refusal.{Refusal}
-use Rattle.pim_types.specs.declared.config.Config.{Config}
-use Rattle.pim_rows.specs.declared.table.Row.{Row}
-use Rattle.pim_ip.specs.Addr.{addr}
-use Rattle.pim_model.specs.Network.{At, Deliver, Move, Network, network, network_ran, Station}
-use Rattle.pim_rows.specs.Printed.{all_rows}
-use Rattle.pim_runs.specs.Base.{base, interface}
-use Rattle.pim_runs.specs.Packets.{hello_of_router_0, hello_of_router_1, query_of_router_0, query_of_router_1}
-use Rattle.pim_runs.specs.Words.{address, advance, done_with, refused, up}
+use Rattle.std.{specs.Prelude.{List, Some, drop, map, ℕ, [], ◌≡◌, ◌∷◌, ◌++◌}}
+use Rattle.pim_ip.{specs.{declared.refusal.Refusal.Refusal, Addr.addr}}
+use Rattle.pim_types.{specs.declared.config.Config.Config}
+use Rattle.pim_rows.{specs.{declared.table.Row.Row, Printed.all_rows}}
+use Rattle.pim_model.{specs.Network.{At, Deliver, Move, Network, network, network_ran, Station}}
+use Rattle.pim_runs.{specs.{Base.{base, interface}, Packets.{hello_of_router_0, hello_of_router_1, query_of_router_0, query_of_router_1}, Words.{address, advance, done_with, refused, up}}}
 
 -- Router 0 is 10.0.0.1 and router 1 is 10.0.0.2, each with one interface on the link.
 abbrev pub alone_at : ℕ → Config

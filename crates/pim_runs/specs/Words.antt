@@ -1,16 +1,9 @@
 -- Short names for bytes, addresses, events and outcomes.
-use Prim.Native.String.{String}
-use Rattle.std.specs.Prelude.{Bool, Err, List, Ok, [], codes, false, filter, slice_index, true, ℕ, ◌&&◌, ◌*◌, ◌+◌, ◌==◌}
-use Rattle.pim_ip.specs.declared.refusal.Refusal.{Refusal}
-use Rattle.pim_types.specs.declared.config.Route.{Route}
-use Rattle.pim_types.specs.declared.config.RpRange.{RpRange}
-use Rattle.pim_types.specs.declared.event.Event.{Event}
-use Rattle.pim_types.specs.declared.event.EventKind.{EventKind}
-use Rattle.pim_types.specs.declared.outcome.Emission.{Emission}
-use Rattle.pim_types.specs.declared.outcome.Outcome.{Outcome}
-use Rattle.pim_types.specs.declared.outcome.Verdict.{Verdict}
-use Rattle.pim_ip.specs.Addr.{addr}
-use Rattle.pim_runs.specs.Transcript.{from_hex}
+use Prim.{Native.String.String}
+use Rattle.std.{specs.Prelude.{Bool, Err, List, Ok, [], codes, false, filter, slice_index, true, ℕ, ◌&&◌, ◌*◌, ◌+◌, ◌==◌}}
+use Rattle.pim_ip.{specs.{declared.refusal.Refusal.Refusal, Addr.addr}}
+use Rattle.pim_types.{specs.declared.{config.{Route.Route, RpRange.RpRange}, event.{Event.Event, EventKind.EventKind}, outcome.{Emission.Emission, Outcome.Outcome, Verdict.Verdict}}}
+use Rattle.pim_runs.{specs.Transcript.from_hex}
 
 -- bytes by their hexadecimal digits
 abbrev pub hex : String → List ℕ

@@ -13,7 +13,7 @@ pub fn plain_packet_moves_its_timer()
     ensures { PlainPacketMovesItsTimer }
 {}
 
-/// A plain packet may start that timer.
+/// A plain packet may start the keepalive timer of a source that has only its SPTbit.
 pub fn plain_packet_starts_the_timer()
     ensures { PlainPacketStartsTheTimer }
 {}

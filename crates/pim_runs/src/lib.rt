@@ -1,5 +1,6 @@
-//! Worked runs of the specification, which the kernel checks by computing with the definitions. Each is the contract of
-//! a function with nothing to do.
+//! Worked runs of the specification, which the kernel checks by computing with the definitions: of routers, of networks
+//! that meet the premises of the laws, and of a router beside a data plane. Each is the contract of a function with
+//! nothing to do.
 #![tactic(auto)]
 
 pub mod asserts;
@@ -14,5 +15,8 @@ pub mod neighbours;
 pub mod reached;
 pub mod readings;
 pub mod routes;
+pub mod served;
 pub mod source_specific;
+pub mod split;
+pub mod streams;
 pub mod two_routers;

@@ -23,7 +23,7 @@ pub fn report_that_is_cut_short()
     ensures { ReportThatIsCutShort }
 {}
 
-/// A report as it is written.
+/// The bytes of a report that is written.
 pub fn report_as_written()
     ensures { ReportAsWritten }
 {}

@@ -1,25 +1,8 @@
 -- Tables, and the whole state.
-use Rattle.std.proofs.Common.{Some, ◌≡◌, ℕ, arith, Bool, true, false, cond, eqb, List, [], ◌∷◌, ◌++◌, ◌&&◌, Ok, Err, refl, sym, ap, subst, ◌∙◌}
-use Rattle.std.proofs.lemmas.Bool.{eqb-true}
-use Rattle.std.proofs.lemmas.List.{append-nil}
-use Rattle.std.specs.List.{AllByRecursion}
-use Rattle.std.specs.List.Sorted.{IsStrictlySortedBy}
-use Rattle.std.specs.Ordering.{is_lt}
-use Rattle.std.specs.declared.cmp.Ordering.{Ordering}
-use Rattle.std.specs.Cmp.{IsTotalOrder}
-use Rattle.pim_types.specs.FieldOrder.{fields_total}
-use Rattle.pim_types.specs.Keys.{addr_cmp, key_cmp}
-use Rattle.pim_types.specs.declared.fact.Key.{Key}
-use Rattle.pim_model.specs.State.{State}
-use Rattle.pim_model.specs.Tables.{Table, keys_in}
-use Rattle.pim_saved.specs.declared.refusal.SavedRefusal.{SavedRefusal}
-use Rattle.pim_saved.specs.Fits.{FitsEntry, FitsGround, FitsLink, FitsList, FitsRecord, FitsState, FitsTable, FitsTree}
-use Rattle.pim_saved.specs.Laws.{AreBytes, ReadingIsText, TextIsRead}
-use Rattle.pim_saved.specs.Parts.{parts_of, state_of}
-use Rattle.pim_saved.specs.Reading.{Reader, at_end, ground_at, half_at, in_order, in_turn, key_at, links_at, list_at, made, magic_at, parts_at, reading, records_at, rise, rise_after, table_at, trees_at, version_at, word_at}
-use Rattle.pim_saved.specs.Text.{body_text, ground_text, half_text, links_text, magic, records_text, table_text, text, trees_text, version, word_text}
-use Rattle.pim_saved.proofs.Spelled.{IsSpelled, Takes, bind_ok, both, half, list, made_of, moment, ok_is, passed, word}
-use Rattle.pim_saved.proofs.SpelledRows.{asserted, downstream, group_record, group_repeat, interface, join_timer, key, neighbour, override_timer, querier, range, register, route, sending, settings, source, source_record, source_repeat, up}
+use Rattle.std.{proofs.{Common.{Some, ◌≡◌, ℕ, arith, Bool, true, false, cond, eqb, List, [], ◌∷◌, ◌++◌, ◌&&◌, Ok, Err, refl, sym, ap, subst, ◌∙◌}, lemmas.{Bool.eqb-true, List.append-nil}}, specs.{List.{AllByRecursion, Sorted.IsStrictlySortedBy}, Ordering.is_lt, declared.cmp.Ordering.Ordering, Cmp.IsTotalOrder}}
+use Rattle.pim_types.{specs.{FieldOrder.fields_total, Keys.{addr_cmp, key_cmp}, declared.fact.Key.Key}}
+use Rattle.pim_model.{specs.{State.State, Tables.{Table, keys_in}}}
+use Rattle.pim_saved.{specs.{declared.refusal.SavedRefusal.SavedRefusal, Fits.{FitsEntry, FitsGround, FitsLink, FitsList, FitsRecord, FitsState, FitsTable, FitsTree}, Laws.{AreBytes, ReadingIsText, TextIsRead}, Parts.{parts_of, state_of}, Reading.{Reader, at_end, ground_at, half_at, in_order, in_turn, key_at, links_at, list_at, made, magic_at, parts_at, reading, records_at, rise, rise_after, table_at, trees_at, version_at, word_at}, Text.{body_text, ground_text, half_text, links_text, magic, records_text, table_text, text, trees_text, version, word_text}}, proofs.{Spelled.{IsSpelled, Takes, bind_ok, both, half, list, made_of, moment, ok_is, passed, word}, SpelledRows.{asserted, downstream, group_record, group_repeat, interface, join_timer, key, neighbour, override_timer, querier, range, register, route, sending, settings, source, source_record, source_repeat, up}}}
 
 -- ---- keys that rise
 

@@ -1,18 +1,9 @@
 -- Bytes read as a state from left to right, with the first fault that is met.
-use Rattle.std.specs.Int.{Width, byte_len, from_be_bytes, w16, w32, w64}
-use Rattle.std.specs.Option.{option_map_or}
-use Rattle.std.specs.Ordering.{is_lt}
-use Rattle.std.specs.Prelude.{Bool, Err, List, None, Ok, Option, Result, Some, [], drop, false, if◌then◌else◌, length, nat_lt, suc, take, true, zero, ℕ, ◌&&◌, ◌==◌, ◌∷◌}
-use Rattle.pim_ip.specs.declared.addr.Addr.{Addr}
-use Rattle.pim_ip.specs.declared.addr.Prefix.{Prefix}
-use Rattle.pim_ip.specs.declared.lan.LanDelay.{LanDelay}
-use Rattle.pim_types.specs.Keys.{key_cmp}
-use Rattle.pim_types.specs.declared.config.{IfaceId.IfaceId, InterfaceConfig.InterfaceConfig, Route.Route, RpRange.RpRange, Settings.Settings, SptSwitch.SptSwitch}
-use Rattle.pim_types.specs.declared.fact.{AssertMetric.AssertMetric, AssertRole.AssertRole, AssertRow.AssertRow, DownstreamRow.DownstreamRow, GroupRecordRow.GroupRecordRow, GroupRepeatRow.GroupRepeatRow, InterfaceRow.InterfaceRow, JoinTimerRow.JoinTimerRow, Key.Key, NeighbourRow.NeighbourRow, OverrideTimerRow.OverrideTimerRow, QuerierRole.QuerierRole, QuerierRow.QuerierRow, RegisterRow.RegisterRow, RegisterState.RegisterState, SendingRow.SendingRow, SourceRecordRow.SourceRecordRow, SourceRepeatRow.SourceRepeatRow, SourceRow.SourceRow}
-use Rattle.pim_model.specs.{State.State, Tables.{Table, keys_in}}
-use Rattle.pim_saved.specs.Parts.{GroundParts, LinkParts, RecordParts, StateParts, TreeParts, state_of}
-use Rattle.pim_saved.specs.Text.{magic, version}
-use Rattle.pim_saved.specs.declared.refusal.SavedRefusal.{SavedRefusal}
+use Rattle.std.{specs.{Int.{Width, byte_len, from_be_bytes, w16, w32, w64}, Option.option_map_or, Ordering.is_lt, Prelude.{Bool, Err, List, None, Ok, Option, Result, Some, [], drop, false, if◌then◌else◌, length, nat_lt, suc, take, true, zero, ℕ, ◌&&◌, ◌==◌, ◌∷◌}}}
+use Rattle.pim_ip.{specs.declared.{addr.{Addr.Addr, Prefix.Prefix}, lan.LanDelay.LanDelay}}
+use Rattle.pim_types.{specs.{Keys.key_cmp, declared.{config.{IfaceId.IfaceId, InterfaceConfig.InterfaceConfig, Route.Route, RpRange.RpRange, Settings.Settings, SptSwitch.SptSwitch}, fact.{AssertMetric.AssertMetric, AssertRole.AssertRole, AssertRow.AssertRow, DownstreamRow.DownstreamRow, GroupRecordRow.GroupRecordRow, GroupRepeatRow.GroupRepeatRow, InterfaceRow.InterfaceRow, JoinTimerRow.JoinTimerRow, Key.Key, NeighbourRow.NeighbourRow, OverrideTimerRow.OverrideTimerRow, QuerierRole.QuerierRole, QuerierRow.QuerierRow, RegisterRow.RegisterRow, RegisterState.RegisterState, SendingRow.SendingRow, SourceRecordRow.SourceRecordRow, SourceRepeatRow.SourceRepeatRow, SourceRow.SourceRow}}}}
+use Rattle.pim_model.{specs.{State.State, Tables.{Table, keys_in}}}
+use Rattle.pim_saved.{specs.{Parts.{GroundParts, LinkParts, RecordParts, StateParts, TreeParts, state_of}, Text.{magic, version}, declared.refusal.SavedRefusal.SavedRefusal}}
 
 infixl 10 ◌>>=◌
 abbrev pub ◌>>=◌ : {A B : Type 0} → Result A SavedRefusal → (A → Result B SavedRefusal) → Result B SavedRefusal
@@ -49,7 +40,7 @@ flag_at (zero ∷ rest) = Ok (false, rest)
 flag_at (suc zero ∷ rest) = Ok (true, rest)
 flag_at (suc (suc b) ∷ rest) = Err SavedRefusal.OutOfRange
 
--- one after the other
+-- two readers, the second behind what the first read
 abbrev pub in_turn : {A B : Type 0} → Reader A → Reader B → Reader (A × B)
 in_turn first second bytes = first bytes >>= λ a. second a.1 >>= λ b. Ok ((a.0, b.0), b.1)
 

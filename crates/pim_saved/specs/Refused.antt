@@ -1,7 +1,6 @@
 -- The numbers by which refusals of bytes are known.
-use Rattle.std.specs.Prelude.{ℕ}
-use Rattle.pim_saved.specs.declared.refusal.SavedRefusal.{SavedRefusal}
-use Rattle.pim_saved.specs.declared.refusal.SavedRefusal.TheVariants.{NotOurs, OtherVersion, CutShort, OutOfRange, KeysDontRise, LeftOver}
+use Rattle.std.{specs.Prelude.ℕ}
+use Rattle.pim_saved.{specs.declared.refusal.SavedRefusal.{SavedRefusal, TheVariants.{NotOurs, OtherVersion, CutShort, OutOfRange, KeysDontRise, LeftOver}}}
 
 abbrev pub saved_refusal_number : SavedRefusal → ℕ
 saved_refusal_number NotOurs = 60

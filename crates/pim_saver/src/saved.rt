@@ -13,10 +13,10 @@ pub trait Saved: Copy {
 
     ghost reading: { Reader Self };
 
-    /// Whether its fields fit their widths.
+    /// Whether the fields of a value fit their widths.
     ghost fits: { Self → Type 0 };
 
-    /// Puts its text behind the others. An error is want of memory.
+    /// Puts the bytes of a value at the end. An error is want of memory.
     fn write(self, out: &mut Vec<u8>) -> Result<(), AllocError>
         ensures ok { OnOk result (out.new.items ≡ out.old.items ++ text self) }
         ensures fitting { OnOk result (fits self) };

@@ -1,14 +1,8 @@
 -- What the parse of a command line gives, in the words of its meaning.
-use Rattle.std.proofs.Common.{◌≡◌, ◌≢◌, ◌∙◌, sym, ap, subst, refl, true, List, [], ◌∷◌, Option, None, Result, IfOk}
-use Rattle.std.proofs.lemmas.Result.{IfOk-weaker}
-use Rattle.clap.specs.Words.{App, Text, Kinds, HasKind, HasMatchesOf, is_simple, is_simple_and_free, fault_of, subcommand_of, subcommand_rows_of}
-use Rattle.clap.specs.declared.parser.matches.ArgMatches.{ArgMatches}
-use Rattle.clap.specs.declared.error.Error.{Error}
-use Rattle.clap.proofs.OnLiterals.{clap_on_literals}
-use Rattle.clap.proofs.WalkLemmas.{IfOk-both}
-use Rattle.pim_ip.specs.declared.fault.Fault.{Fault}
-use Rattle.pim_scenario.specs.declared.command_line.Answer.{Answer}
-use Rattle.pim_scenario.specs.CommandLine.{Meaning, pimlab_app, meaning_of, meaning_unless, meant_by, words_in, CanAnswer}
+use Rattle.std.{proofs.{Common.{◌≡◌, ◌≢◌, ◌∙◌, sym, ap, subst, refl, true, List, [], ◌∷◌, Option, None, Result, IfOk}, lemmas.Result.IfOk-weaker}}
+use Rattle.clap.{specs.{Words.{App, Text, Kinds, HasKind, HasMatchesOf, is_simple, is_simple_and_free, fault_of, subcommand_of, subcommand_rows_of}, declared.{parser.matches.ArgMatches.ArgMatches, error.Error.Error}}, proofs.{OnLiterals.clap_on_literals, WalkLemmas.IfOk-both}}
+use Rattle.pim_ip.{specs.declared.fault.Fault.Fault}
+use Rattle.pim_scenario.{specs.{declared.command_line.Answer.Answer, CommandLine.{Meaning, pimlab_app, meaning_of, meaning_unless, meant_by, words_in, CanAnswer}}}
 
 -- the words below are all of what clap does with such commands
 pub pimlab_is_simple : is_simple pimlab_app ≡ true

@@ -1,9 +1,7 @@
 -- Lists of a document as lists of data.
-use Rattle.std.proofs.Common.{◌≡◌, ap, refl, List, [], ◌∷◌, map}
-use Rattle.toml.specs.Data.{Data}
-use Rattle.toml.specs.View.{view, items_of}
-use Rattle.toml.specs.declared.value.Value.{Value}
-use Rattle.pim_scenario.specs.Fields.{values_of}
+use Rattle.std.{proofs.Common.{◌≡◌, ap, refl, List, [], ◌∷◌, map}}
+use Rattle.toml.{specs.{Data.Data, View.{view, items_of}, declared.value.Value.Value}}
+use Rattle.pim_scenario.{specs.Fields.values_of}
 
 listed_data : (ds : List Data) → values_of (items_of ds) ≡ ds
 listed_data [] = refl

@@ -1,6 +1,6 @@
 -- Bytes read from hexadecimal digits, two by two.
-use Rattle.std.proofs.Common.{◌≡◌, ℕ, ◌+◌, ◌*◌, ◌≤◌, List, [], ◌∷◌, ◌++◌, length, get_or, take, drop, arith, refl, sym, ap, ◌∙◌, append_assoc, Option, Some, None, option_map}
-use Rattle.pim_scenario.specs.Texts.{hex_of, digit_of, pair_before}
+use Rattle.std.{proofs.Common.{◌≡◌, ℕ, ◌+◌, ◌*◌, ◌≤◌, List, [], ◌∷◌, ◌++◌, length, get_or, take, drop, arith, refl, sym, ap, ◌∙◌, append_assoc, Option, Some, None, option_map}}
+use Rattle.pim_scenario.{specs.Texts.{hex_of, digit_of, pair_before}}
 
 hex_pair : (s : List ℕ) → 2 ≤ length s → hex_of s
     ≡ pair_before (digit_of (get_or (take 2 s) 0 0)) (digit_of (get_or (take 2 s) 1 0)) (hex_of (drop 2 s))

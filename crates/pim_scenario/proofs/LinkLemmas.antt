@@ -1,18 +1,6 @@
 -- Links go by the places of their names.
-use Rattle.std.proofs.Common.{◌≡◌, ◌+◌, ℕ, Bool, true, false, cond, List, [], ◌∷◌, ◌++◌, length, map, Option, Some, None, refl, sym, ap, ◌∙◌, arith, append_assoc}
-use Rattle.std.specs.Borrow.{Bor}
-use Rattle.std.specs.Prelude.{string_bytes}
-use Rattle.std.specs.List.{All, position, position_from}
-use Rattle.std.specs.Option.{is_some}
-use Rattle.std.proofs.lemmas.List.Sums.{fold_push}
-use Rattle.std.specs.Str.{bytes_eq}
-use Rattle.std.proofs.lemmas.List.{map-append, append-nil}
-use Rattle.std.proofs.lemmas.Slice.Eq.{bytes_eq-Decides}
-use Rattle.std.proofs.lemmas.Iterator.Adapters.{position_from-zero}
-use Rattle.std.proofs.lemmas.List.Elements.{All-weaker, All-push}
-use Rattle.pim_scenario.specs.declared.scenario.Link.{Link}
-use Rattle.pim_scenario.specs.declared.scenario.RouterText.{RouterText}
-use Rattle.pim_scenario.specs.Scenario.{HasNumbered, IsNumbered, link_names, names_after, place_in, with_name}
+use Rattle.std.{proofs.{Common.{◌≡◌, ◌+◌, ℕ, Bool, true, false, cond, List, [], ◌∷◌, ◌++◌, length, map, Option, Some, None, refl, sym, ap, ◌∙◌, arith, append_assoc}, lemmas.{List.{Sums.fold_push, map-append, append-nil, Elements.{All-weaker, All-push}}, Slice.Eq.bytes_eq-Decides, Iterator.Adapters.position_from-zero}}, specs.{Borrow.Bor, Prelude.string_bytes, List.{All, position, position_from}, Option.is_some, Str.bytes_eq}}
+use Rattle.pim_scenario.{specs.{declared.scenario.{Link.Link, RouterText.RouterText}, Scenario.{HasNumbered, IsNumbered, link_names, names_after, place_in, with_name}}}
 
 module _ {X : Type 0} (p : X → Bool) where
   chosen : (b : Bool) (i k : ℕ) (o r : Option ℕ) → (o ≡ Some k → r ≡ Some k) → cond b (Some i) o ≡ Some k → cond b (Some i) r ≡ Some k

@@ -1,21 +1,8 @@
 -- Moves go by the names of the routers alone.
-use Rattle.std.proofs.Common.{inl, inr, ◌≡◌, ℕ, Bool, List, [], ◌∷◌, map, codes, Option, Some, None, sym, ap, refl, ◌∙◌}
-use Rattle.std.specs.List.{AllZip, position}
-use Rattle.std.specs.Prelude.{string_bytes, option_and_then}
-use Rattle.std.specs.Str.{bytes_eq}
-use Rattle.toml.specs.Data.{Data, Members, as_table}
-use Rattle.pim_types.specs.declared.config.Route.{Route}
-use Rattle.pim_types.specs.declared.config.RpRange.{RpRange}
-use Rattle.pim_types.specs.declared.event.EventKind.{EventKind}
-use Rattle.pim_scenario.specs.declared.scenario.ConfigText.{ConfigText}
-use Rattle.pim_scenario.specs.declared.scenario.ScenarioMove.{ScenarioMove}
-use Rattle.pim_scenario.specs.declared.scenario.ScenarioMove.TheVariants.{Event, Deliver, Carry, Reload, Restart}
-use Rattle.pim_scenario.specs.declared.scenario.RouterText.{RouterText}
-use Rattle.pim_scenario.specs.declared.scenario.Scenario.{Scenario}
-use Rattle.pim_scenario.specs.Fields.{text_at, table_at, list_at, list_or_empty}
-use Rattle.pim_scenario.specs.Scenario.{AreRouteWords, AreRouters, AreRpWords, IsCarry, IsConfigText, IsDeliver, IsEvent, IsKind, IsMove, IsReload, IsRestart, IsRouter, IsRoutes, IsRps, IsScenario, IsTable, IsText, place_of}
-use Rattle.pim_scenario.proofs.LinkLemmas.{position-map}
-use Rattle.pim_scenario.proofs.ReadLemmas.{the_same, zip_weaker}
+use Rattle.std.{proofs.Common.{inl, inr, ◌≡◌, ℕ, Bool, List, [], ◌∷◌, map, codes, Option, Some, None, sym, ap, refl, ◌∙◌}, specs.{List.{AllZip, position}, Prelude.{string_bytes, option_and_then}, Str.bytes_eq}}
+use Rattle.toml.{specs.Data.{Data, Members, as_table}}
+use Rattle.pim_types.{specs.declared.{config.{Route.Route, RpRange.RpRange}, event.EventKind.EventKind}}
+use Rattle.pim_scenario.{specs.{declared.scenario.{ConfigText.ConfigText, ScenarioMove.{ScenarioMove, TheVariants.{Event, Deliver, Carry, Reload, Restart}}, RouterText.RouterText, Scenario.Scenario}, Fields.{text_at, table_at, list_at, list_or_empty}, Scenario.{AreRouteWords, AreRouters, AreRpWords, IsCarry, IsConfigText, IsDeliver, IsEvent, IsKind, IsMove, IsReload, IsRestart, IsRouter, IsRoutes, IsRps, IsScenario, IsTable, IsText, place_of}}, proofs.{LinkLemmas.position-map, ReadLemmas.{the_same, zip_weaker}}}
 
 pub kind_of : (routers : List RouterText) (ms : Members) (m : ScenarioMove) → IsEvent routers ms m → (k : EventKind) × IsKind ms k
 kind_of routers ms (Event router e) is = (e.kind, is.2)

@@ -1,25 +1,7 @@
 -- Routers have names of their own.
-use Rattle.std.proofs.Common.{◌≡◌, ◌≢◌, ◌+◌, ◌<◌, ℕ, zero, suc, Bool, true, false, cond, List, [], ◌∷◌, ◌++◌, length, get_or, take, map, Option, Some, None, refl, sym, subst, ◌∙◌, arith}
-use Rattle.std.proofs.lemmas.Bool.{false≢true}
-use Rattle.std.proofs.lemmas.Slice.Zip.{AllZip-long}
-use Rattle.std.proofs.lemmas.List.{get_or-map, get_or-take, length-map}
-use Rattle.std.proofs.lemmas.List.Quantifiers.{position-Some}
-use Rattle.std.specs.List.{AllZip}
-use Rattle.std.specs.Option.{is_some}
-use Rattle.toml.specs.Data.{Data}
-use Rattle.toml.specs.View.{view}
-use Rattle.toml.specs.declared.value.Value.{Value}
-use Rattle.pim_scenario.specs.Scenario.{AreRouters, IsRouter, IsTable}
-use Rattle.pim_scenario.proofs.MoveLemmas.{one_name}
-use Rattle.pim_scenario.proofs.ReadLemmas.{zip_get}
-use Rattle.std.specs.List.{position_from}
-use Rattle.std.specs.Prelude.{string_bytes}
-use Rattle.std.specs.Str.{bytes_eq}
-use Rattle.std.proofs.lemmas.Iterator.Adapters.{position_from-zero}
-use Rattle.std.proofs.lemmas.List.Quantifiers.{all_pairs_push}
-use Rattle.std.proofs.lemmas.Slice.Eq.{bytes_eq-Decides}
-use Rattle.pim_scenario.specs.declared.scenario.RouterText.{RouterText}
-use Rattle.pim_scenario.specs.Scenario.{HaveOwnNames, place_of}
+use Rattle.std.{proofs.{Common.{◌≡◌, ◌≢◌, ◌+◌, ◌<◌, ℕ, zero, suc, Bool, true, false, cond, List, [], ◌∷◌, ◌++◌, length, get_or, take, map, Option, Some, None, refl, sym, subst, ◌∙◌, arith}, lemmas.{Bool.false≢true, Slice.{Zip.AllZip-long, Eq.bytes_eq-Decides}, List.{get_or-map, get_or-take, length-map, Quantifiers.{position-Some, all_pairs_push}}, Iterator.Adapters.position_from-zero}}, specs.{List.{AllZip, position_from}, Option.is_some, Prelude.string_bytes, Str.bytes_eq}}
+use Rattle.toml.{specs.{Data.Data, View.view, declared.value.Value.Value}}
+use Rattle.pim_scenario.{specs.{Scenario.{AreRouters, IsRouter, IsTable, HaveOwnNames, place_of}, declared.scenario.RouterText.RouterText}, proofs.{MoveLemmas.one_name, ReadLemmas.zip_get}}
 
 module _ {X : Type 0} (p : X → Bool) where
   none_step : (x : X) (xs : List X) (i : ℕ) (b : Bool) → p x ≡ b

@@ -1,12 +1,6 @@
 -- What is read at the front of a text is read there too where a bracket follows the text.
-use Rattle.std.proofs.Common.{◌≡◌, ℕ, ◌<◌, ◌≤◌, Bool, true, false, List, [], ◌∷◌, ◌++◌, length, slice_index, Option, Some, None, is_some, unwrap_or, option_map, option_and_then, refl, ap, inl, inr, arith}
-use Rattle.std.proofs.lemmas.Bool.{cases_Bool}
-use Rattle.std.proofs.lemmas.Bool.Decides.{nat_tests}
-use Rattle.std.proofs.lemmas.Option.{none-some, same_Some}
-use Rattle.std.proofs.lemmas.List.{get_or_append_left, take-append-le, drop-append-le}
-use Rattle.std.proofs.lemmas.List.Sums.{prefix_len-le-length}
-use Rattle.std.specs.List.{prefix_len}
-use Rattle.toml_parser.specs.Lexical.{Read, first, is_ws, split_while, starts_newline, skip_ws, skip_turn, skip_from, skip_lines}
+use Rattle.std.{proofs.{Common.{◌≡◌, ℕ, ◌<◌, ◌≤◌, Bool, true, false, List, [], ◌∷◌, ◌++◌, length, slice_index, Option, Some, None, is_some, unwrap_or, option_map, option_and_then, refl, ap, inl, inr, arith}, lemmas.{Bool.{cases_Bool, Decides.nat_tests}, Option.{none-some, same_Some}, List.{get_or_append_left, take-append-le, drop-append-le, Sums.prefix_len-le-length}}}, specs.List.prefix_len}
+use Rattle.toml_parser.{specs.Lexical.{Read, first, is_ws, split_while, starts_newline, skip_ws, skip_turn, skip_from, skip_lines}}
 
 -- this text, and a bracket after it
 abbrev pub on : List ℕ → List ℕ → List ℕ

@@ -1,23 +1,8 @@
 -- A document of which the array of tables `move` is the end, table by table.
-use Rattle.std.proofs.Common.{◌≡◌, ℕ, zero, suc, ◌+◌, ◌-◌, ◌≤◌, true, false, cond, ◌&&◌, ◌==◌, List, [], ◌∷◌, ◌++◌, length, Option, Some, None, option_map, refl, sym, ap, ◌∙◌, subst, inl, inr, arith, Ordering, Less, Equal, Greater, nat_cmp, is_eq, length-append}
-use Rattle.std.proofs.lemmas.Bool.{cases_Bool, and_parts, true≢false, false≢true}
-use Rattle.std.proofs.lemmas.Bool.Decides.{nat_tests}
-use Rattle.std.proofs.lemmas.Option.{none-some}
-use Rattle.std.specs.Ordering.{match_ordering}
-use Rattle.std.specs.Cmp.Lexicographic.{slice_cmp}
-use Rattle.toml_parser.specs.Lexical.{skip_ws, skip_from}
-use Rattle.toml_parser.specs.Strings.{key_after, simple_key}
-use Rattle.toml.specs.Data.{Data, array, table, Items, no_items, item, Members, push_item, same_key, get_member}
-use Rattle.toml.specs.Tables.{Node, Nodes, no_nodes, node, value, open_table, open_array, close, close_node, Expression, array_table, Document, define, insert, get_node, along_header, at_key}
-use Rattle.std.specs.List.{list_any}
-use Rattle.toml.specs.Parse.{lines, line, expression, header_key, skip_bom, parse_document}
-use Rattle.toml.proofs.NodeLaws.{get_node-insert, replace-insert}
-use Rattle.pim_scenario.proofs.PieceBytes.{on, map_some}
-use Rattle.pim_scenario.specs.Pieces.{ends, move_key, is_table, is_plain, is_flat, IsReached, HoldsMoves}
-use Rattle.pim_scenario.specs.Fields.{values_of}
-use Rattle.pim_scenario.proofs.PieceLines.{Stands, lines_on, lines_out}
-use Rattle.pim_scenario.proofs.PieceTables.{HasOpen, IsOpen, IsBad, IsLast, stands_last, found_or_not}
-use Rattle.toml.proofs.Turns.{lines_more}
+use Rattle.std.{proofs.{Common.{◌≡◌, ℕ, zero, suc, ◌+◌, ◌-◌, ◌≤◌, true, false, cond, ◌&&◌, ◌==◌, List, [], ◌∷◌, ◌++◌, length, Option, Some, None, option_map, refl, sym, ap, ◌∙◌, subst, inl, inr, arith, Ordering, Less, Equal, Greater, nat_cmp, is_eq, length-append}, lemmas.{Bool.{cases_Bool, and_parts, true≢false, false≢true, Decides.nat_tests}, Option.none-some}}, specs.{Ordering.match_ordering, Cmp.Lexicographic.slice_cmp, List.list_any}}
+use Rattle.toml_parser.{specs.{Lexical.{skip_ws, skip_from}, Strings.{key_after, simple_key}}}
+use Rattle.toml.{specs.{Data.{Data, table, Items, no_items, item, Members, push_item, same_key, get_member}, Tables.{Node, Nodes, no_nodes, node, value, open_table, open_array, close, close_node, Expression, array_table, Document, define, insert, get_node, along_header, at_key}, Parse.{lines, line, expression, header_key, skip_bom, parse_document}}, proofs.{NodeLaws.{get_node-insert, replace-insert}, Turns.lines_more}}
+use Rattle.pim_scenario.{proofs.{PieceBytes.{on, map_some}, PieceLines.{Stands, lines_on, lines_out}, PieceTables.{HasOpen, IsOpen, IsBad, IsLast, stands_last, found_or_not}}, specs.{Pieces.{ends, move_key, is_table, is_plain, is_flat, IsReached, HoldsMoves}, Fields.values_of}}
 
 -- ---- a table with nothing but values
 
@@ -174,11 +159,6 @@ none_mapped (Some x) e = absurd (none-some _ (sym e))
 
 pub absent_node : (k : List ℕ) (ns : Nodes) → get_member k (close ns) ≡ None → get_node k ns ≡ None
 absent_node k ns e = none_mapped (get_node k ns) (sym (closed_get k ns) ∙ e)
-
-pub moves_there : (ns last : Nodes) (vals : Items) (ms : Members) → close last ≡ ms
-    → get_member move_key (close (insert move_key (open_array vals last) ns)) ≡ Some (array (push_item vals (table ms)))
-moves_there ns last vals ms closed =
-    closed_get move_key (insert move_key (open_array vals last) ns) ∙ rw (get_node-insert move_key (open_array vals last) ns, closed)
 
 beside : (o : Ordering) (k l : List ℕ) (x y : Node) (ns more : Nodes) (other : List ℕ) → is_eq o ≡ false → same_key other k ≡ false → get_node other more ≡ get_node other ns
     → get_node other (match_ordering o (node k x (node l y ns)) (node l x ns) (node l y more)) ≡ get_node other (node l y ns)

@@ -1,21 +1,8 @@
 -- A text that ends with a newline has it after each value that is read.
-use Rattle.std.proofs.Common.{◌≡◌, ℕ, zero, suc, ◌+◌, ◌<◌, Bool, true, false, ◌&&◌, ◌==◌, nat_le, nat_lt, List, [], ◌∷◌, ◌++◌, length, take, drop, slice_index, encode_utf8, Option, Some, None, is_some, unwrap_or, option_and_then, refl, sym, ap, ◌∙◌, inl, inr, arith, eqb-true, length-drop}
-use Rattle.std.proofs.lemmas.Bool.{cases_Bool, and_parts, false≢true}
-use Rattle.std.proofs.lemmas.Bool.Decides.{nat_tests}
-use Rattle.std.proofs.lemmas.Option.{none-some, same_Some, cond_some}
-use Rattle.std.specs.List.{prefix_len, list_all}
-use Rattle.std.specs.Char.{is_digit, is_ascii_digit}
-use Rattle.std.specs.Str.Parse.{digits_value}
-use Rattle.toml_parser.specs.Lexical.{Read, first, is_ws, is_bare, is_word, split_while, starts_newline, skip_ws, skip_turn, skip_from, skip_blank, skip_lines}
-use Rattle.toml_parser.specs.Strings.{Key, hex_len, is_scalar, hex_escape, simple_escape, escape_char, escape, is_plain, at_delims, special, after_piece, body, trim_newline, one_line, quoted, starts_string, simple_key, key_after, key, recursion_limit}
-use Rattle.toml_parser.specs.Numbers.{word_len, word_value, unquoted}
-use Rattle.toml.specs.Data.{Data, string, array, table, Items, no_items, push_item}
-use Rattle.toml.specs.Tables.{Nodes, no_nodes, close, key_value, std_table, array_table, put}
-use Rattle.toml.specs.Parse.{read_map, after_byte, after_element, key_equals, keyval, items, members, scalar_data, atom, val, header_key, expression}
-use Rattle.pim_scenario.specs.Pieces.{ends}
-use Rattle.pim_scenario.proofs.PieceBytes.{then_some, map_some}
-use Rattle.pim_scenario.proofs.PieceTexts.{pair_parts, quote_facts, prepend_some, special_some, test_some, after_part, digit_within}
-use Rattle.pim_scenario.proofs.PieceValues.{NeedsText, text_some, key_equals_nil, val_nil, marked}
+use Rattle.std.{proofs.{Common.{◌≡◌, ℕ, zero, suc, ◌+◌, ◌<◌, Bool, true, false, ◌&&◌, ◌==◌, nat_le, nat_lt, List, [], ◌∷◌, ◌++◌, length, take, drop, slice_index, encode_utf8, Option, Some, None, is_some, unwrap_or, option_and_then, refl, sym, ap, ◌∙◌, inl, inr, arith, eqb-true, length-drop}, lemmas.{Bool.{cases_Bool, and_parts, false≢true, Decides.nat_tests}, Option.{none-some, same_Some, cond_some}}}, specs.{List.{prefix_len, list_all}, Char.{is_digit, is_ascii_digit}, Str.Parse.digits_value}}
+use Rattle.toml_parser.{specs.{Lexical.{Read, first, is_ws, is_bare, is_word, split_while, starts_newline, skip_ws, skip_turn, skip_from, skip_blank, skip_lines}, Strings.{Key, hex_len, is_scalar, hex_escape, simple_escape, escape_char, escape, is_plain, at_delims, special, after_piece, body, trim_newline, one_line, quoted, starts_string, simple_key, key_after, key, recursion_limit}, Numbers.{word_len, word_value, unquoted}}}
+use Rattle.toml.{specs.{Data.{Data, string, array, table, Items, no_items, push_item}, Tables.{Nodes, no_nodes, close, key_value, std_table, array_table, put}, Parse.{read_map, after_byte, after_element, key_equals, keyval, items, members, scalar_data, atom, val, header_key, expression}}}
+use Rattle.pim_scenario.{specs.Pieces.ends, proofs.{PieceBytes.{then_some, map_some}, PieceTexts.{pair_parts, quote_facts, prepend_some, special_some, test_some, after_part, digit_within}, PieceValues.{NeedsText, text_some, key_equals_nil, val_nil, marked}}}
 
 abbrev pub Keeps : {A : Type 0} → (List ℕ → Read A) → Type 0
 Keeps {A} f = (t : List ℕ) (a : A) (r : List ℕ) → ends t ≡ true → f t ≡ Some (a, r) → ends r ≡ true

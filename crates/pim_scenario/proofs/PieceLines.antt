@@ -1,15 +1,8 @@
 -- A document that is read piece by piece.
-use Rattle.std.proofs.Common.{◌≡◌, ◌⊎◌, ℕ, zero, suc, ◌+◌, ◌<◌, ◌≤◌, Bool, true, false, cond, ◌==◌, List, [], ◌∷◌, length, Some, None, is_some, unwrap_or, option_and_then, refl, ap, ◌∙◌, subst, inl, inr, arith, length-append}
-use Rattle.std.proofs.lemmas.Bool.{cases_Bool, false≢true}
-use Rattle.std.proofs.lemmas.Bool.Decides.{nat_tests}
-use Rattle.std.proofs.lemmas.Option.{none-some, same_Some, cond_some}
-use Rattle.toml_parser.specs.Lexical.{first, skip_ws, skip_turn, skip_from, skip_blank}
-use Rattle.toml.specs.Tables.{Expression, Document, define}
-use Rattle.toml.specs.Parse.{expression, ends_line, line, lines}
-use Rattle.pim_scenario.proofs.PieceBytes.{on, then_some, skip_ws_local}
-use Rattle.pim_scenario.proofs.PieceValues.{blank_local, expression_local}
-use Rattle.pim_scenario.proofs.PieceEnds.{ends_ws, ends_from, expression_kept}
-use Rattle.pim_scenario.specs.Pieces.{ends}
+use Rattle.std.{proofs.{Common.{◌≡◌, ◌⊎◌, ℕ, zero, suc, ◌+◌, ◌<◌, ◌≤◌, Bool, true, false, cond, ◌==◌, List, [], ◌∷◌, length, Some, None, is_some, unwrap_or, option_and_then, ap, ◌∙◌, subst, inl, inr, arith, length-append}, lemmas.{Bool.{cases_Bool, false≢true, Decides.nat_tests}, Option.{none-some, same_Some, cond_some}}}}
+use Rattle.toml_parser.{specs.Lexical.{skip_ws, skip_turn, skip_from, skip_blank}}
+use Rattle.toml.{specs.{Tables.{Expression, Document, define}, Parse.{expression, ends_line, line, lines}}}
+use Rattle.pim_scenario.{proofs.{PieceBytes.{on, then_some, skip_ws_local}, PieceValues.{blank_local, expression_local}, PieceEnds.{ends_ws, ends_from, expression_kept}}, specs.Pieces.ends}
 
 ends_some : (t : List ℕ) → ends t ≡ true → 0 < length t
 ends_some [] h = absurd (false≢true h)
@@ -36,10 +29,6 @@ line_local m t a r h e =
     let kept : ends r ≡ true = expression_kept t a r h found in
     let some : 0 < length (skip_ws r) = ends_some (skip_ws r) (ends_ws r kept) in
     (rw (expression_local m t a r found, skip_ws_local m r, ends_line_local m (skip_ws r) some, over), kept)
-
-turn_local : (inside : Bool) (c : ℕ) (m t : List ℕ) → skip_turn true inside c (first (on m t)) ≡ skip_turn true inside c (first t)
-turn_local inside c m [] = refl
-turn_local inside c m (d ∷ t) = refl
 
 -- blanks up to the newline at the end
 blank_over : (inside : Bool) (m t : List ℕ) → ends t ≡ true → length (skip_from true inside t) ≡ 0 → skip_from true inside (on m t) ≡ 91 ∷ m

@@ -1,26 +1,7 @@
 -- What is read before the moves, and then move by move, is what the whole document says.
-use Rattle.std.proofs.Common.{◌≡◌, ℕ, suc, ◌-◌, ◌<◌, Bool, true, false, List, [], ◌∷◌, ◌++◌, length, get_or, take, drop, slice_index, slice_index_or, nat_eq, codes, Option, Some, None, is_some, option_map, refl, sym, ap, ◌∙◌, subst, inl, inr, arith, Ordering, Less, Equal, Greater, nat_cmp}
-use Rattle.std.proofs.lemmas.Bool.{and_parts, and_from, or_cases, false≢true, eqb-true, OnTrue_from}
-use Rattle.std.specs.Bool.{OnTrue}
-use Rattle.std.proofs.lemmas.List.{take-append-drop}
-use Rattle.std.proofs.lemmas.Slice.Eq.{bytes_eq-Decides}
-use Rattle.std.specs.List.{AllZip}
-use Rattle.std.specs.Ordering.{match_ordering}
-use Rattle.std.specs.Cmp.Lexicographic.{slice_cmp}
-use Rattle.std.specs.Str.{bytes_eq}
-use Rattle.toml.specs.Data.{Data, array, table, Items, no_items, item, Members, no_members, member, push_item, get_member}
-use Rattle.toml.specs.Tables.{Node, Nodes, no_nodes, node, open_array, close, close_node, insert, get_node}
-use Rattle.toml.specs.Parse.{parse_document}
-use Rattle.pim_scenario.specs.declared.scenario.RouterText.{RouterText}
-use Rattle.pim_scenario.specs.declared.scenario.ScenarioMove.{ScenarioMove}
-use Rattle.pim_scenario.specs.declared.scenario.Scenario.{Scenario}
-use Rattle.pim_scenario.specs.Fields.{has_only, is_known, list_of, list_or_empty, read_or, values_of}
-use Rattle.pim_scenario.specs.Pieces.{ends, move_key, BeginsLine, IsMoveText, BeginsHeader, IsCut, IsReached, HasMoves, EndsWithMoves, SaysMoves, IsMoveAlone}
-use Rattle.pim_scenario.specs.Scenario.{AreRouters, IsMove, IsReadFrom, IsTable}
-use Rattle.pim_scenario.proofs.PieceBytes.{on}
-use Rattle.pim_scenario.proofs.PieceDocuments.{read_head, read_block, read_last, closed_get, absent_node, others_there}
-use Rattle.toml.proofs.NodeLaws.{get_node-insert}
-use Rattle.pim_scenario.proofs.ReadLemmas.{zip_push}
+use Rattle.std.{proofs.{Common.{◌≡◌, ℕ, suc, ◌-◌, ◌<◌, Bool, true, false, List, [], ◌∷◌, ◌++◌, length, get_or, take, drop, slice_index, slice_index_or, nat_eq, codes, Option, Some, None, is_some, option_map, refl, sym, ap, ◌∙◌, subst, inl, inr, arith, Ordering, Less, Equal, Greater, nat_cmp}, lemmas.{Bool.{and_parts, and_from, or_cases, false≢true, eqb-true, OnTrue_from}, List.take-append-drop, Slice.Eq.bytes_eq-Decides}}, specs.{Bool.OnTrue, List.AllZip, Ordering.match_ordering, Cmp.Lexicographic.slice_cmp, Str.bytes_eq}}
+use Rattle.toml.{specs.{Data.{Data, array, table, Items, no_items, item, Members, no_members, member, push_item, get_member}, Tables.{Node, Nodes, no_nodes, node, open_array, close, close_node, insert, get_node}, Parse.parse_document}, proofs.NodeLaws.get_node-insert}
+use Rattle.pim_scenario.{specs.{declared.scenario.{RouterText.RouterText, ScenarioMove.ScenarioMove, Scenario.Scenario}, Fields.{has_only, is_known, list_of, list_or_empty, read_or, values_of}, Pieces.{ends, move_key, BeginsLine, IsMoveText, BeginsHeader, IsCut, IsReached, HasMoves, EndsWithMoves, SaysMoves, IsMoveAlone}, Scenario.{AreRouters, IsMove, IsReadFrom, IsTable}}, proofs.{PieceBytes.on, PieceDocuments.{read_head, read_block, read_last, closed_get, absent_node, others_there}, ReadLemmas.zip_push}}
 
 -- ---- parts of a text
 

@@ -1,15 +1,8 @@
 -- A table that is read alone, and as the last of an array of tables.
-use Rattle.std.proofs.Common.{◌≡◌, ◌⊎◌, ℕ, Bool, true, false, cond, List, [], ◌∷◌, ◌++◌, Option, Some, None, refl, sym, subst, inl, inr, Ordering, Less, Equal, Greater, nat_cmp, is_eq}
-use Rattle.std.proofs.lemmas.Bool.{cases_Bool, true≢false}
-use Rattle.std.proofs.lemmas.Option.{none-some, same_Some}
-use Rattle.std.specs.Ordering.{match_ordering}
-use Rattle.std.specs.Cmp.Lexicographic.{slice_cmp}
-use Rattle.toml_parser.specs.Strings.{Key}
-use Rattle.toml.specs.Data.{Data, Items, same_key}
-use Rattle.toml.specs.Tables.{Node, Nodes, no_nodes, node, value, open_table, open_array, Edit, Expression, Definition, key_value, std_table, array_table, new_node, redefine, at_found, Document, put, define, insert, replace, get_node, along_header, along_dots, at_key, by_header, by_dot, header_node, dot_node, implicit, dotted, header}
-use Rattle.toml.proofs.NodeLaws.{get_node-insert, replace-insert}
-use Rattle.pim_scenario.proofs.PieceBytes.{map_some}
-use Rattle.pim_scenario.proofs.PieceLines.{Stands}
+use Rattle.std.{proofs.{Common.{◌≡◌, ◌⊎◌, ℕ, Bool, true, false, cond, List, [], ◌∷◌, ◌++◌, Option, Some, None, refl, sym, subst, inl, inr, Ordering, Less, Equal, Greater, nat_cmp, is_eq}, lemmas.{Bool.{cases_Bool, true≢false}, Option.{none-some, same_Some}}}, specs.{Ordering.match_ordering, Cmp.Lexicographic.slice_cmp}}
+use Rattle.toml_parser.{specs.Strings.Key}
+use Rattle.toml.{specs.{Data.{Data, Items, same_key}, Tables.{Node, Nodes, no_nodes, node, value, open_table, open_array, Edit, Expression, Definition, key_value, std_table, array_table, new_node, redefine, at_found, Document, put, define, insert, replace, get_node, along_header, along_dots, at_key, by_header, by_dot, header_node, dot_node, implicit, dotted, header}}, proofs.NodeLaws.{get_node-insert, replace-insert}}
+use Rattle.pim_scenario.{proofs.{PieceBytes.map_some, PieceLines.Stands}}
 
 -- no value, but what a header or a dotted key made
 abbrev pub IsOpen : Node → Type 0

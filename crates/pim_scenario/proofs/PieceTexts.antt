@@ -1,17 +1,7 @@
 -- Strings, keys and scalars before a bracket.
-use Rattle.std.proofs.Common.{◌≡◌, ℕ, zero, suc, ◌+◌, ◌<◌, ◌≤◌, Bool, true, false, cond, ◌&&◌, ◌==◌, nat_le, nat_lt, List, [], ◌∷◌, ◌++◌, length, take, drop, slice_index, Option, Some, None, refl, sym, ap, ◌∙◌, inl, inr, arith, eqb-true, length-append, length-drop}
-use Rattle.std.proofs.lemmas.Bool.{cases_Bool, and_parts, true≢false, false≢true, leb-true, le-leb}
-use Rattle.std.proofs.lemmas.Bool.Decides.{nat_tests}
-use Rattle.std.proofs.lemmas.Option.{none-some, same_Some, cond_some}
-use Rattle.std.proofs.lemmas.List.{take-append-le, drop-append-le}
-use Rattle.std.proofs.lemmas.List.Sums.{prefix_len-le-length}
-use Rattle.std.specs.List.{prefix_len, list_all}
-use Rattle.std.specs.Char.{is_digit, is_ascii_digit}
-use Rattle.std.specs.Str.Parse.{digits_value}
-use Rattle.toml_parser.specs.Lexical.{Read, first, is_bare, is_word, split_while, starts_newline, skip_ws}
-use Rattle.toml_parser.specs.Strings.{Key, hex_len, is_scalar, hex_escape, escape_char, escape, is_plain, at_delims, special, prepend, after_piece, body, trim_newline, one_line, quoted, starts_string, simple_key, key_after, key, recursion_limit}
-use Rattle.toml_parser.specs.Numbers.{word_len, word_value, unquoted}
-use Rattle.pim_scenario.proofs.PieceBytes.{on, IsLocal, then_some, map_some, prefix_local, split_local, skip_ws_local, index_local, newline_local, skip_lines_local}
+use Rattle.std.{proofs.{Common.{◌≡◌, ℕ, zero, suc, ◌+◌, ◌<◌, ◌≤◌, Bool, true, false, cond, ◌&&◌, ◌==◌, nat_le, nat_lt, List, [], ◌∷◌, ◌++◌, length, take, drop, slice_index, Option, Some, None, refl, sym, ap, ◌∙◌, inl, inr, arith, eqb-true, length-append, length-drop}, lemmas.{Bool.{cases_Bool, and_parts, true≢false, false≢true, leb-true, le-leb, Decides.nat_tests}, Option.{none-some, same_Some, cond_some}, List.{take-append-le, drop-append-le, Sums.prefix_len-le-length}}}, specs.{List.{prefix_len, list_all}, Char.{is_digit, is_ascii_digit}, Str.Parse.digits_value}}
+use Rattle.toml_parser.{specs.{Lexical.{Read, first, is_bare, is_word, split_while, starts_newline, skip_ws}, Strings.{Key, hex_len, is_scalar, hex_escape, escape_char, escape, is_plain, at_delims, special, prepend, after_piece, body, trim_newline, one_line, quoted, starts_string, simple_key, key_after, key, recursion_limit}, Numbers.{word_len, word_value, unquoted}}}
+use Rattle.pim_scenario.{proofs.PieceBytes.{on, IsLocal, then_some, map_some, prefix_local, split_local, skip_ws_local, index_local, newline_local, skip_lines_local}}
 
 -- a value and a rest that are the same
 pub pair_parts : {A B : Type 0} (p : A × B) (a : A) (b : B) → p ≡ (a, b) → (p.0 ≡ a) × (p.1 ≡ b)
@@ -19,11 +9,6 @@ pair_parts p a b e = (ap (λ q. q.0) e, ap (λ q. q.1) e)
 
 pub drop_one : (m t : List ℕ) → 0 < length t → drop 1 (on m t) ≡ on m (drop 1 t)
 drop_one m t some = drop-append-le 1 t (91 ∷ m) (omega arith)
-
--- a text whose first byte is not 0 is not empty
-pub some_first : (t : List ℕ) → 0 < first t → 0 < length t
-some_first [] h = h
-some_first (c ∷ t) h = omega arith
 
 pub hex_escape_local : (n : ℕ) → IsLocal (hex_escape n)
 unfolding hex_escape
@@ -36,11 +21,6 @@ hex_escape_local n m t a r e =
     let more : nat_le n (length (on m t)) ≡ true = le-leb n (length (on m t)) (omega (arith, length-append t (91 ∷ m))) in
     let (value, rest) = pair_parts (digits_value 16 digits, drop n t) a r same in
     rw (take-append-le n t (91 ∷ m) long, drop-append-le n t (91 ∷ m) long, more, all, scalar, value, rest)
-
-escape_char_some : (t : List ℕ) (a : ℕ) (r : List ℕ) → escape_char t ≡ Some (a, r) → 0 < length t
-unfolding escape_char
-escape_char_some [] a r e = absurd (none-some _ e)
-escape_char_some (c ∷ t) a r e = omega arith
 
 pub escape_char_local : IsLocal escape_char
 unfolding escape_char

@@ -1,16 +1,8 @@
 -- Values and lines before a bracket.
-use Rattle.std.proofs.Common.{◌≡◌, ℕ, zero, suc, ◌<◌, ◌≤◌, true, false, ◌==◌, List, [], ◌∷◌, length, drop, slice_index, Some, None, option_map, option_and_then, refl, sym, ap, ◌∙◌, inl, inr, arith}
-use Rattle.std.proofs.lemmas.Bool.{cases_Bool, false≢true}
-use Rattle.std.proofs.lemmas.Option.{none-some, same_Some, cond_some}
-use Rattle.std.proofs.lemmas.List.{drop-append-le}
-use Rattle.toml_parser.specs.Lexical.{Read, first, skip_ws, skip_blank}
-use Rattle.toml_parser.specs.Strings.{quoted, starts_string, simple_key, key_after, key, recursion_limit}
-use Rattle.toml_parser.specs.Numbers.{word_len, unquoted}
-use Rattle.toml.specs.Data.{Data, string, array, table, Items, no_items, Members, push_item}
-use Rattle.toml.specs.Tables.{Nodes, no_nodes, close, Expression, key_value, std_table, array_table, put}
-use Rattle.toml.specs.Parse.{read_map, after_byte, after_element, key_equals, keyval, items, members, scalar_data, atom, val, header_key, expression}
-use Rattle.pim_scenario.proofs.PieceBytes.{on, IsLocal, then_some, map_some, skip_ws_local, index_local, skip_from_local}
-use Rattle.pim_scenario.proofs.PieceTexts.{pair_parts, drop_one, longer, starts_local, test_local, test_some, quoted_local, key_local, unquoted_local}
+use Rattle.std.{proofs.{Common.{◌≡◌, ℕ, zero, suc, ◌<◌, ◌≤◌, true, false, ◌==◌, List, [], ◌∷◌, length, drop, slice_index, Some, None, option_map, option_and_then, refl, sym, ap, ◌∙◌, inl, inr, arith}, lemmas.{Bool.{cases_Bool, false≢true}, Option.{none-some, same_Some, cond_some}, List.drop-append-le}}}
+use Rattle.toml_parser.{specs.{Lexical.{Read, first, skip_ws, skip_blank}, Strings.{quoted, starts_string, simple_key, key_after, key, recursion_limit}, Numbers.{word_len, unquoted}}}
+use Rattle.toml.{specs.{Data.{Data, string, array, table, Items, no_items, Members, push_item}, Tables.{Nodes, no_nodes, close, Expression, key_value, std_table, array_table, put}, Parse.{read_map, after_byte, after_element, key_equals, keyval, items, members, scalar_data, atom, val, header_key, expression}}}
+use Rattle.pim_scenario.{proofs.{PieceBytes.{on, IsLocal, then_some, map_some, skip_ws_local, index_local, skip_from_local}, PieceTexts.{pair_parts, drop_one, longer, starts_local, test_local, test_some, quoted_local, key_local, unquoted_local}}}
 
 pub read_map_local : {A B : Type 0} (f : A → B) (g : List ℕ → Read A) → IsLocal g → IsLocal (λ t. read_map f (g t))
 read_map_local f g local m t a r e =

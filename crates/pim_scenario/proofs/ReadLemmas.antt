@@ -1,18 +1,7 @@
 -- Lists that are read value by value.
-use Rattle.std.proofs.Common.{zero, suc, arith, ◌≡◌, ◌<◌, ◌≤◌, ◌+◌, ℕ, List, [], ◌∷◌, ◌++◌, take, get_or, length, map, subst, sym, ap, ◌∙◌}
-use Rattle.std.proofs.lemmas.List.{take_more, take_all, length-map, get_or-map}
-use Rattle.std.specs.List.{AllZip}
-use Rattle.std.specs.Prelude.{Result, Ok, Err, Option, Some, None}
-use Rattle.std.specs.Result.{IsErrAnd}
-use Rattle.toml.specs.Data.{Data, Members, as_str, as_table}
-use Rattle.toml.specs.View.{view}
-use Rattle.toml.specs.declared.value.Value.{Value}
-use Rattle.pim_scenario.specs.Scenario.{IsTable, IsText}
-use Rattle.pim_scenario.specs.Words.{AreWords}
-use Rattle.pim_scenario.proofs.WordLemmas.{one_list}
-use Rattle.pim_scenario.specs.declared.scenario.Unread.{Unread}
-use Rattle.pim_scenario.specs.declared.scenario.Unread.TheVariants.{Wrong, NoMemory}
-use Rattle.pim_scenario.specs.Texts.{ReadsExactly}
+use Rattle.std.{proofs.{Common.{zero, suc, arith, ◌≡◌, ◌<◌, ◌≤◌, ◌+◌, ℕ, List, [], ◌∷◌, ◌++◌, take, get_or, length, map, subst, sym, ap, ◌∙◌}, lemmas.List.{take_more, take_all, length-map, get_or-map}}, specs.{List.AllZip, Prelude.{Result, Ok, Err, Option, Some, None}, Result.IsErrAnd}}
+use Rattle.toml.{specs.{Data.{Data, Members, as_str, as_table}, View.view, declared.value.Value.Value}}
+use Rattle.pim_scenario.{specs.{Scenario.{IsTable, IsText}, Words.AreWords, declared.scenario.Unread.{Unread, TheVariants.{Wrong, NoMemory}}, Texts.ReadsExactly}, proofs.WordLemmas.one_list}
 
 pub zip_push : {A B : Type 0} (R : A → B → Type 0) (xs : List A) (ys : List B) (x : A) (y : B)
     → AllZip R xs ys → R x y → AllZip R (xs ++ x ∷ []) (ys ++ y ∷ [])

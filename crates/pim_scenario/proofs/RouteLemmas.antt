@@ -1,8 +1,7 @@
 -- The five words of a route.
-use Rattle.std.proofs.Common.{ℕ, List, [], ◌∷◌, get_or, map}
-use Rattle.std.specs.Borrow.{Bor}
-use Rattle.pim_types.specs.declared.config.Route.{Route}
-use Rattle.pim_scenario.specs.Scenario.{AreRouteWords, IsRouteOf}
+use Rattle.std.{proofs.Common.{ℕ, List, [], ◌∷◌, get_or, map}, specs.Borrow.Bor}
+use Rattle.pim_types.{specs.declared.config.Route.Route}
+use Rattle.pim_scenario.{specs.Scenario.{AreRouteWords, IsRouteOf}}
 
 pub five_words : (d : Bor (List ℕ)) (ws : List (Bor (List ℕ))) (r : Route)
     → AreRouteWords (map (λ (w : Bor (List ℕ)). w.now) ws) r

@@ -1,10 +1,6 @@
 -- A text has one list of words.
-use Rattle.std.proofs.Common.{◌≡◌, ◌<◌, ℕ, true, false, not, List, [], ◌∷◌, ◌++◌, length, map, sym, ap, subst, refl, ◌∙◌, arith, append_assoc, length-append}
-use Rattle.std.specs.Borrow.{Bor}
-use Rattle.std.specs.Char.{encode_utf8, is_whitespace, is_not_whitespace}
-use Rattle.std.specs.Str.{NoCharPasses, NonePass, EmptyOrStartsWithPassing, encode_utf8_all}
-use Rattle.std.proofs.lemmas.Str.{encode_same, length-encode, len_utf8_bounds}
-use Rattle.pim_scenario.specs.Words.{IsNextWord, AreWords}
+use Rattle.std.{proofs.{Common.{◌≡◌, ◌<◌, ℕ, true, false, not, List, [], ◌∷◌, ◌++◌, length, map, sym, ap, subst, refl, ◌∙◌, arith, append_assoc, length-append}, lemmas.Str.{encode_same, length-encode, len_utf8_bounds}}, specs.{Borrow.Bor, Char.{encode_utf8, is_whitespace, is_not_whitespace}, Str.{NoCharPasses, NonePass, EmptyOrStartsWithPassing, encode_utf8_all}}}
+use Rattle.pim_scenario.{specs.Words.{IsNextWord, AreWords}}
 
 -- white space and another character differ
 apart : (c d : ℕ) → is_not_whitespace c ≡ false → is_whitespace d ≡ false → c ≡ d → ⊥

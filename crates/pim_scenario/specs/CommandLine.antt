@@ -1,18 +1,7 @@
 -- What the words of the command line mean, by clap's rules for a simple command.
-use Rattle.std.specs.Prelude.{◌≡◌, ◌≢◌, Bool, true, false, List, [], ◌∷◌, codes, Option, Some, None, option_map, option_and_then, if◌then◌else◌}
-use Rattle.std.specs.Option.{option_map_or}
-use Rattle.std.specs.Str.{bytes_eq}
-use Rattle.clap.specs.Words.{App, Row, Rule, Text, Kinds, IsAmong, first_of, new_app, new_rule, with_rule, with_subcommand, fault_of, subcommand_of}
-use Rattle.clap.specs.declared.builder.action.ArgAction.TheVariants.{SetTrue}
-use Rattle.clap.specs.declared.error.kind.ErrorKind.TheVariants.{DisplayHelp}
-use Rattle.pim_scenario.specs.declared.command_line.Answer.{Answer}
-use Rattle.pim_scenario.specs.declared.command_line.Answer.TheVariants.{Accepted, Refused, Help}
-use Rattle.pim_scenario.specs.declared.command_line.Command.{Command}
-use Rattle.pim_scenario.specs.declared.command_line.Command.TheVariants.{Run, Check}
-use Rattle.pim_scenario.specs.declared.command_line.Tables.{Tables}
-use Rattle.pim_scenario.specs.declared.command_line.Words.{Words}
-use Rattle.pim_scenario.specs.declared.command_line.WireKind.{WireKind}
-use Rattle.pim_scenario.specs.declared.command_line.WireKind.TheVariants.{Memory, Udp}
+use Rattle.std.{specs.{Prelude.{◌≡◌, ◌≢◌, Bool, true, false, List, [], ◌∷◌, codes, Option, Some, None, option_map, option_and_then, if◌then◌else◌}, Option.option_map_or, Str.bytes_eq}}
+use Rattle.clap.{specs.{Words.{App, Row, Rule, Text, Kinds, IsAmong, first_of, new_app, new_rule, with_rule, with_subcommand, fault_of, subcommand_of}, declared.{builder.action.ArgAction.TheVariants.SetTrue, error.kind.ErrorKind.TheVariants.DisplayHelp}}}
+use Rattle.pim_scenario.{specs.declared.command_line.{Answer.{Answer, TheVariants.{Accepted, Refused, Help}}, Command.{Command, TheVariants.{Run, Check}}, Tables.Tables, Words.Words, WireKind.{WireKind, TheVariants.{Memory, Udp}}}}
 
 -- ---- the commands, as clap sees them
 
@@ -73,6 +62,7 @@ pimlab_app = with_subcommand (with_subcommand top_app run_app.top) check_app.top
 
 -- ---- what the words mean
 
+-- What an accepted command line asks for.
 pub record Meaning : Type 0 where
   pub command : Command
   pub file : Text
@@ -125,6 +115,7 @@ abbrev pub meaning_unless : Kinds → Option Meaning → Option Meaning
 meaning_unless [] meaning = meaning
 meaning_unless (k ∷ ks) meaning = None
 
+-- What the words of a command line ask for; none where clap refuses them.
 unfoldable pub meaning_of : List Text → Option Meaning
 meaning_of words =
     meaning_unless (fault_of pimlab_app words) (meant_by (subcommand_of pimlab_app words))

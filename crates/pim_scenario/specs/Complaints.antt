@@ -1,12 +1,10 @@
 -- What is reported where something went wrong.
-use Rattle.std.specs.Io.KnownBytes.{Appends}
-use Rattle.std.specs.Prelude.{ℕ, List, Option, ◌++◌, ◌≡◌, ◌⊎◌, codes, decimal}
-use Rattle.pim_ip.specs.Refusal.{refusal_number}
-use Rattle.pim_ip.specs.declared.fault.Fault.{Fault}
-use Rattle.pim_ip.specs.declared.fault.Fault.TheVariants.{Memory, Failed, Wire}
-use Rattle.pim_scenario.specs.declared.complaint.Complaint.{Complaint}
+use Rattle.std.{specs.{Io.KnownBytes.Appends, Prelude.{ℕ, List, Option, ◌++◌, ◌≡◌, ◌⊎◌, codes, decimal}}}
+use Rattle.pim_ip.{specs.{Refusal.refusal_number, declared.fault.Fault.{Fault, TheVariants.{Memory, Failed, Wire}}}}
+use Rattle.pim_scenario.{specs.declared.complaint.Complaint.Complaint}
 use Rattle.pim_scenario.specs.declared.complaint.Complaint.TheVariants as complaint
 
+-- The status with which the program ends after a fault.
 abbrev pub fault_status : Fault → ℕ
 fault_status Memory = 4
 fault_status Failed = 4
@@ -19,11 +17,13 @@ status_of (complaint.File name) = 2
 status_of (complaint.Scenario refusal) = 2
 status_of (complaint.Fault fault) = fault_status fault
 
+-- The line on standard error after a fault.
 abbrev pub fault_text : Fault → List ℕ
 fault_text Memory = codes "pimlab: no memory"
 fault_text Failed = codes "pimlab: no memory"
 fault_text Wire = codes "pimlab: wire fault"
 
+-- The line on standard error for a complaint.
 abbrev pub complaint_text : Complaint → List ℕ
 complaint_text complaint.CommandLine = codes "pimlab: command line refused"
 complaint_text (complaint.File name) = codes "pimlab: cannot read " ++ name.now

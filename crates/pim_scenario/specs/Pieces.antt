@@ -1,13 +1,7 @@
 -- A document that is read piece by piece: what comes before its moves, and then each move alone.
-use Rattle.std.specs.Prelude.{◌≡◌, ◌≤◌, ◌++◌, ◌⊎◌, ◌&&◌, ℕ, suc, Bool, true, false, not, List, [], ◌∷◌, codes, length, Option, Some, None, is_some, ◌==◌}
-use Rattle.std.specs.List.{AllZip, list_any}
-use Rattle.toml.specs.Data.{Data, array, table, Items, no_items, Members, no_members, member, push_item, as_table}
-use Rattle.toml.specs.Tables.{Node, Nodes, no_nodes, open_array, close, close_node, Document, insert, get_node}
-use Rattle.toml.specs.Parse.{lines, skip_bom, parse_document}
-use Rattle.pim_scenario.specs.declared.scenario.RouterText.{RouterText}
-use Rattle.pim_scenario.specs.declared.scenario.ScenarioMove.{ScenarioMove}
-use Rattle.pim_scenario.specs.Fields.{list_of, values_of}
-use Rattle.pim_scenario.specs.Scenario.{IsMove, IsTable}
+use Rattle.std.{specs.{Prelude.{◌≡◌, ◌≤◌, ◌++◌, ◌⊎◌, ◌&&◌, ℕ, suc, Bool, true, false, not, List, [], ◌∷◌, codes, length, Option, Some, None, is_some, ◌==◌}, List.{AllZip, list_any}}}
+use Rattle.toml.{specs.{Data.{Data, array, table, Items, no_items, Members, no_members, member, push_item, as_table}, Tables.{Node, Nodes, no_nodes, open_array, close, close_node, Document, insert, get_node}, Parse.{lines, skip_bom, parse_document}}}
+use Rattle.pim_scenario.{specs.{declared.scenario.{RouterText.RouterText, ScenarioMove.ScenarioMove}, Fields.{list_of, values_of}, Scenario.{IsMove, IsTable}}}
 
 -- ---- lines
 

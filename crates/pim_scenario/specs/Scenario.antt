@@ -1,28 +1,10 @@
 -- What a document has to say for a scenario to be read from it.
-use Rattle.std.specs.Prelude.{◌≡◌, ◌≢◌, ◌≤◌, ◌++◌, ◌⊎◌, ℕ, true, String, List, [], ◌∷◌, codes, length, Option, Some, None, option_and_then, if◌then◌else◌, string_bytes, position}
-use Rattle.std.specs.List.{All, AllPairs, AllZip, fold}
-use Rattle.std.specs.Option.{is_some}
-use Rattle.std.specs.Str.{bytes_eq}
-use Rattle.toml.specs.Parse.{parse_document}
-use Rattle.toml.specs.Data.{Data, Members, as_str, as_table}
-use Rattle.pim_types.specs.declared.config.Config.{Config}
-use Rattle.pim_types.specs.declared.config.InterfaceConfig.{InterfaceConfig}
-use Rattle.pim_types.specs.declared.config.Route.{Route}
-use Rattle.pim_types.specs.declared.config.RpRange.{RpRange}
-use Rattle.pim_types.specs.declared.config.SptSwitch.{SptSwitch}
-use Rattle.pim_types.specs.declared.config.SptSwitch.TheVariants.{Always, Never}
-use Rattle.pim_types.specs.declared.event.EventKind.{EventKind}
+use Rattle.std.{specs.{Prelude.{◌≡◌, ◌≢◌, ◌≤◌, ◌++◌, ◌⊎◌, ℕ, true, String, List, [], ◌∷◌, codes, length, Option, Some, None, option_and_then, if◌then◌else◌, string_bytes, position}, List.{All, AllPairs, AllZip, fold}, Option.is_some, Str.bytes_eq}}
+use Rattle.toml.{specs.{Parse.parse_document, Data.{Data, Members, as_str, as_table}}}
+use Rattle.pim_types.{specs.declared.{config.{Config.Config, InterfaceConfig.InterfaceConfig, Route.Route, RpRange.RpRange, SptSwitch.{SptSwitch, TheVariants.{Always, Never}}}, event.EventKind.EventKind}}
+use Rattle.igmp_older.{specs.declared.setting.OlderHosts.OlderHosts}
+use Rattle.pim_scenario.{specs.{declared.scenario.{ConfigText.ConfigText, Link.Link, RouterText.RouterText, ScenarioMove.{ScenarioMove, TheVariants.{Event, Deliver, Carry, Reload, Restart, Settle}}, Scenario.Scenario}, Fields.{has_only, table_at, text_at, optional_text, number_at, number_or, moment_at, list_at, list_or_empty}, Texts.{IsNumberText, IsAddressText, IsPrefixText, hex_of}, Words.AreWords}}
 use Rattle.pim_types.specs.declared.event.EventKind.TheVariants as event
-use Rattle.igmp_older.specs.declared.setting.OlderHosts.{OlderHosts}
-use Rattle.pim_scenario.specs.declared.scenario.ConfigText.{ConfigText}
-use Rattle.pim_scenario.specs.declared.scenario.Link.{Link}
-use Rattle.pim_scenario.specs.declared.scenario.RouterText.{RouterText}
-use Rattle.pim_scenario.specs.declared.scenario.ScenarioMove.{ScenarioMove}
-use Rattle.pim_scenario.specs.declared.scenario.ScenarioMove.TheVariants.{Event, Deliver, Carry, Reload, Restart, Settle}
-use Rattle.pim_scenario.specs.declared.scenario.Scenario.{Scenario}
-use Rattle.pim_scenario.specs.Fields.{has_only, table_at, text_at, optional_text, number_at, number_or, moment_at, list_at, list_or_empty}
-use Rattle.pim_scenario.specs.Texts.{IsNumberText, IsAddressText, IsPrefixText, hex_of}
-use Rattle.pim_scenario.specs.Words.{AreWords}
 
 -- ---- routes and RP ranges
 
@@ -34,6 +16,7 @@ pub record IsRouteOf (prefix next_hop iface preference metric : List ℕ) (r : R
   pub preference_text : IsNumberText preference r.preference
   pub metric_text : IsNumberText metric r.metric
 
+-- The five words of a route: prefix, next hop, interface, preference, metric.
 abbrev pub AreRouteWords : List (List ℕ) → Route → Type 0
 AreRouteWords (prefix ∷ next_hop ∷ iface ∷ preference ∷ metric ∷ []) r =
     IsRouteOf prefix next_hop iface preference metric r
@@ -65,6 +48,7 @@ AreRead Says values xs = (ds : List Data) × (values ≡ Some ds) × AllZip Says
 abbrev pub interface_keys : List (List ℕ)
 interface_keys = codes "link" ∷ codes "address" ∷ codes "priority" ∷ codes "propagation" ∷ codes "override" ∷ []
 
+-- A table `iface` is an interface of a configuration.
 pub record IsInterface (ms : Members) (i : InterfaceConfig) : Type 0 where
   pub keys : has_only interface_keys ms ≡ true
   pub subnet_text : List ℕ
@@ -74,6 +58,7 @@ pub record IsInterface (ms : Members) (i : InterfaceConfig) : Type 0 where
   pub propagation_delay : number_or 500 (codes "propagation") ms ≡ Some i.propagation_delay
   pub override_interval : number_or 2500 (codes "override") ms ≡ Some i.override_interval
 
+-- A table `iface` names the link of its interface.
 abbrev pub IsLink : Members → Link → Type 0
 IsLink ms l = text_at (codes "link") ms ≡ Some (string_bytes l.name)
 
@@ -86,6 +71,7 @@ spt_switch_named (Some name) =
 abbrev pub spt_switch_at : Members → Option SptSwitch
 spt_switch_at ms = option_and_then spt_switch_named (optional_text (codes "spt") ms)
 
+-- A table `router` is a configuration.
 pub record IsConfig (ms : Members) (c : Config) : Type 0 where
   pub limit : number_or 65536 (codes "limit") ms ≡ Some c.limit
   pub spt : spt_switch_at ms ≡ Some c.spt
@@ -111,6 +97,7 @@ router_keys =
     codes "name" ∷ codes "iface" ∷ codes "limit" ∷ codes "spt" ∷ codes "rv" ∷ codes "qi" ∷ codes "qri"
     ∷ codes "lmqi" ∷ codes "older_hosts" ∷ codes "routes" ∷ codes "rps" ∷ []
 
+-- A table `router` is a router with its name, its links and its configuration.
 pub record IsRouter (ms : Members) (r : RouterText) : Type 0 where
   pub keys : has_only router_keys ms ≡ true
   pub name : text_at (codes "name") ms ≡ Some (string_bytes r.name)
@@ -130,6 +117,7 @@ config_keys =
 abbrev pub NamesLink : {Z : Type 0} → Members → String Z → Type 0
 NamesLink ms name = text_at (codes "link") ms ≡ Some (string_bytes name)
 
+-- A table `config` is another configuration of a router, with its links.
 pub record IsConfigText (ms : Members) (c : ConfigText) : Type 0 where
   pub keys : has_only config_keys ms ≡ true
   pub interfaces : AreRead (IsTable IsInterface) (list_at (codes "iface") ms) c.config.interfaces
@@ -218,36 +206,43 @@ reload_keys = codes "do" ∷ codes "router" ∷ codes "draw" ∷ codes "config" 
 abbrev pub bytes_at : Members → Option (List ℕ)
 bytes_at ms = option_and_then hex_of (text_at (codes "hex") ms)
 
+-- A table `move` is an event by which time passes.
 abbrev pub IsAdvance : Members → EventKind → Type 0
 IsAdvance ms (event.Advance moment) =
     (has_only advance_keys ms ≡ true) × (moment_at (codes "moment") ms ≡ Some moment)
 IsAdvance ms _ = ⊥
 
+-- A table `move` is an event by which an interface goes up.
 abbrev pub IsUp : Members → EventKind → Type 0
 IsUp ms (event.Up iface) =
     (has_only iface_keys ms ≡ true) × (number_at (codes "iface") ms ≡ Some iface.number)
 IsUp ms _ = ⊥
 
+-- A table `move` is an event by which an interface goes down.
 abbrev pub IsDown : Members → EventKind → Type 0
 IsDown ms (event.Down iface) =
     (has_only iface_keys ms ≡ true) × (number_at (codes "iface") ms ≡ Some iface.number)
 IsDown ms _ = ⊥
 
+-- A table `move` is an event that brings new routes.
 abbrev pub IsRoutes : Members → EventKind → Type 0
 IsRoutes ms (event.Routes routes) =
     (has_only list_keys ms ≡ true) × AreRead (IsText AreRouteWords) (list_at (codes "list") ms) routes
 IsRoutes ms _ = ⊥
 
+-- A table `move` is an event that brings new RP ranges.
 abbrev pub IsRps : Members → EventKind → Type 0
 IsRps ms (event.Rps rps) =
     (has_only list_keys ms ≡ true) × AreRead (IsText AreRpWords) (list_at (codes "list") ms) rps
 IsRps ms _ = ⊥
 
+-- A table `move` is a packet that comes on an interface.
 abbrev pub IsFrame : Members → EventKind → Type 0
 IsFrame ms (event.Frame iface bytes) =
     (has_only frame_keys ms ≡ true) × (number_at (codes "iface") ms ≡ Some iface.number) × (bytes_at ms ≡ Some bytes)
 IsFrame ms _ = ⊥
 
+-- A table `move` is a packet that comes to an address of the router.
 abbrev pub IsUnicast : Members → EventKind → Type 0
 IsUnicast ms (event.Unicast bytes) = (has_only unicast_keys ms ≡ true) × (bytes_at ms ≡ Some bytes)
 IsUnicast ms _ = ⊥
@@ -274,11 +269,13 @@ router_at routers ms = option_and_then (place_of routers) (text_at (codes "route
 abbrev pub draw_at : Members → Option ℕ
 draw_at ms = number_or 0 (codes "draw") ms
 
+-- A table `move` is an event at a router.
 abbrev pub IsEvent : List RouterText → Members → ScenarioMove → Type 0
 IsEvent routers ms (Event router e) =
     (router_at routers ms ≡ Some router) × (draw_at ms ≡ Some e.draw) × IsKind ms e.kind
 IsEvent routers ms _ = ⊥
 
+-- A table `move` delivers a frame to an interface of a router.
 abbrev pub IsDeliver : List RouterText → Members → ScenarioMove → Type 0
 IsDeliver routers ms (Deliver router iface frame draw) =
     (has_only deliver_keys ms ≡ true) × (router_at routers ms ≡ Some router)
@@ -286,16 +283,19 @@ IsDeliver routers ms (Deliver router iface frame draw) =
     × (draw_at ms ≡ Some draw)
 IsDeliver routers ms _ = ⊥
 
+-- A table `move` delivers a unicast packet to a router.
 abbrev pub IsCarry : List RouterText → Members → ScenarioMove → Type 0
 IsCarry routers ms (Carry router frame draw) =
     (has_only carry_keys ms ≡ true) × (router_at routers ms ≡ Some router)
     × (number_at (codes "frame") ms ≡ Some frame) × (draw_at ms ≡ Some draw)
 IsCarry routers ms _ = ⊥
 
+-- A table `move` delivers all that waits.
 abbrev pub IsSettle : Members → ScenarioMove → Type 0
 IsSettle ms (Settle draw) = (has_only settle_keys ms ≡ true) × (draw_at ms ≡ Some draw)
 IsSettle ms _ = ⊥
 
+-- A table `move` restarts a router from its saved state.
 abbrev pub IsRestart : List RouterText → Members → ScenarioMove → Type 0
 IsRestart routers ms (Restart router) = (has_only restart_keys ms ≡ true) × (router_at routers ms ≡ Some router)
 IsRestart routers ms _ = ⊥
@@ -304,6 +304,7 @@ IsRestart routers ms _ = ⊥
 abbrev pub IsConfigAt : Members → ConfigText → Type 0
 IsConfigAt ms c = (inner : Members) × (table_at (codes "config") ms ≡ Some inner) × IsConfigText inner c
 
+-- A table `move` puts a router under another configuration.
 abbrev pub IsReload : List RouterText → Members → ScenarioMove → Type 0
 IsReload routers ms (Reload router draw next) =
     (has_only reload_keys ms ≡ true) × (router_at routers ms ≡ Some router) × (draw_at ms ≡ Some draw)
@@ -322,6 +323,7 @@ IsMove routers ms m =
 
 -- ---- the scenario
 
+-- A TOML document is a scenario: its routers, and then its moves.
 pub record IsScenario (ms : Members) (s : Scenario) : Type 0 where
   pub keys : has_only (codes "router" ∷ codes "move" ∷ []) ms ≡ true
   pub routers : (ds : List Data) × (list_or_empty (codes "router") ms ≡ Some ds) × AreRouters ds s.routers

@@ -1,12 +1,7 @@
 -- The texts in which a scenario writes bytes and numbers.
-use Rattle.std.specs.Prelude.{◌≡◌, ⊤, ℕ, ◌+◌, ◌-◌, ◌*◌, ◌^◌, ◌&&◌, List, [], ◌∷◌, Option, Some, None, option_map, option_and_then, Result, Ok, Err, if◌then◌else◌, nat_le, ◌==◌, ◌<◌, length}
-use Rattle.std.specs.List.{before_first, after_first, position_or_len}
-use Rattle.std.specs.Str.Parse.{IsNumeral, digits_value}
-use Rattle.pim_ip.specs.Addr.{dotted_text}
-use Rattle.pim_ip.specs.declared.addr.Addr.{Addr}
-use Rattle.pim_ip.specs.declared.addr.Prefix.{Prefix}
-use Rattle.pim_scenario.specs.declared.scenario.Unread.{Unread}
-use Rattle.pim_scenario.specs.declared.scenario.Unread.TheVariants.{Wrong, NoMemory}
+use Rattle.std.{specs.{Prelude.{◌≡◌, ⊤, ℕ, ◌+◌, ◌-◌, ◌*◌, ◌^◌, ◌&&◌, List, [], ◌∷◌, Option, Some, None, option_map, option_and_then, Result, Ok, Err, if◌then◌else◌, nat_le, ◌==◌, ◌<◌, length}, List.{before_first, after_first, position_or_len}, Str.Parse.{IsNumeral, digits_value}}}
+use Rattle.pim_ip.{specs.{Addr.dotted_text, declared.addr.{Addr.Addr, Prefix.Prefix}}}
+use Rattle.pim_scenario.{specs.declared.scenario.Unread.{Unread, TheVariants.{Wrong, NoMemory}}}
 
 -- what was read is what there is, and nothing was wrong that is there; memory may have run out
 abbrev pub Reads : {X V : Type 0} → (X → V) → Result X Unread → Option V → Type 0

@@ -1,7 +1,5 @@
 -- The words of a text.
-use Rattle.std.specs.Prelude.{◌≡◌, ◌<◌, ◌++◌, ℕ, List, [], ◌∷◌, length}
-use Rattle.std.specs.Char.{is_whitespace, is_not_whitespace}
-use Rattle.std.specs.Str.{NoCharPasses, EmptyOrStartsWithPassing}
+use Rattle.std.{specs.{Prelude.{◌≡◌, ◌<◌, ◌++◌, ℕ, List, [], ◌∷◌, length}, Char.{is_whitespace, is_not_whitespace}, Str.{NoCharPasses, EmptyOrStartsWithPassing}}}
 
 -- the text is white space, the word, and the rest, which is empty or begins with white space
 pub record IsNextWord (text word rest : List ℕ) : Type 0 where

@@ -16,9 +16,9 @@ use std::alloc::{AllocError, Global};
 /// What is to be done with the scenario.
 #[derive(Clone, Copy)]
 pub enum Command {
-    /// Its moves are done, and their outcomes are printed.
+    /// `run`: the scenario's moves are done, and their outcomes are printed.
     Run,
-    /// It is read, and its routers are made.
+    /// `check`: the scenario is read, and its routers are made.
     Check,
 }
 
@@ -33,9 +33,9 @@ pub enum WireKind {
 /// Which tables are printed.
 #[derive(Clone, Copy)]
 pub struct Tables {
-    /// After each answer and its packets the tables of the router that answered.
+    /// `--tables-each`: the tables of the router that answered, after each answer and its packets.
     pub after_each: bool,
-    /// At the end the tables of all routers.
+    /// `--tables`: the tables of all routers, after the last move.
     pub at_end: bool,
 }
 
@@ -57,9 +57,9 @@ pub struct Words<'a> {
 #[derive(Drop)]
 pub enum Answer<'a> {
     Accepted(Words<'a>),
-    /// It has a mistake.
+    /// The command line has a mistake.
     Refused,
-    /// It asks for help: the text to print.
+    /// The command line asks for help: the text to print.
     Help(String),
 }
 

@@ -1,23 +1,10 @@
 -- A session's machine is the router alone, or the joined machine.
-use Rattle.std.specs.Option.{option_map_or}
-use Rattle.std.proofs.Common.{◌≡◌, ◌∙◌, ap, refl, sym, ℕ, Bool, true, false, List, [], ◌∷◌, Option, Some, None, Result, Ok, Err, map, slice_get, if◌then◌else◌}
-use Rattle.pim_ip.specs.declared.refusal.Refusal.{Refusal}
-use Rattle.pim_types.specs.declared.event.Event.{Event}
-use Rattle.pim_types.specs.declared.event.EventKind.{EventKind}
-use Rattle.pim_types.specs.declared.outcome.Emission.{Emission}
-use Rattle.pim_types.specs.declared.outcome.Outcome.{Outcome}
-use Rattle.pim_types.specs.declared.outcome.Verdict.{Verdict}
-use Rattle.pim_model.specs.State.{State}
-use Rattle.pim_model.specs.Step.{outcome_of, ran, run, state_after, step}
-use Rattle.igmp_older.specs.Joined.{Both, joined, joined_step, known_after, known_if, noted_if, older_of, present_end, rows_of}
-use Rattle.igmp_older.specs.Presence.{Present, doubted, has_room, hosts_on, left, looked, noted_of, report_noted, setting_or_nobody}
-use Rattle.igmp_older.specs.Routers.{queried, query_packet}
-use Rattle.igmp_older.specs.Translation.{translation}
-use Rattle.igmp_older.specs.declared.older.Older.{Older}
-use Rattle.igmp_older.specs.declared.older.OlderKind.{OlderKind}
-use Rattle.igmp_older.specs.declared.setting.OlderHosts.{OlderHosts}
-use Rattle.pim_session.specs.Front.{Front, both, bytes_queried, emission_left, emissions_left, event_queried, front_after, given, kind_queried, queries_heard, version_on}
-use Rattle.pim_session.specs.Laws.{Served, SessionIsJoined, WithoutFrontNothingChanges, outcome_left, session_run, session_step}
+use Rattle.std.{specs.Option.option_map_or, proofs.Common.{◌≡◌, ◌∙◌, ap, refl, sym, ℕ, Bool, true, false, List, [], ◌∷◌, Option, Some, None, Result, Ok, Err, map, slice_get, if◌then◌else◌}}
+use Rattle.pim_ip.{specs.declared.refusal.Refusal.Refusal}
+use Rattle.pim_types.{specs.declared.{event.{Event.Event, EventKind.EventKind}, outcome.{Emission.Emission, Outcome.Outcome, Verdict.Verdict}}}
+use Rattle.pim_model.{specs.{State.State, Step.{outcome_of, ran, run, state_after, step}}}
+use Rattle.igmp_older.{specs.{Joined.{Both, joined, joined_step, known_after, known_if, noted_if, older_of, present_end, rows_of}, Presence.{Present, doubted, has_room, hosts_on, left, looked, noted_of, report_noted, setting_or_nobody}, Routers.{queried, query_packet}, Translation.translation, declared.{older.{Older.Older, OlderKind.OlderKind}, setting.OlderHosts.OlderHosts}}}
+use Rattle.pim_session.{specs.{Front.{Front, both, bytes_queried, emission_left, emissions_left, event_queried, front_after, given, kind_queried, queries_heard, version_on}, Laws.{Served, SessionIsJoined, WithoutFrontNothingChanges, outcome_left, session_run, session_step}}}
 
 -- ---- nothing stands before the router
 

@@ -1,37 +1,14 @@
 -- What a router and what stands before it make of an event.
-use Rattle.std.specs.Option.{option_map_or}
-use Rattle.std.proofs.Common.{◌≡◌, ◌∙◌, ◌++◌, ◌&&◌, ◌+◌, ap, refl, sym, subst, ℕ, Bool, true, false, is_none, nat_lt, List, [], map, Option, Some, None, option_map, Result, Ok, Err, IfOk, IfSome, IsTrue, IsOk, if◌then◌else◌}
-use Rattle.std.specs.Prelude.{option_and_then}
-use Rattle.pim_ip.specs.declared.fault.Fault.{Fault}
-use Rattle.pim_ip.specs.declared.refusal.Refusal.{Refusal}
-use Rattle.pim_types.specs.declared.config.IfaceId.{IfaceId}
-use Rattle.pim_types.specs.declared.event.Event.{Event}
-use Rattle.pim_types.specs.declared.event.EventKind.{EventKind}
-use Rattle.pim_types.specs.declared.fact.Key.{Key}
-use Rattle.pim_types.specs.declared.outcome.Emission.{Emission}
-use Rattle.pim_types.specs.declared.outcome.Verdict.{Verdict}
-use Rattle.pim_model.specs.Querier.{group_membership_interval}
-use Rattle.pim_model.specs.State.{State, iface_count}
-use Rattle.pim_model.specs.Step.{Answered, step}
-use Rattle.pim_model.specs.Sure.{needs_no_memory}
-use Rattle.pim_model.specs.Tables.{has_row, row_at}
-use Rattle.pim_laws.proofs.UnchangedLaws.{ignored_unchanged, refused_unchanged}
-use Rattle.pim_reach.specs.Named.{event_named}
-use Rattle.pim_event.specs.Costs.{IsCheap}
-use Rattle.pim_event.specs.Disturbing.{event_disturbed}
-use Rattle.pim_event.specs.Listing.{ListsSame}
-use Rattle.pim_router.specs.Standing.{Shown as RouterShown, Standing, standing}
-use Rattle.pim_event.specs.Staying.{OffersStay}
-use Rattle.igmp_older.specs.Joined.{bytes_given, event_given, joined_step, kind_given, known_after, known_if, noted_answered, noted_if, older_in, older_of, present_end, rows_of}
-use Rattle.igmp_older.specs.Presence.{Present, hosts_on, left, live_rows, looked, rows_told}
-use Rattle.igmp_older.specs.Routers.{OlderQueried, Wrote, queried, query_packet}
-use Rattle.igmp_older.specs.Translation.{Gives, Translation, packet_given, translation}
-use Rattle.igmp_older.specs.declared.front.Given.{Given}
-use Rattle.igmp_older.specs.declared.mode.OlderRow.{OlderRow}
-use Rattle.igmp_older.specs.declared.older.Older.{Older}
-use Rattle.pim_session.specs.Behind.{Gave, Stepped, Took, frame_event, is_done, is_plain, packet_of}
-use Rattle.pim_session.specs.Front.{Front, both, bytes_queried, emission_left, emissions_left, event_queried, front_after, front_of, given, hears_queries, interface_test, is_query_passed, is_sure, kind_queried, older_rows}
-use Rattle.pim_session.proofs.FrontLaws.{emissions_same}
+use Rattle.std.{specs.{Option.option_map_or, Prelude.option_and_then}, proofs.Common.{◌≡◌, ◌∙◌, ◌++◌, ◌&&◌, ◌+◌, ap, refl, sym, subst, ℕ, Bool, true, false, is_none, nat_lt, List, [], map, Option, Some, None, option_map, Result, Ok, Err, IfOk, IfSome, IsTrue, IsOk, if◌then◌else◌}}
+use Rattle.pim_ip.{specs.declared.{fault.Fault.Fault, refusal.Refusal.Refusal}}
+use Rattle.pim_types.{specs.declared.{config.IfaceId.IfaceId, event.{Event.Event, EventKind.EventKind}, fact.Key.Key, outcome.{Emission.Emission, Verdict.Verdict}}}
+use Rattle.pim_model.{specs.{Querier.group_membership_interval, State.{State, iface_count}, Step.{Answered, step}, Sure.needs_no_memory, Tables.{has_row, row_at}}}
+use Rattle.law_settled.{proofs.UnchangedLaws.{ignored_unchanged, refused_unchanged}}
+use Rattle.law_named.{specs.Named.event_named}
+use Rattle.pim_event.{specs.{Costs.IsCheap, Disturbing.event_disturbed, Listing.ListsSame, Staying.OffersStay}}
+use Rattle.pim_router.{specs.Standing.{Shown as RouterShown, Standing, standing}}
+use Rattle.igmp_older.{specs.{Joined.{bytes_given, event_given, joined_step, kind_given, known_after, known_if, noted_answered, noted_if, older_in, older_of, present_end, rows_of}, Presence.{Present, hosts_on, left, live_rows, looked, rows_told}, Routers.{OlderQueried, Wrote, queried, query_packet}, Translation.{Gives, Translation, packet_given, translation}, declared.{front.Given.Given, mode.OlderRow.OlderRow, older.Older.Older}}}
+use Rattle.pim_session.{specs.{Behind.{Gave, Stepped, Took, frame_event, is_done, is_plain, packet_of}, Front.{Front, both, bytes_queried, emission_left, emissions_left, event_queried, front_after, front_of, given, hears_queries, interface_test, is_query_passed, is_sure, kind_queried, older_rows}}, proofs.FrontLaws.emissions_same}
 
 -- ---- the router is asked
 

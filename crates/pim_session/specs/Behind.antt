@@ -1,22 +1,13 @@
 -- What a router and what stands before it show after an event that had no fault.
-use Rattle.std.specs.Prelude.{◌≡◌, ◌++◌, Bool, true, false, ℕ, List, Option, Result, Ok, Err, Some}
-use Rattle.pim_ip.specs.declared.refusal.Refusal.{Refusal}
-use Rattle.pim_types.specs.declared.config.IfaceId.{IfaceId}
-use Rattle.pim_types.specs.declared.event.Event.{Event}
-use Rattle.pim_types.specs.declared.event.EventKind.{EventKind}
-use Rattle.pim_types.specs.declared.outcome.Emission.{Emission}
-use Rattle.pim_types.specs.declared.outcome.Verdict.{Verdict}
-use Rattle.pim_model.specs.State.{State}
-use Rattle.pim_model.specs.Step.{step}
-use Rattle.pim_reach.specs.Named.{event_named}
-use Rattle.pim_event.specs.Costs.{IsCheap}
-use Rattle.pim_event.specs.Disturbing.{event_disturbed}
-use Rattle.pim_event.specs.Listing.{ListsSame}
-use Rattle.pim_router.specs.Standing.{Shown as RouterShown, standing}
-use Rattle.pim_event.specs.Staying.{OffersStay}
-use Rattle.igmp_older.specs.Joined.{event_given, joined_step}
-use Rattle.igmp_older.specs.declared.front.Given.{Given}
-use Rattle.pim_session.specs.Front.{Front, both, emissions_left, front_after, given}
+use Rattle.std.{specs.Prelude.{◌≡◌, ◌++◌, Bool, true, false, ℕ, List, Option, Result, Ok, Err, Some}}
+use Rattle.pim_ip.{specs.declared.refusal.Refusal.Refusal}
+use Rattle.pim_types.{specs.declared.{config.IfaceId.IfaceId, event.{Event.Event, EventKind.EventKind}, outcome.{Emission.Emission, Verdict.Verdict}}}
+use Rattle.pim_model.{specs.{State.State, Step.step}}
+use Rattle.law_named.{specs.Named.event_named}
+use Rattle.pim_event.{specs.{Costs.IsCheap, Disturbing.event_disturbed, Listing.ListsSame, Staying.OffersStay}}
+use Rattle.pim_router.{specs.Standing.{Shown as RouterShown, standing}}
+use Rattle.igmp_older.{specs.{Joined.{event_given, joined_step}, declared.front.Given.Given}}
+use Rattle.pim_session.{specs.Front.{Front, both, emissions_left, front_after, given}}
 
 -- A router took an event: what it answered, what it shows, and what was sent, behind what was sent before.
 pub record Gave (s : State) (e : Event) (before : List Emission) (answered : Result Verdict Refusal)

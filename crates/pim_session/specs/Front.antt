@@ -1,27 +1,17 @@
 -- What stands before a router for hosts and routers of older versions of IGMP (RFC 3376, section 7.3), and what an
 -- event is behind it.
-use Rattle.std.specs.Option.{option_map_or}
-use Rattle.std.specs.Prelude.{ℕ, Bool, true, false, ◌&&◌, is_none, nat_lt, if◌then◌else◌, List, [], map, replicate, slice_get, slice_set, Option, Some, None, Result, Ok, Err, unwrap_or}
-use Rattle.pim_ip.specs.declared.refusal.Refusal.{Refusal}
-use Rattle.pim_types.specs.declared.event.Event.{Event}
-use Rattle.pim_types.specs.declared.event.EventKind.{EventKind}
-use Rattle.pim_types.specs.declared.outcome.Emission.{Emission}
-use Rattle.pim_model.specs.State.{State, iface_count}
-use Rattle.pim_model.specs.Step.{step}
-use Rattle.pim_model.specs.Sure.{needs_no_memory}
-use Rattle.igmp_older.specs.Joined.{Both, event_given, joined_step, rows_of}
-use Rattle.igmp_older.specs.Presence.{Present, hosts_on, rows_told, with_hosts}
-use Rattle.igmp_older.specs.Routers.{cut, queried, query_packet}
-use Rattle.igmp_older.specs.Translation.{translation}
-use Rattle.igmp_older.specs.declared.mode.OlderRow.{OlderRow}
-use Rattle.igmp_older.specs.declared.setting.OlderHosts.{OlderHosts}
-use Rattle.igmp_older.specs.declared.setting.QueryVersion.{QueryVersion}
+use Rattle.std.{specs.{Option.option_map_or, Prelude.{ℕ, Bool, true, false, ◌&&◌, is_none, nat_lt, if◌then◌else◌, List, [], map, replicate, slice_get, slice_set, Option, Some, None, Result, Ok, Err, unwrap_or}}}
+use Rattle.pim_ip.{specs.declared.refusal.Refusal.Refusal}
+use Rattle.pim_types.{specs.declared.{event.{Event.Event, EventKind.EventKind}, outcome.Emission.Emission}}
+use Rattle.pim_model.{specs.{State.{State, iface_count}, Step.step, Sure.needs_no_memory}}
+use Rattle.igmp_older.{specs.{Joined.{Both, event_given, joined_step, rows_of}, Presence.{Present, hosts_on, rows_told, with_hosts}, Routers.{cut, queried, query_packet}, Translation.translation, declared.{mode.OlderRow.OlderRow, setting.{OlderHosts.OlderHosts, QueryVersion.QueryVersion}}}}
 
 -- what is known of older hosts, and the versions in which the interfaces query, by their numbers
 pub record Front : Type 0 where
   pub present : Present
   pub versions : List QueryVersion
 
+-- a version in which an interface queries, or version 3
 abbrev pub version_or_three : Option QueryVersion → QueryVersion
 version_or_three None = QueryVersion.Three
 version_or_three (Some version) = version
@@ -39,6 +29,7 @@ queries_heard OlderHosts.All QueryVersion.Three = true
 queries_heard OlderHosts.VersionTwo QueryVersion.Three = true
 queries_heard OlderHosts.Nobody QueryVersion.Three = false
 
+-- queries of version 2 are heard on an interface
 abbrev pub hears_queries : Front → ℕ → Bool
 hears_queries f i = queries_heard (hosts_on f.present i) (version_on f i)
 
@@ -47,6 +38,7 @@ unfoldable pub bytes_queried : Front → ℕ → List ℕ → List ℕ
 bytes_queried f i bytes =
     if hears_queries f i then option_map_or query_packet (queried bytes) bytes else bytes
 
+-- an event's kind with an older query as one of version 3
 unfoldable pub kind_queried : Front → EventKind → EventKind
 kind_queried f (EventKind.Frame i bytes) = EventKind.Frame i (bytes_queried f i.number bytes)
 kind_queried f (EventKind.Advance moment) = EventKind.Advance moment
@@ -56,9 +48,11 @@ kind_queried f (EventKind.Down i) = EventKind.Down i
 kind_queried f (EventKind.Routes routes) = EventKind.Routes routes
 kind_queried f (EventKind.Rps rps) = EventKind.Rps rps
 
+-- an event with an older query as one of version 3
 abbrev pub event_queried : Front → Event → Event
 event_queried f e = record { draw = e.draw; kind = kind_queried f e.kind }
 
+-- what the front knows of older hosts, and the state of the router behind it
 abbrev pub both : Front → State → Both
 both f s = record { present = f.present; state = s }
 
@@ -75,6 +69,7 @@ front_after (Some f) s e = Some (record f { present = (joined_step (both f s) (e
 
 -- ---- emissions as they leave
 
+-- a packet as it leaves on an interface that queries in a version
 abbrev pub bytes_left : QueryVersion → List ℕ → List ℕ
 bytes_left QueryVersion.Two bytes = unwrap_or (cut bytes) bytes
 bytes_left QueryVersion.Three bytes = bytes
@@ -84,12 +79,14 @@ unfoldable pub emission_left : Front → Emission → Emission
 emission_left f (Emission.Link i bytes) = Emission.Link i (bytes_left (version_on f i.number) bytes)
 emission_left f (Emission.Unicast destination bytes) = Emission.Unicast destination bytes
 
+-- packets as they leave behind a front, if there is one
 unfoldable pub emissions_left : Option Front → List Emission → List Emission
 emissions_left None sent = sent
 emissions_left (Some f) sent = map (emission_left f) sent
 
 -- ---- what takes no memory
 
+-- the front leaves queries on an interface alone, or the packet is no query of version 2
 abbrev pub is_query_passed : Bool → List ℕ → Bool
 is_query_passed true bytes = is_none (queried bytes)
 is_query_passed false bytes = true
@@ -115,6 +112,7 @@ unset s = record {
   versions = replicate (iface_count s) QueryVersion.Three;
 }
 
+-- the front of a session, or one without settings
 abbrev pub front_of : State → Option Front → Front
 front_of s None = unset s
 front_of s (Some f) = f

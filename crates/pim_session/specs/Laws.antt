@@ -1,12 +1,9 @@
 -- What holds of a session's machine: a router with what stands before it.
-use Rattle.std.specs.List.{AllByRecursion}
-use Rattle.std.specs.Prelude.{◌≡◌, ℕ, List, [], ◌∷◌, Option, None, Some, map}
-use Rattle.pim_types.specs.declared.event.Event.{Event}
-use Rattle.pim_types.specs.declared.outcome.Outcome.{Outcome}
-use Rattle.pim_model.specs.State.{State}
-use Rattle.pim_model.specs.Step.{Answered, outcome_of, run, state_after, step}
-use Rattle.igmp_older.specs.Joined.{joined, joined_step}
-use Rattle.pim_session.specs.Front.{Front, both, emissions_left, event_queried, front_after, given}
+use Rattle.std.{specs.{List.AllByRecursion, Prelude.{◌≡◌, ℕ, List, [], ◌∷◌, Option, None, Some, map}}}
+use Rattle.pim_types.{specs.declared.{event.Event.Event, outcome.Outcome.Outcome}}
+use Rattle.pim_model.{specs.{State.State, Step.{Answered, outcome_of, run, state_after, step}}}
+use Rattle.igmp_older.{specs.Joined.{joined, joined_step}}
+use Rattle.pim_session.{specs.Front.{Front, both, emissions_left, event_queried, front_after, given}}
 
 -- what stands before the router, and the router's state
 pub record Served : Type 0 where
@@ -16,7 +13,7 @@ pub record Served : Type 0 where
 abbrev pub outcome_left : Option Front → Outcome → Outcome
 outcome_left front o = record o { emissions = emissions_left front o.emissions }
 
--- one event
+-- one event at a session, by its front and its router
 unfoldable pub session_step : Served → Event → Outcome × Served
 session_step x e =
     let a : Answered = step x.state (given x.front x.state e) in
@@ -30,15 +27,15 @@ session_run x (e ∷ es) =
     let later : List Outcome × Served = session_run first.1 es in
     (first.0 ∷ later.0, later.1)
 
--- Where nothing stands before the router the session is the router.
+-- A session with no front before its router is the router.
 abbrev pub WithoutFrontNothingChanges : Type 0
 WithoutFrontNothingChanges =
     (s : State) (es : List Event)
     → session_run (record { front = None; state = s }) es
     ≡ (run s es, record { front = None; state = state_after s es })
 
--- Where something does, the session is the joined machine, fed with older queries as those of version 3, whose queries
--- leave cut where an interface queries in version 2.
+-- A session with a front for older hosts before its router is the joined machine, fed with older queries as those of
+-- version 3, whose queries leave cut where an interface queries in version 2.
 abbrev pub SessionIsJoined : Type 0
 SessionIsJoined =
     (f : Front) (s : State) (es : List Event)

@@ -1,9 +1,8 @@
 -- What stands before a router when the router is put under another configuration.
-use Rattle.std.specs.Prelude.{ℕ, Option, None, Some}
-use Rattle.igmp_older.specs.Resized.{resized, resized_list}
-use Rattle.igmp_older.specs.declared.setting.QueryVersion.{QueryVersion}
-use Rattle.pim_model.specs.State.{State, iface_count}
-use Rattle.pim_session.specs.Front.{Front}
+use Rattle.std.{specs.Prelude.{ℕ, Option, None, Some}}
+use Rattle.igmp_older.{specs.{Resized.{resized, resized_list}, declared.setting.QueryVersion.QueryVersion}}
+use Rattle.pim_model.{specs.State.{State, iface_count}}
+use Rattle.pim_session.{specs.Front.Front}
 
 -- The settings of the first so many interfaces, with what was heard there; one that is added hears nobody, and queries in
 -- version 3.

@@ -1,11 +1,12 @@
 -- What a session shows: its router, what stands before it, and what its last calls returned.
-use Rattle.std.specs.Prelude.{List, Option}
-use Rattle.pim_types.specs.declared.outcome.Emission.{Emission}
-use Rattle.pim_rows.specs.declared.table.Row.{Row}
-use Rattle.pim_router.specs.Standing.{Shown as RouterShown}
-use Rattle.igmp_older.specs.declared.mode.OlderRow.{OlderRow}
-use Rattle.pim_session.specs.Front.{Front}
+use Rattle.std.{specs.Prelude.{List, Option}}
+use Rattle.pim_types.{specs.declared.outcome.Emission.Emission}
+use Rattle.pim_rows.{specs.declared.table.Row.Row}
+use Rattle.pim_router.{specs.Standing.Shown as RouterShown}
+use Rattle.igmp_older.{specs.declared.mode.OlderRow.OlderRow}
+use Rattle.pim_session.{specs.Front.Front}
 
+-- What a session shows.
 pub record ShownSession : Type 0 where
   -- nothing once an allocation failed
   pub router : RouterShown

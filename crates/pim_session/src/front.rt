@@ -204,7 +204,7 @@ impl Front {
         Ok(bytes)
     }
 
-    // An emission as it leaves.
+    // An emission as it leaves behind the front: a query to older hosts is cut.
     #[tactic(auto, unfolding(crate::specs::Front::emission_left))]
     fn emission_left(&self, alloc: Global, emission: Emission) -> Result<Emission, AllocError>
         ensures { IfOk result (λ left. left ≡ emission_left self.now emission) }

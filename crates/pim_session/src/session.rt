@@ -15,11 +15,11 @@ ghost use Rattle.pim_model.specs.State.{State, opening};
 ghost use Rattle.pim_model.specs.Step.{step};
 ghost use Rattle.pim_model.specs.Timers.{next_moment};
 ghost use Rattle.pim_model.specs.Unicast.{rpf_interface_rp};
-ghost use Rattle.pim_offload.specs.Keeping.{keep};
-ghost use Rattle.pim_offload.specs.Offered.{offered};
-ghost use Rattle.pim_offload.specs.Seen.{seen_event};
-ghost use Rattle.pim_offrow.specs.Shown.{TellsOffload};
-ghost use Rattle.pim_reach.specs.Named.{event_named};
+ghost use Rattle.law_plane.specs.Keeping.{keep};
+ghost use Rattle.law_plane.specs.Offered.{offered};
+ghost use Rattle.law_plane.specs.Seen.{seen_event};
+ghost use Rattle.pim_mfc.specs.Shown.{TellsOffload};
+ghost use Rattle.law_named.specs.Named.{event_named};
 ghost use Rattle.pim_event.specs.Costs.{IsCheap};
 ghost use Rattle.pim_event.specs.Disturbing.{event_disturbed};
 ghost use Rattle.pim_event.specs.Replacing.{may_differ};
@@ -40,8 +40,7 @@ use crate::behind;
 use crate::front::Front;
 use igmp_older::{OlderHosts, OlderRow, QueryVersion};
 use pim_intake::LentEvent;
-use pim_mfc::CacheRow;
-use pim_offrow::Offered;
+use pim_mfc::{CacheRow, Offered};
 use pim_router::{RestoreRefusal, Router};
 use pim_rows::{Row, Table};
 use pim_types::{Addr, Config, Emission, Fault, IfaceId, Refusal, SourceGroup, Verdict};
@@ -54,7 +53,7 @@ use std::mem;
 /// message of an older version.
 pub struct Session {
     router: Box<Router>,
-    // An allocation failed, so the session has failed.
+    // Whether an allocation failed, and with it the session.
     is_lost: bool,
     front: Option<Front>,
     sent: Vec<Emission>,

@@ -1,12 +1,7 @@
 -- A row that says what the one before says: nothing is looked up then.
-use Rattle.std.proofs.Common.{◌≡◌, ◌==◌, ◌&&◌, ◌||◌, ℕ, Bool, true, false, not, Option, Some, refl, ap, ◌∙◌, arith}
-use Rattle.std.proofs.lemmas.Bool.Decides.{nat_tests}
-use Rattle.std.specs.Bool.{beq}
-use Rattle.pim_types.specs.declared.fact.Key.{Key}
-use Rattle.pim_store.specs.Said.{is_about, is_set_by}
-use Rattle.pim_store.specs.Telling.{is_second, is_set_by_either}
-use Rattle.pim_store.specs.declared.marks.Mark.{Mark}
-use Rattle.pim_store.specs.declared.marks.Mark.TheVariants.{Joined, Branched, Pruned, Lost, Won, HasOverrideTimer, HasSource, HasRegister}
+use Rattle.std.{proofs.{Common.{◌≡◌, ◌==◌, ◌&&◌, ◌||◌, ℕ, Bool, true, false, not, Option, Some, refl, ap, ◌∙◌, arith}, lemmas.Bool.Decides.nat_tests}, specs.Bool.beq}
+use Rattle.pim_types.{specs.declared.fact.Key.Key}
+use Rattle.pim_store.{specs.{Said.{is_about, is_set_by}, Telling.{is_second, is_set_by_either}, declared.marks.Mark.{Mark, TheVariants.{Joined, Branched, Pruned, Lost, Won, HasOverrideTimer, HasSource, HasRegister}}}}
 
 -- ---- the marks that a row tells
 

@@ -1,27 +1,12 @@
 -- An entry that is changed in its place, or taken away there.
-use Rattle.std.proofs.Common.{◌≡◌, Bool, true, false, not, cond, [], ◌∷◌, map, Option, Some, None, is_some, option_map, refl, sym, ap, subst, ◌∙◌, ℕ}
-use Rattle.std.specs.Prelude.{if◌then◌else◌}
-use Rattle.std.specs.declared.cmp.Ordering.TheVariants.{Less}
-use Rattle.std.specs.List.{AllByRecursion, cons_option}
-use Rattle.std.specs.List.Sorted.{IsStrictlySortedBy}
-use Rattle.std.specs.Option.{IfSome}
-use Rattle.pim_ip.specs.declared.addr.Addr.{Addr}
-use Rattle.pim_types.specs.declared.fact.Key.{Key}
-use Rattle.pim_types.specs.Keys.{key_cmp, same_key}
-use Rattle.pim_types.proofs.Keys.{equal_keys}
-use Rattle.pim_laws.proofs.RemovalLaws.{moved_above}
-use Rattle.pim_model.specs.Tables.{Table, change_row, drop_at, drop_where, has_row, keys_in, row_at}
-use Rattle.pim_tables.proofs.Lookups.{none_goes, put_is_changed, row_at-drop_at, row_at-put}
-use Rattle.pim_tables.proofs.Rows.{absent_is_unchanged, change_first}
-use Rattle.pim_tables.specs.RowsIn.{rows_in}
-use Rattle.pim_types.specs.declared.fact.JoinTimerRow.{JoinTimerRow}
-use Rattle.pim_source_trie.specs.Entries.{entry_key}
-use Rattle.pim_store.specs.Entry.{are_none, kept}
-use Rattle.pim_store.specs.Said.{AreEntries, IsEntry, Writes, mark_key, said, seen, seen_in, timers_in}
-use Rattle.pim_store.specs.declared.marks.Mark.{Mark}
-use Rattle.pim_store.specs.declared.marks.Marks.{Marks}
-use Rattle.pim_store.proofs.Empty.{AreBare, no_timer_when_none, silent_when_none}
-use Rattle.pim_store.proofs.Writes.{dropped, entry_of, written}
+use Rattle.std.{proofs.Common.{◌≡◌, Bool, true, false, not, cond, [], ◌∷◌, map, Option, Some, None, is_some, option_map, refl, sym, ap, subst, ◌∙◌, ℕ}, specs.{Prelude.if◌then◌else◌, declared.cmp.Ordering.TheVariants.Less, List.{AllByRecursion, cons_option, Sorted.IsStrictlySortedBy}, Option.IfSome}}
+use Rattle.pim_ip.{specs.declared.addr.Addr.Addr}
+use Rattle.pim_types.{specs.{declared.fact.{Key.Key, JoinTimerRow.JoinTimerRow}, Keys.{key_cmp, same_key}}, proofs.Keys.equal_keys}
+use Rattle.law_settled.{proofs.RemovalLaws.moved_above}
+use Rattle.pim_model.{specs.Tables.{Table, change_row, drop_at, drop_where, has_row, keys_in, row_at}}
+use Rattle.pim_tables.{proofs.{Lookups.{none_goes, put_is_changed, row_at-drop_at, row_at-put}, Rows.{absent_is_unchanged, change_first}}, specs.RowsIn.rows_in}
+use Rattle.pim_source_trie.{specs.Entries.entry_key}
+use Rattle.pim_store.{specs.{Entry.{are_none, kept}, Said.{AreEntries, IsEntry, Writes, mark_key, said, seen, seen_in, timers_in}, declared.marks.{Mark.Mark, Marks.Marks}}, proofs.{Empty.{AreBare, no_timer_when_none, silent_when_none}, Writes.{dropped, entry_of, written}}}
 
 -- ---- a row that its change takes away
 

@@ -1,19 +1,7 @@
 -- What a mark that is set, or cleared, makes of the marks of a group, or of a source.
-use Rattle.std.proofs.Common.{◌≡◌, ◌≢◌, ◌==◌, ◌<◌, ◌≤◌, ◌+◌, ◌%◌, ◌^◌, ◌&&◌, ◌||◌, ℕ, zero, suc, Bool, true, false, cond, max, nat_lt, not, Option, Some, None, refl, sym, ap, ◌∙◌, arith}
-use Rattle.std.specs.Int.{bit_at}
-use Rattle.std.specs.Int.Bits.{bit_or}
-use Rattle.std.proofs.lemmas.Bool.Decides.{nat_tests}
-use Rattle.std.proofs.lemmas.Nat.Bits.{bit_at-lt, bit_at-pow_other, bit_at-pow_same, bit_at_or, bit_at_xor}
-use Rattle.pim_ifset.specs.Members.{Members, has}
-use Rattle.pim_ifset.proofs.Masks.{has_empty, max_test}
-use Rattle.pim_ifset.proofs.Sets.{same_members}
-use Rattle.pim_store.specs.Entry.{empty_set, is_plain, no_rare, with_bit, with_iface, with_mark, with_plain, without_either, without_rare}
-use Rattle.pim_store.specs.Said.{is_set_by, seen, tunnel_in}
-use Rattle.pim_store.specs.Telling.{is_set_by_either}
-use Rattle.pim_store.specs.declared.marks.Mark.{Mark}
-use Rattle.pim_store.specs.declared.marks.Mark.TheVariants.{Joined, Branched, Pruned, Lost, Won, HasOverrideTimer, HasSource, HasRegister}
-use Rattle.pim_store.specs.declared.marks.Marks.{Marks}
-use Rattle.pim_store.proofs.Empty.{has_none}
+use Rattle.std.{proofs.{Common.{◌≡◌, ◌≢◌, ◌==◌, ◌<◌, ◌≤◌, ◌+◌, ◌%◌, ◌^◌, ◌&&◌, ◌||◌, ℕ, zero, suc, Bool, true, false, cond, max, nat_lt, not, Option, Some, None, refl, sym, ap, ◌∙◌, arith}, lemmas.{Bool.Decides.nat_tests, Nat.Bits.{bit_at-lt, bit_at-pow_other, bit_at-pow_same, bit_at_or, bit_at_xor}}}, specs.Int.{bit_at, Bits.bit_or}}
+use Rattle.pim_ifset.{specs.Members.{Members, has}, proofs.{Masks.{has_empty, max_test}, Sets.same_members}}
+use Rattle.pim_store.{specs.{Entry.{empty_set, is_plain, no_rare, with_bit, with_iface, with_mark, with_plain, without_either, without_rare}, Said.{is_set_by, seen, tunnel_in}, Telling.is_set_by_either, declared.marks.{Mark.{Mark, TheVariants.{Joined, Branched, Pruned, Lost, Won, HasOverrideTimer, HasSource, HasRegister}}, Marks.Marks}}, proofs.Empty.has_none}
 
 -- ---- one interface of a set
 

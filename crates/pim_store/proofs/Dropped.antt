@@ -1,15 +1,9 @@
 -- The marks of an interface's rows, taken away row by row.
-use Rattle.std.proofs.Common.{◌≡◌, ℕ, ◌&&◌, ◌||◌, Bool, true, false, cond, [], ◌∷◌, ◌++◌, Option, Some, None, is_some, refl, sym, ap, ◌∙◌}
-use Rattle.std.proofs.lemmas.List.{append_assoc, append-nil}
-use Rattle.pim_types.specs.declared.fact.Key.{Key}
-use Rattle.pim_types.specs.Keys.{is_on, same_key}
-use Rattle.pim_types.proofs.Keys.{equal_keys, same_key_same}
-use Rattle.pim_model.specs.Tables.{Table, drop_where, has_row, row_at}
-use Rattle.pim_tables.proofs.Lookups.{has_row-last, row_at-drop_on}
-use Rattle.pim_store.specs.Said.{IsTold, KeepsOtherMarks, SetsMarks, place, row_says, said}
-use Rattle.pim_store.specs.declared.marks.Mark.{Mark}
-use Rattle.pim_store.specs.declared.marks.Marks.{Marks}
-use Rattle.pim_store.proofs.Told.{others_kept}
+use Rattle.std.{proofs.{Common.{◌≡◌, ℕ, ◌&&◌, ◌||◌, Bool, true, false, cond, [], ◌∷◌, ◌++◌, Option, Some, None, is_some, refl, sym, ap, ◌∙◌}, lemmas.List.{append_assoc, append-nil}}}
+use Rattle.pim_types.{specs.{declared.fact.Key.Key, Keys.{is_on, same_key}}, proofs.Keys.{equal_keys, same_key_same}}
+use Rattle.pim_model.{specs.Tables.{Table, drop_where, has_row, row_at}}
+use Rattle.pim_tables.{proofs.Lookups.{has_row-last, row_at-drop_on}}
+use Rattle.pim_store.{specs.{Said.{IsTold, KeepsOtherMarks, SetsMarks, place, row_says, said}, declared.marks.{Mark.Mark, Marks.Marks}}, proofs.Told.others_kept}
 
 -- a row among others is found
 module _ {R : Type 0} (k : Key) (r : R) (later : Table R) where

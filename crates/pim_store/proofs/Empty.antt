@@ -1,17 +1,8 @@
 -- Sets that are empty, and marks of which none is set.
-use Rattle.std.proofs.Common.{◌≡◌, ◌==◌, ℕ, Bool, true, false, not, ◌&&◌, ◌||◌, ◌↔◌, Option, Some, None, is_some, refl, sym, ap, ◌∙◌, arith}
-use Rattle.std.specs.Prelude.{IsTrue}
-use Rattle.std.proofs.lemmas.Bool.Decides.{nat_tests}
-use Rattle.pim_types.specs.declared.fact.JoinTimerRow.{JoinTimerRow}
-use Rattle.pim_ifset.specs.Members.{Members, has}
-use Rattle.pim_ifset.proofs.Masks.{has_empty}
-use Rattle.pim_ifset.proofs.Sets.{same_members}
-use Rattle.pim_store.specs.Entry.{are_none, empty_set, is_empty_set, is_no_rare, no_rare, rare_in}
-use Rattle.pim_store.specs.Said.{seen, tunnel_in}
-use Rattle.pim_store.specs.declared.marks.Mark.{Mark}
-use Rattle.pim_store.specs.declared.marks.Mark.TheVariants.{Joined, Branched, Pruned, Lost, Won, HasOverrideTimer, HasSource, HasRegister}
-use Rattle.pim_store.specs.declared.marks.Marks.{Marks}
-use Rattle.pim_store.specs.declared.rare.Rare.{Rare}
+use Rattle.std.{proofs.{Common.{◌≡◌, ◌==◌, ℕ, Bool, true, false, not, ◌&&◌, ◌||◌, ◌↔◌, Option, Some, None, is_some, refl, sym, ap, ◌∙◌, arith}, lemmas.Bool.Decides.nat_tests}, specs.Prelude.IsTrue}
+use Rattle.pim_types.{specs.declared.fact.JoinTimerRow.JoinTimerRow}
+use Rattle.pim_ifset.{specs.Members.{Members, has}, proofs.{Masks.has_empty, Sets.same_members}}
+use Rattle.pim_store.{specs.{Entry.{are_none, empty_set, is_empty_set, is_no_rare, no_rare, rare_in}, Said.{seen, tunnel_in}, declared.{marks.{Mark.{Mark, TheVariants.{Joined, Branched, Pruned, Lost, Won, HasOverrideTimer, HasSource, HasRegister}}, Marks.Marks}, rare.Rare.Rare}}}
 
 -- ---- tests
 

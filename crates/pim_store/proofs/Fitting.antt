@@ -1,12 +1,8 @@
 -- The keys of a table's rows, as the invariant has them.
-use Rattle.std.proofs.Common.{◌≡◌, ◌&&◌, Bool, true, false, cond, not, List, [], ◌∷◌, Option, Some, is_some, filter, refl}
-use Rattle.std.specs.List.{list_all}
-use Rattle.pim_types.specs.declared.fact.Key.{Key}
-use Rattle.pim_types.specs.Keys.{is_on, same_key}
-use Rattle.pim_types.proofs.Keys.{same_key_same}
-use Rattle.pim_model.specs.Tables.{Table, has_row, row_at}
-use Rattle.pim_store.specs.PimTables.{PimTables, are_of_kind, is_assert_key, is_plain_key, is_rpt_key, is_source_key}
-use Rattle.pim_store.specs.Said.{is_of_iface, is_plain_of_iface, is_source_of_router}
+use Rattle.std.{proofs.Common.{◌≡◌, ◌&&◌, Bool, true, false, cond, not, List, [], ◌∷◌, Option, Some, is_some, filter, refl}, specs.List.list_all}
+use Rattle.pim_types.{specs.{declared.fact.Key.Key, Keys.{is_on, same_key}}, proofs.Keys.same_key_same}
+use Rattle.pim_model.{specs.Tables.{Table, has_row, row_at}}
+use Rattle.pim_store.{specs.{PimTables.{PimTables, are_of_kind, is_assert_key, is_plain_key, is_rpt_key, is_source_key}, Said.{is_of_iface, is_plain_of_iface, is_source_of_router}}}
 
 left_true : (a b : Bool) → (a && b) ≡ true → a ≡ true
 left_true true b e = refl

@@ -1,21 +1,8 @@
 -- Where the rows of one table changed with their marks, the marks are again as the rows of all tables say.
-use Rattle.std.proofs.Common.{◌≡◌, ◌==◌, ℕ, Bool, true, false, [], Option, Some, None, is_some, refl, sym, ap, ◌∙◌, arith}
-use Rattle.std.specs.Option.{option_map_or}
-use Rattle.std.proofs.lemmas.Bool.Decides.{nat_tests}
-use Rattle.pim_types.specs.declared.fact.AssertRow.{AssertRow}
-use Rattle.pim_types.specs.declared.fact.DownstreamRow.{DownstreamRow}
-use Rattle.pim_types.specs.declared.fact.Key.{Key}
-use Rattle.pim_types.specs.declared.fact.OverrideTimerRow.{OverrideTimerRow}
-use Rattle.pim_types.specs.declared.fact.RegisterRow.{RegisterRow}
-use Rattle.pim_types.specs.declared.fact.SourceRow.{SourceRow}
-use Rattle.pim_model.specs.Sets.{is_loser, is_winner}
-use Rattle.pim_model.specs.Tables.{Table, has_row, row_at}
-use Rattle.pim_store.specs.PimTables.{PimTables}
-use Rattle.pim_store.specs.Said.{IsTold, KeepsMarks, KeepsOtherMarks, is_of_iface, is_plain_of_iface, is_rpt_of_router, is_source_of_router, place, said, timers_in}
-use Rattle.pim_store.specs.Stored.{IsIndexed}
-use Rattle.pim_store.specs.Telling.{assert_says, assert_table, downstream_says, downstream_table, is_there, is_told_by, override_timer_table, register_table, source_table, table_of}
-use Rattle.pim_store.specs.declared.marks.Mark.{Mark}
-use Rattle.pim_store.specs.declared.marks.Marks.{Marks}
+use Rattle.std.{proofs.{Common.{◌≡◌, ◌==◌, ℕ, Bool, true, false, [], Option, Some, None, is_some, refl, sym, ap, ◌∙◌, arith}, lemmas.Bool.Decides.nat_tests}, specs.Option.option_map_or}
+use Rattle.pim_types.{specs.declared.fact.{AssertRow.AssertRow, DownstreamRow.DownstreamRow, Key.Key, OverrideTimerRow.OverrideTimerRow, RegisterRow.RegisterRow, SourceRow.SourceRow}}
+use Rattle.pim_model.{specs.{Sets.{is_loser, is_winner}, Tables.{Table, has_row, row_at}}}
+use Rattle.pim_store.{specs.{PimTables.PimTables, Said.{IsTold, KeepsMarks, KeepsOtherMarks, is_of_iface, is_plain_of_iface, is_rpt_of_router, is_source_of_router, place, said, timers_in}, Stored.IsIndexed, Telling.{assert_says, assert_table, downstream_says, downstream_table, is_there, is_told_by, override_timer_table, register_table, source_table, table_of}, declared.marks.{Mark.Mark, Marks.Marks}}}
 
 -- a mark is told by one table
 numbers_apart : (a b n : ℕ) → (a == b) ≡ false → (n == a) ≡ true → (n == b) ≡ false

@@ -1,12 +1,9 @@
 -- The row of a source whose keepalive timer is set.
-use Rattle.std.proofs.Common.{◌≡◌, ℕ, true, false, Option, Some, None, is_some, refl, sym, ap, ◌∙◌}
-use Rattle.std.specs.List.Sorted.{IsStrictlySortedBy}
-use Rattle.pim_types.specs.declared.fact.Key.{Key}
-use Rattle.pim_types.specs.declared.fact.SourceRow.{SourceRow}
-use Rattle.pim_types.specs.Keys.{key_cmp}
-use Rattle.pim_model.specs.Tables.{Table, change_row, has_row, keys_in, put, row_at}
-use Rattle.pim_tables.proofs.Updates.{put_updated}
-use Rattle.pim_store.specs.PimTables.{kept_alive}
+use Rattle.std.{proofs.Common.{◌≡◌, ℕ, true, false, Option, Some, None, is_some, refl, sym, ap, ◌∙◌}, specs.List.Sorted.IsStrictlySortedBy}
+use Rattle.pim_types.{specs.{declared.fact.{Key.Key, SourceRow.SourceRow}, Keys.key_cmp}}
+use Rattle.pim_model.{specs.Tables.{Table, change_row, has_row, keys_in, put, row_at}}
+use Rattle.pim_tables.{proofs.Updates.put_updated}
+use Rattle.pim_store.{specs.PimTables.kept_alive}
 
 abbrev pub with_end : ℕ → SourceRow → SourceRow
 with_end end row = record row { keepalive = Some end }

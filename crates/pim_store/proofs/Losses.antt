@@ -1,15 +1,8 @@
 -- Rows that pass a test, taken out of a table key by key.
-use Rattle.std.proofs.Common.{◌≡◌, ℕ, ◌+◌, ◌<◌, ◌≤◌, Bool, true, false, cond, not, ◌&&◌, ◌||◌, List, [], ◌∷◌, length, drop, get_or, add-one, drop-cons, Option, Some, refl, sym, ap, subst, ◌∙◌}
-use Rattle.std.specs.List.{AllByRecursion, filter, list_any}
-use Rattle.std.specs.List.Sorted.{IsStrictlySortedBy}
-use Rattle.std.proofs.lemmas.List.{drop_all}
-use Rattle.std.proofs.lemmas.List.Elements.{filter_agree}
-use Rattle.pim_types.specs.declared.fact.Key.{Key}
-use Rattle.pim_types.specs.Keys.{key_cmp, same_key}
-use Rattle.pim_types.proofs.Keys.{equal_keys}
-use Rattle.pim_model.specs.Tables.{Table, drop_at, drop_where, keys_in, row_at}
-use Rattle.pim_tables.proofs.Firsts.{all_found}
-use Rattle.pim_tables.proofs.Lookups.{same_key_symm}
+use Rattle.std.{proofs.{Common.{◌≡◌, ℕ, ◌+◌, ◌<◌, ◌≤◌, Bool, true, false, cond, not, ◌&&◌, ◌||◌, List, [], ◌∷◌, length, drop, get_or, add-one, drop-cons, Option, Some, refl, sym, ap, subst, ◌∙◌}, lemmas.List.{drop_all, Elements.filter_agree}}, specs.List.{AllByRecursion, filter, list_any, Sorted.IsStrictlySortedBy}}
+use Rattle.pim_types.{specs.{declared.fact.Key.Key, Keys.{key_cmp, same_key}}, proofs.Keys.equal_keys}
+use Rattle.pim_model.{specs.Tables.{Table, drop_at, drop_where, keys_in, row_at}}
+use Rattle.pim_tables.{proofs.{Firsts.all_found, Lookups.same_key_symm}}
 
 -- ---- filters
 

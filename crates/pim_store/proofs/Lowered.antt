@@ -1,15 +1,8 @@
 -- A row that is there is changed in its place.
-use Rattle.std.proofs.Common.{◌≡◌, true, false, Option, Some, None, is_some, refl, sym, ap, ◌∙◌}
-use Rattle.std.specs.List.Sorted.{IsStrictlySortedBy}
-use Rattle.std.specs.Option.{IfSome}
-use Rattle.std.specs.Prelude.{Err, Ok, OnOk, Result}
-use Rattle.pim_types.specs.declared.fact.Key.{Key}
-use Rattle.pim_types.specs.Keys.{key_cmp}
-use Rattle.pim_types.specs.declared.fact.AssertRow.{AssertRow}
-use Rattle.pim_model.specs.Sets.{is_loser}
-use Rattle.pim_model.specs.Tables.{Table, change_row, drop_at, has_row, keys_in, put, row_at, set_row}
-use Rattle.pim_tables.proofs.Lookups.{absent, put_is_changed}
-use Rattle.pim_tables.proofs.Rows.{absent_is_unchanged, always, dropped_is_changed}
+use Rattle.std.{proofs.Common.{◌≡◌, true, false, Option, Some, None, is_some, refl, sym, ap, ◌∙◌}, specs.{List.Sorted.IsStrictlySortedBy, Option.IfSome, Prelude.{Err, Ok, OnOk, Result}}}
+use Rattle.pim_types.{specs.{declared.fact.{Key.Key, AssertRow.AssertRow}, Keys.key_cmp}}
+use Rattle.pim_model.{specs.{Sets.is_loser, Tables.{Table, change_row, drop_at, has_row, keys_in, put, row_at, set_row}}}
+use Rattle.pim_tables.{proofs.{Lookups.{absent, put_is_changed}, Rows.{absent_is_unchanged, always, dropped_is_changed}}}
 
 module _ {R : Type 0} (k : Key) (t : Table R) where
   pub is_there : (r : R) → row_at t k ≡ Some r → has_row t k ≡ true

@@ -1,22 +1,10 @@
 -- What a row makes of the marks of its group, or of its source.
-use Rattle.std.proofs.Common.{◌≡◌, ◌&&◌, ◌||◌, ℕ, Bool, true, false, cond, Option, Some, None, is_some, refl, sym, ap, ◌∙◌, ◌<◌}
-use Rattle.std.specs.List.Sorted.{IsStrictlySortedBy}
-use Rattle.std.specs.Prelude.{Err, Ok, OnOk, Result}
-use Rattle.pim_types.specs.declared.fact.Key.{Key}
-use Rattle.pim_types.specs.Keys.{key_cmp, same_key}
-use Rattle.pim_types.proofs.Keys.{equal_keys}
-use Rattle.pim_model.specs.Tables.{Table, change_row, has_row, keys_in, row_at}
-use Rattle.pim_tables.proofs.Lookups.{absent}
-use Rattle.pim_source_trie.specs.Entries.{entry_key}
-use Rattle.pim_store.specs.Entry.{is_plain, kept, with_mark, with_plain, without_either}
-use Rattle.pim_store.specs.Said.{SetsMarks, Writes, is_about, is_set_by, mark_key, row_says, said, seen, seen_in, source_bits}
-use Rattle.pim_store.specs.Telling.{is_set_by_either}
-use Rattle.pim_store.specs.declared.marks.Mark.{Mark}
-use Rattle.pim_store.specs.declared.marks.Mark.TheVariants.{Joined, Branched, Pruned, Lost, Won, HasOverrideTimer, HasSource, HasRegister}
-use Rattle.pim_store.specs.declared.marks.Marks.{Marks}
-use Rattle.pim_store.proofs.Altered.{altered_writes, unaltered}
-use Rattle.pim_store.proofs.Changed.{seen_with, seen_without}
-use Rattle.pim_store.proofs.Places.{place_is}
+use Rattle.std.{proofs.Common.{◌≡◌, ◌&&◌, ◌||◌, ℕ, Bool, true, false, cond, Option, Some, None, is_some, refl, sym, ap, ◌∙◌, ◌<◌}, specs.{List.Sorted.IsStrictlySortedBy, Prelude.{Err, Ok, OnOk, Result}}}
+use Rattle.pim_types.{specs.{declared.fact.Key.Key, Keys.{key_cmp, same_key}}, proofs.Keys.equal_keys}
+use Rattle.pim_model.{specs.Tables.{Table, change_row, has_row, keys_in, row_at}}
+use Rattle.pim_tables.{proofs.Lookups.absent}
+use Rattle.pim_source_trie.{specs.Entries.entry_key}
+use Rattle.pim_store.{specs.{Entry.{is_plain, kept, with_mark, with_plain, without_either}, Said.{SetsMarks, Writes, is_about, is_set_by, mark_key, row_says, said, seen, seen_in, source_bits}, Telling.is_set_by_either, declared.marks.{Mark.{Mark, TheVariants.{Joined, Branched, Pruned, Lost, Won, HasOverrideTimer, HasSource, HasRegister}}, Marks.Marks}}, proofs.{Altered.{altered_writes, unaltered}, Changed.{seen_with, seen_without}, Places.place_is}}
 
 -- ---- one or two marks
 

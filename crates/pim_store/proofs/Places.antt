@@ -1,20 +1,10 @@
 -- The keys of the facts that the marks of a group, or of a source, are about.
-use Rattle.std.proofs.Common.{◌≡◌, ◌==◌, ◌&&◌, ℕ, Bool, true, false, Option, Some, None, option_map, refl, sym, ap, ◌∙◌, arith}
-use Rattle.std.specs.declared.cmp.Ordering.{Ordering}
-use Rattle.std.specs.declared.cmp.Ordering.TheVariants.{Less, Equal, Greater}
-use Rattle.std.specs.Option.{option_cmp}
-use Rattle.std.specs.Ordering.{bool_cmp, is_eq, nat_cmp, ordering_then}
-use Rattle.std.proofs.lemmas.Bool.Decides.{nat_tests}
-use Rattle.pim_ip.specs.declared.addr.Addr.{Addr}
-use Rattle.pim_ip.specs.Addr.{addr}
-use Rattle.pim_types.specs.declared.fact.Key.{Key}
-use Rattle.pim_types.specs.Keys.{addr_cmp, iface_in, key_cmp, key_of, same_key}
-use Rattle.pim_model.specs.Tables.{same_bool}
-use Rattle.pim_source_trie.specs.Entries.{entry_key}
-use Rattle.pim_store.specs.PimTables.{fact_key}
-use Rattle.pim_store.specs.Said.{iface_at, is_about, is_here, is_rpt, mark_key, place, source_bits}
-use Rattle.pim_store.specs.declared.marks.Mark.{Mark}
-use Rattle.pim_store.specs.declared.marks.Mark.TheVariants.{Joined, Branched, Pruned, Lost, Won}
+use Rattle.std.{proofs.{Common.{◌≡◌, ◌==◌, ◌&&◌, ℕ, Bool, true, false, Option, Some, None, option_map, refl, sym, ap, ◌∙◌, arith}, lemmas.Bool.Decides.nat_tests}, specs.{declared.cmp.Ordering.{Ordering, TheVariants.{Less, Equal, Greater}}, Option.option_cmp, Ordering.{bool_cmp, is_eq, nat_cmp, ordering_then}}}
+use Rattle.pim_ip.{specs.{declared.addr.Addr.Addr, Addr.addr}}
+use Rattle.pim_types.{specs.{declared.fact.Key.Key, Keys.{addr_cmp, iface_in, key_cmp, key_of, same_key}}}
+use Rattle.pim_model.{specs.Tables.same_bool}
+use Rattle.pim_source_trie.{specs.Entries.entry_key}
+use Rattle.pim_store.{specs.{PimTables.fact_key, Said.{iface_at, is_about, is_here, is_rpt, mark_key, place, source_bits}, declared.marks.Mark.{Mark, TheVariants.{Joined, Branched, Pruned, Lost, Won}}}}
 
 -- ---- a comparison by parts
 

@@ -1,35 +1,12 @@
 -- The Join timers of an index, through what is written there.
-use Rattle.std.proofs.Common.{◌≡◌, ◌+◌, ℕ, Bool, true, false, cond, length, suc, [], ◌∷◌, Option, Some, None, Result, Ok, Err, is_some, not, option_map, refl, sym, ap, subst, ◌∙◌, arith}
-use Rattle.std.specs.Prelude.{OnErr, OnOk}
-use Rattle.std.proofs.lemmas.Bool.{true≢false}
-use Rattle.std.specs.List.{cons_option, filter, list_all}
-use Rattle.std.specs.List.Sorted.{IsStrictlySortedBy}
-use Rattle.std.specs.Option.{option_and_then}
-use Rattle.std.specs.Ordering.{is_eq, match_ordering}
-use Rattle.std.specs.declared.cmp.Ordering.{Ordering}
-use Rattle.std.specs.declared.cmp.Ordering.TheVariants.{Less, Equal, Greater}
-use Rattle.pim_types.specs.declared.fact.JoinTimerRow.{JoinTimerRow}
-use Rattle.pim_types.specs.declared.fact.Key.{Key}
-use Rattle.pim_types.specs.declared.timer.TimerKind.{TimerKind}
-use Rattle.pim_types.specs.Keys.{key_cmp, same_key}
-use Rattle.pim_types.proofs.Keys.{equal_keys, key_cmp_total, same_key_same}
-use Rattle.pim_laws.proofs.ListLaws.{each_more}
-use Rattle.pim_model.specs.Tables.{Table, change_row, drop_at, drop_where, has_row, keys_in, put, row_at, set_row}
-use Rattle.pim_tables.specs.Ends.{DifferAt, InStep}
-use Rattle.pim_tables.specs.RowsIn.{rows_in}
-use Rattle.pim_tables.proofs.Lookups.{none_goes}
-use Rattle.pim_tables.proofs.RisingRows.{Above, Up, none_above, sorted_of_up, up_of_sorted}
-use Rattle.pim_tables.proofs.RowsIn.{differ_in, found_in, same_in, set_in, up_in}
-use Rattle.pim_timers.specs.Armed.{Entries}
-use Rattle.pim_store.proofs.Fitting.{all_fit}
-use Rattle.pim_store.proofs.Lowered.{changed_there}
-use Rattle.pim_store.specs.JoinTimers.{AreKept}
-use Rattle.pim_store.specs.PimTables.{is_plain_key}
-use Rattle.pim_source_trie.specs.Entries.{entry_key}
-use Rattle.pim_store.specs.Said.{AreEntries, KeepsMarks, Writes, WritesTimer, mark_key, said, seen, seen_in, source_bits, timer_in, timers_in, tunnel_in}
-use Rattle.pim_store.specs.declared.marks.Mark.{Mark}
-use Rattle.pim_store.specs.declared.marks.Mark.TheVariants.{Joined, Branched, Pruned, Lost, Won, HasOverrideTimer, HasSource, HasRegister}
-use Rattle.pim_store.specs.declared.marks.Marks.{Marks}
+use Rattle.std.{proofs.{Common.{◌≡◌, ◌+◌, ℕ, Bool, true, false, cond, length, suc, [], ◌∷◌, Option, Some, None, Result, Ok, Err, is_some, not, option_map, refl, sym, ap, subst, ◌∙◌, arith}, lemmas.Bool.true≢false}, specs.{Prelude.{OnErr, OnOk}, List.{cons_option, filter, list_all, Sorted.IsStrictlySortedBy}, Option.option_and_then, Ordering.{is_eq, match_ordering}, declared.cmp.Ordering.{Ordering, TheVariants.{Less, Equal, Greater}}}}
+use Rattle.pim_types.{specs.{declared.{fact.{JoinTimerRow.JoinTimerRow, Key.Key}, timer.TimerKind.TimerKind}, Keys.{key_cmp, same_key}}, proofs.Keys.{equal_keys, key_cmp_total, same_key_same}}
+use Rattle.law_settled.{proofs.ListLaws.each_more}
+use Rattle.pim_model.{specs.Tables.{Table, change_row, drop_at, drop_where, has_row, keys_in, put, row_at, set_row}}
+use Rattle.pim_tables.{specs.{Ends.{DifferAt, InStep}, RowsIn.rows_in}, proofs.{Lookups.none_goes, RisingRows.{Above, Up, none_above, sorted_of_up, up_of_sorted}, RowsIn.{differ_in, found_in, same_in, set_in, up_in}}}
+use Rattle.pim_timers.{specs.Armed.Entries}
+use Rattle.pim_store.{proofs.{Fitting.all_fit, Lowered.changed_there}, specs.{JoinTimers.AreKept, PimTables.is_plain_key, Said.{AreEntries, KeepsMarks, Writes, WritesTimer, mark_key, said, seen, seen_in, source_bits, timer_in, timers_in, tunnel_in}, declared.marks.{Mark.{Mark, TheVariants.{Joined, Branched, Pruned, Lost, Won, HasOverrideTimer, HasSource, HasRegister}}, Marks.Marks}}}
+use Rattle.pim_source_trie.{specs.Entries.entry_key}
 
 -- ---- what is found
 

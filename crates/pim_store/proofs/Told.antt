@@ -1,18 +1,10 @@
 -- A row is changed with its marks: afterwards the marks are again as the rows say.
-use Rattle.std.proofs.Common.{◌≡◌, ◌&&◌, ◌||◌, ℕ, Bool, true, false, cond, not, Option, Some, None, is_some, refl, sym, ap, subst, ◌∙◌}
-use Rattle.std.specs.Bool.{beq}
-use Rattle.pim_types.specs.declared.fact.Key.{Key}
-use Rattle.pim_types.specs.Keys.{same_key}
-use Rattle.pim_types.proofs.Keys.{equal_keys}
-use Rattle.pim_model.specs.Tables.{Table, drop_at, has_row, put, row_at}
-use Rattle.pim_tables.proofs.Lookups.{row_at-drop_at, row_at-put}
-use Rattle.pim_source_trie.specs.Entries.{entry_key}
-use Rattle.pim_store.specs.Said.{IsTold, KeepsOtherMarks, SetsMarks, is_about, is_set_by, mark_key, place, row_says, said}
-use Rattle.pim_store.specs.Telling.{is_set_by_either}
-use Rattle.pim_store.specs.declared.marks.Mark.{Mark}
-use Rattle.pim_store.specs.declared.marks.Marks.{Marks}
-use Rattle.pim_store.proofs.Marked.{same_mark}
-use Rattle.pim_store.proofs.Places.{place_is}
+use Rattle.std.{proofs.Common.{◌≡◌, ◌&&◌, ◌||◌, ℕ, Bool, true, false, cond, not, Option, Some, None, is_some, refl, sym, ap, subst, ◌∙◌}, specs.Bool.beq}
+use Rattle.pim_types.{specs.{declared.fact.Key.Key, Keys.same_key}, proofs.Keys.equal_keys}
+use Rattle.pim_model.{specs.Tables.{Table, drop_at, has_row, put, row_at}}
+use Rattle.pim_tables.{proofs.Lookups.{row_at-drop_at, row_at-put}}
+use Rattle.pim_source_trie.{specs.Entries.entry_key}
+use Rattle.pim_store.{specs.{Said.{IsTold, KeepsOtherMarks, SetsMarks, is_about, is_set_by, mark_key, place, row_says, said}, Telling.is_set_by_either, declared.marks.{Mark.Mark, Marks.Marks}}, proofs.{Marked.same_mark, Places.place_is}}
 
 module _ {R : Type 0} (tells : Mark → Bool) (says : Mark → R → Bool) where
   abbrev saying : Mark → Option R → Bool

@@ -1,40 +1,12 @@
 -- Which groups and sources have marks: those that have facts.
-use Rattle.std.proofs.Common.{◌≡◌, ◌<◌, ◌≤◌, ◌==◌, ◌&&◌, ◌||◌, ℕ, suc, Bool, true, false, cond, not, List, [], ◌∷◌, ◌++◌, map, nat_lt, Option, Some, None, is_some, refl, sym, ap, ◌∙◌, arith}
-use Rattle.std.specs.Cmp.{first_so}
-use Rattle.std.specs.List.{AllByRecursion, filter, list_any}
-use Rattle.std.specs.List.Sorted.{IsStrictlySortedBy}
-use Rattle.std.specs.Option.{option_cmp, option_map_or}
-use Rattle.std.specs.Ordering.{bool_cmp, nat_cmp, ordering_then}
-use Rattle.std.specs.declared.cmp.Ordering.{Ordering}
-use Rattle.std.specs.declared.cmp.Ordering.TheVariants.{Less, Equal, Greater}
-use Rattle.std.proofs.lemmas.Bool.{true≢false}
-use Rattle.std.proofs.lemmas.Bool.Decides.{nat_tests}
-use Rattle.std.proofs.lemmas.List.Folds.{list_any-append}
-use Rattle.pim_ip.specs.declared.addr.Addr.{Addr}
-use Rattle.pim_types.specs.declared.fact.AssertRole.{AssertRole}
-use Rattle.pim_types.specs.declared.fact.AssertRole.TheVariants.{Loser, Winner}
-use Rattle.pim_types.specs.declared.fact.AssertRow.{AssertRow}
-use Rattle.pim_types.specs.declared.fact.DownstreamRow.{DownstreamRow}
-use Rattle.pim_types.specs.declared.fact.Key.{Key}
-use Rattle.pim_types.specs.Keys.{addr_cmp, group_in, iface_in, is_of_group, key_cmp, names_source, same_key, source_in}
-use Rattle.pim_types.proofs.Keys.{equal_keys, nat_cmp_same, same_key_same}
-use Rattle.pim_model.specs.Sets.{is_loser, is_winner}
-use Rattle.pim_model.specs.Tables.{Table, ascending, has_row, is_among, keys_in, row_at}
-use Rattle.pim_model.specs.Upstream.{groups_of, sources_of}
-use Rattle.pim_laws.proofs.TableLaws.{any_in_filter, any_of_map, row_is_there}
-use Rattle.pim_tables.proofs.Firsts.{all_found}
-use Rattle.pim_tables.proofs.RowsIn.{no_row_in, none_in}
-use Rattle.pim_laws.proofs.Numbers.{RisesFrom, any_ascending, members_tell, rises_ascending, same_numbers}
-use Rattle.pim_source_trie.specs.Entries.{entry_key}
-use Rattle.pim_store.specs.PimTables.{PimTables, stored_keys}
-use Rattle.pim_store.specs.Said.{AreEntries, IsTold, is_about, is_plain_of_iface, is_rpt_of_router, is_source_of_router, mark_key, place, row_says, said, seen_in, source_bits, timers_in}
-use Rattle.pim_store.specs.Sources.{sources_in}
-use Rattle.pim_store.specs.Stored.{IsIndexed}
-use Rattle.pim_store.specs.Telling.{assert_says, downstream_says, is_told_by}
-use Rattle.pim_store.specs.declared.marks.Mark.{Mark}
-use Rattle.pim_store.specs.declared.marks.Mark.TheVariants.{Joined, Branched, Pruned, Lost, Won, HasOverrideTimer, HasSource, HasRegister}
-use Rattle.pim_store.specs.declared.marks.Marks.{Marks}
-use Rattle.pim_store.proofs.Places.{place_is, source_again}
+use Rattle.std.{proofs.{Common.{◌≡◌, ◌<◌, ◌≤◌, ◌==◌, ◌&&◌, ◌||◌, ℕ, suc, Bool, true, false, cond, not, List, [], ◌∷◌, ◌++◌, map, nat_lt, Option, Some, None, is_some, refl, sym, ap, ◌∙◌, arith}, lemmas.{Bool.{true≢false, Decides.nat_tests}, List.Folds.list_any-append}}, specs.{Cmp.first_so, List.{AllByRecursion, filter, list_any, Sorted.IsStrictlySortedBy}, Option.{option_cmp, option_map_or}, Ordering.{bool_cmp, nat_cmp, ordering_then}, declared.cmp.Ordering.{Ordering, TheVariants.{Less, Equal, Greater}}}}
+use Rattle.pim_ip.{specs.declared.addr.Addr.Addr}
+use Rattle.pim_types.{specs.{declared.fact.{AssertRole.{AssertRole, TheVariants.{Loser, Winner}}, AssertRow.AssertRow, DownstreamRow.DownstreamRow, Key.Key}, Keys.{addr_cmp, group_in, iface_in, is_of_group, key_cmp, names_source, same_key, source_in}}, proofs.Keys.{equal_keys, nat_cmp_same, same_key_same}}
+use Rattle.pim_model.{specs.{Sets.{is_loser, is_winner}, Tables.{Table, ascending, has_row, is_among, keys_in, row_at}, Upstream.{groups_of, sources_of}}}
+use Rattle.law_settled.{proofs.{TableLaws.{any_in_filter, any_of_map, row_is_there}, Numbers.{RisesFrom, any_ascending, members_tell, rises_ascending, same_numbers}}}
+use Rattle.pim_tables.{proofs.{Firsts.all_found, RowsIn.{no_row_in, none_in}}}
+use Rattle.pim_source_trie.{specs.Entries.entry_key}
+use Rattle.pim_store.{specs.{PimTables.{PimTables, stored_keys}, Said.{AreEntries, IsTold, is_about, is_plain_of_iface, is_rpt_of_router, is_source_of_router, mark_key, place, row_says, said, seen_in, source_bits, timers_in}, Sources.sources_in, Stored.IsIndexed, Telling.{assert_says, downstream_says, is_told_by}, declared.marks.{Mark.{Mark, TheVariants.{Joined, Branched, Pruned, Lost, Won, HasOverrideTimer, HasSource, HasRegister}}, Marks.Marks}}, proofs.Places.{place_is, source_again}}
 
 -- ---- tests
 

@@ -1,19 +1,11 @@
 -- What is written for a group or a source.
-use Rattle.std.proofs.Common.{◌≡◌, Bool, true, false, cond, [], Option, Some, None, refl, sym, ap, ◌∙◌, subst}
-use Rattle.std.specs.Prelude.{OnErr, OnOk, Result, Ok, Err}
-use Rattle.std.proofs.lemmas.Bool.{true≢false}
-use Rattle.pim_ip.specs.declared.addr.Addr.{Addr}
-use Rattle.pim_types.specs.declared.fact.Key.{Key}
-use Rattle.pim_types.specs.Keys.{same_key}
-use Rattle.pim_types.proofs.Keys.{equal_keys}
-use Rattle.pim_model.specs.Tables.{Table, drop_at, put, row_at}
-use Rattle.pim_tables.proofs.Lookups.{row_at-drop_at, row_at-put}
-use Rattle.pim_source_trie.specs.Entries.{entry_key}
-use Rattle.pim_store.specs.Entry.{are_none}
-use Rattle.pim_store.specs.Said.{AreEntries, IsEntry, Writes, WritesTimer, mark_key, said, seen, seen_in, timer_in}
-use Rattle.pim_store.specs.declared.marks.Marks.{Marks}
-use Rattle.pim_store.proofs.Empty.{AreBare, AreSilent, none_when_silent}
-use Rattle.pim_store.proofs.Places.{source_again}
+use Rattle.std.{proofs.{Common.{◌≡◌, Bool, true, false, cond, [], Option, Some, None, refl, sym, ap, ◌∙◌, subst}, lemmas.Bool.true≢false}, specs.Prelude.{OnErr, OnOk, Result, Ok, Err}}
+use Rattle.pim_ip.{specs.declared.addr.Addr.Addr}
+use Rattle.pim_types.{specs.{declared.fact.Key.Key, Keys.same_key}, proofs.Keys.equal_keys}
+use Rattle.pim_model.{specs.Tables.{Table, drop_at, put, row_at}}
+use Rattle.pim_tables.{proofs.Lookups.{row_at-drop_at, row_at-put}}
+use Rattle.pim_source_trie.{specs.Entries.entry_key}
+use Rattle.pim_store.{specs.{Entry.are_none, Said.{AreEntries, IsEntry, Writes, WritesTimer, mark_key, said, seen, seen_in, timer_in}, declared.marks.Marks.Marks}, proofs.{Empty.{AreBare, AreSilent, none_when_silent}, Places.source_again}}
 
 pub no_entries : (t : Table Marks) → t ≡ [] → AreEntries t
 unfolding row_at

@@ -1,6 +1,6 @@
 -- Sets of interfaces without the register tunnel.
-use Rattle.std.specs.Prelude.{false, ◌≡◌}
-use Rattle.pim_store.specs.declared.marks.Marks.{Marks}
+use Rattle.std.{specs.Prelude.{false, ◌≡◌}}
+use Rattle.pim_store.{specs.declared.marks.Marks.Marks}
 
 -- no set has the register tunnel
 pub record IsWithoutTunnel (m : Marks) : Type 0 where

@@ -1,13 +1,7 @@
 -- The entry of a group, or of one of its sources, and the marks that it stands for. No public clause cites this module.
-use Rattle.std.specs.Int.Bits.{bit_or, bit_xor}
-use Rattle.std.specs.Prelude.{Bool, Box, None, Option, Some, cond, false, is_some, nat_lt, not, true, ℕ, ◌&&◌, ◌==◌, ◌^◌, ◌||◌, ◌≡◌}
-use Rattle.std.specs.Box.{box_value}
-use Rattle.pim_ifset.specs.Members.{Members}
-use Rattle.pim_store.specs.declared.entry.Entry.TheInside.{Inside}
-use Rattle.pim_store.specs.declared.marks.Mark.{Mark}
-use Rattle.pim_store.specs.declared.marks.Mark.TheVariants.{Joined, Branched, Pruned, Lost, Won, HasOverrideTimer, HasSource, HasRegister}
-use Rattle.pim_store.specs.declared.marks.Marks.{Marks}
-use Rattle.pim_store.specs.declared.rare.Rare.{Rare}
+use Rattle.std.{specs.{Int.Bits.{bit_or, bit_xor}, Prelude.{Bool, Box, None, Option, Some, cond, false, is_some, nat_lt, not, true, ℕ, ◌&&◌, ◌==◌, ◌^◌, ◌||◌, ◌≡◌}, Box.box_value}}
+use Rattle.pim_ifset.{specs.Members.Members}
+use Rattle.pim_store.{specs.declared.{entry.Entry.TheInside.Inside, marks.{Mark.{Mark, TheVariants.{Joined, Branched, Pruned, Lost, Won, HasOverrideTimer, HasSource, HasRegister}}, Marks.Marks}, rare.Rare.Rare}}
 
 -- ---- sets
 

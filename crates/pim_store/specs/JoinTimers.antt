@@ -1,15 +1,11 @@
 -- The Join timers of an index, and the queue of when they expire. No public clause cites this module.
-use Rattle.std.specs.Prelude.{None, Option, Some, false, length, ℕ, ◌≡◌}
-use Rattle.pim_model.specs.Tables.{Table, row_at}
-use Rattle.pim_source_trie.specs.Entries.{entry_key}
-use Rattle.pim_timers.specs.Armed.{Entries, holds}
-use Rattle.pim_tables.specs.Ends.{DifferAt, InStep, InStepBeside, IsRowArmed}
-use Rattle.pim_types.specs.declared.fact.JoinTimerRow.{JoinTimerRow}
-use Rattle.pim_types.specs.declared.fact.Key.{Key}
-use Rattle.pim_types.specs.declared.timer.TimerKind.{TimerKind}
-use Rattle.pim_store.specs.Said.{AreEntries, said, seen, source_bits, timers_in, tunnel_in}
-use Rattle.pim_store.specs.declared.marks.Mark.{Mark}
-use Rattle.pim_store.specs.declared.marks.Marks.{Marks}
+use Rattle.std.{specs.Prelude.{None, Option, Some, false, length, ℕ, ◌≡◌}}
+use Rattle.pim_model.{specs.Tables.{Table, row_at}}
+use Rattle.pim_source_trie.{specs.Entries.entry_key}
+use Rattle.pim_timers.{specs.Armed.{Entries, holds}}
+use Rattle.pim_tables.{specs.Ends.{DifferAt, InStep, InStepBeside, IsRowArmed}}
+use Rattle.pim_types.{specs.declared.{fact.{JoinTimerRow.JoinTimerRow, Key.Key}, timer.TimerKind.TimerKind}}
+use Rattle.pim_store.{specs.{Said.{AreEntries, said, seen, source_bits, timers_in, tunnel_in}, declared.marks.{Mark.Mark, Marks.Marks}}}
 
 -- The queue is settled for all Join timers, or for all but that of the key.
 abbrev pub AreTimersInStep : Entries → Table Marks → Type 0
@@ -32,7 +28,7 @@ pub record AreLent (all : Table Marks) (count : ℕ) : Type 0 where
   pub entries : AreEntries all
   pub counted : count ≡ length (timers_in all)
 
--- The marks are those of the key's group, or of its source.
+-- The marks are those of the entry of a key's group, or of its source.
 pub record IsThere (all : Table Marks) (k : Key) (m : Marks) : Type 0 where
   pub as_said : (x : Mark) (i : ℕ) → seen x m i ≡ said all x i k.group.bits (source_bits k.source)
   pub bare : (x : Mark) → tunnel_in x m ≡ false

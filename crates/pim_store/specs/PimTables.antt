@@ -1,22 +1,10 @@
 -- The PIM facts of the router, as plain tables.
-use Rattle.std.specs.Option.{option_map_or}
-use Rattle.std.specs.List.Sorted.{IsStrictlySortedBy}
-use Rattle.std.specs.List.{list_all}
-use Rattle.std.specs.Prelude.{Bool, List, Option, Some, [], false, is_none, is_some, length, min, nat_lt, not, option_map, true, ℕ, ◌&&◌, ◌+◌, ◌++◌, ◌==◌, ◌≡◌}
-use Rattle.pim_ip.specs.declared.addr.Addr.{Addr}
-use Rattle.pim_types.specs.declared.fact.AssertRow.{AssertRow}
-use Rattle.pim_types.specs.declared.fact.DownstreamRow.{DownstreamRow}
-use Rattle.pim_types.specs.declared.fact.JoinTimerRow.{JoinTimerRow}
-use Rattle.pim_types.specs.declared.fact.Key.{Key}
-use Rattle.pim_types.specs.declared.fact.OverrideTimerRow.{OverrideTimerRow}
-use Rattle.pim_types.specs.declared.fact.RegisterRow.{RegisterRow}
-use Rattle.pim_types.specs.declared.fact.SourceRow.{SourceRow}
-use Rattle.pim_types.specs.declared.timer.TimerKind.{TimerKind}
-use Rattle.pim_types.specs.Keys.{iface_in, key_cmp, key_of}
-use Rattle.pim_model.specs.State.{State}
-use Rattle.pim_model.specs.Tables.{Table, keys_in}
-use Rattle.pim_model.specs.Timers.{Ending, endings, register_end}
+use Rattle.std.{specs.{Option.option_map_or, List.{Sorted.IsStrictlySortedBy, list_all}, Prelude.{Bool, List, Option, Some, [], false, is_none, is_some, length, min, nat_lt, not, option_map, true, ℕ, ◌&&◌, ◌+◌, ◌++◌, ◌==◌, ◌≡◌}}}
+use Rattle.pim_ip.{specs.declared.addr.Addr.Addr}
+use Rattle.pim_types.{specs.{declared.{fact.{AssertRow.AssertRow, DownstreamRow.DownstreamRow, JoinTimerRow.JoinTimerRow, Key.Key, OverrideTimerRow.OverrideTimerRow, RegisterRow.RegisterRow, SourceRow.SourceRow}, timer.TimerKind.TimerKind}, Keys.{iface_in, key_cmp, key_of}}}
+use Rattle.pim_model.{specs.{State.State, Tables.{Table, keys_in}, Timers.{Ending, endings, register_end}}}
 
+-- the tables of PIM's facts
 pub record PimTables : Type 0 where
   -- under keys of interface, group and source
   pub downstream : Table DownstreamRow
@@ -38,6 +26,7 @@ pim_tables s = record {
   registers = s.registers;
 }
 
+-- the tables of PIM's facts without rows
 abbrev pub no_facts : PimTables
 no_facts = record {
   downstream = [];
@@ -56,6 +45,7 @@ fact_key i group source rpt = key_of i group.bits (option_map (λ (a : Addr). a.
 abbrev pub is_assert_key : Key → Bool
 is_assert_key k = nat_lt (iface_in k) 120 && not k.rpt
 
+-- a key of (S,G) of the whole router
 abbrev pub is_source_key : Key → Bool
 is_source_key k = (iface_in k == 0) && not k.rpt && is_some k.source
 
@@ -72,6 +62,7 @@ pub record AreKeyed (f : PimTables) : Type 0 where
 abbrev pub is_plain_key : Key → Bool
 is_plain_key k = (iface_in k == 0) && not k.rpt
 
+-- a key of (S,G,rpt) of the whole router
 abbrev pub is_rpt_key : Key → Bool
 is_rpt_key k = (iface_in k == 0) && k.rpt && is_some k.source
 
@@ -84,10 +75,11 @@ are_of_kind f =
     && (list_all (λ e. is_rpt_key e.0) f.override_timers
     && (list_all (λ e. is_source_key e.0) f.sources && list_all (λ e. is_source_key e.0) f.registers))))
 
+-- the keys of a table rise
 abbrev pub Rises : {R : Type 0} → Table R → Type 0
 Rises t = IsStrictlySortedBy key_cmp (keys_in t)
 
--- the keys of each table rise
+-- the keys of each table of PIM facts rise
 pub record AllRise (f : PimTables) : Type 0 where
   pub downstream : Rises f.downstream
   pub asserts : Rises f.asserts
@@ -100,7 +92,7 @@ pub record AllRise (f : PimTables) : Type 0 where
 abbrev pub is_prune : Option DownstreamRow → Bool
 is_prune row = option_map_or (λ (r : DownstreamRow). is_none r.pending) row false
 
--- A source's row once its keepalive timer expires at the timestamp, by the row that is there.
+-- A source's row after KAT(S,G) is set to a timestamp, by the row before, if there is one.
 abbrev pub kept_alive : ℕ → Option SourceRow → SourceRow
 kept_alive end row = record { keepalive = Some end; spt = option_map_or (λ (r : SourceRow). r.spt) row false }
 
@@ -108,7 +100,7 @@ kept_alive end row = record { keepalive = Some end; spt = option_map_or (λ (r :
 abbrev pub lowered_join_timer : ℕ → JoinTimerRow → Option JoinTimerRow
 lowered_join_timer end row = Some (record { end = min row.end end })
 
--- the keys of all facts
+-- the keys of all PIM facts, table by table
 unfoldable pub stored_keys : PimTables → List Key
 stored_keys f =
     keys_in f.downstream ++ keys_in f.asserts ++ keys_in f.join_timers ++ keys_in f.override_timers

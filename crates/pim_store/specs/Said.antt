@@ -1,17 +1,12 @@
 -- What the marks of a group, or of a source, mean for its facts. No public clause cites this module.
-use Rattle.std.specs.Option.{option_map_or}
-use Rattle.std.specs.Prelude.{Bool, None, Option, Some, cond, false, is_some, nat_lt, not, option_map, true, ℕ, ◌&&◌, ◌==◌, ◌≡◌}
-use Rattle.pim_ip.specs.declared.addr.Addr.{Addr}
-use Rattle.pim_ifset.specs.Members.{has}
-use Rattle.pim_types.specs.declared.fact.JoinTimerRow.{JoinTimerRow}
-use Rattle.pim_types.specs.declared.fact.Key.{Key}
-use Rattle.pim_types.specs.Keys.{iface_in, key_of, same_key}
-use Rattle.pim_model.specs.Tables.{Table, has_row, row_at, same_bool}
-use Rattle.pim_tables.specs.RowsIn.{rows_in}
-use Rattle.pim_source_trie.specs.Entries.{entry_key}
-use Rattle.pim_store.specs.declared.marks.Mark.{Mark}
-use Rattle.pim_store.specs.declared.marks.Mark.TheVariants.{Joined, Branched, Pruned, Lost, Won, HasOverrideTimer, HasSource, HasRegister}
-use Rattle.pim_store.specs.declared.marks.Marks.{Marks}
+use Rattle.std.{specs.{Option.option_map_or, Prelude.{Bool, None, Option, Some, cond, false, is_some, nat_lt, not, option_map, true, ℕ, ◌&&◌, ◌==◌, ◌≡◌}}}
+use Rattle.pim_ip.{specs.declared.addr.Addr.Addr}
+use Rattle.pim_ifset.{specs.Members.has}
+use Rattle.pim_types.{specs.{declared.fact.{JoinTimerRow.JoinTimerRow, Key.Key}, Keys.{iface_in, key_of, same_key}}}
+use Rattle.pim_model.{specs.Tables.{Table, has_row, row_at, same_bool}}
+use Rattle.pim_tables.{specs.RowsIn.rows_in}
+use Rattle.pim_source_trie.{specs.Entries.entry_key}
+use Rattle.pim_store.{specs.declared.marks.{Mark.{Mark, TheVariants.{Joined, Branched, Pruned, Lost, Won, HasOverrideTimer, HasSource, HasRegister}}, Marks.Marks}}
 
 -- ---- the marks of one group or source
 
@@ -35,7 +30,7 @@ tunnel_in Lost m = (m.lost).tunnel
 tunnel_in Won m = (m.won).tunnel
 tunnel_in _ m = false
 
--- The mark is the same as the one that is set, on the same interface.
+-- A mark on an interface is the mark that is set there.
 abbrev pub is_set_by : Mark → ℕ → Mark → ℕ → Bool
 is_set_by Joined i Joined q = q == i
 is_set_by Branched i Branched q = q == i
@@ -47,7 +42,7 @@ is_set_by HasSource i HasSource q = true
 is_set_by HasRegister i HasRegister q = true
 is_set_by _ i _ q = false
 
--- ---- the facts that they are about
+-- ---- the facts that marks are about
 
 -- The interface of the fact that a mark is about; facts of the whole router have number 0.
 abbrev pub iface_at : Mark → ℕ → ℕ
@@ -120,7 +115,7 @@ abbrev pub WritesTimer : (before after : Table Marks) → Key → Option JoinTim
 WritesTimer before after k row =
     (q : Key) → timer_in (row_at after q) ≡ cond (same_key q k) row (timer_in (row_at before q))
 
--- All marks are unchanged.
+-- A change leaves the marks of all entries as they are.
 abbrev pub KeepsMarks : (before after : Table Marks) → Type 0
 KeepsMarks before after = (x : Mark) (i g : ℕ) (s : Option ℕ) → said after x i g s ≡ said before x i g s
 
@@ -150,7 +145,7 @@ module _ {R : Type 0} (tells : Mark → Bool) (says : Mark → R → Bool) where
   abbrev pub row_says : Mark → Option R → Bool
   row_says x row = option_map_or (says x) row false
 
-  -- Both rows set the same marks.
+  -- Two rows of a fact set the same marks.
   abbrev pub SaysAlike : R → R → Type 0
   SaysAlike row before = (x : Mark) → tells x ≡ true → says x row ≡ says x before
 

@@ -1,11 +1,7 @@
 -- A store: its tables, and the entries of groups and sources. No public clause cites this module.
-use Rattle.std.specs.Prelude.{◌≡◌}
-use Rattle.pim_model.specs.Tables.{Table}
-use Rattle.pim_store.specs.PimTables.{PimTables}
-use Rattle.pim_store.specs.Said.{IsTold, is_of_iface, is_plain_of_iface, is_rpt_of_router, is_source_of_router, timers_in}
-use Rattle.pim_store.specs.Telling.{assert_says, assert_table, downstream_says, downstream_table, is_there, is_told_by, override_timer_table, register_table, source_table}
-use Rattle.pim_store.specs.declared.marks.Marks.{Marks}
-use Rattle.pim_store.specs.declared.store.Store.TheInside.{Inside}
+use Rattle.std.{specs.Prelude.◌≡◌}
+use Rattle.pim_model.{specs.Tables.Table}
+use Rattle.pim_store.{specs.{PimTables.PimTables, Said.{IsTold, is_of_iface, is_plain_of_iface, is_rpt_of_router, is_source_of_router, timers_in}, Telling.{assert_says, assert_table, downstream_says, downstream_table, is_there, is_told_by, override_timer_table, register_table, source_table}, declared.{marks.Marks.Marks, store.Store.TheInside.Inside}}}
 
 -- The tables of a store; the Join timers are those of the index.
 abbrev pub tables_of : Inside → PimTables

@@ -1,11 +1,8 @@
 -- Which marks the rows of each table set. No public clause cites this module.
-use Rattle.std.specs.Prelude.{Bool, None, Option, Some, false, is_none, true, ℕ, ◌==◌, ◌||◌}
-use Rattle.pim_types.specs.declared.fact.AssertRow.{AssertRow}
-use Rattle.pim_types.specs.declared.fact.DownstreamRow.{DownstreamRow}
-use Rattle.pim_model.specs.Sets.{is_loser, is_winner}
-use Rattle.pim_store.specs.Said.{is_set_by}
-use Rattle.pim_store.specs.declared.marks.Mark.{Mark}
-use Rattle.pim_store.specs.declared.marks.Mark.TheVariants.{Joined, Branched, Pruned, Lost, Won, HasOverrideTimer, HasSource, HasRegister}
+use Rattle.std.{specs.Prelude.{Bool, None, Option, Some, false, is_none, true, ℕ, ◌==◌, ◌||◌}}
+use Rattle.pim_types.{specs.declared.fact.{AssertRow.AssertRow, DownstreamRow.DownstreamRow}}
+use Rattle.pim_model.{specs.Sets.{is_loser, is_winner}}
+use Rattle.pim_store.{specs.{Said.is_set_by, declared.marks.Mark.{Mark, TheVariants.{Joined, Branched, Pruned, Lost, Won, HasOverrideTimer, HasSource, HasRegister}}}}
 
 -- one of the two marks is the one that is set, and on the interface that it is set on
 abbrev pub is_second : Option Mark → ℕ → Mark → ℕ → Bool

@@ -142,7 +142,7 @@ impl Alter<Entry> for Marking {
     }
 }
 
-// Clears one mark or two.
+// Clears one mark of an entry, or two.
 #[derive(Clone, Copy)]
 pub(crate) struct Unmarking {
     pub(crate) first: Mark,

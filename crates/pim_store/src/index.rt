@@ -342,11 +342,11 @@ impl Index {
     }
 
     // For the proof: the Join timers are under keys of (*,G) and (S,G), which rise. Does nothing when it runs.
-    pub(crate) fn recall_keyed_timers(&self)
+    pub(crate) fn proof_keyed_timers(&self)
         ensures kind { IsTrue (list_all (λ e. is_plain_key e.0) (timers_in self.now)) }
         ensures rising { IsStrictlySortedBy key_cmp (keys_in (timers_in self.now)) }
     {
-        // Its contract says that the keys of all entries rise.
+        // The contract of `is_empty` says that the keys of all entries rise.
         let _ = self.entries.is_empty();
     }
 

@@ -8,7 +8,7 @@ ghost use Rattle.pim_store.specs.Said.{timers_in};
 
 use crate::entry::Entry;
 use pim_source_trie::{AllEntries, Entries, Meter, SourceTrie};
-use pim_tables::{Holding, arm_row};
+use pim_tables::{ReadRows, arm_row};
 use pim_timers::Queue;
 use pim_types::fact::JoinTimerRow;
 use pim_types::{IfaceId, Key};
@@ -170,7 +170,7 @@ impl<'a> Lent<'a> {
     }
 }
 
-impl<'a> Holding<JoinTimerRow> for Lent<'a> {
+impl<'a> ReadRows<JoinTimerRow> for Lent<'a> {
     type Count = Meter;
 
     ghost table = { λ l. l };
@@ -179,16 +179,16 @@ impl<'a> Holding<JoinTimerRow> for Lent<'a> {
         self.count
     }
 
-    fn recall_rise(&self) {
+    fn proof_rise(&self) {
         // For the proof: the keys rise.
         let _ = self.entries.is_empty();
     }
 
     fn has(&self, key: Key, meter: &mut Meter) -> bool {
-        Holding::<JoinTimerRow>::at(self, key, meter).is_some()
+        ReadRows::<JoinTimerRow>::get(self, key, meter).is_some()
     }
 
-    fn at(&self, key: Key, meter: &mut Meter) -> Option<JoinTimerRow> {
+    fn get(&self, key: Key, meter: &mut Meter) -> Option<JoinTimerRow> {
         // For the proof: the keys rise.
         let _ = self.entries.is_empty();
         if !is_placed(key) {

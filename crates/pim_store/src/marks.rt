@@ -30,7 +30,7 @@ pub struct Marks {
     pub has_register: bool,
 }
 
-/// One of the marks.
+/// What an entry may say of its group or source: that it has a fact of this kind.
 #[derive(Clone, Copy)]
 pub enum Mark {
     Joined,

@@ -16,7 +16,7 @@ pub(crate) struct Rare {
 }
 
 impl Rare {
-    // The sets, all empty.
+    // The rarely used sets of an entry, all empty.
     fn none() -> Rare
         ensures { result ≡ no_rare }
     {

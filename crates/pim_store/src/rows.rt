@@ -8,7 +8,7 @@ ghost use Rattle.pim_store.specs.declared.marks.Mark.{Mark as MarkValue};
 use crate::index::Index;
 use crate::telling::TellsMarks;
 use pim_source_trie::Meter;
-use pim_tables::{Change, Keeping, Timed, To};
+use pim_tables::{Change, Timed, To, WriteRows};
 use pim_types::{IfaceId, Key};
 use std::alloc::AllocError;
 
@@ -32,7 +32,7 @@ fn says_alike<R: TellsMarks>(key: Key, before: R, row: R) -> bool
 // Changes the row under the key in its place, if there is one. The result is whether there is one. The row is looked up
 // once, or not at all where the hint is its place; the result doesn't depend on the hint. The error is want of memory.
 // The marks are looked up only if the new row sets other marks than the old one.
-pub(crate) fn update_row<R: TellsMarks, K: Keeping<R>, C: Change<R>>(
+pub(crate) fn update_row<R: TellsMarks, K: WriteRows<R>, C: Change<R>>(
     rows: &mut Timed<R, K>,
     index: &mut Index,
     hint: Option<usize>,
@@ -51,7 +51,7 @@ pub(crate) fn update_row<R: TellsMarks, K: Keeping<R>, C: Change<R>>(
         → SaysAlike R.tells R.says (C.after change before) before → meter.new ≡ meter.old) }
 {
     // For the proof: a key is listed once.
-    rows.recall_rising();
+    rows.proof_rising();
     let found = match rows.update(hint, key, change) {
         Ok(found) => found,
         Err(refused) => {
@@ -74,7 +74,7 @@ pub(crate) fn update_row<R: TellsMarks, K: Keeping<R>, C: Change<R>>(
 }
 
 // Puts the row under the key, replacing one that is there. The error is want of memory.
-pub(crate) fn put_row<R: TellsMarks, K: Keeping<R>>(
+pub(crate) fn put_row<R: TellsMarks, K: WriteRows<R>>(
     rows: &mut Timed<R, K>,
     index: &mut Index,
     key: Key,
@@ -89,7 +89,7 @@ pub(crate) fn put_row<R: TellsMarks, K: Keeping<R>>(
     ensures timers { timers_in index.new ≡ timers_in index.old }
 {
     // For the proof: what is put under a key with a row takes the place of that row.
-    rows.recall_rising();
+    rows.proof_rising();
     if update_row(rows, index, None, key, To { row }, meter)? {
         return Ok(());
     }
@@ -97,7 +97,7 @@ pub(crate) fn put_row<R: TellsMarks, K: Keeping<R>>(
 }
 
 // Puts a row under a key that has none. An error is want of memory.
-pub(crate) fn add_row<R: TellsMarks, K: Keeping<R>>(
+pub(crate) fn add_row<R: TellsMarks, K: WriteRows<R>>(
     rows: &mut Timed<R, K>,
     index: &mut Index,
     key: Key,
@@ -121,7 +121,7 @@ pub(crate) fn add_row<R: TellsMarks, K: Keeping<R>>(
 }
 
 // Removes the row under the key, with the marks that it set.
-fn drop_marked<R: TellsMarks, K: Keeping<R>>(
+fn drop_marked<R: TellsMarks, K: WriteRows<R>>(
     rows: &mut Timed<R, K>,
     index: &mut Index,
     key: Key,
@@ -137,7 +137,7 @@ fn drop_marked<R: TellsMarks, K: Keeping<R>>(
 }
 
 // Removes the row under the key.
-pub(crate) fn remove_row<R: TellsMarks, K: Keeping<R>>(
+pub(crate) fn remove_row<R: TellsMarks, K: WriteRows<R>>(
     rows: &mut Timed<R, K>,
     index: &mut Index,
     key: Key,
@@ -155,7 +155,7 @@ pub(crate) fn remove_row<R: TellsMarks, K: Keeping<R>>(
 
 // Puts the row under the key, or removes the one that is there. The error is want of memory.
 #[tactic(auto, unfolding(pim_model::specs::Tables::set_row))]
-pub(crate) fn set_row<R: TellsMarks, K: Keeping<R>>(
+pub(crate) fn set_row<R: TellsMarks, K: WriteRows<R>>(
     rows: &mut Timed<R, K>,
     index: &mut Index,
     key: Key,
@@ -179,7 +179,7 @@ pub(crate) fn set_row<R: TellsMarks, K: Keeping<R>>(
 }
 
 // If there is a row under the key, replaces it or removes it. The error is want of memory.
-pub(crate) fn change_row<R: TellsMarks, K: Keeping<R>>(
+pub(crate) fn change_row<R: TellsMarks, K: WriteRows<R>>(
     rows: &mut Timed<R, K>,
     index: &mut Index,
     key: Key,
@@ -193,7 +193,7 @@ pub(crate) fn change_row<R: TellsMarks, K: Keeping<R>>(
     ensures timers { timers_in index.new ≡ timers_in index.old }
 {
     // For the proof: what is put under a key with a row takes the place of that row.
-    rows.recall_rising();
+    rows.proof_rising();
     if !rows.contains(key) {
         return Ok(());
     }
@@ -201,7 +201,7 @@ pub(crate) fn change_row<R: TellsMarks, K: Keeping<R>>(
 }
 
 // Removes the row under the key, if there is one.
-pub(crate) fn drop_row<R: TellsMarks, K: Keeping<R>>(
+pub(crate) fn drop_row<R: TellsMarks, K: WriteRows<R>>(
     rows: &mut Timed<R, K>,
     index: &mut Index,
     key: Key,

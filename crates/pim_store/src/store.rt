@@ -306,7 +306,7 @@ impl Store {
             → meter.new ≡ meter.old) }
     {
         // For the proof: a key is listed once.
-        self.sources.recall_rising();
+        self.sources.proof_rising();
         let key = name.key();
         let change = KeepAlive { end };
         if update_row(&mut self.sources, &mut self.index, hint, key, change, meter)? {
@@ -451,7 +451,7 @@ impl Store {
         } }
     {
         // For the proof: the key is listed once.
-        self.asserts.recall_rising();
+        self.asserts.proof_rising();
         if row_says(self.asserts.get(key), Mark::Lost) {
             remove_row(&mut self.asserts, &mut self.index, key, meter);
         }
@@ -498,6 +498,20 @@ impl Store {
         self.downstream.rows().push_rpt_keys(iface, groups, keys)
     }
 
+    /// Adds the keys of the (S,G,rpt) downstream states of one group on the interface at the end of the list, by rising
+    /// key. Of other groups only the next state is read.
+    pub fn push_rpt_keys_at(
+        &self,
+        iface: IfaceId,
+        group: Addr,
+        keys: &mut Vec<Key>,
+    ) -> Result<(), AllocError>
+        ensures { OnOk result (keys.new.items ≡ keys.old.items
+            ++ filter (λ k. is_on iface.number k && k.rpt && is_of_group group.bits k) (keys_in self.now.downstream)) }
+    {
+        self.downstream.rows().push_rpt_keys_at(iface, group, keys)
+    }
+
     /// The Join timers of the group, by rising key: that of (*,G), then those of its sources. All its sources are gone
     /// through. The meter rises by the nodes that lead to the group, and by all that lead on to its sources.
     pub fn join_timers_of(&self, group: Addr, meter: &mut Meter) -> GroupJoinTimers<'_>
@@ -522,31 +536,31 @@ impl Store {
     }
 
     /// For the proof: asserts, sources and registers are under keys of their kind, which rise.
-    pub fn recall_keyed(&self)
+    pub fn proof_keyed(&self)
         ensures { AreKeyed self.now }
     {
-        self.asserts.recall_rising();
-        self.sources.recall_rising();
-        self.registers.recall_rising();
+        self.asserts.proof_rising();
+        self.sources.proof_rising();
+        self.registers.proof_rising();
     }
 
     /// For the proof: the keys of each table rise. Does nothing when it runs.
-    pub fn recall_rising(&self)
+    pub fn proof_rising(&self)
         ensures { AllRise self.now }
     {
-        self.downstream.recall_rising();
-        self.asserts.recall_rising();
-        self.index.recall_keyed_timers();
-        self.override_timers.recall_rising();
-        self.sources.recall_rising();
-        self.registers.recall_rising();
+        self.downstream.proof_rising();
+        self.asserts.proof_rising();
+        self.index.proof_keyed_timers();
+        self.override_timers.proof_rising();
+        self.sources.proof_rising();
+        self.registers.proof_rising();
     }
 
     /// For the proof: each fact is under a key of its kind. Does nothing when it runs.
-    pub fn recall_kinds(&self)
+    pub fn proof_kinds(&self)
         ensures { IsTrue (are_of_kind self.now) }
     {
-        self.index.recall_keyed_timers();
+        self.index.proof_keyed_timers();
     }
 
     /// How many Join timers there are.

@@ -1,31 +1,10 @@
 -- The first of the ends of a table's rows is the timer that is next.
-use Rattle.std.proofs.Common.{◌≡◌, ◌≢◌, ℕ, Bool, true, false, cond, List, [], ◌∷◌, ◌++◌, map as each, Option, Some, None, option_map, refl, sym, ap, subst, ◌∙◌}
-use Rattle.std.specs.List.{cons_option, AllByRecursion}
-use Rattle.std.specs.List.Sorted.{IsStrictlySortedBy}
-use Rattle.std.specs.Map.{lookup}
-use Rattle.std.specs.BTreeMap.{is_at}
-use Rattle.std.specs.Ordering.{is_eq, ordering_reverse}
-use Rattle.std.specs.Cmp.{IsStrictWeakOrder}
-use Rattle.std.specs.declared.cmp.Ordering.TheVariants.{Less}
-use Rattle.std.proofs.lemmas.List.MinMax.{ranks_by}
-use Rattle.pim_types.specs.declared.fact.Key.{Key}
-use Rattle.pim_types.specs.declared.timer.Timer.{Timer}
-use Rattle.pim_types.specs.declared.timer.TimerKind.{TimerKind}
-use Rattle.pim_types.specs.Keys.{key_cmp, same_key}
-use Rattle.pim_types.proofs.Keys.{equal_keys, key_cmp_total, same_key_same}
-use Rattle.pim_timers.specs.Armed.{Entries, holds}
-use Rattle.pim_timers.specs.Dues.{Due, IsFirst}
-use Rattle.pim_timers.specs.Next.{IsNext}
-use Rattle.pim_timers.specs.Order.{due_cmp}
-use Rattle.pim_timers.proofs.Least.{next_is_one}
-use Rattle.pim_timers.proofs.Armed.{first_is_next}
-use Rattle.pim_timers.proofs.Total.{due_cmp_total}
-use Rattle.pim_model.specs.Clearing.{first_by, first_of_both}
-use Rattle.pim_model.specs.Tables.{Table, keys_in, row_at}
-use Rattle.pim_model.specs.Timers.{Ending, ending, ending_cmp, endings, is_ending_first}
-use Rattle.pim_laws.proofs.ListLaws.{each_append}
-use Rattle.pim_tables.specs.Ends.{InStep, Kinds, due_of, end_of, is_second, row_endings, same_kind, second_endings}
-use Rattle.pim_tables.proofs.Steps.{first_end, kind_exact, same_kind_itself, second_end}
+use Rattle.std.{proofs.{Common.{◌≡◌, ◌≢◌, ℕ, Bool, true, false, cond, List, [], ◌∷◌, ◌++◌, map as each, Option, Some, None, option_map, refl, sym, ap, subst, ◌∙◌}, lemmas.List.MinMax.ranks_by}, specs.{List.{cons_option, AllByRecursion, Sorted.IsStrictlySortedBy}, Map.lookup, BTreeMap.is_at, Ordering.{is_eq, ordering_reverse}, Cmp.IsStrictWeakOrder, declared.cmp.Ordering.TheVariants.Less}}
+use Rattle.pim_types.{specs.{declared.{fact.Key.Key, timer.{Timer.Timer, TimerKind.TimerKind}}, Keys.{key_cmp, same_key}}, proofs.Keys.{equal_keys, key_cmp_total, same_key_same}}
+use Rattle.pim_timers.{specs.{Armed.{Entries, holds}, Dues.{Due, IsFirst}, Next.IsNext, Order.due_cmp}, proofs.{Least.next_is_one, Armed.first_is_next, Total.due_cmp_total}}
+use Rattle.pim_model.{specs.{Clearing.{first_by, first_of_both}, Tables.{Table, keys_in, row_at}, Timers.{Ending, ending, ending_cmp, endings, is_ending_first}}}
+use Rattle.law_settled.{proofs.ListLaws.each_append}
+use Rattle.pim_tables.{specs.Ends.{InStep, Kinds, due_of, end_of, is_second, row_endings, same_kind, second_endings}, proofs.Steps.{first_end, kind_exact, same_kind_itself, second_end}}
 
 -- ---- the first of a list
 

@@ -1,13 +1,9 @@
 -- Rows that pass a test, taken away one after the other.
-use Rattle.std.proofs.Common.{◌≡◌, ◌<◌, Bool, true, false, cond, not, [], ◌∷◌, length, Some, None, refl, sym, ap, subst, ◌∙◌}
-use Rattle.std.specs.List.{AllByRecursion, filter, list_any}
-use Rattle.std.proofs.lemmas.Bool.{or_left}
-use Rattle.pim_types.specs.declared.fact.Key.{Key}
-use Rattle.pim_types.specs.Keys.{same_key}
-use Rattle.pim_types.proofs.Keys.{equal_keys, same_key_same}
-use Rattle.pim_model.specs.Tables.{Table, drop_at, drop_where}
-use Rattle.pim_laws.proofs.ListLaws.{any_of_filter, each_passes, filter_stricter, filter_within}
-use Rattle.pim_tables.specs.RowsOf.{first_key}
+use Rattle.std.{proofs.{Common.{◌≡◌, ◌<◌, Bool, true, false, cond, not, [], ◌∷◌, length, Some, None, refl, sym, ap, subst, ◌∙◌}, lemmas.Bool.or_left}, specs.List.{AllByRecursion, filter, list_any}}
+use Rattle.pim_types.{specs.{declared.fact.Key.Key, Keys.same_key}, proofs.Keys.{equal_keys, same_key_same}}
+use Rattle.pim_model.{specs.Tables.{Table, drop_at, drop_where}}
+use Rattle.law_settled.{proofs.ListLaws.{any_of_filter, each_passes, filter_stricter, filter_within}}
+use Rattle.pim_tables.{specs.RowsOf.first_key}
 
 module _ {R : Type 0} (test : Key → Bool) where
   abbrev passing : Table R → Table R

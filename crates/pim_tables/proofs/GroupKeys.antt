@@ -1,18 +1,8 @@
 -- The (S,G,rpt) keys of groups that rise, group by group.
-use Rattle.std.proofs.Common.{◌≡◌, ◌<◌, ◌==◌, ◌&&◌, ◌||◌, ℕ, Bool, true, false, cond, List, [], ◌∷◌, ◌++◌, refl, sym, ap, ◌∙◌, arith, filter}
-use Rattle.std.specs.List.{AllByRecursion, flat_map, list_any}
-use Rattle.std.specs.List.Sorted.{IsStrictlySortedBy}
-use Rattle.std.specs.Option.{option_cmp}
-use Rattle.std.specs.Ordering.{bool_cmp, nat_cmp, ordering_then}
-use Rattle.std.specs.declared.cmp.Ordering.{Ordering}
-use Rattle.std.specs.declared.cmp.Ordering.TheVariants.{Less, Equal, Greater}
-use Rattle.std.proofs.lemmas.Bool.Decides.{nat_tests}
-use Rattle.std.proofs.lemmas.List.Elements.{filter_agree}
-use Rattle.pim_ip.specs.declared.addr.Addr.{Addr}
-use Rattle.pim_types.specs.declared.fact.Key.{Key}
-use Rattle.pim_types.specs.Keys.{addr_cmp, group_in, iface_in, is_of_group, is_on, key_cmp}
-use Rattle.pim_types.proofs.Keys.{nat_cmp_same}
-use Rattle.pim_model.specs.Tables.{Table, keys_in}
+use Rattle.std.{proofs.{Common.{◌≡◌, ◌<◌, ◌==◌, ◌&&◌, ◌||◌, ℕ, Bool, true, false, cond, List, [], ◌∷◌, ◌++◌, refl, sym, ap, ◌∙◌, arith, filter}, lemmas.{Bool.Decides.nat_tests, List.Elements.filter_agree}}, specs.{List.{AllByRecursion, flat_map, list_any, Sorted.IsStrictlySortedBy}, Option.option_cmp, Ordering.{bool_cmp, nat_cmp, ordering_then}, declared.cmp.Ordering.{Ordering, TheVariants.{Less, Equal, Greater}}}}
+use Rattle.pim_ip.{specs.declared.addr.Addr.Addr}
+use Rattle.pim_types.{specs.{declared.fact.Key.Key, Keys.{addr_cmp, group_in, iface_in, is_of_group, is_on, key_cmp}}, proofs.Keys.nat_cmp_same}
+use Rattle.pim_model.{specs.Tables.{Table, keys_in}}
 
 -- ---- keys that pass one test come before those that pass the other
 

@@ -1,14 +1,8 @@
 -- The first of two lists of ends is told by the first of each.
-use Rattle.std.proofs.Common.{◌≡◌, Bool, true, false, cond, List, [], ◌∷◌, ◌++◌, Option, Some, None, option_map, refl, sym, ap, ◌∙◌}
-use Rattle.std.specs.Ordering.{is_lt}
-use Rattle.std.specs.Prelude.{if◌then◌else◌}
-use Rattle.std.proofs.lemmas.Bool.{true≢false}
-use Rattle.pim_timers.specs.Dues.{Due}
-use Rattle.pim_timers.specs.Order.{due_cmp}
-use Rattle.pim_model.specs.Clearing.{first_by, first_of_both}
-use Rattle.pim_model.specs.Timers.{Ending, ending_cmp, is_ending_first}
-use Rattle.pim_tables.specs.Ends.{due_of}
-use Rattle.pim_tables.proofs.Firsts.{order}
+use Rattle.std.{proofs.{Common.{◌≡◌, Bool, true, false, cond, List, [], ◌∷◌, ◌++◌, Option, Some, None, option_map, refl, sym, ap, ◌∙◌}, lemmas.Bool.true≢false}, specs.{Ordering.is_lt, Prelude.if◌then◌else◌}}
+use Rattle.pim_timers.{specs.{Dues.Due, Order.due_cmp}}
+use Rattle.pim_model.{specs.{Clearing.{first_by, first_of_both}, Timers.{Ending, ending_cmp, is_ending_first}}}
+use Rattle.pim_tables.{specs.Ends.due_of, proofs.Firsts.order}
 
 -- the first of two, where the one doesn't come later
 abbrev pub first_of_two : Option Ending → Option Ending → Option Ending

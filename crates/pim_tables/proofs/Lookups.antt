@@ -1,24 +1,8 @@
 -- What is found in a table that was changed.
-use Rattle.std.proofs.Common.{◌≡◌, ℕ, ◌||◌, Bool, true, false, cond, not, [], ◌∷◌, ◌++◌, map, Option, Some, None, is_some, refl, sym, ap, subst, ◌∙◌}
-use Rattle.std.specs.Cmp.{eq_by_cmp_equiv}
-use Rattle.std.specs.List.Sorted.{IsStrictlySortedBy}
-use Rattle.std.specs.Map.{lookup, set_value}
-use Rattle.std.specs.BTreeMap.{insert_entry, is_at}
-use Rattle.std.specs.Option.{IfSome}
-use Rattle.std.specs.Prelude.{Err, IsOk, Ok, OnErr, Result}
-use Rattle.std.specs.Ordering.{is_eq, match_ordering}
-use Rattle.std.specs.declared.cmp.Ordering.{Ordering}
-use Rattle.std.specs.declared.cmp.Ordering.TheVariants.{Less, Equal, Greater}
-use Rattle.std.proofs.lemmas.Bool.{true≢false}
-use Rattle.std.proofs.lemmas.Map.{lookup-none}
-use Rattle.std.proofs.lemmas.Map.Entries.{lookup-filter-keys, none_below_head}
-use Rattle.pim_types.specs.declared.fact.Key.{Key}
-use Rattle.pim_types.specs.declared.timer.TimerKind.{TimerKind}
-use Rattle.pim_types.specs.Keys.{is_on, key_cmp, same_key}
-use Rattle.pim_types.proofs.Keys.{equal_keys, key_cmp_total, same_key_same}
-use Rattle.pim_model.specs.Tables.{Table, change_row, drop_at, drop_where, has_row, keys_in, put, row_at}
-use Rattle.pim_tables.specs.Ends.{DifferAt, left_at}
-use Rattle.pim_tables.proofs.Rows.{absent_is_unchanged, dropped_is_changed, written_is_changed}
+use Rattle.std.{proofs.{Common.{◌≡◌, ℕ, ◌||◌, Bool, true, false, cond, not, [], ◌∷◌, ◌++◌, map, Option, Some, None, is_some, refl, sym, ap, subst, ◌∙◌}, lemmas.{Bool.true≢false, Map.{lookup-none, Entries.{lookup-filter-keys, none_below_head}}}}, specs.{Cmp.eq_by_cmp_equiv, List.Sorted.IsStrictlySortedBy, Map.{lookup, set_value}, BTreeMap.{insert_entry, is_at}, Option.IfSome, Prelude.{Err, IsOk, Ok, OnErr, Result}, Ordering.{is_eq, match_ordering}, declared.cmp.Ordering.{Ordering, TheVariants.{Less, Equal, Greater}}}}
+use Rattle.pim_types.{specs.{declared.{fact.Key.Key, timer.TimerKind.TimerKind}, Keys.{is_on, key_cmp, same_key}}, proofs.Keys.{equal_keys, key_cmp_total, same_key_same}}
+use Rattle.pim_model.{specs.Tables.{Table, change_row, drop_at, drop_where, has_row, keys_in, put, row_at}}
+use Rattle.pim_tables.{specs.Ends.{DifferAt, left_at}, proofs.Rows.{absent_is_unchanged, dropped_is_changed, written_is_changed}}
 
 pub same_key_symm : (k q : Key) → same_key k q ≡ same_key q k
 same_key_symm = (eq_by_cmp_equiv key_cmp_total).symm

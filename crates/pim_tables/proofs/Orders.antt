@@ -1,19 +1,9 @@
 -- The first of a list doesn't depend on the order in which the list is put together.
-use Rattle.std.proofs.Common.{◌≡◌, ℕ, Bool, true, false, cond, ◌||◌, List, [], ◌∷◌, ◌++◌, length, length-append, nat_lt, Option, Some, None, refl, sym, ap, ◌∙◌, arith}
-use Rattle.std.specs.List.{AllByRecursion, filter, list_any}
-use Rattle.std.specs.Ordering.{is_lt, ordering_reverse}
-use Rattle.std.specs.declared.cmp.Ordering.{Ordering}
-use Rattle.std.specs.declared.cmp.Ordering.TheVariants.{Less, Equal, Greater}
-use Rattle.std.proofs.lemmas.Bool.{true≢false}
-use Rattle.std.proofs.lemmas.Bool.Decides.{nat_tests}
-use Rattle.std.proofs.lemmas.List.Elements.{filter-append}
-use Rattle.pim_timers.specs.Order.{due_cmp}
-use Rattle.pim_timers.proofs.Total.{due_cmp_total, due_exact}
-use Rattle.pim_model.specs.Clearing.{first_by}
-use Rattle.pim_model.specs.Timers.{Ending, ending_cmp, is_ending_first}
-use Rattle.pim_laws.proofs.ListLaws.{first_by_member}
-use Rattle.pim_tables.specs.Ends.{due_of}
-use Rattle.pim_tables.proofs.Firsts.{FirstOf, NoneBefore, first_of}
+use Rattle.std.{proofs.{Common.{◌≡◌, ℕ, Bool, true, false, cond, ◌||◌, List, [], ◌∷◌, ◌++◌, length, length-append, nat_lt, Option, Some, None, refl, sym, ap, ◌∙◌, arith}, lemmas.{Bool.{true≢false, Decides.nat_tests}, List.Elements.filter-append}}, specs.{List.{AllByRecursion, filter, list_any}, Ordering.{is_lt, ordering_reverse}, declared.cmp.Ordering.{Ordering, TheVariants.{Less, Equal, Greater}}}}
+use Rattle.pim_timers.{specs.Order.due_cmp, proofs.Total.{due_cmp_total, due_exact}}
+use Rattle.pim_model.{specs.{Clearing.first_by, Timers.{Ending, ending_cmp, is_ending_first}}}
+use Rattle.law_settled.{proofs.ListLaws.first_by_member}
+use Rattle.pim_tables.{specs.Ends.due_of, proofs.Firsts.{FirstOf, NoneBefore, first_of}}
 
 neither : (d e : Ending) → is_ending_first d e ≡ false → is_ending_first e d ≡ false → d ≡ e
 unfolding ending_cmp due_cmp

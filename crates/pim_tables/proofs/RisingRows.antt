@@ -1,16 +1,8 @@
 -- Tables whose keys rise: a row that is put keeps them so, and they are told by the row at each key.
-use Rattle.std.proofs.Common.{◌≡◌, Bool, true, false, cond, [], ◌∷◌, Some, None, refl, sym, ap, ◌∙◌}
-use Rattle.std.specs.List.{AllByRecursion, filter}
-use Rattle.std.specs.List.Sorted.{IsStrictlySortedBy}
-use Rattle.std.specs.Ordering.{is_eq, match_ordering, ordering_reverse}
-use Rattle.std.specs.declared.cmp.Ordering.{Ordering}
-use Rattle.std.specs.declared.cmp.Ordering.TheVariants.{Less, Equal, Greater}
-use Rattle.pim_types.specs.declared.fact.Key.{Key}
-use Rattle.pim_types.specs.Keys.{key_cmp, same_key}
-use Rattle.pim_types.proofs.Keys.{equal_keys, key_cmp_total, same_key_same}
-use Rattle.pim_model.specs.Tables.{Table, keys_in, put, row_at}
-use Rattle.pim_laws.proofs.ListLaws.{each_filter, each_more}
-use Rattle.pim_laws.proofs.RowLaws.{each_put}
+use Rattle.std.{proofs.Common.{◌≡◌, Bool, true, false, cond, [], ◌∷◌, Some, None, refl, sym, ap, ◌∙◌}, specs.{List.{AllByRecursion, filter, Sorted.IsStrictlySortedBy}, Ordering.{is_eq, match_ordering, ordering_reverse}, declared.cmp.Ordering.{Ordering, TheVariants.{Less, Equal, Greater}}}}
+use Rattle.pim_types.{specs.{declared.fact.Key.Key, Keys.{key_cmp, same_key}}, proofs.Keys.{equal_keys, key_cmp_total, same_key_same}}
+use Rattle.pim_model.{specs.Tables.{Table, keys_in, put, row_at}}
+use Rattle.law_settled.{proofs.{ListLaws.{each_filter, each_more}, RowLaws.each_put}}
 
 reversed : (k q : Key) → key_cmp k q ≡ Greater → key_cmp q k ≡ Less
 reversed k q e = key_cmp_total.antisymm q k ∙ ap ordering_reverse e

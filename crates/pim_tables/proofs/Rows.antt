@@ -1,16 +1,8 @@
 -- What a change of the row at a key leaves of a table whose keys rise.
-use Rattle.std.proofs.Common.{◌≡◌, sym, Bool, true, false, [], ◌∷◌, Option, Some, None, refl, ap, ◌∙◌, cond, map, not, option_map}
-use Rattle.std.specs.declared.cmp.Ordering.TheVariants.{Less}
-use Rattle.std.specs.List.{cons_option, filter, filter_map, AllByRecursion}
-use Rattle.std.specs.Option.{IfSome}
-use Rattle.std.specs.List.Sorted.{IsStrictlySortedBy}
-use Rattle.std.specs.Map.{lookup, set_value}
-use Rattle.std.specs.BTreeMap.{is_at}
-use Rattle.std.specs.Prelude.{if◌then◌else◌}
-use Rattle.pim_types.specs.declared.fact.Key.{Key}
-use Rattle.pim_model.specs.Tables.{Table, change_row, changed_entry, drop_at, drop_where, keys_in, row_at}
-use Rattle.pim_types.specs.Keys.{key_cmp, same_key}
-use Rattle.pim_laws.proofs.RemovalLaws.{moved_above}
+use Rattle.std.{proofs.Common.{◌≡◌, sym, Bool, true, false, [], ◌∷◌, Option, Some, None, refl, ap, ◌∙◌, cond, map, not, option_map}, specs.{declared.cmp.Ordering.TheVariants.Less, List.{cons_option, filter, filter_map, AllByRecursion, Sorted.IsStrictlySortedBy}, Option.IfSome, Map.{lookup, set_value}, BTreeMap.is_at, Prelude.if◌then◌else◌}}
+use Rattle.pim_types.{specs.{declared.fact.Key.Key, Keys.{key_cmp, same_key}}}
+use Rattle.pim_model.{specs.Tables.{Table, change_row, changed_entry, drop_at, drop_where, keys_in, row_at}}
+use Rattle.law_settled.{proofs.RemovalLaws.moved_above}
 
 module _ {R : Type 0} (k : Key) (change : R → Option R) where
   changed : Table R → Table R

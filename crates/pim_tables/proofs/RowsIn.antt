@@ -1,17 +1,9 @@
 -- Rows that stand in the values of another table, by that table.
-use Rattle.std.proofs.Common.{◌≡◌, ◌||◌, Bool, true, false, cond, not, [], ◌∷◌, Option, Some, None, option_map, refl, sym, ap, subst, ◌∙◌}
-use Rattle.std.specs.List.{AllByRecursion, cons_option, list_any}
-use Rattle.std.specs.Option.{option_and_then}
-use Rattle.std.specs.declared.cmp.Ordering.TheVariants.{Less}
-use Rattle.pim_types.specs.declared.fact.Key.{Key}
-use Rattle.pim_types.specs.Keys.{key_cmp, same_key}
-use Rattle.pim_types.proofs.Keys.{equal_keys}
-use Rattle.pim_model.specs.Tables.{Table, drop_at, drop_where, keys_in, put, row_at, set_row}
-use Rattle.pim_laws.proofs.ListLaws.{each_filter_map}
-use Rattle.pim_tables.proofs.Lookups.{row_at-drop_at, row_at-put}
-use Rattle.pim_tables.proofs.RisingRows.{Above, Up, none_above, same_rows, up_filtered, up_put}
-use Rattle.pim_tables.specs.Ends.{DifferAt}
-use Rattle.pim_tables.specs.RowsIn.{rows_in}
+use Rattle.std.{proofs.Common.{◌≡◌, ◌||◌, Bool, true, false, cond, not, [], ◌∷◌, Option, Some, None, option_map, refl, sym, ap, subst, ◌∙◌}, specs.{List.{AllByRecursion, cons_option, list_any}, Option.option_and_then, declared.cmp.Ordering.TheVariants.Less}}
+use Rattle.pim_types.{specs.{declared.fact.Key.Key, Keys.{key_cmp, same_key}}, proofs.Keys.equal_keys}
+use Rattle.pim_model.{specs.Tables.{Table, drop_at, drop_where, keys_in, put, row_at, set_row}}
+use Rattle.law_settled.{proofs.ListLaws.each_filter_map}
+use Rattle.pim_tables.{proofs.{Lookups.{row_at-drop_at, row_at-put}, RisingRows.{Above, Up, none_above, same_rows, up_filtered, up_put}}, specs.{Ends.DifferAt, RowsIn.rows_in}}
 
 module _ {V R : Type 0} (row : V → Option R) where
   entry : Key × V → Option (Key × R)

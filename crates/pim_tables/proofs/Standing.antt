@@ -1,20 +1,8 @@
 -- Rows at places, by the table that tells of them.
-use Rattle.std.proofs.Common.{◌≡◌, ◌≢◌, ◌==◌, ℕ, Bool, true, false, cond, length, not, suc, [], ◌∷◌, Option, Some, None, option_map, refl, sym, ap, subst, ◌∙◌, arith}
-use Rattle.std.specs.List.{AllByRecursion, cons_option, filter_map, list_any}
-use Rattle.std.specs.List.Sorted.{IsStrictlySortedBy}
-use Rattle.std.specs.BTreeMap.{is_at}
-use Rattle.std.specs.Option.{option_and_then}
-use Rattle.std.proofs.lemmas.Bool.{true≢false}
-use Rattle.std.proofs.lemmas.Bool.Decides.{nat_tests}
-use Rattle.std.proofs.lemmas.Map.Made.{is_some-lookup}
-use Rattle.pim_types.specs.declared.fact.Key.{Key}
-use Rattle.pim_types.specs.Keys.{key_cmp, same_key}
-use Rattle.pim_types.proofs.Keys.{equal_keys, same_key_same}
-use Rattle.pim_model.specs.Tables.{Table, change_row, changed_entry, drop_at, drop_where, has_row, keys_in, put, row_at}
-use Rattle.pim_tables.specs.Places.{ArePlaced, key_placed, rows_placed}
-use Rattle.pim_tables.proofs.Lookups.{none_goes, row_at-drop_at, row_at-put}
-use Rattle.pim_tables.proofs.RisingRows.{Above, Up, head_row, none_above, same_rows, up_filtered, up_of_sorted, up_put}
-use Rattle.pim_tables.proofs.Rows.{absent_is_unchanged}
+use Rattle.std.{proofs.{Common.{◌≡◌, ◌≢◌, ◌==◌, ℕ, Bool, true, false, cond, length, not, suc, [], ◌∷◌, Option, Some, None, option_map, refl, sym, ap, subst, ◌∙◌, arith}, lemmas.{Bool.{true≢false, Decides.nat_tests}, Map.Made.is_some-lookup}}, specs.{List.{AllByRecursion, cons_option, filter_map, list_any, Sorted.IsStrictlySortedBy}, BTreeMap.is_at, Option.option_and_then}}
+use Rattle.pim_types.{specs.{declared.fact.Key.Key, Keys.{key_cmp, same_key}}, proofs.Keys.{equal_keys, same_key_same}}
+use Rattle.pim_model.{specs.Tables.{Table, change_row, changed_entry, drop_at, drop_where, has_row, keys_in, put, row_at}}
+use Rattle.pim_tables.{specs.Places.{ArePlaced, key_placed, rows_placed}, proofs.{Lookups.{none_goes, row_at-drop_at, row_at-put}, RisingRows.{Above, Up, head_row, none_above, same_rows, up_filtered, up_of_sorted, up_put}, Rows.absent_is_unchanged}}
 
 same_place : (p q : ℕ) → (p == q) ≡ true → p ≡ q
 same_place p q e = grind (arith, nat_tests)

@@ -1,26 +1,10 @@
 -- The ends of a row, armed in a queue, and the queue beside rows that change.
-use Rattle.std.proofs.Common.{◌≡◌, ◌≢◌, ℕ, ◌≤◌, ◌+◌, ◌==◌, ◌&&◌, Bool, true, false, cond, length, [], ◌∷◌, Option, Some, None, refl, sym, ap, subst, ◌∙◌, arith}
-use Rattle.std.specs.Ordering.{is_eq, ordering_then, nat_cmp}
-use Rattle.std.specs.Cmp.{tied_itself, nat_cmp_total}
-use Rattle.std.specs.declared.cmp.Ordering.{Ordering}
-use Rattle.std.specs.declared.cmp.Ordering.TheVariants.{Less, Equal, Greater}
-use Rattle.std.proofs.lemmas.Bool.Decides.{nat_tests}
+use Rattle.std.{proofs.{Common.{◌≡◌, ◌≢◌, ℕ, ◌≤◌, ◌+◌, ◌==◌, ◌&&◌, Bool, true, false, cond, length, [], ◌∷◌, Option, Some, None, refl, sym, ap, subst, ◌∙◌, arith}, lemmas.Bool.Decides.nat_tests}, specs.{Ordering.{is_eq, ordering_then, nat_cmp}, Cmp.{tied_itself, nat_cmp_total}, declared.cmp.Ordering.{Ordering, TheVariants.{Less, Equal, Greater}}}}
+use Rattle.pim_types.{specs.{declared.{fact.Key.Key, timer.{Timer.Timer, TimerKind.TimerKind}}, Keys.{is_on, same_key, star_key}, Timers.{rank, timer_cmp}}, proofs.{Keys.{equal_keys, equal_numbers, key_cmp_total}, Timers.timer_exact}}
+use Rattle.pim_timers.{specs.{Armed.{AreArmed, Entries, Grows, IsArmed, IsReal, holds}, Dues.{Due, IsFirst}, Ends.same_timer}, proofs.{Armed.{Owes, all_owed, armed_after, no_end_armed, none_armed, none_owed, none_real, owed_less, right_after}, Ranks.{kind_ties, nat_ties}}}
+use Rattle.pim_model.{specs.Tables.{Table, drop_where, row_at}}
+use Rattle.pim_tables.{proofs.Lookups.row_at-drop_on, specs.Ends.{DifferAt, InStep, InStepBeside, IsRowArmed, Kinds, end_of, ends_in, ends_under, is_second, most_ends, same_kind, timer_of}}
 use Rattle.pim_types.specs.contracts.timer.TimerKindPartialEq.TheImpl as kind_eq
-use Rattle.pim_types.specs.declared.fact.Key.{Key}
-use Rattle.pim_types.specs.declared.timer.Timer.{Timer}
-use Rattle.pim_types.specs.declared.timer.TimerKind.{TimerKind}
-use Rattle.pim_types.specs.Keys.{is_on, same_key, star_key}
-use Rattle.pim_types.specs.Timers.{rank, timer_cmp}
-use Rattle.pim_types.proofs.Keys.{equal_keys, equal_numbers, key_cmp_total}
-use Rattle.pim_types.proofs.Timers.{timer_exact}
-use Rattle.pim_timers.specs.Armed.{AreArmed, Entries, Grows, IsArmed, IsReal, holds}
-use Rattle.pim_timers.specs.Dues.{Due, IsFirst}
-use Rattle.pim_timers.specs.Ends.{same_timer}
-use Rattle.pim_timers.proofs.Armed.{Owes, all_owed, armed_after, no_end_armed, none_armed, none_owed, none_real, owed_less, right_after}
-use Rattle.pim_timers.proofs.Ranks.{kind_ties, nat_ties}
-use Rattle.pim_model.specs.Tables.{Table, drop_where, row_at}
-use Rattle.pim_tables.proofs.Lookups.{row_at-drop_on}
-use Rattle.pim_tables.specs.Ends.{DifferAt, InStep, InStepBeside, IsRowArmed, Kinds, end_of, ends_in, ends_under, is_second, most_ends, same_kind, timer_of}
 
 -- ---- one timer
 

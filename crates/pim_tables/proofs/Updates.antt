@@ -1,15 +1,9 @@
 -- A row that is changed in its place, and its table beside the queue.
-use Rattle.std.proofs.Common.{◌≡◌, ℕ, Bool, true, false, cond, [], ◌∷◌, Option, Some, None, is_some, refl, sym, ap, ◌∙◌}
-use Rattle.std.specs.List.Sorted.{IsStrictlySortedBy}
-use Rattle.pim_types.specs.declared.fact.Key.{Key}
-use Rattle.pim_types.specs.declared.timer.TimerKind.{TimerKind}
-use Rattle.pim_types.specs.Keys.{key_cmp, same_key}
-use Rattle.pim_timers.specs.Dues.{Due}
-use Rattle.pim_model.specs.Tables.{Table, change_row, drop_at, drop_where, has_row, keys_in, put, row_at}
-use Rattle.pim_tables.specs.Ends.{IsRowArmed, Kinds, back_at, left_at}
-use Rattle.pim_tables.proofs.Lookups.{as_it_is, put_is_changed, row_at-drop_at, row_at-put}
-use Rattle.pim_tables.proofs.Steps.{no_row_armed}
-use Rattle.pim_tables.proofs.Rows.{absent_is_unchanged, changed_back, changed_to, change_first}
+use Rattle.std.{proofs.Common.{◌≡◌, ℕ, Bool, true, false, cond, [], ◌∷◌, Option, Some, None, is_some, refl, sym, ap, ◌∙◌}, specs.List.Sorted.IsStrictlySortedBy}
+use Rattle.pim_types.{specs.{declared.{fact.Key.Key, timer.TimerKind.TimerKind}, Keys.{key_cmp, same_key}}}
+use Rattle.pim_timers.{specs.Dues.Due}
+use Rattle.pim_model.{specs.Tables.{Table, change_row, drop_at, drop_where, has_row, keys_in, put, row_at}}
+use Rattle.pim_tables.{specs.Ends.{IsRowArmed, Kinds, back_at, left_at}, proofs.{Lookups.{as_it_is, put_is_changed, row_at-drop_at, row_at-put}, Steps.no_row_armed, Rows.{absent_is_unchanged, changed_back, changed_to, change_first}}}
 
 module _ {R : Type 0} (k : Key) (after : R → R) (t : Table R) where
   abbrev pub updated : Table R

@@ -1,22 +1,11 @@
 -- The rows of an interface, or of a group on it, stand together: a walk that begins at the first of them is over at the
 -- first that isn't one.
-use Rattle.std.proofs.Common.{◌≡◌, ◌≤◌, ◌==◌, ◌&&◌, ◌||◌, ℕ, Bool, true, false, cond, [], ◌∷◌, Option, Some, None, nat_le, nat_lt, refl, sym, ap, subst, ◌∙◌, arith}
-use Rattle.std.specs.Cmp.{first_so, second_so}
-use Rattle.std.specs.List.{AllByRecursion, filter}
-use Rattle.std.specs.List.Sorted.{IsStrictlySortedBy}
-use Rattle.std.specs.Option.{option_cmp}
-use Rattle.std.specs.Ordering.{bool_cmp, is_le, nat_cmp, ordering_then}
-use Rattle.std.specs.declared.cmp.Ordering.{Ordering}
-use Rattle.std.specs.declared.cmp.Ordering.TheVariants.{Less, Equal, Greater}
-use Rattle.std.proofs.lemmas.Bool.Decides.{nat_tests}
-use Rattle.std.proofs.lemmas.Grind.{common_steps}
-use Rattle.std.proofs.lemmas.List.Kept.{IsStrictlySortedBy-filter}
-use Rattle.pim_ip.specs.declared.addr.Addr.{Addr}
-use Rattle.pim_types.specs.declared.fact.Key.{Key}
-use Rattle.pim_types.specs.Keys.{addr_cmp, group_in, iface_in, key_cmp}
-use Rattle.pim_model.specs.Tables.{Table, keys_in}
-use Rattle.pim_laws.proofs.ListLaws.{each_more, each_passes, filter_within}
-use Rattle.pim_tables.specs.RowsOf.{RiseFrom, first_of, is_of}
+use Rattle.std.{proofs.{Common.{◌≡◌, ◌≤◌, ◌==◌, ◌&&◌, ◌||◌, ℕ, Bool, true, false, cond, [], ◌∷◌, Option, Some, None, nat_le, nat_lt, refl, sym, ap, subst, ◌∙◌, arith}, lemmas.{Bool.Decides.nat_tests, Grind.common_steps, List.Kept.IsStrictlySortedBy-filter}}, specs.{Cmp.{first_so, second_so}, List.{AllByRecursion, filter, Sorted.IsStrictlySortedBy}, Option.option_cmp, Ordering.{bool_cmp, is_le, nat_cmp, ordering_then}, declared.cmp.Ordering.{Ordering, TheVariants.{Less, Equal, Greater}}}}
+use Rattle.pim_ip.{specs.declared.addr.Addr.Addr}
+use Rattle.pim_types.{specs.{declared.fact.Key.Key, Keys.{addr_cmp, group_in, iface_in, key_cmp}}}
+use Rattle.pim_model.{specs.Tables.{Table, keys_in}}
+use Rattle.law_settled.{proofs.ListLaws.{each_more, each_passes, filter_within}}
+use Rattle.pim_tables.{specs.RowsOf.{RiseFrom, first_of, is_of}}
 
 -- ---- the interface and the group of a key, in the order of keys
 

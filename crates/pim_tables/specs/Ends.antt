@@ -1,14 +1,8 @@
 -- When the timers of the rows of a table expire. A row has at most two timers, each of a kind of its own.
-use Rattle.std.specs.Prelude.{ℕ, ◌≡◌, ◌+◌, ◌++◌, ◌==◌, Bool, false, if◌then◌else◌, List, Option, Some, None, length}
-use Rattle.pim_types.specs.declared.fact.Key.{Key}
-use Rattle.pim_types.specs.declared.timer.Timer.{Timer}
-use Rattle.pim_types.specs.declared.timer.TimerKind.{TimerKind}
-use Rattle.pim_types.specs.Keys.{same_key}
-use Rattle.pim_types.specs.Timers.{rank}
-use Rattle.pim_timers.specs.Armed.{AreArmed, Entries, IsArmed, IsSettled, holds}
-use Rattle.pim_timers.specs.Dues.{Due, IsFirst}
-use Rattle.pim_model.specs.Tables.{Table, change_row, drop_at, row_at}
-use Rattle.pim_model.specs.Timers.{Ending, endings}
+use Rattle.std.{specs.Prelude.{ℕ, ◌≡◌, ◌+◌, ◌++◌, ◌==◌, Bool, false, if◌then◌else◌, List, Option, Some, None, length}}
+use Rattle.pim_types.{specs.{declared.{fact.Key.Key, timer.{Timer.Timer, TimerKind.TimerKind}}, Keys.same_key, Timers.rank}}
+use Rattle.pim_timers.{specs.{Armed.{AreArmed, Entries, IsArmed, IsSettled, holds}, Dues.{Due, IsFirst}}}
+use Rattle.pim_model.{specs.{Tables.{Table, change_row, drop_at, row_at}, Timers.{Ending, endings}}}
 
 -- The kind of the first timer, and that of the second if there is one.
 abbrev pub Kinds : Type 0

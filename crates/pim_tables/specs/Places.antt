@@ -1,10 +1,7 @@
 -- Rows at places, and the table that has the place of each key.
-use Rattle.std.specs.List.{filter_map}
-use Rattle.std.specs.List.Sorted.{IsStrictlySortedBy}
-use Rattle.std.specs.Prelude.{◌≡◌, ℕ, Option, Some, option_map}
-use Rattle.pim_types.specs.declared.fact.Key.{Key}
-use Rattle.pim_types.specs.Keys.{key_cmp}
-use Rattle.pim_model.specs.Tables.{Table, keys_in, row_at}
+use Rattle.std.{specs.{List.{filter_map, Sorted.IsStrictlySortedBy}, Prelude.{◌≡◌, ℕ, Option, Some, option_map}}}
+use Rattle.pim_types.{specs.{declared.fact.Key.Key, Keys.key_cmp}}
+use Rattle.pim_model.{specs.Tables.{Table, keys_in, row_at}}
 
 module _ {R : Type 0} where
   -- the rows, in the order of the table of places

@@ -1,6 +1,6 @@
 -- The kinds of a row's ends differ.
-use Rattle.std.proofs.Common.{◌≢◌, Option, Some, None}
-use Rattle.pim_types.specs.declared.timer.TimerKind.{TimerKind}
+use Rattle.std.{proofs.Common.{◌≢◌, Option, Some, None}}
+use Rattle.pim_types.{specs.declared.timer.TimerKind.TimerKind}
 
 pub no_second : (kind : TimerKind) → let none : Option TimerKind = None in none ≢ Some kind
 no_second kind e = cc

@@ -1,14 +1,8 @@
 -- The rows of an interface, or of a group on it.
-use Rattle.std.specs.Borrow.{Bor}
-use Rattle.std.specs.List.{AllByRecursion}
-use Rattle.std.specs.List.Sorted.{IsStrictlySortedBy}
-use Rattle.std.specs.Ordering.{is_le}
-use Rattle.std.specs.Prelude.{Bool, None, Option, Some, [], true, unwrap_or, ℕ, ◌&&◌, ◌≡◌, ◌∷◌}
-use Rattle.pim_ip.specs.Addr.{addr}
-use Rattle.pim_ip.specs.declared.addr.Addr.{Addr}
-use Rattle.pim_types.specs.declared.fact.Key.{Key}
-use Rattle.pim_types.specs.Keys.{is_of_group, is_on, key_cmp, star_key}
-use Rattle.pim_model.specs.Tables.{Table, keys_in}
+use Rattle.std.{specs.{Borrow.Bor, List.{AllByRecursion, Sorted.IsStrictlySortedBy}, Ordering.is_le, Prelude.{Bool, None, Option, Some, [], true, unwrap_or, ℕ, ◌&&◌, ◌≡◌, ◌∷◌}}}
+use Rattle.pim_ip.{specs.{Addr.addr, declared.addr.Addr.Addr}}
+use Rattle.pim_types.{specs.{declared.fact.Key.Key, Keys.{is_of_group, is_on, key_cmp, star_key}}}
+use Rattle.pim_model.{specs.Tables.{Table, keys_in}}
 
 -- The key is on the interface, and of the group if there is one.
 abbrev pub is_of : ℕ → Option Addr → Key → Bool

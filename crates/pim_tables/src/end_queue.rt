@@ -11,7 +11,7 @@ ghost use Rattle.pim_tables.specs.Ends.{DifferAt, InStep, InStepBeside, IsRowArm
 
 use crate::ended::settle_ended;
 use crate::ends::Ends;
-use crate::keeping::Holding;
+use crate::keeping::ReadRows;
 use pim_timers::Queue;
 use pim_types::{Key, Timer};
 use std::alloc::{AllocError, Global};
@@ -118,7 +118,7 @@ impl<R: Ends> EndQueue<R> {
 
     /// Settles the queue after the row under the key was added, changed or removed, with the rows as they are
     /// afterwards.
-    pub fn settle<K: Holding<R>>(&mut self, rows: &K, key: Key, count: &mut K::Count)
+    pub fn settle<K: ReadRows<R>>(&mut self, rows: &K, key: Key, count: &mut K::Count)
         requires { InStepBeside R.kinds R.ends self.old (K.table rows.now) key }
         ensures { InStep R.kinds R.ends self.new (K.table rows.now) }
     {
@@ -127,7 +127,7 @@ impl<R: Ends> EndQueue<R> {
     }
 
     /// Settles the queue after rows were removed, with the rows as they are afterwards.
-    pub fn settle_all<K: Holding<R>>(&mut self, rows: &K, count: &mut K::Count)
+    pub fn settle_all<K: ReadRows<R>>(&mut self, rows: &K, count: &mut K::Count)
         requires { AreArmed (ends_in R.kinds R.ends (K.table rows.now)) (holds self.old) }
         ensures { InStep R.kinds R.ends self.new (K.table rows.now) }
     {

@@ -4,7 +4,7 @@ ghost use Rattle.pim_timers.specs.Armed.{AreArmed, Grows, IsArmed, IsReal, holds
 ghost use Rattle.pim_tables.specs.Ends.{InStep, IsRowArmed, end_of as end_in, ends_in, is_second, most_ends};
 
 use crate::ends::Ends;
-use crate::keeping::Holding;
+use crate::keeping::ReadRows;
 use pim_timers::{Queue, Schedule};
 use pim_types::{Key, Timer, TimerKind};
 use std::marker::PhantomData;
@@ -47,7 +47,7 @@ fn end_of_row<R: Ends>(row: R, kind: TimerKind) -> Option<u64>
     None
 }
 
-impl<'a, R: Ends, K: Holding<R>> Schedule for Ended<'a, R, K> {
+impl<'a, R: Ends, K: ReadRows<R>> Schedule for Ended<'a, R, K> {
     type Count = K::Count;
 
     ghost end_of = { λ s. ends_in R.kinds R.ends (K.table s.rows.now) };
@@ -55,7 +55,7 @@ impl<'a, R: Ends, K: Holding<R>> Schedule for Ended<'a, R, K> {
     ghost most = { λ s. most_ends R.kinds.1 (length (K.table s.rows.now)) };
 
     fn end_of(&self, timer: Timer, count: &mut K::Count) -> Option<u64> {
-        match self.rows.at(timer.key, count) {
+        match self.rows.get(timer.key, count) {
             Some(row) => end_of_row(row, timer.kind),
             None => None,
         }
@@ -105,7 +105,7 @@ pub fn arm_row<R: Ends>(queue: &mut Queue, key: Key, row: R)
 }
 
 // Settles the queue after rows changed. `is_right` says whether its first entry is known to be right.
-pub(crate) fn settle_ended<R: Ends, K: Holding<R>>(
+pub(crate) fn settle_ended<R: Ends, K: ReadRows<R>>(
     rows: &K,
     queue: &mut Queue,
     is_right: bool,

@@ -10,7 +10,7 @@ ghost use Rattle.pim_tables.specs.RowsOf.{first_key};
 use crate::change::Change;
 use crate::ended::arm_row;
 use crate::ends::Ends;
-use crate::keeping::{Holding, Keeping};
+use crate::keeping::{ReadRows, WriteRows};
 use crate::rows_of::RowsOf;
 use pim_ip::Addr;
 use pim_timers::Queue;
@@ -59,7 +59,7 @@ impl<R> Facts<R> {
     }
 
     /// For the proof: the keys rise. Does nothing when it runs.
-    pub fn recall_rising(&self)
+    pub fn proof_rising(&self)
         ensures { IsStrictlySortedBy key_cmp (keys_in self.now) }
     {
         let _ = &self.rows;
@@ -86,8 +86,9 @@ impl<R> Facts<R> {
         self.rows.iter()
     }
 
-    // Adds the keys of the (S,G,rpt) facts of the group on the interface at the end of the list, by rising key.
-    fn push_rpt_keys_at(
+    /// Adds the keys of the (S,G,rpt) facts of the group on the interface at the end of the list, by rising key. Of other
+    /// facts only the next one is read.
+    pub fn push_rpt_keys_at(
         &self,
         iface: IfaceId,
         group: Addr,
@@ -116,7 +117,7 @@ impl<R> Facts<R> {
             ++ filter (λ k. is_on iface.number k && k.rpt && list_any (λ a. group_in k == a.bits) groups.now.keys)
             (keys_in self.now)) }
     {
-        self.recall_rising();
+        self.proof_rising();
         // For the proof: the groups rise.
         let _ = groups.len();
         for group in groups {
@@ -230,7 +231,7 @@ impl<R: Copy> Facts<R> {
     }
 }
 
-impl<R: Ends> Holding<R> for Facts<R> {
+impl<R: Ends> ReadRows<R> for Facts<R> {
     type Count = ();
 
     ghost table = { λ f. f };
@@ -239,15 +240,15 @@ impl<R: Ends> Holding<R> for Facts<R> {
         self.len()
     }
 
-    fn recall_rise(&self) {
-        self.recall_rising();
+    fn proof_rise(&self) {
+        self.proof_rising();
     }
 
     fn has(&self, key: Key, _count: &mut ()) -> bool {
         self.contains(key)
     }
 
-    fn at(&self, key: Key, _count: &mut ()) -> Option<R> {
+    fn get(&self, key: Key, _count: &mut ()) -> Option<R> {
         self.get(key)
     }
 
@@ -258,7 +259,7 @@ impl<R: Ends> Holding<R> for Facts<R> {
     }
 }
 
-impl<R: Ends> Keeping<R> for Facts<R> {
+impl<R: Ends> WriteRows<R> for Facts<R> {
     fn none(alloc: Global) -> Self {
         Facts::new(alloc)
     }

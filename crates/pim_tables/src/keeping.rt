@@ -13,7 +13,7 @@ use pim_types::Key;
 use std::alloc::{AllocError, Global};
 
 /// A table that can be read: rows, each under its key.
-pub trait Holding<R: Ends> {
+pub trait ReadRows<R: Ends> {
     /// What counts the look-ups; `()` where they aren't counted.
     type Count;
 
@@ -25,7 +25,7 @@ pub trait Holding<R: Ends> {
         ensures { result ≡ length (table self.now) };
 
     /// For the proof: the keys rise. Does nothing when it runs.
-    fn recall_rise(&self)
+    fn proof_rise(&self)
         ensures { IsStrictlySortedBy key_cmp (keys_in (table self.now)) };
 
     /// Whether there is a row under the key.
@@ -33,7 +33,7 @@ pub trait Holding<R: Ends> {
         ensures { result ≡ has_row (table self.now) key };
 
     /// The row under the key.
-    fn at(&self, key: Key, count: &mut Self::Count) -> Option<R>
+    fn get(&self, key: Key, count: &mut Self::Count) -> Option<R>
         ensures { result ≡ row_at (table self.now) key };
 
     /// Puts the timers of all rows into a queue that has room for them.
@@ -45,7 +45,7 @@ pub trait Holding<R: Ends> {
 }
 
 /// A table that can be changed.
-pub trait Keeping<R: Ends>: Holding<R, Count = ()> {
+pub trait WriteRows<R: Ends>: ReadRows<R, Count = ()> {
     /// A table without rows. Takes no memory.
     fn none(alloc: Global) -> Self
         ensures { Self.table result ≡ [] };

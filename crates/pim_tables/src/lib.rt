@@ -22,7 +22,7 @@ pub use ended::arm_row;
 pub use ends::Ends;
 pub use facts::Facts;
 pub use first::earlier;
-pub use keeping::{Holding, Keeping};
+pub use keeping::{ReadRows, WriteRows};
 pub use named::is_named;
 pub use placed::{Placed, PlacedRows};
 pub use rows_of::RowsOf;

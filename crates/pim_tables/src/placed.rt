@@ -11,7 +11,7 @@ use crate::change::{Change, To};
 use crate::ended::arm_row;
 use crate::ends::Ends;
 use crate::facts::Facts;
-use crate::keeping::{Holding, Keeping};
+use crate::keeping::{ReadRows, WriteRows};
 use pim_timers::Queue;
 use pim_types::Key;
 use slab::Slab;
@@ -124,7 +124,7 @@ fn add_placed<R: Copy>(
     let place = rows.vacant_key();
     places.put(key, place)?;
     // For the proof: the keys still rise.
-    places.recall_rising();
+    places.proof_rising();
     rows.insert_reserved((key, row));
     Ok(())
 }
@@ -139,7 +139,7 @@ fn take_placed<R: Copy>(places: &mut Facts<usize>, rows: &mut Slab<(Key, R)>, ke
     match places.pull(key) {
         Some(place) => {
             // For the proof: the keys still rise.
-            places.recall_rising();
+            places.proof_rising();
             match rows.try_remove(place) {
                 Some(entry) => Some(entry.1),
                 None => None,
@@ -169,7 +169,7 @@ impl<R> Placed<R> {
     }
 }
 
-impl<R: Ends> Holding<R> for Placed<R> {
+impl<R: Ends> ReadRows<R> for Placed<R> {
     type Count = ();
 
     ghost table = { λ p. p };
@@ -178,7 +178,7 @@ impl<R: Ends> Holding<R> for Placed<R> {
         self.places.len()
     }
 
-    fn recall_rise(&self) {
+    fn proof_rise(&self) {
         let _ = &self.places;
     }
 
@@ -186,7 +186,7 @@ impl<R: Ends> Holding<R> for Placed<R> {
         self.places.contains(key)
     }
 
-    fn at(&self, key: Key, _count: &mut ()) -> Option<R> {
+    fn get(&self, key: Key, _count: &mut ()) -> Option<R> {
         let place = self.places.get(key)?;
         let (_, row) = self.rows.get(place)?;
         Some(*row)
@@ -199,7 +199,7 @@ impl<R: Ends> Holding<R> for Placed<R> {
     }
 }
 
-impl<R: Ends> Keeping<R> for Placed<R> {
+impl<R: Ends> WriteRows<R> for Placed<R> {
     fn none(alloc: Global) -> Self {
         Placed {
             places: Facts::new(alloc),

@@ -12,25 +12,25 @@ use crate::change::{Change, To};
 use crate::end_queue::EndQueue;
 use crate::ends::Ends;
 use crate::facts::Facts;
-use crate::keeping::Keeping;
+use crate::keeping::WriteRows;
 use pim_types::{IfaceId, Key, Timer};
 use std::alloc::{AllocError, Global};
 use std::marker::Model;
 
 /// The facts of one kind, which have timers.
-pub struct Timed<R: Ends, K: Keeping<R> = Facts<R>> {
+pub struct Timed<R: Ends, K: WriteRows<R> = Facts<R>> {
     rows: K,
     queue: EndQueue<R>,
 }
 
 // Written out, so that it is proved once (docs/PROOF_NOTES.md, Drops).
-impl<R: Ends + Drop, K: Keeping<R> + Drop> Drop for Timed<R, K> {
+impl<R: Ends + Drop, K: WriteRows<R> + Drop> Drop for Timed<R, K> {
     fn drop(self) {
         let Timed { rows: _, queue: _ } = self;
     }
 }
 
-impl<R: Ends, K: Keeping<R>> Model for Timed<R, K> {
+impl<R: Ends, K: WriteRows<R>> Model for Timed<R, K> {
     ghost use Rattle.pim_model.specs.Tables.{Table};
     ghost use Rattle.pim_tables.specs.Ends.{InStep};
 
@@ -43,7 +43,7 @@ impl<R: Ends, K: Keeping<R>> Model for Timed<R, K> {
 
 // Leaves under the key of a changed row what a refusal is to leave: the row as it was where rows have no second timer,
 // else none.
-fn put_back<R: Ends, K: Keeping<R>>(rows: &mut K, hint: Option<usize>, key: Key, before: R)
+fn put_back<R: Ends, K: WriteRows<R>>(rows: &mut K, hint: Option<usize>, key: Key, before: R)
     ensures { K.table rows.new ≡ back_at R.kinds.1 (K.table rows.old) key before }
 {
     match R::kinds().1 {
@@ -58,7 +58,7 @@ fn put_back<R: Ends, K: Keeping<R>>(rows: &mut K, hint: Option<usize>, key: Key,
 
 // Changes the row under the key, if there is one, in its place, and its timers, and returns the row as it was. The row
 // is looked up once. The error is want of memory.
-fn update_in_step<R: Ends, K: Keeping<R>, C: Change<R>>(
+fn update_in_step<R: Ends, K: WriteRows<R>, C: Change<R>>(
     rows: &mut K,
     queue: &mut EndQueue<R>,
     hint: Option<usize>,
@@ -73,7 +73,7 @@ fn update_in_step<R: Ends, K: Keeping<R>, C: Change<R>>(
     ensures in_step { InStep R.kinds R.ends queue.new (K.table rows.new) }
 {
     // For the proof: a key is listed once, so that the row can be put back.
-    rows.recall_rise();
+    rows.proof_rise();
     let Some(before) = rows.replace(hint, key, change) else {
         return Ok(None);
     };
@@ -88,7 +88,7 @@ fn update_in_step<R: Ends, K: Keeping<R>, C: Change<R>>(
 }
 
 // Puts a row under a key that has none, and its timers into the queue. The error is want of memory, and changes no row.
-fn insert_armed<R: Ends, K: Keeping<R>>(
+fn insert_armed<R: Ends, K: WriteRows<R>>(
     rows: &mut K,
     queue: &mut EndQueue<R>,
     key: Key,
@@ -106,7 +106,7 @@ fn insert_armed<R: Ends, K: Keeping<R>>(
 
 // Puts a row with its timers under a key that has none, and settles the queue. The error is want of memory, and changes
 // no row.
-fn add_in_step<R: Ends, K: Keeping<R>>(
+fn add_in_step<R: Ends, K: WriteRows<R>>(
     rows: &mut K,
     queue: &mut EndQueue<R>,
     key: Key,
@@ -124,7 +124,7 @@ fn add_in_step<R: Ends, K: Keeping<R>>(
 }
 
 // Puts the row with its timers under the key, replacing one that is there. The error is want of memory.
-fn put_in_step<R: Ends, K: Keeping<R>>(
+fn put_in_step<R: Ends, K: WriteRows<R>>(
     rows: &mut K,
     queue: &mut EndQueue<R>,
     key: Key,
@@ -136,14 +136,14 @@ fn put_in_step<R: Ends, K: Keeping<R>>(
     ensures in_step { InStep R.kinds R.ends queue.new (K.table rows.new) }
 {
     // For the proof: what is put under a key with a row takes the place of that row.
-    rows.recall_rise();
+    rows.proof_rise();
     match update_in_step(rows, queue, None, key, To { row })? {
         Some(_) => Ok(()),
         None => add_in_step(rows, queue, key, row),
     }
 }
 
-impl<R: Ends, K: Keeping<R>> Timed<R, K> {
+impl<R: Ends, K: WriteRows<R>> Timed<R, K> {
     /// A table without facts. Takes no memory.
     pub fn new(alloc: Global) -> Self
         ensures { result ≡ [] }
@@ -168,15 +168,15 @@ impl<R: Ends, K: Keeping<R>> Timed<R, K> {
         // This holds of every table: the keys rise.
         ensures ascending { IsStrictlySortedBy key_cmp (keys_in self.now) }
     {
-        self.rows.recall_rise();
+        self.rows.proof_rise();
         self.rows.count()
     }
 
     /// For the proof: the keys rise. Does nothing when it runs.
-    pub fn recall_rising(&self)
+    pub fn proof_rising(&self)
         ensures { IsStrictlySortedBy key_cmp (keys_in self.now) }
     {
-        self.rows.recall_rise();
+        self.rows.proof_rise();
     }
 
     /// Whether there is a fact under the key.
@@ -190,7 +190,7 @@ impl<R: Ends, K: Keeping<R>> Timed<R, K> {
     pub fn get(&self, key: Key) -> Option<R>
         ensures { result ≡ row_at self.now key }
     {
-        self.rows.at(key, &mut ())
+        self.rows.get(key, &mut ())
     }
 
     /// Which timer expires first, and when, in ms: the least by timestamp, then by kind, then by key. `None` where no
@@ -199,7 +199,7 @@ impl<R: Ends, K: Keeping<R>> Timed<R, K> {
         ensures { result ≡ option_map due_of (first_by is_ending_first (row_endings R.kinds R.ends self.now)) }
     {
         // For the proof: a key is listed once, so that the queue has all timers.
-        self.rows.recall_rise();
+        self.rows.proof_rise();
         self.queue.first()
     }
 
@@ -271,7 +271,7 @@ impl<R: Ends, K: Keeping<R>> Timed<R, K> {
         ensures err { OnErr result (self.new ≡ left_at R.kinds.1 self.old key) }
     {
         // For the proof: a key is listed once.
-        self.rows.recall_rise();
+        self.rows.proof_rise();
         update_in_step(&mut self.rows, &mut self.queue, None, key, To { row })?;
         Ok(())
     }

@@ -1,21 +1,7 @@
 -- A queue in which an end may stand too early, beside what tells when timers end.
-use Rattle.std.proofs.Common.{◌≡◌, ℕ, ◌≤◌, ◌==◌, ◌||◌, Bool, true, false, not, Option, Some, None, inl, inr, refl, sym, ap, subst, ◌∙◌, arith}
-use Rattle.std.specs.Cmp.{tied_itself}
-use Rattle.std.specs.List.{list_any}
-use Rattle.std.specs.Ordering.{is_lt}
-use Rattle.std.specs.Option.{option_eq}
-use Rattle.std.proofs.lemmas.Bool.{true≢false, cases_order}
-use Rattle.std.proofs.lemmas.Bool.Decides.{nat_tests}
-use Rattle.pim_types.specs.declared.timer.Timer.{Timer}
-use Rattle.pim_timers.specs.Armed.{AreArmed, Entries, Grows, IsArmed, IsReal, holds}
-use Rattle.pim_timers.specs.Dues.{Due, IsFirst, same_due}
-use Rattle.pim_timers.specs.Ends.{ends_at}
-use Rattle.pim_timers.specs.Next.{IsNext}
-use Rattle.pim_timers.specs.Order.{due_cmp}
-use Rattle.pim_timers.proofs.SameDues.{due_is, due_itself, never_less}
-use Rattle.pim_timers.proofs.Least.{neither_less, not_earlier}
-use Rattle.pim_timers.proofs.Together.{set_at}
-use Rattle.pim_timers.proofs.Total.{due_cmp_total}
+use Rattle.std.{proofs.{Common.{◌≡◌, ℕ, ◌≤◌, ◌==◌, ◌||◌, Bool, true, false, not, Option, Some, None, inl, inr, refl, sym, ap, subst, ◌∙◌, arith}, lemmas.Bool.{true≢false, cases_order, Decides.nat_tests}}, specs.{Cmp.tied_itself, List.list_any, Ordering.is_lt, Option.option_eq}}
+use Rattle.pim_types.{specs.declared.timer.Timer.Timer}
+use Rattle.pim_timers.{specs.{Armed.{AreArmed, Entries, Grows, IsArmed, IsReal, holds}, Dues.{Due, IsFirst, same_due}, Ends.ends_at, Next.IsNext, Order.due_cmp}, proofs.{SameDues.{due_is, due_itself, never_less}, Least.{neither_less, not_earlier}, Together.set_at, Total.due_cmp_total}}
 
 -- one of the first alone
 pub first_is_one : (h : Due → Bool) (a b : Due) → IsFirst h (Some a) → IsFirst h (Some b) → a ≡ b

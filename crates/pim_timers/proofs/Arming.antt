@@ -1,13 +1,8 @@
 -- The moments of a map, armed one after the other.
-use Rattle.std.proofs.Common.{◌≡◌, ℕ, ◌||◌, Bool, true, cond, Option, Some, List, [], ◌∷◌, sym, ap, subst, ◌∙◌}
+use Rattle.std.{proofs.Common.{◌≡◌, ℕ, ◌||◌, Bool, true, cond, Option, Some, List, [], ◌∷◌, sym, ap, subst, ◌∙◌}, specs.Map.lookup}
+use Rattle.pim_types.{specs.declared.timer.Timer.Timer}
+use Rattle.pim_timers.{specs.{Armed.{AreArmed, IsArmed}, Dues.{Due, same_due}}, proofs.{Armed.{Owes, all_owed, none_owed, now_armed, owed_less, put_grows, put_held}, Entries.{contents_of, get_contents, tied, tied_is}, Lookups.same_is}}
 use Rattle.std.specs.FinMap as map
-use Rattle.std.specs.Map.{lookup}
-use Rattle.pim_types.specs.declared.timer.Timer.{Timer}
-use Rattle.pim_timers.specs.Armed.{AreArmed, IsArmed}
-use Rattle.pim_timers.specs.Dues.{Due, same_due}
-use Rattle.pim_timers.proofs.Armed.{Owes, all_owed, none_owed, now_armed, owed_less, put_grows, put_held}
-use Rattle.pim_timers.proofs.Entries.{contents_of, get_contents, tied, tied_is}
-use Rattle.pim_timers.proofs.Lookups.{same_is}
 
 abbrev pub left_of : List (Timer × ℕ) → Timer → Option ℕ
 left_of es t = lookup (tied t) es

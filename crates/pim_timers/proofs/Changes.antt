@@ -1,15 +1,8 @@
 -- A timer that is set, moved or taken out, beside a queue of ends.
-use Rattle.std.proofs.Common.{◌≡◌, ℕ, Bool, true, false, cond, Option, Some, None, length, refl, sym, ap, subst, ◌∙◌, arith}
+use Rattle.std.{proofs.Common.{◌≡◌, ℕ, Bool, true, false, cond, Option, Some, None, length, refl, sym, ap, subst, ◌∙◌, arith}}
+use Rattle.pim_types.{specs.declared.timer.Timer.Timer, proofs.Timers.{timer_cmp_total, timer_exact}}
+use Rattle.pim_timers.{specs.{Armed.{AreArmed, Entries, Grows, IsArmed, IsReal, IsSettled, holds}, Dues.{Due, IsFirst}, Ends.same_timer, Schedule.Contents}, proofs.{Armed.{armed_after, right_after, same_held}, Lookups.{get_removed, same_is}, Together.{other_inserted, other_removed, own_inserted, own_removed}}}
 use Rattle.std.specs.FinMap as map
-use Rattle.pim_types.specs.declared.timer.Timer.{Timer}
-use Rattle.pim_types.proofs.Timers.{timer_cmp_total, timer_exact}
-use Rattle.pim_timers.specs.Armed.{AreArmed, Entries, Grows, IsArmed, IsReal, IsSettled, holds}
-use Rattle.pim_timers.specs.Dues.{Due, IsFirst}
-use Rattle.pim_timers.specs.Ends.{same_timer}
-use Rattle.pim_timers.specs.Schedule.{Contents}
-use Rattle.pim_timers.proofs.Armed.{armed_after, right_after, same_held}
-use Rattle.pim_timers.proofs.Lookups.{get_removed, same_is}
-use Rattle.pim_timers.proofs.Together.{other_inserted, other_removed, own_inserted, own_removed}
 
 -- the entries stayed
 pub settled_kept : (f : Timer → Option ℕ) (most : ℕ) (q r : Entries) → r.dues ≡ q.dues → IsSettled f most q

@@ -1,20 +1,9 @@
 -- The entries of an ordered map of timers as a finite map.
-use Rattle.std.proofs.Common.{◌≡◌, ℕ, ◌+◌, Bool, false, cond, refl, sym, ap, ◌∙◌, Option, Some, None, is_some, List, []}
-use Rattle.std.proofs.Common.{◌∷◌, length, arith}
-use Rattle.std.specs.List.{AllByRecursion, IsDistinct}
-use Rattle.std.specs.List.Sorted.{IsStrictlySortedBy}
-use Rattle.std.proofs.lemmas.Map.Keys.{IsDistinct-from_sorted}
-use Rattle.std.specs.Map.{keys_of, lookup}
-use Rattle.std.specs.Ordering.{eq_by_cmp, is_eq}
+use Rattle.std.{proofs.{Common.{◌≡◌, ℕ, ◌+◌, Bool, false, cond, refl, sym, ap, ◌∙◌, Option, Some, None, is_some, List, [], ◌∷◌, length, arith}, lemmas.Map.Keys.IsDistinct-from_sorted}, specs.{List.{AllByRecursion, IsDistinct, Sorted.IsStrictlySortedBy}, Map.{keys_of, lookup}, Ordering.{eq_by_cmp, is_eq}}}
+use Rattle.pim_types.{specs.{declared.timer.Timer.Timer, Timers.timer_cmp}, proofs.Timers.{timer_cmp_total, timer_exact}}
+use Rattle.pim_timers.{specs.{Schedule.Contents, Ends.same_timer}, proofs.{Ranks.timer_order, Lookups.{same_symm, get_removed, get_inserted}}}
 use Rattle.std.specs.FinMap as map
-use Rattle.pim_types.specs.declared.timer.Timer.{Timer}
 use Rattle.pim_types.specs.contracts.timer.TimerOrd.TheImpl as timer_ord
-use Rattle.pim_types.specs.Timers.{timer_cmp}
-use Rattle.pim_types.proofs.Timers.{timer_cmp_total, timer_exact}
-use Rattle.pim_timers.specs.Schedule.{Contents}
-use Rattle.pim_timers.specs.Ends.{same_timer}
-use Rattle.pim_timers.proofs.Ranks.{timer_order}
-use Rattle.pim_timers.proofs.Lookups.{same_symm, get_removed, get_inserted}
 
 -- the map finds a timer where the two tie
 abbrev pub tied : Timer → Timer → Bool

@@ -1,18 +1,6 @@
 -- The entries of a heap, whose order nobody knows but that none comes before the first.
-use Rattle.std.proofs.Common.{◌≡◌, ℕ, ◌<◌, ◌+◌, ◌||◌, Bool, true, false, cond, List, [], ◌∷◌, length, Option, Some, None, is_some, IsPermutation, refl, sym, ap, subst, ◌∙◌, arith}
-use Rattle.std.proofs.lemmas.Bool.{true≢false}
-use Rattle.std.proofs.lemmas.List.Sorted.{list_any-IsPermutation, length_permutation, sum_by_popped, sum_by_pushed}
-use Rattle.std.specs.BinaryHeap.{IsHeap, IsUpperBound, PopsGreatest}
-use Rattle.std.specs.List.{count_by, list_any}
-use Rattle.std.specs.Ordering.{is_lt}
-use Rattle.std.specs.Prelude.{Err, IsOk, IfSome, IsSome, Ok, OnErr, OnOk, Result, slice_index_or}
-use Rattle.std.specs.declared.cmp.Reverse.{Reverse}
-use Rattle.pim_timers.specs.Dues.{Due, IsFirst, same_due}
-use Rattle.pim_timers.specs.Heap.{entry_cmp}
-use Rattle.pim_timers.specs.Order.{due_cmp}
-use Rattle.pim_timers.proofs.Armed.{first_is_one}
-use Rattle.pim_timers.proofs.SameDues.{due_is, due_itself}
-use Rattle.pim_timers.proofs.Ranks.{due_order}
+use Rattle.std.{proofs.{Common.{◌≡◌, ℕ, ◌<◌, ◌+◌, ◌||◌, Bool, true, false, cond, List, [], ◌∷◌, length, Option, Some, None, is_some, IsPermutation, refl, sym, ap, subst, ◌∙◌, arith}, lemmas.{Bool.true≢false, List.Sorted.{list_any-IsPermutation, length_permutation, sum_by_popped, sum_by_pushed}}}, specs.{BinaryHeap.{IsHeap, IsUpperBound, PopsGreatest}, List.{count_by, list_any}, Ordering.is_lt, Prelude.{Err, IsOk, IfSome, IsSome, Ok, OnErr, OnOk, Result, slice_index_or}, declared.cmp.Reverse.Reverse}}
+use Rattle.pim_timers.{specs.{Dues.{Due, IsFirst, same_due}, Heap.entry_cmp, Order.due_cmp}, proofs.{Armed.first_is_one, SameDues.{due_is, due_itself}, Ranks.due_order}}
 
 abbrev pub Entry : Type 0
 Entry = Reverse Due

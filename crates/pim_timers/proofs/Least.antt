@@ -1,15 +1,7 @@
 -- What is known of the timer that is next.
-use Rattle.std.proofs.Common.{None, Option, Some, ap, arith, false, inl, inr, refl, sym, true, ℕ, ◌<◌, ◌∙◌, ◌≡◌, ◌≤◌}
-use Rattle.std.proofs.Common.{nat_lt}
-use Rattle.std.specs.Ordering.{is_lt, ordering_reverse}
-use Rattle.std.specs.declared.cmp.Ordering.{Ordering}
-use Rattle.std.specs.declared.cmp.Ordering.TheVariants.{Less, Equal, Greater}
-use Rattle.std.proofs.lemmas.Bool.{true≢false, cases_order}
-use Rattle.std.proofs.lemmas.Bool.Decides.{nat_tests}
-use Rattle.pim_types.specs.declared.timer.Timer.{Timer}
-use Rattle.pim_timers.specs.Order.{due_cmp}
-use Rattle.pim_timers.specs.Next.{IsLeast, IsNext}
-use Rattle.pim_timers.proofs.Total.{due_cmp_total, due_exact}
+use Rattle.std.{proofs.{Common.{None, Option, Some, ap, arith, false, inl, inr, refl, sym, true, ℕ, ◌<◌, ◌∙◌, ◌≡◌, ◌≤◌, nat_lt}, lemmas.Bool.{true≢false, cases_order, Decides.nat_tests}}, specs.{Ordering.{is_lt, ordering_reverse}, declared.cmp.Ordering.{Ordering, TheVariants.{Less, Equal, Greater}}}}
+use Rattle.pim_types.{specs.declared.timer.Timer.Timer}
+use Rattle.pim_timers.{specs.{Order.due_cmp, Next.{IsLeast, IsNext}}, proofs.Total.{due_cmp_total, due_exact}}
 
 -- an earlier moment comes first
 pub earlier : (m n : ℕ) (t u : Timer) → m < n → due_cmp (m, t) (n, u) ≡ Less

@@ -1,13 +1,8 @@
 -- Timers that tie are equal, and what a map has after a change.
-use Rattle.std.proofs.Common.{◌≡◌, ℕ, true, cond, ap, Some, None, Result, Ok, Err, OnErr}
-use Rattle.std.specs.Ordering.{is_eq}
-use Rattle.std.specs.Cmp.{eq_by_cmp_equiv, tied_itself, Equal-is}
+use Rattle.std.{proofs.Common.{◌≡◌, ℕ, true, cond, ap, Some, None, Result, Ok, Err, OnErr}, specs.{Ordering.is_eq, Cmp.{eq_by_cmp_equiv, tied_itself, Equal-is}}}
+use Rattle.pim_types.{specs.{declared.timer.Timer.Timer, Timers.timer_cmp}, proofs.Timers.{timer_cmp_total, timer_exact}}
+use Rattle.pim_timers.{specs.{Schedule.Contents, Ends.same_timer}}
 use Rattle.std.specs.FinMap as map
-use Rattle.pim_types.specs.declared.timer.Timer.{Timer}
-use Rattle.pim_types.specs.Timers.{timer_cmp}
-use Rattle.pim_types.proofs.Timers.{timer_cmp_total, timer_exact}
-use Rattle.pim_timers.specs.Schedule.{Contents}
-use Rattle.pim_timers.specs.Ends.{same_timer}
 
 pub same_itself : (t : Timer) → same_timer t t ≡ true
 unfolding same_timer

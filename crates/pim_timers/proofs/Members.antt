@@ -1,18 +1,7 @@
 -- An ordered set of dues, in the order of dues.
-use Rattle.std.proofs.Common.{◌≡◌, ◌<◌, ◌&&◌, ◌||◌, Bool, true, false, not, cond, List, [], ◌∷◌, length, Option, Some}
-use Rattle.std.proofs.Common.{None, refl, sym, ap, ◌∙◌, arith, Bor}
-use Rattle.std.specs.Prelude.{IsTrue, IsSome, IfSome, ◌↔◌, option_copied}
-use Rattle.std.proofs.lemmas.Bool.{true≢false}
-use Rattle.std.specs.List.{list_any}
-use Rattle.std.specs.Ordering.{is_eq, is_lt, is_gt, nat_cmp, ordering_then, ordering_reverse}
-use Rattle.std.specs.Cmp.{eq_by_cmp_equiv}
-use Rattle.std.specs.declared.cmp.Ordering.{Ordering}
-use Rattle.std.specs.declared.cmp.Ordering.TheVariants.{Less, Equal, Greater}
+use Rattle.std.{proofs.{Common.{◌≡◌, ◌<◌, ◌&&◌, ◌||◌, Bool, true, false, not, cond, List, [], ◌∷◌, length, Option, Some, None, refl, sym, ap, ◌∙◌, arith, Bor}, lemmas.Bool.true≢false}, specs.{Prelude.{IsTrue, IsSome, IfSome, ◌↔◌, option_copied}, List.list_any, Ordering.{is_eq, is_lt, is_gt, nat_cmp, ordering_then, ordering_reverse}, Cmp.eq_by_cmp_equiv, declared.cmp.Ordering.{Ordering, TheVariants.{Less, Equal, Greater}}}}
+use Rattle.pim_timers.{specs.{Order.due_cmp, Dues.{Due, is_among, same_due, IsFirst}}, proofs.{Total.due_cmp_total, Ranks.due_order}}
 use Rattle.pim_types.specs.contracts.timer.TimerOrd.TheImpl as timer_ord
-use Rattle.pim_timers.specs.Order.{due_cmp}
-use Rattle.pim_timers.specs.Dues.{Due, is_among, same_due, IsFirst}
-use Rattle.pim_timers.proofs.Total.{due_cmp_total}
-use Rattle.pim_timers.proofs.Ranks.{due_order}
 
 -- the order of the set
 abbrev pub set_cmp : Due → Due → Ordering

@@ -1,28 +1,13 @@
 -- The order that is derived for timers is `timer_cmp`.
-use Rattle.std.proofs.Common.{◌≡◌, ℕ, Bool, true, false, Option, Some, None, ◌==◌, ◌&&◌, refl, sym, ap, ◌∙◌, arith}
-use Rattle.std.specs.Ordering.{nat_cmp, bool_cmp, ordering_then, is_eq}
-use Rattle.pim_types.specs.declared.timer.TimerKind.{TimerKind}
-use Rattle.pim_types.specs.declared.timer.TimerKind.TheVariants.{Neighbour, PrunePending, DownstreamExpiry, GroupRecord}
-use Rattle.pim_types.specs.declared.timer.TimerKind.TheVariants.{SourceRecord, Assert, Keepalive, Register, Override}
-use Rattle.pim_types.specs.declared.timer.TimerKind.TheVariants.{Join, OtherQuerier, GroupRepeat, SourceRepeat}
-use Rattle.pim_types.specs.declared.timer.TimerKind.TheVariants.{GeneralQuery, Hello}
-use Rattle.pim_types.specs.declared.timer.Timer.{Timer}
+use Rattle.std.{proofs.{Common.{◌≡◌, ℕ, Bool, true, false, Option, Some, None, ◌==◌, ◌&&◌, refl, sym, ap, ◌∙◌, arith}, lemmas.Bool.Decides.nat_tests}, specs.{Ordering.{nat_cmp, bool_cmp, ordering_then, is_eq}, Option.{option_eq, option_cmp}, declared.cmp.Ordering.{Ordering, TheVariants.{Less, Equal, Greater}}, Bool.beq}}
+use Rattle.pim_types.{specs.{declared.{timer.{TimerKind.{TimerKind, TheVariants.{Neighbour, PrunePending, DownstreamExpiry, GroupRecord, SourceRecord, Assert, Keepalive, Register, Override, Join, OtherQuerier, GroupRepeat, SourceRepeat, GeneralQuery, Hello}}, Timer.Timer}, fact.Key.Key}, Timers.{rank, timer_cmp}, Keys.{key_cmp, addr_cmp}}}
+use Rattle.pim_ip.{specs.declared.addr.Addr.Addr}
+use Rattle.pim_timers.{specs.{Ends.same_timer, Order.due_cmp}}
 use Rattle.pim_types.specs.contracts.timer.TimerKindOrd.TheImpl as kind_ord
 use Rattle.pim_types.specs.contracts.timer.TimerOrd.TheImpl as timer_ord
 use Rattle.pim_types.specs.contracts.timer.TimerKindPartialEq.TheImpl as kind_eq
 use Rattle.pim_ip.specs.contracts.addr.AddrPartialEq.TheImpl as addr_eq
-use Rattle.pim_ip.specs.declared.addr.Addr.{Addr}
-use Rattle.pim_types.specs.declared.fact.Key.{Key}
-use Rattle.std.specs.Option.{option_eq, option_cmp}
 use Rattle.pim_types.specs.contracts.timer.TimerPartialEq.TheImpl as timer_eq
-use Rattle.std.specs.declared.cmp.Ordering.{Ordering}
-use Rattle.std.specs.declared.cmp.Ordering.TheVariants.{Less, Equal, Greater}
-use Rattle.std.specs.Bool.{beq}
-use Rattle.std.proofs.lemmas.Bool.Decides.{nat_tests}
-use Rattle.pim_timers.specs.Ends.{same_timer}
-use Rattle.pim_timers.specs.Order.{due_cmp}
-use Rattle.pim_types.specs.Timers.{rank, timer_cmp}
-use Rattle.pim_types.specs.Keys.{key_cmp, addr_cmp}
 
 -- kinds compare by their ranks
 pub kind_order : (a b : TimerKind) → (kind_ord.ghosts).cmp a b ≡ nat_cmp (rank a) (rank b)

@@ -1,18 +1,7 @@
 -- Which dues are one; and what doesn't come before goes on from one due to the next.
-use Rattle.std.proofs.Common.{◌≡◌, ◌==◌, ◌&&◌, Bool, true, false, Option, Some, None, refl}
-use Rattle.std.proofs.Common.{sym, ap, ◌∙◌, subst}
-use Rattle.std.specs.Option.{option_eq}
-use Rattle.std.specs.Ordering.{is_eq, is_lt, ordering_reverse}
-use Rattle.std.specs.Cmp.{tied_itself, Equal-is}
-use Rattle.std.specs.declared.cmp.Ordering.{Ordering}
-use Rattle.std.specs.declared.cmp.Ordering.TheVariants.{Less, Equal, Greater}
-use Rattle.std.proofs.lemmas.Bool.{true≢false}
-use Rattle.pim_timers.specs.Order.{due_cmp}
-use Rattle.pim_timers.specs.Dues.{Due, same_due}
+use Rattle.std.{proofs.{Common.{◌≡◌, ◌==◌, ◌&&◌, Bool, true, false, Option, Some, None, refl, sym, ap, ◌∙◌, subst}, lemmas.Bool.true≢false}, specs.{Option.option_eq, Ordering.{is_eq, is_lt, ordering_reverse}, Cmp.{tied_itself, Equal-is}, declared.cmp.Ordering.{Ordering, TheVariants.{Less, Equal, Greater}}}}
+use Rattle.pim_timers.{specs.{Order.due_cmp, Dues.{Due, same_due}}, proofs.{Ranks.timer_ties, Together.same_due_by, Total.{due_cmp_total, due_exact}}}
 use Rattle.pim_types.specs.contracts.timer.TimerPartialEq.TheImpl as timer_eq
-use Rattle.pim_timers.proofs.Ranks.{timer_ties}
-use Rattle.pim_timers.proofs.Together.{same_due_by}
-use Rattle.pim_timers.proofs.Total.{due_cmp_total, due_exact}
 
 pub due_itself : (d : Due) → same_due d d ≡ true
 unfolding same_due

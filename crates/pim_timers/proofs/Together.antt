@@ -1,21 +1,8 @@
 -- The dues of a queue, and the moments of the timers.
-use Rattle.std.proofs.Common.{◌≡◌, ℕ, ◌==◌, ◌&&◌, ◌||◌, Bool, true, false, not, cond, Option, Some, None, refl, sym, ap}
-use Rattle.std.proofs.Common.{◌∙◌, subst, arith}
+use Rattle.std.{proofs.{Common.{◌≡◌, ℕ, ◌==◌, ◌&&◌, ◌||◌, Bool, true, false, not, cond, Option, Some, None, refl, sym, ap, ◌∙◌, subst, arith}, lemmas.Bool.{true≢false, Decides.nat_tests}}, specs.{Ordering.{is_eq, nat_cmp, ordering_then}, Cmp.{tied_itself, nat_cmp_total}, declared.cmp.Ordering.{Ordering, TheVariants.{Less, Equal, Greater}}}}
+use Rattle.pim_types.{specs.{declared.timer.Timer.Timer, Timers.timer_cmp}}
+use Rattle.pim_timers.{specs.{Order.due_cmp, Ends.{same_timer, ends_at}, Next.IsNext, Schedule.Contents, Dues.{Due, same_due, IsFirst, AreTogether}}, proofs.Lookups.{get_inserted, get_removed, same_is, same_itself}}
 use Rattle.std.specs.FinMap as map
-use Rattle.std.specs.Ordering.{is_eq, nat_cmp, ordering_then}
-use Rattle.std.specs.Cmp.{tied_itself, nat_cmp_total}
-use Rattle.std.specs.declared.cmp.Ordering.{Ordering}
-use Rattle.std.specs.declared.cmp.Ordering.TheVariants.{Less, Equal, Greater}
-use Rattle.std.proofs.lemmas.Bool.{true≢false}
-use Rattle.std.proofs.lemmas.Bool.Decides.{nat_tests}
-use Rattle.pim_types.specs.declared.timer.Timer.{Timer}
-use Rattle.pim_types.specs.Timers.{timer_cmp}
-use Rattle.pim_timers.specs.Order.{due_cmp}
-use Rattle.pim_timers.specs.Ends.{same_timer, ends_at}
-use Rattle.pim_timers.specs.Next.{IsNext}
-use Rattle.pim_timers.specs.Schedule.{Contents}
-use Rattle.pim_timers.specs.Dues.{Due, same_due, IsFirst, AreTogether}
-use Rattle.pim_timers.proofs.Lookups.{get_inserted, get_removed, same_is, same_itself}
 
 differ_by : (a b : ℕ) (o p : Ordering) → nat_cmp a b ≡ o → (a == b) ≡ false → is_eq (ordering_then o p) ≡ false
 differ_by a b Less p e f = refl

@@ -1,12 +1,7 @@
 -- The order in which timers fall due is total, and tells any two apart.
-use Rattle.std.proofs.Common.{ℕ}
-use Rattle.std.specs.Ordering.{nat_cmp}
-use Rattle.std.specs.Cmp.{IsTotalOrder, nat_cmp_total, on_total, then_total}
-use Rattle.std.specs.FinMap.{IsAntisymmetric, nat_cmp-IsAntisymmetric}
-use Rattle.pim_types.specs.declared.timer.Timer.{Timer}
-use Rattle.pim_types.proofs.Keys.{both_tied}
-use Rattle.pim_types.proofs.Timers.{timer_cmp_total, timer_exact}
-use Rattle.pim_timers.specs.Order.{due_cmp}
+use Rattle.std.{proofs.Common.ℕ, specs.{Ordering.nat_cmp, Cmp.{IsTotalOrder, nat_cmp_total, on_total, then_total}, FinMap.{IsAntisymmetric, nat_cmp-IsAntisymmetric}}}
+use Rattle.pim_types.{specs.declared.timer.Timer.Timer, proofs.{Keys.both_tied, Timers.{timer_cmp_total, timer_exact}}}
+use Rattle.pim_timers.{specs.Order.due_cmp}
 
 pub due_cmp_total : IsTotalOrder due_cmp
 unfolding due_cmp

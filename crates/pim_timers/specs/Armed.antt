@@ -1,10 +1,8 @@
 -- A queue of timestamps in which a timer may have been set to expire later: each timer that runs has an entry at or
 -- before its timestamp.
-use Rattle.std.specs.Prelude.{◌≡◌, ℕ, ◌≤◌, ◌+◌, ◌*◌, Bool, true, Option, Some, List, length}
-use Rattle.std.specs.List.{list_any}
-use Rattle.std.specs.declared.cmp.Reverse.{Reverse}
-use Rattle.pim_types.specs.declared.timer.Timer.{Timer}
-use Rattle.pim_timers.specs.Dues.{Due, IsFirst, same_due}
+use Rattle.std.{specs.{Prelude.{◌≡◌, ℕ, ◌≤◌, ◌+◌, ◌*◌, Bool, true, Option, Some, List, length}, List.list_any, declared.cmp.Reverse.Reverse}}
+use Rattle.pim_types.{specs.declared.timer.Timer.Timer}
+use Rattle.pim_timers.{specs.Dues.{Due, IsFirst, same_due}}
 
 -- the entries, and how many more there is room for
 pub record Entries : Type 0 where

@@ -1,10 +1,7 @@
 -- Dues: timestamps, each with a timer that expires then. A collection of them is seen as a test.
-use Rattle.std.specs.Prelude.{◌≡◌, ℕ, Bool, true, false, List, Option, Some, None}
-use Rattle.std.specs.List.{list_any}
-use Rattle.std.specs.Ordering.{is_eq, is_lt}
-use Rattle.pim_types.specs.declared.timer.Timer.{Timer}
-use Rattle.pim_timers.specs.Ends.{ends_at}
-use Rattle.pim_timers.specs.Order.{due_cmp}
+use Rattle.std.{specs.{Prelude.{◌≡◌, ℕ, Bool, true, false, List, Option, Some, None}, List.list_any, Ordering.{is_eq, is_lt}}}
+use Rattle.pim_types.{specs.declared.timer.Timer.Timer}
+use Rattle.pim_timers.{specs.{Ends.ends_at, Order.due_cmp}}
 
 abbrev pub Due : Type 0
 Due = ℕ × Timer

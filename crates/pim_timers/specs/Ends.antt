@@ -1,8 +1,6 @@
 -- Which timers are the same, and when a timer expires.
-use Rattle.std.specs.Prelude.{ℕ, Bool, false, ◌==◌, Option, Some, None}
-use Rattle.std.specs.Ordering.{eq_by_cmp}
-use Rattle.pim_types.specs.declared.timer.Timer.{Timer}
-use Rattle.pim_types.specs.Timers.{timer_cmp}
+use Rattle.std.{specs.{Prelude.{ℕ, Bool, false, ◌==◌, Option, Some, None}, Ordering.eq_by_cmp}}
+use Rattle.pim_types.{specs.{declared.timer.Timer.Timer, Timers.timer_cmp}}
 
 -- the two timers are one
 unfoldable pub same_timer : Timer → Timer → Bool

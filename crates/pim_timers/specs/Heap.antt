@@ -1,9 +1,7 @@
 -- The order of a heap whose first is the least.
-use Rattle.std.specs.declared.cmp.Reverse.{Reverse}
-use Rattle.std.specs.declared.cmp.Ordering.{Ordering}
-use Rattle.std.specs.Ordering.{ordering_then, nat_cmp}
+use Rattle.std.{specs.{declared.cmp.{Reverse.Reverse, Ordering.Ordering}, Ordering.{ordering_then, nat_cmp}}}
+use Rattle.pim_timers.{specs.Dues.Due}
 use Rattle.pim_types.specs.contracts.timer.TimerOrd.TheImpl as timer_ord
-use Rattle.pim_timers.specs.Dues.{Due}
 
 -- the later is the lesser
 abbrev pub entry_cmp : Reverse Due → Reverse Due → Ordering

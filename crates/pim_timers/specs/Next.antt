@@ -1,8 +1,7 @@
 -- Which timer is next. Timers are seen as a function to when each expires.
-use Rattle.std.specs.Prelude.{◌≡◌, ◌<◌, ℕ, Option, Some, None, false}
-use Rattle.std.specs.Ordering.{is_lt}
-use Rattle.pim_types.specs.declared.timer.Timer.{Timer}
-use Rattle.pim_timers.specs.Order.{due_cmp}
+use Rattle.std.{specs.{Prelude.{◌≡◌, ◌<◌, ℕ, Option, Some, None, false}, Ordering.is_lt}}
+use Rattle.pim_types.{specs.declared.timer.Timer.Timer}
+use Rattle.pim_timers.{specs.Order.due_cmp}
 
 -- The timer expires at the timestamp, and none comes before it.
 pub record IsLeast (end_of : Timer → Option ℕ) (due : ℕ × Timer) : Type 0 where
@@ -15,7 +14,7 @@ abbrev pub IsNext : (Timer → Option ℕ) → Option (ℕ × Timer) → Type 0
 IsNext end_of None = (timer : Timer) → end_of timer ≡ None
 IsNext end_of (Some due) = IsLeast end_of due
 
--- At most one timer is next.
+-- At most one timer is the next to expire.
 abbrev pub OneIsNext : Type 0
 OneIsNext =
     (end_of : Timer → Option ℕ) (first second : Option (ℕ × Timer)) → IsNext end_of first → IsNext end_of second

@@ -1,9 +1,6 @@
 -- The order in which timers fall due.
-use Rattle.std.specs.Prelude.{ℕ}
-use Rattle.std.specs.declared.cmp.Ordering.{Ordering}
-use Rattle.std.specs.Ordering.{ordering_then, nat_cmp}
-use Rattle.pim_types.specs.declared.timer.Timer.{Timer}
-use Rattle.pim_types.specs.Timers.{timer_cmp}
+use Rattle.std.{specs.{Prelude.ℕ, declared.cmp.Ordering.Ordering, Ordering.{ordering_then, nat_cmp}}}
+use Rattle.pim_types.{specs.{declared.timer.Timer.Timer, Timers.timer_cmp}}
 
 -- The order of dues: by timestamp, then by timer.
 unfoldable pub due_cmp : ℕ × Timer → ℕ × Timer → Ordering

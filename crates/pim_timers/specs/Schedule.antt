@@ -1,9 +1,8 @@
 -- What is seen of a collection of timers.
-use Rattle.std.specs.Prelude.{ℕ}
-use Rattle.std.specs.Coded.{Coded, coded_ℕ}
+use Rattle.std.{specs.{Prelude.ℕ, Coded.{Coded, coded_ℕ}}}
+use Rattle.pim_types.{specs.Timers.timer_cmp}
 use Rattle.std.specs.FinMap as map
 use Rattle.pim_types.specs.contracts.timer.Timer as timer
-use Rattle.pim_types.specs.Timers.{timer_cmp}
 
 -- When each timer that is set expires, in ms.
 abbrev pub Contents : Type 0

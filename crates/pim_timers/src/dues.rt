@@ -41,7 +41,7 @@ impl Dues {
         Ok(())
     }
 
-    /// Takes one out, where it is there.
+    /// Takes the timer with its timestamp out of the set, where it is in.
     pub fn remove(&mut self, due: (u64, Timer))
         ensures { (d : Due) → is_among self.new d ≡ (not (same_due d due) && is_among self.old d) }
     {

@@ -6,7 +6,7 @@ ghost use Rattle.pim_timers.specs.Next.{OneIsNext};
 
 use pim_types::Timer;
 
-/// At most one timer is next.
+/// At most one timer is the next to expire.
 #[tactic(auto, using(crate::proofs::Least::next_is_one))]
 pub fn one_timer_is_next()
     ensures { OneIsNext }

@@ -37,7 +37,7 @@ impl Model for Queue {
     ghost invariant = { λ a. IsHeap entry_cmp (heap_items a.heap) };
 }
 
-// Whether there is a timestamp (ms), and it is no later than another.
+// Whether a timer's timestamp, in ms, if it has one, is no later than another.
 fn is_within(end: Option<u64>, other: u64) -> bool
     ensures { result ≡ true → (e : ℕ) × (end ≡ Some e) × (e ≤ other) }
 {

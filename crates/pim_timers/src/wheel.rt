@@ -46,7 +46,7 @@ impl Wheel {
     }
 }
 
-// Whether the first, if there is one, is of the timer.
+// Whether the first entry of the queue, if there is one, is of the timer.
 fn is_of(first: Option<(u64, Timer)>, timer: Timer) -> bool
     ensures { result ≡ false → (d : Due) → first ≡ Some d → same_timer d.1 timer ≡ false }
 {

@@ -1,15 +1,8 @@
 -- Where an upstream neighbour comes from tells whether there is one.
-use Rattle.std.proofs.Common.{◌≡◌, ℕ, Bool, true, false, if◌then◌else◌, Option, Some, None, is_some, refl}
-use Rattle.std.specs.Option.{option_or}
-use Rattle.std.specs.Prelude.{option_and_then, option_map}
-use Rattle.pim_types.specs.declared.path.{Hop.Hop, Path.Path}
-use Rattle.pim_model.specs.Desires.{rpf_source, rpf_star, winner_hop}
-use Rattle.pim_model.specs.Neighbours.{nbr, nbr_among}
-use Rattle.pim_model.specs.Sets.{assert_star}
-use Rattle.pim_model.specs.State.{State}
-use Rattle.pim_model.specs.Unicast.{route, rp_of, rp_route, rpf_interface_rp}
-use Rattle.pim_trees.specs.Trees.{cause_of, has_neighbour, source_cause, star_cause}
-use Rattle.pim_trees.specs.declared.upstream.RpfCause.{RpfCause}
+use Rattle.std.{proofs.Common.{◌≡◌, ℕ, Bool, true, false, if◌then◌else◌, Option, Some, None, is_some, refl}, specs.{Option.option_or, Prelude.{option_and_then, option_map}}}
+use Rattle.pim_types.{specs.declared.path.{Hop.Hop, Path.Path}}
+use Rattle.pim_model.{specs.{Desires.{rpf_source, rpf_star, winner_hop}, Neighbours.{nbr, nbr_among}, Sets.assert_star, State.State, Unicast.{route, rp_of, rp_route, rpf_interface_rp}}}
+use Rattle.pim_trees.{specs.{Trees.{cause_of, has_neighbour, source_cause, star_cause}, declared.upstream.RpfCause.RpfCause}}
 
 connected : (b : Bool) → has_neighbour (if b then RpfCause.Connected else RpfCause.NoNeighbour) ≡ false
 connected true = refl

@@ -1,13 +1,8 @@
 -- Who is the DR: the router itself where no neighbour is better, else a neighbour.
-use Rattle.std.proofs.Common.{◌≡◌, ℕ, Bool, true, false, ◌==◌, ◌||◌, [], ◌∷◌, arith, fold, if◌then◌else◌, not, refl, sym}
-use Rattle.std.specs.List.{list_any}
-use Rattle.std.proofs.lemmas.Bool.Decides.{nat_tests}
-use Rattle.pim_types.specs.Keys.{source_in}
-use Rattle.pim_types.specs.declared.fact.NeighbourRow.{NeighbourRow}
-use Rattle.pim_model.specs.Neighbours.{is_better_dr}
-use Rattle.pim_model.specs.Tables.{Table}
-use Rattle.pim_trees.specs.Links.{better_of}
-use Rattle.pim_trees.specs.declared.link.Candidate.{Candidate}
+use Rattle.std.{proofs.{Common.{◌≡◌, ℕ, Bool, true, false, ◌==◌, ◌||◌, [], ◌∷◌, arith, fold, if◌then◌else◌, not, refl, sym}, lemmas.Bool.Decides.nat_tests}, specs.List.list_any}
+use Rattle.pim_types.{specs.{Keys.source_in, declared.fact.NeighbourRow.NeighbourRow}}
+use Rattle.pim_model.{specs.{Neighbours.is_better_dr, Tables.Table}}
+use Rattle.pim_trees.{specs.{Links.better_of, declared.link.Candidate.Candidate}}
 
 -- some neighbour is a better DR
 abbrev any_better : Bool → Candidate → Table NeighbourRow → Bool

@@ -1,13 +1,9 @@
 -- What the router tells of an interface: its DR, its querier, and its neighbours. Sections are those of RFC 7761.
-use Rattle.std.specs.Prelude.{Bool, Option, fold, if◌then◌else◌, option_map, unwrap_or, ℕ}
-use Rattle.pim_ip.specs.Addr.{addr}
-use Rattle.pim_types.specs.{Keys.{iface_key, neighbour_key, source_in}, declared.{config.InterfaceConfig.InterfaceConfig, fact.{Key.Key, NeighbourRow.NeighbourRow}}}
-use Rattle.pim_model.specs.Neighbours.{all_have_priority, is_better_dr, is_dr, neighbours_on}
-use Rattle.pim_model.specs.State.{State, iface_config, is_up, my_address, my_priority}
-use Rattle.pim_model.specs.Tables.{Table, row_at}
-use Rattle.pim_trees.specs.declared.link.Candidate.{Candidate}
-use Rattle.pim_trees.specs.declared.link.Link.{Link}
-use Rattle.pim_trees.specs.declared.link.Neighbour.{Neighbour}
+use Rattle.std.{specs.Prelude.{Bool, Option, fold, if◌then◌else◌, option_map, unwrap_or, ℕ}}
+use Rattle.pim_ip.{specs.Addr.addr}
+use Rattle.pim_types.{specs.{Keys.{iface_key, neighbour_key, source_in}, declared.{config.InterfaceConfig.InterfaceConfig, fact.{Key.Key, NeighbourRow.NeighbourRow}}}}
+use Rattle.pim_model.{specs.{Neighbours.{all_have_priority, is_better_dr, is_dr, neighbours_on}, State.{State, iface_config, is_up, my_address, my_priority}, Tables.{Table, row_at}}}
+use Rattle.pim_trees.{specs.declared.link.{Candidate.Candidate, Link.Link, Neighbour.Neighbour}}
 
 -- dr = neighbor where dr_is_better(neighbor, dr, I), else dr (4.3.2)
 unfoldable pub better_of : Bool → Candidate → Key × NeighbourRow → Candidate

@@ -1,20 +1,11 @@
 -- What the router tells of a tree: the macros of a group, and of a source of it, as one value. Sections are those of RFC
 -- 7761. A set has the interfaces below 120 that pass the macro's test, and for (S,G) the register tunnel.
-use Rattle.std.specs.Option.{option_map_or}
-use Rattle.std.specs.Prelude.{Bool, None, Option, Some, false, if◌then◌else◌, is_some, option_map, true, ℕ}
-use Rattle.pim_ip.specs.Addr.{addr}
-use Rattle.pim_ifset.specs.Members.{set_of}
-use Rattle.pim_types.specs.declared.path.{Hop.Hop, Path.Path}
-use Rattle.pim_model.specs.Desires.{join_desired, join_desired_star, prune_desired, rpf_rpt, rpf_source, rpf_star, tree_state, winner_hop}
-use Rattle.pim_model.specs.Neighbours.{nbr}
-use Rattle.pim_model.specs.Receivers.{local_receiver_exclude, local_receiver_include, local_receiver_star}
-use Rattle.pim_model.specs.Registers.{could_register}
-use Rattle.pim_model.specs.Sets.{assert_source, assert_star, immediate_olist, immediate_olist_star, inherited_olist, inherited_olist_rpt, is_kept_alive, is_winner, joins, joins_star, lost_assert, lost_assert_rpt, lost_assert_star, pim_exclude, pim_include, pim_include_star, prunes, spt_bit, tunnel}
-use Rattle.pim_model.specs.State.{State, is_own}
-use Rattle.pim_model.specs.Unicast.{route, rp_of, rp_route, rpf_interface, rpf_interface_rp}
-use Rattle.pim_trees.specs.declared.shared.Tree.{Tree}
-use Rattle.pim_trees.specs.declared.source.SourceTree.{SourceTree}
-use Rattle.pim_trees.specs.declared.upstream.RpfCause.{RpfCause}
+use Rattle.std.{specs.{Option.option_map_or, Prelude.{Bool, None, Option, Some, false, if◌then◌else◌, is_some, option_map, true, ℕ}}}
+use Rattle.pim_ip.{specs.Addr.addr}
+use Rattle.pim_ifset.{specs.Members.set_of}
+use Rattle.pim_types.{specs.declared.path.{Hop.Hop, Path.Path}}
+use Rattle.pim_model.{specs.{Desires.{join_desired, join_desired_star, prune_desired, rpf_rpt, rpf_source, rpf_star, tree_state, winner_hop}, Neighbours.nbr, Receivers.{local_receiver_exclude, local_receiver_include, local_receiver_star}, Registers.could_register, Sets.{assert_source, assert_star, immediate_olist, immediate_olist_star, inherited_olist, inherited_olist_rpt, is_kept_alive, is_winner, joins, joins_star, lost_assert, lost_assert_rpt, lost_assert_star, pim_exclude, pim_include, pim_include_star, prunes, spt_bit, tunnel}, State.{State, is_own}, Unicast.{route, rp_of, rp_route, rpf_interface, rpf_interface_rp}}}
+use Rattle.pim_trees.{specs.declared.{shared.Tree.Tree, source.SourceTree.SourceTree, upstream.RpfCause.RpfCause}}
 
 -- where RPF' comes from, or why there is none (4.1.5): by the winner of the assert that the router lost on the RPF
 -- interface, NBR of the next hop to the root, the route to the root, and whether the root is the router itself
@@ -82,7 +73,7 @@ source_tree s g src = record {
   could_register = could_register s g src;
 }
 
--- there is an RPF'
+-- a cause of RPF' with which there is an upstream neighbour
 abbrev pub has_neighbour : RpfCause → Bool
 has_neighbour RpfCause.Winner = true
 has_neighbour RpfCause.NextHop = true

@@ -15,7 +15,7 @@ pub fn the_dr_is_elected()
         → list_any (λ e. source_in e.0 == dr s i) (neighbours_on s i) ≡ true }
 {}
 
-/// There is an RPF' exactly where it is said to come from an assert or from the next hop.
+/// RPF' is a neighbour exactly where it is said to come from an assert or from the next hop.
 pub fn there_is_a_neighbour_as_told()
     ensures star { (s : State) (g : ℕ) → has_neighbour (star_cause s g) ≡ is_some (rpf_star s g) }
     ensures source { (s : State) (g src : ℕ) → has_neighbour (source_cause s g src) ≡ is_some (rpf_source s g src) }

@@ -5,21 +5,21 @@ ghost use Rattle.pim_model.specs.Tables.{rows_on};
 ghost use Rattle.pim_trees.specs.Links.{better_of, dr, dr_among, link, neighbour, neighbour_at};
 
 use pim_neighbours::Neighbours;
+use pim_state::World;
 use pim_types::fact::{NeighbourRow, QuerierRow};
 use pim_types::{Addr, IfaceId, Key, LanDelay};
-use pim_world::World;
 
 /// An interface that is configured.
 #[derive(Clone, Copy)]
 pub struct Link {
-    /// Whether it is up.
+    /// Whether the interface is up.
     pub is_up: bool,
     /// DR(I): the address of the designated router (RFC 7761, section 4.3.2). Where no neighbour is better, it is the
     /// router's own.
     pub dr: Addr,
     /// I_am_DR(I): the router itself is the DR.
     pub is_dr: bool,
-    /// Who queries there, with the values in force (RFC 3376, section 6.6.2); `None` where the interface is down.
+    /// Who queries on the interface, with the values in force (RFC 3376, section 6.6.2); `None` where it is down.
     pub querier: Option<QuerierRow>,
 }
 

@@ -1,7 +1,7 @@
 //! Sets of interfaces as they are told.
 ghost use Rattle.std.specs.Prelude.{◌≡◌, ℕ, Bool};
 ghost use Rattle.pim_ifset.specs.Members.{set_of};
-ghost use Rattle.pim_world.specs.Shown.{Shows};
+ghost use Rattle.pim_state.specs.Shown.{Shows};
 
 use pim_ifset::IfSet;
 

@@ -7,9 +7,9 @@ use crate::set::told;
 use crate::upstream::{RpfCause, star_cause};
 use pim_ifset::IfSet;
 use pim_macros::StarSight;
+use pim_state::World;
 use pim_trie::Meter;
 use pim_types::{Addr, Hop, Path};
-use pim_world::World;
 
 /// The macros of (*,G) (RFC 7761, sections 4.1.5, 4.5.4 and 4.6.5). No set has the register tunnel.
 #[derive(Clone, Copy)]

@@ -7,9 +7,9 @@ use crate::set::told;
 use crate::upstream::{RpfCause, source_cause};
 use pim_ifset::IfSet;
 use pim_macros::SourceSight;
+use pim_state::World;
 use pim_trie::Meter;
 use pim_types::{Addr, Hop, Path, SourceGroup, TreeState};
-use pim_world::World;
 
 /// The macros of (S,G) and of (S,G,rpt) (RFC 7761, sections 4.1.5, 4.4.1, 4.5.5, 4.5.7 and 4.6.5). The register tunnel
 /// is in no other set than `joins`, `immediate_olist` and `inherited_olist`, and in all three or none.

@@ -14,15 +14,15 @@ pub enum RpfCause {
     Winner,
     /// RPF' is the next hop of the route to the root.
     NextHop,
-    /// There is none: the root is on a link of the router, and is no neighbour.
+    /// No upstream neighbour: the root is on a link of the router, and is no neighbour.
     Connected,
-    /// There is none: the next hop of the route to the root is no neighbour.
+    /// No upstream neighbour: the next hop of the route to the root is no neighbour.
     NoNeighbour,
-    /// There is none: there is no route to the root over an interface that is up.
+    /// No upstream neighbour: there is no route to the root over an interface that is up.
     NoRoute,
-    /// There is none: the root is the router itself.
+    /// No upstream neighbour: the root is the router itself.
     Own,
-    /// There is none: the group has no RP.
+    /// No upstream neighbour: the group has no RP.
     NoRp,
 }
 

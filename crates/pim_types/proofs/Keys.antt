@@ -1,16 +1,7 @@
 -- The order of keys is total, and keys that compare equal are equal.
-use Rattle.std.proofs.Common.{◌≡◌, ℕ, Bool, true, false, Option, Some, None, refl, ap, arith}
-use Rattle.std.specs.declared.cmp.Ordering.{Ordering}
-use Rattle.std.specs.declared.cmp.Ordering.TheVariants.{Less, Equal, Greater}
-use Rattle.std.specs.Option.{option_cmp}
-use Rattle.std.specs.Ordering.{nat_cmp, bool_cmp, is_eq, ordering_then}
-use Rattle.std.specs.Cmp.{IsTotalOrder, nat_cmp_total, bool_cmp_total, on_total, then_total}
-use Rattle.std.specs.Cmp.Lexicographic.{options_total}
-use Rattle.std.specs.FinMap.{IsAntisymmetric, nat_cmp-IsAntisymmetric}
-use Rattle.std.proofs.lemmas.Grind.{common_steps}
-use Rattle.pim_ip.specs.declared.addr.Addr.{Addr}
-use Rattle.pim_types.specs.declared.fact.Key.{Key}
-use Rattle.pim_types.specs.Keys.{addr_cmp, key_cmp, same_key}
+use Rattle.std.{proofs.{Common.{◌≡◌, ℕ, Bool, true, false, Option, Some, None, refl, ap, arith}, lemmas.Grind.common_steps}, specs.{declared.cmp.Ordering.{Ordering, TheVariants.{Less, Equal, Greater}}, Option.option_cmp, Ordering.{nat_cmp, bool_cmp, is_eq, ordering_then}, Cmp.{IsTotalOrder, nat_cmp_total, bool_cmp_total, on_total, then_total, Lexicographic.options_total}, FinMap.{IsAntisymmetric, nat_cmp-IsAntisymmetric}}}
+use Rattle.pim_ip.{specs.declared.addr.Addr.Addr}
+use Rattle.pim_types.{specs.{declared.fact.Key.Key, Keys.{addr_cmp, key_cmp, same_key}}}
 
 -- ---- total
 

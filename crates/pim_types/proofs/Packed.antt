@@ -1,17 +1,7 @@
 -- The two numbers of a key compare as its fields do.
-use Rattle.std.proofs.Common.{◌≡◌, ◌≢◌, ℕ, ◌+◌, ◌*◌, ◌^◌, ◌<◌, ◌%◌, bit_or, Bool, true, false, Option, Some, None, refl, ap, sym, ◌∙◌, arith, inl, inr}
-use Rattle.std.proofs.lemmas.Bool.{cases_order}
-use Rattle.std.proofs.lemmas.Nat.{or_shifted}
-use Rattle.std.specs.Cmp.{nat_cmp_is}
-use Rattle.std.specs.declared.cmp.Ordering.{Ordering}
-use Rattle.std.specs.declared.cmp.Ordering.TheVariants.{Less, Equal, Greater}
-use Rattle.std.specs.Int.{from_bool}
-use Rattle.std.specs.Option.{option_cmp}
-use Rattle.std.specs.Ordering.{bool_cmp, nat_cmp, ordering_then}
-use Rattle.pim_ip.specs.declared.addr.Addr.{Addr}
-use Rattle.pim_types.specs.declared.fact.Key.{Key}
-use Rattle.pim_types.specs.FieldOrder.{bits_cmp, fields_cmp}
-use Rattle.pim_types.specs.Packed.{lower, source_number, upper}
+use Rattle.std.{proofs.{Common.{◌≡◌, ◌≢◌, ℕ, ◌+◌, ◌*◌, ◌^◌, ◌<◌, ◌%◌, bit_or, Bool, true, false, Option, Some, None, refl, ap, sym, ◌∙◌, arith, inl, inr}, lemmas.{Bool.cases_order, Nat.or_shifted}}, specs.{Cmp.nat_cmp_is, declared.cmp.Ordering.{Ordering, TheVariants.{Less, Equal, Greater}}, Int.from_bool, Option.option_cmp, Ordering.{bool_cmp, nat_cmp, ordering_then}}}
+use Rattle.pim_ip.{specs.declared.addr.Addr.Addr}
+use Rattle.pim_types.{specs.{declared.fact.Key.Key, FieldOrder.{bits_cmp, fields_cmp}, Packed.{lower, source_number, upper}}}
 
 less : (x y : ℕ) → x < y → nat_cmp x y ≡ Less
 less x y below = sym (nat_cmp_is x y Less below)

@@ -1,13 +1,6 @@
 -- The order of timers is total, and timers that compare equal are equal.
-use Rattle.std.proofs.Common.{◌≡◌, ℕ, refl, sym, ap, ◌∙◌, [], ◌∷◌, get_or, ◌-◌}
-use Rattle.std.specs.Ordering.{nat_cmp}
-use Rattle.std.specs.Cmp.{IsTotalOrder, nat_cmp_total, on_total, then_total}
-use Rattle.std.specs.FinMap.{IsAntisymmetric, nat_cmp-IsAntisymmetric}
-use Rattle.pim_types.specs.declared.timer.Timer.{Timer}
-use Rattle.pim_types.specs.declared.timer.TimerKind.{TimerKind}
-use Rattle.pim_types.specs.declared.timer.TimerKind.TheVariants.{Neighbour, PrunePending, DownstreamExpiry, GroupRecord, SourceRecord, Assert, Keepalive, Register, Override, Join, OtherQuerier, GroupRepeat, SourceRepeat, GeneralQuery, Hello}
-use Rattle.pim_types.specs.Timers.{rank, timer_cmp}
-use Rattle.pim_types.proofs.Keys.{both_tied, key_cmp_total, key_exact}
+use Rattle.std.{proofs.Common.{◌≡◌, ℕ, refl, sym, ap, ◌∙◌, [], ◌∷◌, get_or, ◌-◌}, specs.{Ordering.nat_cmp, Cmp.{IsTotalOrder, nat_cmp_total, on_total, then_total}, FinMap.{IsAntisymmetric, nat_cmp-IsAntisymmetric}}}
+use Rattle.pim_types.{specs.{declared.timer.{Timer.Timer, TimerKind.{TimerKind, TheVariants.{Neighbour, PrunePending, DownstreamExpiry, GroupRecord, SourceRecord, Assert, Keepalive, Register, Override, Join, OtherQuerier, GroupRepeat, SourceRepeat, GeneralQuery, Hello}}}, Timers.{rank, timer_cmp}}, proofs.Keys.{both_tied, key_cmp_total, key_exact}}
 
 pub timer_cmp_total : IsTotalOrder timer_cmp
 unfolding timer_cmp

@@ -1,16 +1,9 @@
 -- The order of keys by their fields in turn: it is total, and ties where the fields are the same.
-use Rattle.std.proofs.Common.{◌≡◌, ℕ, Bool, true, false, Option, Some, None, ◌==◌, ◌&&◌, refl, sym, ap, ◌∙◌, arith}
-use Rattle.std.proofs.lemmas.Bool.Decides.{nat_tests}
-use Rattle.std.specs.Bool.{beq}
-use Rattle.std.specs.Cmp.{IsTotalOrder, bool_cmp_total, nat_cmp_total, on_total, then_total}
-use Rattle.std.specs.Cmp.Lexicographic.{options_total}
-use Rattle.std.specs.Option.{option_cmp, option_eq}
-use Rattle.std.specs.Ordering.{bool_cmp, is_eq, nat_cmp, ordering_then}
-use Rattle.std.specs.declared.cmp.Ordering.{Ordering}
-use Rattle.std.specs.declared.cmp.Ordering.TheVariants.{Equal, Greater, Less}
-use Rattle.pim_ip.specs.declared.addr.Addr.{Addr}
-use Rattle.pim_types.specs.declared.fact.Key.{Key}
+use Rattle.std.{proofs.{Common.{◌≡◌, ℕ, Bool, true, false, Option, Some, None, ◌==◌, ◌&&◌, refl, sym, ap, ◌∙◌, arith}, lemmas.Bool.Decides.nat_tests}, specs.{Bool.beq, Cmp.{IsTotalOrder, bool_cmp_total, nat_cmp_total, on_total, then_total, Lexicographic.options_total}, Option.{option_cmp, option_eq}, Ordering.{bool_cmp, is_eq, nat_cmp, ordering_then}, declared.cmp.Ordering.{Ordering, TheVariants.{Equal, Greater, Less}}}}
+use Rattle.pim_ip.{specs.declared.addr.Addr.Addr}
+use Rattle.pim_types.{specs.declared.fact.Key.Key}
 
+-- two addresses in the order of their bits
 abbrev pub bits_cmp : Addr → Addr → Ordering
 bits_cmp a b = nat_cmp a.bits b.bits
 

@@ -1,10 +1,6 @@
 -- The order of timers: that of their kinds, and within one kind that of their keys.
-use Rattle.std.specs.Ordering.{nat_cmp, ordering_then}
-use Rattle.std.specs.Prelude.{ℕ}
-use Rattle.std.specs.declared.cmp.Ordering.{Ordering}
-use Rattle.pim_types.specs.declared.timer.Timer.{Timer}
-use Rattle.pim_types.specs.declared.timer.TimerKind.{TimerKind}
-use Rattle.pim_types.specs.Keys.{key_cmp}
+use Rattle.std.{specs.{Ordering.{nat_cmp, ordering_then}, Prelude.ℕ, declared.cmp.Ordering.Ordering}}
+use Rattle.pim_types.{specs.{declared.timer.{Timer.Timer, TimerKind.TimerKind}, Keys.key_cmp}}
 
 -- The rank of a kind: timers with the same timestamp expire in the order of their ranks.
 unfoldable pub rank : TimerKind → ℕ
@@ -24,5 +20,6 @@ rank TimerKind.SourceRepeat = 13
 rank TimerKind.GeneralQuery = 14
 rank TimerKind.Hello = 15
 
+-- The order in which timers of one timestamp expire: by kind, then by key.
 unfoldable pub timer_cmp : Timer → Timer → Ordering
 timer_cmp a b = ordering_then (nat_cmp (rank a.kind) (rank b.kind)) (key_cmp a.key b.key)

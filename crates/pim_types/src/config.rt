@@ -96,7 +96,7 @@ pub struct Config {
     pub query_interval: u32,
     /// The query response interval, in tenths of a second, 1 to 31744 and below the query interval.
     pub query_response_interval: u32,
-    /// The last member query interval, in tenths of a second, 1 to 255.
+    /// IGMP's last member query interval (RFC 3376, section 8.8), in tenths of a second, 1 to 255.
     pub last_member_query_interval: u32,
     pub routes: Series<Route>,
     pub rps: Series<RpRange>,
@@ -131,7 +131,7 @@ pub struct Settings {
     pub query_interval: u32,
     /// The query response interval, in tenths of a second, 1 to 31744 and below the query interval.
     pub query_response_interval: u32,
-    /// The last member query interval, in tenths of a second, 1 to 255.
+    /// IGMP's last member query interval (RFC 3376, section 8.8), in tenths of a second, 1 to 255.
     pub last_member_query_interval: u32,
 }
 

@@ -145,7 +145,7 @@ impl Key {
         }
     }
 
-    /// The neighbour whose key it is.
+    /// The neighbour that the key of a neighbour's row names: its interface and address.
     pub fn hop(self) -> Hop
         ensures iface { result.iface ≡ self.iface }
         ensures address { result.address.bits ≡ source_in self }

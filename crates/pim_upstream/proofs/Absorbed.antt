@@ -1,33 +1,11 @@
 -- Timers that are lowered to one end, some of them again: in whichever order, and once is as often.
-use Rattle.std.proofs.Common.{◌≡◌, ◌<◌, ◌+◌, ℕ, Bool, true, false, cond, not, List, [], ◌∷◌, ◌++◌, Option, Some, None, refl, sym, ap, ◌∙◌, fold, get_or, length, subst, take, arith}
-use Rattle.std.specs.BTreeMap.{insert_entry}
-use Rattle.std.specs.List.{AllByRecursion, filter, flat_map}
-use Rattle.std.specs.Option.{option_map_or}
-use Rattle.std.specs.Ordering.{is_eq, match_ordering, ordering_reverse}
-use Rattle.std.specs.Prelude.{min}
-use Rattle.std.specs.declared.cmp.Ordering.{Ordering}
-use Rattle.std.specs.declared.cmp.Ordering.TheVariants.{Equal, Greater, Less}
-use Rattle.std.proofs.lemmas.List.{append-nil, flat_map_more, take_more}
-use Rattle.std.proofs.lemmas.List.Sums.{fold-append}
-use Rattle.pim_ip.specs.declared.addr.Addr.{Addr}
-use Rattle.pim_types.specs.declared.fact.JoinTimerRow.{JoinTimerRow}
-use Rattle.pim_types.specs.declared.fact.Key.{Key}
-use Rattle.pim_types.specs.declared.name.SourceGroup.{SourceGroup}
-use Rattle.pim_types.specs.declared.fact.OverrideTimerRow.{OverrideTimerRow}
-use Rattle.pim_types.specs.declared.path.Hop.{Hop}
-use Rattle.pim_types.specs.Keys.{key_cmp, rpt_key, same_key}
-use Rattle.pim_types.proofs.Keys.{equal_keys, key_cmp_total, same_key_same}
-use Rattle.pim_model.specs.Downstream.{is_named}
-use Rattle.pim_model.specs.Seen.{is_unpruned_towards, lower_join_timer, lower_override_timer, lowered_row}
-use Rattle.pim_model.specs.State.{State}
-use Rattle.pim_model.specs.Tables.{Table, drop_at, drop_where, put, row_at, set_row}
-use Rattle.pim_laws.proofs.RowLaws.{row_put, row_put_away, same_key_swap}
-use Rattle.pim_rpt.specs.Changes.{change_of}
-use Rattle.pim_rpt.specs.declared.change.Change.{Change}
-use Rattle.pim_upstream.specs.Hearing.{heard_if, heard_in_prunes, heard_of_prune, heard_of_source, heard_of_timer, heard_of_timers, is_source_towards, is_star_towards, timers_of}
-use Rattle.pim_upstream.specs.Timers.{after_move, after_moves, join_key}
-use Rattle.pim_upstream.specs.declared.timer.TimerMove.{TimerMove}
-use Rattle.pim_upstream.proofs.HeardMessages.{overrides}
+use Rattle.std.{proofs.{Common.{◌≡◌, ◌<◌, ◌+◌, ℕ, Bool, true, false, cond, not, List, [], ◌∷◌, ◌++◌, Option, Some, None, refl, sym, ap, ◌∙◌, fold, get_or, length, subst, take, arith}, lemmas.List.{append-nil, flat_map_more, take_more, Sums.fold-append}}, specs.{BTreeMap.insert_entry, List.{AllByRecursion, filter, flat_map}, Option.option_map_or, Ordering.{is_eq, match_ordering, ordering_reverse}, Prelude.min, declared.cmp.Ordering.{Ordering, TheVariants.{Equal, Greater, Less}}}}
+use Rattle.pim_ip.{specs.declared.addr.Addr.Addr}
+use Rattle.pim_types.{specs.{declared.{fact.{JoinTimerRow.JoinTimerRow, Key.Key, OverrideTimerRow.OverrideTimerRow}, name.SourceGroup.SourceGroup, path.Hop.Hop}, Keys.{key_cmp, rpt_key, same_key}}, proofs.Keys.{equal_keys, key_cmp_total, same_key_same}}
+use Rattle.pim_model.{specs.{Downstream.is_named, Seen.{is_unpruned_towards, lower_join_timer, lower_override_timer, lowered_row}, State.State, Tables.{Table, drop_at, drop_where, put, row_at, set_row}}}
+use Rattle.law_settled.{proofs.RowLaws.{row_put, row_put_away, same_key_swap}}
+use Rattle.pim_rpt.{specs.{Changes.change_of, declared.change.Change.Change}}
+use Rattle.pim_upstream.{specs.{Hearing.{heard_if, heard_in_prunes, heard_of_prune, heard_of_source, heard_of_timer, heard_of_timers, is_source_towards, is_star_towards, timers_of}, Timers.{after_move, after_moves, join_key}, declared.timer.TimerMove.TimerMove}, proofs.HeardMessages.overrides}
 
 -- ---- steps of which each again changes nothing, and each two may be swapped
 

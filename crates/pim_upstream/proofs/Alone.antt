@@ -1,16 +1,9 @@
 -- What is sent upstream where one source alone was opened.
-use Rattle.std.proofs.Common.{◌≡◌, ℕ, List, [], ◌∷◌, ◌++◌, ap, append-nil, map, refl}
-use Rattle.pim_types.specs.Keys.{star_key}
-use Rattle.pim_types.specs.declared.upstream.StarView.{StarView}
-use Rattle.pim_model.specs.Messages.{Message}
-use Rattle.pim_model.specs.Querier.{each_in_turn}
-use Rattle.pim_model.specs.State.{State}
-use Rattle.pim_model.specs.Upstream.{Told, with_join_timer}
-use Rattle.pim_opening.specs.declared.opening.GroupOpening.{GroupOpening}
-use Rattle.pim_opening.specs.declared.opening.SourceOpening.{SourceOpening}
-use Rattle.pim_opening.specs.declared.after.SourceAfter.{SourceAfter}
-use Rattle.pim_opening.specs.After.{opened_in}
-use Rattle.pim_upstream.specs.Told.{group_step, source_step, star_changed, upstream_by}
+use Rattle.std.{proofs.Common.{◌≡◌, ℕ, List, [], ◌∷◌, ◌++◌, ap, append-nil, map, refl}}
+use Rattle.pim_types.{specs.{Keys.star_key, declared.upstream.StarView.StarView}}
+use Rattle.pim_model.{specs.{Messages.Message, Querier.each_in_turn, State.State, Upstream.{Told, with_join_timer}}}
+use Rattle.pim_views.{specs.{declared.{opening.{GroupOpening.GroupOpening, SourceOpening.SourceOpening}, after.{GroupAfter.GroupAfter, SourceAfter.SourceAfter}}, After.{opened_in, opening_in, openings_in}}}
+use Rattle.pim_upstream.{specs.Told.{group_step, source_step, star_changed, upstream_by}}
 
 -- first the group, then the source; the timers move in s
 abbrev pub both : State → ℕ → ℕ → StarView → SourceOpening → State → State × List Message
@@ -30,13 +23,6 @@ told_alone a w x o alone =
     (ap (λ (ms : List Message). let p : State × List Message = (step.0, ms) in p)
     (λ j. append-nil (star.messages ++ append-nil step.1 j) j))
 
--- one group alone
-pub group_alone : (a : State) (w : ℕ) (x : GroupOpening) → upstream_by (x ∷ []) a w ≡ group_step a w a x
-unfolding upstream_by each_in_turn
-group_alone a w x =
-    let told : State × List Message = group_step a w a x in
-    ap (λ (ms : List Message). let p : State × List Message = (told.0, ms) in p) (append-nil told.1)
-
 -- sources one after the other, by what was opened of them
 pub each_opened : (step : State → SourceOpening → State × List Message) (xs : List SourceAfter) (s : State)
     → each_in_turn (λ (t : State) (x : SourceAfter). step t x.opened) s xs ≡ each_in_turn step s (map opened_in xs)
@@ -46,3 +32,13 @@ each_opened step (x ∷ xs) s =
     let first : State × List Message = step s x.opened in
     ap (λ (p : State × List Message). let both : State × List Message = (p.0, first.1 ++ p.1) in both)
     (each_opened step xs first.0)
+
+-- groups one after the other, by what was opened of them
+pub each_group : (step : State → GroupOpening → State × List Message) (xs : List GroupAfter) (s : State)
+    → each_in_turn (λ (t : State) (x : GroupAfter). step t (opening_in x)) s xs ≡ each_in_turn step s (openings_in xs)
+unfolding each_in_turn
+each_group step [] s = refl
+each_group step (x ∷ xs) s =
+    let first : State × List Message = step s (opening_in x) in
+    ap (λ (p : State × List Message). let both : State × List Message = (p.0, first.1 ++ p.1) in both)
+    (each_group step xs first.0)

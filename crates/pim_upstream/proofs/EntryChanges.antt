@@ -1,8 +1,5 @@
 -- What is heard of a message, change by change, is what its entries do.
-use Rattle.std.proofs.Common.{◌≡◌, Bool, true, false, cond, List, [], ◌∷◌, ◌++◌, map, refl, ap, ◌∙◌, fold}
-use Rattle.std.specs.List.{filter, flat_map}
-use Rattle.std.proofs.lemmas.List.Sums.{fold-append}
-use Rattle.std.specs.Prelude.{if◌then◌else◌}
+use Rattle.std.{proofs.{Common.{◌≡◌, Bool, true, false, cond, List, [], ◌∷◌, ◌++◌, map, refl, ap, ◌∙◌, fold}, lemmas.List.Sums.fold-append}, specs.{List.{filter, flat_map}, Prelude.if◌then◌else◌}}
 
 -- changes, list after list
 module _ {S M : Type 0} (step : S → M → S) where

@@ -1,18 +1,9 @@
 -- What is heard, one key after the other.
-use Rattle.std.proofs.Common.{◌≡◌, ◌<◌, ◌+◌, ◌++◌, ◌∙◌, ◌∷◌, Bool, List, [], None, Option, Some, ap, append_assoc, false, get_or, length, not, sym, take, true, ℕ}
-use Rattle.std.specs.List.{flat_map}
-use Rattle.std.specs.Bool.{beq}
-use Rattle.std.specs.Prelude.{if◌then◌else◌, is_none, is_some}
-use Rattle.std.proofs.lemmas.List.{flat_map_more, take_more}
-use Rattle.pim_ip.specs.declared.addr.Addr.{Addr}
-use Rattle.pim_types.specs.declared.fact.JoinTimerRow.{JoinTimerRow}
-use Rattle.pim_types.specs.declared.fact.Key.{Key}
-use Rattle.pim_types.specs.declared.path.Hop.{Hop}
-use Rattle.pim_types.specs.Keys.{is_star}
-use Rattle.pim_model.specs.State.{State}
-use Rattle.pim_model.specs.Tables.{Table, same_bool}
-use Rattle.pim_upstream.specs.Hearing.{heard_in_join, heard_in_joins, heard_of_timer, heard_of_timers}
-use Rattle.pim_upstream.specs.declared.timer.TimerMove.{TimerMove}
+use Rattle.std.{proofs.{Common.{◌≡◌, ◌<◌, ◌+◌, ◌++◌, ◌∙◌, ◌∷◌, Bool, List, [], None, Option, Some, ap, append_assoc, false, get_or, length, not, sym, take, true, ℕ}, lemmas.List.{flat_map_more, take_more}}, specs.{List.flat_map, Bool.beq, Prelude.{if◌then◌else◌, is_none, is_some}}}
+use Rattle.pim_ip.{specs.declared.addr.Addr.Addr}
+use Rattle.pim_types.{specs.{declared.{fact.{JoinTimerRow.JoinTimerRow, Key.Key}, path.Hop.Hop}, Keys.is_star}}
+use Rattle.pim_model.{specs.{State.State, Tables.{Table, same_bool}}}
+use Rattle.pim_upstream.{specs.{Hearing.{heard_in_join, heard_in_joins, heard_of_timer, heard_of_timers}, declared.timer.TimerMove.TimerMove}}
 
 -- the Join timers of a group, one after the other
 module _ (s : State) (hop : Hop) (end : ℕ) (group : Addr) where

@@ -1,33 +1,11 @@
 -- What is heard of a message, key by key, is what its entries do to the timers.
-use Rattle.std.proofs.Common.{◌≡◌, ℕ, Bool, true, false, cond, List, [], ◌∷◌, ◌++◌, map, Option, Some, None, refl, ap, sym, ◌∙◌, fold, not, ◌&&◌}
-use Rattle.std.specs.List.{filter}
-use Rattle.std.specs.Option.{option_map_or}
-use Rattle.std.specs.Prelude.{if◌then◌else◌, min, option_map}
-use Rattle.std.proofs.lemmas.List.Sums.{fold-append}
-use Rattle.pim_ip.specs.Addr.{addr}
-use Rattle.pim_ip.specs.declared.addr.Addr.{Addr}
-use Rattle.pim_types.specs.declared.config.IfaceId.{IfaceId}
-use Rattle.pim_types.specs.declared.fact.JoinTimerRow.{JoinTimerRow}
-use Rattle.pim_types.specs.declared.fact.Key.{Key}
-use Rattle.pim_types.specs.declared.fact.OverrideTimerRow.{OverrideTimerRow}
-use Rattle.pim_types.specs.declared.path.Hop.{Hop}
-use Rattle.pim_types.specs.Keys.{is_of_group, is_star, source_in, source_key}
-use Rattle.pim_wire.specs.Values.{JoinPrune}
-use Rattle.pim_wire.specs.declared.join_prune.EntryKind.{EntryKind}
-use Rattle.pim_wire.specs.declared.join_prune.EntryKind.TheVariants.{Star, Source, SourceRpt}
-use Rattle.pim_model.specs.Desires.{rpf_source}
-use Rattle.pim_model.specs.Downstream.{Named, accepted_joins, accepted_prunes, joined_keys, key_by, named_key, pruned_keys}
-use Rattle.pim_model.specs.Messages.{entry}
-use Rattle.pim_model.specs.Seen.{is_star_entry, is_unpruned_towards, join_seen, cancel_override_timer, lower_join_timer, lower_override_timer, lower_source_timer, lower_tree_timer, override_end, prune_seen, seen, sources_joined_towards, suppressed_end}
-use Rattle.pim_model.specs.State.{State}
-use Rattle.pim_model.specs.Tables.{Table, hop_at, keys_in, row_at, same_bool, same_hop, set_row}
-use Rattle.pim_model.specs.Upstream.{LowerTo, changed_end, moved_override_timer, with_override_timer}
-use Rattle.pim_upstream.specs.Hearing.{heard_if, heard_in_join, heard_in_joins, heard_in_prunes, heard_of_join, heard_of_prune, heard_of_source, heard_of_timer, heard_of_timers, is_source_towards, is_star_towards, timers_of}
-use Rattle.pim_rpt.specs.Changes.{change_of}
-use Rattle.pim_rpt.specs.declared.change.Change.{Change}
-use Rattle.pim_upstream.specs.Timers.{after_move, after_moves}
-use Rattle.pim_upstream.specs.declared.timer.TimerMove.{TimerMove}
-use Rattle.pim_upstream.proofs.EntryChanges.{all_entries, passing_entries}
+use Rattle.std.{proofs.{Common.{◌≡◌, ℕ, Bool, true, false, cond, List, [], ◌∷◌, ◌++◌, map, Option, Some, None, refl, ap, sym, ◌∙◌, fold, not, ◌&&◌}, lemmas.List.Sums.fold-append}, specs.{List.filter, Option.option_map_or, Prelude.{if◌then◌else◌, min, option_map}}}
+use Rattle.pim_ip.{specs.{Addr.addr, declared.addr.Addr.Addr}}
+use Rattle.pim_types.{specs.{declared.{config.IfaceId.IfaceId, fact.{JoinTimerRow.JoinTimerRow, Key.Key, OverrideTimerRow.OverrideTimerRow}, path.Hop.Hop}, Keys.{is_of_group, is_star, source_in, source_key}}}
+use Rattle.pim_wire.{specs.{Values.JoinPrune, declared.join_prune.EntryKind.{EntryKind, TheVariants.{Star, Source, SourceRpt}}}}
+use Rattle.pim_model.{specs.{Desires.rpf_source, Downstream.{Named, accepted_joins, accepted_prunes, joined_keys, key_by, named_key, pruned_keys}, Messages.entry, Seen.{is_star_entry, is_unpruned_towards, join_seen, cancel_override_timer, lower_join_timer, lower_override_timer, lower_source_timer, lower_tree_timer, override_end, prune_seen, seen, sources_joined_towards, suppressed_end}, State.State, Tables.{Table, hop_at, keys_in, row_at, same_bool, same_hop, set_row}, Upstream.{LowerTo, changed_end, moved_override_timer, with_override_timer}}}
+use Rattle.pim_upstream.{specs.{Hearing.{heard_if, heard_in_join, heard_in_joins, heard_in_prunes, heard_of_join, heard_of_prune, heard_of_source, heard_of_timer, heard_of_timers, is_source_towards, is_star_towards, timers_of}, Timers.{after_move, after_moves}, declared.timer.TimerMove.TimerMove}, proofs.EntryChanges.{all_entries, passing_entries}}
+use Rattle.pim_rpt.{specs.{Changes.change_of, declared.change.Change.Change}}
 
 -- an override timer that ends at this timestamp at the latest
 abbrev overriding : ℕ → OverrideTimerRow

@@ -1,24 +1,12 @@
 -- The touched sources of which something is told: those that have a fact before or after.
-use Rattle.std.proofs.Common.{◌≡◌, ◌==◌, ◌||◌, ◌&&◌, ℕ, Bool, true, false, List, [], ◌∷◌, ◌++◌, map, Option, Some, None, is_some, refl, sym, ap, arith, ◌∙◌}
-use Rattle.std.specs.List.{filter, list_any}
-use Rattle.std.specs.Option.{option_map_or}
-use Rattle.std.specs.Prelude.{if◌then◌else◌}
-use Rattle.std.specs.Cmp.{first_so, second_so}
-use Rattle.std.proofs.lemmas.Bool.{true≢false}
-use Rattle.std.proofs.lemmas.Grind.{common_steps}
-use Rattle.std.proofs.lemmas.List.Folds.{list_any-append}
-use Rattle.pim_ip.specs.declared.addr.Addr.{Addr}
-use Rattle.pim_types.specs.declared.fact.Key.{Key}
-use Rattle.pim_types.specs.Keys.{group_in, is_of_group, names_source, source_in}
-use Rattle.pim_model.specs.State.{State}
-use Rattle.pim_model.specs.Upstream.{fact_keys, sources_of}
-use Rattle.pim_laws.proofs.Numbers.{RisesFrom, any_ascending, rises_ascending, rises_filtered, same_numbers}
-use Rattle.pim_laws.proofs.TableLaws.{any_in_filter, any_of_map}
-use Rattle.pim_locality.specs.Locality.{touching}
-use Rattle.pim_locality.specs.Scopes.{reads}
-use Rattle.pim_world.specs.declared.touched.Touched.{Touched}
-use Rattle.pim_opening.specs.Openings.{facts_of_whole, has_facts, is_of_all, touched_sources}
-use Rattle.pim_opening.specs.Covers.{NewAreNamed}
+use Rattle.std.{proofs.{Common.{◌≡◌, ◌==◌, ◌||◌, ◌&&◌, ℕ, Bool, true, false, List, [], ◌∷◌, ◌++◌, map, Option, Some, None, is_some, refl, sym, ap, arith, ◌∙◌}, lemmas.{Bool.true≢false, Grind.common_steps, List.Folds.list_any-append}}, specs.{List.{filter, list_any}, Option.option_map_or, Prelude.if◌then◌else◌, Cmp.{first_so, second_so}}}
+use Rattle.pim_ip.{specs.declared.addr.Addr.Addr}
+use Rattle.pim_types.{specs.{declared.fact.Key.Key, Keys.{group_in, is_of_group, names_source, source_in}}}
+use Rattle.pim_model.{specs.{State.State, Upstream.{fact_keys, sources_of}}}
+use Rattle.law_settled.{proofs.{Numbers.{RisesFrom, any_ascending, rises_ascending, rises_filtered, same_numbers}, TableLaws.{any_in_filter, any_of_map}}}
+use Rattle.law_scope.{specs.{Locality.touching, Scopes.reads}}
+use Rattle.pim_state.{specs.declared.touched.Touched.Touched}
+use Rattle.pim_views.{specs.{Openings.{facts_of_whole, has_facts, is_of_all, touched_sources}, Covers.NewAreNamed}}
 
 -- ---- one number among the sources of keys
 

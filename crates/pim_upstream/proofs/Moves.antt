@@ -1,8 +1,7 @@
 -- Moves of timers behind others.
-use Rattle.std.proofs.Common.{◌≡◌, List, [], ◌∷◌, ◌++◌, refl}
-use Rattle.pim_model.specs.State.{State}
-use Rattle.pim_upstream.specs.Timers.{after_move, after_moves}
-use Rattle.pim_upstream.specs.declared.timer.TimerMove.{TimerMove}
+use Rattle.std.{proofs.Common.{◌≡◌, List, [], ◌∷◌, ◌++◌, refl}}
+use Rattle.pim_model.{specs.State.State}
+use Rattle.pim_upstream.{specs.{Timers.{after_move, after_moves}, declared.timer.TimerMove.TimerMove}}
 
 pub after_one_more : (ms : List TimerMove) (m : TimerMove) (s : State)
     → after_moves s (ms ++ m ∷ []) ≡ after_move (after_moves s ms) m

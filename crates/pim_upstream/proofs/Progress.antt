@@ -1,11 +1,7 @@
 -- Where a loop over changes stands: what was told so far, and what is left to tell.
-use Rattle.std.proofs.Common.{◌≡◌, ◌<◌, ◌≤◌, ◌+◌, ℕ, List, [], ◌∷◌, ap, sym, subst, ◌∙◌, drop, get_or, length}
-use Rattle.std.proofs.lemmas.List.{drop_more, drop_all}
-use Rattle.pim_model.specs.Messages.{Message}
-use Rattle.pim_model.specs.Querier.{each_in_turn}
-use Rattle.pim_model.specs.State.{State}
-use Rattle.pim_world.proofs.Said.{said_both, said_nothing}
-use Rattle.pim_world.specs.Turns.{Taking, saying}
+use Rattle.std.{proofs.{Common.{◌≡◌, ◌<◌, ◌≤◌, ◌+◌, ℕ, List, [], ◌∷◌, ap, sym, subst, ◌∙◌, drop, get_or, length}, lemmas.List.{drop_more, drop_all}}}
+use Rattle.pim_model.{specs.{Messages.Message, Querier.each_in_turn, State.State}}
+use Rattle.pim_state.{proofs.Said.{said_both, said_nothing}, specs.Turns.{Taking, saying}}
 
 -- each step is told by the draw
 module _ {A : Type 0} (step : ℕ → State → A → State × List Message) (before : Taking) where

@@ -1,6 +1,5 @@
 -- The first of those that pass a test, one after the other.
-use Rattle.std.proofs.Common.{◌≡◌, ℕ, suc, Bool, true, false, List, [], ◌∷◌, ◌++◌, map, refl, ap, ◌∙◌, append_assoc, take}
-use Rattle.std.specs.List.{filter}
+use Rattle.std.{proofs.Common.{◌≡◌, ℕ, suc, Bool, true, false, List, [], ◌∷◌, ◌++◌, map, refl, ap, ◌∙◌, append_assoc, take}, specs.List.filter}
 
 module _ {E : Type 0} (made : ℕ → E) (passes : ℕ → Bool) where
   -- those among the next so many

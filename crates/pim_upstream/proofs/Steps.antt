@@ -1,7 +1,6 @@
 -- Changes one after the other: of those that pass a test, and of values.
-use Rattle.std.proofs.Common.{◌≡◌, Bool, true, false, cond, List, [], ◌∷◌, ◌++◌, map, refl, ap, ◌∙◌}
-use Rattle.std.specs.List.{filter}
-use Rattle.pim_model.specs.Querier.{each_in_turn}
+use Rattle.std.{proofs.Common.{◌≡◌, Bool, true, false, cond, List, [], ◌∷◌, ◌++◌, map, refl, ap, ◌∙◌}, specs.List.filter}
+use Rattle.pim_model.{specs.Querier.each_in_turn}
 
 module _ {S A M : Type 0} (step : S → A → S × List M) where
   module _ (passes : A → Bool) where

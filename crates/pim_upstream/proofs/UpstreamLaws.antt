@@ -1,24 +1,12 @@
 -- What is sent upstream is told by what was opened.
-use Rattle.std.proofs.Common.{◌≡◌, ◌==◌, ◌||◌, if◌then◌else◌, ℕ, Bool, true, false, List, [], ◌++◌, map, refl, sym, ap, ◌∙◌}
-use Rattle.std.proofs.lemmas.List.Folds.{list_any-append}
-use Rattle.std.specs.List.{filter, list_any}
-use Rattle.pim_types.specs.declared.fact.Key.{Key}
-use Rattle.pim_types.specs.Keys.{group_in, is_of_group, star_key}
-use Rattle.pim_model.specs.Messages.{Message}
-use Rattle.pim_model.specs.Querier.{each_in_turn}
-use Rattle.pim_model.specs.State.{State}
-use Rattle.pim_model.specs.Upstream.{Told, fact_keys, group_upstream, groups_of, source_upstream, sources_of, star_told, star_view, upstream, with_join_timer}
-use Rattle.pim_locality.specs.Locality.{own_keys, own_upstream, touching}
-use Rattle.pim_model.specs.Tables.{is_among}
-use Rattle.pim_laws.proofs.Numbers.{any_ascending, members_tell}
-use Rattle.pim_laws.proofs.TableLaws.{any_of_map}
-use Rattle.pim_locality.proofs.OwnKeys.{own_touched, upstream_is_own}
-use Rattle.pim_world.specs.declared.touched.Touched.{Touched}
-use Rattle.pim_opening.specs.Openings.{group_opening, opening_of, source_opening, touched_sources}
-use Rattle.pim_opening.specs.Covers.{Covers, IsWithin, NewAreNamed}
-use Rattle.pim_upstream.specs.Told.{group_step, source_moved, source_step, upstream_by}
-use Rattle.pim_upstream.proofs.Members.{is_told, told_of_all, told_of_keys}
-use Rattle.pim_upstream.proofs.Steps.{of_values, passing, same_steps}
+use Rattle.std.{proofs.{Common.{◌≡◌, ◌==◌, ◌||◌, if◌then◌else◌, ℕ, Bool, true, false, List, [], ◌++◌, map, refl, sym, ap, ◌∙◌}, lemmas.List.Folds.list_any-append}, specs.List.{filter, list_any}}
+use Rattle.pim_types.{specs.{declared.fact.Key.Key, Keys.{group_in, is_of_group, star_key}}}
+use Rattle.pim_model.{specs.{Messages.Message, Querier.each_in_turn, State.State, Upstream.{Told, fact_keys, group_upstream, groups_of, source_upstream, sources_of, star_told, star_view, upstream, with_join_timer}, Tables.is_among}}
+use Rattle.law_scope.{specs.Locality.{own_keys, own_upstream, touching}, proofs.OwnKeys.{own_touched, upstream_is_own}}
+use Rattle.law_settled.{proofs.{Numbers.{any_ascending, members_tell}, TableLaws.any_of_map}}
+use Rattle.pim_state.{specs.declared.touched.Touched.Touched}
+use Rattle.pim_views.{specs.{Openings.{group_opening, opening_of, source_opening, touched_sources}, Covers.{Covers, IsWithin, NewAreNamed}}}
+use Rattle.pim_upstream.{specs.Told.{group_step, source_moved, source_step, upstream_by}, proofs.{Members.{is_told, told_of_all, told_of_keys}, Steps.{of_values, passing, same_steps}}}
 
 module _ (o a : State) (w : ℕ) where
   moved : (g : ℕ) (s : State) (src : ℕ) → source_step a w g s (source_opening o g src)

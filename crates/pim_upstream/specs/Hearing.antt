@@ -1,19 +1,12 @@
 -- What a Join/Prune between other routers does to timers (RFC 7761, sections 4.5.4, 4.5.5 and 4.5.7), key by key.
-use Rattle.std.specs.Option.{option_map_or}
-use Rattle.std.specs.Prelude.{Bool, List, None, Option, Some, [], false, filter, flat_map, if◌then◌else◌, true, ℕ, ◌++◌, ◌∷◌}
-use Rattle.pim_ip.specs.declared.addr.Addr.{Addr}
-use Rattle.pim_types.specs.declared.fact.JoinTimerRow.{JoinTimerRow}
-use Rattle.pim_types.specs.declared.fact.Key.{Key}
-use Rattle.pim_types.specs.declared.path.Hop.{Hop}
-use Rattle.pim_types.specs.Keys.{is_of_group, is_star}
-use Rattle.pim_model.specs.Desires.{rpf_source, rpf_star}
-use Rattle.pim_model.specs.Seen.{is_unpruned_towards}
-use Rattle.pim_model.specs.State.{State}
-use Rattle.pim_model.specs.Tables.{Table, same_bool, same_hop}
-use Rattle.pim_rpt.specs.declared.change.Change.{Change}
-use Rattle.pim_upstream.specs.declared.timer.TimerMove.{TimerMove}
+use Rattle.std.{specs.{Option.option_map_or, Prelude.{Bool, List, None, Option, Some, [], false, filter, flat_map, if◌then◌else◌, true, ℕ, ◌++◌, ◌∷◌}}}
+use Rattle.pim_ip.{specs.declared.addr.Addr.Addr}
+use Rattle.pim_types.{specs.{declared.{fact.{JoinTimerRow.JoinTimerRow, Key.Key}, path.Hop.Hop}, Keys.{is_of_group, is_star}}}
+use Rattle.pim_model.{specs.{Desires.{rpf_source, rpf_star}, Seen.is_unpruned_towards, State.State, Tables.{Table, same_bool, same_hop}}}
+use Rattle.pim_rpt.{specs.declared.change.Change.Change}
+use Rattle.pim_upstream.{specs.declared.timer.TimerMove.TimerMove}
 
--- one change, or none
+-- a change of a timer as a list, where it is to be made
 abbrev pub heard_if : Bool → TimerMove → List TimerMove
 heard_if b change = if b then change ∷ [] else []
 
@@ -21,6 +14,7 @@ heard_if b change = if b then change ∷ [] else []
 abbrev pub is_star_towards : State → Hop → ℕ → Bool
 is_star_towards o hop g = same_hop (rpf_star o g) (Some hop)
 
+-- the upstream neighbour of (S,G) is the given one
 abbrev pub is_source_towards : State → Hop → ℕ → ℕ → Bool
 is_source_towards o hop g src = same_hop (rpf_source o g src) (Some hop)
 

@@ -1,13 +1,11 @@
 -- The messages upstream are those by what was opened.
-use Rattle.std.specs.Prelude.{List, ℕ, ◌≡◌}
-use Rattle.pim_types.specs.declared.fact.Key.{Key}
-use Rattle.pim_model.specs.State.{State}
-use Rattle.pim_model.specs.Upstream.{upstream}
-use Rattle.pim_locality.specs.Locality.{own_upstream}
-use Rattle.pim_world.specs.declared.touched.Touched.{Touched}
-use Rattle.pim_opening.specs.Covers.{Covers, IsWithin, NewAreNamed}
-use Rattle.pim_opening.specs.Openings.{opening_of}
-use Rattle.pim_upstream.specs.Told.{upstream_by}
+use Rattle.std.{specs.Prelude.{List, ℕ, ◌≡◌}}
+use Rattle.pim_types.{specs.declared.fact.Key.Key}
+use Rattle.pim_model.{specs.{State.State, Upstream.upstream}}
+use Rattle.law_scope.{specs.Locality.own_upstream}
+use Rattle.pim_state.{specs.declared.touched.Touched.Touched}
+use Rattle.pim_views.{specs.{Covers.{Covers, IsWithin, NewAreNamed}, Openings.opening_of}}
+use Rattle.pim_upstream.{specs.Told.upstream_by}
 
 -- The messages upstream by the groups of some keys are those by what the keys opened.
 abbrev pub OwnIsOpened : Type 0

@@ -1,15 +1,8 @@
 -- The messages upstream, by what was opened: the touched groups and sources as they were before the change.
-use Rattle.std.specs.Prelude.{List, [], if◌then◌else◌, ℕ, ◌++◌, ◌||◌}
-use Rattle.pim_types.specs.Keys.{rpt_key, source_key, star_key}
-use Rattle.pim_types.specs.declared.upstream.SourceView.{SourceView}
-use Rattle.pim_types.specs.declared.upstream.StarView.{StarView}
-use Rattle.pim_model.specs.Messages.{Message}
-use Rattle.pim_model.specs.Querier.{each_in_turn}
-use Rattle.pim_model.specs.State.{State}
-use Rattle.pim_model.specs.Upstream.{Told, rpt_told, source_told, source_view, star_told, star_view, with_join_timer, with_override_timer}
-use Rattle.pim_opening.specs.Openings.{has_facts}
-use Rattle.pim_opening.specs.declared.opening.GroupOpening.{GroupOpening}
-use Rattle.pim_opening.specs.declared.opening.SourceOpening.{SourceOpening}
+use Rattle.std.{specs.Prelude.{List, [], if◌then◌else◌, ℕ, ◌++◌, ◌||◌}}
+use Rattle.pim_types.{specs.{Keys.{rpt_key, source_key, star_key}, declared.upstream.{SourceView.SourceView, StarView.StarView}}}
+use Rattle.pim_model.{specs.{Messages.Message, Querier.each_in_turn, State.State, Upstream.{Told, rpt_told, source_told, source_view, star_told, star_view, with_join_timer, with_override_timer}}}
+use Rattle.pim_views.{specs.{Openings.has_facts, declared.opening.{GroupOpening.GroupOpening, SourceOpening.SourceOpening}}}
 
 -- (*,G)
 abbrev pub star_changed : State → ℕ → ℕ → StarView → Told
@@ -31,6 +24,7 @@ source_step a w g s before =
     if before.has_facts || has_facts a g before.source.bits
     then source_moved a w g s before.source.bits before.view else (s, [])
 
+-- what is sent upstream of an opened group and its opened sources, and what becomes of their timers
 unfoldable pub group_step : State → ℕ → State → GroupOpening → State × List Message
 group_step a w s before =
     let g : ℕ = before.group.bits in
@@ -39,5 +33,6 @@ group_step a w s before =
     let later : State × List Message = each_in_turn (source_step a w g) first before.sources in
     (later.0, star.messages ++ later.1)
 
+-- what is sent upstream of all opened groups, one after the other
 unfoldable pub upstream_by : List GroupOpening → State → ℕ → State × List Message
 upstream_by opening a w = each_in_turn (group_step a w) a opening

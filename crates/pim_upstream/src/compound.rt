@@ -4,9 +4,9 @@ ghost use Rattle.pim_macros.specs.Sights.{IsStarSight};
 ghost use Rattle.pim_model.specs.Upstream.{is_pruned_with_star, pruned_with_star};
 
 use pim_macros::{SourceSight, StarSight};
+use pim_state::{Meter, World};
 use pim_types::Addr;
 use pim_wire::{Entry, EntryKind};
-use pim_world::{Meter, World};
 use std::alloc::{AllocError, Global};
 
 // The most sources that one Join prunes.

@@ -2,13 +2,13 @@
 ghost use Rattle.std.specs.Prelude.{◌≡◌, OnOk};
 ghost use Rattle.pim_types.specs.declared.timer.TimerKind.{TimerKind};
 ghost use Rattle.pim_model.specs.Firing.{fired};
-ghost use Rattle.pim_world.specs.Turns.{saying};
+ghost use Rattle.pim_state.specs.Turns.{saying};
 
 use crate::{source, star};
 use pim_macros::{SourceSight, StarSight};
+use pim_state::{Meter, Turn, World};
 use pim_types::fact::JoinTimerRow;
 use pim_types::{Key, SourceGroup};
-use pim_world::{Meter, Turn, World};
 use std::alloc::AllocError;
 
 // Join(*,G) with its prunes, or Join(S,G), to the upstream neighbour.

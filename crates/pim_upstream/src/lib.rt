@@ -13,4 +13,4 @@ pub mod turns;
 
 pub use join_timer::fired;
 pub use overheard::seen;
-pub use turns::{changed, changed_alone, changed_group};
+pub use turns::{changed, changed_alone};

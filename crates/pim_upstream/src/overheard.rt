@@ -14,9 +14,9 @@ use pim_downstream::Named;
 use pim_macros::desires::is_same_hop;
 use pim_macros::{SourceSight, StarSight};
 use pim_rpt::Change;
+use pim_state::{Meter, Turn, World};
 use pim_types::{Addr, Hop, IfaceId, Key, SourceGroup, TreeState};
 use pim_wire::JoinPruneView;
-use pim_world::{Meter, Turn, World};
 use std::alloc::AllocError;
 use std::collections::BTreeSet;
 

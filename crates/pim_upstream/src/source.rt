@@ -1,15 +1,15 @@
 //! The messages upstream of (S,G) (RFC 7761, section 4.5.5).
 ghost use Rattle.std.specs.Prelude.{◌≡◌, IfOk, OnOk};
 ghost use Rattle.pim_model.specs.Upstream.{join_source_to, prune_source_to, source_stays, source_told};
-ghost use Rattle.pim_world.specs.Turns.{saying};
+ghost use Rattle.pim_state.specs.Turns.{saying};
 ghost use Rattle.pim_rpt.specs.Changes.{change_of};
 
 use pim_macros::desires::is_same_hop;
 use pim_rpt::Change;
 use pim_rpt::message::{if_neighbour, is_due_to_assert, override_end, say};
+use pim_state::{Turn, World};
 use pim_types::{Addr, Hop, SourceGroup, SourceView};
 use pim_wire::{Entry, EntryKind};
-use pim_world::{Turn, World};
 use std::alloc::AllocError;
 
 // The entry that names the source.

@@ -2,7 +2,7 @@
 ghost use Rattle.std.specs.Prelude.{◌≡◌, [], IfOk, OnOk, if◌then◌else◌, is_none};
 ghost use Rattle.pim_model.specs.Upstream.{join_star_to, prune_star_to, star_stays, star_told};
 ghost use Rattle.pim_macros.specs.Sights.{IsStarSight};
-ghost use Rattle.pim_world.specs.Turns.{saying};
+ghost use Rattle.pim_state.specs.Turns.{saying};
 ghost use Rattle.pim_rpt.specs.Changes.{change_of};
 
 use crate::compound::pruned_with_star;
@@ -10,9 +10,9 @@ use pim_macros::StarSight;
 use pim_macros::desires::is_same_hop;
 use pim_rpt::Change;
 use pim_rpt::message::{if_neighbour, is_due_to_assert, override_end, say};
+use pim_state::{Meter, Turn, World};
 use pim_types::{Addr, Hop, StarView};
 use pim_wire::{Entry, EntryKind};
-use pim_world::{Meter, Turn, World};
 use std::alloc::AllocError;
 
 // The entry that names the RP.

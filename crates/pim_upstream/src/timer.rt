@@ -10,9 +10,9 @@ ghost use Rattle.pim_upstream.specs.Timers.{after_move, after_moves, join_key};
 ghost use Rattle.pim_rpt.specs.Changes.{change_of};
 
 use pim_rpt::Change;
+use pim_state::{Meter, World};
 use pim_types::fact::{JoinTimerRow, OverrideTimerRow};
 use pim_types::{Addr, Key, SourceGroup};
-use pim_world::{Meter, World};
 use std::alloc::AllocError;
 
 /// What becomes of the Join timer of (*,G), without a source, or of (S,G), or of the override timer of (S,G,rpt).

@@ -2,21 +2,21 @@
 ghost use Rattle.std.specs.Prelude.{◌≡◌, ◌∷◌, [], ◌||◌, OnOk, map};
 ghost use Rattle.pim_types.specs.Keys.{star_key};
 ghost use Rattle.pim_model.specs.Upstream.{with_join_timer};
-ghost use Rattle.pim_opening.specs.Openings.{has_facts};
-ghost use Rattle.pim_opening.specs.After.{AreAfter, IsAfter, opened_in, opening_in};
+ghost use Rattle.pim_views.specs.Openings.{has_facts};
+ghost use Rattle.pim_views.specs.After.{AreAfter, AreGathered, IsAfter, opened_in, opening_in, openings_in};
 ghost use Rattle.pim_model.specs.Querier.{each_in_turn};
 ghost use Rattle.pim_model.specs.State.{State};
 ghost use Rattle.pim_macros.specs.Sights.{IsSourceSight, IsStarSight};
-ghost use Rattle.pim_world.specs.Turns.{saying};
+ghost use Rattle.pim_state.specs.Turns.{saying};
 ghost use Rattle.pim_upstream.specs.Told.{group_step, source_moved, source_step, star_changed, upstream_by};
 ghost use Rattle.pim_upstream.specs.Timers.{after_moves};
 
 use crate::timer::{TimerMove, move_timers, note_join, note_override};
 use crate::{source, star};
 use pim_macros::{SourceSight, StarSight};
-use pim_opening::{GroupAfter, GroupOpening, Opening, SourceAfter, SourceOpening};
+use pim_state::{Meter, Turn, World};
 use pim_types::{Addr, SourceGroup, SourceView, StarView};
-use pim_world::{Meter, Turn, World};
+use pim_views::{GroupAfter, GroupOpening, SourceAfter, SourceOpening};
 use std::alloc::AllocError;
 
 // Sends the messages of a source by its sight, and notes what becomes of its timers.
@@ -78,52 +78,6 @@ fn tell_source_by_sight(
     Ok(())
 }
 
-// The turn of a source whose sight is yet to be gathered.
-#[tactic(auto, unfolding(crate::specs::Told::source_step))]
-fn tell_source(
-    world: &World,
-    turn: &mut Turn,
-    meter: &mut Meter,
-    star: &StarSight,
-    before: SourceOpening,
-    moves: &mut Vec<TimerMove>,
-) -> Result<(), AllocError>
-    requires { IsStarSight world.now star.now }
-    ensures timers { OnOk result ((s : State) → after_moves s moves.new.items
-        ≡ (source_step world.now turn.old.draw star.now.group.bits (after_moves s moves.old.items) before).0) }
-    ensures messages { OnOk result ((s : State) → turn.new ≡ saying turn.old
-        (source_step world.now turn.old.draw star.now.group.bits (after_moves s moves.old.items) before).1) }
-{
-    if is_told(world, meter, star.group, before) {
-        let sight = SourceSight::of(world, *star, before.source, meter);
-        return tell_views(world, turn, &sight, before.view, moves);
-    }
-    Ok(())
-}
-
-// Sends the messages of these sources of a group, one after the other.
-fn tell_sources(
-    world: &World,
-    turn: &mut Turn,
-    meter: &mut Meter,
-    star: &StarSight,
-    sources: &[SourceOpening],
-    moves: &mut Vec<TimerMove>,
-) -> Result<(), AllocError>
-    requires { IsStarSight world.now star.now }
-    ensures timers { OnOk result ((s : State) → after_moves s moves.new.items
-        ≡ (each_in_turn (source_step world.now turn.old.draw star.now.group.bits)
-        (after_moves s moves.old.items) sources.now).0) }
-    ensures messages { OnOk result ((s : State) → turn.new ≡ saying turn.old
-        (each_in_turn (source_step world.now turn.old.draw star.now.group.bits)
-        (after_moves s moves.old.items) sources.now).1) }
-{
-    for before in sources {
-        tell_source(world, turn, meter, star, *before, moves)?;
-    }
-    Ok(())
-}
-
 // Sends the messages of (*,G) by its sight, and notes what becomes of its Join timer.
 fn tell_star(
     world: &World,
@@ -143,62 +97,6 @@ fn tell_star(
     let new = star.view();
     let change = star::tell(world, turn, meter, star, old, new)?;
     note_join(moves, star.group, None, change)
-}
-
-// Sends the messages of a group and of its sources, and notes what becomes of their timers.
-#[tactic(auto, unfolding(crate::specs::Told::group_step))]
-fn tell_group(
-    world: &World,
-    turn: &mut Turn,
-    meter: &mut Meter,
-    before: &GroupOpening,
-    moves: &mut Vec<TimerMove>,
-) -> Result<(), AllocError>
-    ensures timers { OnOk result ((s : State) → after_moves s moves.new.items
-        ≡ (group_step world.now turn.old.draw (after_moves s moves.old.items) before.now).0) }
-    ensures messages { OnOk result ((s : State) → turn.new ≡ saying turn.old
-        (group_step world.now turn.old.draw (after_moves s moves.old.items) before.now).1) }
-{
-    let star = StarSight::of(world, before.group, meter);
-    tell_star(world, turn, meter, &star, before.star, moves)?;
-    tell_sources(world, turn, meter, &star, before.sources.as_slice(), moves)
-}
-
-// Sends the messages of these groups, one after the other, and notes what becomes of their timers.
-fn tell_groups(
-    world: &World,
-    turn: &mut Turn,
-    meter: &mut Meter,
-    groups: &[GroupOpening],
-    moves: &mut Vec<TimerMove>,
-) -> Result<(), AllocError>
-    ensures timers { OnOk result ((s : State) → after_moves s moves.new.items
-        ≡ (each_in_turn (group_step world.now turn.old.draw) (after_moves s moves.old.items) groups.now).0) }
-    ensures messages { OnOk result ((s : State) → turn.new ≡ saying turn.old
-        (each_in_turn (group_step world.now turn.old.draw) (after_moves s moves.old.items) groups.now).1) }
-{
-    for before in groups {
-        tell_group(world, turn, meter, before, moves)?;
-    }
-    Ok(())
-}
-
-/// Sends the messages upstream after a change, and moves the timers: for each touched group ascending, and for each of
-/// its touched sources ascending. All follows of the state after the change; the timers move last. The meter rises by
-/// the nodes visited.
-#[tactic(auto, unfolding(crate::specs::Told::upstream_by, crate::specs::Timers::after_moves))]
-pub fn changed(
-    world: &mut World,
-    turn: &mut Turn,
-    meter: &mut Meter,
-    opening: &Opening,
-) -> Result<(), AllocError>
-    ensures state { OnOk result (world.new ≡ (upstream_by opening.now world.old turn.old.draw).0) }
-    ensures messages { OnOk result (turn.new ≡ saying turn.old (upstream_by opening.now world.old turn.old.draw).1) }
-{
-    let mut moves = Vec::new(turn.alloc);
-    tell_groups(world, turn, meter, opening.groups(), &mut moves)?;
-    move_timers(world, meter, moves.as_slice())
 }
 
 /// The messages upstream where one source alone was opened, by its sight in the state after the change: neither this
@@ -227,7 +125,7 @@ pub fn changed_alone(
 }
 
 // Sends the messages of these sources of a group by their sights, one after the other.
-fn tell_sources_by_sights(
+fn tell_sources(
     world: &World,
     turn: &mut Turn,
     meter: &mut Meter,
@@ -249,23 +147,70 @@ fn tell_sources_by_sights(
     Ok(())
 }
 
-/// The messages upstream where one group alone was opened, by what was gathered of it in the state after the change:
-/// nothing of that is gathered again. The meter rises by the nodes visited.
-#[tactic(auto, unfolding(crate::specs::Timers::after_moves))]
-pub fn changed_group(
-    world: &mut World,
+// Sends the messages of a group and of its sources, and notes what becomes of their timers.
+#[tactic(auto, unfolding(crate::specs::Told::group_step))]
+fn tell_group(
+    world: &World,
     turn: &mut Turn,
     meter: &mut Meter,
     after: &GroupAfter,
+    moves: &mut Vec<TimerMove>,
 ) -> Result<(), AllocError>
-    requires { IsAfter world.old after.now }
-    ensures state { OnOk result (world.new ≡ (upstream_by (opening_in after.now ∷ []) world.old turn.old.draw).0) }
+    requires { IsAfter world.now after.now }
+    ensures timers { OnOk result ((s : State) → after_moves s moves.new.items
+        ≡ (group_step world.now turn.old.draw (after_moves s moves.old.items) (opening_in after.now)).0) }
+    ensures messages { OnOk result ((s : State) → turn.new ≡ saying turn.old
+        (group_step world.now turn.old.draw (after_moves s moves.old.items) (opening_in after.now)).1) }
+{
+    tell_star(world, turn, meter, &after.star, after.was, moves)?;
+    tell_sources(
+        world,
+        turn,
+        meter,
+        &after.star,
+        after.sources.as_slice(),
+        moves,
+    )
+}
+
+// Sends the messages of these groups, one after the other, and notes what becomes of their timers.
+fn tell_groups(
+    world: &World,
+    turn: &mut Turn,
+    meter: &mut Meter,
+    seen: &[GroupAfter],
+    moves: &mut Vec<TimerMove>,
+) -> Result<(), AllocError>
+    requires { AreGathered world.now seen.now }
+    ensures timers { OnOk result ((s : State) → after_moves s moves.new.items
+        ≡ (each_in_turn (group_step world.now turn.old.draw)
+        (after_moves s moves.old.items) (openings_in seen.now)).0) }
+    ensures messages { OnOk result ((s : State) → turn.new ≡ saying turn.old
+        (each_in_turn (group_step world.now turn.old.draw)
+        (after_moves s moves.old.items) (openings_in seen.now)).1) }
+{
+    for after in seen {
+        tell_group(world, turn, meter, after, moves)?;
+    }
+    Ok(())
+}
+
+/// Sends the messages upstream after a change, and moves the timers: for each touched group ascending, and for each of
+/// its touched sources ascending. All follows of the state after the change, by what was gathered in it: nothing of that
+/// is gathered again; the timers move last. The meter rises by the nodes visited. The error is want of memory.
+#[tactic(auto, unfolding(crate::specs::Told::upstream_by, crate::specs::Timers::after_moves))]
+pub fn changed(
+    world: &mut World,
+    turn: &mut Turn,
+    meter: &mut Meter,
+    seen: &[GroupAfter],
+) -> Result<(), AllocError>
+    requires { AreGathered world.old seen.now }
+    ensures state { OnOk result (world.new ≡ (upstream_by (openings_in seen.now) world.old turn.old.draw).0) }
     ensures messages { OnOk result (turn.new
-        ≡ saying turn.old (upstream_by (opening_in after.now ∷ []) world.old turn.old.draw).1) }
+        ≡ saying turn.old (upstream_by (openings_in seen.now) world.old turn.old.draw).1) }
 {
     let mut moves = Vec::new(turn.alloc);
-    let sources = after.sources.as_slice();
-    tell_star(world, turn, meter, &after.star, after.was, &mut moves)?;
-    tell_sources_by_sights(world, turn, meter, &after.star, sources, &mut moves)?;
+    tell_groups(world, turn, meter, seen, &mut moves)?;
     move_timers(world, meter, moves.as_slice())
 }

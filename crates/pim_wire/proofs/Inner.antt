@@ -1,12 +1,7 @@
 -- What the tests of a Register's packet answer, in their order.
-use Rattle.std.proofs.Common.{◌≡◌, ℕ, ◌<◌, ◌≤◌, true, false, List, length, Result, Ok, Err, refl, sym, ap, ◌∙◌, arith}
-use Rattle.std.proofs.lemmas.Bool.Decides.{nat_tests}
-use Rattle.pim_ip.specs.declared.refusal.Refusal.{Refusal}
-use Rattle.pim_ip.specs.declared.refusal.Refusal.TheVariants.{BadLength, BadAddress, NotMulticast}
-use Rattle.pim_ip.specs.Tests.{◌>>◌}
-use Rattle.pim_ip.specs.Ipv4.{Packet, ipv4_reading, packet_of, is_unicast, is_multicast}
-use Rattle.pim_wire.specs.Registers.{source_and_group_test, inner_test}
-use Rattle.pim_wire.specs.Bodies.{inner_reading}
+use Rattle.std.{proofs.{Common.{◌≡◌, ℕ, ◌<◌, ◌≤◌, true, false, List, length, Result, Ok, Err, refl, sym, ap, ◌∙◌, arith}, lemmas.Bool.Decides.nat_tests}}
+use Rattle.pim_ip.{specs.{declared.refusal.Refusal.{Refusal, TheVariants.{BadLength, BadAddress, NotMulticast}}, Tests.◌>>◌, Ipv4.{Packet, ipv4_reading, packet_of, is_unicast, is_multicast}}}
+use Rattle.pim_wire.{specs.{Registers.{source_and_group_test, inner_test}, Bodies.inner_reading}}
 
 -- a packet that was read is the packet of its bytes
 packet_is : (i : List ℕ) (p : Packet) → ipv4_reading i ≡ Ok p → p ≡ packet_of i

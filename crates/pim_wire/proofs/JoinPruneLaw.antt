@@ -1,20 +1,8 @@
 -- A Join/Prune that is written reads back as its value.
-use Rattle.std.proofs.Common.{◌≡◌, ℕ, ◌+◌, ◌*◌, ◌^◌, ◌<◌, ◌≤◌, true, IsTrue, List, [], ◌∷◌, ◌++◌, length, drop, Ok, refl, sym, ap, ◌∙◌, arith, append-nil}
-use Rattle.std.proofs.lemmas.Bool.Decides.{nat_tests}
-use Rattle.std.proofs.lemmas.Grind.{flat_map-append}
-use Rattle.std.proofs.lemmas.List.{length-append, drop-drop, drop_at}
-use Rattle.std.specs.List.{All, flat_map}
-use Rattle.byteorder.specs.Endian.{big_from}
-use Rattle.byteorder.specs.Numbers.{big_number-reads_back}
-use Rattle.pim_ip.specs.Checksum.{with_checksum}
-use Rattle.pim_ip.specs.Ipv4.{is_unicast, is_multicast}
-use Rattle.pim_wire.specs.declared.join_prune.Entry.{Entry}
-use Rattle.pim_wire.specs.Encoded.{address_at, mask_length_at, unicast_at, pim_version_of, pim_type_of, is_native_ipv4, field_test, unicast_test, source_test, group_test, pim_text}
-use Rattle.pim_wire.specs.JoinPrunes.{join_count_at, prune_count_at, entries_at, entry_text, join_prune_text, join_prune_holdtime, join_prune_test, join_prune_of, sources_test, groups_test, groups_at, group_at, group_count_of}
-use Rattle.pim_wire.specs.Messages.{body_reading, pim_reading, is_checksum_right}
-use Rattle.pim_wire.specs.declared.view.PimView.TheVariants.{JoinPrune}
-use Rattle.pim_wire.proofs.Laws.{pim_reads, pim_text_right}
-use Rattle.pim_wire.proofs.WrittenEntries.{sources_read, entries_read}
+use Rattle.std.{proofs.{Common.{◌≡◌, ℕ, ◌+◌, ◌*◌, ◌^◌, ◌<◌, ◌≤◌, true, IsTrue, List, [], ◌∷◌, ◌++◌, length, drop, Ok, refl, sym, ap, ◌∙◌, arith, append-nil}, lemmas.{Bool.Decides.nat_tests, Grind.flat_map-append, List.{length-append, drop-drop, drop_at}}}, specs.List.{All, flat_map}}
+use Rattle.byteorder.{specs.{Endian.big_from, Numbers.big_number-reads_back}}
+use Rattle.pim_ip.{specs.{Checksum.with_checksum, Ipv4.{is_unicast, is_multicast}}}
+use Rattle.pim_wire.{specs.{declared.{join_prune.Entry.Entry, view.PimView.TheVariants.JoinPrune}, Encoded.{address_at, mask_length_at, unicast_at, pim_version_of, pim_type_of, is_native_ipv4, field_test, unicast_test, source_test, group_test, pim_text}, JoinPrunes.{join_count_at, prune_count_at, entries_at, entry_text, join_prune_text, join_prune_holdtime, join_prune_test, join_prune_of, sources_test, groups_test, groups_at, group_at, group_count_of}, Messages.{body_reading, pim_reading, is_checksum_right}}, proofs.{Laws.{pim_reads, pim_text_right}, WrittenEntries.{sources_read, entries_read}}}
 
 module _ (upstream group : ℕ) (joins prunes : List Entry) (upstream_fits : upstream < 2 ^ 32) (group_is : is_multicast group ≡ true)
     (few_joins : length joins < 2 ^ 16) (few_prunes : length prunes < 2 ^ 16)

@@ -1,12 +1,7 @@
 -- How texts are written one behind the other.
-use Rattle.std.proofs.Common.{◌≡◌, ℕ, ◌+◌, ◌≤◌, List, ◌++◌, length, take, drop, refl, sym, ap, ◌∙◌, arith}
-use Rattle.std.proofs.lemmas.List.{length-append, length-take, take-take, take_at, drop_at}
-use Rattle.std.specs.List.{flat_map}
-use Rattle.pim_ip.specs.Checksum.{with_checksum}
-use Rattle.pim_wire.specs.declared.join_prune.Entry.{Entry}
-use Rattle.pim_wire.specs.Encoded.{pim_text}
-use Rattle.pim_wire.specs.JoinPrunes.{entry_text, join_prune_text}
-use Rattle.pim_wire.specs.JoinPruneTexts.{join_prune_header_text}
+use Rattle.std.{proofs.{Common.{◌≡◌, ℕ, ◌+◌, ◌≤◌, List, ◌++◌, length, take, drop, refl, sym, ap, ◌∙◌, arith}, lemmas.List.{length-append, length-take, take-take, take_at, drop_at}}, specs.List.flat_map}
+use Rattle.pim_ip.{specs.Checksum.with_checksum}
+use Rattle.pim_wire.{specs.{declared.join_prune.Entry.Entry, Encoded.pim_text, JoinPrunes.{entry_text, join_prune_text}, JoinPruneTexts.join_prune_header_text}}
 
 -- what stands first stays first
 pub kept_more : (a b c : List ℕ) → take (length a) b ≡ a → take (length b) c ≡ b → take (length a) c ≡ a

@@ -1,11 +1,7 @@
 -- The sources and groups of a Join/Prune one after the other.
-use Rattle.std.proofs.Common.{◌≡◌, ℕ, zero, suc, ◌+◌, ◌*◌, ◌-◌, ◌<◌, ◌≤◌, List, [], ◌++◌, length, Result, Ok, Err, refl, sym, ap, ◌∙◌, arith}
-use Rattle.std.proofs.lemmas.Bool.Decides.{nat_tests}
-use Rattle.pim_ip.specs.declared.refusal.Refusal.{Refusal}
-use Rattle.pim_ip.specs.Tests.{◌>>◌}
-use Rattle.pim_wire.specs.Encoded.{source_test, group_test, field_test}
-use Rattle.pim_wire.specs.JoinPrunes.{sources_test, groups_test, entry_at, entries_at, group_at, groups_at, after_group, join_count_at, prune_count_at}
-use Rattle.pim_wire.specs.Groups.{one_group_test, HasGroups}
+use Rattle.std.{proofs.{Common.{◌≡◌, ℕ, zero, suc, ◌+◌, ◌*◌, ◌-◌, ◌<◌, ◌≤◌, List, [], ◌++◌, length, Result, Ok, Err, refl, sym, ap, ◌∙◌, arith}, lemmas.Bool.Decides.nat_tests}}
+use Rattle.pim_ip.{specs.{declared.refusal.Refusal.Refusal, Tests.◌>>◌}}
+use Rattle.pim_wire.{specs.{Encoded.{source_test, group_test, field_test}, JoinPrunes.{sources_test, groups_test, entry_at, entries_at, group_at, groups_at, after_group, join_count_at, prune_count_at}, Groups.{one_group_test, HasGroups}}}
 
 pub sources_none : (b : List ℕ) (p : ℕ) → sources_test b p 0 ≡ Ok tt
 unfolding sources_test

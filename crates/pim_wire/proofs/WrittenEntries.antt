@@ -1,17 +1,8 @@
 -- Entries that were written read back.
-use Rattle.std.proofs.Common.{◌≡◌, ℕ, zero, suc, ◌+◌, ◌≤◌, true, nat_le, IsTrue, List, [], ◌∷◌, ◌++◌, length, drop, get_or, Some, Ok, refl, sym, ap, ◌∙◌, arith, append_assoc}
-use Rattle.std.proofs.lemmas.Bool.Decides.{nat_tests}
-use Rattle.std.proofs.lemmas.List.{get_or-drop, length-drop, drop-drop}
-use Rattle.std.proofs.lemmas.List.Elements.{All-head, All-tail}
-use Rattle.std.specs.List.{All, flat_map}
-use Rattle.byteorder.specs.Endian.{big_from}
-use Rattle.byteorder.specs.Numbers.{big_number-reads_back}
-use Rattle.pim_ip.specs.Ipv4.{is_unicast}
-use Rattle.pim_wire.specs.declared.join_prune.Entry.{Entry}
-use Rattle.pim_wire.specs.declared.join_prune.EntryKind.{EntryKind}
-use Rattle.pim_wire.specs.declared.join_prune.EntryKind.TheVariants.{Star, Source, SourceRpt}
-use Rattle.pim_wire.specs.Encoded.{address_at, source_test}
-use Rattle.pim_wire.specs.JoinPrunes.{kind_of, flags_of, entry_at, entries_at, entry_text, sources_test}
+use Rattle.std.{proofs.{Common.{◌≡◌, ℕ, zero, suc, ◌+◌, ◌≤◌, true, nat_le, IsTrue, List, [], ◌∷◌, ◌++◌, length, drop, get_or, Some, Ok, refl, sym, ap, ◌∙◌, arith, append_assoc}, lemmas.{Bool.Decides.nat_tests, List.{get_or-drop, length-drop, drop-drop, Elements.{All-head, All-tail}}}}, specs.List.{All, flat_map}}
+use Rattle.byteorder.{specs.{Endian.big_from, Numbers.big_number-reads_back}}
+use Rattle.pim_ip.{specs.Ipv4.is_unicast}
+use Rattle.pim_wire.{specs.{declared.join_prune.{Entry.Entry, EntryKind.{EntryKind, TheVariants.{Star, Source, SourceRpt}}}, Encoded.{address_at, source_test}, JoinPrunes.{kind_of, flags_of, entry_at, entries_at, entry_text, sources_test}}}
 
 -- a number at a place, in what stands from there on
 big_from-drop : (n p i j : ℕ) (b : List ℕ) → j ≡ p + i → big_from j n b ≡ big_from i n (drop p b)

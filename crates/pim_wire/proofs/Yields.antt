@@ -1,5 +1,5 @@
 -- What an iterator gives that skips elements.
-use Rattle.std.proofs.Common.{◌≡◌, ◌<◌, true, false, List, [], ◌∷◌, ◌++◌, length, Option, Some, None, is_some, MatchOption, option_to_list, sym, arith}
+use Rattle.std.{proofs.Common.{◌≡◌, ◌<◌, true, false, List, [], ◌∷◌, ◌++◌, length, Option, Some, None, is_some, MatchOption, option_to_list, sym, arith}}
 
 module _ {X : Type 0} where
   pub gives_first : (o : Option X) (whole rest : List X) → is_some o ≡ true → whole ≡ option_to_list o ++ rest

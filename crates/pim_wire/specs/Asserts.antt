@@ -1,13 +1,8 @@
 -- Assert (RFC 7761, section 4.9.6): type 5.
-use Rattle.std.specs.Prelude.{ℕ, ◌+◌, ◌%◌, Bool, nat_le, nat_lt, if◌then◌else◌, List, ◌++◌, Result}
-use Rattle.byteorder.specs.Endian.{big_from, big_bytes}
-use Rattle.pim_ip.specs.declared.refusal.Refusal.{Refusal}
-use Rattle.pim_ip.specs.declared.refusal.Refusal.TheVariants.{BadAddress}
-use Rattle.pim_ip.specs.Tests.{expect, ◌>>◌}
-use Rattle.pim_ip.specs.Ipv4.{first_multicast}
-use Rattle.pim_wire.specs.declared.assert.Assert.{Assert}
-use Rattle.pim_wire.specs.Encoded.{field_test, unicast_test, group_test, mask_length_at, address_at, unicast_at, unicast_text, group_text, pim_text}
-use Rattle.pim_ip.specs.Addr.{addr}
+use Rattle.std.{specs.Prelude.{ℕ, ◌+◌, ◌%◌, Bool, nat_le, nat_lt, if◌then◌else◌, List, ◌++◌, Result}}
+use Rattle.byteorder.{specs.Endian.{big_from, big_bytes}}
+use Rattle.pim_ip.{specs.{declared.refusal.Refusal.{Refusal, TheVariants.BadAddress}, Tests.{expect, ◌>>◌}, Ipv4.first_multicast, Addr.addr}}
+use Rattle.pim_wire.{specs.{declared.assert.Assert.Assert, Encoded.{field_test, unicast_test, group_test, mask_length_at, address_at, unicast_at, unicast_text, group_text, pim_text}}}
 
 -- The tests of an Assert: group, source, the R bit with the preference, the metric.
 unfoldable pub assert_test : List ℕ → Result (Unit {0}) Refusal
@@ -18,6 +13,7 @@ assert_test b =
     >> field_test b 18 4
     >> field_test b 22 4
 
+-- The content of an Assert that passes its tests.
 unfoldable pub assert_of : List ℕ → Assert
 assert_of b = record {
   group = addr (address_at b 4);

@@ -1,16 +1,7 @@
 -- The reading of each message's body: its tests, then its value.
-use Rattle.std.specs.Prelude.{ℕ, List, Result, Ok}
-use Rattle.pim_ip.specs.declared.refusal.Refusal.{Refusal}
-use Rattle.pim_ip.specs.Tests.{◌>>◌}
-use Rattle.pim_wire.specs.declared.assert.Assert.{Assert}
-use Rattle.pim_wire.specs.declared.hello.Hello.{Hello}
-use Rattle.pim_wire.specs.declared.register.RegisterStop.{RegisterStop}
-use Rattle.pim_wire.specs.Values.{JoinPrune, Register}
-use Rattle.pim_wire.specs.Hellos.{hello_test, hello_of}
-use Rattle.pim_ip.specs.Ipv4.{Packet, packet_of}
-use Rattle.pim_wire.specs.Registers.{inner_test, register_test, register_of, register_stop_test, register_stop_of}
-use Rattle.pim_wire.specs.JoinPrunes.{join_prune_test, join_prune_of}
-use Rattle.pim_wire.specs.Asserts.{assert_test, assert_of}
+use Rattle.std.{specs.Prelude.{ℕ, List, Result, Ok}}
+use Rattle.pim_ip.{specs.{declared.refusal.Refusal.Refusal, Tests.◌>>◌, Ipv4.{Packet, packet_of}}}
+use Rattle.pim_wire.{specs.{declared.{assert.Assert.Assert, hello.Hello.Hello, register.RegisterStop.RegisterStop}, Values.{JoinPrune, Register}, Hellos.{hello_test, hello_of}, Registers.{inner_test, register_test, register_of, register_stop_test, register_stop_of}, JoinPrunes.{join_prune_test, join_prune_of}, Asserts.{assert_test, assert_of}}}
 
 abbrev pub hello_reading : List ℕ → Result Hello Refusal
 hello_reading b = hello_test b >> Ok (hello_of b)

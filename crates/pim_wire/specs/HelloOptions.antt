@@ -1,10 +1,7 @@
 -- One option of a Hello.
-use Rattle.std.specs.Prelude.{ℕ, ◌+◌, List, Result}
-use Rattle.pim_ip.specs.declared.refusal.Refusal.{Refusal}
-use Rattle.pim_ip.specs.declared.refusal.Refusal.TheVariants.{BadLength}
-use Rattle.pim_ip.specs.Tests.{expect, ◌>>◌}
-use Rattle.pim_wire.specs.Encoded.{field_test}
-use Rattle.pim_wire.specs.Hellos.{option_type, option_length, is_option_length}
+use Rattle.std.{specs.Prelude.{ℕ, ◌+◌, List, Result}}
+use Rattle.pim_ip.{specs.{declared.refusal.Refusal.{Refusal, TheVariants.BadLength}, Tests.{expect, ◌>>◌}}}
+use Rattle.pim_wire.{specs.{Encoded.field_test, Hellos.{option_type, option_length, is_option_length}}}
 
 -- the tests of the option at place p
 unfoldable pub option_test : List ℕ → ℕ → Result (Unit {0}) Refusal

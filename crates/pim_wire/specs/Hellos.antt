@@ -1,33 +1,34 @@
 -- Hello (RFC 7761, section 4.9.2): type 0, options to the end of the message.
-use Rattle.std.specs.Prelude.{ℕ, zero, suc, ◌+◌, ◌%◌, Bool, true, false, ◌||◌, ◌==◌, nat_le, if◌then◌else◌, List, ◌++◌, length, Some, None, Result, Ok}
-use Rattle.byteorder.specs.Endian.{big_from, big_bytes}
-use Rattle.pim_ip.specs.declared.lan.LanDelay.{LanDelay}
-use Rattle.pim_ip.specs.declared.refusal.Refusal.{Refusal}
-use Rattle.pim_ip.specs.declared.refusal.Refusal.TheVariants.{BadLength}
-use Rattle.pim_ip.specs.Tests.{expect, ◌>>◌}
-use Rattle.pim_wire.specs.declared.hello.Hello.{Hello}
-use Rattle.pim_wire.specs.Encoded.{field_test, pim_text}
+use Rattle.std.{specs.Prelude.{ℕ, zero, suc, ◌+◌, ◌%◌, Bool, true, false, ◌||◌, ◌==◌, nat_le, if◌then◌else◌, List, ◌++◌, length, Some, None, Result, Ok}}
+use Rattle.byteorder.{specs.Endian.{big_from, big_bytes}}
+use Rattle.pim_ip.{specs.{declared.{lan.LanDelay.LanDelay, refusal.Refusal.{Refusal, TheVariants.BadLength}}, Tests.{expect, ◌>>◌}}}
+use Rattle.pim_wire.{specs.{declared.hello.Hello.Hello, Encoded.{field_test, pim_text}}}
 
 -- An option at place p: type, length, value.
 abbrev pub option_type : List ℕ → ℕ → ℕ
 option_type b p = big_from p 2 b
 
+-- the length of the option at a place, in bytes
 abbrev pub option_length : List ℕ → ℕ → ℕ
 option_length b p = big_from (p + 2) 2 b
 
+-- the type of the option Holdtime (RFC 7761, section 4.9.2)
 abbrev pub holdtime_option : ℕ
 holdtime_option = 1
 
+-- the type of the option LAN Prune Delay (RFC 7761, section 4.9.2)
 abbrev pub lan_delay_option : ℕ
 lan_delay_option = 2
 
+-- the type of the option DR Priority (RFC 7761, section 4.9.2)
 abbrev pub priority_option : ℕ
 priority_option = 19
 
+-- the type of the option Generation ID (RFC 7761, section 4.9.2)
 abbrev pub generation_option : ℕ
 generation_option = 20
 
--- A known option has its one length.
+-- An option of a known type has the one length that its type may have.
 unfoldable pub is_option_length : ℕ → ℕ → Bool
 is_option_length type len =
     if type == holdtime_option then len == 2
@@ -71,12 +72,15 @@ with_options b p (suc most) hello =
     let later : Hello = with_options b (p + 4 + option_length b p) most (with_option b p hello) in
     elim (nat_le (length b) p) [ true ↦ hello | false ↦ later ]
 
+-- the content of a Hello without options
 abbrev pub no_options : Hello
 no_options = record { holdtime = None; lan_delay = None; priority = None; generation = None }
 
+-- The tests of a Hello: those of each option, up to its end.
 unfoldable pub hello_test : List ℕ → Result (Unit {0}) Refusal
 hello_test b = options_test b 4 (length b)
 
+-- The content of a Hello: its options, the last of each type.
 unfoldable pub hello_of : List ℕ → Hello
 hello_of b = with_options b 4 (length b) no_options
 
@@ -84,6 +88,7 @@ hello_of b = with_options b 4 (length b) no_options
 abbrev pub hello_holdtime : ℕ
 hello_holdtime = 105
 
+-- The bytes of an option of a Hello: its type, its length, its value.
 abbrev pub option_text : ℕ → List ℕ → List ℕ
 option_text type value = big_bytes 2 type ++ big_bytes 2 (length value) ++ value
 

@@ -1,8 +1,7 @@
 -- The parts of a Join/Prune that is written.
-use Rattle.std.specs.Prelude.{ℕ, List, ◌∷◌, ◌++◌}
-use Rattle.byteorder.specs.Endian.{big_bytes}
-use Rattle.pim_wire.specs.Encoded.{unicast_text, group_text}
-use Rattle.pim_wire.specs.JoinPrunes.{join_prune_holdtime}
+use Rattle.std.{specs.Prelude.{ℕ, List, ◌∷◌, ◌++◌}}
+use Rattle.byteorder.{specs.Endian.big_bytes}
+use Rattle.pim_wire.{specs.{Encoded.{unicast_text, group_text}, JoinPrunes.join_prune_holdtime}}
 
 -- The bytes of a Join/Prune up to its joins, with 0 for the checksum.
 unfoldable pub join_prune_header_text : ℕ → ℕ → ℕ → ℕ → List ℕ

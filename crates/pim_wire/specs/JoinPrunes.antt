@@ -1,15 +1,8 @@
 -- Join/Prune (RFC 7761, section 4.9.5): type 3.
-use Rattle.std.specs.Prelude.{ℕ, zero, suc, ◌+◌, ◌*◌, ◌/◌, ◌%◌, true, false, ◌&&◌, ◌==◌, if◌then◌else◌, List, [], ◌∷◌, ◌++◌, length, slice_index, flat_map, Option, Some, None, Result, Ok}
-use Rattle.byteorder.specs.Endian.{big_from, big_bytes}
-use Rattle.pim_ip.specs.declared.refusal.Refusal.{Refusal}
-use Rattle.pim_ip.specs.Tests.{◌>>◌}
-use Rattle.pim_ip.specs.Ipv4.{is_unicast}
-use Rattle.pim_wire.specs.declared.join_prune.Entry.{Entry}
-use Rattle.pim_wire.specs.declared.join_prune.EntryKind.{EntryKind}
-use Rattle.pim_wire.specs.declared.join_prune.EntryKind.TheVariants.{Star, Source, SourceRpt}
-use Rattle.pim_wire.specs.Values.{Group, JoinPrune}
-use Rattle.pim_wire.specs.Encoded.{field_test, unicast_test, group_test, source_test, flags_at, mask_length_at, address_at, unicast_at, unicast_text, group_text, source_text, pim_text}
-use Rattle.pim_ip.specs.Addr.{addr}
+use Rattle.std.{specs.Prelude.{ℕ, zero, suc, ◌+◌, ◌*◌, ◌/◌, ◌%◌, true, false, ◌&&◌, ◌==◌, if◌then◌else◌, List, [], ◌∷◌, ◌++◌, length, slice_index, flat_map, Option, Some, None, Result, Ok}}
+use Rattle.byteorder.{specs.Endian.{big_from, big_bytes}}
+use Rattle.pim_ip.{specs.{declared.refusal.Refusal.Refusal, Tests.◌>>◌, Ipv4.is_unicast, Addr.addr}}
+use Rattle.pim_wire.{specs.{declared.join_prune.{Entry.Entry, EntryKind.{EntryKind, TheVariants.{Star, Source, SourceRpt}}}, Values.{Group, JoinPrune}, Encoded.{field_test, unicast_test, group_test, source_test, flags_at, mask_length_at, address_at, unicast_at, unicast_text, group_text, source_text, pim_text}}}
 
 -- The tests of n sources from place p on.
 unfoldable pub sources_test : List ℕ → ℕ → ℕ → Result (Unit {0}) Refusal
@@ -45,6 +38,7 @@ entries_at b p (suc n) = entry_at b p ++ entries_at b (p + 8) n
 abbrev pub join_count_at : List ℕ → ℕ → ℕ
 join_count_at b p = big_from (p + 8) 2 b
 
+-- The number of pruned sources of the group at a place.
 abbrev pub prune_count_at : List ℕ → ℕ → ℕ
 prune_count_at b p = big_from (p + 10) 2 b
 
@@ -79,6 +73,7 @@ unfoldable pub groups_at : List ℕ → ℕ → ℕ → List Group
 groups_at b p zero = []
 groups_at b p (suc n) = group_at b p ++ groups_at b (after_group b p) n
 
+-- The number of groups of a Join/Prune.
 abbrev pub group_count_of : List ℕ → ℕ
 group_count_of b = slice_index b 11
 
@@ -86,6 +81,7 @@ group_count_of b = slice_index b 11
 unfoldable pub join_prune_test : List ℕ → Result (Unit {0}) Refusal
 join_prune_test b = unicast_test b 4 >> field_test b 10 4 >> groups_test b 14 (group_count_of b)
 
+-- The content of a Join/Prune that passes its tests.
 unfoldable pub join_prune_of : List ℕ → JoinPrune
 join_prune_of b = record {
   upstream = unicast_at b 4;
@@ -99,6 +95,7 @@ flags_of Star = 7
 flags_of Source = 4
 flags_of SourceRpt = 5
 
+-- The bytes of an entry: an Encoded-Source address with the flags of its kind.
 abbrev pub entry_text : Entry → List ℕ
 entry_text e = source_text (flags_of e.kind) e.address.bits
 

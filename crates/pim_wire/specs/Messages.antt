@@ -1,17 +1,9 @@
 -- The reading of a PIM message (RFC 7761, section 4.9): tests in their order, then the value.
-use Rattle.std.specs.Prelude.{ℕ, Bool, ◌||◌, not, ◌&&◌, ◌==◌, nat_le, if◌then◌else◌, List, length, take, Result, Ok}
-use Rattle.pim_ip.specs.declared.refusal.Refusal.{Refusal}
-use Rattle.pim_ip.specs.declared.refusal.Refusal.TheVariants.{Short, BadVersion, BadChecksum}
-use Rattle.pim_ip.specs.Tests.{expect, ◌>>◌}
-use Rattle.pim_ip.specs.Checksum.{sum16}
-use Rattle.pim_wire.specs.declared.view.PimView.{PimView}
-use Rattle.pim_wire.specs.declared.view.PimView.TheVariants.{Hello, Register, RegisterStop, JoinPrune, Assert, Other}
-use Rattle.pim_wire.specs.Encoded.{pim_version_of, pim_type_of}
-use Rattle.pim_wire.specs.Hellos.{hello_test, hello_of}
-use Rattle.pim_wire.specs.Registers.{register_test, register_of, register_stop_test, register_stop_of}
-use Rattle.pim_wire.specs.JoinPrunes.{join_prune_test, join_prune_of}
-use Rattle.pim_wire.specs.Asserts.{assert_test, assert_of}
+use Rattle.std.{specs.Prelude.{ℕ, Bool, ◌||◌, not, ◌&&◌, ◌==◌, nat_le, if◌then◌else◌, List, length, take, Result, Ok}}
+use Rattle.pim_ip.{specs.{declared.refusal.Refusal.{Refusal, TheVariants.{Short, BadVersion, BadChecksum}}, Tests.{expect, ◌>>◌}, Checksum.sum16}}
+use Rattle.pim_wire.{specs.{declared.view.PimView.{PimView, TheVariants.{Hello, Register, RegisterStop, JoinPrune, Assert, Other}}, Encoded.{pim_version_of, pim_type_of}, Hellos.{hello_test, hello_of}, Registers.{register_test, register_of, register_stop_test, register_stop_of}, JoinPrunes.{join_prune_test, join_prune_of}, Asserts.{assert_test, assert_of}}}
 
+-- The message has the type of a Register.
 abbrev pub is_register : List ℕ → Bool
 is_register b = pim_type_of b == 1
 
@@ -29,6 +21,7 @@ body_reading type b =
     else (if type == 5 then assert_test b >> Ok (Assert (assert_of b))
     else Ok Other))))
 
+-- What a PIM message says, or the first of its tests that it fails.
 unfoldable pub pim_reading : List ℕ → Result PimView Refusal
 pim_reading b =
     expect (nat_le 4 (length b)) Short

@@ -1,15 +1,7 @@
 -- What is written reads back as its value.
-use Rattle.std.specs.Prelude.{◌≡◌, ℕ, ◌^◌, ◌<◌, ◌≤◌, Bool, IsTrue, List, [], ◌∷◌, length, Some, false, Ok, All}
-use Rattle.pim_ip.specs.Ipv4.{Packet, ipv4_reading, is_unicast, is_multicast, first_multicast, frame_limit}
-use Rattle.pim_wire.specs.declared.view.PimView.TheVariants.{Hello, Register, RegisterStop, JoinPrune, Assert}
-use Rattle.pim_wire.specs.declared.join_prune.Entry.{Entry}
-use Rattle.pim_wire.specs.Values.{Encapsulated, Null}
-use Rattle.pim_ip.specs.Addr.{addr}
-use Rattle.pim_wire.specs.Hellos.{hello_text, hello_holdtime}
-use Rattle.pim_wire.specs.Registers.{register_text, null_register_text, register_stop_text}
-use Rattle.pim_wire.specs.JoinPrunes.{join_prune_text, join_prune_holdtime}
-use Rattle.pim_wire.specs.Asserts.{assert_text}
-use Rattle.pim_wire.specs.Messages.{pim_reading}
+use Rattle.std.{specs.Prelude.{◌≡◌, ℕ, ◌^◌, ◌<◌, ◌≤◌, Bool, IsTrue, List, [], ◌∷◌, length, Some, false, Ok, All}}
+use Rattle.pim_ip.{specs.{Ipv4.{Packet, ipv4_reading, is_unicast, is_multicast, first_multicast, frame_limit}, Addr.addr}}
+use Rattle.pim_wire.{specs.{declared.{view.PimView.TheVariants.{Hello, Register, RegisterStop, JoinPrune, Assert}, join_prune.Entry.Entry}, Values.{Encapsulated, Null}, Hellos.{hello_text, hello_holdtime}, Registers.{register_text, null_register_text, register_stop_text}, JoinPrunes.{join_prune_text, join_prune_holdtime}, Asserts.assert_text, Messages.pim_reading}}
 
 abbrev pub RegisterStopReads : ℕ → ℕ → Type 0
 RegisterStopReads group source =

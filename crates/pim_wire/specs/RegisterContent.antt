@@ -1,6 +1,5 @@
 -- What a view of a Register keeps.
-use Rattle.pim_wire.specs.declared.register.Content.{Content}
-use Rattle.pim_wire.specs.declared.register.Content.TheVariants.{Packet, Null}
+use Rattle.pim_wire.{specs.declared.register.Content.{Content, TheVariants.{Packet, Null}}}
 use Rattle.pim_wire.specs.Values as values
 
 abbrev pub register_from : Content → values.Register

@@ -1,7 +1,7 @@
 -- The parts of what a Register holds.
-use Rattle.std.specs.Prelude.{ℕ, Bool, true, false, Option, Some, None}
-use Rattle.pim_ip.specs.Ipv4.{Packet}
-use Rattle.pim_wire.specs.Values.{Register, Encapsulated, Null}
+use Rattle.std.{specs.Prelude.{ℕ, Bool, true, false, Option, Some, None}}
+use Rattle.pim_ip.{specs.Ipv4.Packet}
+use Rattle.pim_wire.{specs.Values.{Register, Encapsulated, Null}}
 
 -- The Register is a Null-Register: pkt.NullRegisterBit (RFC 7761, section 4.4.2).
 abbrev pub is_null : Register → Bool

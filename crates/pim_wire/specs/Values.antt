@@ -1,7 +1,7 @@
 -- What a Join/Prune and a Register say.
-use Rattle.std.specs.Prelude.{ℕ, List}
-use Rattle.pim_ip.specs.Ipv4.{Packet}
-use Rattle.pim_wire.specs.declared.join_prune.Entry.{Entry}
+use Rattle.std.{specs.Prelude.{ℕ, List}}
+use Rattle.pim_ip.{specs.Ipv4.Packet}
+use Rattle.pim_wire.{specs.declared.join_prune.Entry.Entry}
 
 -- A group of a Join/Prune with its entries, in their order in the message.
 pub record Group : Type 0 where

@@ -55,7 +55,7 @@ impl<'a> Model for RegisterView<'a> {
 impl<'a> RegisterView<'a> {
     ghost use Rattle.pim_wire.specs.RegisterParts.{is_null, registered_source, registered_group, registered_packet};
 
-    /// Whether this is a Null-Register.
+    /// Whether the Register is a Null-Register, which brings no packet.
     pub fn is_null(&self) -> bool
         ensures { result ≡ is_null self.now }
     {
@@ -72,7 +72,7 @@ impl<'a> RegisterView<'a> {
         }
     }
 
-    /// The group that it sends to.
+    /// The group that the registered packet, or a Null-Register, is for.
     pub fn group(&self) -> Addr
         ensures { result.bits ≡ registered_group self.now }
     {

@@ -45,7 +45,7 @@ from viqeshor.rows import (
     numbers,
     row_of,
 )
-from viqeshor.trees import Link, Neighbour, SourceTree, Tree, Words
+from viqeshor.trees import Link, Neighbour, SourceTree, Tree, Words, dotted
 
 __all__ = [
     "ActiveRow",
@@ -304,10 +304,6 @@ class PlaneRow(NamedTuple):
 
 def there(number: int, none: int) -> int | None:
     return None if number == none else number
-
-
-def dotted(bits: int) -> str:
-    return str(IPv4Address(bits))
 
 
 # ---- the library

@@ -19,7 +19,7 @@ impl Router {
         if self.failed {
             return 0;
         }
-        self.world.interfaces().count()
+        self.core.world.interfaces().count()
     }
 
     /// The limit on facts; 0 where the router has failed. No memory is taken.
@@ -29,7 +29,7 @@ impl Router {
         if self.failed {
             return 0;
         }
-        self.world.settings().limit
+        self.core.world.settings().limit
     }
 
     /// The present moment, in ms; 0 where the router has failed. No memory is taken.
@@ -39,7 +39,7 @@ impl Router {
         if self.failed {
             return 0;
         }
-        self.world.present()
+        self.core.world.present()
     }
 
     /// When the membership ends that a report on the interface makes at the present moment, in ms: [Group Membership
@@ -52,7 +52,7 @@ impl Router {
         if self.failed {
             return 0;
         }
-        self.world.present() + group_membership_interval(&self.world, iface)
+        self.core.world.present() + group_membership_interval(&self.core.world, iface)
     }
 
     /// Whether there is a group record of the group on the interface, in either mode; none where the router has failed. No
@@ -64,7 +64,7 @@ impl Router {
         if self.failed {
             return false;
         }
-        self.world.has_group_record(iface, group)
+        self.core.world.has_group_record(iface, group)
     }
 
     /// The group record of the group on the interface; none where the router has failed. No memory is taken.
@@ -75,6 +75,6 @@ impl Router {
         if self.failed {
             return None;
         }
-        self.world.membership().group_record(iface, group)
+        self.core.world.membership().group_record(iface, group)
     }
 }

@@ -1,27 +1,21 @@
 //! Another configuration in a running router.
-ghost use Rattle.std.specs.List.Sorted.{IsStrictlySortedBy};
 ghost use Rattle.std.specs.Prelude.{◌≡◌, ◌++◌, ◌↔◌, Err, IfErr, IfOk, IfSome, IsOkUnless, None, Ok, OnErr, OnOk, Some};
 ghost use Rattle.pim_event.specs.Replacing.{NoneReplaced};
 ghost use Rattle.pim_ip.specs.declared.fault.Fault.{Fault};
-ghost use Rattle.pim_locality.specs.Rest.{IsAtRest};
-ghost use Rattle.pim_mfc.specs.Laws.{ShowsRows};
-ghost use Rattle.pim_model.specs.Cache.{cached};
 ghost use Rattle.pim_model.specs.Limits.{config_test};
 ghost use Rattle.pim_model.specs.State.{opening};
-ghost use Rattle.pim_reloaded.specs.Reloading.{reload};
+ghost use Rattle.law_reloaded.specs.Reloading.{reload};
 ghost use Rattle.pim_reloader.specs.Listing.{ListsFacts};
-ghost use Rattle.pim_restored.specs.Reload.{config_of};
+ghost use Rattle.pim_reloader.specs.Reloads.{Reloads};
+ghost use Rattle.pim_router.specs.Stepping.{Stands};
 ghost use Rattle.pim_router.specs.Standing.{beginning, nothing_shown};
-ghost use Rattle.pim_types.specs.Keys.{key_cmp};
-ghost use Rattle.pim_world.specs.declared.touched.Touched.{Touched as TouchedValue};
+ghost use Rattle.pim_state.specs.declared.touched.Touched.{Touched as TouchedValue};
 
 use super::{Router, hand_over};
 use crate::probes::Probes;
-use pim_event::Replaced;
-use pim_fanout::Cache;
-use pim_messages::Room;
+use pim_event::Core;
+use pim_state::World;
 use pim_types::{Config, Emission, Fault, Refusal};
-use pim_world::World;
 
 impl Router {
     /// Puts the router under another configuration, and adds the packets that leave at the end of `emissions`, in their
@@ -59,15 +53,7 @@ impl Router {
             return Err(Fault::Failed);
         }
         self.failed = true;
-        let answer = reload_world(
-            &mut self.room,
-            &mut self.world,
-            &mut self.cache,
-            &mut self.replaced,
-            &mut self.probes,
-            draw,
-            config,
-        )?;
+        let answer = reload_world(&mut self.core, &mut self.probes, draw, config)?;
         match answer {
             Ok(sent) => {
                 hand_over(sent, emissions)?;
@@ -85,70 +71,47 @@ impl Router {
 
 // Puts a world at rest under another configuration, by the world that opens with it. The result is what is sent.
 fn reload_next(
-    room: &mut Room,
-    world: &mut World,
-    cache: &mut Cache,
-    replaced: &mut Replaced,
+    core: &mut Core,
     probes: &mut Probes,
     draw: u32,
     config: &Config,
     next: World,
 ) -> Result<Vec<Emission>, Fault>
-    requires rest { IsAtRest world.old }
-    requires shown { ShowsRows cache.old.mfc.rows (cached world.old) }
+    requires stands { Stands core.old }
     requires accepted { config_test config.now ≡ Ok tt }
     requires opens { next ≡ opening config.now }
-    ensures state { OnOk result (world.new ≡ (reload world.old config.now draw).0) }
-    ensures sent { IfOk result (λ sent. sent.items ≡ (reload world.old config.now draw).1) }
-    ensures rest { OnOk result (IsAtRest world.new) }
-    ensures configured { OnOk result (config_test (config_of world.new) ≡ Ok tt) }
-    ensures shown { OnOk result (ShowsRows cache.new.mfc.rows (cached world.new)) }
-    ensures listed { OnOk result (ListsFacts world.old world.new cache.new.changed) }
-    ensures once { OnOk result (IsStrictlySortedBy key_cmp cache.new.changed) }
-    ensures disturbed { OnOk result (cache.new.disturbed ≡ TouchedValue.All) }
-    ensures replaced { OnOk result (replaced.new ≡ NoneReplaced) }
-    ensures fault { IsOkUnless result Fault.Memory }
+    ensures stands { OnOk result (Stands core.new) }
+    ensures reloads { Reloads core.old config.now draw result core.new }
 {
     let _ = config;
     probes.begin();
-    pim_reloader::reload(room, world, cache, replaced, &mut probes.meter, draw, next)
+    pim_reloader::reload(core, &mut probes.meter, draw, next)
 }
 
 // Puts a world at rest under another configuration. The result is what is sent, or for which test the configuration is
 // refused, and then nothing has changed.
 fn reload_world(
-    room: &mut Room,
-    world: &mut World,
-    cache: &mut Cache,
-    replaced: &mut Replaced,
+    core: &mut Core,
     probes: &mut Probes,
     draw: u32,
     config: &Config,
 ) -> Result<Result<Vec<Emission>, Refusal>, Fault>
-    requires rest { IsAtRest world.old }
-    requires shown { ShowsRows cache.old.mfc.rows (cached world.old) }
+    requires { Stands core.old }
     ensures accepted { IfOk result (λ answer. OnOk answer (config_test config.now ≡ Ok tt)) }
-    ensures state { IfOk result (λ answer. OnOk answer (world.new ≡ (reload world.old config.now draw).0)) }
-    ensures sent { IfOk result (λ answer. IfOk answer (λ sent. sent.items ≡ (reload world.old config.now draw).1)) }
-    ensures rest { IfOk result (λ answer. OnOk answer (IsAtRest world.new)) }
-    ensures configured { IfOk result (λ answer. OnOk answer (config_test (config_of world.new) ≡ Ok tt)) }
-    ensures shown { IfOk result (λ answer. OnOk answer (ShowsRows cache.new.mfc.rows (cached world.new))) }
-    ensures listed { IfOk result (λ answer. OnOk answer (ListsFacts world.old world.new cache.new.changed)) }
-    ensures once { IfOk result (λ answer. OnOk answer (IsStrictlySortedBy key_cmp cache.new.changed)) }
-    ensures disturbed { IfOk result (λ answer. OnOk answer (cache.new.disturbed ≡ TouchedValue.All)) }
-    ensures replaced { IfOk result (λ answer. OnOk answer (replaced.new ≡ NoneReplaced)) }
+    ensures stands { IfOk result (λ answer. OnOk answer (Stands core.new)) }
+    ensures reloads { IfOk result (λ answer. IfOk answer (λ sent. Reloads core.old config.now draw (Ok sent) core.new)) }
     ensures refused { IfOk result (λ answer. IfErr answer (λ refusal. config_test config.now ≡ Err refusal)) }
-    ensures unchanged { IfOk result (λ answer. IfErr answer (λ refusal. (world.new ≡ world.old) × (cache.new ≡ cache.old)
-        × (replaced.new ≡ replaced.old) × (probes.new.meter ≡ probes.old.meter))) }
+    ensures unchanged { IfOk result (λ answer. IfErr answer (λ refusal. (core.new ≡ core.old)
+        × (probes.new.meter ≡ probes.old.meter))) }
     ensures fault { IsOkUnless result Fault.Memory }
 {
     let made = {
         let mut outside = probes.outside();
-        World::new(room.alloc, config, &mut outside.meter)?
+        World::new(core.room.alloc, config, &mut outside.meter)?
     };
     match made {
         Ok(next) => {
-            let sent = reload_next(room, world, cache, replaced, probes, draw, config, next)?;
+            let sent = reload_next(core, probes, draw, config, next)?;
             Ok(Ok(sent))
         }
         Err(refusal) => Ok(Err(refusal)),

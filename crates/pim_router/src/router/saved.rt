@@ -10,10 +10,10 @@ ghost use Rattle.pim_saved.specs.Text.{text};
 
 use super::Router;
 use crate::probes::Probes;
-use pim_event::Replaced;
+use pim_event::{Core, Replaced};
 use pim_messages::Room;
 use pim_refilled::write_world;
-use pim_rested::{RestoreRefusal, Resumed, recall_resumable, resume};
+use pim_rested::{RestoreRefusal, Resumed, proof_resumable, resume};
 use pim_types::Fault;
 use std::alloc::Global;
 
@@ -32,10 +32,10 @@ impl Router {
         if self.failed {
             return Err(Fault::Failed);
         }
-        recall_resumable(&self.world);
+        proof_resumable(&self.core.world);
         let mut outside = self.probes.outside();
-        let mut bytes = Vec::new(self.room.alloc);
-        write_world(&self.world, &mut bytes, &mut outside.meter)?;
+        let mut bytes = Vec::new(self.core.room.alloc);
+        write_world(&self.core.world, &mut bytes, &mut outside.meter)?;
         out.append(&mut bytes)?;
         Ok(())
     }
@@ -59,10 +59,12 @@ impl Router {
         match made {
             Ok(Resumed { world, cache }) => Ok(Ok(Router {
                 failed: false,
-                world,
-                cache,
-                replaced: Replaced::none(),
-                room: Room::new(alloc),
+                core: Core {
+                    world,
+                    cache,
+                    replaced: Replaced::none(),
+                    room: Room::new(alloc),
+                },
                 copies: 0,
                 probes,
             })),

@@ -17,7 +17,7 @@ impl Router {
             return None;
         }
         let mut outside = self.probes.outside();
-        Some(Tree::of(&self.world, group, &mut outside.meter))
+        Some(Tree::of(&self.core.world, group, &mut outside.meter))
     }
 
     /// The macros of (S,G) and of (S,G,rpt) of any source of any group, each evaluated anew in the present state.
@@ -29,7 +29,7 @@ impl Router {
             return None;
         }
         let mut outside = self.probes.outside();
-        Some(SourceTree::of(&self.world, name, &mut outside.meter))
+        Some(SourceTree::of(&self.core.world, name, &mut outside.meter))
     }
 
     /// An interface with its DR and its querier. `None` where it isn't configured, and where the router has failed.
@@ -40,7 +40,7 @@ impl Router {
         if self.failed {
             return None;
         }
-        Link::of(&self.world, iface)
+        Link::of(&self.core.world, iface)
     }
 
     /// The neighbour with the address on the interface, with the options of its last Hello. `None` where there is none,
@@ -51,6 +51,6 @@ impl Router {
         if self.failed {
             return None;
         }
-        Neighbour::of(&self.world, iface, address)
+        Neighbour::of(&self.core.world, iface, address)
     }
 }

@@ -99,18 +99,21 @@ fn after_header(text: &str) -> Option<&str>
     }
 }
 
+// Whether the text begins with a line break, so that what comes before it ends its line.
 fn begins_line(text: &str) -> bool
     ensures { OnTrue result (BeginsLine text.now) }
 {
     matches!(text.as_bytes(), [b'\n', ..])
 }
 
+// Whether the text begins with `[`, as the header of a TOML table.
 fn begins_header(text: &str) -> bool
     ensures { OnTrue result (BeginsHeader text.now) }
 {
     matches!(text.as_bytes(), [b'[', ..])
 }
 
+// Whether the text ends with a line break.
 fn ends_line(text: &str) -> bool
     ensures { OnTrue result (ends text.now ≡ true) }
 {
@@ -131,6 +134,7 @@ fn is_flat(table: &Table) -> bool
     true
 }
 
+// Whether a value is no table, and no list with a table in it.
 fn is_plain(value: &Value) -> bool
     ensures { result ≡ is_plain (view value.now) }
 {
@@ -143,6 +147,7 @@ fn is_plain(value: &Value) -> bool
     }
 }
 
+// Whether one of the values is a table.
 fn has_table(values: &[Value]) -> bool
     ensures { result ≡ list_any is_table (map view values.now) }
 {
@@ -154,6 +159,7 @@ fn has_table(values: &[Value]) -> bool
     false
 }
 
+// Whether a value is a table.
 fn is_table(value: &Value) -> bool
     ensures { result ≡ is_table (view value.now) }
 {

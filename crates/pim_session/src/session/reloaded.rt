@@ -3,12 +3,12 @@ ghost use Rattle.std.specs.Prelude.{◌≡◌, ◌↔◌, [], Err, IfErr, IfOk, 
 ghost use Rattle.pim_event.specs.Replacing.{NoneReplaced};
 ghost use Rattle.pim_ip.specs.declared.fault.Fault.{Fault};
 ghost use Rattle.pim_model.specs.Limits.{config_test};
-ghost use Rattle.pim_reloaded.specs.Reloading.{reload};
+ghost use Rattle.law_reloaded.specs.Reloading.{reload};
 ghost use Rattle.pim_reloader.specs.Listing.{ListsFacts};
 ghost use Rattle.pim_router.specs.Standing.{beginning, nothing_shown};
 ghost use Rattle.pim_session.specs.Front.{emissions_left};
 ghost use Rattle.pim_session.specs.Reloaded.{front_reloaded};
-ghost use Rattle.pim_world.specs.declared.touched.Touched.{Touched as TouchedValue};
+ghost use Rattle.pim_state.specs.declared.touched.Touched.{Touched as TouchedValue};
 
 use super::Session;
 use crate::front::Front;

@@ -1,6 +1,6 @@
-use Rattle.std.proofs.Common.{◌≡◌, map}
-use Rattle.igmp_wire.specs.Values.{Record}
-use Rattle.igmp_older.specs.Presence.{doubted}
+use Rattle.std.{proofs.Common.{◌≡◌, map}}
+use Rattle.igmp_wire.{specs.Values.Record}
+use Rattle.igmp_older.{specs.Presence.doubted}
 use Rattle.igmp_older.proofs.front.doubt_records.Given as goal
 
 abbrev pub invariant-loop-record : goal.invariant-loop-record

@@ -1,5 +1,5 @@
-use Rattle.std.proofs.Common.{subst, sym, arith}
-use Rattle.igmp_older.specs.Quiet.{AreQuiet}
+use Rattle.std.{proofs.Common.{subst, sym, arith}}
+use Rattle.igmp_older.{specs.Quiet.AreQuiet}
 use Rattle.igmp_older.proofs.presence.first_look.Goals as goal
 
 pub loop-key-preserved : goal.loop-key-preserved

@@ -1,5 +1,5 @@
-use Rattle.std.proofs.Common.{◌≡◌, ◌/◌, ◌%◌, arith}
-use Rattle.igmp_wire.proofs.CodeLaws.{code_value-low, code_value-shifted, code_value-rises, code_value-within}
+use Rattle.std.{proofs.Common.{◌≡◌, ◌/◌, ◌%◌, arith}}
+use Rattle.igmp_wire.{proofs.CodeLaws.{code_value-low, code_value-shifted, code_value-rises, code_value-within}}
 use Rattle.igmp_wire.proofs.code.code_value.Goals as goal
 
 pub returns-then-code-lt128 : goal.returns-then-code-lt128

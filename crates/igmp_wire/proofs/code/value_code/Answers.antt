@@ -1,6 +1,5 @@
-use Rattle.std.proofs.Common.{◌-◌, arith}
-use Rattle.std.specs.Int.Count.{count_leading_zeros}
-use Rattle.igmp_wire.proofs.CodeLaws.{IsScaled, greatest_low, greatest_high, scaled, greatest_scaled}
+use Rattle.std.{proofs.Common.{◌-◌, arith}, specs.Int.Count.count_leading_zeros}
+use Rattle.igmp_wire.{proofs.CodeLaws.{IsScaled, greatest_low, greatest_high, scaled, greatest_scaled}}
 use Rattle.igmp_wire.proofs.code.value_code.Goals as goal
 
 pub returns-then-value-lt128 : goal.returns-then-value-lt128

@@ -1,5 +1,5 @@
-use Rattle.std.proofs.Common.{sym, ◌∙◌, arith, rules}
-use Rattle.igmp_wire.proofs.ReadingLaws.{message_refused_as_query, message_refused_as_report}
+use Rattle.std.{proofs.Common.{sym, ◌∙◌, arith, rules}}
+use Rattle.igmp_wire.{proofs.ReadingLaws.{message_refused_as_query, message_refused_as_report}}
 use Rattle.igmp_wire.proofs.read.read_igmp.Goals as goal
 
 pub returns-in_err-read-in-17 : goal.returns-in_err-read-in-17

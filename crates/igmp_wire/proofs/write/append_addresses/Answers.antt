@@ -1,6 +1,5 @@
-use Rattle.std.proofs.Common.{◌<◌, ◌^◌, get_or, arith}
-use Rattle.std.proofs.lemmas.Grind.{common_steps}
-use Rattle.igmp_wire.proofs.WritingLaws.{All_more}
+use Rattle.std.{proofs.{Common.{◌<◌, ◌^◌, get_or, arith}, lemmas.Grind.common_steps}}
+use Rattle.igmp_wire.{proofs.WritingLaws.All_more}
 use Rattle.igmp_wire.proofs.write.append_addresses.Goals as goal
 
 pub loop-address-preserved : goal.loop-address-preserved

@@ -1,6 +1,6 @@
-use Rattle.std.proofs.Common.{◌≡◌, ◌<◌, ◌^◌, ◌++◌, take, flat_map, All}
-use Rattle.byteorder.specs.Endian.{big_bytes}
-use Rattle.igmp_wire.specs.Written.{bits_of}
+use Rattle.std.{proofs.Common.{◌≡◌, ◌<◌, ◌^◌, ◌++◌, take, flat_map, All}}
+use Rattle.byteorder.{specs.Endian.big_bytes}
+use Rattle.igmp_wire.{specs.Written.bits_of}
 use Rattle.igmp_wire.proofs.write.append_addresses.Given as goal
 
 -- the addresses so far stand behind what was there

@@ -1,8 +1,5 @@
-use Rattle.std.proofs.Common.{◌≡◌, ◌++◌, List, ℕ, length, ap, ◌∙◌}
-use Rattle.std.proofs.lemmas.List.{length-map}
-use Rattle.std.proofs.lemmas.Result.{on_ok_weaker, on_err_weaker}
-use Rattle.igmp_wire.specs.Written.{bits_of}
-use Rattle.igmp_wire.proofs.WritingLaws.{appended, begins_longer}
+use Rattle.std.{proofs.{Common.{◌≡◌, ◌++◌, List, ℕ, length, ap, ◌∙◌}, lemmas.{List.length-map, Result.{on_ok_weaker, on_err_weaker}}}}
+use Rattle.igmp_wire.{specs.Written.bits_of, proofs.WritingLaws.{appended, begins_longer}}
 use Rattle.igmp_wire.proofs.write.append_query.Goals as goal
 
 pub returns-clause-ok : goal.returns-clause-ok

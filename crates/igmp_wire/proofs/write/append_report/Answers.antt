@@ -1,7 +1,5 @@
-use Rattle.std.proofs.Common.{◌++◌, take, flat_map}
-use Rattle.igmp_wire.specs.Reports.{record_text}
-use Rattle.igmp_wire.specs.Written.{records_of}
-use Rattle.igmp_wire.proofs.WritingLaws.{appended, begins_longer, on_err_always}
+use Rattle.std.{proofs.Common.{◌++◌, take, flat_map}}
+use Rattle.igmp_wire.{specs.{Reports.record_text, Written.records_of}, proofs.WritingLaws.{appended, begins_longer, on_err_always}}
 use Rattle.igmp_wire.proofs.write.append_report.Goals as goal
 
 pub returns-in_err-append_record-clause-err : goal.returns-in_err-append_record-clause-err

@@ -1,6 +1,5 @@
-use Rattle.std.proofs.Common.{◌≡◌, ◌++◌, take, flat_map}
-use Rattle.igmp_wire.specs.Reports.{record_text}
-use Rattle.igmp_wire.specs.Written.{records_of}
+use Rattle.std.{proofs.Common.{◌≡◌, ◌++◌, take, flat_map}}
+use Rattle.igmp_wire.{specs.{Reports.record_text, Written.records_of}}
 use Rattle.igmp_wire.proofs.write.append_report.Given as goal
 
 abbrev pub invariant-loop-group_record : goal.invariant-loop-group_record

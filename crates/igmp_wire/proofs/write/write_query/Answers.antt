@@ -1,10 +1,5 @@
-use Rattle.std.proofs.Common.{arith, rules}
-use Rattle.std.proofs.lemmas.List.{length-map}
-use Rattle.std.proofs.lemmas.Result.{on_ok_weaker}
-use Rattle.igmp_wire.specs.Queries.{query_text}
-use Rattle.igmp_wire.specs.Written.{query_with, unsummed_query}
-use Rattle.igmp_wire.proofs.RoundTrip.{query_reads}
-use Rattle.igmp_wire.proofs.WritingLaws.{finished}
+use Rattle.std.{proofs.{Common.{arith, rules}, lemmas.{List.length-map, Result.on_ok_weaker}}}
+use Rattle.igmp_wire.{specs.{Queries.query_text, Written.{query_with, unsummed_query}}, proofs.{RoundTrip.query_reads, WritingLaws.finished}}
 use Rattle.igmp_wire.proofs.write.write_query.Goals as goal
 
 pub returns-clause-ok : goal.returns-clause-ok

@@ -1,9 +1,5 @@
-use Rattle.std.proofs.Common.{arith, rules}
-use Rattle.std.proofs.lemmas.List.{length-map}
-use Rattle.igmp_wire.specs.Reports.{report_text}
-use Rattle.igmp_wire.specs.Written.{record_to_write, records_of, unsummed_report}
-use Rattle.igmp_wire.proofs.RoundTrip.{report_reads, source_counts}
-use Rattle.igmp_wire.proofs.WritingLaws.{finished}
+use Rattle.std.{proofs.{Common.{arith, rules}, lemmas.List.length-map}}
+use Rattle.igmp_wire.{specs.{Reports.report_text, Written.{record_to_write, records_of, unsummed_report}}, proofs.{RoundTrip.{report_reads, source_counts}, WritingLaws.finished}}
 use Rattle.igmp_wire.proofs.write.write_report.Goals as goal
 
 pub returns-clause-ok : goal.returns-clause-ok

@@ -1,11 +1,8 @@
-use Rattle.std.proofs.Common.{List, ap, subst, ◌≡◌, ◌∙◌}
-use Rattle.std.specs.Prelude.{OnOk}
-use Rattle.pim_world.specs.Turns.{saying}
-use Rattle.pim_model.specs.Messages.{Message}
-use Rattle.pim_model.specs.State.{State}
-use Rattle.pim_model.specs.Tables.{row_at}
-use Rattle.pim_store.specs.PimTables.{PimTables}
-use Rattle.pim_asserts.proofs.Receiving.{acts}
+use Rattle.std.{proofs.Common.{List, ap, subst, ◌≡◌, ◌∙◌}, specs.Prelude.OnOk}
+use Rattle.pim_state.{specs.Turns.saying}
+use Rattle.pim_model.{specs.{Messages.Message, State.State, Tables.row_at}}
+use Rattle.pim_store.{specs.PimTables.PimTables}
+use Rattle.pim_asserts.{proofs.Receiving.acts}
 use Rattle.pim_asserts.proofs.message.run_machine.Goals as goal
 
 pub returns-clause-state : goal.returns-clause-state

@@ -1,13 +1,7 @@
-use Rattle.std.proofs.Common.{List, ap, refl, subst, sym, ◌<◌, ◌∙◌}
-use Rattle.pim_model.specs.Clearing.{clearable_count}
-use Rattle.pim_model.specs.Messages.{Message}
-use Rattle.pim_model.specs.State.{State}
-use Rattle.pim_world.specs.Turns.{saying}
-use Rattle.pim_asserts.specs.Going.{clear_once, source_bits}
-use Rattle.pim_asserts.specs.Opened.{clear_part}
-use Rattle.pim_asserts.proofs.Fuel.{cleared_by_turn, in_turn, no_turn, nothing_once, turn_is_fewer}
-use Rattle.pim_world.proofs.Said.{said_nothing}
-use Rattle.pim_asserts.proofs.Progress.{stands_last, stands_next}
+use Rattle.std.{proofs.Common.{List, ap, refl, subst, sym, ◌<◌, ◌∙◌}}
+use Rattle.pim_model.{specs.{Clearing.clearable_count, Messages.Message, State.State}}
+use Rattle.pim_state.{specs.Turns.saying, proofs.Said.said_nothing}
+use Rattle.pim_asserts.{specs.{Going.{clear_once, source_bits}, Opened.clear_part}, proofs.{Fuel.{cleared_by_turn, in_turn, no_turn, nothing_once, turn_is_fewer}, Progress.{stands_last, stands_next}}}
 use Rattle.pim_asserts.proofs.part.clear_part.Goals as goal
 
 pub loop-init : goal.loop-init

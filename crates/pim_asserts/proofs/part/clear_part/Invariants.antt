@@ -1,7 +1,5 @@
-use Rattle.pim_model.specs.Clearing.{clearable_count}
-use Rattle.pim_asserts.specs.Going.{source_bits}
-use Rattle.pim_asserts.specs.Opened.{clear_part}
-use Rattle.pim_asserts.proofs.Progress.{Stands}
+use Rattle.pim_model.{specs.Clearing.clearable_count}
+use Rattle.pim_asserts.{specs.{Going.source_bits, Opened.clear_part}, proofs.Progress.Stands}
 use Rattle.pim_asserts.proofs.part.clear_part.Given as goal
 
 abbrev pub invariant-loop : goal.invariant-loop

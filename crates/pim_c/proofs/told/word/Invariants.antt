@@ -1,6 +1,6 @@
 -- The bits of those that were looked at so far.
-use Rattle.std.proofs.Common.{◌≡◌, ◌+◌}
-use Rattle.pim_ifset.specs.Members.{has, mask_of}
+use Rattle.std.{proofs.Common.{◌≡◌, ◌+◌}}
+use Rattle.pim_ifset.{specs.Members.{has, mask_of}}
 use Rattle.pim_c.proofs.told.word.Given as goal
 
 abbrev pub invariant-loop-at : goal.invariant-loop-at

@@ -1,5 +1,5 @@
-use Rattle.std.proofs.Common.{refl}
-use Rattle.pim_ifset.specs.Members.{has}
+use Rattle.std.{proofs.Common.refl}
+use Rattle.pim_ifset.{specs.Members.has}
 use Rattle.pim_c.proofs.trees.bits.Goals as goal
 
 pub returns : goal.returns

@@ -1,6 +1,6 @@
-use Rattle.std.proofs.Common.{ap, arith, length, nat_lt, sym, ◌&&◌, ◌≡◌, ◌∙◌}
-use Rattle.pim_model.specs.State.{InterfaceTable, iface_count}
-use Rattle.pim_data.proofs.Few.{all_copied, copies_few}
+use Rattle.std.{proofs.Common.{ap, arith, length, nat_lt, sym, ◌&&◌, ◌≡◌, ◌∙◌}}
+use Rattle.pim_model.{specs.State.{InterfaceTable, iface_count}}
+use Rattle.pim_data.{proofs.Few.{all_copied, copies_few}}
 use Rattle.pim_data.proofs.leaving.copies.Goals as goal
 
 pub returns-clause-copies : goal.returns-clause-copies

@@ -1,5 +1,5 @@
-use Rattle.std.proofs.Common.{sym, ◌∙◌}
-use Rattle.pim_data.proofs.Lists.{on_shared_tree, on_source_tree}
+use Rattle.std.{proofs.Common.{sym, ◌∙◌}}
+use Rattle.pim_data.{proofs.Lists.{on_shared_tree, on_source_tree}}
 use Rattle.pim_data.proofs.list.choose_list.Goals as goal
 
 pub returns-then-sight-clause-list : goal.returns-then-sight-clause-list

@@ -1,7 +1,7 @@
-use Rattle.std.proofs.Common.{◌≡◌, ℕ, ◌<◌, true, false, lt-ltb, refl, sym, ◌∙◌}
-use Rattle.pim_ifset.specs.Members.{Members, has}
-use Rattle.pim_model.specs.Sets.{Set, spt_bit}
-use Rattle.pim_world.specs.Shown.{Shows}
+use Rattle.std.{proofs.Common.{◌≡◌, ℕ, ◌<◌, true, false, lt-ltb, refl, sym, ◌∙◌}}
+use Rattle.pim_ifset.{specs.Members.{Members, has}}
+use Rattle.pim_model.{specs.Sets.{Set, spt_bit}}
+use Rattle.pim_state.{specs.Shown.Shows}
 use Rattle.pim_data.proofs.list.is_on_list.Goals as goal
 
 shown_below : (set : Members) (test : Set) (i : ℕ) → Shows set test → i < 120 → has set i ≡ test i

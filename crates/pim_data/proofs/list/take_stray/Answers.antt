@@ -1,6 +1,6 @@
-use Rattle.std.proofs.Common.{refl, sym}
-use Rattle.pim_world.proofs.Said.{said_nothing}
-use Rattle.pim_data.proofs.Lists.{stray_is}
+use Rattle.std.{proofs.Common.{refl, sym}}
+use Rattle.pim_state.{proofs.Said.said_nothing}
+use Rattle.pim_data.{proofs.Lists.stray_is}
 use Rattle.pim_data.proofs.list.take_stray.Goals as goal
 
 pub returns-then-not-is_on_list-clause-state : goal.returns-then-not-is_on_list-clause-state

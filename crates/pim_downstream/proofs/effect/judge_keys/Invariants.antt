@@ -1,6 +1,6 @@
-use Rattle.std.proofs.Common.{◌≡◌, ◌++◌, filter, map, not, take}
-use Rattle.pim_locality.specs.JoinPrunes.{moves_end}
-use Rattle.pim_downstream.specs.Naming.{change_after}
+use Rattle.std.{proofs.Common.{◌≡◌, ◌++◌, filter, map, not, take}}
+use Rattle.law_scope.{specs.JoinPrunes.moves_end}
+use Rattle.pim_downstream.{specs.Naming.change_after}
 use Rattle.pim_downstream.proofs.effect.judge_keys.Given as goal
 
 abbrev pub invariant-loop-key : goal.invariant-loop-key

@@ -1,4 +1,4 @@
-use Rattle.pim_downstream.proofs.Judged.{never_full}
+use Rattle.pim_downstream.{proofs.Judged.never_full}
 use Rattle.pim_downstream.proofs.full.is_full.Goals as goal
 
 pub returns-then-not-may_be_full : goal.returns-then-not-may_be_full

@@ -1,5 +1,5 @@
-use Rattle.std.proofs.Common.{◌≡◌, ◌++◌, filter, take}
-use Rattle.pim_model.specs.Tables.{same_bool}
+use Rattle.std.{proofs.Common.{◌≡◌, ◌++◌, filter, take}}
+use Rattle.pim_model.{specs.Tables.same_bool}
 use Rattle.pim_downstream.proofs.full.push_where.Given as goal
 
 abbrev pub invariant-loop-key : goal.invariant-loop-key

@@ -1,8 +1,7 @@
-use Rattle.std.proofs.Common.{ap, refl, ◌∙◌}
-use Rattle.std.proofs.lemmas.List.{take_all}
-use Rattle.pim_types.specs.Keys.{addr_cmp, key_cmp}
-use Rattle.pim_model.specs.Downstream.{is_named}
-use Rattle.pim_downstream.proofs.NamedSets.{next_named}
+use Rattle.std.{proofs.{Common.{ap, refl, ◌∙◌}, lemmas.List.take_all}}
+use Rattle.pim_types.{specs.Keys.{addr_cmp, key_cmp}}
+use Rattle.pim_model.{specs.Downstream.is_named}
+use Rattle.pim_downstream.{proofs.NamedSets.next_named}
 use Rattle.pim_downstream.proofs.indexed.set_of.Goals as goal
 
 pub loop-key-init : goal.loop-key-init

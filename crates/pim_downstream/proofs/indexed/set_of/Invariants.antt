@@ -1,6 +1,6 @@
-use Rattle.std.proofs.Common.{◌≡◌, take}
-use Rattle.pim_types.specs.declared.fact.Key.{Key}
-use Rattle.pim_model.specs.Downstream.{is_named}
+use Rattle.std.{proofs.Common.{◌≡◌, take}}
+use Rattle.pim_types.{specs.declared.fact.Key.Key}
+use Rattle.pim_model.{specs.Downstream.is_named}
 use Rattle.pim_downstream.proofs.indexed.set_of.Given as goal
 
 abbrev pub invariant-loop-key : goal.invariant-loop-key

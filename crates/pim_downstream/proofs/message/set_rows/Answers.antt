@@ -1,10 +1,8 @@
-use Rattle.std.proofs.Common.{◌+◌, None, ap, drop, fold, sym, ◌∙◌}
-use Rattle.std.proofs.lemmas.List.{drop_more}
-use Rattle.pim_types.specs.Keys.{star_key}
-use Rattle.pim_model.specs.State.{State}
-use Rattle.pim_world.specs.Lending.{with_store}
-use Rattle.pim_downstream.specs.Naming.{row_set}
-use Rattle.pim_downstream.specs.declared.effect.Change.{Change}
+use Rattle.std.{proofs.{Common.{◌+◌, None, ap, drop, fold, sym, ◌∙◌}, lemmas.List.drop_more}}
+use Rattle.pim_types.{specs.Keys.star_key}
+use Rattle.pim_model.{specs.State.State}
+use Rattle.pim_state.{specs.Lending.with_store}
+use Rattle.pim_downstream.{specs.{Naming.row_set, declared.effect.Change.Change}}
 use Rattle.pim_downstream.proofs.message.set_rows.Goals as goal
 
 pub loop-change-preserved : goal.loop-change-preserved

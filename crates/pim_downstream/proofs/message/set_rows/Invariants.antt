@@ -1,5 +1,5 @@
-use Rattle.std.proofs.Common.{◌≡◌, drop, fold}
-use Rattle.pim_downstream.specs.Naming.{row_set}
+use Rattle.std.{proofs.Common.{◌≡◌, drop, fold}}
+use Rattle.pim_downstream.{specs.Naming.row_set}
 use Rattle.pim_downstream.proofs.message.set_rows.Given as goal
 
 abbrev pub invariant-loop-change : goal.invariant-loop-change

@@ -1,12 +1,9 @@
-use Rattle.std.proofs.Common.{List, Some, ap, filter, not, ◌&&◌, ◌∙◌}
-use Rattle.pim_types.specs.declared.fact.Key.{Key}
-use Rattle.pim_model.specs.Downstream.{asserts_after_joins, is_named, row_after}
-use Rattle.pim_model.specs.Sets.{is_loser}
-use Rattle.pim_model.specs.State.{State}
-use Rattle.pim_store.specs.PimTables.{PimTables}
-use Rattle.pim_world.proofs.Lent.{stored}
-use Rattle.pim_downstream.proofs.OnInterface.{changes_on, touched_on}
-use Rattle.pim_downstream.proofs.Rows.{taken}
+use Rattle.std.{proofs.Common.{List, Some, ap, filter, not, ◌&&◌, ◌∙◌}}
+use Rattle.pim_types.{specs.declared.fact.Key.Key}
+use Rattle.pim_model.{specs.{Downstream.{asserts_after_joins, is_named, row_after}, Sets.is_loser, State.State}}
+use Rattle.pim_store.{specs.PimTables.PimTables}
+use Rattle.pim_state.{proofs.Lent.stored}
+use Rattle.pim_downstream.{proofs.{OnInterface.{changes_on, touched_on}, Rows.taken}}
 use Rattle.pim_downstream.proofs.message.take_changes.Goals as goal
 
 pub returns : goal.returns

@@ -1,6 +1,5 @@
-use Rattle.std.proofs.Common.{sym, ◌∙◌}
-use Rattle.pim_downstream.specs.Naming.{is_counted}
-use Rattle.pim_downstream.proofs.GroupKeys.{entries_made, entry_passed, entry_pushed}
+use Rattle.std.{proofs.Common.{sym, ◌∙◌}}
+use Rattle.pim_downstream.{specs.Naming.is_counted, proofs.GroupKeys.{entries_made, entry_passed, entry_pushed}}
 use Rattle.pim_downstream.proofs.named.push_joined.Goals as goal
 
 pub loop-join-preserved-in-Continue-1 : goal.loop-join-preserved-in-Continue-1

@@ -1,5 +1,5 @@
-use Rattle.std.proofs.Common.{◌≡◌, ◌++◌}
-use Rattle.pim_downstream.specs.Naming.{entry_keys, is_counted}
+use Rattle.std.{proofs.Common.{◌≡◌, ◌++◌}}
+use Rattle.pim_downstream.{specs.Naming.{entry_keys, is_counted}}
 use Rattle.pim_downstream.proofs.named.push_joined.Given as goal
 
 abbrev pub invariant-loop-join : goal.invariant-loop-join

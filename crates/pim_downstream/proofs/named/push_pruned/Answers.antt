@@ -1,6 +1,6 @@
-use Rattle.std.proofs.Common.{sym, ◌∙◌}
-use Rattle.pim_model.specs.Downstream.{is_used}
-use Rattle.pim_downstream.proofs.GroupKeys.{entries_made, entry_passed, entry_pushed}
+use Rattle.std.{proofs.Common.{sym, ◌∙◌}}
+use Rattle.pim_model.{specs.Downstream.is_used}
+use Rattle.pim_downstream.{proofs.GroupKeys.{entries_made, entry_passed, entry_pushed}}
 use Rattle.pim_downstream.proofs.named.push_pruned.Goals as goal
 
 pub loop-prune-preserved-in-Continue-1 : goal.loop-prune-preserved-in-Continue-1

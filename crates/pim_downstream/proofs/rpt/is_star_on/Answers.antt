@@ -1,6 +1,5 @@
-use Rattle.std.proofs.Common.{ap, ◌∙◌}
-use Rattle.std.specs.Ordering.{is_eq}
-use Rattle.pim_types.specs.Keys.{addr_cmp, key_cmp}
+use Rattle.std.{proofs.Common.{ap, ◌∙◌}, specs.Ordering.is_eq}
+use Rattle.pim_types.{specs.Keys.{addr_cmp, key_cmp}}
 use Rattle.pim_downstream.proofs.rpt.is_star_on.Goals as goal
 
 pub returns : goal.returns

@@ -1,8 +1,7 @@
-use Rattle.std.proofs.Common.{◌+◌, take, refl, sym, subst}
-use Rattle.pim_types.specs.Keys.{addr_cmp}
-use Rattle.pim_downstream.proofs.RptGroups.{AreGroups, all_groups, another_group, no_groups, no_other_group}
+use Rattle.std.{proofs.Common.{◌+◌, take, refl, sym, subst}}
+use Rattle.pim_types.{specs.Keys.addr_cmp}
+use Rattle.pim_downstream.{proofs.{RptGroups.{AreGroups, all_groups, another_group, no_groups, no_other_group}, rpt.joined_groups.Goals.{then-is_star_on+in_ok-insert, else-is_star_on}}}
 use Rattle.pim_downstream.proofs.rpt.joined_groups.Goals as goal
-use Rattle.pim_downstream.proofs.rpt.joined_groups.Goals.{then-is_star_on+in_ok-insert, else-is_star_on}
 
 pub loop-key-init : goal.loop-key-init
 unfolding addr_cmp

@@ -1,5 +1,5 @@
-use Rattle.std.proofs.Common.{take}
-use Rattle.pim_downstream.proofs.RptGroups.{AreGroups}
+use Rattle.std.{proofs.Common.take}
+use Rattle.pim_downstream.{proofs.RptGroups.AreGroups}
 use Rattle.pim_downstream.proofs.rpt.joined_groups.Given as goal
 
 abbrev pub invariant-loop-key : goal.invariant-loop-key

@@ -1,11 +1,9 @@
-use Rattle.std.proofs.Common.{OnOk, subst, sym, true, ◌≡◌, ◌∙◌}
-use Rattle.pim_downstream.proofs.OnInterface.{joined_on, pruned_on}
-use Rattle.pim_downstream.specs.Naming.{are_on}
-use Rattle.pim_model.specs.Step.{change}
-use Rattle.pim_event.specs.Acting.{control_event}
-use Rattle.pim_event.specs.Replacing.{replaced_after}
-use Rattle.pim_event.specs.declared.act.Control.{Control}
-use Rattle.pim_event.proofs.Acts.{seen_heard, to_me_changes, to_me_heard}
+use Rattle.std.{proofs.Common.{OnOk, subst, sym, true, ◌≡◌, ◌∙◌}}
+use Rattle.pim_downstream.{proofs.OnInterface.{joined_on, pruned_on}, specs.Naming.are_on}
+use Rattle.pim_mrib.{specs.Routes.RouteTable}
+use Rattle.pim_model.{specs.Step.{change, rps_replaced}}
+use Rattle.pim_plan.{specs.{Acting.control_event, declared.act.Control.Control}}
+use Rattle.pim_event.{specs.Replacing.replaced_after, proofs.Acts.{seen_heard, to_me_changes, to_me_heard}}
 use Rattle.pim_event.proofs.change.apply_control.Goals as goal
 
 pub take_changes-requires-clause-joined : goal.take_changes-requires-clause-joined
@@ -39,14 +37,18 @@ unfolding change
 returns-in-Routes-clause-state c =
     subst (λ (x : Control). c.take_routes.new.world
     ≡ (change c.args.world.now c.args.turn.now.draw (control_event x)).state)
-    (sym c.in-Routes.is) c.take_routes.ensures.state
+    (sym c.in-Routes.is)
+    (subst (λ (t : RouteTable). c.take_routes.new.world ≡ record c.args.world.now { routes = t.routes }) c.into_inner.ensures
+    c.take_routes.ensures.state)
 
 pub returns-in-Ranges-clause-state : goal.returns-in-Ranges-clause-state
 unfolding change
 returns-in-Ranges-clause-state c =
     subst (λ (x : Control). OnOk c.take_ranges.result (c.take_ranges.new.world
     ≡ (change c.args.world.now c.args.turn.now.draw (control_event x)).state))
-    (sym c.in-Ranges.is) c.take_ranges.ensures.state
+    (sym c.in-Ranges.is)
+    (subst (λ (t : RouteTable). OnOk c.take_ranges.result (c.take_ranges.new.world
+    ≡ rps_replaced c.args.world.now t.ranges)) c.into_inner-in-Ranges.ensures c.take_ranges.ensures.state)
 
 pub returns-in-Routes-clause-replaced : goal.returns-in-Routes-clause-replaced
 returns-in-Routes-clause-replaced c =

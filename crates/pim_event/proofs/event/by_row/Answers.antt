@@ -1,4 +1,4 @@
-use Rattle.pim_event.proofs.Costs.{row_lent, visited_within}
+use Rattle.pim_event.{proofs.Costs.{row_lent, visited_within}}
 use Rattle.pim_event.proofs.event.by_row.Goals as goal
 
 pub returns-clause-visited : goal.returns-clause-visited

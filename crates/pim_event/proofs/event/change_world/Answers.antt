@@ -1,11 +1,11 @@
-use Rattle.std.proofs.Common.{List, ap, arith, ◌++◌, ◌∙◌, refl}
-use Rattle.pim_types.specs.declared.outcome.Emission.{Emission}
-use Rattle.pim_model.specs.Step.{Answered, change, outcome_of}
-use Rattle.pim_event.specs.Acting.{act_event}
-use Rattle.pim_event.proofs.Acts.{timeless}
-use Rattle.pim_event.proofs.Rows.{names_opened}
-use Rattle.pim_event.proofs.Taking.{changed_in_turn, outcome_told, taken_in_turn}
-use Rattle.pim_event.specs.Settling.{settled_by}
+use Rattle.std.{proofs.Common.{List, Option, ap, arith, ◌++◌, ◌∙◌, refl, subst, sym}, specs.Prelude.IfSome}
+use Rattle.pim_types.{specs.declared.outcome.Emission.Emission}
+use Rattle.pim_model.{specs.Step.{Answered, change, outcome_of}}
+use Rattle.pim_macros.{specs.{Sights.IsSourceSight, declared.sight.SourceSight.SourceSight}}
+use Rattle.pim_state.{specs.declared.touched.Touched.Touched}
+use Rattle.pim_fanout.{specs.Named.keys_of}
+use Rattle.pim_plan.{specs.{Acting.act_event, Planning.Fits, declared.plan.Plan.Plan}}
+use Rattle.pim_event.{specs.Settling.settled_by, proofs.{Acts.timeless, Quietly.named_quietly, Rows.names_opened, Taking.{changed_in_turn, outcome_told, taken_in_turn}}}
 use Rattle.pim_event.proofs.event.change_world.Goals as goal
 
 pub returns-clause-outcome : goal.returns-clause-outcome
@@ -22,7 +22,7 @@ returns-clause-outcome c =
     ∙ ap (λ (x : Answered). outcome_of x)
     (taken_in_turn c.args.world.now c.apply.new.world (act_event c.args.act) c.args.touched.now
     c.in_ok-gathered.gathered.opening c.in_ok-copies.field-0 c.args.turn.now c.args.turn.now c.apply.new.turn
-    c.requires.rest.quiet c.recall_keyed.ensures (timeless c.args.act) c.requires.plan.covers
+    c.requires.rest.quiet c.proof_keyed.ensures (timeless c.args.act) c.requires.plan.covers
     c.in_ok-gathered.ensures.opening c.requires.begun
     refl c.in_ok-copies.ensures.sends)
 
@@ -32,7 +32,7 @@ returns-clause-state c =
     ∙ ap (λ (x : Answered). x.state)
     (taken_in_turn c.args.world.now c.apply.new.world (act_event c.args.act) c.args.touched.now
     c.in_ok-gathered.gathered.opening c.in_ok-copies.field-0 c.args.turn.now c.args.turn.now c.apply.new.turn
-    c.requires.rest.quiet c.recall_keyed.ensures (timeless c.args.act) c.requires.plan.covers
+    c.requires.rest.quiet c.proof_keyed.ensures (timeless c.args.act) c.requires.plan.covers
     c.in_ok-gathered.ensures.opening c.requires.begun
     refl c.in_ok-copies.ensures.sends)
 
@@ -40,7 +40,7 @@ pub returns-clause-names : goal.returns-clause-names
 returns-clause-names c =
     names_opened c.args.world.now (change c.args.world.now c.args.turn.now.draw (act_event c.args.act)).state
     c.apply.new.world c.args.touched.now c.in_ok-gathered.gathered.opening c.in_ok-gathered.gathered.before _ c.requires.rest.quiet
-    c.recall_keyed.ensures (c.requires.plan.covers c.args.turn.now.draw)
+    c.proof_keyed.ensures (c.requires.plan.covers c.args.turn.now.draw)
     (changed_in_turn c.args.world.now c.apply.new.world (act_event c.args.act) c.in_ok-copies.field-0 c.args.turn.now
     c.args.turn.now c.apply.new.turn
     refl c.in_ok-copies.ensures.sends)
@@ -48,3 +48,18 @@ returns-clause-names c =
 
 pub of-requires : goal.of-requires
 of-requires c = c.planned_sight-given.ensures c.args.world.now c.requires.plan.read
+
+pub change_quietly-requires-clause-plan : goal.change_quietly-requires-clause-plan
+change_quietly-requires-clause-plan c =
+    subst (λ (t : Touched). let p : Plan = record { touched = t; act = c.args.act } in
+    Fits c.args.world.now (act_event c.args.act) p) (c.is_nothing.ensures c.if-is_nothing.true) c.requires.plan
+
+pub returns-then-is_nothing-clause-names : goal.returns-then-is_nothing-clause-names
+returns-then-is_nothing-clause-names c =
+    named_quietly c.args.world.now (change c.args.world.now c.args.turn.now.draw (act_event c.args.act)).state
+    c.args.touched.now _ (c.is_nothing.ensures c.if-is_nothing.true) (c.requires.plan.covers c.args.turn.now.draw)
+    (ap keys_of c.new-names.ensures)
+
+pub returns-then-is_nothing-clause-last : goal.returns-then-is_nothing-clause-last
+returns-then-is_nothing-clause-last c =
+    subst (λ (o : Option SourceSight). IfSome o (IsSourceSight c.change_quietly.new.world)) (sym c.requires.none) tt

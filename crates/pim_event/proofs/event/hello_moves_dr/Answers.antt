@@ -1,8 +1,8 @@
-use Rattle.std.proofs.Common.{ap, not, sym, ◌∙◌}
-use Rattle.pim_types.specs.declared.fact.NeighbourRow.{NeighbourRow}
-use Rattle.pim_model.specs.Tables.{Table}
-use Rattle.pim_neighbours.specs.Refreshed.{is_refreshed}
-use Rattle.pim_event.proofs.Lasting.{refreshed_keeps_dr}
+use Rattle.std.{proofs.Common.{ap, not, sym, ◌∙◌}}
+use Rattle.pim_types.{specs.declared.fact.NeighbourRow.NeighbourRow}
+use Rattle.pim_model.{specs.Tables.Table}
+use Rattle.pim_neighbours.{specs.Refreshed.is_refreshed}
+use Rattle.pim_event.{proofs.Lasting.refreshed_keeps_dr}
 use Rattle.pim_event.proofs.event.hello_moves_dr.Goals as goal
 
 pub returns-then-is_refreshed : goal.returns-then-is_refreshed

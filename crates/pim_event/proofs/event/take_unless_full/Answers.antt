@@ -1,111 +1,107 @@
-use Rattle.std.proofs.Common.{◌≡◌, true, List, IfOk, OnOk, ap, arith, subst, sym, ◌∙◌}
-use Rattle.pim_types.specs.declared.fact.Key.{Key}
-use Rattle.pim_model.specs.declared.accepted.Accepted.{Accepted}
-use Rattle.pim_reach.specs.Named.{named_of}
-use Rattle.pim_event.proofs.Rows.{named_in_time, named_with_room}
-use Rattle.pim_model.specs.Full.{is_full}
-use Rattle.pim_model.specs.Step.{Answered, outcome_of, taken, taken_unless_full}
-use Rattle.pim_event.specs.Acting.{act_event}
-use Rattle.pim_event.specs.Caching.{CacheFollows}
-use Rattle.pim_world.specs.declared.touched.Touched.{Touched}
-use Rattle.pim_fanout.specs.Disturbed.{joined}
-use Rattle.pim_event.specs.Disturbing.{disturbed_of}
-use Rattle.pim_event.proofs.Disturbing.{disturbed_in_room, disturbed_in_time, undisturbed_when_full}
-use Rattle.pim_event.proofs.Listing.{named_without_room, nothing_more, once_alone}
-use Rattle.pim_event.specs.Naming.{IsConfigured}
-use Rattle.pim_event.specs.Planning.{Fits, IsPlanned}
-use Rattle.pim_event.specs.Replacing.{replaced_after}
-use Rattle.pim_event.specs.declared.plan.Planning.{Planning}
-use Rattle.pim_event.proofs.Instants.{on_ok}
-use Rattle.pim_event.proofs.Replacing.{full_replaces_none}
-use Rattle.pim_event.proofs.Plans.{time_is_taken, with_room, without_room}
+use Rattle.std.{proofs.Common.{◌≡◌, true, List, IfOk, OnOk, ap, arith, subst, sym, ◌∙◌}}
+use Rattle.pim_types.{specs.declared.fact.Key.Key}
+use Rattle.pim_model.{specs.{declared.accepted.Accepted.Accepted, Full.is_full, Step.{Answered, outcome_of, taken, taken_unless_full}}}
+use Rattle.law_named.{specs.Named.named_of}
+use Rattle.pim_event.{proofs.{Rows.{named_in_time, named_with_room}, Taking.{time_is_taken, with_room, without_room}, Disturbing.{disturbed_in_room, disturbed_in_time, undisturbed_when_full}, Listing.{named_without_room, nothing_more, once_alone}, Replacing.full_replaces_none}, specs.{Caching.CacheFollows, Disturbing.disturbed_of, Replacing.replaced_after}}
+use Rattle.pim_plan.{specs.{Acting.act_event, Naming.IsConfigured, Planning.{Fits, IsPlanned}, declared.plan.Planning.Planning}}
+use Rattle.pim_state.{specs.declared.touched.Touched.Touched}
+use Rattle.pim_fanout.{specs.Disturbed.joined}
 use Rattle.pim_event.proofs.event.take_unless_full.Goals as goal
 
 pub advance-requires-clause-within : goal.advance-requires-clause-within
 advance-requires-clause-within c =
-    subst (λ (a : Accepted). IsConfigured c.args.world.now a)
-    (subst (λ (p : Planning). IsPlanned c.args.world.now c.args.accepted p) c.in-Time.is c.in_ok-planning.ensures)
-    c.requires.configured
+    subst (λ (a : Accepted). IsConfigured c.args.core.now.world a)
+    (subst (λ (p : Planning). IsPlanned c.args.core.now.world c.args.accepted p) c.in-Time.is c.in_ok-planning.ensures)
+    c.requires.begun.configured
+
+pub planned-requires-clause-configured : goal.planned-requires-clause-configured
+planned-requires-clause-configured c = c.requires.begun.configured
 
 pub returns-in-Time : goal.returns-in-Time
 returns-in-Time c =
     let is : c.args.accepted ≡ Accepted.Advance c.in-Time.moment =
-    subst (λ (p : Planning). IsPlanned c.args.world.now c.args.accepted p) c.in-Time.is c.in_ok-planning.ensures in
-    let same = time_is_taken c.args.world.now c.args.turn.now.draw c.args.accepted c.in-Time.moment is in
-    let named = named_in_time c.args.world.now c.args.turn.now.draw c.args.accepted c.in-Time.moment is in
+    subst (λ (p : Planning). IsPlanned c.args.core.now.world c.args.accepted p) c.in-Time.is c.in_ok-planning.ensures in
+    let same = time_is_taken c.args.core.now.world c.args.turn.now.draw c.args.accepted c.in-Time.moment is in
+    let named = named_in_time c.args.core.now.world c.args.turn.now.draw c.args.accepted c.in-Time.moment is in
     record {
       outcome = subst (λ (x : Answered). IfOk c.advance.result (λ outcome. outcome ≡ outcome_of x)) same
           c.advance.ensures.outcome;
-      state = subst (λ (x : Answered). OnOk c.advance.result (c.advance.new.world ≡ x.state)) same
+      state = subst (λ (x : Answered). OnOk c.advance.result (c.advance.new.core.world ≡ x.state)) same
           c.advance.ensures.state;
-      cache = subst (λ (ks : List Key). OnOk c.advance.result (CacheFollows c.args.world.now c.advance.new.world ks
-          c.args.cache.now c.advance.new.cache)) named c.advance.ensures.cache;
-      disturbed = subst (λ (t : Touched). OnOk c.advance.result (c.advance.new.cache.disturbed ≡ joined c.args.cache.now.disturbed t))
-          (disturbed_in_time c.args.world.now c.args.turn.now.draw c.args.accepted c.in-Time.moment is)
+      cache = subst (λ (ks : List Key). OnOk c.advance.result (CacheFollows c.args.core.now.world c.advance.new.core.world ks
+          c.args.core.now.cache c.advance.new.core.cache)) named c.advance.ensures.cache;
+      disturbed = subst (λ (t : Touched). OnOk c.advance.result (c.advance.new.core.cache.disturbed ≡ joined c.args.core.now.cache.disturbed t))
+          (disturbed_in_time c.args.core.now.world c.args.turn.now.draw c.args.accepted c.in-Time.moment is)
           c.advance.ensures.disturbed;
       once = c.advance.ensures.once;
-      replaced = on_ok c.advance.result
-          (ap (λ (a : Accepted). replaced_after c.args.world.now a c.args.replaced.now) (sym is));
+      replaced = subst (λ (a : Accepted). OnOk c.advance.result (c.advance.new.core.replaced
+          ≡ replaced_after c.args.core.now.world a c.args.core.now.replaced)) (sym is) c.advance.ensures.replaced;
       fault = c.advance.ensures.fault;
     }
 
-pub take_change-requires-clause-configured : goal.take_change-requires-clause-configured
-take_change-requires-clause-configured c =
-    let fits : Fits c.args.world.now c.args.accepted c.in-Change.plan =
-    subst (λ (p : Planning). IsPlanned c.args.world.now c.args.accepted p) c.in-Change.is c.in_ok-planning.ensures in
-    subst (λ (a : Accepted). IsConfigured c.args.world.now a) (sym fits.event) c.requires.configured
+pub take_change-requires-clause-begun : goal.take_change-requires-clause-begun
+take_change-requires-clause-begun c =
+    let fits : Fits c.args.core.now.world c.args.accepted c.in-Change.plan =
+    subst (λ (p : Planning). IsPlanned c.args.core.now.world c.args.accepted p) c.in-Change.is c.in_ok-planning.ensures in
+    record {
+      rest = c.requires.begun.rest;
+      shown = c.requires.begun.shown;
+      begun = c.requires.begun.begun;
+      unlisted = c.requires.begun.unlisted;
+      configured = subst (λ (a : Accepted). IsConfigured c.args.core.now.world a) (sym fits.event) c.requires.begun.configured;
+    }
 
 pub take_change-requires-clause-plan : goal.take_change-requires-clause-plan
 take_change-requires-clause-plan c =
-    let fits : Fits c.args.world.now c.args.accepted c.in-Change.plan =
-    subst (λ (p : Planning). IsPlanned c.args.world.now c.args.accepted p) c.in-Change.is c.in_ok-planning.ensures in
-    subst (λ (a : Accepted). Fits c.args.world.now a c.in-Change.plan) (sym fits.event) fits
+    let fits : Fits c.args.core.now.world c.args.accepted c.in-Change.plan =
+    subst (λ (p : Planning). IsPlanned c.args.core.now.world c.args.accepted p) c.in-Change.is c.in_ok-planning.ensures in
+    subst (λ (a : Accepted). Fits c.args.core.now.world a c.in-Change.plan) (sym fits.event) fits
 
 pub returns-in-Change : goal.returns-in-Change
 returns-in-Change c =
-    let fits : Fits c.args.world.now c.args.accepted c.in-Change.plan =
-    subst (λ (p : Planning). IsPlanned c.args.world.now c.args.accepted p) c.in-Change.is c.in_ok-planning.ensures in
-    let same : taken c.args.world.now c.args.turn.now.draw (act_event c.in-Change.plan.act)
-    ≡ taken_unless_full c.args.world.now c.args.turn.now.draw c.args.accepted =
-    ap (λ (a : Accepted). taken c.args.world.now c.args.turn.now.draw a) fits.event
-    ∙ sym (with_room c.args.world.now c.args.turn.now.draw c.args.accepted fits.room) in
-    let named = ap (λ (a : Accepted). named_of c.args.world.now c.args.turn.now.draw a) fits.event
-    ∙ named_with_room c.args.world.now c.args.turn.now.draw c.args.accepted fits.room in
+    let fits : Fits c.args.core.now.world c.args.accepted c.in-Change.plan =
+    subst (λ (p : Planning). IsPlanned c.args.core.now.world c.args.accepted p) c.in-Change.is c.in_ok-planning.ensures in
+    let same : taken c.args.core.now.world c.args.turn.now.draw (act_event c.in-Change.plan.act)
+    ≡ taken_unless_full c.args.core.now.world c.args.turn.now.draw c.args.accepted =
+    ap (λ (a : Accepted). taken c.args.core.now.world c.args.turn.now.draw a) fits.event
+    ∙ sym (with_room c.args.core.now.world c.args.turn.now.draw c.args.accepted fits.room) in
+    let named = ap (λ (a : Accepted). named_of c.args.core.now.world c.args.turn.now.draw a) fits.event
+    ∙ named_with_room c.args.core.now.world c.args.turn.now.draw c.args.accepted fits.room in
     record {
       outcome = subst (λ (x : Answered). IfOk c.take_change.result (λ outcome. outcome ≡ outcome_of x)) same
-          c.take_change.ensures.outcome;
-      state = subst (λ (x : Answered). OnOk c.take_change.result (c.take_change.new.world ≡ x.state)) same
-          c.take_change.ensures.state;
-      cache = subst (λ (ks : List Key). OnOk c.take_change.result (CacheFollows c.args.world.now
-          c.take_change.new.world ks c.args.cache.now c.take_change.new.cache)) named c.take_change.ensures.cache;
-      disturbed = subst (λ (t : Touched). OnOk c.take_change.result (c.take_change.new.cache.disturbed
-          ≡ joined c.args.cache.now.disturbed t))
-          (ap (λ (a : Accepted). disturbed_of c.args.world.now c.args.turn.now.draw a) fits.event
-          ∙ disturbed_in_room c.args.world.now c.args.turn.now.draw c.args.accepted fits.room)
-          c.take_change.ensures.disturbed;
-      once = c.take_change.ensures.once;
-      replaced = subst (λ (a : Accepted). OnOk c.take_change.result (c.take_change.new.replaced
-          ≡ replaced_after c.args.world.now a c.args.replaced.now)) fits.event c.take_change.ensures.replaced;
-      fault = c.take_change.ensures.fault;
+          c.take_change.ensures.turn.outcome;
+      state = subst (λ (x : Answered). OnOk c.take_change.result (c.take_change.new.core.world ≡ x.state)) same
+          c.take_change.ensures.turn.state;
+      cache = subst (λ (ks : List Key). OnOk c.take_change.result (CacheFollows c.args.core.now.world
+          c.take_change.new.core.world ks c.args.core.now.cache c.take_change.new.core.cache)) named c.take_change.ensures.turn.cache;
+      disturbed = subst (λ (t : Touched). OnOk c.take_change.result (c.take_change.new.core.cache.disturbed
+          ≡ joined c.args.core.now.cache.disturbed t))
+          (ap (λ (a : Accepted). disturbed_of c.args.core.now.world c.args.turn.now.draw a) fits.event
+          ∙ disturbed_in_room c.args.core.now.world c.args.turn.now.draw c.args.accepted fits.room)
+          c.take_change.ensures.turn.disturbed;
+      once = c.take_change.ensures.turn.once;
+      replaced = subst (λ (a : Accepted). OnOk c.take_change.result (c.take_change.new.core.replaced
+          ≡ replaced_after c.args.core.now.world a c.args.core.now.replaced)) fits.event c.take_change.ensures.turn.replaced;
+      fault = c.take_change.ensures.turn.fault;
     }
 
 pub returns-in-Full : goal.returns-in-Full
 returns-in-Full c =
-    let full : is_full c.args.world.now c.args.accepted ≡ true =
-    subst (λ (p : Planning). IsPlanned c.args.world.now c.args.accepted p) c.in-Full.is c.in_ok-planning.ensures in
-    let refused = sym (without_room c.args.world.now c.args.turn.now.draw c.args.accepted full) in
+    let full : is_full c.args.core.now.world c.args.accepted ≡ true =
+    subst (λ (p : Planning). IsPlanned c.args.core.now.world c.args.accepted p) c.in-Full.is c.in_ok-planning.ensures in
+    let refused = sym (without_room c.args.core.now.world c.args.turn.now.draw c.args.accepted full) in
     record {
       outcome = c.stopped.ensures ∙ ap outcome_of refused;
       state = ap (λ (x : Answered). x.state) refused;
       cache = record {
-        shown = c.requires.shown;
+        shown = c.requires.begun.shown;
         few = omega arith;
-        listed = nothing_more c.args.cache.now.changed _
-            (named_without_room c.args.world.now c.args.turn.now.draw c.args.accepted full);
+        listed = nothing_more c.args.core.now.cache.changed _
+            (named_without_room c.args.core.now.world c.args.turn.now.draw c.args.accepted full);
         stays = λ o stays. stays;
       };
-      disturbed = undisturbed_when_full c.args.world.now c.args.turn.now.draw c.args.accepted c.args.cache.now.disturbed full;
-      once = once_alone c.args.cache.now.changed c.requires.unlisted;
-      replaced = full_replaces_none c.args.world.now c.args.accepted c.args.replaced.now full;
+      disturbed = undisturbed_when_full c.args.core.now.world c.args.turn.now.draw c.args.accepted c.args.core.now.cache.disturbed full;
+      once = once_alone c.args.core.now.cache.changed c.requires.begun.unlisted;
+      replaced = full_replaces_none c.args.core.now.world c.args.accepted c.args.core.now.replaced full;
       fault = tt;
     }

@@ -1,5 +1,5 @@
-use Rattle.std.proofs.Common.{◌∙◌}
-use Rattle.pim_event.proofs.Replacing.{other_by_ranges}
+use Rattle.std.{proofs.Common.◌∙◌}
+use Rattle.pim_event.{proofs.Replacing.other_by_ranges}
 use Rattle.pim_event.proofs.replaced.has_other_by_ranges.Goals as goal
 
 pub returns : goal.returns

@@ -1,4 +1,4 @@
-use Rattle.pim_event.proofs.Replacing.{other_where_calm, other_where_moved}
+use Rattle.pim_event.{proofs.Replacing.{other_where_calm, other_where_moved}}
 use Rattle.pim_event.proofs.replaced.has_other_by_routes.Goals as goal
 
 pub returns-then-is_group_moved : goal.returns-then-is_group_moved

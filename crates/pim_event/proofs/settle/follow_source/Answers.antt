@@ -1,12 +1,10 @@
-use Rattle.std.proofs.Common.{◌≡◌, ◌∷◌, [], ap, subst, sym, ◌∙◌}
-use Rattle.pim_ip.specs.declared.addr.Addr.{Addr}
-use Rattle.pim_macros.specs.Sights.{IsSourceSight}
-use Rattle.pim_macros.specs.declared.sight.StarSight.{StarSight}
-use Rattle.pim_model.specs.State.{State}
-use Rattle.pim_register.specs.Settling.{registers_by}
-use Rattle.pim_fanout.specs.Named.{keys_of}
-use Rattle.pim_event.proofs.Following.{followed_messages, followed_state, named_there, registered_alone}
-use Rattle.pim_event.proofs.SightStays.{told_sight}
+use Rattle.std.{proofs.Common.{◌≡◌, ◌∷◌, [], ap, subst, sym, ◌∙◌}}
+use Rattle.pim_ip.{specs.declared.addr.Addr.Addr}
+use Rattle.pim_macros.{specs.{Sights.IsSourceSight, declared.sight.StarSight.StarSight}}
+use Rattle.pim_model.{specs.State.State}
+use Rattle.pim_register.{specs.Settling.registers_by}
+use Rattle.pim_fanout.{specs.Named.keys_of}
+use Rattle.pim_event.{proofs.{Following.{followed_messages, followed_state, named_there, registered_alone}, SightStays.told_sight}}
 use Rattle.pim_event.proofs.settle.follow_source.Goals as goal
 
 pub returns-clause-state : goal.returns-clause-state

@@ -1,4 +1,4 @@
-use Rattle.pim_event.proofs.SightStays.{some_written}
+use Rattle.pim_event.{proofs.SightStays.some_written}
 use Rattle.pim_event.proofs.settle.settle.Goals as goal
 
 pub returns-clause-last : goal.returns-clause-last

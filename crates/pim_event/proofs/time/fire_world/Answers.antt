@@ -1,13 +1,9 @@
-use Rattle.std.proofs.Common.{◌≡◌, ◌++◌, List, OnOk, subst, refl}
-use Rattle.pim_fanout.specs.Named.{keys_of}
-use Rattle.pim_model.specs.Reach.{own_firing}
-use Rattle.pim_model.specs.State.{State}
-use Rattle.pim_event.specs.Ends.{ending_of}
-use Rattle.pim_event.proofs.Rows.{each_ok, names_opened}
-use Rattle.pim_types.specs.declared.outcome.Emission.{Emission}
-use Rattle.pim_event.proofs.Instants.{end_fired, end_touched, fired_in_turn}
-use Rattle.pim_world.specs.declared.touched.Touched.{Touched}
-use Rattle.pim_event.specs.Settling.{AreNames}
+use Rattle.std.{proofs.Common.{◌≡◌, ◌++◌, List, OnOk, subst, refl}}
+use Rattle.pim_fanout.{specs.Named.keys_of}
+use Rattle.pim_model.{specs.{Reach.own_firing, State.State}}
+use Rattle.pim_event.{specs.{Ends.ending_of, Settling.AreNames}, proofs.{Rows.{each_ok, names_opened}, Instants.{end_fired, end_touched, fired_in_turn}}}
+use Rattle.pim_types.{specs.declared.outcome.Emission.Emission}
+use Rattle.pim_state.{specs.declared.touched.Touched.Touched}
 use Rattle.pim_event.proofs.time.fire_world.Goals as goal
 
 pub returns-clause-state : goal.returns-clause-state
@@ -15,7 +11,7 @@ returns-clause-state c =
     subst (λ (p : State × List Emission). OnOk c.settle.result (c.settle.new.world ≡ p.0))
     (fired_in_turn c.args.world.now c.args.due c.set_present.new.self c.fired.new.world c.args.touched.now
     c.in_ok-gathered.gathered.opening c.args.turn.now c.args.turn.now c.fired.new.turn c.requires.lawful c.requires.quiet
-    c.recall_keyed.ensures c.recall_keyed-2.ensures c.requires.touched c.in_ok-gathered.ensures.opening c.requires.begun refl
+    c.proof_keyed.ensures c.proof_keyed-2.ensures c.requires.touched c.in_ok-gathered.ensures.opening c.requires.begun refl
     c.set_present.ensures c.in_ok-fired.ensures.state c.in_ok-fired.ensures.messages)
     c.settle.ensures.state
 
@@ -25,7 +21,7 @@ returns-clause-sent c =
     ≡ c.args.emissions.now.items ++ p.1))
     (fired_in_turn c.args.world.now c.args.due c.set_present.new.self c.fired.new.world c.args.touched.now
     c.in_ok-gathered.gathered.opening c.args.turn.now c.args.turn.now c.fired.new.turn c.requires.lawful c.requires.quiet
-    c.recall_keyed.ensures c.recall_keyed-2.ensures c.requires.touched c.in_ok-gathered.ensures.opening c.requires.begun refl
+    c.proof_keyed.ensures c.proof_keyed-2.ensures c.requires.touched c.in_ok-gathered.ensures.opening c.requires.begun refl
     c.set_present.ensures c.in_ok-fired.ensures.state c.in_ok-fired.ensures.messages)
     c.settle.ensures.sent
 
@@ -36,8 +32,8 @@ returns-clause-names c =
     (keys_of names)) c.requires.touched
     (names_opened c.args.world.now (own_firing c.args.world.now (ending_of c.args.due)) c.fired.new.world
     c.args.touched.now c.in_ok-gathered.gathered.opening c.in_ok-gathered.gathered.before (keys_of names) c.requires.quiet
-    c.recall_keyed-2.ensures
-    (end_touched c.args.world.now c.args.due c.args.touched.now c.requires.lawful c.recall_keyed.ensures c.requires.touched)
+    c.proof_keyed-2.ensures
+    (end_touched c.args.world.now c.args.due c.args.touched.now c.requires.lawful c.proof_keyed.ensures c.requires.touched)
     (end_fired c.args.world.now c.args.due c.set_present.new.self c.fired.new.world c.set_present.ensures
     c.in_ok-fired.ensures.state)
     c.in_ok-gathered.ensures.opening c.in_ok-gathered.ensures.before named))

@@ -1,8 +1,8 @@
-use Rattle.std.proofs.Common.{◌≡◌, subst, sym}
-use Rattle.pim_types.specs.declared.timer.TimerKind.{TimerKind}
-use Rattle.pim_world.specs.Turns.{saying}
-use Rattle.pim_model.specs.Firing.{fired}
-use Rattle.pim_event.proofs.Instants.{on_ok, says_nothing}
+use Rattle.std.{proofs.Common.{◌≡◌, subst, sym}}
+use Rattle.pim_types.{specs.declared.timer.TimerKind.TimerKind}
+use Rattle.pim_state.{specs.Turns.saying}
+use Rattle.pim_model.{specs.Firing.fired}
+use Rattle.pim_event.{proofs.Instants.{on_ok, says_nothing}}
 use Rattle.pim_event.proofs.time.fired.Goals as goal
 
 pub returns-in-Keepalive-clause-messages : goal.returns-in-Keepalive-clause-messages

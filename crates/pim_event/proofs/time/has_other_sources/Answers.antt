@@ -1,5 +1,5 @@
-use Rattle.std.proofs.Common.{rules}
-use Rattle.pim_event.proofs.SourceEnds.{others_by_walk}
+use Rattle.std.{proofs.Common.rules}
+use Rattle.pim_event.{proofs.SourceEnds.others_by_walk}
 use Rattle.pim_event.proofs.time.has_other_sources.Goals as goal
 
 pub loop-key-init : goal.loop-key-init

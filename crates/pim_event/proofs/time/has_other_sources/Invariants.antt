@@ -1,7 +1,6 @@
-use Rattle.std.proofs.Common.{◌≡◌, ◌==◌, not}
-use Rattle.std.specs.List.{list_any}
-use Rattle.pim_types.specs.Keys.{source_in}
-use Rattle.pim_event.specs.Ends.{has_other_sources}
+use Rattle.std.{proofs.Common.{◌≡◌, ◌==◌, not}, specs.List.list_any}
+use Rattle.pim_types.{specs.Keys.source_in}
+use Rattle.pim_event.{specs.Ends.has_other_sources}
 use Rattle.pim_event.proofs.time.has_other_sources.Given as goal
 
 abbrev pub invariant-loop-key : goal.invariant-loop-key

@@ -1,5 +1,5 @@
-use Rattle.std.proofs.Common.{sym, ◌∙◌}
-use Rattle.pim_event.proofs.Instants.{is_due, isnt_due, none_due}
+use Rattle.std.{proofs.Common.{sym, ◌∙◌}}
+use Rattle.pim_event.{proofs.Instants.{is_due, isnt_due, none_due}}
 use Rattle.pim_event.proofs.time.next_due.Goals as goal
 
 pub returns-in_err-due : goal.returns-in_err-due

@@ -1,13 +1,9 @@
-use Rattle.std.proofs.Common.{◌++◌, List, ap, map, ◌∙◌}
-use Rattle.std.specs.List.{flat_map}
-use Rattle.pim_types.specs.Keys.{group_in, source_key}
-use Rattle.pim_model.specs.Tables.{ascending}
-use Rattle.pim_model.specs.Upstream.{groups_of}
-use Rattle.pim_world.specs.Groups.{gathered, numbers_of}
-use Rattle.pim_world.specs.Touches.{concerned_keys}
-use Rattle.pim_opening.specs.Openings.{group_opening, opening_of, touched_sources}
-use Rattle.pim_fanout.specs.Before.{key_before, opened_sources}
-use Rattle.pim_fanout.specs.declared.before.SourceBefore.{SourceBefore}
+use Rattle.std.{proofs.Common.{◌++◌, List, ap, map, ◌∙◌}, specs.List.flat_map}
+use Rattle.pim_types.{specs.Keys.{group_in, source_key}}
+use Rattle.pim_model.{specs.{Tables.ascending, Upstream.groups_of}}
+use Rattle.pim_state.{specs.{Groups.{gathered, numbers_of}, Touches.concerned_keys}}
+use Rattle.pim_views.{specs.Openings.{group_opening, opening_of, touched_sources}}
+use Rattle.pim_fanout.{specs.{Before.{key_before, opened_sources}, declared.before.SourceBefore.SourceBefore}}
 use Rattle.pim_fanout.proofs.before.gather_groups.Goals as goal
 
 pub returns-clause-opening : goal.returns-clause-opening

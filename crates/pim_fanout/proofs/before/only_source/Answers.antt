@@ -1,5 +1,5 @@
-use Rattle.std.proofs.Common.{◌==◌, ap, sym, ℕ, ◌∙◌}
-use Rattle.pim_fanout.proofs.Alone.{names_alone}
+use Rattle.std.{proofs.Common.{◌==◌, ap, sym, ℕ, ◌∙◌}}
+use Rattle.pim_fanout.{proofs.Alone.names_alone}
 use Rattle.pim_fanout.proofs.before.only_source.Goals as goal
 
 pub returns-else-eq : goal.returns-else-eq

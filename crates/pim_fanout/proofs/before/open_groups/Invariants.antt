@@ -1,9 +1,8 @@
-use Rattle.std.proofs.Common.{◌≡◌, ◌++◌, map}
-use Rattle.std.specs.List.{flat_map}
-use Rattle.pim_types.specs.Keys.{source_key}
-use Rattle.pim_world.specs.Groups.{numbers_of}
-use Rattle.pim_opening.specs.Openings.{group_opening, touched_sources}
-use Rattle.pim_fanout.specs.Before.{AreBefore, key_before}
+use Rattle.std.{proofs.Common.{◌≡◌, ◌++◌, map}, specs.List.flat_map}
+use Rattle.pim_types.{specs.Keys.source_key}
+use Rattle.pim_state.{specs.Groups.numbers_of}
+use Rattle.pim_views.{specs.Openings.{group_opening, touched_sources}}
+use Rattle.pim_fanout.{specs.Before.{AreBefore, key_before}}
 use Rattle.pim_fanout.proofs.before.open_groups.Given as goal
 
 abbrev pub invariant-loop-group : goal.invariant-loop-group

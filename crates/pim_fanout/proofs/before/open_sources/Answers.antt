@@ -1,8 +1,6 @@
-use Rattle.std.proofs.Common.{[], ap, append_assoc, arith, map, sym, ◌++◌, ◌∙◌, ◌∷◌}
-use Rattle.std.proofs.lemmas.Grind.{common_steps}
-use Rattle.pim_world.specs.Groups.{numbers_of}
-use Rattle.pim_opening.specs.Openings.{source_opening}
-use Rattle.pim_opening.specs.declared.opening.SourceOpening.{SourceOpening}
+use Rattle.std.{proofs.{Common.{[], ap, append_assoc, arith, map, sym, ◌++◌, ◌∙◌, ◌∷◌}, lemmas.Grind.common_steps}}
+use Rattle.pim_state.{specs.Groups.numbers_of}
+use Rattle.pim_views.{specs.{Openings.source_opening, declared.opening.SourceOpening.SourceOpening}}
 use Rattle.pim_fanout.proofs.before.open_sources.Goals as goal
 
 pub loop-source-preserved : goal.loop-source-preserved

@@ -1,8 +1,8 @@
-use Rattle.std.proofs.Common.{◌≡◌, ◌++◌, map}
-use Rattle.pim_types.specs.Keys.{source_key}
-use Rattle.pim_world.specs.Groups.{numbers_of}
-use Rattle.pim_opening.specs.Openings.{source_opening}
-use Rattle.pim_fanout.specs.Before.{AreBefore, key_before}
+use Rattle.std.{proofs.Common.{◌≡◌, ◌++◌, map}}
+use Rattle.pim_types.{specs.Keys.source_key}
+use Rattle.pim_state.{specs.Groups.numbers_of}
+use Rattle.pim_views.{specs.Openings.source_opening}
+use Rattle.pim_fanout.{specs.Before.{AreBefore, key_before}}
 use Rattle.pim_fanout.proofs.before.open_sources.Given as goal
 
 abbrev pub invariant-loop-source : goal.invariant-loop-source

@@ -1,7 +1,6 @@
-use Rattle.std.proofs.Common.{◌≡◌, ◌++◌}
-use Rattle.std.specs.Prelude.{map}
-use Rattle.pim_types.specs.Keys.{group_in, source_in, source_key}
-use Rattle.pim_fanout.specs.Named.{keys_of}
+use Rattle.std.{proofs.Common.{◌≡◌, ◌++◌}, specs.Prelude.map}
+use Rattle.pim_types.{specs.Keys.{group_in, source_in, source_key}}
+use Rattle.pim_fanout.{specs.Named.keys_of}
 use Rattle.pim_fanout.proofs.cache.names_of.Given as goal
 
 abbrev pub invariant-loop-key : goal.invariant-loop-key

@@ -1,5 +1,5 @@
-use Rattle.std.proofs.Common.{◌∙◌}
-use Rattle.pim_fanout.proofs.Same.{common_alike}
+use Rattle.std.{proofs.Common.◌∙◌}
+use Rattle.pim_fanout.{proofs.Same.common_alike}
 use Rattle.pim_fanout.proofs.compare.has_same_common.Goals as goal
 
 pub returns : goal.returns

@@ -1,5 +1,5 @@
-use Rattle.std.proofs.Common.{not, refl, ◌&&◌, ◌||◌, ◌∙◌}
-use Rattle.pim_fanout.proofs.SameSets.{told_by_masks}
+use Rattle.std.{proofs.Common.{not, refl, ◌&&◌, ◌||◌, ◌∙◌}}
+use Rattle.pim_fanout.{proofs.SameSets.told_by_masks}
 use Rattle.pim_fanout.proofs.compare.is_same_set.Goals as goal
 
 pub returns : goal.returns

@@ -1,6 +1,6 @@
-use Rattle.std.proofs.Common.{◌≡◌, drop}
-use Rattle.pim_locality.specs.Locality.{touching}
-use Rattle.pim_types.specs.Keys.{source_key}
+use Rattle.std.{proofs.Common.{◌≡◌, drop}}
+use Rattle.law_scope.{specs.Locality.touching}
+use Rattle.pim_types.{specs.Keys.source_key}
 use Rattle.pim_fanout.proofs.disturbed.is_touched.Given as goal
 
 abbrev pub invariant-loop-key : goal.invariant-loop-key

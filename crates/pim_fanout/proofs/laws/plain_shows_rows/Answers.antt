@@ -1,4 +1,4 @@
-use Rattle.pim_fanout.proofs.Shown.{plain_shows_rows}
+use Rattle.pim_fanout.{proofs.Shown.plain_shows_rows}
 use Rattle.pim_fanout.proofs.laws.plain_shows_rows.Goals as goal
 
 pub returns : goal.returns

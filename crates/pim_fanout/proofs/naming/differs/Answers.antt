@@ -1,8 +1,6 @@
-use Rattle.std.proofs.Common.{ap, not, subst, sym, ◌≡◌, false, ◌∙◌}
-use Rattle.pim_model.specs.Tables.{has_row}
-use Rattle.pim_fanout.specs.Before.{IsSourceBefore, key_before, seen_key}
-use Rattle.pim_fanout.specs.declared.before.SourceBefore.{SourceBefore}
-use Rattle.pim_fanout.proofs.Same.{gone_is_changed, known_is_changed}
+use Rattle.std.{proofs.Common.{ap, not, subst, sym, ◌≡◌, false, ◌∙◌}}
+use Rattle.pim_model.{specs.Tables.has_row}
+use Rattle.pim_fanout.{specs.{Before.{IsSourceBefore, key_before, seen_key}, declared.before.SourceBefore.SourceBefore}, proofs.Same.{gone_is_changed, known_is_changed}}
 use Rattle.pim_fanout.proofs.naming.differs.Goals as goal
 
 pub returns-in-Unknown : goal.returns-in-Unknown

@@ -1,7 +1,5 @@
-use Rattle.std.proofs.Common.{◌≡◌, sym, subst, ◌∙◌}
-use Rattle.pim_fanout.specs.Before.{IsSourceBefore, key_before}
-use Rattle.pim_fanout.specs.Named.{is_changed}
-use Rattle.pim_fanout.proofs.Same.{new_is_changed}
+use Rattle.std.{proofs.Common.{◌≡◌, sym, subst, ◌∙◌}}
+use Rattle.pim_fanout.{specs.{Before.{IsSourceBefore, key_before}, Named.is_changed}, proofs.Same.new_is_changed}
 use Rattle.pim_fanout.proofs.naming.is_outdated_at_hand.Goals as goal
 
 pub returns-in-Unknown : goal.returns-in-Unknown

@@ -1,7 +1,6 @@
-use Rattle.std.proofs.Common.{◌≡◌, ◌++◌, drop, filter, map}
-use Rattle.pim_model.specs.State.{State}
-use Rattle.pim_fanout.specs.Before.{AreBefore, key_before}
-use Rattle.pim_fanout.specs.Named.{is_changed, keys_of}
+use Rattle.std.{proofs.Common.{◌≡◌, ◌++◌, drop, filter, map}}
+use Rattle.pim_model.{specs.State.State}
+use Rattle.pim_fanout.{specs.{Before.{AreBefore, key_before}, Named.{is_changed, keys_of}}}
 use Rattle.pim_fanout.proofs.naming.outdated_among_by_sights.Given as goal
 
 abbrev pub invariant-loop-at : goal.invariant-loop-at

@@ -1,6 +1,5 @@
-use Rattle.std.proofs.Common.{◌∙◌}
-use Rattle.pim_types.specs.FieldOrder.{fields_tied}
-use Rattle.pim_types.specs.Keys.{addr_cmp, key_cmp, same_key}
+use Rattle.std.{proofs.Common.◌∙◌}
+use Rattle.pim_types.{specs.{FieldOrder.fields_tied, Keys.{addr_cmp, key_cmp, same_key}}}
 use Rattle.pim_fanout.proofs.once.are_same.Goals as goal
 
 pub returns : goal.returns

@@ -1,11 +1,6 @@
-use Rattle.std.proofs.Common.{rules, subst, sym}
-use Rattle.std.proofs.lemmas.Fn.{dedup_same}
-use Rattle.std.proofs.lemmas.List.Sorted.{answers_always}
-use Rattle.std.specs.List.Sorted.{IsStrictlySortedBy}
-use Rattle.pim_types.specs.Keys.{addr_cmp, key_cmp}
-use Rattle.pim_fanout.specs.Before.{name_key}
-use Rattle.pim_fanout.specs.Named.{keys_of}
-use Rattle.pim_fanout.proofs.EachOnce.{same_name, same_once, sorted_once}
+use Rattle.std.{proofs.{Common.{rules, subst, sym}, lemmas.{Fn.dedup_same, List.Sorted.answers_always}}, specs.List.Sorted.IsStrictlySortedBy}
+use Rattle.pim_types.{specs.Keys.{addr_cmp, key_cmp}}
+use Rattle.pim_fanout.{specs.{Before.name_key, Named.keys_of}, proofs.EachOnce.{same_name, same_once, sorted_once}}
 use Rattle.pim_fanout.proofs.once.each_once.Goals as goal
 
 pub returns-clause-same : goal.returns-clause-same

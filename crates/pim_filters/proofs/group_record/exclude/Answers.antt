@@ -1,7 +1,5 @@
-use Rattle.std.proofs.Common.{arith}
-use Rattle.std.proofs.lemmas.Grind.{common_steps}
-use Rattle.std.proofs.lemmas.List.Edits.{map_over_more}
-use Rattle.pim_filters.specs.Members.{without_end}
+use Rattle.std.{proofs.{Common.arith, lemmas.{Grind.common_steps, List.Edits.map_over_more}}}
+use Rattle.pim_filters.{specs.Members.without_end}
 use Rattle.pim_filters.proofs.group_record.exclude.Goals as goal
 
 pub loop-member-preserved : goal.loop-member-preserved

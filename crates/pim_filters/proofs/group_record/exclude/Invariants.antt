@@ -1,5 +1,5 @@
-use Rattle.std.proofs.Common.{◌≡◌, ◌++◌, map, take, drop}
-use Rattle.pim_filters.specs.Members.{without_end}
+use Rattle.std.{proofs.Common.{◌≡◌, ◌++◌, map, take, drop}}
+use Rattle.pim_filters.{specs.Members.without_end}
 use Rattle.pim_filters.proofs.group_record.exclude.Given as goal
 
 abbrev pub invariant-loop-member : goal.invariant-loop-member

@@ -1,5 +1,5 @@
-use Rattle.std.proofs.Common.{rules}
-use Rattle.pim_filters.proofs.Members.{filter-from_retain}
+use Rattle.std.{proofs.Common.rules}
+use Rattle.pim_filters.{proofs.Members.filter-from_retain}
 use Rattle.pim_filters.proofs.group_record.keep_running.Goals as goal
 
 pub returns : goal.returns

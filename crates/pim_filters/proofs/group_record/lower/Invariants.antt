@@ -1,5 +1,5 @@
-use Rattle.std.proofs.Common.{◌≡◌, ◌++◌, map, take, drop}
-use Rattle.pim_filters.specs.Members.{with_end_lowered}
+use Rattle.std.{proofs.Common.{◌≡◌, ◌++◌, map, take, drop}}
+use Rattle.pim_filters.{specs.Members.with_end_lowered}
 use Rattle.pim_filters.proofs.group_record.lower.Given as goal
 
 abbrev pub invariant-loop-member : goal.invariant-loop-member

@@ -1,8 +1,7 @@
-use Rattle.std.proofs.Common.{ap, eqb, length, ◌∙◌}
-use Rattle.std.specs.List.{dedup}
-use Rattle.smallvec.proofs.SmallVecLemmas.{items-with_items}
-use Rattle.pim_model.specs.Tables.{ascending}
-use Rattle.pim_filters.proofs.Orders.{dedup_is_ascending}
+use Rattle.std.{proofs.Common.{ap, eqb, length, ◌∙◌}, specs.List.dedup}
+use Rattle.smallvec.{proofs.SmallVecLemmas.items-with_items}
+use Rattle.pim_model.{specs.Tables.ascending}
+use Rattle.pim_filters.{proofs.Orders.dedup_is_ascending}
 use Rattle.pim_filters.proofs.names.ascending.Goals as goal
 
 pub returns : goal.returns

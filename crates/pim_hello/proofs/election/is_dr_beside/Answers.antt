@@ -1,8 +1,7 @@
-use Rattle.std.proofs.Common.{Some, ap, not, sym, ◌∙◌}
-use Rattle.pim_types.specs.Keys.{iface_in}
-use Rattle.pim_model.specs.Neighbours.{is_dr_among}
-use Rattle.pim_model.specs.Tables.{rows_on, set_row}
-use Rattle.pim_hello.proofs.Ranked.{dr_with}
+use Rattle.std.{proofs.Common.{Some, ap, not, sym, ◌∙◌}}
+use Rattle.pim_types.{specs.Keys.iface_in}
+use Rattle.pim_model.{specs.{Neighbours.is_dr_among, Tables.{rows_on, set_row}}}
+use Rattle.pim_hello.{proofs.Ranked.dr_with}
 use Rattle.pim_hello.proofs.election.is_dr_beside.Goals as goal
 
 pub returns : goal.returns

@@ -1,7 +1,6 @@
-use Rattle.std.proofs.Common.{◌≡◌}
-use Rattle.std.specs.List.{list_any}
-use Rattle.pim_model.specs.Neighbours.{is_better_dr}
-use Rattle.pim_hello.specs.Election.{is_other, some_other}
+use Rattle.std.{proofs.Common.◌≡◌, specs.List.list_any}
+use Rattle.pim_model.{specs.Neighbours.is_better_dr}
+use Rattle.pim_hello.{specs.Election.{is_other, some_other}}
 use Rattle.pim_hello.proofs.election.some_other_better.Given as goal
 
 abbrev pub invariant-loop-other : goal.invariant-loop-other

@@ -1,6 +1,5 @@
-use Rattle.std.proofs.Common.{◌≡◌}
-use Rattle.std.specs.List.{list_any}
-use Rattle.pim_hello.specs.Election.{is_other, is_unranked, some_other}
+use Rattle.std.{proofs.Common.◌≡◌, specs.List.list_any}
+use Rattle.pim_hello.{specs.Election.{is_other, is_unranked, some_other}}
 use Rattle.pim_hello.proofs.election.some_other_unranked.Given as goal
 
 abbrev pub invariant-loop-other : goal.invariant-loop-other

@@ -1,12 +1,8 @@
-use Rattle.std.proofs.Common.{◌≡◌, ℕ, ◌+◌, Some, ap, filter, not, ◌&&◌, ◌∙◌}
-use Rattle.pim_model.specs.Downstream.{asserts_after_joins, is_named}
-use Rattle.pim_model.specs.Hellos.{neighbour_replaced, neighbour_restarted}
-use Rattle.pim_model.specs.Sets.{is_loser}
-use Rattle.pim_model.specs.State.{State}
-use Rattle.pim_store.specs.PimTables.{PimTables}
-use Rattle.pim_world.proofs.Lent.{stored}
-use Rattle.pim_world.specs.Turns.{Taking}
-use Rattle.pim_hello.proofs.StartedAnew.{replaced, restarted}
+use Rattle.std.{proofs.Common.{◌≡◌, ℕ, ◌+◌, Some, ap, filter, not, ◌&&◌, ◌∙◌}}
+use Rattle.pim_model.{specs.{Downstream.{asserts_after_joins, is_named}, Hellos.{neighbour_replaced, neighbour_restarted}, Sets.is_loser, State.State}}
+use Rattle.pim_store.{specs.PimTables.PimTables}
+use Rattle.pim_state.{proofs.Lent.stored, specs.Turns.Taking}
+use Rattle.pim_hello.{proofs.StartedAnew.{replaced, restarted}}
 use Rattle.pim_hello.proofs.hello.restart.Goals as goal
 
 pub returns-clause-state : goal.returns-clause-state
@@ -21,7 +17,7 @@ returns-clause-state c =
     c.in_ok-lower_timers.ensures
     ∙ restarted s c.args.iface.number c.args.from.bits w c.args.hello.now c.replace_neighbour.new.self
     _ (c.present.result + c.override_delay.result) c.deref-2.result.now c.deref.result.now is
-    c.recall_keyed.ensures.asserts_rise (c.deref.ensures.value ∙ c.in_ok-lost.ensures)
+    c.proof_keyed.ensures.asserts_rise (c.deref.ensures.value ∙ c.in_ok-lost.ensures)
     (stored c.replace_neighbour.new.self _ _ (λ (f : PimTables). record f {
       asserts = filter (λ e. not (is_loser (Some e.1) && is_named c.deref.result.now e.0)) f.asserts;
     }) c.store_mut.ensures.value c.end_losses.ensures)

@@ -1,5 +1,5 @@
-use Rattle.pim_model.specs.Hellos.{is_lost_to}
-use Rattle.pim_laws.proofs.FoundRows.{all_found, found, passed}
+use Rattle.pim_model.{specs.Hellos.is_lost_to}
+use Rattle.law_settled.{proofs.FoundRows.{all_found, found, passed}}
 use Rattle.pim_hello.proofs.restarted.asserts_lost_to.Goals as goal
 
 pub loop-key-preserved-in-Continue-1 : goal.loop-key-preserved-in-Continue-1

@@ -1,7 +1,6 @@
-use Rattle.std.proofs.Common.{filter}
-use Rattle.pim_model.specs.Hellos.{is_lost_to}
-use Rattle.pim_model.specs.Tables.{keys_in}
-use Rattle.pim_laws.proofs.FoundRows.{Keeps}
+use Rattle.std.{proofs.Common.filter}
+use Rattle.pim_model.{specs.{Hellos.is_lost_to, Tables.keys_in}}
+use Rattle.law_settled.{proofs.FoundRows.Keeps}
 use Rattle.pim_hello.proofs.restarted.asserts_lost_to.Given as goal
 
 abbrev pub invariant-loop-key : goal.invariant-loop-key

@@ -1,13 +1,10 @@
-use Rattle.std.proofs.Common.{◌+◌, ap, drop, sym, ◌∙◌}
-use Rattle.pim_types.specs.declared.fact.JoinTimerRow.{JoinTimerRow}
-use Rattle.pim_model.specs.State.{State}
-use Rattle.pim_model.specs.Tables.{Table}
-use Rattle.pim_types.specs.Keys.{star_key}
-use Rattle.pim_laws.specs.Rows.{all_changed}
-use Rattle.pim_laws.proofs.ChosenRows.{none_left_changed, one_more_changed}
-use Rattle.pim_store.specs.PimTables.{lowered_join_timer}
-use Rattle.pim_world.specs.Lending.{with_store}
-use Rattle.pim_hello.proofs.Lowering.{kept}
+use Rattle.std.{proofs.Common.{◌+◌, ap, drop, sym, ◌∙◌}}
+use Rattle.pim_types.{specs.{declared.fact.JoinTimerRow.JoinTimerRow, Keys.star_key}}
+use Rattle.pim_model.{specs.{State.State, Tables.Table}}
+use Rattle.law_settled.{specs.Rows.all_changed, proofs.ChosenRows.{none_left_changed, one_more_changed}}
+use Rattle.pim_store.{specs.PimTables.lowered_join_timer}
+use Rattle.pim_state.{specs.Lending.with_store}
+use Rattle.pim_hello.{proofs.Lowering.kept}
 use Rattle.pim_hello.proofs.restarted.lower_timers.Goals as goal
 
 pub loop-key-preserved : goal.loop-key-preserved

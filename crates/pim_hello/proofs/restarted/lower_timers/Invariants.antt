@@ -1,6 +1,6 @@
-use Rattle.std.proofs.Common.{◌≡◌, drop}
-use Rattle.pim_laws.specs.Rows.{all_changed}
-use Rattle.pim_store.specs.PimTables.{lowered_join_timer}
+use Rattle.std.{proofs.Common.{◌≡◌, drop}}
+use Rattle.law_settled.{specs.Rows.all_changed}
+use Rattle.pim_store.{specs.PimTables.lowered_join_timer}
 use Rattle.pim_hello.proofs.restarted.lower_timers.Given as goal
 
 abbrev pub invariant-loop-key : goal.invariant-loop-key

@@ -1,7 +1,6 @@
-use Rattle.std.proofs.Common.{List, [], ap, append-nil, append_assoc, sym, ◌∷◌, ◌++◌, ◌∙◌}
-use Rattle.pim_types.specs.declared.fact.JoinTimerRow.{JoinTimerRow}
-use Rattle.pim_types.specs.declared.fact.Key.{Key}
-use Rattle.pim_model.specs.Tables.{Table, keys_in}
+use Rattle.std.{proofs.Common.{List, [], ap, append-nil, append_assoc, sym, ◌∷◌, ◌++◌, ◌∙◌}}
+use Rattle.pim_types.{specs.declared.fact.{JoinTimerRow.JoinTimerRow, Key.Key}}
+use Rattle.pim_model.{specs.Tables.{Table, keys_in}}
 use Rattle.pim_hello.proofs.restarted.timer_keys.Goals as goal
 
 pub loop-key-preserved : goal.loop-key-preserved

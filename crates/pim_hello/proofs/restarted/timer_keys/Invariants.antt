@@ -1,5 +1,5 @@
-use Rattle.std.proofs.Common.{◌≡◌, ◌++◌}
-use Rattle.pim_model.specs.Tables.{keys_in}
+use Rattle.std.{proofs.Common.{◌≡◌, ◌++◌}}
+use Rattle.pim_model.{specs.Tables.keys_in}
 use Rattle.pim_hello.proofs.restarted.timer_keys.Given as goal
 
 abbrev pub invariant-loop-key : goal.invariant-loop-key

@@ -1,8 +1,7 @@
-use Rattle.std.proofs.Common.{List, ap, filter, sym, ◌∙◌}
-use Rattle.std.proofs.lemmas.List.{take_all}
-use Rattle.pim_types.specs.declared.fact.Key.{Key}
-use Rattle.pim_laws.proofs.ChosenRows.{keys_of_passing}
-use Rattle.pim_hello.specs.Towards.{is_towards}
+use Rattle.std.{proofs.{Common.{List, ap, filter, sym, ◌∙◌}, lemmas.List.take_all}}
+use Rattle.pim_types.{specs.declared.fact.Key.Key}
+use Rattle.law_settled.{proofs.ChosenRows.keys_of_passing}
+use Rattle.pim_hello.{specs.Towards.is_towards}
 use Rattle.pim_hello.proofs.restarted.timers_towards.Goals as goal
 
 pub returns : goal.returns

@@ -1,5 +1,5 @@
-use Rattle.std.proofs.Common.{◌≡◌, filter, take}
-use Rattle.pim_hello.specs.Towards.{is_towards}
+use Rattle.std.{proofs.Common.{◌≡◌, filter, take}}
+use Rattle.pim_hello.{specs.Towards.is_towards}
 use Rattle.pim_hello.proofs.restarted.timers_towards.Given as goal
 
 abbrev pub invariant-loop-key : goal.invariant-loop-key

@@ -1,7 +1,6 @@
-use Rattle.std.proofs.Common.{◌≡◌, ◌++◌}
-use Rattle.std.specs.List.{flat_map}
-use Rattle.pim_adjacent.specs.Adjacent.{linked_of_group}
-use Rattle.pim_world.specs.Groups.{numbers_of}
+use Rattle.std.{proofs.Common.{◌≡◌, ◌++◌}, specs.List.flat_map}
+use Rattle.law_named.{specs.Adjacent.linked_of_group}
+use Rattle.pim_state.{specs.Groups.numbers_of}
 use Rattle.pim_hello.proofs.served.put_linked_of_groups.Given as goal
 
 abbrev pub invariant-loop-group : goal.invariant-loop-group

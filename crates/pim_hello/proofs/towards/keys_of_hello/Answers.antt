@@ -1,5 +1,5 @@
-use Rattle.pim_adjacent.specs.Adjacent.{hello_keeps_dr, keys_of_hello, keys_of_neighbour}
-use Rattle.pim_hello.proofs.Led.{own_alone, with_dr}
+use Rattle.law_named.{specs.Adjacent.{hello_keeps_dr, keys_of_hello, keys_of_neighbour}}
+use Rattle.pim_hello.{proofs.Led.{own_alone, with_dr}}
 use Rattle.pim_hello.proofs.towards.keys_of_hello.Goals as goal
 
 pub returns-then-hello_keeps_dr : goal.returns-then-hello_keeps_dr

@@ -1,6 +1,6 @@
-use Rattle.std.proofs.Common.{List, OnOk, ap, subst, ◌≡◌, ◌++◌, ◌∷◌, [], ◌∙◌}
-use Rattle.pim_types.specs.declared.fact.Key.{Key}
-use Rattle.pim_hello.proofs.Led.{all_led, some_led}
+use Rattle.std.{proofs.Common.{List, OnOk, ap, subst, ◌≡◌, ◌++◌, ◌∷◌, [], ◌∙◌}}
+use Rattle.pim_types.{specs.declared.fact.Key.Key}
+use Rattle.pim_hello.{proofs.Led.{all_led, some_led}}
 use Rattle.pim_hello.proofs.towards.put_group.Goals as goal
 
 pub returns-then-is_group_led : goal.returns-then-is_group_led

@@ -1,8 +1,7 @@
-use Rattle.std.proofs.Common.{arith}
-use Rattle.std.proofs.lemmas.Grind.{common_steps}
-use Rattle.pim_types.specs.declared.config.InterfaceConfig.{InterfaceConfig}
-use Rattle.pim_model.specs.Limits.{are_apart}
-use Rattle.pim_ifaces.proofs.Apart.{are_apart-drop}
+use Rattle.std.{proofs.{Common.arith, lemmas.Grind.common_steps}}
+use Rattle.pim_types.{specs.declared.config.InterfaceConfig.InterfaceConfig}
+use Rattle.pim_model.{specs.Limits.are_apart}
+use Rattle.pim_ifaces.{proofs.Apart.are_apart-drop}
 use Rattle.pim_ifaces.proofs.limits.are_apart.Goals as goal
 
 -- what an index past the end would read

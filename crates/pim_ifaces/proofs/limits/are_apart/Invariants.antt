@@ -1,5 +1,5 @@
-use Rattle.std.proofs.Common.{◌≡◌, drop}
-use Rattle.pim_model.specs.Limits.{are_apart}
+use Rattle.std.{proofs.Common.{◌≡◌, drop}}
+use Rattle.pim_model.{specs.Limits.are_apart}
 use Rattle.pim_ifaces.proofs.limits.are_apart.Given as goal
 
 abbrev pub invariant-loop-number : goal.invariant-loop-number

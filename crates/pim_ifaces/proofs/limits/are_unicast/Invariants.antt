@@ -1,7 +1,6 @@
-use Rattle.std.proofs.Common.{◌≡◌, drop}
-use Rattle.std.specs.List.{list_all}
-use Rattle.pim_ip.specs.Ipv4.{is_unicast}
-use Rattle.pim_types.specs.declared.config.InterfaceConfig.{InterfaceConfig}
+use Rattle.std.{proofs.Common.{◌≡◌, drop}, specs.List.list_all}
+use Rattle.pim_ip.{specs.Ipv4.is_unicast}
+use Rattle.pim_types.{specs.declared.config.InterfaceConfig.InterfaceConfig}
 use Rattle.pim_ifaces.proofs.limits.are_unicast.Given as goal
 
 abbrev pub invariant-loop-interface : goal.invariant-loop-interface

@@ -1,7 +1,6 @@
-use Rattle.std.proofs.Common.{◌≡◌, drop}
-use Rattle.std.specs.List.{list_all}
-use Rattle.pim_types.specs.declared.config.InterfaceConfig.{InterfaceConfig}
-use Rattle.pim_model.specs.Limits.{is_between}
+use Rattle.std.{proofs.Common.{◌≡◌, drop}, specs.List.list_all}
+use Rattle.pim_types.{specs.declared.config.InterfaceConfig.InterfaceConfig}
+use Rattle.pim_model.{specs.Limits.is_between}
 use Rattle.pim_ifaces.proofs.limits.have_lengths.Given as goal
 
 abbrev pub invariant-loop-interface : goal.invariant-loop-interface

@@ -1,6 +1,5 @@
-use Rattle.std.proofs.Common.{◌≡◌, drop}
-use Rattle.std.specs.List.{list_any}
-use Rattle.pim_model.specs.Limits.{overlaps}
+use Rattle.std.{proofs.Common.{◌≡◌, drop}, specs.List.list_any}
+use Rattle.pim_model.{specs.Limits.overlaps}
 use Rattle.pim_ifaces.proofs.limits.overlaps_any.Given as goal
 
 abbrev pub invariant-loop-other : goal.invariant-loop-other

@@ -1,6 +1,5 @@
-use Rattle.std.proofs.Common.{◌≡◌, drop}
-use Rattle.std.specs.List.{list_all}
-use Rattle.pim_model.specs.Limits.{is_delay_config}
+use Rattle.std.{proofs.Common.{◌≡◌, drop}, specs.List.list_all}
+use Rattle.pim_model.{specs.Limits.is_delay_config}
 use Rattle.pim_ifaces.proofs.limits.test_delays.Given as goal
 
 abbrev pub invariant-loop-interface : goal.invariant-loop-interface

@@ -1,7 +1,5 @@
-use Rattle.std.proofs.Common.{◌≡◌, ◌+◌, ◌/◌, ◌%◌, ◌∙◌, ap, bit_and, arith, sym}
-use Rattle.std.proofs.lemmas.Grind.{and_numeral}
-use Rattle.pim_ip.proofs.ChecksumLemmas.{ones-folded, ones-small}
-use Rattle.pim_ip.specs.Checksum.{ones}
+use Rattle.std.{proofs.{Common.{◌≡◌, ◌+◌, ◌/◌, ◌%◌, ◌∙◌, ap, bit_and, arith, sym}, lemmas.Grind.and_numeral}}
+use Rattle.pim_ip.{proofs.ChecksumLemmas.{ones-folded, ones-small}, specs.Checksum.ones}
 use Rattle.pim_ip.proofs.checksum.folded.Goals as goal
 
 pub returns : goal.returns

@@ -1,6 +1,5 @@
-use Rattle.std.proofs.Common.{◌≡◌, ◌%◌, bit_and, arith}
-use Rattle.std.proofs.lemmas.Grind.{and_numeral}
-use Rattle.pim_ip.proofs.ChecksumLemmas.{ones-folded_wide}
+use Rattle.std.{proofs.{Common.{◌≡◌, ◌%◌, bit_and, arith}, lemmas.Grind.and_numeral}}
+use Rattle.pim_ip.{proofs.ChecksumLemmas.ones-folded_wide}
 use Rattle.pim_ip.proofs.checksum.folded_wide.Goals as goal
 
 pub returns : goal.returns

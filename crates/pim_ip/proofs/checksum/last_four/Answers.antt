@@ -1,5 +1,5 @@
-use Rattle.std.proofs.Common.{arith}
-use Rattle.pim_ip.proofs.ChecksumLemmas.{none-left, one-left, three-left, two-left}
+use Rattle.std.{proofs.Common.arith}
+use Rattle.pim_ip.{proofs.ChecksumLemmas.{none-left, one-left, three-left, two-left}}
 use Rattle.pim_ip.proofs.checksum.last_four.Goals as goal
 
 pub returns-in-len3 : goal.returns-in-len3

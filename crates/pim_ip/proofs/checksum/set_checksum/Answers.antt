@@ -1,7 +1,5 @@
-use Rattle.std.proofs.Common.{◌≡◌, ◌+◌, ◌*◌, ◌-◌, ◌/◌, ℕ, length, take, drop, arith}
-use Rattle.std.proofs.lemmas.List.{length-take-le}
-use Rattle.pim_ip.proofs.ChecksumLemmas.{sum16-with_checksum}
-use Rattle.pim_ip.proofs.WritingLemmas.{put_mid-checksum}
+use Rattle.std.{proofs.{Common.{◌≡◌, ◌+◌, ◌*◌, ◌-◌, ◌/◌, ℕ, length, take, drop, arith}, lemmas.List.length-take-le}}
+use Rattle.pim_ip.{proofs.{ChecksumLemmas.sum16-with_checksum, WritingLemmas.put_mid-checksum}}
 use Rattle.pim_ip.proofs.checksum.set_checksum.Goals as goal
 
 pub returns : goal.returns

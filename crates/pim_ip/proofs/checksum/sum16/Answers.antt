@@ -1,7 +1,5 @@
-use Rattle.std.proofs.Common.{◌≡◌, ◌+◌, ◌-◌, ◌%◌, bit_and, ap, ◌∙◌, arith}
-use Rattle.std.proofs.lemmas.Grind.{and_numeral}
-use Rattle.pim_ip.specs.Checksum.{sum_of_words, ones, sum16}
-use Rattle.pim_ip.proofs.ChecksumLemmas.{ones-folded}
+use Rattle.std.{proofs.{Common.{◌≡◌, ◌+◌, ◌-◌, ◌%◌, bit_and, ap, ◌∙◌, arith}, lemmas.Grind.and_numeral}}
+use Rattle.pim_ip.{specs.Checksum.{sum_of_words, ones, sum16}, proofs.ChecksumLemmas.ones-folded}
 use Rattle.pim_ip.proofs.checksum.sum16.Goals as goal
 
 pub returns : goal.returns

@@ -1,6 +1,5 @@
-use Rattle.std.proofs.Common.{◌+◌, ◌-◌, length, take, drop, get_or, ap, ◌∙◌, arith}
-use Rattle.pim_ip.specs.Checksum.{sum_of_words, ones}
-use Rattle.pim_ip.proofs.ChecksumLemmas.{sum_of_words-four, ones-four}
+use Rattle.std.{proofs.Common.{◌+◌, ◌-◌, length, take, drop, get_or, ap, ◌∙◌, arith}}
+use Rattle.pim_ip.{specs.Checksum.{sum_of_words, ones}, proofs.ChecksumLemmas.{sum_of_words-four, ones-four}}
 use Rattle.pim_ip.proofs.checksum.sum_of_fours.Goals as goal
 
 pub loop-rest-preserved : goal.loop-rest-preserved

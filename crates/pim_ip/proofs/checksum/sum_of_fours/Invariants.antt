@@ -1,5 +1,5 @@
-use Rattle.std.proofs.Common.{◌≡◌, ◌+◌, ◌^◌, ◌<◌, length}
-use Rattle.pim_ip.specs.Checksum.{sum_of_words, ones}
+use Rattle.std.{proofs.Common.{◌≡◌, ◌+◌, ◌^◌, ◌<◌, length}}
+use Rattle.pim_ip.{specs.Checksum.{sum_of_words, ones}}
 use Rattle.pim_ip.proofs.checksum.sum_of_fours.Given as goal
 
 -- what is summed and what is left make the whole sum

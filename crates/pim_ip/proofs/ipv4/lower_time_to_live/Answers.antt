@@ -1,6 +1,5 @@
-use Rattle.std.proofs.Common.{arith, ◌∙◌}
-use Rattle.pim_ip.proofs.ChecksumLemmas.{sum16-lowered}
-use Rattle.pim_ip.proofs.WritingLemmas.{lowered-put}
+use Rattle.std.{proofs.Common.{arith, ◌∙◌}}
+use Rattle.pim_ip.{proofs.{ChecksumLemmas.sum16-lowered, WritingLemmas.lowered-put}}
 use Rattle.pim_ip.proofs.ipv4.lower_time_to_live.Goals as goal
 
 pub returns : goal.returns

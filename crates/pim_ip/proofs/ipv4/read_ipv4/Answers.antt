@@ -1,7 +1,5 @@
-use Rattle.std.proofs.Common.{◌≡◌, ◌*◌, ℕ, take, ap, arith}
-use Rattle.std.proofs.lemmas.Grind.{common_steps}
-use Rattle.pim_ip.specs.Ipv4.{header_length_of}
-use Rattle.pim_ip.proofs.ReadingLemmas.{packet_found, IsMeasured}
+use Rattle.std.{proofs.{Common.{◌≡◌, ◌*◌, ℕ, take, ap, arith}, lemmas.Grind.common_steps}}
+use Rattle.pim_ip.{specs.Ipv4.header_length_of, proofs.ReadingLemmas.{packet_found, IsMeasured}}
 use Rattle.pim_ip.proofs.ipv4.read_ipv4.Goals as goal
 
 pub returns : goal.returns

@@ -1,8 +1,5 @@
-use Rattle.std.proofs.Common.{arith, rules, ◌++◌, ap, ◌∙◌}
-use Rattle.pim_ip.proofs.ViewLemmas.{copy_reads}
-use Rattle.pim_ip.proofs.WritingLemmas.{lowered_behind}
-use Rattle.pim_ip.specs.Ipv4.{copy_text}
-use Rattle.pim_ip.specs.View.{lowered_header}
+use Rattle.std.{proofs.Common.{arith, rules, ◌++◌, ap, ◌∙◌}}
+use Rattle.pim_ip.{proofs.{ViewLemmas.copy_reads, WritingLemmas.lowered_behind}, specs.{Ipv4.copy_text, View.lowered_header}}
 use Rattle.pim_ip.proofs.ipv4.write_copy.Goals as goal
 
 pub returns-clause-ok : goal.returns-clause-ok

@@ -1,6 +1,5 @@
 -- None of the addresses so far is the one.
-use Rattle.std.proofs.Common.{◌≡◌, ◌==◌, drop}
-use Rattle.std.specs.List.{list_any}
+use Rattle.std.{proofs.Common.{◌≡◌, ◌==◌, drop}, specs.List.list_any}
 use Rattle.pim_lab.proofs.frames.is_among.Given as goal
 
 abbrev pub invariant-loop-own : goal.invariant-loop-own

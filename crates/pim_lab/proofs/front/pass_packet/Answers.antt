@@ -1,9 +1,7 @@
 -- What the front gives in the place of a packet, and what is then remembered.
-use Rattle.std.proofs.Common.{◌∙◌, ◌+◌, ap}
-use Rattle.pim_model.specs.Querier.{group_membership_interval}
-use Rattle.pim_model.specs.State.{State}
-use Rattle.pim_lab.specs.Fronts.{behind}
-use Rattle.pim_lab.proofs.Fronts.{asked_of, content_rewritten, content_same, gives_of, on_link, packet_mark, packet_rewritten, packet_same}
+use Rattle.std.{proofs.Common.{◌∙◌, ◌+◌, ap}}
+use Rattle.pim_model.{specs.{Querier.group_membership_interval, State.State}}
+use Rattle.pim_lab.{specs.Fronts.behind, proofs.Fronts.{asked_of, content_rewritten, content_same, gives_of, on_link, packet_mark, packet_rewritten, packet_same}}
 use Rattle.pim_lab.proofs.front.pass_packet.Goals as goal
 
 pub returns-in_ok-extend_from_slice-in-Same-clause-event : goal.returns-in_ok-extend_from_slice-in-Same-clause-event

@@ -1,11 +1,8 @@
 -- One event of the network, which the front gives.
-use Rattle.std.proofs.Common.{◌∙◌, ℕ, List, ◌∷◌, [], Some, ap, sym}
-use Rattle.pim_types.specs.declared.event.Event.{Event}
-use Rattle.pim_types.specs.declared.outcome.Outcome.{Outcome}
-use Rattle.pim_model.specs.Network.{Network, moved_at, stepped}
-use Rattle.pim_model.specs.Step.{step}
-use Rattle.pim_lab.specs.Fronts.{marked}
-use Rattle.pim_lab.proofs.Fronts.{known_behind, moved_at_is, of_some, one_event, outcome_behind, shown, station_after}
+use Rattle.std.{proofs.Common.{◌∙◌, ℕ, List, ◌∷◌, [], Some, ap, sym}}
+use Rattle.pim_types.{specs.declared.{event.Event.Event, outcome.Outcome.Outcome}}
+use Rattle.pim_model.{specs.{Network.{Network, moved_at, stepped}, Step.step}}
+use Rattle.pim_lab.{specs.Fronts.marked, proofs.Fronts.{known_behind, moved_at_is, of_some, one_event, outcome_behind, shown, station_after}}
 use Rattle.pim_lab.proofs.front.run_behind.Goals as goal
 
 pub returns-clause-outcome : goal.returns-clause-outcome

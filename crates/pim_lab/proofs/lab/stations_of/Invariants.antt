@@ -1,8 +1,7 @@
 -- The nodes so far are those of the routers so far.
-use Rattle.std.proofs.Common.{◌≡◌, ◌++◌, length, map}
-use Rattle.std.specs.Vec.Iter.{into_iter_items, into_iter_len}
-use Rattle.pim_net.specs.Showing.{node_of}
-use Rattle.pim_lab.specs.Statuses.{router_node}
+use Rattle.std.{proofs.Common.{◌≡◌, ◌++◌, length, map}, specs.Vec.Iter.{into_iter_items, into_iter_len}}
+use Rattle.pim_net.{specs.Showing.node_of}
+use Rattle.pim_lab.{specs.Statuses.router_node}
 use Rattle.pim_lab.proofs.lab.stations_of.Given as goal
 
 abbrev pub invariant-loop-text : goal.invariant-loop-text

@@ -1,5 +1,5 @@
 -- What a trouble told with status 4 says.
-use Rattle.pim_lab.proofs.Told.{tells_memory}
+use Rattle.pim_lab.{proofs.Told.tells_memory}
 use Rattle.pim_lab.proofs.playing.play_with.Goals as goal
 
 pub returns-in-Err-clause-memory : goal.returns-in-Err-clause-memory

@@ -1,5 +1,5 @@
 -- The addresses of the interfaces so far.
-use Rattle.std.proofs.Common.{◌≡◌, map, take}
+use Rattle.std.{proofs.Common.{◌≡◌, map, take}}
 use Rattle.pim_lab.proofs.station.addresses_of.Given as goal
 
 abbrev pub invariant-loop-interface : goal.invariant-loop-interface

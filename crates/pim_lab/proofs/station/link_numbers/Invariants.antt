@@ -1,5 +1,5 @@
 -- The numbers of the links so far.
-use Rattle.std.proofs.Common.{◌≡◌, map, take}
+use Rattle.std.{proofs.Common.{◌≡◌, map, take}}
 use Rattle.pim_lab.proofs.station.link_numbers.Given as goal
 
 abbrev pub invariant-loop-link : goal.invariant-loop-link

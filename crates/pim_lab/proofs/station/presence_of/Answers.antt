@@ -1,6 +1,6 @@
 -- One setting more.
-use Rattle.std.proofs.Common.{◌∙◌, ◌++◌, ◌∷◌, [], ap, sym, add-one, map, take}
-use Rattle.pim_lab.proofs.Settings.{same_more}
+use Rattle.std.{proofs.Common.{◌∙◌, ◌++◌, ◌∷◌, [], ap, sym, add-one, map, take}}
+use Rattle.pim_lab.{proofs.Settings.same_more}
 use Rattle.pim_lab.proofs.station.presence_of.Goals as goal
 
 pub loop-interface-preserved : goal.loop-interface-preserved

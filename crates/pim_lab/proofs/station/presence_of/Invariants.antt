@@ -1,5 +1,5 @@
 -- A setting for each interface so far.
-use Rattle.std.proofs.Common.{◌≡◌, map, take}
+use Rattle.std.{proofs.Common.{◌≡◌, map, take}}
 use Rattle.pim_lab.proofs.station.presence_of.Given as goal
 
 abbrev pub invariant-loop-interface : goal.invariant-loop-interface

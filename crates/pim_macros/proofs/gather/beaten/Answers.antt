@@ -1,7 +1,6 @@
-use Rattle.std.proofs.Common.{arith}
-use Rattle.std.proofs.lemmas.Grind.{common_steps}
-use Rattle.pim_model.specs.Sets.{is_beaten}
-use Rattle.pim_macros.proofs.Asserted.{beaten_nowhere, beaten_where_asserted}
+use Rattle.std.{proofs.{Common.arith, lemmas.Grind.common_steps}}
+use Rattle.pim_model.{specs.Sets.is_beaten}
+use Rattle.pim_macros.{proofs.Asserted.{beaten_nowhere, beaten_where_asserted}}
 use Rattle.pim_macros.proofs.gather.beaten.Goals as goal
 
 pub returns-then-is_empty : goal.returns-then-is_empty

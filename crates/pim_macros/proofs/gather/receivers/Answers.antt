@@ -1,7 +1,7 @@
-use Rattle.std.proofs.Common.{ap, ◌∙◌}
-use Rattle.pim_model.specs.Receivers.{is_exclude, is_exclude_among}
-use Rattle.pim_membership.specs.MembershipTables.{MembershipTables}
-use Rattle.pim_macros.proofs.Asserted.{shown_of_all}
+use Rattle.std.{proofs.Common.{ap, ◌∙◌}}
+use Rattle.pim_model.{specs.Receivers.{is_exclude, is_exclude_among}}
+use Rattle.igmp_membership.{specs.MembershipTables.MembershipTables}
+use Rattle.pim_macros.{proofs.Asserted.shown_of_all}
 use Rattle.pim_macros.proofs.gather.receivers.Goals as goal
 
 pub returns : goal.returns

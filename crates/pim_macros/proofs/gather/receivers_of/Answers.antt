@@ -1,7 +1,7 @@
-use Rattle.std.proofs.Common.{ap, ◌∙◌}
-use Rattle.pim_model.specs.Receivers.{local_receiver_exclude, local_receiver_exclude_among, local_receiver_include, local_receiver_include_among}
-use Rattle.pim_membership.specs.MembershipTables.{MembershipTables}
-use Rattle.pim_macros.proofs.Asserted.{shown_of_all}
+use Rattle.std.{proofs.Common.{ap, ◌∙◌}}
+use Rattle.pim_model.{specs.Receivers.{local_receiver_exclude, local_receiver_exclude_among, local_receiver_include, local_receiver_include_among}}
+use Rattle.igmp_membership.{specs.MembershipTables.MembershipTables}
+use Rattle.pim_macros.{proofs.Asserted.shown_of_all}
 use Rattle.pim_macros.proofs.gather.receivers_of.Goals as goal
 
 pub returns-clause-included : goal.returns-clause-included

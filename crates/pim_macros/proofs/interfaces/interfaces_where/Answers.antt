@@ -1,7 +1,6 @@
-use Rattle.std.proofs.Common.{◌≡◌, arith, sym, ◌∙◌}
-use Rattle.pim_macros.proofs.NextInterface.{with_next, without_next}
+use Rattle.std.{proofs.Common.{◌≡◌, arith, sym, ◌∙◌}}
+use Rattle.pim_macros.{proofs.{NextInterface.{with_next, without_next}, interfaces.interfaces_where.Goals.{then-test, else-test}}}
 use Rattle.pim_macros.proofs.interfaces.interfaces_where.Goals as goal
-use Rattle.pim_macros.proofs.interfaces.interfaces_where.Goals.{then-test, else-test}
 
 pub loop-number-preserved : goal.loop-number-preserved
 loop-number-preserved g c p tells q =

@@ -1,5 +1,5 @@
-use Rattle.std.proofs.Common.{◌≡◌, ◌<◌, ◌&&◌, ℕ, Bool, nat_lt}
-use Rattle.pim_ifset.specs.Members.{has}
+use Rattle.std.{proofs.Common.{◌≡◌, ◌<◌, ◌&&◌, ℕ, Bool, nat_lt}}
+use Rattle.pim_ifset.{specs.Members.has}
 use Rattle.pim_macros.proofs.interfaces.interfaces_where.Given as goal
 
 abbrev pub invariant-loop-number : goal.invariant-loop-number

@@ -1,8 +1,7 @@
-use Rattle.std.proofs.Common.{ap, arith, filter, map, refl, ◌∙◌}
-use Rattle.std.specs.List.{range_with_len}
-use Rattle.pim_model.specs.Sets.{members}
-use Rattle.pim_types.specs.declared.config.IfaceId.{IfaceId}
-use Rattle.pim_macros.proofs.ConfiguredMembers.{numbers_of_members}
+use Rattle.std.{proofs.Common.{ap, arith, filter, map, refl, ◌∙◌}, specs.List.range_with_len}
+use Rattle.pim_model.{specs.Sets.members}
+use Rattle.pim_types.{specs.declared.config.IfaceId.IfaceId}
+use Rattle.pim_macros.{proofs.ConfiguredMembers.numbers_of_members}
 use Rattle.pim_macros.proofs.interfaces.members.Goals as goal
 
 pub returns : goal.returns

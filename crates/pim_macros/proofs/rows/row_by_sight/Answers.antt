@@ -1,7 +1,6 @@
-use Rattle.std.proofs.Common.{ap, ◌∙◌}
-use Rattle.pim_model.specs.Tables.{has_row}
-use Rattle.pim_types.specs.Keys.{source_key}
-use Rattle.pim_types.specs.declared.name.SourceGroup.{SourceGroup}
+use Rattle.std.{proofs.Common.{ap, ◌∙◌}}
+use Rattle.pim_model.{specs.Tables.has_row}
+use Rattle.pim_types.{specs.{Keys.source_key, declared.name.SourceGroup.SourceGroup}}
 use Rattle.pim_macros.proofs.rows.row_by_sight.Goals as goal
 
 pub returns-clause-answers : goal.returns-clause-answers

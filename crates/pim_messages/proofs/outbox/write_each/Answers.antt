@@ -1,6 +1,5 @@
-use Rattle.std.proofs.Common.{◌∙◌}
-use Rattle.pim_messages.specs.Sendable.{messages_of}
-use Rattle.pim_messages.proofs.Writing.{sends_all, sends_next}
+use Rattle.std.{proofs.Common.◌∙◌}
+use Rattle.pim_messages.{specs.Sendable.messages_of, proofs.Writing.{sends_all, sends_next}}
 use Rattle.pim_messages.proofs.outbox.write_each.Goals as goal
 
 pub loop-message-preserved : goal.loop-message-preserved

@@ -1,6 +1,5 @@
-use Rattle.std.proofs.Common.{◌≡◌, drop}
-use Rattle.pim_messages.specs.Sendable.{messages_of}
-use Rattle.pim_messages.proofs.Writing.{Sends}
+use Rattle.std.{proofs.Common.{◌≡◌, drop}}
+use Rattle.pim_messages.{specs.Sendable.messages_of, proofs.Writing.Sends}
 use Rattle.pim_messages.proofs.outbox.write_each.Given as goal
 
 abbrev pub invariant-loop-message : goal.invariant-loop-message

@@ -1,6 +1,5 @@
-use Rattle.std.proofs.Common.{◌≡◌, drop}
-use Rattle.std.specs.List.{list_all}
-use Rattle.pim_model.specs.Limits.{is_route}
+use Rattle.std.{proofs.Common.{◌≡◌, drop}, specs.List.list_all}
+use Rattle.pim_model.{specs.Limits.is_route}
 use Rattle.pim_mrib.proofs.limits.each_is_route.Given as goal
 
 abbrev pub invariant-loop-route : goal.invariant-loop-route

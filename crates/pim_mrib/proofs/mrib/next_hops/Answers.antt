@@ -1,10 +1,7 @@
-use Rattle.std.proofs.Common.{List, ap, refl, ◌==◌, ◌∙◌}
-use Rattle.std.specs.List.{list_any}
-use Rattle.std.specs.Ordering.{is_eq, nat_cmp}
-use Rattle.std.proofs.lemmas.List.{take_all}
-use Rattle.pim_ip.specs.declared.addr.Addr.{Addr}
-use Rattle.pim_types.specs.declared.config.Route.{Route}
-use Rattle.pim_mrib.proofs.Hops.{next_hop}
+use Rattle.std.{proofs.{Common.{List, ap, refl, ◌==◌, ◌∙◌}, lemmas.List.take_all}, specs.{List.list_any, Ordering.{is_eq, nat_cmp}}}
+use Rattle.pim_ip.{specs.declared.addr.Addr.Addr}
+use Rattle.pim_types.{specs.declared.config.Route.Route}
+use Rattle.pim_mrib.{proofs.Hops.next_hop}
 use Rattle.pim_mrib.proofs.mrib.next_hops.Goals as goal
 
 pub loop-route-init : goal.loop-route-init

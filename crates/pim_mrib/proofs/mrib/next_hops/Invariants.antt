@@ -1,5 +1,5 @@
-use Rattle.std.proofs.Common.{take}
-use Rattle.pim_mrib.specs.Hops.{AreNextHops}
+use Rattle.std.{proofs.Common.take}
+use Rattle.pim_mrib.{specs.Hops.AreNextHops}
 use Rattle.pim_mrib.proofs.mrib.next_hops.Given as goal
 
 abbrev pub invariant-loop-route : goal.invariant-loop-route

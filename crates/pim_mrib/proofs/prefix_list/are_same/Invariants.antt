@@ -1,4 +1,4 @@
-use Rattle.std.proofs.Common.{◌≡◌, take}
+use Rattle.std.{proofs.Common.{◌≡◌, take}}
 use Rattle.pim_mrib.proofs.prefix_list.are_same.Given as goal
 
 abbrev pub invariant-loop-index : goal.invariant-loop-index

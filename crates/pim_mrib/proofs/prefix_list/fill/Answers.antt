@@ -1,8 +1,6 @@
-use Rattle.std.proofs.Common.{◌≡◌, ℕ, ◌+◌, ◌-◌, true, is_some, None, sym, subst, arith}
-use Rattle.std.specs.Map.{lookup}
-use Rattle.std.specs.BTreeMap.{is_at}
-use Rattle.pim_trie.specs.Entries.{prefix_cmp}
-use Rattle.pim_mrib.proofs.Filled.{HasFrom, found_false, found_true, has_more, has_none, has_two}
+use Rattle.std.{proofs.Common.{◌≡◌, ℕ, ◌+◌, ◌-◌, true, is_some, None, sym, subst, arith}, specs.{Map.lookup, BTreeMap.is_at}}
+use Rattle.pim_trie.{specs.Entries.prefix_cmp}
+use Rattle.pim_mrib.{proofs.Filled.{HasFrom, found_false, found_true, has_more, has_none, has_two}}
 use Rattle.pim_mrib.proofs.prefix_list.fill.Goals as goal
 
 pub loop-left-init : goal.loop-left-init

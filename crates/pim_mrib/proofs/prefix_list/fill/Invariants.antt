@@ -1,4 +1,4 @@
-use Rattle.pim_mrib.proofs.Filled.{HasFrom}
+use Rattle.pim_mrib.{proofs.Filled.HasFrom}
 use Rattle.pim_mrib.proofs.prefix_list.fill.Given as goal
 
 abbrev pub invariant-loop-left : goal.invariant-loop-left

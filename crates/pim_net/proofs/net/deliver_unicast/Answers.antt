@@ -1,8 +1,5 @@
-use Rattle.std.proofs.Common.{◌≡◌, ◌∙◌, ◌+◌, ℕ, ap, get_or, refl, subst}
-use Rattle.pim_net.specs.Carried.{IsCarried, port_of}
-use Rattle.pim_net.specs.declared.moves.Move.{Move}
-use Rattle.pim_net.proofs.Carries.{delivered, is_there, packet_to, refused, uncounted}
-use Rattle.pim_net.proofs.Stations.{if_some, of_some, on_err}
+use Rattle.std.{proofs.Common.{◌≡◌, ◌∙◌, ◌+◌, ℕ, ap, get_or, refl, subst}}
+use Rattle.pim_net.{specs.{Carried.{IsCarried, port_of}, declared.moves.Move.Move}, proofs.{Carries.{delivered, is_there, packet_to, refused, uncounted}, Stations.{if_some, of_some, on_err}}}
 use Rattle.pim_net.proofs.net.deliver_unicast.Goals as goal
 
 pub returns-in_default-clause-moves : goal.returns-in_default-clause-moves

@@ -1,6 +1,5 @@
-use Rattle.std.proofs.Common.{refl}
-use Rattle.pim_net.proofs.Carries.{happened, uncounted}
-use Rattle.pim_net.proofs.Stations.{if_some, of_some}
+use Rattle.std.{proofs.Common.refl}
+use Rattle.pim_net.{proofs.{Carries.{happened, uncounted}, Stations.{if_some, of_some}}}
 use Rattle.pim_net.proofs.net.make.Goals as goal
 
 pub returns-in-Event-clause-moves : goal.returns-in-Event-clause-moves

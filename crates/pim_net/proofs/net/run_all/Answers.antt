@@ -1,8 +1,6 @@
 -- Each move in turn.
-use Rattle.std.proofs.Common.{◌∙◌, arith, refl}
-use Rattle.pim_net.proofs.Carries.{is_there}
-use Rattle.pim_net.proofs.Runs.{runs_end, runs_first, runs_next, runs_written, stops_part_way}
-use Rattle.pim_net.proofs.Stations.{if_some, of_some, passed_on}
+use Rattle.std.{proofs.Common.{◌∙◌, arith, refl}}
+use Rattle.pim_net.{proofs.{Carries.is_there, Runs.{runs_end, runs_first, runs_next, runs_written, stops_part_way}, Stations.{if_some, of_some, passed_on}}}
 use Rattle.pim_net.proofs.net.run_all.Goals as goal
 
 pub loop-one-init : goal.loop-one-init

@@ -1,7 +1,6 @@
 -- The first moves, as many as the loop has come to, were done, and no call of the wire failed.
-use Rattle.std.proofs.Common.{◌≡◌, take}
-use Rattle.std.specs.Prelude.{IfSome}
-use Rattle.pim_net.specs.Carried.{HasMoved}
+use Rattle.std.{proofs.Common.{◌≡◌, take}, specs.Prelude.IfSome}
+use Rattle.pim_net.{specs.Carried.HasMoved}
 use Rattle.pim_net.proofs.net.run_all.Given as goal
 
 abbrev pub invariant-loop-one : goal.invariant-loop-one

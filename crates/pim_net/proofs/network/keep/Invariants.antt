@@ -1,6 +1,5 @@
-use Rattle.std.proofs.Common.{◌≡◌, ◌++◌, map, take}
-use Rattle.std.specs.Prelude.{IfSome}
-use Rattle.pim_model.specs.Network.{sent_by}
+use Rattle.std.{proofs.Common.{◌≡◌, ◌++◌, map, take}, specs.Prelude.IfSome}
+use Rattle.pim_model.{specs.Network.sent_by}
 use Rattle.pim_net.proofs.network.keep.Given as goal
 
 abbrev pub invariant-loop-emission : goal.invariant-loop-emission

@@ -1,10 +1,7 @@
 -- Each node in turn is opened.
-use Rattle.std.proofs.Common.{rules, arith, ◌≡◌, ◌∙◌, ap, sym, subst, List, ◌∷◌, ◌++◌, [], ◌+◌, length, Option, suc}
-use Rattle.std.specs.Vec.Iter.{into_iter_items, into_iter_len}
-use Rattle.pim_model.specs.Network.{Station}
-use Rattle.pim_net.specs.declared.node.Node.{Node}
-use Rattle.pim_net.proofs.Nodes.{Opens, opens_all, opens_fails, opens_next}
-use Rattle.pim_net.proofs.Stations.{of_err, of_ok}
+use Rattle.std.{proofs.Common.{rules, arith, ◌≡◌, ◌∙◌, ap, sym, subst, List, ◌∷◌, ◌++◌, [], ◌+◌, length, Option, suc}, specs.Vec.Iter.{into_iter_items, into_iter_len}}
+use Rattle.pim_model.{specs.Network.Station}
+use Rattle.pim_net.{specs.declared.node.Node.Node, proofs.{Nodes.{Opens, opens_all, opens_fails, opens_next}, Stations.{of_err, of_ok}}}
 use Rattle.pim_net.proofs.network.open_all.Goals as goal
 
 pub loop-node-preserved : goal.loop-node-preserved

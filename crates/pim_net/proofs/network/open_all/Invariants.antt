@@ -1,7 +1,6 @@
 -- The stations so far are those of the first nodes, which passed their tests.
-use Rattle.std.proofs.Common.{◌≡◌, length}
-use Rattle.std.specs.Vec.Iter.{into_iter_items, into_iter_len}
-use Rattle.pim_net.proofs.Nodes.{Opens}
+use Rattle.std.{proofs.Common.{◌≡◌, length}, specs.Vec.Iter.{into_iter_items, into_iter_len}}
+use Rattle.pim_net.{proofs.Nodes.Opens}
 use Rattle.pim_net.proofs.network.open_all.Given as goal
 
 abbrev pub invariant-loop-node : goal.invariant-loop-node

@@ -1,10 +1,6 @@
-use Rattle.std.proofs.Common.{◌≡◌, ◌∙◌, Some, ap, refl, subst, sym}
-use Rattle.std.specs.Prelude.{IfOk, IfSome, OnOk}
-use Rattle.pim_reloaded.specs.Reloading.{reload}
-use Rattle.pim_net.specs.Reloading.{refused_as}
-use Rattle.pim_net.specs.Showing.{node_of}
-use Rattle.pim_net.proofs.Reloads.{few_links, kept_by, linked, not_both, same_refusal, tested_some, unlinked}
-use Rattle.pim_net.proofs.Stations.{if_some, of_err, of_ok}
+use Rattle.std.{proofs.Common.{◌≡◌, ◌∙◌, Some, ap, refl, subst, sym}, specs.Prelude.{IfOk, IfSome, OnOk}}
+use Rattle.law_reloaded.{specs.Reloading.reload}
+use Rattle.pim_net.{specs.{Reloading.refused_as, Showing.node_of}, proofs.{Reloads.{few_links, kept_by, linked, not_both, same_refusal, tested_some, unlinked}, Stations.{if_some, of_err, of_ok}}}
 use Rattle.pim_net.proofs.network.put_under.Goals as goal
 
 pub returns-then-not-is_linked-clause-done : goal.returns-then-not-is_linked-clause-done

@@ -1,8 +1,7 @@
-use Rattle.std.proofs.Common.{◌≡◌, ◌++◌, List, map, subst}
-use Rattle.std.specs.Prelude.{IfSome}
-use Rattle.pim_types.specs.declared.outcome.Emission.{Emission}
-use Rattle.pim_model.specs.Network.{sent_by}
-use Rattle.pim_net.proofs.Steps.{frames_are}
+use Rattle.std.{proofs.Common.{◌≡◌, ◌++◌, List, map, subst}, specs.Prelude.IfSome}
+use Rattle.pim_types.{specs.declared.outcome.Emission.Emission}
+use Rattle.pim_model.{specs.Network.sent_by}
+use Rattle.pim_net.{proofs.Steps.frames_are}
 use Rattle.pim_net.proofs.network.take.Goals as goal
 
 pub returns-clause-frames : goal.returns-clause-frames

@@ -1,10 +1,9 @@
-use Rattle.std.proofs.Common.{◌≡◌, Ok}
-use Rattle.pim_model.specs.State.{State}
-use Rattle.pim_rested.specs.Resuming.{restore_test}
-use Rattle.pim_router.specs.Standing.{Shown, begun}
-use Rattle.pim_saved.specs.Reading.{reading}
-use Rattle.pim_net.proofs.Restored.{read_as}
-use Rattle.pim_net.proofs.Stations.{of_ok}
+use Rattle.std.{proofs.Common.{◌≡◌, Ok}}
+use Rattle.pim_model.{specs.State.State}
+use Rattle.pim_rested.{specs.Resuming.restore_test}
+use Rattle.pim_router.{specs.Standing.{Shown, begun}}
+use Rattle.pim_saved.{specs.Reading.reading}
+use Rattle.pim_net.{proofs.{Restored.read_as, Stations.of_ok}}
 use Rattle.pim_net.proofs.station.made_of.Goals as goal
 
 pub returns-then-interface_count-interfaces-clause-made : goal.returns-then-interface_count-interfaces-clause-made

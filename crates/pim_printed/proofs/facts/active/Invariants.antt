@@ -1,5 +1,5 @@
-use Rattle.std.proofs.Common.{◌≡◌, ◌++◌, map}
-use Rattle.pim_rows.specs.Printed.{active_line}
+use Rattle.std.{proofs.Common.{◌≡◌, ◌++◌, map}}
+use Rattle.pim_rows.{specs.Printed.active_line}
 use Rattle.pim_printed.proofs.facts.active.Given as goal
 
 abbrev pub invariant-loop-key : goal.invariant-loop-key

@@ -1,4 +1,4 @@
-use Rattle.std.proofs.Common.{◌≡◌, ◌++◌, map}
+use Rattle.std.{proofs.Common.{◌≡◌, ◌++◌, map}}
 use Rattle.pim_printed.proofs.facts.lines.Given as goal
 
 abbrev pub invariant-loop-key : goal.invariant-loop-key

@@ -1,9 +1,9 @@
-use Rattle.std.proofs.Common.{◌≡◌, ◌++◌, flat_map}
-use Rattle.pim_world.specs.Groups.{numbers_of}
-use Rattle.pim_macros.specs.Sights.{IsStarSight}
-use Rattle.pim_model.specs.Desires.{tree_state}
-use Rattle.pim_rows.specs.Printed.{tree_line}
-use Rattle.pim_printed.specs.Trees.{lines_of_group}
+use Rattle.std.{proofs.Common.{◌≡◌, ◌++◌, flat_map}}
+use Rattle.pim_state.{specs.Groups.numbers_of}
+use Rattle.pim_macros.{specs.Sights.IsStarSight}
+use Rattle.pim_model.{specs.Desires.tree_state}
+use Rattle.pim_rows.{specs.Printed.tree_line}
+use Rattle.pim_printed.{specs.Trees.lines_of_group}
 use Rattle.pim_printed.proofs.trees.push_group.Given as goal
 
 abbrev pub invariant-loop-source : goal.invariant-loop-source

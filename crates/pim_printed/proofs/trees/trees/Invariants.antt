@@ -1,7 +1,7 @@
-use Rattle.std.proofs.Common.{◌≡◌, ◌++◌, flat_map}
-use Rattle.pim_world.specs.Groups.{numbers_of}
-use Rattle.pim_rows.specs.Printed.{tree_lines}
-use Rattle.pim_printed.specs.Trees.{lines_of_group}
+use Rattle.std.{proofs.Common.{◌≡◌, ◌++◌, flat_map}}
+use Rattle.pim_state.{specs.Groups.numbers_of}
+use Rattle.pim_rows.{specs.Printed.tree_lines}
+use Rattle.pim_printed.{specs.Trees.lines_of_group}
 use Rattle.pim_printed.proofs.trees.trees.Given as goal
 
 abbrev pub invariant-loop-group : goal.invariant-loop-group

@@ -1,5 +1,5 @@
-use Rattle.pim_types.specs.Keys.{addr_cmp}
-use Rattle.pim_querier.proofs.NamedRecords.{gathered_rise}
+use Rattle.pim_types.{specs.Keys.addr_cmp}
+use Rattle.pim_querier.{proofs.NamedRecords.gathered_rise}
 use Rattle.pim_querier.proofs.applying.members_among.Goals as goal
 
 pub returns-clause-ascending : goal.returns-clause-ascending

@@ -1,7 +1,7 @@
-use Rattle.std.proofs.Common.{◌≡◌, ◌++◌}
-use Rattle.pim_filters.specs.Members.{member_entries}
-use Rattle.igmp_wire.specs.Written.{bits_of}
-use Rattle.pim_querier.specs.Reports.{members_named}
+use Rattle.std.{proofs.Common.{◌≡◌, ◌++◌}}
+use Rattle.pim_filters.{specs.Members.member_entries}
+use Rattle.igmp_wire.{specs.Written.bits_of}
+use Rattle.pim_querier.{specs.Reports.members_named}
 use Rattle.pim_querier.proofs.applying.members_among.Given as goal
 
 abbrev pub invariant-loop-source : goal.invariant-loop-source

@@ -1,6 +1,6 @@
-use Rattle.std.proofs.Common.{ap}
-use Rattle.pim_model.specs.Records.{members_of, record_of}
-use Rattle.pim_querier.proofs.LateSources.{late_read}
+use Rattle.std.{proofs.Common.ap}
+use Rattle.pim_model.{specs.Records.{members_of, record_of}}
+use Rattle.pim_querier.{proofs.LateSources.late_read}
 use Rattle.pim_querier.proofs.applying.members_past.Goals as goal
 
 pub returns-clause-ascending : goal.returns-clause-ascending

@@ -1,7 +1,6 @@
-use Rattle.std.proofs.Common.{◌≡◌, ◌++◌, filter}
-use Rattle.pim_filters.specs.Members.{member_entries}
-use Rattle.pim_model.specs.Querier.{exceeds}
-use Rattle.pim_model.specs.Records.{members_of, record_of}
+use Rattle.std.{proofs.Common.{◌≡◌, ◌++◌, filter}}
+use Rattle.pim_filters.{specs.Members.member_entries}
+use Rattle.pim_model.{specs.{Querier.exceeds, Records.{members_of, record_of}}}
 use Rattle.pim_querier.proofs.applying.members_past.Given as goal
 
 abbrev pub invariant-loop-key : goal.invariant-loop-key

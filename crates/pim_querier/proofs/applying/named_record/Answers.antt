@@ -1,14 +1,9 @@
-use Rattle.std.proofs.Common.{◌≡◌, ℕ, ap, subst, sym, ◌∙◌}
-use Rattle.std.specs.Prelude.{if◌then◌else◌}
-use Rattle.pim_filters.specs.Members.{IsAscending, member_entries}
-use Rattle.pim_model.specs.Querier.{group_end}
-use Rattle.pim_model.specs.Records.{Gone, fate_in, record_of}
-use Rattle.pim_model.specs.Tables.{is_among}
-use Rattle.pim_types.specs.Keys.{addr_cmp}
-use Rattle.igmp_wire.specs.Written.{bits_of}
-use Rattle.pim_querier.specs.Reports.{members_named, record_named}
-use Rattle.pim_querier.proofs.NamedRecords.{gathered_fares, made_so}
-use Rattle.pim_querier.proofs.NamedSet.{set_among, set_ascends}
+use Rattle.std.{proofs.Common.{◌≡◌, ℕ, ap, subst, sym, ◌∙◌}, specs.Prelude.if◌then◌else◌}
+use Rattle.pim_filters.{specs.Members.{IsAscending, member_entries}}
+use Rattle.pim_model.{specs.{Querier.group_end, Records.{Absent, source_state_in, record_of}, Tables.is_among}}
+use Rattle.pim_types.{specs.Keys.addr_cmp}
+use Rattle.igmp_wire.{specs.Written.bits_of}
+use Rattle.pim_querier.{specs.Reports.{members_named, record_named}, proofs.{NamedRecords.{gathered_fares, made_so}, NamedSet.{set_among, set_ascends}}}
 use Rattle.pim_querier.proofs.applying.named_record.Goals as goal
 
 pub returns-clause-timer : goal.returns-clause-timer
@@ -21,13 +16,13 @@ returns-clause-ascending c =
     made_so (λ known. IsAscending known.members) c.with.result _ c.with.ensures
     (subst (λ ms. IsAscending (member_entries ms)) (sym c.deref.ensures.value) c.in_ok-members.ensures.ascending)
 
-pub returns-clause-fates : goal.returns-clause-fates
-returns-clause-fates c =
-    made_so (λ known. (src : ℕ) → fate_in known src ≡ (if is_among src (bits_of c.args.sources.now)
-    then fate_in (record_of c.args.world.now c.args.place.iface.number c.args.place.group.bits) src else Gone))
+pub returns-clause-source_states : goal.returns-clause-source_states
+returns-clause-source_states c =
+    made_so (λ known. (src : ℕ) → source_state_in known src ≡ (if is_among src (bits_of c.args.sources.now)
+    then source_state_in (record_of c.args.world.now c.args.place.iface.number c.args.place.group.bits) src else Absent))
     c.with.result _ c.with.ensures
     (gathered_fares c.args.world.now c.args.place.iface.number c.args.place.group.bits (bits_of c.in_ok-named.named.keys)
-    (bits_of c.args.sources.now) _ (rw c.membership.ensures at c.recall_keyed_source_records.ensures)
+    (bits_of c.args.sources.now) _ (rw c.membership.ensures at c.proof_keyed_source_records.ensures)
     (set_among c.in_ok-named.named.keys c.args.sources.now c.in_ok-named.ensures)
     (ap (λ ms. member_entries ms) c.deref.ensures.value ∙ c.in_ok-members.ensures.members))
 

@@ -1,6 +1,6 @@
-use Rattle.std.proofs.Common.{subst, sym}
-use Rattle.pim_filters.specs.Members.{IsAscending, member_entries}
-use Rattle.pim_querier.proofs.NamedRecords.{made_so}
+use Rattle.std.{proofs.Common.{subst, sym}}
+use Rattle.pim_filters.{specs.Members.{IsAscending, member_entries}}
+use Rattle.pim_querier.{proofs.NamedRecords.made_so}
 use Rattle.pim_querier.proofs.applying.record_past.Goals as goal
 
 pub returns-clause-ascending : goal.returns-clause-ascending

@@ -1,7 +1,6 @@
-use Rattle.std.proofs.Common.{ap, refl, ◌∙◌}
-use Rattle.std.proofs.lemmas.List.{take_all}
-use Rattle.pim_filters.specs.Members.{is_named_source}
-use Rattle.pim_querier.proofs.NamedSet.{one_more_named}
+use Rattle.std.{proofs.{Common.{ap, refl, ◌∙◌}, lemmas.List.take_all}}
+use Rattle.pim_filters.{specs.Members.is_named_source}
+use Rattle.pim_querier.{proofs.NamedSet.one_more_named}
 use Rattle.pim_querier.proofs.applying.set_of.Goals as goal
 
 pub loop-source-preserved : goal.loop-source-preserved

@@ -1,5 +1,5 @@
-use Rattle.std.proofs.Common.{◌≡◌, ℕ, take}
-use Rattle.pim_filters.specs.Members.{is_named_source}
+use Rattle.std.{proofs.Common.{◌≡◌, ℕ, take}}
+use Rattle.pim_filters.{specs.Members.is_named_source}
 use Rattle.pim_querier.proofs.applying.set_of.Given as goal
 
 abbrev pub invariant-loop-source : goal.invariant-loop-source

@@ -1,8 +1,7 @@
-use Rattle.std.proofs.Common.{ap}
-use Rattle.pim_model.specs.Tables.{set_row}
-use Rattle.pim_world.specs.Lending.{with_membership}
-use Rattle.pim_querier.proofs.Sent.{put_beside}
-use Rattle.pim_querier.proofs.Starting.{then_ok}
+use Rattle.std.{proofs.Common.ap}
+use Rattle.pim_model.{specs.Tables.set_row}
+use Rattle.pim_state.{specs.Lending.with_membership}
+use Rattle.pim_querier.{proofs.{Sent.put_beside, Starting.then_ok}}
 use Rattle.pim_querier.proofs.applying.write_beside.Goals as goal
 
 pub returns : goal.returns

@@ -1,5 +1,5 @@
-use Rattle.std.proofs.Common.{◌≡◌, drop, fold}
-use Rattle.pim_querier.specs.Changes.{sending_put}
+use Rattle.std.{proofs.Common.{◌≡◌, drop, fold}}
+use Rattle.pim_querier.{specs.Changes.sending_put}
 use Rattle.pim_querier.proofs.asked.put_sendings.Given as goal
 
 abbrev pub invariant-loop-source : goal.invariant-loop-source

@@ -1,8 +1,7 @@
-use Rattle.std.proofs.Common.{option_map, sym, ◌∙◌}
-use Rattle.pim_filters.specs.Asking.{asked_in_order}
-use Rattle.igmp_wire.specs.Written.{bits_of}
-use Rattle.pim_querier.proofs.Queried.{said_of_both, state_of_both}
-use Rattle.pim_querier.proofs.Starting.{then_ok}
+use Rattle.std.{proofs.Common.{option_map, sym, ◌∙◌}}
+use Rattle.pim_filters.{specs.Asking.asked_in_order}
+use Rattle.igmp_wire.{specs.Written.bits_of}
+use Rattle.pim_querier.{proofs.{Queried.{said_of_both, state_of_both}, Starting.then_ok}}
 use Rattle.pim_querier.proofs.asked.query_asked.Goals as goal
 
 pub returns-then-asks_group-clause-state : goal.returns-then-asks_group-clause-state

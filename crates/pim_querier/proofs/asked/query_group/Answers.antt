@@ -1,9 +1,7 @@
-use Rattle.std.proofs.Common.{[], ap, false, ◌+◌, ◌-◌, ◌∙◌}
-use Rattle.pim_world.specs.Lending.{with_membership}
-use Rattle.pim_model.specs.Querier.{query_group}
-use Rattle.pim_model.specs.Tables.{set_row}
-use Rattle.pim_querier.proofs.Queried.{group_queried}
-use Rattle.pim_querier.proofs.Starting.{on_ok, said_one, specific_by}
+use Rattle.std.{proofs.Common.{[], ap, false, ◌+◌, ◌-◌, ◌∙◌}}
+use Rattle.pim_state.{specs.Lending.with_membership}
+use Rattle.pim_model.{specs.{Querier.query_group, Tables.set_row}}
+use Rattle.pim_querier.{proofs.{Queried.group_queried, Starting.{on_ok, said_one, specific_by}}}
 use Rattle.pim_querier.proofs.asked.query_group.Goals as goal
 
 pub returns-clause-state : goal.returns-clause-state

@@ -1,11 +1,9 @@
-use Rattle.std.proofs.Common.{List, ap, arith, refl, sym, ◌==◌, ◌∙◌}
-use Rattle.pim_ip.specs.declared.addr.Addr.{Addr}
-use Rattle.pim_world.specs.Turns.{saying}
-use Rattle.pim_model.specs.Querier.{lower_sources}
-use Rattle.pim_querier.specs.Changes.{sendings_put}
-use Rattle.igmp_wire.specs.Written.{bits_of}
-use Rattle.pim_querier.proofs.Queried.{none_queried, sources_queried}
-use Rattle.pim_querier.proofs.Starting.{nothing_said, said_as, then_ok}
+use Rattle.std.{proofs.Common.{List, ap, arith, refl, sym, ◌==◌, ◌∙◌}}
+use Rattle.pim_ip.{specs.declared.addr.Addr.Addr}
+use Rattle.pim_state.{specs.Turns.saying}
+use Rattle.pim_model.{specs.Querier.lower_sources}
+use Rattle.pim_querier.{specs.Changes.sendings_put, proofs.{Queried.{none_queried, sources_queried}, Starting.{nothing_said, said_as, then_ok}}}
+use Rattle.igmp_wire.{specs.Written.bits_of}
 use Rattle.pim_querier.proofs.asked.query_sources.Goals as goal
 
 pub returns-then-is_empty-clause-state : goal.returns-then-is_empty-clause-state

@@ -1,6 +1,6 @@
-use Rattle.std.proofs.Common.{◌≡◌, filter, take}
-use Rattle.pim_model.specs.Querier.{exceeds, source_end}
-use Rattle.igmp_wire.specs.Written.{bits_of}
+use Rattle.std.{proofs.Common.{◌≡◌, filter, take}}
+use Rattle.pim_model.{specs.Querier.{exceeds, source_end}}
+use Rattle.igmp_wire.{specs.Written.bits_of}
 use Rattle.pim_querier.proofs.asked.running_past.Given as goal
 
 abbrev pub invariant-loop-source : goal.invariant-loop-source

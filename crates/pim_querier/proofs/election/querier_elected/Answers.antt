@@ -1,8 +1,7 @@
-use Rattle.std.proofs.Common.{◌+◌, ◌*◌, ap, ◌∙◌, ℕ}
-use Rattle.pim_types.specs.declared.config.Settings.{Settings}
-use Rattle.pim_model.specs.Querier.{given_or}
-use Rattle.pim_querier.proofs.Electing.{elected, elected_at}
-use Rattle.pim_querier.proofs.Starting.{then_ok}
+use Rattle.std.{proofs.Common.{◌+◌, ◌*◌, ap, ◌∙◌, ℕ}}
+use Rattle.pim_types.{specs.declared.config.Settings.Settings}
+use Rattle.pim_model.{specs.Querier.given_or}
+use Rattle.pim_querier.{proofs.{Electing.{elected, elected_at}, Starting.then_ok}}
 use Rattle.pim_querier.proofs.election.querier_elected.Goals as goal
 
 pub returns : goal.returns

@@ -1,6 +1,6 @@
-use Rattle.std.proofs.Common.{sym}
-use Rattle.pim_model.specs.Firing.{fire_row, fired}
-use Rattle.pim_querier.proofs.Starting.{nothing_said}
+use Rattle.std.{proofs.Common.sym}
+use Rattle.pim_model.{specs.Firing.{fire_row, fired}}
+use Rattle.pim_querier.{proofs.Starting.nothing_said}
 use Rattle.pim_querier.proofs.firing.general_query_fired.Goals as goal
 
 pub returns-in-Some-clause-state : goal.returns-in-Some-clause-state

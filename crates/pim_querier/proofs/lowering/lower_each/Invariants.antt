@@ -1,5 +1,5 @@
-use Rattle.std.proofs.Common.{◌≡◌, drop, fold}
-use Rattle.pim_querier.specs.Changes.{one_lowered}
+use Rattle.std.{proofs.Common.{◌≡◌, drop, fold}}
+use Rattle.pim_querier.{specs.Changes.one_lowered}
 use Rattle.pim_querier.proofs.lowering.lower_each.Given as goal
 
 abbrev pub invariant-loop-source : goal.invariant-loop-source

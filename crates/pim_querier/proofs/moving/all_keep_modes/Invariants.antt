@@ -1,7 +1,6 @@
-use Rattle.std.proofs.Common.{◌≡◌, filter, not}
-use Rattle.std.specs.List.{list_all}
-use Rattle.pim_model.specs.Querier.{is_skipped}
-use Rattle.pim_querier.specs.Reports.{keeps_mode}
+use Rattle.std.{proofs.Common.{◌≡◌, filter, not}, specs.List.list_all}
+use Rattle.pim_model.{specs.Querier.is_skipped}
+use Rattle.pim_querier.{specs.Reports.keeps_mode}
 use Rattle.pim_querier.proofs.moving.all_keep_modes.Given as goal
 
 abbrev pub invariant-loop-group_record : goal.invariant-loop-group_record

@@ -1,5 +1,5 @@
-use Rattle.std.proofs.Common.{◌∙◌}
-use Rattle.pim_querier.proofs.Naming.{all_moved, one_moved}
+use Rattle.std.{proofs.Common.◌∙◌}
+use Rattle.pim_querier.{proofs.Naming.{all_moved, one_moved}}
 use Rattle.pim_querier.proofs.moving.moved_sources.Goals as goal
 
 pub loop-group_record-preserved : goal.loop-group_record-preserved

@@ -1,5 +1,5 @@
-use Rattle.std.proofs.Common.{◌≡◌, ◌++◌}
-use Rattle.pim_querier.specs.Reports.{moved_sources}
+use Rattle.std.{proofs.Common.{◌≡◌, ◌++◌}}
+use Rattle.pim_querier.{specs.Reports.moved_sources}
 use Rattle.pim_querier.proofs.moving.moved_sources.Given as goal
 
 abbrev pub invariant-loop-group_record : goal.invariant-loop-group_record

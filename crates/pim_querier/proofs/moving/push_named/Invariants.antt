@@ -1,7 +1,7 @@
-use Rattle.std.proofs.Common.{◌≡◌, ◌++◌, filter, map, not}
-use Rattle.pim_types.specs.Keys.{source_key}
-use Rattle.pim_model.specs.Tables.{row_at}
-use Rattle.pim_querier.specs.Reports.{moved_named, stays}
+use Rattle.std.{proofs.Common.{◌≡◌, ◌++◌, filter, map, not}}
+use Rattle.pim_types.{specs.Keys.source_key}
+use Rattle.pim_model.{specs.Tables.row_at}
+use Rattle.pim_querier.{specs.Reports.{moved_named, stays}}
 use Rattle.pim_querier.proofs.moving.push_named.Given as goal
 
 abbrev pub invariant-loop-source : goal.invariant-loop-source

@@ -1,5 +1,5 @@
-use Rattle.std.proofs.Common.{◌≡◌, ◌++◌, filter, map}
-use Rattle.pim_model.specs.Records.{is_at_group}
+use Rattle.std.{proofs.Common.{◌≡◌, ◌++◌, filter, map}}
+use Rattle.pim_model.{specs.Records.is_at_group}
 use Rattle.pim_querier.proofs.moving.push_sources_at.Given as goal
 
 abbrev pub invariant-loop-key : goal.invariant-loop-key

@@ -1,4 +1,4 @@
-use Rattle.std.proofs.Common.{◌≡◌, ◌+◌, length}
+use Rattle.std.{proofs.Common.{◌≡◌, ◌+◌, length}}
 use Rattle.pim_querier.proofs.named.count_named.Given as goal
 
 abbrev pub invariant-loop-source : goal.invariant-loop-source

@@ -1,5 +1,5 @@
-use Rattle.std.proofs.Common.{sym}
-use Rattle.pim_querier.proofs.Room.{room_for_named}
+use Rattle.std.{proofs.Common.sym}
+use Rattle.pim_querier.{proofs.Room.room_for_named}
 use Rattle.pim_querier.proofs.named.is_full.Goals as goal
 
 pub returns-then-not-may_be_full : goal.returns-then-not-may_be_full

@@ -1,11 +1,8 @@
-use Rattle.std.proofs.Common.{[], ◌+◌, fold, refl, subst, sym, take}
-use Rattle.std.proofs.lemmas.List.{take_all}
-use Rattle.pim_types.specs.Keys.{addr_cmp, key_cmp}
-use Rattle.pim_model.specs.Downstream.{is_named}
-use Rattle.pim_model.specs.Full.{distinct, once_more}
-use Rattle.pim_querier.proofs.Missing.{Counts, all_counted, next_once, passed, put_once}
+use Rattle.std.{proofs.{Common.{[], ◌+◌, fold, refl, subst, sym, take}, lemmas.List.take_all}}
+use Rattle.pim_types.{specs.Keys.{addr_cmp, key_cmp}}
+use Rattle.pim_model.{specs.{Downstream.is_named, Full.{distinct, once_more}}}
+use Rattle.pim_querier.{proofs.{Missing.{Counts, all_counted, next_once, passed, put_once}, named.missing.Goals.{then-not-is_there+in_ok-insert, else-not-is_there}}}
 use Rattle.pim_querier.proofs.named.missing.Goals as goal
-use Rattle.pim_querier.proofs.named.missing.Goals.{then-not-is_there+in_ok-insert, else-not-is_there}
 
 pub loop-key-preserved : goal.loop-key-preserved
 unfolding key_cmp addr_cmp is_named

@@ -1,6 +1,6 @@
-use Rattle.std.proofs.Common.{[], fold, take}
-use Rattle.pim_model.specs.Full.{once_more}
-use Rattle.pim_querier.proofs.Missing.{Counts}
+use Rattle.std.{proofs.Common.{[], fold, take}}
+use Rattle.pim_model.{specs.Full.once_more}
+use Rattle.pim_querier.{proofs.Missing.Counts}
 use Rattle.pim_querier.proofs.named.missing.Given as goal
 
 abbrev pub invariant-loop-key : goal.invariant-loop-key

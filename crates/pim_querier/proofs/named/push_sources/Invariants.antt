@@ -1,5 +1,5 @@
-use Rattle.std.proofs.Common.{◌≡◌, ◌++◌, map}
-use Rattle.pim_types.specs.Keys.{source_key}
+use Rattle.std.{proofs.Common.{◌≡◌, ◌++◌, map}}
+use Rattle.pim_types.{specs.Keys.source_key}
 use Rattle.pim_querier.proofs.named.push_sources.Given as goal
 
 abbrev pub invariant-loop-source : goal.invariant-loop-source

@@ -1,4 +1,4 @@
-use Rattle.pim_querier.proofs.Naming.{all_named, one_named}
+use Rattle.pim_querier.{proofs.Naming.{all_named, one_named}}
 use Rattle.pim_querier.proofs.named.reported.Goals as goal
 
 pub loop-group_record-preserved : goal.loop-group_record-preserved

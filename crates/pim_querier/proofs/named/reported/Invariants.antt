@@ -1,4 +1,4 @@
-use Rattle.pim_querier.proofs.Naming.{Names}
+use Rattle.pim_querier.{proofs.Naming.Names}
 use Rattle.pim_querier.proofs.named.reported.Given as goal
 
 abbrev pub invariant-loop-group_record : goal.invariant-loop-group_record

@@ -1,5 +1,5 @@
-use Rattle.std.proofs.Common.{sym, ◌∙◌}
-use Rattle.pim_querier.proofs.Parts.{all_put, is_none, is_some, one_more_put}
+use Rattle.std.{proofs.Common.{sym, ◌∙◌}}
+use Rattle.pim_querier.{proofs.Parts.{all_put, is_none, is_some, one_more_put}}
 use Rattle.pim_querier.proofs.queries.put_queries.Goals as goal
 
 pub loop-left-preserved : goal.loop-left-preserved

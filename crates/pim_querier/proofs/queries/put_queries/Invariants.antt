@@ -1,7 +1,6 @@
-use Rattle.std.proofs.Common.{length, ◌++◌}
-use Rattle.pim_querier.proofs.Parts.{Puts}
-use Rattle.pim_querier.specs.Queries.{all_queries, asking}
-use Rattle.igmp_wire.specs.Written.{bits_of}
+use Rattle.std.{proofs.Common.{length, ◌++◌}}
+use Rattle.pim_querier.{proofs.Parts.Puts, specs.Queries.{all_queries, asking}}
+use Rattle.igmp_wire.{specs.Written.bits_of}
 use Rattle.pim_querier.proofs.queries.put_queries.Given as goal
 
 abbrev pub invariant-loop-left : goal.invariant-loop-left

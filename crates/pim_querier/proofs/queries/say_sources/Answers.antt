@@ -1,7 +1,7 @@
-use Rattle.std.proofs.Common.{subst, OnOk, List, ◌≡◌, ◌++◌}
-use Rattle.pim_model.specs.Messages.{Message}
-use Rattle.igmp_wire.specs.Written.{bits_of}
-use Rattle.pim_querier.proofs.Starting.{all_specific, said}
+use Rattle.std.{proofs.Common.{subst, OnOk, List, ◌≡◌, ◌++◌}}
+use Rattle.pim_model.{specs.Messages.Message}
+use Rattle.igmp_wire.{specs.Written.bits_of}
+use Rattle.pim_querier.{proofs.Starting.{all_specific, said}}
 use Rattle.pim_querier.proofs.queries.say_sources.Goals as goal
 
 pub returns : goal.returns

@@ -1,6 +1,6 @@
-use Rattle.std.proofs.Common.{ap}
-use Rattle.pim_world.specs.Lending.{with_membership}
-use Rattle.pim_querier.proofs.OneSource.{source_dropped}
+use Rattle.std.{proofs.Common.ap}
+use Rattle.pim_state.{specs.Lending.with_membership}
+use Rattle.pim_querier.{proofs.OneSource.source_dropped}
 use Rattle.pim_querier.proofs.records.drop_source.Goals as goal
 
 pub returns : goal.returns

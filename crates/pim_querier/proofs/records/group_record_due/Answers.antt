@@ -1,4 +1,4 @@
-use Rattle.pim_querier.proofs.Expired.{group_near}
+use Rattle.pim_querier.{proofs.Expired.group_near}
 use Rattle.pim_querier.proofs.records.group_record_due.Goals as goal
 
 pub set_members-requires : goal.set_members-requires

@@ -1,9 +1,7 @@
-use Rattle.std.proofs.Common.{◌∙◌}
-use Rattle.std.specs.Borrow.{Bor}
-use Rattle.pim_types.specs.declared.fact.Key.{Key}
-use Rattle.pim_types.specs.declared.fact.SourceRecordRow.{SourceRecordRow}
-use Rattle.pim_model.specs.Records.{is_at_group}
-use Rattle.pim_world.proofs.FirstFound.{any_by_first}
+use Rattle.std.{proofs.Common.◌∙◌, specs.Borrow.Bor}
+use Rattle.pim_types.{specs.declared.fact.{Key.Key, SourceRecordRow.SourceRecordRow}}
+use Rattle.pim_model.{specs.Records.is_at_group}
+use Rattle.pim_state.{proofs.FirstFound.any_by_first}
 use Rattle.pim_querier.proofs.records.has_sources.Goals as goal
 
 pub returns : goal.returns

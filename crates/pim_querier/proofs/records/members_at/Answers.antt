@@ -1,6 +1,6 @@
-use Rattle.std.proofs.Common.{ap}
-use Rattle.pim_model.specs.Records.{members_of, record_of}
-use Rattle.pim_querier.proofs.Reported.{all_read, members_rise, rows_near}
+use Rattle.std.{proofs.Common.ap}
+use Rattle.pim_model.{specs.Records.{members_of, record_of}}
+use Rattle.pim_querier.{proofs.Reported.{all_read, members_rise, rows_near}}
 use Rattle.pim_querier.proofs.records.members_at.Goals as goal
 
 pub returns-clause-near : goal.returns-clause-near

@@ -1,6 +1,6 @@
-use Rattle.std.proofs.Common.{◌≡◌, ◌++◌}
-use Rattle.pim_filters.specs.Members.{member_entries}
-use Rattle.pim_model.specs.Records.{members_of, record_of}
+use Rattle.std.{proofs.Common.{◌≡◌, ◌++◌}}
+use Rattle.pim_filters.{specs.Members.member_entries}
+use Rattle.pim_model.{specs.Records.{members_of, record_of}}
 use Rattle.pim_querier.proofs.records.members_at.Given as goal
 
 abbrev pub invariant-loop-key : goal.invariant-loop-key

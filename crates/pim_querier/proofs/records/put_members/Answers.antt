@@ -1,11 +1,9 @@
-use Rattle.std.proofs.Common.{◌+◌, None, ap, drop, fold, sym, ◌∙◌}
-use Rattle.std.proofs.lemmas.List.{drop_more}
-use Rattle.pim_ip.specs.Addr.{addr}
-use Rattle.pim_filters.specs.declared.member.Member.{Member}
-use Rattle.pim_model.specs.State.{State}
-use Rattle.pim_model.specs.Tables.{set_row}
-use Rattle.pim_world.specs.Lending.{with_membership}
-use Rattle.pim_querier.specs.Changes.{member_put}
+use Rattle.std.{proofs.{Common.{◌+◌, None, ap, drop, fold, sym, ◌∙◌}, lemmas.List.drop_more}}
+use Rattle.pim_ip.{specs.Addr.addr}
+use Rattle.pim_filters.{specs.declared.member.Member.Member}
+use Rattle.pim_model.{specs.{State.State, Tables.set_row}}
+use Rattle.pim_state.{specs.Lending.with_membership}
+use Rattle.pim_querier.{specs.Changes.member_put}
 use Rattle.pim_querier.proofs.records.put_members.Goals as goal
 
 pub loop-member-preserved : goal.loop-member-preserved

@@ -1,5 +1,5 @@
-use Rattle.std.proofs.Common.{◌≡◌, drop, fold}
-use Rattle.pim_querier.specs.Changes.{member_put}
+use Rattle.std.{proofs.Common.{◌≡◌, drop, fold}}
+use Rattle.pim_querier.{specs.Changes.member_put}
 use Rattle.pim_querier.proofs.records.put_members.Given as goal
 
 abbrev pub invariant-loop-member : goal.invariant-loop-member

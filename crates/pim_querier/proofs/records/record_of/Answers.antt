@@ -1,6 +1,6 @@
-use Rattle.std.proofs.Common.{◌<◌, length, subst, sym}
-use Rattle.pim_filters.specs.Members.{member_entries}
-use Rattle.pim_querier.proofs.Expired.{made_near}
+use Rattle.std.{proofs.Common.{◌<◌, length, subst, sym}}
+use Rattle.pim_filters.{specs.Members.member_entries}
+use Rattle.pim_querier.{proofs.Expired.made_near}
 use Rattle.pim_querier.proofs.records.record_of.Goals as goal
 
 pub returns-clause-near : goal.returns-clause-near

@@ -1,8 +1,6 @@
-use Rattle.std.proofs.Common.{ap}
-use Rattle.pim_world.specs.Lending.{with_membership}
-use Rattle.pim_querier.proofs.Expired.{members_near}
-use Rattle.pim_querier.proofs.Sent.{members_set}
-use Rattle.pim_querier.proofs.Starting.{then_ok}
+use Rattle.std.{proofs.Common.ap}
+use Rattle.pim_state.{specs.Lending.with_membership}
+use Rattle.pim_querier.{proofs.{Expired.members_near, Sent.members_set, Starting.then_ok}}
 use Rattle.pim_querier.proofs.records.set_members.Goals as goal
 
 pub put_members-requires : goal.put_members-requires

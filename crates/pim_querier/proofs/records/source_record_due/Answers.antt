@@ -1,5 +1,5 @@
-use Rattle.std.proofs.Common.{◌∙◌}
-use Rattle.pim_querier.proofs.Starting.{then_ok}
+use Rattle.std.{proofs.Common.◌∙◌}
+use Rattle.pim_querier.{proofs.Starting.then_ok}
 use Rattle.pim_querier.proofs.records.source_record_due.Goals as goal
 
 pub returns : goal.returns

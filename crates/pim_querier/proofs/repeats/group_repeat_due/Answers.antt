@@ -1,6 +1,6 @@
-use Rattle.std.proofs.Common.{[], ap, ◌∙◌}
-use Rattle.pim_model.specs.Querier.{exceeds, group_repeat_due, query_end, specific_query}
-use Rattle.pim_querier.proofs.Starting.{said_one, specific_by}
+use Rattle.std.{proofs.Common.{[], ap, ◌∙◌}}
+use Rattle.pim_model.{specs.Querier.{exceeds, group_repeat_due, query_end, specific_query}}
+use Rattle.pim_querier.{proofs.Starting.{said_one, specific_by}}
 use Rattle.pim_querier.proofs.repeats.group_repeat_due.Goals as goal
 
 pub returns-clause-messages : goal.returns-clause-messages

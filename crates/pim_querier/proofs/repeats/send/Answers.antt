@@ -1,11 +1,9 @@
-use Rattle.std.proofs.Common.{Bool, List, ap, false, filter, true, ℕ, ◌∙◌}
-use Rattle.pim_ip.specs.declared.addr.Addr.{Addr}
-use Rattle.pim_types.specs.declared.fact.SendingRow.{SendingRow}
-use Rattle.pim_model.specs.Querier.{exceeds, source_end}
-use Rattle.pim_model.specs.Tables.{Table, same_bool}
-use Rattle.pim_querier.specs.Changes.{row_sources}
-use Rattle.igmp_wire.specs.Written.{bits_of}
-use Rattle.pim_querier.proofs.Sent.{all_sent, both_said, sent_of}
+use Rattle.std.{proofs.Common.{Bool, List, ap, false, filter, true, ℕ, ◌∙◌}}
+use Rattle.pim_ip.{specs.declared.addr.Addr.Addr}
+use Rattle.pim_types.{specs.declared.fact.SendingRow.SendingRow}
+use Rattle.pim_model.{specs.{Querier.{exceeds, source_end}, Tables.{Table, same_bool}}}
+use Rattle.pim_querier.{specs.Changes.row_sources, proofs.Sent.{all_sent, both_said, sent_of}}
+use Rattle.igmp_wire.{specs.Written.bits_of}
 use Rattle.pim_querier.proofs.repeats.send.Goals as goal
 
 pub returns-clause-state : goal.returns-clause-state
@@ -13,7 +11,7 @@ returns-clause-state c =
     sent_of c.args.place.iface.number c.args.place.group.bits c.args.world.now c.lessen.new.world
     (c.lessen.ensures
     ∙ all_sent c.args.place.iface.number c.args.place.group.bits c.args.world.now c.deref-5.result.now
-    (c.deref-5.ensures.value ∙ c.in_ok-sendings.ensures) (rw c.membership.ensures at c.recall_rising_sendings.ensures))
+    (c.deref-5.ensures.value ∙ c.in_ok-sendings.ensures) (rw c.membership.ensures at c.proof_rising_sendings.ensures))
 
 pub returns-clause-messages : goal.returns-clause-messages
 returns-clause-messages c =

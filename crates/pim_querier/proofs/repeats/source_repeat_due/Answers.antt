@@ -1,7 +1,6 @@
-use Rattle.std.proofs.Common.{ap}
-use Rattle.pim_world.specs.Lending.{with_membership}
-use Rattle.pim_querier.proofs.Sent.{repeated}
-use Rattle.pim_querier.proofs.Starting.{then_ok}
+use Rattle.std.{proofs.Common.ap}
+use Rattle.pim_state.{specs.Lending.with_membership}
+use Rattle.pim_querier.{proofs.{Sent.repeated, Starting.then_ok}}
 use Rattle.pim_querier.proofs.repeats.source_repeat_due.Goals as goal
 
 pub returns-clause-state : goal.returns-clause-state

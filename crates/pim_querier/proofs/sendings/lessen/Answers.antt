@@ -1,6 +1,6 @@
-use Rattle.std.proofs.Common.{ap, refl}
-use Rattle.pim_world.specs.Lending.{with_membership}
-use Rattle.pim_querier.proofs.Sent.{one_more_less}
+use Rattle.std.{proofs.Common.{ap, refl}}
+use Rattle.pim_state.{specs.Lending.with_membership}
+use Rattle.pim_querier.{proofs.Sent.one_more_less}
 use Rattle.pim_querier.proofs.sendings.lessen.Goals as goal
 
 pub loop-key-preserved : goal.loop-key-preserved

@@ -1,5 +1,5 @@
-use Rattle.std.proofs.Common.{◌≡◌, drop, fold}
-use Rattle.pim_querier.specs.Changes.{one_less, sending_changed}
+use Rattle.std.{proofs.Common.{◌≡◌, drop, fold}}
+use Rattle.pim_querier.{specs.Changes.{one_less, sending_changed}}
 use Rattle.pim_querier.proofs.sendings.lessen.Given as goal
 
 abbrev pub invariant-loop-key : goal.invariant-loop-key

@@ -1,5 +1,5 @@
-use Rattle.std.proofs.Common.{◌≡◌, ◌++◌, filter}
-use Rattle.pim_model.specs.Querier.{is_sending}
+use Rattle.std.{proofs.Common.{◌≡◌, ◌++◌, filter}}
+use Rattle.pim_model.{specs.Querier.is_sending}
 use Rattle.pim_querier.proofs.sendings.sendings_at.Given as goal
 
 abbrev pub invariant-loop-key : goal.invariant-loop-key

@@ -1,8 +1,7 @@
-use Rattle.std.proofs.Common.{◌≡◌, filter, take}
-use Rattle.pim_model.specs.Querier.{exceeds, source_end}
-use Rattle.pim_model.specs.Tables.{same_bool}
-use Rattle.pim_querier.specs.Changes.{row_sources}
-use Rattle.igmp_wire.specs.Written.{bits_of}
+use Rattle.std.{proofs.Common.{◌≡◌, filter, take}}
+use Rattle.pim_model.{specs.{Querier.{exceeds, source_end}, Tables.same_bool}}
+use Rattle.pim_querier.{specs.Changes.row_sources}
+use Rattle.igmp_wire.{specs.Written.bits_of}
 use Rattle.pim_querier.proofs.sendings.sources_by_end.Given as goal
 
 abbrev pub invariant-loop-key : goal.invariant-loop-key

@@ -1,5 +1,5 @@
-use Rattle.pim_model.specs.Querier.{general_query_due}
-use Rattle.pim_querier.proofs.Starting.{general_by, said_one}
+use Rattle.pim_model.{specs.Querier.general_query_due}
+use Rattle.pim_querier.{proofs.Starting.{general_by, said_one}}
 use Rattle.pim_querier.proofs.startup.general_query_due.Goals as goal
 
 pub returns-clause-messages : goal.returns-clause-messages

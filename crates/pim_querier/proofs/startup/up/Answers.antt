@@ -1,7 +1,6 @@
-use Rattle.std.proofs.Common.{ap, ◌∙◌}
-use Rattle.pim_model.specs.Querier.{general_query}
-use Rattle.pim_model.specs.State.{State}
-use Rattle.pim_querier.proofs.Starting.{general_by, on_ok, said_one, starts}
+use Rattle.std.{proofs.Common.{ap, ◌∙◌}}
+use Rattle.pim_model.{specs.{Querier.general_query, State.State}}
+use Rattle.pim_querier.{proofs.Starting.{general_by, on_ok, said_one, starts}}
 use Rattle.pim_querier.proofs.startup.up.Goals as goal
 
 pub returns-clause-state : goal.returns-clause-state

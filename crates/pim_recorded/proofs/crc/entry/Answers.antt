@@ -1,4 +1,4 @@
-use Rattle.pim_recorded.proofs.Entries.{entry_at, table, table_has_entries}
+use Rattle.pim_recorded.{proofs.Entries.{entry_at, table, table_has_entries}}
 use Rattle.pim_recorded.proofs.crc.entry.Goals as goal
 
 pub returns : goal.returns

@@ -1,5 +1,5 @@
-use Rattle.std.proofs.Common.{◌≡◌, drop}
-use Rattle.pim_recorded.specs.Crc.{after_bytes}
+use Rattle.std.{proofs.Common.{◌≡◌, drop}}
+use Rattle.pim_recorded.{specs.Crc.after_bytes}
 use Rattle.pim_recorded.proofs.crc.with_bytes.Given as goal
 
 abbrev pub invariant-loop-byte : goal.invariant-loop-byte

@@ -1,4 +1,4 @@
-use Rattle.pim_recorded.proofs.SpelledRecords.{reading_is_record}
+use Rattle.pim_recorded.{proofs.SpelledRecords.reading_is_record}
 use Rattle.pim_recorded.proofs.laws.one_text_a_record.Goals as goal
 
 pub returns : goal.returns

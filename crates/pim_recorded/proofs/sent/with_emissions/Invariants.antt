@@ -1,5 +1,5 @@
-use Rattle.std.proofs.Common.{◌≡◌, drop}
-use Rattle.pim_recorded.specs.Records.{after_sent}
+use Rattle.std.{proofs.Common.{◌≡◌, drop}}
+use Rattle.pim_recorded.{specs.Records.after_sent}
 use Rattle.pim_recorded.proofs.sent.with_emissions.Given as goal
 
 abbrev pub invariant-loop-emission : goal.invariant-loop-emission

@@ -1,4 +1,4 @@
-use Rattle.pim_recorded.proofs.Parts.{three_fields}
+use Rattle.pim_recorded.{proofs.Parts.three_fields}
 use Rattle.pim_recorded.proofs.writing.write_frame.Goals as goal
 
 pub returns-clause-ok : goal.returns-clause-ok

@@ -1,4 +1,4 @@
-use Rattle.pim_recorded.proofs.Parts.{two_fields}
+use Rattle.pim_recorded.{proofs.Parts.two_fields}
 use Rattle.pim_recorded.proofs.writing.write_routes.Goals as goal
 
 pub returns-clause-ok : goal.returns-clause-ok

@@ -1,9 +1,7 @@
-use Rattle.std.proofs.Common.{◌∙◌, ap}
-use Rattle.pim_types.specs.declared.fact.InterfaceRow.{InterfaceRow}
-use Rattle.pim_model.specs.State.{InterfaceTable}
-use Rattle.pim_model.specs.Tables.{Table}
-use Rattle.pim_refilled.specs.Refilled.{refilled}
-use Rattle.pim_refilled.proofs.Filled.{filled}
+use Rattle.std.{proofs.Common.{◌∙◌, ap}}
+use Rattle.pim_types.{specs.declared.fact.InterfaceRow.InterfaceRow}
+use Rattle.pim_model.{specs.{State.InterfaceTable, Tables.Table}}
+use Rattle.pim_refilled.{specs.Refilled.refilled, proofs.Filled.filled}
 use Rattle.pim_refilled.proofs.interfaces.interfaces_of.Goals as goal
 
 abbrev with_rows : InterfaceTable → Table InterfaceRow → InterfaceTable

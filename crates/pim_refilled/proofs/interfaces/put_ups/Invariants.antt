@@ -1,7 +1,6 @@
-use Rattle.std.proofs.Common.{◌≡◌, drop, length}
-use Rattle.std.specs.List.{list_all}
-use Rattle.pim_ifaces.specs.Interfaces.{is_up_key}
-use Rattle.pim_refilled.specs.Refilled.{refilled}
+use Rattle.std.{proofs.Common.{◌≡◌, drop, length}, specs.List.list_all}
+use Rattle.pim_ifaces.{specs.Interfaces.is_up_key}
+use Rattle.pim_refilled.{specs.Refilled.refilled}
 use Rattle.pim_refilled.proofs.interfaces.put_ups.Given as goal
 
 abbrev pub invariant-loop-row : goal.invariant-loop-row

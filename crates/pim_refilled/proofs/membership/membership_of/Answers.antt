@@ -1,7 +1,6 @@
-use Rattle.std.proofs.Common.{◌∙◌, ap}
-use Rattle.pim_membership.specs.MembershipTables.{MembershipTables}
-use Rattle.pim_refilled.specs.Recorded.{all_refilled, tables_in}
-use Rattle.pim_refilled.proofs.FilledRecords.{all_filled}
+use Rattle.std.{proofs.Common.{◌∙◌, ap}}
+use Rattle.igmp_membership.{specs.MembershipTables.MembershipTables}
+use Rattle.pim_refilled.{specs.Recorded.{all_refilled, tables_in}, proofs.FilledRecords.all_filled}
 use Rattle.pim_refilled.proofs.membership.membership_of.Goals as goal
 
 pub returns-clause-made : goal.returns-clause-made

@@ -1,5 +1,5 @@
-use Rattle.std.proofs.Common.{◌≡◌, drop}
-use Rattle.pim_refilled.specs.Refilled.{refilled}
+use Rattle.std.{proofs.Common.{◌≡◌, drop}}
+use Rattle.pim_refilled.{specs.Refilled.refilled}
 use Rattle.pim_refilled.proofs.neighbours.put_neighbours.Given as goal
 
 abbrev pub invariant-loop-row : goal.invariant-loop-row

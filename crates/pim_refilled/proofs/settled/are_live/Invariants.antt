@@ -1,6 +1,4 @@
-use Rattle.std.proofs.Common.{◌≡◌}
-use Rattle.std.specs.List.{list_all}
-use Rattle.std.specs.Prelude.{is_some, ◌||◌}
+use Rattle.std.{proofs.Common.◌≡◌, specs.{List.list_all, Prelude.{is_some, ◌||◌}}}
 use Rattle.pim_refilled.proofs.settled.are_live.Given as goal
 
 abbrev pub invariant-loop-row : goal.invariant-loop-row

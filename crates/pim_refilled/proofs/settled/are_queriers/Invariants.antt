@@ -1,6 +1,5 @@
-use Rattle.std.proofs.Common.{◌≡◌}
-use Rattle.std.specs.List.{list_all}
-use Rattle.pim_laws.specs.Laws.{is_querier_entry}
+use Rattle.std.{proofs.Common.◌≡◌, specs.List.list_all}
+use Rattle.law_settled.{specs.Laws.is_querier_entry}
 use Rattle.pim_refilled.proofs.settled.are_queriers.Given as goal
 
 abbrev pub invariant-loop-key : goal.invariant-loop-key

@@ -1,6 +1,5 @@
-use Rattle.std.proofs.Common.{◌≡◌}
-use Rattle.std.specs.List.{list_all}
-use Rattle.pim_laws.specs.Laws.{is_under_source}
+use Rattle.std.{proofs.Common.◌≡◌, specs.List.list_all}
+use Rattle.law_settled.{specs.Laws.is_under_source}
 use Rattle.pim_refilled.proofs.settled.are_sources.Given as goal
 
 abbrev pub invariant-loop-key : goal.invariant-loop-key

@@ -1,5 +1,5 @@
-use Rattle.std.proofs.Common.{◌≡◌}
-use Rattle.pim_restored.specs.Resting.{are_up}
+use Rattle.std.{proofs.Common.◌≡◌}
+use Rattle.law_restored.{specs.Resting.are_up}
 use Rattle.pim_refilled.proofs.settled.are_up.Given as goal
 
 abbrev pub invariant-loop-key : goal.invariant-loop-key

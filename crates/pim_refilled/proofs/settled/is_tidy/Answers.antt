@@ -1,4 +1,4 @@
-use Rattle.pim_refilled.proofs.Tests.{ten_tests}
+use Rattle.pim_refilled.{proofs.Tests.ten_tests}
 use Rattle.pim_refilled.proofs.settled.is_tidy.Goals as goal
 
 pub returns : goal.returns

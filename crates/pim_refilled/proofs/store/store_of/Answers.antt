@@ -1,7 +1,6 @@
-use Rattle.std.proofs.Common.{◌∙◌, ap}
-use Rattle.pim_store.specs.PimTables.{PimTables}
-use Rattle.pim_refilled.specs.Refilled.{all_refilled, tables_in}
-use Rattle.pim_refilled.proofs.Filled.{all_filled}
+use Rattle.std.{proofs.Common.{◌∙◌, ap}}
+use Rattle.pim_store.{specs.PimTables.PimTables}
+use Rattle.pim_refilled.{specs.Refilled.{all_refilled, tables_in}, proofs.Filled.all_filled}
 use Rattle.pim_refilled.proofs.store.store_of.Goals as goal
 
 pub returns-clause-made : goal.returns-clause-made

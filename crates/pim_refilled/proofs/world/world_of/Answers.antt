@@ -1,5 +1,5 @@
-use Rattle.pim_saver.specs.Views.{state_view}
-use Rattle.pim_refilled.proofs.Made.{made_in_order}
+use Rattle.pim_saver.{specs.Views.state_view}
+use Rattle.pim_refilled.{proofs.Made.made_in_order}
 use Rattle.pim_refilled.proofs.world.world_of.Goals as goal
 
 pub returns-clause-made : goal.returns-clause-made

@@ -1,5 +1,5 @@
-use Rattle.std.proofs.Common.{◌∙◌}
-use Rattle.pim_refilled.proofs.Tests.{five_tests, fourth_fails, none_there}
+use Rattle.std.{proofs.Common.◌∙◌}
+use Rattle.pim_refilled.{proofs.Tests.{five_tests, fourth_fails, none_there}}
 use Rattle.pim_refilled.proofs.world.world_of_rows.Goals as goal
 
 pub returns-in_default-4-clause-none : goal.returns-in_default-4-clause-none

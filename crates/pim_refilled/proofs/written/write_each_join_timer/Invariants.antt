@@ -1,7 +1,5 @@
-use Rattle.std.proofs.Common.{◌≡◌, ◌++◌}
-use Rattle.std.specs.List.{AllByRecursion, flat_map}
-use Rattle.pim_saved.specs.Fits.{FitsEntry, FitsJoinTimer}
-use Rattle.pim_saved.specs.Text.{entry_text, join_timer_text}
+use Rattle.std.{proofs.Common.{◌≡◌, ◌++◌}, specs.List.{AllByRecursion, flat_map}}
+use Rattle.pim_saved.{specs.{Fits.{FitsEntry, FitsJoinTimer}, Text.{entry_text, join_timer_text}}}
 use Rattle.pim_refilled.proofs.written.write_each_join_timer.Given as goal
 
 abbrev pub invariant-loop-key : goal.invariant-loop-key

@@ -1,5 +1,5 @@
-use Rattle.pim_saved.specs.Text.{ground_text, interface_text, list_text, moment_text, range_text, route_text, settings_text}
-use Rattle.pim_saver.proofs.Parts.{five_parts}
+use Rattle.pim_saved.{specs.Text.{ground_text, interface_text, list_text, moment_text, range_text, route_text, settings_text}}
+use Rattle.pim_saver.{proofs.Parts.five_parts}
 use Rattle.pim_refilled.proofs.written.write_ground.Goals as goal
 
 pub returns-clause-ok : goal.returns-clause-ok

@@ -1,8 +1,6 @@
-use Rattle.std.proofs.Common.{List, ap, sym, ◌∙◌}
-use Rattle.std.proofs.lemmas.List.{drop_all}
-use Rattle.pim_opening.specs.declared.opening.GroupOpening.{GroupOpening}
-use Rattle.pim_register.specs.Settling.{registers_by}
-use Rattle.pim_register.proofs.Steps.{next_group, next_item, no_group}
+use Rattle.std.{proofs.{Common.{List, ap, sym, ◌∙◌}, lemmas.List.drop_all}}
+use Rattle.pim_views.{specs.declared.opening.GroupOpening.GroupOpening}
+use Rattle.pim_register.{specs.Settling.registers_by, proofs.Steps.{next_group, next_item, no_group}}
 use Rattle.pim_register.proofs.settling.changed.Goals as goal
 
 pub loop-opened-preserved : goal.loop-opened-preserved

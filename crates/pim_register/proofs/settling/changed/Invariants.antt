@@ -1,5 +1,5 @@
-use Rattle.std.proofs.Common.{◌≡◌, drop}
-use Rattle.pim_register.specs.Settling.{registers_by}
+use Rattle.std.{proofs.Common.{◌≡◌, drop}}
+use Rattle.pim_register.{specs.Settling.registers_by}
 use Rattle.pim_register.proofs.settling.changed.Given as goal
 
 abbrev pub invariant-loop-opened : goal.invariant-loop-opened

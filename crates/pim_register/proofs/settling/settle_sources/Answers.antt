@@ -1,8 +1,7 @@
-use Rattle.std.proofs.Common.{get_or, subst, sym, ◌∙◌}
-use Rattle.std.proofs.lemmas.List.{drop_more}
-use Rattle.pim_types.specs.Keys.{source_key}
-use Rattle.pim_macros.specs.Sights.{IsStarSight}
-use Rattle.pim_register.proofs.Steps.{next_source, no_source, star_stays}
+use Rattle.std.{proofs.{Common.{get_or, subst, sym, ◌∙◌}, lemmas.List.drop_more}}
+use Rattle.pim_types.{specs.Keys.source_key}
+use Rattle.pim_macros.{specs.Sights.IsStarSight}
+use Rattle.pim_register.{proofs.Steps.{next_source, no_source, star_stays}}
 use Rattle.pim_register.proofs.settling.settle_sources.Goals as goal
 
 pub loop-opened-preserved : goal.loop-opened-preserved

@@ -1,15 +1,10 @@
-use Rattle.std.proofs.Common.{◌+◌, Some, ap, drop, get_or, sym, ◌∙◌}
-use Rattle.pim_types.specs.declared.fact.RegisterRow.{RegisterRow}
-use Rattle.pim_types.specs.declared.fact.RegisterState.{RegisterState}
-use Rattle.pim_model.specs.State.{State}
-use Rattle.pim_model.specs.Tables.{Table, change_row}
-use Rattle.pim_types.specs.Keys.{star_key}
-use Rattle.pim_laws.specs.Rows.{all_changed}
-use Rattle.pim_laws.proofs.ChosenRows.{none_left_changed, one_more_changed}
-use Rattle.pim_register.specs.Tunnel.{joining}
-use Rattle.pim_store.specs.PimTables.{PimTables}
-use Rattle.pim_world.proofs.Lent.{stored}
-use Rattle.pim_register.proofs.Tunnelled.{kept}
+use Rattle.std.{proofs.Common.{◌+◌, Some, ap, drop, get_or, sym, ◌∙◌}}
+use Rattle.pim_types.{specs.{declared.fact.{RegisterRow.RegisterRow, RegisterState.RegisterState}, Keys.star_key}}
+use Rattle.pim_model.{specs.{State.State, Tables.{Table, change_row}}}
+use Rattle.law_settled.{specs.Rows.all_changed, proofs.ChosenRows.{none_left_changed, one_more_changed}}
+use Rattle.pim_register.{specs.Tunnel.joining, proofs.Tunnelled.kept}
+use Rattle.pim_store.{specs.PimTables.PimTables}
+use Rattle.pim_state.{proofs.Lent.stored}
 use Rattle.pim_register.proofs.tunnel.join_all.Goals as goal
 
 abbrev joined_row : RegisterRow

@@ -1,7 +1,6 @@
-use Rattle.std.proofs.Common.{◌∙◌}
-use Rattle.pim_laws.proofs.FoundRows.{all_found, found, passed}
-use Rattle.pim_register.specs.Tunnel.{is_rp_changed}
-use Rattle.pim_register.proofs.Tunnelled.{asked_rp}
+use Rattle.std.{proofs.Common.◌∙◌}
+use Rattle.law_settled.{proofs.FoundRows.{all_found, found, passed}}
+use Rattle.pim_register.{specs.Tunnel.is_rp_changed, proofs.Tunnelled.asked_rp}
 use Rattle.pim_register.proofs.tunnel.keys_with_new_rp.Goals as goal
 
 pub loop-key-preserved-in-Continue-1 : goal.loop-key-preserved-in-Continue-1

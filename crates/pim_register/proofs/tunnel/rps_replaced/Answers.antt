@@ -1,5 +1,5 @@
-use Rattle.std.proofs.Common.{◌∙◌}
-use Rattle.pim_register.proofs.Tunnelled.{ranges_taken}
+use Rattle.std.{proofs.Common.◌∙◌}
+use Rattle.pim_register.{proofs.Tunnelled.ranges_taken}
 use Rattle.pim_register.proofs.tunnel.rps_replaced.Goals as goal
 
 pub returns-clause-state : goal.returns-clause-state

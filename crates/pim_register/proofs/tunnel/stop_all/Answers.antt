@@ -1,12 +1,8 @@
-use Rattle.std.proofs.Common.{◌+◌, ap, drop, sym, ◌∙◌}
-use Rattle.pim_types.specs.declared.fact.RegisterRow.{RegisterRow}
-use Rattle.pim_model.specs.State.{State}
-use Rattle.pim_model.specs.Tables.{Table}
-use Rattle.pim_types.specs.Keys.{star_key}
-use Rattle.pim_laws.specs.Rows.{all_changed}
-use Rattle.pim_laws.proofs.ChosenRows.{none_left_changed, one_more_changed}
-use Rattle.pim_register.specs.Tunnel.{stopping}
-use Rattle.pim_register.proofs.Tunnelled.{kept}
+use Rattle.std.{proofs.Common.{◌+◌, ap, drop, sym, ◌∙◌}}
+use Rattle.pim_types.{specs.{declared.fact.RegisterRow.RegisterRow, Keys.star_key}}
+use Rattle.pim_model.{specs.{State.State, Tables.Table}}
+use Rattle.law_settled.{specs.Rows.all_changed, proofs.ChosenRows.{none_left_changed, one_more_changed}}
+use Rattle.pim_register.{specs.Tunnel.stopping, proofs.Tunnelled.kept}
 use Rattle.pim_register.proofs.tunnel.stop_all.Goals as goal
 
 pub loop-key-preserved : goal.loop-key-preserved

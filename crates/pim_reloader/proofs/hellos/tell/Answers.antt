@@ -1,7 +1,6 @@
-use Rattle.std.proofs.Common.{sym, ◌∙◌}
-use Rattle.pim_reloaded.specs.Reloading.{tells_anew}
-use Rattle.pim_reloader.proofs.Told.{told_else, told_then}
-use Rattle.pim_reloader.proofs.hellos.tell.Goals.{then-tells_anew+in_ok-hello, else-tells_anew}
+use Rattle.std.{proofs.Common.{sym, ◌∙◌}}
+use Rattle.law_reloaded.{specs.Reloading.tells_anew}
+use Rattle.pim_reloader.{proofs.{Told.{told_else, told_then}, hellos.tell.Goals.{then-tells_anew+in_ok-hello, else-tells_anew}}}
 use Rattle.pim_reloader.proofs.hellos.tell.Goals as goal
 
 pub loop-number-preserved : goal.loop-number-preserved

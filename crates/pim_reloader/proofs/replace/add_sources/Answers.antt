@@ -1,8 +1,6 @@
-use Rattle.std.proofs.Common.{◌≡◌, ◌++◌, subst}
-use Rattle.std.specs.Prelude.{List, OnOk, map}
-use Rattle.pim_types.specs.declared.fact.{Key.Key, SourceRow.SourceRow}
-use Rattle.pim_types.specs.Keys.{group_in, source_in, source_key}
-use Rattle.pim_fanout.specs.Named.{keys_of}
+use Rattle.std.{proofs.Common.{◌≡◌, ◌++◌, subst}, specs.Prelude.{List, OnOk, map}}
+use Rattle.pim_types.{specs.{declared.fact.{Key.Key, SourceRow.SourceRow}, Keys.{group_in, source_in, source_key}}}
+use Rattle.pim_fanout.{specs.Named.keys_of}
 use Rattle.pim_reloader.proofs.replace.add_sources.Goals as goal
 
 pub returns : goal.returns

@@ -1,4 +1,4 @@
-use Rattle.pim_reloader.proofs.Changing.{under_is}
+use Rattle.pim_reloader.{proofs.Changing.under_is}
 use Rattle.pim_reloader.proofs.replace.reconfigure.Goals as goal
 
 pub returns-clause-state : goal.returns-clause-state

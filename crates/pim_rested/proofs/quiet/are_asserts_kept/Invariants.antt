@@ -1,8 +1,6 @@
-use Rattle.std.proofs.Common.{◌≡◌, true}
-use Rattle.std.specs.List.{list_all}
-use Rattle.std.specs.Prelude.{nat_lt, not}
-use Rattle.pim_model.specs.Clearing.{assert_must_go}
-use Rattle.pim_types.specs.Keys.{iface_in}
+use Rattle.std.{proofs.Common.{◌≡◌, true}, specs.{List.list_all, Prelude.{nat_lt, not}}}
+use Rattle.pim_model.{specs.Clearing.assert_must_go}
+use Rattle.pim_types.{specs.Keys.iface_in}
 use Rattle.pim_rested.proofs.quiet.are_asserts_kept.Given as goal
 
 abbrev pub invariant-loop-key : goal.invariant-loop-key

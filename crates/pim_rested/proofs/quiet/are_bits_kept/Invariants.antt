@@ -1,7 +1,5 @@
-use Rattle.std.proofs.Common.{◌≡◌}
-use Rattle.std.specs.List.{list_all}
-use Rattle.std.specs.Prelude.{not}
-use Rattle.pim_model.specs.Clearing.{spt_must_go}
+use Rattle.std.{proofs.Common.◌≡◌, specs.{List.list_all, Prelude.not}}
+use Rattle.pim_model.{specs.Clearing.spt_must_go}
 use Rattle.pim_rested.proofs.quiet.are_bits_kept.Given as goal
 
 abbrev pub invariant-loop-key : goal.invariant-loop-key

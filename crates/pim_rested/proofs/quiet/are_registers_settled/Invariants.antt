@@ -1,6 +1,5 @@
-use Rattle.std.proofs.Common.{◌≡◌}
-use Rattle.std.specs.List.{list_all}
-use Rattle.pim_locality.specs.Locality.{is_register_settled}
+use Rattle.std.{proofs.Common.◌≡◌, specs.List.list_all}
+use Rattle.law_scope.{specs.Locality.is_register_settled}
 use Rattle.pim_rested.proofs.quiet.are_registers_settled.Given as goal
 
 abbrev pub invariant-loop-key : goal.invariant-loop-key

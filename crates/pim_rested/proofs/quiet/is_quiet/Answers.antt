@@ -1,5 +1,5 @@
-use Rattle.std.proofs.Common.{◌∙◌, sym}
-use Rattle.pim_rested.proofs.Tests.{all_four}
+use Rattle.std.{proofs.Common.{◌∙◌, sym}}
+use Rattle.pim_rested.{proofs.Tests.all_four}
 use Rattle.pim_rested.proofs.quiet.is_quiet.Goals as goal
 
 pub returns : goal.returns

@@ -1,6 +1,6 @@
-use Rattle.std.proofs.Common.{arith}
-use Rattle.pim_saver.specs.Views.{state_view}
-use Rattle.pim_rested.proofs.Read.{refused_read, resumable_read, test_read, world_read}
+use Rattle.std.{proofs.Common.arith}
+use Rattle.pim_saver.{specs.Views.state_view}
+use Rattle.pim_rested.{proofs.Read.{refused_read, resumable_read, test_read, world_read}}
 use Rattle.pim_rested.proofs.resumed.resume.Goals as goal
 
 pub returns-in-Err-clause-refused : goal.returns-in-Err-clause-refused

@@ -1,6 +1,5 @@
-use Rattle.std.proofs.Common.{ap, is_some, sym, ◌∙◌}
-use Rattle.pim_router.proofs.Accepted.{kept_accepted}
-use Rattle.pim_router.proofs.Offering.{alive_by_end, keep_none, keep_sets, keep_stays, kept_rests, kept_rows, runs_there}
+use Rattle.std.{proofs.Common.{ap, is_some, sym, ◌∙◌}}
+use Rattle.pim_router.{proofs.{Accepted.kept_accepted, Offering.{alive_by_end, keep_none, keep_sets, keep_stays, kept_rests, kept_rows, runs_there}}}
 use Rattle.pim_router.proofs.plane.keep.Goals as goal
 
 pub returns-in-None-clause-runs : goal.returns-in-None-clause-runs

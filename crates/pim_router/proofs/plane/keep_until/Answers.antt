@@ -1,10 +1,9 @@
-use Rattle.std.proofs.lemmas.Result.{on_ok_weaker}
-use Rattle.pim_types.specs.Keys.{source_key}
-use Rattle.pim_model.specs.Sets.{spt_bit}
-use Rattle.pim_model.specs.Tables.{put, row_at}
-use Rattle.pim_offload.specs.Keeping.{kept_until}
-use Rattle.pim_store.specs.PimTables.{PimTables, kept_alive}
-use Rattle.pim_world.proofs.Lent.{stored_on_ok}
+use Rattle.std.{proofs.lemmas.Result.on_ok_weaker}
+use Rattle.pim_types.{specs.Keys.source_key}
+use Rattle.pim_model.{specs.{Sets.spt_bit, Tables.{put, row_at}}}
+use Rattle.law_plane.{specs.Keeping.kept_until}
+use Rattle.pim_store.{specs.PimTables.{PimTables, kept_alive}}
+use Rattle.pim_state.{proofs.Lent.stored_on_ok}
 use Rattle.pim_router.proofs.plane.keep_until.Goals as goal
 
 pub returns-clause-state : goal.returns-clause-state

@@ -1,9 +1,7 @@
-use Rattle.std.proofs.Common.{ap, subst, sym, ◌∙◌}
-use Rattle.pim_macros.specs.Rows.{answers_of}
-use Rattle.pim_macros.specs.declared.rows.SourceAnswers.{SourceAnswers}
-use Rattle.pim_mfc.specs.Kept.{Kept, kept_row}
-use Rattle.pim_offrow.specs.Shown.{ShowsOffered, unknown_offer}
-use Rattle.pim_router.proofs.Offering.{full_told, known_told, unknown_told}
+use Rattle.std.{proofs.Common.{ap, subst, sym, ◌∙◌}}
+use Rattle.pim_macros.{specs.{Rows.answers_of, declared.rows.SourceAnswers.SourceAnswers}}
+use Rattle.pim_mfc.{specs.{Kept.{Kept, kept_row}, Shown.{ShowsOffered, unknown_offer}}}
+use Rattle.pim_router.{proofs.Offering.{full_told, known_told, unknown_told}}
 use Rattle.pim_router.proofs.plane.offer.Goals as goal
 
 pub returns-in-Some : goal.returns-in-Some

@@ -1,5 +1,5 @@
-use Rattle.std.proofs.Common.{◌≡◌, fold, take}
-use Rattle.pim_types.specs.declared.outcome.Outcome.{Outcome}
+use Rattle.std.{proofs.Common.{◌≡◌, fold, take}}
+use Rattle.pim_types.{specs.declared.outcome.Outcome.Outcome}
 use Rattle.pim_router.proofs.router.last_copies.Given as goal
 
 abbrev pub invariant-loop-outcome : goal.invariant-loop-outcome

@@ -1,8 +1,7 @@
 -- The parse of the words, in the words of their meaning.
-use Rattle.std.proofs.Common.{◌∙◌, sym, subst}
-use Rattle.clap.specs.Words.{Kinds}
-use Rattle.pim_scenario.specs.CommandLine.{CanAnswer}
-use Rattle.pim_scenario.proofs.CommandLineLemmas.{taken, taken_kinds, untaken, untaken_answer}
+use Rattle.std.{proofs.Common.{◌∙◌, sym, subst}}
+use Rattle.clap.{specs.Words.Kinds}
+use Rattle.pim_scenario.{specs.CommandLine.CanAnswer, proofs.CommandLineLemmas.{taken, taken_kinds, untaken, untaken_answer}}
 use Rattle.pim_scenario.proofs.command_line.read_words.Goals as goal
 
 pub returns-in-Ok-clause-accepted : goal.returns-in-Ok-clause-accepted

@@ -1,7 +1,6 @@
 -- A first value is that of the argument's row.
-use Rattle.std.proofs.Common.{◌∙◌}
-use Rattle.clap.specs.Words.{found_of}
-use Rattle.clap.proofs.WalkLemmas.{first_value-rows}
+use Rattle.std.{proofs.Common.◌∙◌}
+use Rattle.clap.{specs.Words.found_of, proofs.WalkLemmas.first_value-rows}
 use Rattle.pim_scenario.proofs.command_line.value_of.Goals as goal
 
 pub returns : goal.returns

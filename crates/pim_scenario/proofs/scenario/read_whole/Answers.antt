@@ -1,11 +1,7 @@
 -- A text is one document at most.
-use Rattle.std.proofs.Common.{sym, subst}
-use Rattle.toml.specs.Data.{Members}
-use Rattle.toml.specs.Parse.{parse_document}
-use Rattle.toml.specs.View.{table_view}
-use Rattle.pim_scenario.specs.declared.scenario.Scenario.{Scenario}
-use Rattle.pim_scenario.specs.Scenario.{IsScenario}
-use Rattle.pim_scenario.proofs.ReadLemmas.{the_same, was_wrong}
+use Rattle.std.{proofs.Common.{sym, subst}}
+use Rattle.toml.{specs.{Data.Members, Parse.parse_document, View.table_view}}
+use Rattle.pim_scenario.{specs.{declared.scenario.Scenario.Scenario, Scenario.IsScenario}, proofs.ReadLemmas.{the_same, was_wrong}}
 use Rattle.pim_scenario.proofs.scenario.read_whole.Goals as goal
 
 pub returns-in-Err-Wrong-clause-read : goal.returns-in-Err-Wrong-clause-read

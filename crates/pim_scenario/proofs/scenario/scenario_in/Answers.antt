@@ -1,10 +1,7 @@
 -- Moves that are wrong for these routers are wrong for all that the document describes.
-use Rattle.std.proofs.Common.{map}
-use Rattle.std.specs.List.{AllZip}
-use Rattle.toml.specs.View.{view, table_view}
-use Rattle.pim_scenario.specs.Scenario.{IsMove, IsScenario, IsTable}
-use Rattle.pim_scenario.proofs.MoveLemmas.{moves_of}
-use Rattle.pim_scenario.proofs.ReadLemmas.{fails}
+use Rattle.std.{proofs.Common.map, specs.List.AllZip}
+use Rattle.toml.{specs.View.{view, table_view}}
+use Rattle.pim_scenario.{specs.Scenario.{IsMove, IsScenario, IsTable}, proofs.{MoveLemmas.moves_of, ReadLemmas.fails}}
 use Rattle.pim_scenario.proofs.scenario.scenario_in.Goals as goal
 
 pub returns-in_err-moves : goal.returns-in_err-moves

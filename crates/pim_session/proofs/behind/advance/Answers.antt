@@ -1,5 +1,5 @@
-use Rattle.std.proofs.Common.{IsOk, ap, refl}
-use Rattle.pim_session.proofs.Taking.{NeedsNone, advance_took, fails, is_frame, other_surely}
+use Rattle.std.{proofs.Common.{IsOk, ap, refl}}
+use Rattle.pim_session.{proofs.Taking.{NeedsNone, advance_took, fails, is_frame, other_surely}}
 use Rattle.pim_session.proofs.behind.advance.Goals as goal
 
 pub returns-in_err-answer-clause-sure : goal.returns-in_err-answer-clause-sure

@@ -1,4 +1,4 @@
-use Rattle.pim_session.proofs.Taking.{all_gave}
+use Rattle.pim_session.{proofs.Taking.all_gave}
 use Rattle.pim_session.proofs.behind.give.Goals as goal
 
 pub returns-clause-gave : goal.returns-clause-gave

@@ -1,5 +1,5 @@
-use Rattle.std.proofs.Common.{IsOk}
-use Rattle.pim_session.proofs.Taking.{NeedsNone, fails, plain_surely, plain_took}
+use Rattle.std.{proofs.Common.IsOk}
+use Rattle.pim_session.{proofs.Taking.{NeedsNone, fails, plain_surely, plain_took}}
 use Rattle.pim_session.proofs.behind.pass.Goals as goal
 
 pub returns-in_err-answer-clause-sure : goal.returns-in_err-answer-clause-sure

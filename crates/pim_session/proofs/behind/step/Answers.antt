@@ -1,6 +1,5 @@
-use Rattle.std.proofs.Common.{IsOk, sym, ◌∙◌}
-use Rattle.pim_session.specs.Front.{is_sure}
-use Rattle.pim_session.proofs.Taking.{NeedsNone, all_alone, fails}
+use Rattle.std.{proofs.Common.{IsOk, sym, ◌∙◌}}
+use Rattle.pim_session.{specs.Front.is_sure, proofs.Taking.{NeedsNone, all_alone, fails}}
 use Rattle.pim_session.proofs.behind.step.Goals as goal
 
 pub returns-in_err-answer-clause-sure : goal.returns-in_err-answer-clause-sure

@@ -1,5 +1,5 @@
-use Rattle.std.proofs.Common.{◌≡◌, true, false, IsOk}
-use Rattle.pim_session.proofs.Taking.{all_stepped, left_surely}
+use Rattle.std.{proofs.Common.{◌≡◌, true, false, IsOk}}
+use Rattle.pim_session.{proofs.Taking.{all_stepped, left_surely}}
 use Rattle.pim_session.proofs.behind.step_behind.Goals as goal
 
 pub returns-in_err-left-clause-sure : goal.returns-in_err-left-clause-sure

@@ -1,6 +1,5 @@
-use Rattle.std.proofs.Common.{ℕ, List, ap, ◌∙◌}
-use Rattle.pim_session.specs.Behind.{frame_event, packet_of}
-use Rattle.pim_session.proofs.Taking.{packet_took}
+use Rattle.std.{proofs.Common.{ℕ, List, ap, ◌∙◌}}
+use Rattle.pim_session.{specs.Behind.{frame_event, packet_of}, proofs.Taking.packet_took}
 use Rattle.pim_session.proofs.behind.take_packet.Goals as goal
 
 pub returns-clause-took : goal.returns-clause-took

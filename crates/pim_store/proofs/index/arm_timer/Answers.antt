@@ -1,9 +1,8 @@
-use Rattle.std.proofs.Common.{None, OnOk, Some, subst, sym}
-use Rattle.pim_timers.specs.Armed.{holds}
-use Rattle.pim_types.specs.declared.fact.JoinTimerRow.{JoinTimerRow}
-use Rattle.pim_types.specs.declared.timer.TimerKind.{TimerKind}
-use Rattle.pim_tables.proofs.Steps.{no_row_armed, still_beside}
-use Rattle.pim_store.specs.JoinTimers.{IsTimerArmed}
+use Rattle.std.{proofs.Common.{None, OnOk, Some, subst, sym}}
+use Rattle.pim_timers.{specs.Armed.holds}
+use Rattle.pim_types.{specs.declared.{fact.JoinTimerRow.JoinTimerRow, timer.TimerKind.TimerKind}}
+use Rattle.pim_tables.{proofs.Steps.{no_row_armed, still_beside}}
+use Rattle.pim_store.{specs.JoinTimers.IsTimerArmed}
 use Rattle.pim_store.proofs.index.arm_timer.Goals as goal
 
 pub returns-in-Some-clause-ok : goal.returns-in-Some-clause-ok

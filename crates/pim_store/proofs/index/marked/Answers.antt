@@ -1,8 +1,5 @@
-use Rattle.std.proofs.Common.{ap, ◌∙◌}
-use Rattle.pim_store.specs.Said.{row_says, seen, tunnel_in}
-use Rattle.pim_store.specs.declared.marks.Marks.{Marks}
-use Rattle.pim_store.proofs.Changed.{seen_with, timer_with, tunnel_with}
-use Rattle.pim_store.proofs.Marked.{one_marked, two_marked}
+use Rattle.std.{proofs.Common.{ap, ◌∙◌}}
+use Rattle.pim_store.{specs.{Said.{row_says, seen, tunnel_in}, declared.marks.Marks.Marks}, proofs.{Changed.{seen_with, timer_with, tunnel_with}, Marked.{one_marked, two_marked}}}
 use Rattle.pim_store.proofs.index.marked.Goals as goal
 
 pub returns-in-Some-clause-marks : goal.returns-in-Some-clause-marks

@@ -1,10 +1,6 @@
-use Rattle.std.proofs.Common.{OnOk, ap, subst, sym, ◌∙◌}
-use Rattle.pim_source_trie.specs.Entries.{entry_key}
-use Rattle.pim_store.specs.Entry.{are_none}
-use Rattle.pim_store.specs.Said.{WritesTimer, tunnel_in}
-use Rattle.pim_store.specs.declared.marks.Marks.{Marks}
-use Rattle.pim_store.proofs.Empty.{no_timer_when_none, silent_when_none}
-use Rattle.pim_store.proofs.Writes.{drop_timer, drop_writes, entries_after, entries_dropped, entry_of, timer_after, writes_as}
+use Rattle.std.{proofs.Common.{OnOk, ap, subst, sym, ◌∙◌}}
+use Rattle.pim_source_trie.{specs.Entries.entry_key}
+use Rattle.pim_store.{specs.{Entry.are_none, Said.{WritesTimer, tunnel_in}, declared.marks.Marks.Marks}, proofs.{Empty.{no_timer_when_none, silent_when_none}, Writes.{drop_timer, drop_writes, entries_after, entries_dropped, entry_of, timer_after, writes_as}}}
 use Rattle.pim_store.proofs.index.write.Goals as goal
 
 pub returns-then-is_empty-clause-ok : goal.returns-then-is_empty-clause-ok

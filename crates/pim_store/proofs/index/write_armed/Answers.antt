@@ -1,15 +1,9 @@
-use Rattle.std.proofs.Common.{◌≡◌, None, OnOk, Some, subst, sym}
-use Rattle.pim_model.specs.Tables.{Table}
-use Rattle.pim_timers.specs.Armed.{holds}
-use Rattle.pim_timers.proofs.Held.{either_way}
-use Rattle.pim_types.specs.declared.fact.JoinTimerRow.{JoinTimerRow}
-use Rattle.pim_types.specs.declared.timer.TimerKind.{TimerKind}
-use Rattle.pim_tables.proofs.Lookups.{as_it_is}
-use Rattle.pim_tables.proofs.Steps.{known}
-use Rattle.pim_store.specs.JoinTimers.{AreTimersBeside}
-use Rattle.pim_store.specs.Said.{WritesTimer, timers_in}
-use Rattle.pim_store.specs.declared.marks.Marks.{Marks}
-use Rattle.pim_store.proofs.Timers.{set_on_ok, timer_differs, timers_rise}
+use Rattle.std.{proofs.Common.{◌≡◌, None, OnOk, Some, subst, sym}}
+use Rattle.pim_model.{specs.Tables.Table}
+use Rattle.pim_timers.{specs.Armed.holds, proofs.Held.either_way}
+use Rattle.pim_types.{specs.declared.{fact.JoinTimerRow.JoinTimerRow, timer.TimerKind.TimerKind}}
+use Rattle.pim_tables.{proofs.{Lookups.as_it_is, Steps.known}}
+use Rattle.pim_store.{specs.{JoinTimers.AreTimersBeside, Said.{WritesTimer, timers_in}, declared.marks.Marks.Marks}, proofs.Timers.{set_on_ok, timer_differs, timers_rise}}
 use Rattle.pim_store.proofs.index.write_armed.Goals as goal
 
 pub arm_timer-requires : goal.arm_timer-requires

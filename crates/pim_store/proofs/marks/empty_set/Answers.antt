@@ -1,4 +1,4 @@
-use Rattle.pim_store.proofs.Empty.{has_none}
+use Rattle.pim_store.{proofs.Empty.has_none}
 use Rattle.pim_store.proofs.marks.empty_set.Goals as goal
 
 pub returns : goal.returns

@@ -1,7 +1,6 @@
-use Rattle.std.proofs.Common.{◌&&◌, nat_lt, ap}
-use Rattle.pim_store.proofs.Changed.{above_limit, put_in, put_out}
+use Rattle.std.{proofs.Common.{◌&&◌, nat_lt, ap}}
+use Rattle.pim_store.{proofs.{Changed.{above_limit, put_in, put_out}, marks.put.Goals.{else-is_in-via-then-is_in+else-iface-lt-LIMIT, else-is_in-via-else-is_in}}}
 use Rattle.pim_store.proofs.marks.put.Goals as goal
-use Rattle.pim_store.proofs.marks.put.Goals.{else-is_in-via-then-is_in+else-iface-lt-LIMIT, else-is_in-via-else-is_in}
 
 pub returns-then-iface-lt-LIMIT : goal.returns-then-iface-lt-LIMIT
 returns-then-iface-lt-LIMIT c =

@@ -1,4 +1,4 @@
-use Rattle.pim_store.proofs.Changed.{nothing_to_clear}
+use Rattle.pim_store.{proofs.Changed.nothing_to_clear}
 use Rattle.pim_store.proofs.rare.clear.Goals as goal
 
 pub returns-in_default-clause-same : goal.returns-in_default-clause-same

@@ -1,6 +1,6 @@
-use Rattle.std.proofs.Common.{None, Some, ap, ◌∙◌}
-use Rattle.pim_model.specs.Tables.{drop_at}
-use Rattle.pim_store.proofs.Told.{found_dropped, found_put, marks_again, told_after}
+use Rattle.std.{proofs.Common.{None, Some, ap, ◌∙◌}}
+use Rattle.pim_model.{specs.Tables.drop_at}
+use Rattle.pim_store.{proofs.Told.{found_dropped, found_put, marks_again, told_after}}
 use Rattle.pim_store.proofs.rows.add_row.Goals as goal
 
 pub returns-in-Err-clause-told : goal.returns-in-Err-clause-told

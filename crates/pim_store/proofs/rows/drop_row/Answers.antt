@@ -1,5 +1,5 @@
-use Rattle.std.proofs.Common.{sym, ◌∙◌}
-use Rattle.pim_store.proofs.Lowered.{nothing_dropped}
+use Rattle.std.{proofs.Common.{sym, ◌∙◌}}
+use Rattle.pim_store.{proofs.Lowered.nothing_dropped}
 use Rattle.pim_store.proofs.rows.drop_row.Goals as goal
 
 pub returns-else-contains-clause-dropped : goal.returns-else-contains-clause-dropped

@@ -1,14 +1,13 @@
-use Rattle.std.proofs.Common.{◌≡◌, OnOk, Some, ap, subst, sym, ◌∙◌}
-use Rattle.pim_model.specs.Tables.{put, row_at}
-use Rattle.pim_tables.proofs.Lookups.{absent, put_is_changed}
-use Rattle.pim_tables.proofs.Rows.{always}
-use Rattle.pim_store.proofs.Lowered.{nothing_changed}
+use Rattle.std.{proofs.Common.{◌≡◌, OnOk, Some, ap, subst, sym, ◌∙◌}}
+use Rattle.pim_model.{specs.Tables.{put, row_at}}
+use Rattle.pim_tables.{proofs.{Lookups.{absent, put_is_changed}, Rows.always}}
+use Rattle.pim_store.{proofs.Lowered.nothing_changed}
 use Rattle.pim_store.proofs.rows.put_row.Goals as goal
 
 pub returns-then-branch-clause-put : goal.returns-then-branch-clause-put
 returns-then-branch-clause-put g c =
     c.in_ok-update_row.ensures.changed
-    ∙ sym (put_is_changed c.args.key c.args.row (λ _. Some c.args.row) c.args.rows.now c.recall_rising.ensures
+    ∙ sym (put_is_changed c.args.key c.args.row (λ _. Some c.args.row) c.args.rows.now c.proof_rising.ensures
     (sym c.in_ok-update_row.ensures.there ∙ c.if-branch.true) (always (row_at c.args.rows.now c.args.key) c.args.row))
 
 pub add_row-requires-clause-absent : goal.add_row-requires-clause-absent

@@ -1,5 +1,5 @@
-use Rattle.std.proofs.Common.{None}
-use Rattle.pim_store.proofs.Told.{found_dropped, told_after}
+use Rattle.std.{proofs.Common.None}
+use Rattle.pim_store.{proofs.Told.{found_dropped, told_after}}
 use Rattle.pim_store.proofs.rows.remove_row.Goals as goal
 
 pub returns-clause-told : goal.returns-clause-told

@@ -1,8 +1,5 @@
-use Rattle.std.proofs.Common.{Option, sym, ap, ◌∙◌}
-use Rattle.pim_store.specs.Telling.{is_set_by_either}
-use Rattle.pim_store.specs.declared.marks.Mark.{Mark}
-use Rattle.pim_store.proofs.Alike.{apart, first_told, second_told, tested}
-use Rattle.pim_store.proofs.Told.{not_apart, same_test, two_alike}
+use Rattle.std.{proofs.Common.{Option, sym, ap, ◌∙◌}}
+use Rattle.pim_store.{specs.{Telling.is_set_by_either, declared.marks.Mark.Mark}, proofs.{Alike.{apart, first_told, second_told, tested}, Told.{not_apart, same_test, two_alike}}}
 use Rattle.pim_store.proofs.rows.says_alike.Goals as goal
 
 pub returns-then-says-clause-all : goal.returns-then-says-clause-all

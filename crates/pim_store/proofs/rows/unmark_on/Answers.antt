@@ -1,5 +1,5 @@
-use Rattle.std.proofs.Common.{refl, sym, ◌∙◌}
-use Rattle.pim_store.proofs.Dropped.{all_unmarked, another, at_first, fits_here, unmarked_here}
+use Rattle.std.{proofs.Common.{refl, sym, ◌∙◌}}
+use Rattle.pim_store.{proofs.Dropped.{all_unmarked, another, at_first, fits_here, unmarked_here}}
 use Rattle.pim_store.proofs.rows.unmark_on.Goals as goal
 
 pub loop-key-init : goal.loop-key-init

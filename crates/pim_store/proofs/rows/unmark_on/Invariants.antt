@@ -1,6 +1,5 @@
-use Rattle.std.proofs.Common.{◌≡◌}
-use Rattle.pim_store.specs.Said.{timers_in}
-use Rattle.pim_store.proofs.Dropped.{IsUnmarked}
+use Rattle.std.{proofs.Common.◌≡◌}
+use Rattle.pim_store.{specs.Said.timers_in, proofs.Dropped.IsUnmarked}
 use Rattle.pim_store.proofs.rows.unmark_on.Given as goal
 
 abbrev pub invariant-loop-key : goal.invariant-loop-key

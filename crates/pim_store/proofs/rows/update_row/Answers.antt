@@ -1,9 +1,7 @@
-use Rattle.std.proofs.Common.{None, Some, ap, is_some, subst, sym, ◌∙◌}
-use Rattle.pim_model.specs.Tables.{drop_at, has_row, row_at}
-use Rattle.pim_tables.proofs.Lookups.{left_is_dropped}
-use Rattle.pim_tables.proofs.Updates.{found_updated, none_updated, updated_goes}
-use Rattle.pim_store.specs.Said.{IsTold, SetsMarks, row_says}
-use Rattle.pim_store.proofs.Told.{found_dropped, nothing_new, told_after}
+use Rattle.std.{proofs.Common.{None, Some, ap, is_some, subst, sym, ◌∙◌}}
+use Rattle.pim_model.{specs.Tables.{drop_at, has_row, row_at}}
+use Rattle.pim_tables.{proofs.{Lookups.left_is_dropped, Updates.{found_updated, none_updated, updated_goes}}}
+use Rattle.pim_store.{specs.Said.{IsTold, SetsMarks, row_says}, proofs.Told.{found_dropped, nothing_new, told_after}}
 use Rattle.pim_store.proofs.rows.update_row.Goals as goal
 
 pub returns-in-Err-clause-told : goal.returns-in-Err-clause-told
@@ -41,7 +39,7 @@ returns-then-says_alike-clause-told g c =
     ∙ ap (λ o. row_says g.R.TellsMarks.tells g.R.TellsMarks.says x o) (sym c.in-Some.is ∙ c.in-Ok.ensures.before)))
     (λ q. ap (λ t. row_at t q) c.in-Ok.ensures.ok
     ∙ found_updated c.args.key (g.C.Change.after c.args.change) c.args.rows.now c.in-Some.before c.after-row.result
-    (sym c.in-Ok.ensures.before ∙ c.in-Some.is) c.after-row.ensures c.recall_rising.ensures q)
+    (sym c.in-Ok.ensures.before ∙ c.in-Some.is) c.after-row.ensures c.proof_rising.ensures q)
 
 pub returns-in-Err-mark-clause-told : goal.returns-in-Err-mark-clause-told
 returns-in-Err-mark-clause-told g c =
@@ -64,4 +62,4 @@ returns-clause-told g c =
     (Some c.after-row.result) _ _ c.requires.fits c.in_default-mark.ensures.ok
     (λ q. ap (λ t. row_at t q) c.in-Ok.ensures.ok
     ∙ found_updated c.args.key (g.C.Change.after c.args.change) c.args.rows.now c.in-Some.before c.after-row.result
-    (sym c.in-Ok.ensures.before ∙ c.in-Some.is) c.after-row.ensures c.recall_rising.ensures q)
+    (sym c.in-Ok.ensures.before ∙ c.in-Some.is) c.after-row.ensures c.proof_rising.ensures q)

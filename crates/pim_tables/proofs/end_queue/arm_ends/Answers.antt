@@ -1,7 +1,6 @@
-use Rattle.std.proofs.Common.{Some, ◌∙◌}
-use Rattle.pim_timers.specs.Armed.{holds}
-use Rattle.pim_tables.specs.Ends.{timer_of}
-use Rattle.pim_tables.proofs.Steps.{known_first, known_second, of_one, of_other_key, of_some_kind, row_armed, row_still_armed, timer_still_armed}
+use Rattle.std.{proofs.Common.{Some, ◌∙◌}}
+use Rattle.pim_timers.{specs.Armed.holds}
+use Rattle.pim_tables.{specs.Ends.timer_of, proofs.Steps.{known_first, known_second, of_one, of_other_key, of_some_kind, row_armed, row_still_armed, timer_still_armed}}
 use Rattle.pim_tables.proofs.end_queue.arm_ends.Goals as goal
 
 pub arm-requires : goal.arm-requires

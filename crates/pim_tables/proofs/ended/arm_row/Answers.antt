@@ -1,7 +1,6 @@
-use Rattle.std.proofs.Common.{Some}
-use Rattle.pim_timers.specs.Armed.{holds}
-use Rattle.pim_tables.specs.Ends.{timer_of}
-use Rattle.pim_tables.proofs.Steps.{of_one, of_some_kind, row_armed, timer_still_armed}
+use Rattle.std.{proofs.Common.Some}
+use Rattle.pim_timers.{specs.Armed.holds}
+use Rattle.pim_tables.{specs.Ends.timer_of, proofs.Steps.{of_one, of_some_kind, row_armed, timer_still_armed}}
 use Rattle.pim_tables.proofs.ended.arm_row.Goals as goal
 
 pub returns-in-Some-clause-armed : goal.returns-in-Some-clause-armed

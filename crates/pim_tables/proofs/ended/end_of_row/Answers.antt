@@ -1,6 +1,5 @@
-use Rattle.std.proofs.Common.{Bool, None, cond, ap, sym, ◌∙◌}
-use Rattle.pim_tables.specs.Ends.{is_second}
-use Rattle.pim_tables.proofs.Steps.{by_answers, kinds_tie}
+use Rattle.std.{proofs.Common.{Bool, None, cond, ap, sym, ◌∙◌}}
+use Rattle.pim_tables.{specs.Ends.is_second, proofs.Steps.{by_answers, kinds_tie}}
 use Rattle.pim_tables.proofs.ended.end_of_row.Goals as goal
 
 pub returns-then-eq : goal.returns-then-eq

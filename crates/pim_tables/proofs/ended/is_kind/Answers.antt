@@ -1,6 +1,5 @@
-use Rattle.std.proofs.Common.{ap, sym, ◌∙◌}
-use Rattle.pim_tables.specs.Ends.{is_second}
-use Rattle.pim_tables.proofs.Steps.{kinds_tie}
+use Rattle.std.{proofs.Common.{ap, sym, ◌∙◌}}
+use Rattle.pim_tables.{specs.Ends.is_second, proofs.Steps.kinds_tie}
 use Rattle.pim_tables.proofs.ended.is_kind.Goals as goal
 
 pub returns-in-Some : goal.returns-in-Some

@@ -1,5 +1,4 @@
-use Rattle.pim_timers.specs.Armed.{holds}
-use Rattle.pim_timers.proofs.Armed.{now_armed, put_held}
+use Rattle.pim_timers.{specs.Armed.holds, proofs.Armed.{now_armed, put_held}}
 use Rattle.pim_tables.proofs.ended.push_end.Goals as goal
 
 pub returns-in-Some-clause-armed : goal.returns-in-Some-clause-armed

@@ -1,6 +1,5 @@
-use Rattle.std.proofs.Common.{ap, ◌∙◌}
-use Rattle.std.specs.Ordering.{is_lt}
-use Rattle.pim_timers.proofs.Ranks.{due_order}
+use Rattle.std.{proofs.Common.{ap, ◌∙◌}, specs.Ordering.is_lt}
+use Rattle.pim_timers.{proofs.Ranks.due_order}
 use Rattle.pim_tables.proofs.first.comes_before.Goals as goal
 
 pub returns : goal.returns

@@ -1,5 +1,5 @@
-use Rattle.std.proofs.Common.{sym, ◌∙◌}
-use Rattle.pim_tables.proofs.Joined.{joined, only_first, only_second, the_first, the_second}
+use Rattle.std.{proofs.Common.{sym, ◌∙◌}}
+use Rattle.pim_tables.{proofs.Joined.{joined, only_first, only_second, the_first, the_second}}
 use Rattle.pim_tables.proofs.first.earlier.Goals as goal
 
 pub returns-in-Some-Some : goal.returns-in-Some-Some

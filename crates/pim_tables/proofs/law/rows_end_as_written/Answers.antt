@@ -1,21 +1,7 @@
-use Rattle.pim_types.specs.declared.fact.AssertRow.{AssertRow}
-use Rattle.pim_types.specs.declared.fact.DownstreamRow.{DownstreamRow}
-use Rattle.pim_types.specs.declared.fact.GroupRecordRow.{GroupRecordRow}
-use Rattle.pim_types.specs.declared.fact.GroupRepeatRow.{GroupRepeatRow}
-use Rattle.pim_types.specs.declared.fact.InterfaceRow.{InterfaceRow}
-use Rattle.pim_types.specs.declared.fact.JoinTimerRow.{JoinTimerRow}
-use Rattle.pim_types.specs.declared.fact.NeighbourRow.{NeighbourRow}
-use Rattle.pim_types.specs.declared.fact.OverrideTimerRow.{OverrideTimerRow}
-use Rattle.pim_types.specs.declared.fact.QuerierRow.{QuerierRow}
-use Rattle.pim_types.specs.declared.fact.RegisterRow.{RegisterRow}
-use Rattle.pim_types.specs.declared.fact.SourceRecordRow.{SourceRecordRow}
-use Rattle.pim_types.specs.declared.fact.SourceRepeatRow.{SourceRepeatRow}
-use Rattle.pim_types.specs.declared.fact.SourceRow.{SourceRow}
-use Rattle.pim_types.specs.declared.timer.TimerKind.{TimerKind}
-use Rattle.std.proofs.Common.{Some}
-use Rattle.pim_model.specs.Timers.{endings, next_ending, next_query, other_querier_end, register_end, timers}
-use Rattle.pim_tables.specs.Ends.{row_endings}
-use Rattle.pim_tables.proofs.Orders.{moved}
+use Rattle.pim_types.{specs.declared.{fact.{AssertRow.AssertRow, DownstreamRow.DownstreamRow, GroupRecordRow.GroupRecordRow, GroupRepeatRow.GroupRepeatRow, InterfaceRow.InterfaceRow, JoinTimerRow.JoinTimerRow, NeighbourRow.NeighbourRow, OverrideTimerRow.OverrideTimerRow, QuerierRow.QuerierRow, RegisterRow.RegisterRow, SourceRecordRow.SourceRecordRow, SourceRepeatRow.SourceRepeatRow, SourceRow.SourceRow}, timer.TimerKind.TimerKind}}
+use Rattle.std.{proofs.Common.Some}
+use Rattle.pim_model.{specs.Timers.{endings, next_ending, next_query, other_querier_end, register_end, timers}}
+use Rattle.pim_tables.{specs.Ends.row_endings, proofs.Orders.moved}
 use Rattle.pim_tables.proofs.law.rows_end_as_written.Goals as goal
 
 pub returns : goal.returns

@@ -1,6 +1,5 @@
-use Rattle.std.proofs.Common.{◌≡◌, drop}
-use Rattle.std.specs.List.{list_any}
-use Rattle.pim_types.specs.Keys.{same_key}
+use Rattle.std.{proofs.Common.{◌≡◌, drop}, specs.List.list_any}
+use Rattle.pim_types.{specs.Keys.same_key}
 use Rattle.pim_tables.proofs.named.is_named.Given as goal
 
 abbrev pub invariant-loop-named : goal.invariant-loop-named

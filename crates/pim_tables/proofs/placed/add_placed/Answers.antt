@@ -1,6 +1,6 @@
-use Rattle.std.proofs.Common.{ap, sym, ◌∙◌}
-use Rattle.slab.specs.Slab.{get}
-use Rattle.pim_tables.proofs.Standing.{added_standing, placed_after}
+use Rattle.std.{proofs.Common.{ap, sym, ◌∙◌}}
+use Rattle.slab.{specs.Slab.get}
+use Rattle.pim_tables.{proofs.Standing.{added_standing, placed_after}}
 use Rattle.pim_tables.proofs.placed.add_placed.Goals as goal
 
 pub returns-clause-ok : goal.returns-clause-ok
@@ -13,7 +13,7 @@ returns-clause-ok g c =
     (λ p differs. c.insert_reserved.ensures.updates.others p
     (λ same. differs (same ∙ c.insert_reserved.ensures.key ∙ sym c.vacant_key-place.ensures.value))
     ∙ ap (λ s. get s p) c.reserve.ensures.rest_kept)
-    c.in_ok-put.ensures.ok c.recall_rising.ensures
+    c.in_ok-put.ensures.ok c.proof_rising.ensures
 
 pub returns-clause-placed : goal.returns-clause-placed
 returns-clause-placed g c =
@@ -25,4 +25,4 @@ returns-clause-placed g c =
     (λ p differs. c.insert_reserved.ensures.updates.others p
     (λ same. differs (same ∙ c.insert_reserved.ensures.key ∙ sym c.vacant_key-place.ensures.value))
     ∙ ap (λ s. get s p) c.reserve.ensures.rest_kept)
-    c.in_ok-put.ensures.ok c.recall_rising.ensures
+    c.in_ok-put.ensures.ok c.proof_rising.ensures

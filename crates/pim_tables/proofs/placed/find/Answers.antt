@@ -1,4 +1,4 @@
-use Rattle.std.proofs.Common.{sym}
+use Rattle.std.{proofs.Common.sym}
 use Rattle.pim_tables.proofs.placed.find.Goals as goal
 
 pub returns-in-Some : goal.returns-in-Some

@@ -1,6 +1,6 @@
-use Rattle.std.proofs.Common.{sym, ◌∙◌}
-use Rattle.slab.specs.Slab.{get}
-use Rattle.pim_tables.proofs.Standing.{changed_standing, found_at, none_changed, none_found, still_placed}
+use Rattle.std.{proofs.Common.{sym, ◌∙◌}}
+use Rattle.slab.{specs.Slab.get}
+use Rattle.pim_tables.{proofs.Standing.{changed_standing, found_at, none_changed, none_found, still_placed}}
 use Rattle.pim_tables.proofs.placed.replace_placed.Goals as goal
 
 pub returns-in-Some-clause-before : goal.returns-in-Some-clause-before

@@ -1,6 +1,6 @@
-use Rattle.std.proofs.Common.{ap, option_map, sym, ◌∙◌}
-use Rattle.slab.specs.Slab.{get}
-use Rattle.pim_tables.proofs.Standing.{found_at, left_standing, none_found, none_left_standing, placed_left, still_placed_left}
+use Rattle.std.{proofs.Common.{ap, option_map, sym, ◌∙◌}}
+use Rattle.slab.{specs.Slab.get}
+use Rattle.pim_tables.{proofs.Standing.{found_at, left_standing, none_found, none_left_standing, placed_left, still_placed_left}}
 use Rattle.pim_tables.proofs.placed.take_placed.Goals as goal
 
 pub returns-in-Some-try_remove-clause-taken : goal.returns-in-Some-try_remove-clause-taken
@@ -13,13 +13,13 @@ pub returns-in-Some-try_remove-clause-left : goal.returns-in-Some-try_remove-cla
 returns-in-Some-try_remove-clause-left g c =
     left_standing (get c.args.rows.now) c.args.places.now _ c.requires c.args.key c.pull.ensures.left _ c.in-Some.place
     (sym c.pull.ensures.taken ∙ c.in-Some.is) c.try_remove.ensures.updates.changed c.try_remove.ensures.updates.others
-    c.recall_rising.ensures
+    c.proof_rising.ensures
 
 pub returns-in-Some-try_remove-clause-placed : goal.returns-in-Some-try_remove-clause-placed
 returns-in-Some-try_remove-clause-placed g c =
     placed_left (get c.args.rows.now) c.args.places.now _ c.requires c.args.key c.pull.ensures.left _ c.in-Some.place
     (sym c.pull.ensures.taken ∙ c.in-Some.is) c.try_remove.ensures.updates.changed c.try_remove.ensures.updates.others
-    c.recall_rising.ensures
+    c.proof_rising.ensures
 
 pub returns-in-None-try_remove-clause-taken : goal.returns-in-None-try_remove-clause-taken
 returns-in-None-try_remove-clause-taken g c =
@@ -31,13 +31,13 @@ pub returns-in-None-try_remove-clause-left : goal.returns-in-None-try_remove-cla
 returns-in-None-try_remove-clause-left g c =
     left_standing (get c.args.rows.now) c.args.places.now _ c.requires c.args.key c.pull.ensures.left _ c.in-Some.place
     (sym c.pull.ensures.taken ∙ c.in-Some.is) c.try_remove.ensures.updates.changed c.try_remove.ensures.updates.others
-    c.recall_rising.ensures
+    c.proof_rising.ensures
 
 pub returns-in-None-try_remove-clause-placed : goal.returns-in-None-try_remove-clause-placed
 returns-in-None-try_remove-clause-placed g c =
     placed_left (get c.args.rows.now) c.args.places.now _ c.requires c.args.key c.pull.ensures.left _ c.in-Some.place
     (sym c.pull.ensures.taken ∙ c.in-Some.is) c.try_remove.ensures.updates.changed c.try_remove.ensures.updates.others
-    c.recall_rising.ensures
+    c.proof_rising.ensures
 
 pub returns-in-None-clause-taken : goal.returns-in-None-clause-taken
 returns-in-None-clause-taken g c =

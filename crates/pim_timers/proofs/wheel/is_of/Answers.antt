@@ -1,8 +1,5 @@
-use Rattle.std.proofs.Common.{◌≡◌, false, sym, subst, ◌∙◌}
-use Rattle.pim_timers.specs.Dues.{Due}
-use Rattle.pim_timers.specs.Ends.{same_timer}
-use Rattle.pim_timers.proofs.Held.{of_some}
-use Rattle.pim_timers.proofs.Ranks.{timer_ties}
+use Rattle.std.{proofs.Common.{◌≡◌, false, sym, subst, ◌∙◌}}
+use Rattle.pim_timers.{specs.{Dues.Due, Ends.same_timer}, proofs.{Held.of_some, Ranks.timer_ties}}
 use Rattle.pim_timers.proofs.wheel.is_of.Goals as goal
 
 pub returns-in-Some : goal.returns-in-Some

@@ -1,7 +1,5 @@
+use Rattle.pim_timers.{specs.{Armed.holds, Ends.same_timer}, proofs.Armed.right_unless}
 use Rattle.std.specs.FinMap as map
-use Rattle.pim_timers.specs.Armed.{holds}
-use Rattle.pim_timers.specs.Ends.{same_timer}
-use Rattle.pim_timers.proofs.Armed.{right_unless}
 use Rattle.pim_timers.proofs.wheel.settle.Goals as goal
 
 pub settle-requires-clause-right : goal.settle-requires-clause-right

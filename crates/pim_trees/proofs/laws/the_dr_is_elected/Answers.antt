@@ -1,10 +1,7 @@
-use Rattle.std.proofs.Common.{ap}
-use Rattle.pim_model.specs.Neighbours.{all_have_priority, is_dr, is_dr_among, neighbours_on}
-use Rattle.pim_ip.specs.Addr.{addr}
-use Rattle.pim_model.specs.State.{my_address, my_priority}
-use Rattle.pim_trees.proofs.Elected.{found, not_false, not_true, stays}
-use Rattle.pim_trees.specs.Links.{dr, dr_among}
-use Rattle.pim_trees.specs.declared.link.Candidate.{Candidate}
+use Rattle.std.{proofs.Common.ap}
+use Rattle.pim_model.{specs.{Neighbours.{all_have_priority, is_dr, is_dr_among, neighbours_on}, State.{my_address, my_priority}}}
+use Rattle.pim_ip.{specs.Addr.addr}
+use Rattle.pim_trees.{proofs.Elected.{found, not_false, not_true, stays}, specs.{Links.{dr, dr_among}, declared.link.Candidate.Candidate}}
 use Rattle.pim_trees.proofs.laws.the_dr_is_elected.Goals as goal
 
 pub returns-clause-own : goal.returns-clause-own

@@ -1,4 +1,4 @@
-use Rattle.pim_trees.proofs.Causes.{of_source, of_star}
+use Rattle.pim_trees.{proofs.Causes.{of_source, of_star}}
 use Rattle.pim_trees.proofs.laws.there_is_a_neighbour_as_told.Goals as goal
 
 pub returns-clause-star : goal.returns-clause-star

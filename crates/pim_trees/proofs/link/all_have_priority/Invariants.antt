@@ -1,6 +1,5 @@
-use Rattle.std.proofs.Common.{◌≡◌}
-use Rattle.pim_model.specs.Neighbours.{all_have_priority}
-use Rattle.pim_model.specs.Tables.{rows_on}
+use Rattle.std.{proofs.Common.◌≡◌}
+use Rattle.pim_model.{specs.{Neighbours.all_have_priority, Tables.rows_on}}
 use Rattle.pim_trees.proofs.link.all_have_priority.Given as goal
 
 abbrev pub invariant-loop-row : goal.invariant-loop-row

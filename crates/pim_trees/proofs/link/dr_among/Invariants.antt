@@ -1,6 +1,6 @@
-use Rattle.std.proofs.Common.{◌≡◌, fold}
-use Rattle.pim_model.specs.Tables.{rows_on}
-use Rattle.pim_trees.specs.Links.{better_of, dr_among}
+use Rattle.std.{proofs.Common.{◌≡◌, fold}}
+use Rattle.pim_model.{specs.Tables.rows_on}
+use Rattle.pim_trees.{specs.Links.{better_of, dr_among}}
 use Rattle.pim_trees.proofs.link.dr_among.Given as goal
 
 abbrev pub invariant-loop-key : goal.invariant-loop-key

@@ -1,6 +1,5 @@
-use Rattle.std.proofs.Common.{sym, ◌∙◌}
-use Rattle.pim_ifset.proofs.Sets.{has_set_of, same_members}
-use Rattle.pim_ifset.specs.Members.{set_of}
+use Rattle.std.{proofs.Common.{sym, ◌∙◌}}
+use Rattle.pim_ifset.{proofs.Sets.{has_set_of, same_members}, specs.Members.set_of}
 use Rattle.pim_trees.proofs.set.told.Goals as goal
 
 pub returns : goal.returns

@@ -1,8 +1,5 @@
-use Rattle.pim_model.specs.Receivers.{local_receiver_star}
-use Rattle.pim_model.specs.Sets.{assert_star, immediate_olist_star, is_winner, joins_star, lost_assert_star, pim_include_star}
-use Rattle.pim_model.specs.Unicast.{rp_of}
-use Rattle.pim_trees.proofs.Addresses.{by_bits}
-use Rattle.pim_trees.specs.Trees.{tree}
+use Rattle.pim_model.{specs.{Receivers.local_receiver_star, Sets.{assert_star, immediate_olist_star, is_winner, joins_star, lost_assert_star, pim_include_star}, Unicast.rp_of}}
+use Rattle.pim_trees.{proofs.Addresses.by_bits, specs.Trees.tree}
 use Rattle.pim_trees.proofs.shared.tree_of.Goals as goal
 
 pub returns : goal.returns

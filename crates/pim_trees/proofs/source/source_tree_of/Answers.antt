@@ -1,8 +1,7 @@
-use Rattle.std.proofs.Common.{ap, ◌∙◌}
-use Rattle.pim_ifset.specs.Members.{set_of}
-use Rattle.pim_model.specs.Receivers.{local_receiver_exclude, local_receiver_include}
-use Rattle.pim_model.specs.Sets.{assert_source, immediate_olist, inherited_olist, inherited_olist_rpt, is_winner, joins, lost_assert, lost_assert_rpt, pim_exclude, pim_include, prunes}
-use Rattle.pim_trees.specs.Trees.{source_tree}
+use Rattle.std.{proofs.Common.{ap, ◌∙◌}}
+use Rattle.pim_ifset.{specs.Members.set_of}
+use Rattle.pim_model.{specs.{Receivers.{local_receiver_exclude, local_receiver_include}, Sets.{assert_source, immediate_olist, inherited_olist, inherited_olist_rpt, is_winner, joins, lost_assert, lost_assert_rpt, pim_exclude, pim_include, prunes}}}
+use Rattle.pim_trees.{specs.Trees.source_tree}
 use Rattle.pim_trees.proofs.source.source_tree_of.Goals as goal
 
 pub returns : goal.returns

@@ -1,6 +1,5 @@
-use Rattle.std.proofs.Common.{refl, rules}
-use Rattle.pim_types.specs.Packed.{source_number}
-use Rattle.pim_types.proofs.Packed.{some_source}
+use Rattle.std.{proofs.Common.{refl, rules}}
+use Rattle.pim_types.{specs.Packed.source_number, proofs.Packed.some_source}
 use Rattle.pim_types.proofs.fact.source_number.Goals as goal
 
 pub returns-in-Some-clause-number : goal.returns-in-Some-clause-number

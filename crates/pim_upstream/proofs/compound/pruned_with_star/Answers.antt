@@ -1,11 +1,8 @@
-use Rattle.std.proofs.Common.{arith, ap, length, rules, suc, sym, ℕ, List, ◌++◌, ◌+◌, ◌-◌, ◌≡◌, ◌∙◌}
-use Rattle.std.proofs.lemmas.List.{length_push}
-use Rattle.pim_world.specs.Groups.{numbers_of}
-use Rattle.pim_model.specs.Messages.{entry}
-use Rattle.pim_model.specs.Upstream.{fact_keys, is_pruned_with_star, pruned_with_star, sources_of}
-use Rattle.pim_wire.specs.declared.join_prune.Entry.{Entry}
-use Rattle.pim_wire.specs.declared.join_prune.EntryKind.{EntryKind}
-use Rattle.pim_upstream.proofs.Pruned.{first_of, passed_over, taken}
+use Rattle.std.{proofs.{Common.{arith, ap, length, rules, suc, sym, ℕ, List, ◌++◌, ◌+◌, ◌-◌, ◌≡◌, ◌∙◌}, lemmas.List.length_push}}
+use Rattle.pim_state.{specs.Groups.numbers_of}
+use Rattle.pim_model.{specs.{Messages.entry, Upstream.{fact_keys, is_pruned_with_star, pruned_with_star, sources_of}}}
+use Rattle.pim_wire.{specs.declared.join_prune.{Entry.Entry, EntryKind.EntryKind}}
+use Rattle.pim_upstream.{proofs.Pruned.{first_of, passed_over, taken}}
 use Rattle.pim_upstream.proofs.compound.pruned_with_star.Goals as goal
 
 pub loop-source-init : goal.loop-source-init

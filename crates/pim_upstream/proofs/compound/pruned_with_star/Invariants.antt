@@ -1,9 +1,8 @@
-use Rattle.std.proofs.Common.{◌≡◌, ◌+◌, ◌++◌, length}
-use Rattle.pim_world.specs.Groups.{numbers_of}
-use Rattle.pim_model.specs.Messages.{entry}
-use Rattle.pim_model.specs.Upstream.{is_pruned_with_star, pruned_with_star}
-use Rattle.pim_wire.specs.declared.join_prune.EntryKind.{EntryKind}
-use Rattle.pim_upstream.proofs.Pruned.{first_of}
+use Rattle.std.{proofs.Common.{◌≡◌, ◌+◌, ◌++◌, length}}
+use Rattle.pim_state.{specs.Groups.numbers_of}
+use Rattle.pim_model.{specs.{Messages.entry, Upstream.{is_pruned_with_star, pruned_with_star}}}
+use Rattle.pim_wire.{specs.declared.join_prune.EntryKind.EntryKind}
+use Rattle.pim_upstream.{proofs.Pruned.first_of}
 use Rattle.pim_upstream.proofs.compound.pruned_with_star.Given as goal
 
 abbrev pub invariant-loop-source : goal.invariant-loop-source

@@ -1,13 +1,8 @@
-use Rattle.std.proofs.Common.{◌≡◌, ◌++◌, ◌∙◌, Bool, List, [], ap, append-nil, false, get_or, refl, sym, true}
-use Rattle.std.specs.Prelude.{if◌then◌else◌}
-use Rattle.pim_types.specs.Keys.{is_star, star_key}
-use Rattle.pim_types.specs.declared.fact.Key.{Key}
-use Rattle.pim_model.specs.Tables.{same_bool}
-use Rattle.pim_upstream.specs.Hearing.{heard_in_join, heard_in_joins}
-use Rattle.pim_upstream.specs.declared.timer.TimerMove.{TimerMove}
-use Rattle.pim_upstream.proofs.HeardKeys.{is_asked, next_in_joins}
+use Rattle.std.{proofs.Common.{◌≡◌, ◌++◌, ◌∙◌, Bool, List, [], ap, append-nil, false, get_or, refl, sym, true}, specs.Prelude.if◌then◌else◌}
+use Rattle.pim_types.{specs.{Keys.{is_star, star_key}, declared.fact.Key.Key}}
+use Rattle.pim_model.{specs.Tables.same_bool}
+use Rattle.pim_upstream.{specs.{Hearing.{heard_in_join, heard_in_joins}, declared.timer.TimerMove.TimerMove}, proofs.{HeardKeys.{is_asked, next_in_joins}, overheard.hear_joins.Goals.{then-is_none-is_star+in_ok-hear_join, else-is_none-is_star}}}
 use Rattle.pim_upstream.proofs.overheard.hear_joins.Goals as goal
-use Rattle.pim_upstream.proofs.overheard.hear_joins.Goals.{then-is_none-is_star+in_ok-hear_join, else-is_none-is_star}
 
 pub loop-key-init : goal.loop-key-init
 unfolding heard_in_joins

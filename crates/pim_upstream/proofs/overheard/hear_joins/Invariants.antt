@@ -1,5 +1,5 @@
-use Rattle.std.proofs.Common.{◌≡◌, ◌++◌, take}
-use Rattle.pim_upstream.specs.Hearing.{heard_in_joins}
+use Rattle.std.{proofs.Common.{◌≡◌, ◌++◌, take}}
+use Rattle.pim_upstream.{specs.Hearing.heard_in_joins}
 use Rattle.pim_upstream.proofs.overheard.hear_joins.Given as goal
 
 abbrev pub invariant-loop-key : goal.invariant-loop-key

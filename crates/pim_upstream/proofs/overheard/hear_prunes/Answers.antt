@@ -1,15 +1,9 @@
-use Rattle.std.proofs.Common.{[], ap, refl, subst, sym, ◌≡◌, ◌∙◌, not, ◌++◌, ◌+◌, take, Bool, true, false}
-use Rattle.std.proofs.lemmas.List.{take_all}
-use Rattle.std.specs.Prelude.{List}
-use Rattle.pim_types.specs.declared.fact.Key.{Key}
-use Rattle.pim_types.specs.Keys.{addr_cmp, key_cmp}
-use Rattle.pim_model.specs.Downstream.{is_named}
-use Rattle.pim_upstream.specs.Hearing.{heard_in_prunes}
-use Rattle.pim_upstream.specs.Timers.{after_moves}
-use Rattle.pim_upstream.proofs.Absorbed.{HeardOnce, heard_again, heard_first, none_heard}
-use Rattle.pim_downstream.proofs.NamedSets.{next_named}
+use Rattle.std.{proofs.{Common.{[], ap, refl, subst, sym, ◌≡◌, ◌∙◌, not, ◌++◌, ◌+◌, take, Bool, true, false}, lemmas.List.take_all}, specs.Prelude.List}
+use Rattle.pim_types.{specs.{declared.fact.Key.Key, Keys.{addr_cmp, key_cmp}}}
+use Rattle.pim_model.{specs.Downstream.is_named}
+use Rattle.pim_upstream.{specs.{Hearing.heard_in_prunes, Timers.after_moves}, proofs.{Absorbed.{HeardOnce, heard_again, heard_first, none_heard}, overheard.hear_prunes.Goals.{then-branch+in_ok-hear_prune, else-branch}}}
+use Rattle.pim_downstream.{proofs.NamedSets.next_named}
 use Rattle.pim_upstream.proofs.overheard.hear_prunes.Goals as goal
-use Rattle.pim_upstream.proofs.overheard.hear_prunes.Goals.{then-branch+in_ok-hear_prune, else-branch}
 
 -- what isn't added was there
 was_there : (added there : Bool) → added ≡ not there → added ≡ false → there ≡ true

@@ -1,7 +1,7 @@
-use Rattle.std.proofs.Common.{◌≡◌, take}
-use Rattle.pim_types.specs.declared.fact.Key.{Key}
-use Rattle.pim_model.specs.Downstream.{is_named}
-use Rattle.pim_upstream.proofs.Absorbed.{HeardOnce}
+use Rattle.std.{proofs.Common.{◌≡◌, take}}
+use Rattle.pim_types.{specs.declared.fact.Key.Key}
+use Rattle.pim_model.{specs.Downstream.is_named}
+use Rattle.pim_upstream.{proofs.Absorbed.HeardOnce}
 use Rattle.pim_upstream.proofs.overheard.hear_prunes.Given as goal
 
 abbrev pub invariant-loop-key : goal.invariant-loop-key

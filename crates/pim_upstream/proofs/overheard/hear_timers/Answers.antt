@@ -1,7 +1,6 @@
-use Rattle.std.proofs.Common.{◌≡◌, ◌++◌, ◌∙◌, ap, rules}
-use Rattle.pim_ip.specs.declared.addr.Addr.{Addr}
-use Rattle.pim_upstream.specs.Hearing.{heard_of_timer, heard_of_timers, timers_of}
-use Rattle.pim_upstream.proofs.HeardKeys.{next_heard_of}
+use Rattle.std.{proofs.Common.{◌≡◌, ◌++◌, ◌∙◌, ap, rules}}
+use Rattle.pim_ip.{specs.declared.addr.Addr.Addr}
+use Rattle.pim_upstream.{specs.Hearing.{heard_of_timer, heard_of_timers, timers_of}, proofs.HeardKeys.next_heard_of}
 use Rattle.pim_upstream.proofs.overheard.hear_timers.Goals as goal
 
 pub loop-key-init : goal.loop-key-init

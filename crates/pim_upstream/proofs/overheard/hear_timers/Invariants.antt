@@ -1,5 +1,5 @@
-use Rattle.std.proofs.Common.{◌≡◌, ◌++◌}
-use Rattle.pim_upstream.specs.Hearing.{heard_of_timers, timers_of}
+use Rattle.std.{proofs.Common.{◌≡◌, ◌++◌}}
+use Rattle.pim_upstream.{specs.Hearing.{heard_of_timers, timers_of}}
 use Rattle.pim_upstream.proofs.overheard.hear_timers.Given as goal
 
 abbrev pub invariant-loop-key : goal.invariant-loop-key

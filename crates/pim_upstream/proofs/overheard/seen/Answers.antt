@@ -1,9 +1,7 @@
-use Rattle.std.proofs.Common.{ap, subst, ◌≡◌, ◌∙◌}
-use Rattle.std.specs.Prelude.{OnOk}
-use Rattle.pim_model.specs.State.{State}
-use Rattle.pim_model.specs.Tables.{hop_at}
-use Rattle.pim_world.specs.Turns.{Taking}
-use Rattle.pim_upstream.proofs.HeardMessages.{gathered}
+use Rattle.std.{proofs.Common.{ap, subst, ◌≡◌, ◌∙◌}, specs.Prelude.OnOk}
+use Rattle.pim_model.{specs.{State.State, Tables.hop_at}}
+use Rattle.pim_state.{specs.Turns.Taking}
+use Rattle.pim_upstream.{proofs.HeardMessages.gathered}
 use Rattle.pim_upstream.proofs.overheard.seen.Goals as goal
 
 pub returns-clause-state : goal.returns-clause-state

@@ -1,5 +1,5 @@
-use Rattle.std.proofs.Common.{◌≡◌, drop, fold}
-use Rattle.pim_upstream.specs.Timers.{after_move}
+use Rattle.std.{proofs.Common.{◌≡◌, drop, fold}}
+use Rattle.pim_upstream.{specs.Timers.after_move}
 use Rattle.pim_upstream.proofs.timer.move_timers.Given as goal
 
 abbrev pub invariant-loop-moved : goal.invariant-loop-moved

@@ -1,10 +1,7 @@
-use Rattle.std.proofs.Common.{ap, sym, ◌∙◌}
-use Rattle.pim_model.specs.Upstream.{with_join_timer}
-use Rattle.pim_upstream.specs.Timers.{after_move, after_moves, join_key}
-use Rattle.pim_rpt.specs.Changes.{change_of}
-use Rattle.pim_rpt.specs.declared.change.Change.{Change}
-use Rattle.pim_upstream.specs.declared.timer.TimerMove.{TimerMove}
-use Rattle.pim_upstream.proofs.Moves.{after_one_more}
+use Rattle.std.{proofs.Common.{ap, sym, ◌∙◌}}
+use Rattle.pim_model.{specs.Upstream.with_join_timer}
+use Rattle.pim_upstream.{specs.{Timers.{after_move, after_moves, join_key}, declared.timer.TimerMove.TimerMove}, proofs.Moves.after_one_more}
+use Rattle.pim_rpt.{specs.{Changes.change_of, declared.change.Change.Change}}
 use Rattle.pim_upstream.proofs.timer.note_join.Goals as goal
 
 pub returns-in-Keep : goal.returns-in-Keep

@@ -1,11 +1,8 @@
-use Rattle.std.proofs.Common.{ap, sym, ◌∙◌}
-use Rattle.pim_types.specs.Keys.{rpt_key}
-use Rattle.pim_model.specs.Upstream.{with_override_timer}
-use Rattle.pim_upstream.specs.Timers.{after_move, after_moves}
-use Rattle.pim_rpt.specs.Changes.{change_of}
-use Rattle.pim_rpt.specs.declared.change.Change.{Change}
-use Rattle.pim_upstream.specs.declared.timer.TimerMove.{TimerMove}
-use Rattle.pim_upstream.proofs.Moves.{after_one_more}
+use Rattle.std.{proofs.Common.{ap, sym, ◌∙◌}}
+use Rattle.pim_types.{specs.Keys.rpt_key}
+use Rattle.pim_model.{specs.Upstream.with_override_timer}
+use Rattle.pim_upstream.{specs.{Timers.{after_move, after_moves}, declared.timer.TimerMove.TimerMove}, proofs.Moves.after_one_more}
+use Rattle.pim_rpt.{specs.{Changes.change_of, declared.change.Change.Change}}
 use Rattle.pim_upstream.proofs.timer.note_override.Goals as goal
 
 pub returns-in-Keep : goal.returns-in-Keep

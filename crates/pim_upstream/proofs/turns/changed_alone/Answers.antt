@@ -1,16 +1,9 @@
-use Rattle.std.proofs.Common.{List, ap, sym, ◌≡◌, ◌∙◌}
-use Rattle.std.proofs.lemmas.Result.{on_ok_weaker}
-use Rattle.pim_ip.specs.declared.addr.Addr.{Addr}
-use Rattle.pim_types.specs.Keys.{star_key}
-use Rattle.pim_model.specs.Messages.{Message}
-use Rattle.pim_model.specs.State.{State}
-use Rattle.pim_model.specs.Upstream.{Told, with_join_timer}
-use Rattle.pim_world.specs.Turns.{Taking, saying}
-use Rattle.pim_world.proofs.Said.{said_both}
-use Rattle.pim_upstream.specs.Timers.{after_moves}
-use Rattle.pim_upstream.specs.Told.{source_step, star_changed}
-use Rattle.pim_upstream.specs.declared.timer.TimerMove.{TimerMove}
-use Rattle.pim_upstream.proofs.Alone.{both, told_alone}
+use Rattle.std.{proofs.{Common.{List, ap, sym, ◌≡◌, ◌∙◌}, lemmas.Result.on_ok_weaker}}
+use Rattle.pim_ip.{specs.declared.addr.Addr.Addr}
+use Rattle.pim_types.{specs.Keys.star_key}
+use Rattle.pim_model.{specs.{Messages.Message, State.State, Upstream.{Told, with_join_timer}}}
+use Rattle.pim_state.{specs.Turns.{Taking, saying}, proofs.Said.said_both}
+use Rattle.pim_upstream.{specs.{Timers.after_moves, Told.{source_step, star_changed}, declared.timer.TimerMove.TimerMove}, proofs.Alone.{both, told_alone}}
 use Rattle.pim_upstream.proofs.turns.changed_alone.Goals as goal
 
 pub returns-clause-state : goal.returns-clause-state

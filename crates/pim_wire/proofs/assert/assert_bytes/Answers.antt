@@ -1,7 +1,5 @@
-use Rattle.std.proofs.Common.{◌≡◌, cond, ◌∙◌, refl, arith}
-use Rattle.std.proofs.lemmas.Grind.{common_steps}
-use Rattle.pim_wire.specs.Encoded.{pim_text}
-use Rattle.pim_wire.specs.Asserts.{assert_text}
+use Rattle.std.{proofs.{Common.{◌≡◌, cond, ◌∙◌, refl, arith}, lemmas.Grind.common_steps}}
+use Rattle.pim_wire.{specs.{Encoded.pim_text, Asserts.assert_text}}
 use Rattle.pim_wire.proofs.assert.assert_bytes.Goals as goal
 
 pub returns : goal.returns

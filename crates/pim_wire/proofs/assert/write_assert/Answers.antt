@@ -1,5 +1,5 @@
-use Rattle.std.proofs.Common.{arith}
-use Rattle.pim_wire.proofs.Laws.{assert_reads}
+use Rattle.std.{proofs.Common.arith}
+use Rattle.pim_wire.{proofs.Laws.assert_reads}
 use Rattle.pim_wire.proofs.assert.write_assert.Goals as goal
 
 pub returns-clause-reads : goal.returns-clause-reads

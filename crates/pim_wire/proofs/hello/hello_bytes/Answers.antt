@@ -1,6 +1,5 @@
-use Rattle.std.proofs.Common.{◌∙◌, refl}
-use Rattle.pim_wire.specs.Encoded.{pim_text}
-use Rattle.pim_wire.specs.Hellos.{hello_text}
+use Rattle.std.{proofs.Common.{◌∙◌, refl}}
+use Rattle.pim_wire.{specs.{Encoded.pim_text, Hellos.hello_text}}
 use Rattle.pim_wire.proofs.hello.hello_bytes.Goals as goal
 
 pub returns : goal.returns

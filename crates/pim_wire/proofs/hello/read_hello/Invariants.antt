@@ -1,6 +1,5 @@
-use Rattle.std.proofs.Common.{◌≡◌, ◌-◌, ◌≤◌, length}
-use Rattle.pim_wire.specs.Hellos.{no_options}
-use Rattle.pim_wire.proofs.Options.{tests_from, value_from}
+use Rattle.std.{proofs.Common.{◌≡◌, ◌-◌, ◌≤◌, length}}
+use Rattle.pim_wire.{specs.Hellos.no_options, proofs.Options.{tests_from, value_from}}
 use Rattle.pim_wire.proofs.hello.read_hello.Given as goal
 
 -- the options from the place on decide

@@ -1,6 +1,5 @@
-use Rattle.std.proofs.Common.{◌≡◌, ◌-◌, Err, sym, ◌∙◌, arith, rules}
-use Rattle.pim_wire.specs.JoinPrunes.{groups_test}
-use Rattle.pim_wire.proofs.Walks.{groups_none, groups_right, groups_wrong}
+use Rattle.std.{proofs.Common.{◌≡◌, ◌-◌, Err, sym, ◌∙◌, arith, rules}}
+use Rattle.pim_wire.{specs.JoinPrunes.groups_test, proofs.Walks.{groups_none, groups_right, groups_wrong}}
 use Rattle.pim_wire.proofs.join_prune.check_groups.Goals as goal
 
 pub returns-in_err-check_one_group : goal.returns-in_err-check_one_group

@@ -1,5 +1,5 @@
-use Rattle.std.proofs.Common.{◌≡◌, ◌-◌, ◌≤◌, length}
-use Rattle.pim_wire.specs.JoinPrunes.{groups_test}
+use Rattle.std.{proofs.Common.{◌≡◌, ◌-◌, ◌≤◌, length}}
+use Rattle.pim_wire.{specs.JoinPrunes.groups_test}
 use Rattle.pim_wire.proofs.join_prune.check_groups.Given as goal
 
 -- the groups from the place on decide

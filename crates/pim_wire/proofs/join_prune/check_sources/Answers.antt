@@ -1,6 +1,5 @@
-use Rattle.std.proofs.Common.{◌≡◌, ◌+◌, ◌*◌, ◌-◌, Err, sym, ◌∙◌, arith, rules}
-use Rattle.pim_wire.specs.JoinPrunes.{sources_test}
-use Rattle.pim_wire.proofs.Walks.{sources_none, sources_right, sources_wrong}
+use Rattle.std.{proofs.Common.{◌≡◌, ◌+◌, ◌*◌, ◌-◌, Err, sym, ◌∙◌, arith, rules}}
+use Rattle.pim_wire.{specs.JoinPrunes.sources_test, proofs.Walks.{sources_none, sources_right, sources_wrong}}
 use Rattle.pim_wire.proofs.join_prune.check_sources.Goals as goal
 
 pub returns-in_err-check_source-clause-value : goal.returns-in_err-check_source-clause-value

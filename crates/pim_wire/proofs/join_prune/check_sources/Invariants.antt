@@ -1,5 +1,5 @@
-use Rattle.std.proofs.Common.{◌≡◌, ◌+◌, ◌*◌, ◌-◌, ◌≤◌, length}
-use Rattle.pim_wire.specs.JoinPrunes.{sources_test}
+use Rattle.std.{proofs.Common.{◌≡◌, ◌+◌, ◌*◌, ◌-◌, ◌≤◌, length}}
+use Rattle.pim_wire.{specs.JoinPrunes.sources_test}
 use Rattle.pim_wire.proofs.join_prune.check_sources.Given as goal
 
 -- the sources from the index on decide

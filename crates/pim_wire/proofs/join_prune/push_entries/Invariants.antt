@@ -1,6 +1,5 @@
-use Rattle.std.proofs.Common.{◌≡◌, ◌++◌, take}
-use Rattle.std.specs.List.{flat_map}
-use Rattle.pim_wire.specs.JoinPrunes.{entry_text}
+use Rattle.std.{proofs.Common.{◌≡◌, ◌++◌, take}, specs.List.flat_map}
+use Rattle.pim_wire.{specs.JoinPrunes.entry_text}
 use Rattle.pim_wire.proofs.join_prune.push_entries.Given as goal
 
 -- the entries so far are written

@@ -1,6 +1,5 @@
-use Rattle.std.proofs.Common.{rules, append_assoc}
-use Rattle.std.proofs.lemmas.Result.{IfOk-equal}
-use Rattle.pim_wire.proofs.Texts.{kept_more, kept_first}
+use Rattle.std.{proofs.{Common.{rules, append_assoc}, lemmas.Result.IfOk-equal}}
+use Rattle.pim_wire.{proofs.Texts.{kept_more, kept_first}}
 use Rattle.pim_wire.proofs.join_prune.push_join_prune.Goals as goal
 
 pub returns-clause-ok : goal.returns-clause-ok

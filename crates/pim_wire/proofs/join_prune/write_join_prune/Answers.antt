@@ -1,9 +1,5 @@
-use Rattle.std.proofs.Common.{◌≡◌, ℕ, List, ◌++◌, length, ◌∙◌, arith, refl}
-use Rattle.std.specs.List.{flat_map}
-use Rattle.pim_wire.specs.JoinPrunes.{entry_text}
-use Rattle.pim_wire.specs.JoinPruneTexts.{join_prune_header_text}
-use Rattle.pim_wire.proofs.JoinPruneLaw.{join_prune_reads}
-use Rattle.pim_wire.proofs.Texts.{has_checksum, summed_behind, join_prune_summed}
+use Rattle.std.{proofs.Common.{◌≡◌, ℕ, List, ◌++◌, length, ◌∙◌, arith, refl}, specs.List.flat_map}
+use Rattle.pim_wire.{specs.{JoinPrunes.entry_text, JoinPruneTexts.join_prune_header_text}, proofs.{JoinPruneLaw.join_prune_reads, Texts.{has_checksum, summed_behind, join_prune_summed}}}
 use Rattle.pim_wire.proofs.join_prune.write_join_prune.Goals as goal
 
 pub sum_from-requires : goal.sum_from-requires

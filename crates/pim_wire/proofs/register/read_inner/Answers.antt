@@ -1,6 +1,5 @@
-use Rattle.std.proofs.Common.{sym, arith, rules}
-use Rattle.std.proofs.lemmas.Grind.{common_steps}
-use Rattle.pim_wire.proofs.Inner.{inner_long, inner_unread, inner_source, inner_group, inner_right}
+use Rattle.std.{proofs.{Common.{sym, arith, rules}, lemmas.Grind.common_steps}}
+use Rattle.pim_wire.{proofs.Inner.{inner_long, inner_unread, inner_source, inner_group, inner_right}}
 use Rattle.pim_wire.proofs.register.read_inner.Goals as goal
 
 pub returns-then-bytes-gt-FRAME_LIMIT : goal.returns-then-bytes-gt-FRAME_LIMIT

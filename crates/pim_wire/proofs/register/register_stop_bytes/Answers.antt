@@ -1,6 +1,5 @@
-use Rattle.std.proofs.Common.{◌∙◌, refl}
-use Rattle.pim_wire.specs.Encoded.{pim_text}
-use Rattle.pim_wire.specs.Registers.{register_stop_text}
+use Rattle.std.{proofs.Common.{◌∙◌, refl}}
+use Rattle.pim_wire.{specs.{Encoded.pim_text, Registers.register_stop_text}}
 use Rattle.pim_wire.proofs.register.register_stop_bytes.Goals as goal
 
 pub returns-clause-value : goal.returns-clause-value

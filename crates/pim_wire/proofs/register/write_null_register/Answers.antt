@@ -1,4 +1,4 @@
-use Rattle.pim_wire.proofs.Laws.{null_register_reads}
+use Rattle.pim_wire.{proofs.Laws.null_register_reads}
 use Rattle.pim_wire.proofs.register.write_null_register.Goals as goal
 
 pub returns-clause-reads : goal.returns-clause-reads

@@ -1,4 +1,4 @@
-use Rattle.pim_wire.proofs.Laws.{register_stop_reads}
+use Rattle.pim_wire.{proofs.Laws.register_stop_reads}
 use Rattle.pim_wire.proofs.register.write_register_stop.Goals as goal
 
 pub returns-clause-reads : goal.returns-clause-reads

@@ -1,8 +1,7 @@
-use Rattle.std.proofs.Common.{◌≡◌, ◌∙◌, ◌≤◌, ◌+◌, ℕ, cond, IfOk, OnErr, Option, Some, None, Result, Ok, Err, is_some, sym, arith}
-use Rattle.pim_types.specs.Keys.{addr_cmp, key_cmp}
-use Rattle.pim_model.specs.Tables.{row_at}
-use Rattle.igmp_older.specs.declared.mode.PresentRow.{PresentRow}
-use Rattle.igmp_older.proofs.Quieted.{any_quiet}
+use Rattle.std.{proofs.Common.{◌≡◌, ◌∙◌, ◌≤◌, ◌+◌, ℕ, cond, IfOk, OnErr, Option, Some, None, Result, Ok, Err, is_some, sym, arith}}
+use Rattle.pim_types.{specs.Keys.{addr_cmp, key_cmp}}
+use Rattle.pim_model.{specs.Tables.row_at}
+use Rattle.igmp_older.{specs.declared.mode.PresentRow.PresentRow, proofs.Quieted.any_quiet}
 use Rattle.igmp_older.proofs.presence.Presence.doubt.Goals as goal
 
 -- a row in the place of one is none more

@@ -1,9 +1,7 @@
-use Rattle.std.proofs.Common.{◌≡◌, ◌∙◌, true, false, sym}
-use Rattle.pim_types.specs.Keys.{star_key}
-use Rattle.pim_model.specs.Tables.{has_row}
-use Rattle.igmp_older.specs.Modes.{is_three}
-use Rattle.igmp_older.specs.Presence.{mode_at}
-use Rattle.igmp_older.proofs.LiveLaws.{is_mode, mode_gone, mode_there, mode_three}
+use Rattle.std.{proofs.Common.{◌≡◌, ◌∙◌, true, false, sym}}
+use Rattle.pim_types.{specs.Keys.star_key}
+use Rattle.pim_model.{specs.Tables.has_row}
+use Rattle.igmp_older.{specs.{Modes.is_three, Presence.mode_at}, proofs.LiveLaws.{is_mode, mode_gone, mode_there, mode_three}}
 use Rattle.igmp_older.proofs.presence.Presence.mode.Goals as goal
 
 pub returns-then-is_three : goal.returns-then-is_three

@@ -1,8 +1,6 @@
-use Rattle.std.proofs.Common.{◌≡◌, ◌++◌, map, filter, ◌&&◌}
-use Rattle.pim_types.specs.declared.fact.Key.{Key}
-use Rattle.igmp_older.specs.Modes.{runs}
-use Rattle.igmp_older.specs.Presence.{has_record, row_told, rows_told}
-use Rattle.igmp_older.specs.declared.mode.PresentRow.{PresentRow}
+use Rattle.std.{proofs.Common.{◌≡◌, ◌++◌, map, filter, ◌&&◌}}
+use Rattle.pim_types.{specs.declared.fact.Key.Key}
+use Rattle.igmp_older.{specs.{Modes.runs, Presence.{has_record, row_told, rows_told}, declared.mode.PresentRow.PresentRow}}
 use Rattle.igmp_older.proofs.presence.Presence.older_rows.Given as goal
 
 abbrev pub invariant-loop-key : goal.invariant-loop-key

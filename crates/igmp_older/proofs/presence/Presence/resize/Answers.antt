@@ -1,13 +1,7 @@
-use Rattle.std.proofs.Common.{◌≡◌, ◌∙◌, ap, arith, length, max, nat_lt, rules, List, ℕ}
-use Rattle.std.proofs.lemmas.Map.Made.{filter_same_pairs}
-use Rattle.pim_types.specs.Keys.{iface_in}
-use Rattle.pim_types.specs.declared.fact.Key.{Key}
-use Rattle.pim_model.specs.Tables.{Table}
-use Rattle.igmp_older.specs.Presence.{Present}
-use Rattle.igmp_older.specs.Resized.{resized}
-use Rattle.igmp_older.specs.declared.mode.PresentRow.{PresentRow}
-use Rattle.igmp_older.specs.declared.setting.OlderHosts.{OlderHosts}
-use Rattle.igmp_older.proofs.Quieted.{quiet_filter}
+use Rattle.std.{proofs.{Common.{◌≡◌, ◌∙◌, ap, arith, length, max, nat_lt, rules, List, ℕ}, lemmas.Map.Made.filter_same_pairs}}
+use Rattle.pim_types.{specs.{Keys.iface_in, declared.fact.Key.Key}}
+use Rattle.pim_model.{specs.Tables.Table}
+use Rattle.igmp_older.{specs.{Presence.Present, Resized.resized, declared.{mode.PresentRow.PresentRow, setting.OlderHosts.OlderHosts}}, proofs.Quieted.quiet_filter}
 use Rattle.igmp_older.proofs.presence.Presence.resize.Goals as goal
 
 pub invariant_of-self-2 : goal.invariant_of-self-2

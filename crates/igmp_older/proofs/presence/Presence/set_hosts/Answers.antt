@@ -1,7 +1,5 @@
-use Rattle.std.proofs.Common.{◌≤◌, List, ap, length, slice_set, sym, ◌∙◌, arith}
-use Rattle.std.proofs.lemmas.List.{set_past}
-use Rattle.igmp_older.specs.Presence.{Present, left, with_hosts}
-use Rattle.igmp_older.specs.declared.setting.OlderHosts.{OlderHosts}
+use Rattle.std.{proofs.{Common.{◌≤◌, List, ap, length, slice_set, sym, ◌∙◌, arith}, lemmas.List.set_past}}
+use Rattle.igmp_older.{specs.{Presence.{Present, left, with_hosts}, declared.setting.OlderHosts.OlderHosts}}
 use Rattle.igmp_older.proofs.presence.Presence.set_hosts.Goals as goal
 
 pub returns-then-place-len : goal.returns-then-place-len

@@ -1,4 +1,4 @@
-use Rattle.std.proofs.Common.{◌≡◌, ◌++◌, replicate, take}
+use Rattle.std.{proofs.Common.{◌≡◌, ◌++◌, replicate, take}}
 use Rattle.igmp_older.proofs.presence.resized.resize_settings.Given as goal
 
 abbrev pub invariant-loop-place : goal.invariant-loop-place

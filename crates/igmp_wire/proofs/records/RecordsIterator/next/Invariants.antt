@@ -1,5 +1,5 @@
-use Rattle.std.proofs.Common.{◌≡◌, Ok}
-use Rattle.igmp_wire.specs.Reports.{records_at, records_test}
+use Rattle.std.{proofs.Common.{◌≡◌, Ok}}
+use Rattle.igmp_wire.{specs.Reports.{records_at, records_test}}
 use Rattle.igmp_wire.proofs.records.RecordsIterator.next.Given as goal
 
 -- what was passed over is skipped

@@ -1,5 +1,5 @@
-use Rattle.std.proofs.Common.{◌≡◌, length, filter}
-use Rattle.pim_ip.specs.Ipv4.{is_unicast}
+use Rattle.std.{proofs.Common.{◌≡◌, length, filter}}
+use Rattle.pim_ip.{specs.Ipv4.is_unicast}
 use Rattle.igmp_wire.proofs.records.SourcesIterator.next.Given as goal
 
 -- what was passed over are no sources

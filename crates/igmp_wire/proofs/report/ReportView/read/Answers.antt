@@ -1,5 +1,5 @@
-use Rattle.std.proofs.Common.{◌≡◌, ◌+◌, ◌-◌, ℕ, sym, ◌∙◌, arith, rules}
-use Rattle.igmp_wire.proofs.RecordLaws.{records_test-none, records_test-more, records_test-refused, report_passed, report_refused}
+use Rattle.std.{proofs.Common.{◌≡◌, ◌+◌, ◌-◌, ℕ, sym, ◌∙◌, arith, rules}}
+use Rattle.igmp_wire.{proofs.RecordLaws.{records_test-none, records_test-more, records_test-refused, report_passed, report_refused}}
 use Rattle.igmp_wire.proofs.report.ReportView.read.Goals as goal
 
 pub returns-in_err-place : goal.returns-in_err-place

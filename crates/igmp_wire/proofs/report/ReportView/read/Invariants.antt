@@ -1,5 +1,5 @@
-use Rattle.std.proofs.Common.{◌≡◌, ◌-◌, ◌≤◌, length}
-use Rattle.igmp_wire.specs.Reports.{records_test}
+use Rattle.std.{proofs.Common.{◌≡◌, ◌-◌, ◌≤◌, length}}
+use Rattle.igmp_wire.{specs.Reports.records_test}
 use Rattle.igmp_wire.proofs.report.ReportView.read.Given as goal
 
 -- the tests of the records that are left are those of all

@@ -1,36 +1,14 @@
 -- `into_pointed` gives the pointer up with what stands behind it. Assumes `Logic`.
-use Rattle.std.proofs.Common.{◌≡◌, List, [], ◌∷◌, ◌++◌, refl, sym, subst}
-use Rattle.std.specs.Prelude.{IsSome, Option, Some}
-use mir.Raw.{raw as bare}
-use mir.Val.{Val, vptr}
-use base.Logic.{SProp, ent, emp, never, id⊢, fst∗}
-use prog.Wp.{WpFn}
-use types.Logic.{sem}
-use types.Kit.{‵, raw, ◌⊛◌, ◌$◌, ◌∵◌, !, qed, by, move, keep, split, fsplit, fjoin, suffices, use0, use1, rewrite}
-use types.Run.{stop, fld, of_opd, no_more, and_then, returns, enter}
-use types.ByLocal.{alloc_all, pass_all, free_all, look_at, get, get_in, sets}
-use types.Part.{agg, sub, whole}
-use contract.Monad.{fact, fact_i}
-use contract.Running.{tables}
-use denote.RattleType.{owns}
-use denote.Memory.{lone}
-use denote.RawPtr.{Ptr, block_ptr, null_ptr, ptr_val, in_a_block}
-use denote.Signature.{types_at, plain}
-use denote.Steps.{nothing, heard}
-use denote.Triple.Entry.{alive}
-use denote.Triple.Walked.{Stays, stay_dropped, walk_of}
-use Rattle.std.proofs.alloc.Calls.{Goes-blank}
-use Rattle.std.proofs.raw_atomic.Walks.{proved_at, leaves}
-use Rattle.std.specs.contracts.impls.GlobalAllocator.TheImpl.{ghosts}
-use Rattle.std_alloc.specs.Box.Ownership.{box_owns}
-use Rattle.pim_c.proofs.PointedWords.{pair, pair_good, pointed_in}
-use Rattle.pim_c.proofs.PointedWords.{Row as To}
-use Rattle.pim_c.specs.Kept.{kept}
-use Rattle.pim_session.specs.contracts.session.Session.{the_row as session}
-use Rattle.pim_c.proofs.PlaceWords.{Z, laws, Row, place_out, value_of}
-use Rattle.pim_c.specs.contracts.place.Place.into_pointed.{ended, clauses}
-use Rattle.pim_c.specs.contracts.place.Place.into_pointed.Key.{name as #self}
-use Rattle.pim_c.proofs.place.Place.into_pointed.Statement.{statement}
+use Rattle.std.{proofs.{Common.{◌≡◌, List, [], ◌∷◌, ◌++◌, refl, sym, subst}, alloc.Calls.Goes-blank, raw_atomic.Walks.{proved_at, leaves}}, specs.{Prelude.{IsSome, Option, Some}, contracts.impls.GlobalAllocator.TheImpl.ghosts}}
+use mir.{Raw.raw as bare, Val.{Val, vptr}}
+use base.{Logic.{SProp, ent, emp, never, id⊢, fst∗}}
+use prog.{Wp.WpFn}
+use types.{Logic.sem, Kit.{‵, raw, ◌⊛◌, ◌$◌, ◌∵◌, !, qed, by, move, keep, split, fsplit, fjoin, suffices, use0, use1, rewrite}, Run.{stop, fld, of_opd, no_more, and_then, returns, enter}, ByLocal.{alloc_all, pass_all, free_all, look_at, get, get_in, sets}, Part.{agg, sub, whole}}
+use contract.{Monad.{fact, fact_i}, Running.tables}
+use denote.{RattleType.owns, Memory.lone, RawPtr.{Ptr, block_ptr, null_ptr, ptr_val, in_a_block}, Signature.{types_at, plain}, Steps.{nothing, heard}, Triple.{Entry.alive, Walked.{Stays, stay_dropped, walk_of}}}
+use Rattle.std_alloc.{specs.Box.Ownership.box_owns}
+use Rattle.pim_c.{proofs.{PointedWords.{pair, pair_good, pointed_in, Row as To}, PlaceWords.{Z, laws, Row, place_out, value_of}, place.Place.into_pointed.Statement.statement}, specs.{Kept.kept, contracts.place.Place.into_pointed.{ended, clauses, Key.name as #self}}}
+use Rattle.pim_session.{specs.contracts.session.Session.the_row as session}
 use Rattle.pim_c.proofs.place.Place.into_pointed.Code as code
 
 pub into_pointed_spec : {M : Type 1} → statement M

@@ -1,28 +1,12 @@
 -- `none` makes a place with nothing behind it. Assumes `Logic`.
-use Rattle.std.proofs.Common.{◌≡◌, List, [], ◌∷◌, ◌++◌, refl, sym, subst}
-use Rattle.std.specs.Prelude.{None}
-use mir.Val.{Val}
-use base.Logic.{SProp, ent, emp, id⊢}
-use prog.Wp.{WpFn}
-use types.Kit.{‵, raw, ◌⊛◌, ◌$◌, ◌∵◌, !, qed, by, move, keep, drop, split, fsplit, fjoin, suffices, use0}
-use types.Run.{lit, no_more, and_then, returns, enter}
-use types.ByLocal.{alloc_all, pass_all, free_all, look_at, get, sets}
-use types.Part.{agg}
-use contract.Monad.{fact, fact_i}
-use contract.Running.{tables}
-use denote.RattleType.{owns}
-use denote.RawPtr.{null_ptr, ptr_val}
-use denote.Signature.{types_at, plain}
-use denote.Steps.{nothing}
-use denote.Triple.Entry.{alive}
-use denote.Triple.Walked.{Stays, stay_dropped, walk_of}
-use Rattle.std.proofs.alloc.Calls.{Goes-blank, handle_tells}
-use Rattle.std.proofs.raw_atomic.Walks.{proved_at, leaves}
-use Rattle.pim_c.proofs.PointedWords.{pair}
-use Rattle.pim_c.proofs.PlaceWords.{Z, Row, handle, null_good, place_in}
-use Rattle.pim_c.specs.contracts.place.Place.none.{ended, clauses}
-use Rattle.pim_c.specs.contracts.place.Place.none.Key.{name as #self}
-use Rattle.pim_c.proofs.place.Place.none.Statement.{statement}
+use Rattle.std.{proofs.{Common.{◌≡◌, List, [], ◌∷◌, ◌++◌, refl, sym, subst}, alloc.Calls.{Goes-blank, handle_tells}, raw_atomic.Walks.{proved_at, leaves}}, specs.Prelude.None}
+use mir.{Val.Val}
+use base.{Logic.{SProp, ent, emp, id⊢}}
+use prog.{Wp.WpFn}
+use types.{Kit.{‵, raw, ◌⊛◌, ◌$◌, ◌∵◌, !, qed, by, move, keep, drop, split, fsplit, fjoin, suffices, use0}, Run.{lit, no_more, and_then, returns, enter}, ByLocal.{alloc_all, pass_all, free_all, look_at, get, sets}, Part.agg}
+use contract.{Monad.{fact, fact_i}, Running.tables}
+use denote.{RattleType.owns, RawPtr.{null_ptr, ptr_val}, Signature.{types_at, plain}, Steps.nothing, Triple.{Entry.alive, Walked.{Stays, stay_dropped, walk_of}}}
+use Rattle.pim_c.{proofs.{PointedWords.pair, PlaceWords.{Z, Row, handle, null_good, place_in}, place.Place.none.Statement.statement}, specs.contracts.place.Place.none.{ended, clauses, Key.name as #self}}
 use Rattle.pim_c.proofs.place.Place.none.Code as code
 
 pub none_spec : {M : Type 1} → statement M

@@ -1,32 +1,13 @@
 -- `of` keeps the pointer and what stands behind it. Assumes `Logic`.
-use Rattle.std.proofs.Common.{◌≡◌, List, [], ◌∷◌, ◌++◌, refl, sym, subst}
-use Rattle.std.specs.Prelude.{Some}
-use mir.Val.{Val, vptr}
-use base.Logic.{SProp, ent, emp, id⊢}
-use prog.Wp.{WpFn}
-use types.Kit.{‵, raw, ◌⊛◌, ◌$◌, ◌∵◌, !, qed, by, move, keep, drop, split, fsplit, fjoin, suffices, use0, use1}
-use types.Run.{stop, fld, of_opd, no_more, and_then, returns, enter}
-use types.ByLocal.{alloc_all, pass_all, free_all, look_at, get, get_in, sets}
-use types.Part.{agg, sub, whole}
-use contract.Monad.{fact, fact_i}
-use contract.Running.{tables}
-use denote.RattleType.{RattleType, owns}
-use denote.RawPtr.{block_ptr}
-use denote.Signature.{types_at, plain}
-use denote.Steps.{nothing}
-use denote.Triple.Entry.{alive}
-use denote.Triple.Walked.{Stays, stay_dropped, walk_of}
-use Rattle.std.proofs.alloc.Calls.{Goes-blank}
-use Rattle.std.proofs.raw_atomic.Walks.{proved_at, leaves}
-use Rattle.std.specs.contracts.impls.GlobalAllocator.TheImpl.{ghosts}
-use Rattle.pim_c.proofs.PointedWords.{pair, pair_good, pointed_out}
-use Rattle.pim_c.proofs.PointedWords.{Row as From}
-use Rattle.pim_session.specs.contracts.session.Session.{the_row as session}
-use Rattle.pim_c.specs.contracts.place.Place.{the_heap}
-use Rattle.pim_c.proofs.PlaceWords.{Z, laws, Row, place_in}
-use Rattle.pim_c.specs.contracts.place.Place.of.{ended, clauses}
-use Rattle.pim_c.specs.contracts.place.Place.of.Key.{name as #self}
-use Rattle.pim_c.proofs.place.Place.of.Statement.{statement}
+use Rattle.std.{proofs.{Common.{◌≡◌, List, [], ◌∷◌, ◌++◌, refl, sym, subst}, alloc.Calls.Goes-blank, raw_atomic.Walks.{proved_at, leaves}}, specs.{Prelude.Some, contracts.impls.GlobalAllocator.TheImpl.ghosts}}
+use mir.{Val.{Val, vptr}}
+use base.{Logic.{SProp, ent, emp, id⊢}}
+use prog.{Wp.WpFn}
+use types.{Kit.{‵, raw, ◌⊛◌, ◌$◌, ◌∵◌, !, qed, by, move, keep, drop, split, fsplit, fjoin, suffices, use0, use1}, Run.{stop, fld, of_opd, no_more, and_then, returns, enter}, ByLocal.{alloc_all, pass_all, free_all, look_at, get, get_in, sets}, Part.{agg, sub, whole}}
+use contract.{Monad.{fact, fact_i}, Running.tables}
+use denote.{RattleType.{RattleType, owns}, RawPtr.block_ptr, Signature.{types_at, plain}, Steps.nothing, Triple.{Entry.alive, Walked.{Stays, stay_dropped, walk_of}}}
+use Rattle.pim_c.{proofs.{PointedWords.{pair, pair_good, pointed_out, Row as From}, PlaceWords.{Z, laws, Row, place_in}, place.Place.of.Statement.statement}, specs.contracts.place.Place.{the_heap, of.{ended, clauses, Key.name as #self}}}
+use Rattle.pim_session.{specs.contracts.session.Session.the_row as session}
 use Rattle.pim_c.proofs.place.Place.of.Code as code
 
 pub of_spec : {M : Type 1} → statement M

@@ -1,5 +1,5 @@
-use Rattle.std.proofs.Common.{ap, ◌∙◌}
-use Rattle.pim_downstream.proofs.Judged.{all_changed, all_moved}
+use Rattle.std.{proofs.Common.{ap, ◌∙◌}}
+use Rattle.pim_downstream.{proofs.Judged.{all_changed, all_moved}}
 use Rattle.pim_downstream.proofs.effect.Effect.of.Goals as goal
 
 pub returns-clause-changes : goal.returns-clause-changes

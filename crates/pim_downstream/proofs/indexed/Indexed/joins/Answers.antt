@@ -1,5 +1,5 @@
-use Rattle.std.proofs.Common.{ap, ◌∙◌}
-use Rattle.pim_model.specs.Downstream.{is_named}
+use Rattle.std.{proofs.Common.{ap, ◌∙◌}}
+use Rattle.pim_model.{specs.Downstream.is_named}
 use Rattle.pim_downstream.proofs.indexed.Indexed.joins.Goals as goal
 
 pub returns : goal.returns

@@ -1,6 +1,5 @@
-use Rattle.pim_model.specs.Downstream.{accepted_joins, accepted_prunes, is_used, joined_keys, pruned_keys}
-use Rattle.pim_downstream.specs.Naming.{is_counted}
-use Rattle.pim_downstream.proofs.GroupKeys.{group_added, groups_made}
+use Rattle.pim_model.{specs.Downstream.{accepted_joins, accepted_prunes, is_used, joined_keys, pruned_keys}}
+use Rattle.pim_downstream.{specs.Naming.is_counted, proofs.GroupKeys.{group_added, groups_made}}
 use Rattle.pim_downstream.proofs.named.Named.of.Goals as goal
 
 pub loop-group-preserved : goal.loop-group-preserved

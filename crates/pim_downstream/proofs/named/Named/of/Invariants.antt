@@ -1,7 +1,6 @@
-use Rattle.std.proofs.Common.{◌≡◌, ◌++◌}
-use Rattle.pim_model.specs.Downstream.{is_used}
-use Rattle.pim_downstream.specs.Naming.{is_counted}
-use Rattle.pim_downstream.proofs.GroupKeys.{group_keys}
+use Rattle.std.{proofs.Common.{◌≡◌, ◌++◌}}
+use Rattle.pim_model.{specs.Downstream.is_used}
+use Rattle.pim_downstream.{specs.Naming.is_counted, proofs.GroupKeys.group_keys}
 use Rattle.pim_downstream.proofs.named.Named.of.Given as goal
 
 abbrev pub invariant-loop-group : goal.invariant-loop-group

@@ -1,5 +1,5 @@
-use Rattle.std.proofs.Common.{sym, ◌∙◌}
-use Rattle.pim_fanout.proofs.Alone.{opened_alone, sources_alone}
+use Rattle.std.{proofs.Common.{sym, ◌∙◌}}
+use Rattle.pim_fanout.{proofs.Alone.{opened_alone, sources_alone}}
 use Rattle.pim_fanout.proofs.before.Gathered.of.Goals as goal
 
 pub returns-in_ok-gathered-in-Some-clause-opening : goal.returns-in_ok-gathered-in-Some-clause-opening

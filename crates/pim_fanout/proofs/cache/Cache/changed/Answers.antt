@@ -1,5 +1,5 @@
-use Rattle.std.proofs.Common.{◌≡◌, subst, sym, ◌∙◌}
-use Rattle.pim_fanout.specs.Refreshing.{CacheValue, touches}
+use Rattle.std.{proofs.Common.{◌≡◌, subst, sym, ◌∙◌}}
+use Rattle.pim_fanout.{specs.Refreshing.{CacheValue, touches}}
 use Rattle.pim_fanout.proofs.cache.Cache.changed.Goals as goal
 
 pub returns-clause-none : goal.returns-clause-none

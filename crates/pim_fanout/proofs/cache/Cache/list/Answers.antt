@@ -1,5 +1,5 @@
-use Rattle.std.proofs.Common.{◌≡◌, subst}
-use Rattle.pim_fanout.specs.Refreshing.{CacheValue, touches}
+use Rattle.std.{proofs.Common.{◌≡◌, subst}}
+use Rattle.pim_fanout.{specs.Refreshing.{CacheValue, touches}}
 use Rattle.pim_fanout.proofs.cache.Cache.list.Goals as goal
 
 pub invariant_of-self : goal.invariant_of-self

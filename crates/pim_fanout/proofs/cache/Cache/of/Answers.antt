@@ -1,9 +1,7 @@
-use Rattle.std.proofs.Common.{subst, sym}
-use Rattle.pim_mfc.specs.Laws.{ShowsRows}
-use Rattle.pim_model.specs.Cache.{cached}
-use Rattle.pim_fanout.specs.Named.{keys_of}
-use Rattle.pim_fanout.specs.Refreshing.{CacheValue, Refreshes}
-use Rattle.pim_fanout.proofs.AllRows.{all_shown, none_counted}
+use Rattle.std.{proofs.Common.{subst, sym}}
+use Rattle.pim_mfc.{specs.Laws.ShowsRows}
+use Rattle.pim_model.{specs.Cache.cached}
+use Rattle.pim_fanout.{specs.{Named.keys_of, Refreshing.{CacheValue, Refreshes}}, proofs.AllRows.{all_shown, none_counted}}
 use Rattle.pim_fanout.proofs.cache.Cache.of.Goals as goal
 
 pub returns-clause-shown : goal.returns-clause-shown

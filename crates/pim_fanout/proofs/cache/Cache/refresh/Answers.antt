@@ -1,10 +1,7 @@
-use Rattle.std.proofs.Common.{◌≡◌, List, ap, ◌∙◌}
-use Rattle.std.proofs.lemmas.Result.{on_ok_weaker}
-use Rattle.pim_trie.specs.Meter.{raised}
-use Rattle.pim_fanout.specs.Named.{keys_of}
-use Rattle.pim_fanout.specs.Refreshing.{touches, touches_in}
-use Rattle.pim_fanout.proofs.Counts.{none_counted}
-use Rattle.pim_types.specs.declared.name.SourceGroup.{SourceGroup}
+use Rattle.std.{proofs.{Common.{◌≡◌, List, ap, ◌∙◌}, lemmas.Result.on_ok_weaker}}
+use Rattle.pim_trie.{specs.Meter.raised}
+use Rattle.pim_fanout.{specs.{Named.keys_of, Refreshing.{touches, touches_in}}, proofs.Counts.none_counted}
+use Rattle.pim_types.{specs.declared.name.SourceGroup.SourceGroup}
 use Rattle.pim_fanout.proofs.cache.Cache.refresh.Goals as goal
 
 pub list-requires : goal.list-requires

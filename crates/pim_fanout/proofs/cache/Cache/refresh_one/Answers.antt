@@ -1,10 +1,7 @@
-use Rattle.std.proofs.Common.{◌≤◌, arith, sym, ◌∙◌}
-use Rattle.pim_mfc.specs.Kept.{with_source_row, without_source_row}
-use Rattle.pim_mfc.proofs.Shown.{removal_refreshes}
-use Rattle.pim_trie.specs.Meter.{raised}
-use Rattle.pim_fanout.specs.Refreshing.{touches}
-use Rattle.pim_fanout.proofs.Counts.{one_counts, one_put, one_taken_out, then_counts}
-use Rattle.pim_fanout.proofs.Refreshed.{put_named}
+use Rattle.std.{proofs.Common.{◌≤◌, arith, sym, ◌∙◌}}
+use Rattle.pim_mfc.{specs.Kept.{with_source_row, without_source_row}, proofs.Shown.removal_refreshes}
+use Rattle.pim_trie.{specs.Meter.raised}
+use Rattle.pim_fanout.{specs.Refreshing.touches, proofs.{Counts.{one_counts, one_put, one_taken_out, then_counts}, Refreshed.put_named}}
 use Rattle.pim_fanout.proofs.cache.Cache.refresh_one.Goals as goal
 
 pub returns-then-not-has_fact-clause-shown : goal.returns-then-not-has_fact-clause-shown

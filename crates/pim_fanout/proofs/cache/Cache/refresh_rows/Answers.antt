@@ -1,15 +1,11 @@
-use Rattle.std.proofs.Common.{◌≡◌, ◌+◌, ◌++◌, [], ◌∷◌, ap, get_or, refl, subst, sym, take, ◌∙◌}
-use Rattle.std.proofs.lemmas.List.{map-append, take_all, take_more}
-use Rattle.pim_ip.specs.Addr.{addr}
-use Rattle.pim_trie.specs.Meter.{raised}
-use Rattle.pim_cached.specs.Kept.{is_listed, refreshed}
-use Rattle.pim_mfc.specs.Laws.{ShowsRows}
-use Rattle.pim_fanout.specs.Before.{name_key}
-use Rattle.pim_fanout.specs.Named.{keys_of}
-use Rattle.pim_fanout.specs.Refreshing.{touches, touches_in, touches_of}
-use Rattle.pim_fanout.proofs.Counts.{one_more}
-use Rattle.pim_types.specs.declared.name.SourceGroup.{SourceGroup}
-use Rattle.pim_world.proofs.Visits.{raised_by_none}
+use Rattle.std.{proofs.{Common.{◌≡◌, ◌+◌, ◌++◌, [], ◌∷◌, ap, get_or, refl, subst, sym, take, ◌∙◌}, lemmas.List.{map-append, take_all, take_more}}}
+use Rattle.pim_ip.{specs.Addr.addr}
+use Rattle.pim_trie.{specs.Meter.raised}
+use Rattle.law_cache.{specs.Kept.{is_listed, refreshed}}
+use Rattle.pim_mfc.{specs.Laws.ShowsRows}
+use Rattle.pim_fanout.{specs.{Before.name_key, Named.keys_of, Refreshing.{touches, touches_in, touches_of}}, proofs.Counts.one_more}
+use Rattle.pim_types.{specs.declared.name.SourceGroup.SourceGroup}
+use Rattle.pim_state.{proofs.Visits.raised_by_none}
 use Rattle.pim_fanout.proofs.cache.Cache.refresh_rows.Goals as goal
 
 pub loop-name-init : goal.loop-name-init

@@ -1,7 +1,6 @@
-use Rattle.std.proofs.Common.{◌≡◌, take}
-use Rattle.pim_trie.specs.Meter.{raised}
-use Rattle.pim_fanout.specs.Refreshing.{Refreshes, touches, touches_in}
-use Rattle.pim_fanout.specs.Named.{keys_of}
+use Rattle.std.{proofs.Common.{◌≡◌, take}}
+use Rattle.pim_trie.{specs.Meter.raised}
+use Rattle.pim_fanout.{specs.{Refreshing.{Refreshes, touches, touches_in}, Named.keys_of}}
 use Rattle.pim_fanout.proofs.cache.Cache.refresh_rows.Given as goal
 
 abbrev pub invariant-loop-name : goal.invariant-loop-name

@@ -1,5 +1,5 @@
-use Rattle.std.proofs.Common.{◌∙◌}
-use Rattle.pim_fanout.proofs.Joining.{all_joined}
+use Rattle.std.{proofs.Common.◌∙◌}
+use Rattle.pim_fanout.{proofs.Joining.all_joined}
 use Rattle.pim_fanout.proofs.disturbed.Disturbed.add.Goals as goal
 
 pub returns-in-All : goal.returns-in-All

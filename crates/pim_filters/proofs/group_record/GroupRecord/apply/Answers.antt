@@ -1,10 +1,6 @@
-use Rattle.std.proofs.Common.{ap, sym, subst, ◌∙◌, filter_map}
-use Rattle.pim_filters.specs.Cases.{cases_in}
-use Rattle.pim_filters.specs.Changes.{asked_after, entry_after}
-use Rattle.pim_filters.specs.Members.{IsAscending, bits_of}
-use Rattle.pim_filters.specs.declared.rule.Rule.{Rule}
-use Rattle.pim_filters.proofs.Applying.{IsAscending-after, applied}
-use Rattle.pim_model.specs.Records.{apply_record}
+use Rattle.std.{proofs.Common.{ap, sym, subst, ◌∙◌, filter_map}}
+use Rattle.pim_filters.{specs.{Cases.cases_in, Changes.{asked_after, entry_after}, Members.{IsAscending, bits_of}, declared.rule.Rule.Rule}, proofs.Applying.{IsAscending-after, applied}}
+use Rattle.pim_model.{specs.Records.apply_record}
 use Rattle.pim_filters.proofs.group_record.GroupRecord.apply.Goals as goal
 
 pub invariant_of-self : goal.invariant_of-self

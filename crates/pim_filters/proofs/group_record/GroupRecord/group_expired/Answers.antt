@@ -1,7 +1,5 @@
-use Rattle.std.proofs.Common.{ap, sym, subst, ◌∙◌, None, false, nat_lt}
-use Rattle.std.specs.Option.{option_map_or}
-use Rattle.pim_filters.specs.Members.{IsAscending, member_entries}
-use Rattle.pim_filters.proofs.Members.{IsAscending-filter, entries_of-filter}
+use Rattle.std.{proofs.Common.{ap, sym, subst, ◌∙◌, None, false, nat_lt}, specs.Option.option_map_or}
+use Rattle.pim_filters.{specs.Members.{IsAscending, member_entries}, proofs.Members.{IsAscending-filter, entries_of-filter}}
 use Rattle.pim_model.specs.Records as records
 use Rattle.pim_filters.proofs.group_record.GroupRecord.group_expired.Goals as goal
 

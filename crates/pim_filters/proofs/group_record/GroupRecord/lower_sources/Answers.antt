@@ -1,7 +1,5 @@
-use Rattle.std.proofs.Common.{ap, sym, subst, ◌∙◌}
-use Rattle.pim_filters.specs.Lowering.{member_lowered, sources_lowered}
-use Rattle.pim_filters.specs.Members.{IsAscending, bits_of, with_end_lowered}
-use Rattle.pim_filters.proofs.Members.{IsAscending-map, entries_of-write, entry_of-with_end_lowered, member_lowered-source}
+use Rattle.std.{proofs.Common.{ap, sym, subst, ◌∙◌}}
+use Rattle.pim_filters.{specs.{Lowering.{member_lowered, sources_lowered}, Members.{IsAscending, bits_of, with_end_lowered}}, proofs.Members.{IsAscending-map, entries_of-write, entry_of-with_end_lowered, member_lowered-source}}
 use Rattle.pim_filters.proofs.group_record.GroupRecord.lower_sources.Goals as goal
 
 pub invariant_of-self : goal.invariant_of-self

@@ -1,4 +1,4 @@
-use Rattle.pim_filters.proofs.Members.{IsAscending-nil}
+use Rattle.pim_filters.{proofs.Members.IsAscending-nil}
 use Rattle.pim_filters.proofs.group_record.GroupRecord.new.Goals as goal
 
 pub invariant_of-result : goal.invariant_of-result

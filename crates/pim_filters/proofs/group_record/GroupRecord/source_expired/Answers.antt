@@ -1,6 +1,5 @@
-use Rattle.std.proofs.Common.{◌≡◌, ℕ, true, false, ap, sym, subst, ◌∙◌, cond, filter, is_some, map, not, ◌==◌}
-use Rattle.pim_filters.specs.Members.{IsAscending, member_entries, without_end}
-use Rattle.pim_filters.proofs.Members.{IsAscending-filter, IsAscending-map, entries_of-filter, entries_of-write, entry_of-without_end, excluded_at, excluded_at-source}
+use Rattle.std.{proofs.Common.{◌≡◌, ℕ, true, false, ap, sym, subst, ◌∙◌, cond, filter, is_some, map, not, ◌==◌}}
+use Rattle.pim_filters.{specs.Members.{IsAscending, member_entries, without_end}, proofs.Members.{IsAscending-filter, IsAscending-map, entries_of-filter, entries_of-write, entry_of-without_end, excluded_at, excluded_at-source}}
 use Rattle.pim_model.specs.Records as records
 use Rattle.pim_filters.proofs.group_record.GroupRecord.source_expired.Goals as goal
 

@@ -1,7 +1,5 @@
-use Rattle.std.proofs.Common.{◌≡◌, ◌++◌, filter_map}
-use Rattle.pim_filters.specs.Cases.{cases_in}
-use Rattle.pim_filters.specs.Changes.{entry_after}
-use Rattle.pim_filters.specs.Members.{member_entries}
+use Rattle.std.{proofs.Common.{◌≡◌, ◌++◌, filter_map}}
+use Rattle.pim_filters.{specs.{Cases.cases_in, Changes.entry_after, Members.member_entries}}
 use Rattle.pim_filters.proofs.rule.Rule.members_after.Given as goal
 
 abbrev pub invariant-loop-case : goal.invariant-loop-case

@@ -1,6 +1,5 @@
-use Rattle.std.proofs.Common.{◌≡◌, ◌++◌, filter, map}
-use Rattle.pim_filters.specs.Cases.{cases_in}
-use Rattle.pim_filters.specs.Changes.{is_case_asked}
+use Rattle.std.{proofs.Common.{◌≡◌, ◌++◌, filter, map}}
+use Rattle.pim_filters.{specs.{Cases.cases_in, Changes.is_case_asked}}
 use Rattle.pim_filters.proofs.rule.Rule.sources_asked.Given as goal
 
 abbrev pub invariant-loop-case : goal.invariant-loop-case

@@ -1,5 +1,5 @@
-use Rattle.std.proofs.Common.{◌≡◌, ◌++◌, drop, map}
-use Rattle.pim_ifaces.specs.Subnets.{subnet_of}
+use Rattle.std.{proofs.Common.{◌≡◌, ◌++◌, drop, map}}
+use Rattle.pim_ifaces.{specs.Subnets.subnet_of}
 use Rattle.pim_ifaces.proofs.configured.Configured.new.Given as goal
 
 abbrev pub invariant-loop-interface : goal.invariant-loop-interface

@@ -1,4 +1,4 @@
-use Rattle.pim_ifaces.proofs.Rows.{row_set, settled}
+use Rattle.pim_ifaces.{proofs.Rows.{row_set, settled}}
 use Rattle.pim_ifaces.proofs.interfaces.Interfaces.change.Goals as goal
 
 pub invariant_of-self : goal.invariant_of-self

@@ -1,7 +1,6 @@
-use Rattle.std.proofs.Common.{◌≡◌, ◌==◌, drop}
-use Rattle.std.specs.List.{list_any}
-use Rattle.pim_types.specs.declared.config.InterfaceConfig.{InterfaceConfig}
-use Rattle.pim_model.specs.State.{is_own_among}
+use Rattle.std.{proofs.Common.{◌≡◌, ◌==◌, drop}, specs.List.list_any}
+use Rattle.pim_types.{specs.declared.config.InterfaceConfig.InterfaceConfig}
+use Rattle.pim_model.{specs.State.is_own_among}
 use Rattle.pim_ifaces.proofs.interfaces.Interfaces.is_own.Given as goal
 
 abbrev pub invariant-loop-interface : goal.invariant-loop-interface

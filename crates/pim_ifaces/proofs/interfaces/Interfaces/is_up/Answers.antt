@@ -1,7 +1,7 @@
-use Rattle.std.proofs.Common.{◌≡◌, true, sym, ◌∙◌}
-use Rattle.pim_model.specs.Tables.{has_row}
-use Rattle.pim_types.specs.Keys.{iface_key}
-use Rattle.pim_ifaces.proofs.Rows.{up_is_configured}
+use Rattle.std.{proofs.Common.{◌≡◌, true, sym, ◌∙◌}}
+use Rattle.pim_model.{specs.Tables.has_row}
+use Rattle.pim_types.{specs.Keys.iface_key}
+use Rattle.pim_ifaces.{proofs.Rows.up_is_configured}
 use Rattle.pim_ifaces.proofs.interfaces.Interfaces.is_up.Goals as goal
 
 pub returns-clause-configured : goal.returns-clause-configured

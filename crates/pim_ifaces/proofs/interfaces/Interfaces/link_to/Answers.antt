@@ -1,11 +1,7 @@
-use Rattle.std.proofs.Common.{◌≡◌, ◌&&◌, Bool, List, false, length, map, true, ap, refl, sym, ◌∙◌, arith}
-use Rattle.pim_model.specs.State.{InterfaceTable}
-use Rattle.pim_model.specs.Unicast.{is_on_link_among}
-use Rattle.pim_ifaces.specs.declared.configured.Subnet.{Subnet}
-use Rattle.pim_ifaces.specs.Subnets.{subnet_of}
-use Rattle.pim_ifaces.proofs.Links.{found, host_bits_within, on_link, passed, within_configured}
+use Rattle.std.{proofs.Common.{◌≡◌, ◌&&◌, Bool, List, false, length, map, true, ap, refl, sym, ◌∙◌, arith}}
+use Rattle.pim_model.{specs.{State.InterfaceTable, Unicast.is_on_link_among}}
+use Rattle.pim_ifaces.{specs.{declared.configured.Subnet.Subnet, Subnets.subnet_of}, proofs.{Links.{found, host_bits_within, on_link, passed, within_configured}, interfaces.Interfaces.link_to.Goals.{else-has-via-then-has+else-is_up, else-has-via-else-has}}}
 use Rattle.pim_ifaces.proofs.interfaces.Interfaces.link_to.Goals as goal
-use Rattle.pim_ifaces.proofs.interfaces.Interfaces.link_to.Goals.{else-has-via-then-has+else-is_up, else-has-via-else-has}
 
 -- what an index past the end would read
 blank : Subnet

@@ -1,6 +1,5 @@
-use Rattle.std.proofs.Common.{◌≡◌, ◌-◌, length}
-use Rattle.std.specs.List.{find, range_with_len}
-use Rattle.pim_model.specs.Unicast.{is_on_link_among, link_among}
+use Rattle.std.{proofs.Common.{◌≡◌, ◌-◌, length}, specs.List.{find, range_with_len}}
+use Rattle.pim_model.{specs.Unicast.{is_on_link_among, link_among}}
 use Rattle.pim_ifaces.proofs.interfaces.Interfaces.link_to.Given as goal
 
 abbrev pub invariant-loop-number : goal.invariant-loop-number

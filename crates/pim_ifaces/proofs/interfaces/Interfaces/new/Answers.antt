@@ -1,4 +1,4 @@
-use Rattle.pim_ifaces.proofs.Tested.{few}
+use Rattle.pim_ifaces.{proofs.Tested.few}
 use Rattle.pim_ifaces.proofs.interfaces.Interfaces.new.Goals as goal
 
 pub new-requires : goal.new-requires

@@ -1,10 +1,7 @@
-use Rattle.std.proofs.Common.{◌≡◌, None, Some, ap, ◌∙◌, sym}
-use Rattle.pim_model.specs.Hellos.{hellos_triggered}
-use Rattle.pim_model.specs.Tables.{Table, row_at}
-use Rattle.pim_types.specs.Keys.{iface_key}
-use Rattle.pim_types.specs.declared.fact.InterfaceRow.{InterfaceRow}
-use Rattle.pim_model.specs.State.{InterfaceTable}
-use Rattle.pim_ifaces.proofs.Rows.{Settles, owing_missing, owing_there, settled, with_rows}
+use Rattle.std.{proofs.Common.{◌≡◌, None, Some, ap, ◌∙◌, sym}}
+use Rattle.pim_model.{specs.{Hellos.hellos_triggered, Tables.{Table, row_at}, State.InterfaceTable}}
+use Rattle.pim_types.{specs.{Keys.iface_key, declared.fact.InterfaceRow.InterfaceRow}}
+use Rattle.pim_ifaces.{proofs.Rows.{Settles, owing_missing, owing_there, settled, with_rows}}
 use Rattle.pim_ifaces.proofs.interfaces.Interfaces.owe_hello.Goals as goal
 
 changed : (c : goal.After-change) → Settles c.self.inside.configured _

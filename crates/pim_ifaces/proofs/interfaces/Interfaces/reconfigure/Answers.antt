@@ -1,7 +1,6 @@
-use Rattle.std.proofs.Common.{nat_lt, length, ◌∙◌}
-use Rattle.std.specs.List.{list_all}
-use Rattle.pim_types.specs.Keys.{iface_in}
-use Rattle.pim_ifaces.proofs.Reconfigured.{held_under}
+use Rattle.std.{proofs.Common.{nat_lt, length, ◌∙◌}, specs.List.list_all}
+use Rattle.pim_types.{specs.Keys.iface_in}
+use Rattle.pim_ifaces.{proofs.Reconfigured.held_under}
 use Rattle.pim_ifaces.proofs.interfaces.Interfaces.reconfigure.Goals as goal
 
 pub invariant_of-self : goal.invariant_of-self

@@ -1,9 +1,7 @@
-use Rattle.std.proofs.Common.{ap}
-use Rattle.pim_types.specs.declared.fact.InterfaceRow.{InterfaceRow}
-use Rattle.pim_model.specs.Tables.{Table, drop_where}
-use Rattle.pim_types.specs.Keys.{is_on}
-use Rattle.pim_model.specs.State.{InterfaceTable}
-use Rattle.pim_ifaces.proofs.Rows.{Becomes, row_dropped}
+use Rattle.std.{proofs.Common.ap}
+use Rattle.pim_types.{specs.{declared.fact.InterfaceRow.InterfaceRow, Keys.is_on}}
+use Rattle.pim_model.{specs.{Tables.{Table, drop_where}, State.InterfaceTable}}
+use Rattle.pim_ifaces.{proofs.Rows.{Becomes, row_dropped}}
 use Rattle.pim_ifaces.proofs.interfaces.Interfaces.set_down.Goals as goal
 
 changed : (c : goal.After-remove) → Becomes c.self.inside.configured c.remove.new.self

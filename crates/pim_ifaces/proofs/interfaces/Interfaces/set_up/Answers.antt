@@ -1,6 +1,6 @@
-use Rattle.std.proofs.Common.{arith, ap, length, sym, ◌≡◌}
-use Rattle.pim_model.specs.State.{InterfaceTable}
-use Rattle.pim_ifaces.proofs.Rows.{held_after_put}
+use Rattle.std.{proofs.Common.{arith, ap, length, sym, ◌≡◌}}
+use Rattle.pim_model.{specs.State.InterfaceTable}
+use Rattle.pim_ifaces.{proofs.Rows.held_after_put}
 use Rattle.pim_ifaces.proofs.interfaces.Interfaces.set_up.Goals as goal
 
 pub invariant_of-self : goal.invariant_of-self

@@ -1,5 +1,5 @@
-use Rattle.std.proofs.Common.{sym, ◌∙◌, ap, length, arith}
-use Rattle.pim_ifset.proofs.Ascending.{interfaces_empty, interfaces_first}
+use Rattle.std.{proofs.Common.{sym, ◌∙◌, ap, length, arith}}
+use Rattle.pim_ifset.{proofs.Ascending.{interfaces_empty, interfaces_first}}
 use Rattle.pim_ifset.proofs.iter.IterIterator.next.Goals as goal
 
 pub returns-then-self-eq0-clause-steps : goal.returns-then-self-eq0-clause-steps

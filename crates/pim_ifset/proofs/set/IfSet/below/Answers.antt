@@ -1,4 +1,4 @@
-use Rattle.pim_ifset.proofs.Packing.{below_without_tunnel, has_below, ones_packed}
+use Rattle.pim_ifset.{proofs.Packing.{below_without_tunnel, has_below, ones_packed}}
 use Rattle.pim_ifset.proofs.set.IfSet.below.Goals as goal
 
 pub invariant_of-result : goal.invariant_of-result

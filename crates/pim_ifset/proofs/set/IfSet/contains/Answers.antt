@@ -1,7 +1,5 @@
-use Rattle.std.proofs.Common.{sym, ◌∙◌, arith, ◌≡◌, false, nat_lt}
-use Rattle.std.proofs.lemmas.Bool.Decides.{nat_tests}
-use Rattle.pim_ifset.proofs.Masks.{has_above}
-use Rattle.pim_ifset.proofs.Packing.{has_shifted}
+use Rattle.std.{proofs.{Common.{sym, ◌∙◌, arith, ◌≡◌, false, nat_lt}, lemmas.Bool.Decides.nat_tests}}
+use Rattle.pim_ifset.{proofs.{Masks.has_above, Packing.has_shifted}}
 use Rattle.pim_ifset.proofs.set.IfSet.contains.Goals as goal
 
 pub returns-then-iface-lt-LIMIT : goal.returns-then-iface-lt-LIMIT

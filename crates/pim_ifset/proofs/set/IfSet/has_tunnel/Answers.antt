@@ -1,4 +1,4 @@
-use Rattle.pim_ifset.proofs.Packing.{tunnel_masked}
+use Rattle.pim_ifset.{proofs.Packing.tunnel_masked}
 use Rattle.pim_ifset.proofs.set.IfSet.has_tunnel.Goals as goal
 
 pub returns : goal.returns

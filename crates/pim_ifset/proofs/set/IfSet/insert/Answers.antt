@@ -1,4 +1,4 @@
-use Rattle.pim_ifset.proofs.Packing.{has_with, tunnel_with, with_packed}
+use Rattle.pim_ifset.{proofs.Packing.{has_with, tunnel_with, with_packed}}
 use Rattle.pim_ifset.proofs.set.IfSet.insert.Goals as goal
 
 pub invariant_of-self : goal.invariant_of-self

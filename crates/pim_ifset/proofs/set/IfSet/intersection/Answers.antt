@@ -1,4 +1,4 @@
-use Rattle.pim_ifset.proofs.Packing.{and_packed, has_both, tunnel_both}
+use Rattle.pim_ifset.{proofs.Packing.{and_packed, has_both, tunnel_both}}
 use Rattle.pim_ifset.proofs.set.IfSet.intersection.Goals as goal
 
 pub invariant_of-result : goal.invariant_of-result

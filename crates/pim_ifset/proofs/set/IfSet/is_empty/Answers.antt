@@ -1,4 +1,4 @@
-use Rattle.pim_ifset.proofs.Packing.{is_nothing}
+use Rattle.pim_ifset.{proofs.Packing.is_nothing}
 use Rattle.pim_ifset.proofs.set.IfSet.is_empty.Goals as goal
 
 pub returns : goal.returns

@@ -1,6 +1,5 @@
-use Rattle.std.proofs.Common.{◌∙◌}
-use Rattle.pim_ifset.proofs.Ascending.{length_interfaces_le, interfaces_each}
-use Rattle.pim_ifset.proofs.Packing.{bare_lt, interfaces_bare}
+use Rattle.std.{proofs.Common.◌∙◌}
+use Rattle.pim_ifset.{proofs.{Ascending.{length_interfaces_le, interfaces_each}, Packing.{bare_lt, interfaces_bare}}}
 use Rattle.pim_ifset.proofs.set.IfSet.iter.Goals as goal
 
 pub over-requires : goal.over-requires

@@ -1,4 +1,4 @@
-use Rattle.pim_ifset.proofs.Packing.{how_many}
+use Rattle.pim_ifset.{proofs.Packing.how_many}
 use Rattle.pim_ifset.proofs.set.IfSet.len.Goals as goal
 
 pub returns : goal.returns

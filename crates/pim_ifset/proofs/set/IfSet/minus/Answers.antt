@@ -1,4 +1,4 @@
-use Rattle.pim_ifset.proofs.Packing.{and_packed, has_minus, tunnel_minus, within_128}
+use Rattle.pim_ifset.{proofs.Packing.{and_packed, has_minus, tunnel_minus, within_128}}
 use Rattle.pim_ifset.proofs.set.IfSet.minus.Goals as goal
 
 pub invariant_of-result : goal.invariant_of-result

@@ -1,4 +1,4 @@
-use Rattle.pim_ifset.proofs.Masks.{has_empty}
+use Rattle.pim_ifset.{proofs.Masks.has_empty}
 use Rattle.pim_ifset.proofs.set.IfSet.new.Goals as goal
 
 pub returns-clause-interfaces : goal.returns-clause-interfaces

@@ -1,6 +1,5 @@
-use Rattle.std.proofs.Common.{arith}
-use Rattle.pim_ifset.proofs.Masks.{has_but_above}
-use Rattle.pim_ifset.proofs.Packing.{and_packed, has_without, tunnel_without}
+use Rattle.std.{proofs.Common.arith}
+use Rattle.pim_ifset.{proofs.{Masks.has_but_above, Packing.{and_packed, has_without, tunnel_without}}}
 use Rattle.pim_ifset.proofs.set.IfSet.remove.Goals as goal
 
 pub invariant_of-self : goal.invariant_of-self

@@ -1,5 +1,5 @@
-use Rattle.std.proofs.Common.{sym, ◌∙◌}
-use Rattle.pim_ifset.proofs.Packing.{has_bare, has_tunnelled, tunnelled_packed, with_tunnel}
+use Rattle.std.{proofs.Common.{sym, ◌∙◌}}
+use Rattle.pim_ifset.{proofs.Packing.{has_bare, has_tunnelled, tunnelled_packed, with_tunnel}}
 use Rattle.pim_ifset.proofs.set.IfSet.set_tunnel.Goals as goal
 
 pub invariant_of-self : goal.invariant_of-self

@@ -1,4 +1,4 @@
-use Rattle.pim_ifset.proofs.Packing.{has_either, or_packed, tunnel_either}
+use Rattle.pim_ifset.{proofs.Packing.{has_either, or_packed, tunnel_either}}
 use Rattle.pim_ifset.proofs.set.IfSet.union.Goals as goal
 
 pub invariant_of-result : goal.invariant_of-result

@@ -1,6 +1,5 @@
-use Rattle.pim_ifset.proofs.Masks.{has_below_limit}
-use Rattle.pim_ifset.proofs.Packing.{and_packed, bare_without_tunnel, has_bare}
-use Rattle.std.proofs.Common.{◌∙◌}
+use Rattle.pim_ifset.{proofs.{Masks.has_below_limit, Packing.{and_packed, bare_without_tunnel, has_bare}}}
+use Rattle.std.{proofs.Common.◌∙◌}
 use Rattle.pim_ifset.proofs.set.IfSet.without_tunnel.Goals as goal
 
 pub invariant_of-result : goal.invariant_of-result

@@ -1,4 +1,4 @@
-use Rattle.pim_ifset.proofs.Packing.{zero_packed}
+use Rattle.pim_ifset.{proofs.Packing.zero_packed}
 use Rattle.pim_ifset.proofs.set.IfSetDefault.default.Goals as goal
 
 pub invariant_of-result : goal.invariant_of-result

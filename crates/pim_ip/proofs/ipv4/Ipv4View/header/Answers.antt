@@ -1,4 +1,4 @@
-use Rattle.pim_ip.proofs.ViewLemmas.{reads_as_itself}
+use Rattle.pim_ip.{proofs.ViewLemmas.reads_as_itself}
 use Rattle.pim_ip.proofs.ipv4.Ipv4View.header.Goals as goal
 
 pub returns-clause-again : goal.returns-clause-again

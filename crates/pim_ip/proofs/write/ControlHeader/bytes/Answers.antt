@@ -1,9 +1,6 @@
-use Rattle.std.proofs.Common.{◌≡◌, ℕ, ◌+◌, ◌-◌, ◌%◌, ◌≤◌, Bool, true, false, cond, List, [], ◌∷◌, ◌++◌, length, take, drop, sym, ap, ◌∙◌, refl, lit≤}
-use borrow.Rule.Slice.PartMut.{put_mid}
-use Rattle.pim_ip.specs.Ipv4.{header_text, router_alert}
-use Rattle.pim_ip.specs.ControlHeader.{options_of}
-use Rattle.pim_ip.proofs.ViewLemmas.{written_reads}
-use Rattle.pim_ip.proofs.WritingLemmas.{take-header}
+use Rattle.std.{proofs.Common.{◌≡◌, ℕ, ◌+◌, ◌-◌, ◌%◌, ◌≤◌, Bool, true, false, cond, List, [], ◌∷◌, ◌++◌, length, take, drop, sym, ap, ◌∙◌, refl, lit≤}}
+use borrow.{Rule.Slice.PartMut.put_mid}
+use Rattle.pim_ip.{specs.{Ipv4.{header_text, router_alert}, ControlHeader.options_of}, proofs.{ViewLemmas.written_reads, WritingLemmas.take-header}}
 use Rattle.pim_ip.proofs.write.ControlHeader.bytes.Goals as goal
 
 pub returns-clause-text : goal.returns-clause-text

@@ -1,7 +1,6 @@
 -- The frame begun, else the first that waits.
-use Rattle.std.proofs.Common.{rules, arith, ◌≡◌, ◌<◌, ◌∙◌, ◌∷◌, sym}
-use Rattle.std.proofs.lemmas.Bool.Decides.{nat_tests}
-use Rattle.pim_lab.proofs.Settling.{next-none, next-popped, next-waiting, no_items}
+use Rattle.std.{proofs.{Common.{rules, arith, ◌≡◌, ◌<◌, ◌∙◌, ◌∷◌, sym}, lemmas.Bool.Decides.nat_tests}}
+use Rattle.pim_lab.{proofs.Settling.{next-none, next-popped, next-waiting, no_items}}
 use Rattle.pim_lab.proofs.frames.Frames.next.Goals as goal
 
 pub returns-in_default : goal.returns-in_default

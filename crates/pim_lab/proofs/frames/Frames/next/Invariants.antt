@@ -1,6 +1,6 @@
 -- What comes next is what came next at the beginning.
-use Rattle.std.proofs.Common.{◌≡◌, length}
-use Rattle.pim_lab.specs.Settling.{next_delivery}
+use Rattle.std.{proofs.Common.{◌≡◌, length}}
+use Rattle.pim_lab.{specs.Settling.next_delivery}
 use Rattle.pim_lab.proofs.frames.Frames.next.Given as goal
 
 abbrev pub invariant-loop-alloc : goal.invariant-loop-alloc

@@ -1,8 +1,6 @@
 -- Each interface in turn receives the frame or not.
-use Rattle.std.proofs.Common.{rules, arith, ◌≡◌, ◌∙◌, ◌++◌, sym}
-use Rattle.pim_lab.specs.Settling.{received}
-use Rattle.pim_lab.proofs.Settling.{interfaces-done, interfaces-step}
-use Rattle.pim_lab.proofs.frames.OnLink.to_interfaces.Goals.{then-is_received+in_ok-delivery+in_ok-push_back, else-is_received}
+use Rattle.std.{proofs.Common.{rules, arith, ◌≡◌, ◌∙◌, ◌++◌, sym}}
+use Rattle.pim_lab.{specs.Settling.received, proofs.{Settling.{interfaces-done, interfaces-step}, frames.OnLink.to_interfaces.Goals.{then-is_received+in_ok-delivery+in_ok-push_back, else-is_received}}}
 use Rattle.pim_lab.proofs.frames.OnLink.to_interfaces.Goals as goal
 
 pub loop-place-preserved : goal.loop-place-preserved

@@ -1,6 +1,6 @@
 -- The deliveries so far, and those of the links that are left.
-use Rattle.std.proofs.Common.{◌≡◌, ◌++◌, drop}
-use Rattle.pim_lab.specs.Settling.{to_interfaces}
+use Rattle.std.{proofs.Common.{◌≡◌, ◌++◌, drop}}
+use Rattle.pim_lab.{specs.Settling.to_interfaces}
 use Rattle.pim_lab.proofs.frames.OnLink.to_interfaces.Given as goal
 
 abbrev pub invariant-loop-place : goal.invariant-loop-place

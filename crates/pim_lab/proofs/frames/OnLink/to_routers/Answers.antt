@@ -1,7 +1,6 @@
 -- The interfaces of each router in turn.
-use Rattle.std.proofs.Common.{rules, arith, ◌≡◌, ◌∙◌, ◌++◌, sym}
-use Rattle.pim_lab.specs.Settling.{to_interfaces}
-use Rattle.pim_lab.proofs.Settling.{routers-done, routers-step}
+use Rattle.std.{proofs.Common.{rules, arith, ◌≡◌, ◌∙◌, ◌++◌, sym}}
+use Rattle.pim_lab.{specs.Settling.to_interfaces, proofs.Settling.{routers-done, routers-step}}
 use Rattle.pim_lab.proofs.frames.OnLink.to_routers.Goals as goal
 
 pub loop-router-preserved : goal.loop-router-preserved

@@ -1,6 +1,6 @@
 -- The deliveries so far, and those of the routers that are left.
-use Rattle.std.proofs.Common.{◌≡◌, ◌++◌, drop}
-use Rattle.pim_lab.specs.Settling.{to_routers}
+use Rattle.std.{proofs.Common.{◌≡◌, ◌++◌, drop}}
+use Rattle.pim_lab.{specs.Settling.to_routers}
 use Rattle.pim_lab.proofs.frames.OnLink.to_routers.Given as goal
 
 abbrev pub invariant-loop-router : goal.invariant-loop-router

@@ -1,6 +1,6 @@
 -- A router that doesn't stand has no record.
-use Rattle.std.proofs.Common.{◌∙◌}
-use Rattle.pim_lab.proofs.Fronts.{asked_record}
+use Rattle.std.{proofs.Common.◌∙◌}
+use Rattle.pim_lab.{proofs.Fronts.asked_record}
 use Rattle.pim_lab.proofs.front.AskedQuerier.has_group_record.Goals as goal
 
 pub returns : goal.returns

@@ -1,6 +1,5 @@
-use Rattle.pim_model.specs.Sets.{assert_source}
-use Rattle.pim_model.specs.Tables.{has_row}
-use Rattle.pim_macros.proofs.Asserted.{asserted_shown}
+use Rattle.pim_model.{specs.{Sets.assert_source, Tables.has_row}}
+use Rattle.pim_macros.{proofs.Asserted.asserted_shown}
 use Rattle.pim_macros.proofs.sight.SourceSight.asserted.Goals as goal
 
 pub returns : goal.returns

@@ -1,4 +1,4 @@
-use Rattle.pim_macros.proofs.SightsKept.{kept_alive}
+use Rattle.pim_macros.{proofs.SightsKept.kept_alive}
 use Rattle.pim_macros.proofs.sight.SourceSight.kept_alive.Goals as goal
 
 pub returns-clause-sight : goal.returns-clause-sight

@@ -1,11 +1,8 @@
-use Rattle.std.proofs.Common.{ap, arith, rules, sym, ◌∙◌}
-use Rattle.std.proofs.lemmas.Grind.{common_steps}
-use Rattle.pim_model.specs.Sets.{assert_source, is_kept_alive, is_loser, is_winner, joins, prunes, spt_bit, tunnel}
-use Rattle.pim_model.specs.Tables.{has_row, row_at}
-use Rattle.pim_model.specs.Unicast.{rpf_interface, rpf_interface_rp}
-use Rattle.pim_store.specs.PimTables.{PimTables, is_prune}
-use Rattle.pim_types.specs.Keys.{rpt_key, source_key}
-use Rattle.pim_macros.proofs.Asserted.{asserted_where_either, shown_of_all}
+use Rattle.std.{proofs.{Common.{ap, arith, rules, sym, ◌∙◌}, lemmas.Grind.common_steps}}
+use Rattle.pim_model.{specs.{Sets.{assert_source, is_kept_alive, is_loser, is_winner, joins, prunes, spt_bit, tunnel}, Tables.{has_row, row_at}, Unicast.{rpf_interface, rpf_interface_rp}}}
+use Rattle.pim_store.{specs.PimTables.{PimTables, is_prune}}
+use Rattle.pim_types.{specs.Keys.{rpt_key, source_key}}
+use Rattle.pim_macros.{proofs.Asserted.{asserted_where_either, shown_of_all}}
 use Rattle.pim_macros.proofs.sight.SourceSight.of.Goals as goal
 
 pub beaten-requires-clause-asserted : goal.beaten-requires-clause-asserted
@@ -53,5 +50,5 @@ returns-clause-sight c =
       is_own = search rules;
       is_dr = search rules;
       is_spt_wanted = search rules;
-      short = rw (sym c.route-path.ensures) at (c.recall_short_preferences.ensures.source src);
+      short = rw (sym c.route-path.ensures) at (c.proof_short_preferences.ensures.source src);
     }

@@ -1,4 +1,4 @@
-use Rattle.pim_macros.proofs.SightsKept.{spt_set}
+use Rattle.pim_macros.{proofs.SightsKept.spt_set}
 use Rattle.pim_macros.proofs.sight.SourceSight.with_spt_bit.Goals as goal
 
 pub returns-clause-sight : goal.returns-clause-sight

@@ -1,4 +1,4 @@
-use Rattle.pim_macros.proofs.SightsKept.{tunnel_set}
+use Rattle.pim_macros.{proofs.SightsKept.tunnel_set}
 use Rattle.pim_macros.proofs.sight.SourceSight.with_tunnel.Goals as goal
 
 pub returns-clause-sight : goal.returns-clause-sight

@@ -1,8 +1,7 @@
-use Rattle.std.proofs.Common.{arith, nat_lt}
-use Rattle.pim_model.specs.Sets.{is_empty}
-use Rattle.pim_model.specs.State.{iface_count}
-use Rattle.pim_ifset.specs.Members.{has}
-use Rattle.pim_macros.proofs.Emptiness.{is_empty_shown, limited_once}
+use Rattle.std.{proofs.Common.{arith, nat_lt}}
+use Rattle.pim_model.{specs.{Sets.is_empty, State.iface_count}}
+use Rattle.pim_ifset.{specs.Members.has}
+use Rattle.pim_macros.{proofs.Emptiness.{is_empty_shown, limited_once}}
 use Rattle.pim_macros.proofs.sight.StarSight.is_empty.Goals as goal
 
 pub returns : goal.returns

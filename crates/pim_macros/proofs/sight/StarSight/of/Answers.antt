@@ -1,14 +1,8 @@
-use Rattle.std.proofs.Common.{◌≡◌, ◌≤◌, ap, arith, false, length, nat_lt, rules, sym, ◌∙◌}
-use Rattle.std.specs.Option.{option_map_or}
-use Rattle.std.proofs.lemmas.Grind.{common_steps}
-use Rattle.pim_model.specs.Sets.{assert_star, is_loser, is_winner, joins_star}
-use Rattle.pim_model.specs.State.{InterfaceTable, iface_count, is_own}
-use Rattle.pim_model.specs.Tables.{has_row, row_at}
-use Rattle.pim_model.specs.Unicast.{rpf_interface_rp}
-use Rattle.pim_store.specs.PimTables.{PimTables}
-use Rattle.pim_types.specs.Keys.{star_key}
-use Rattle.pim_macros.proofs.Asserted.{shown_of_all}
-use Rattle.pim_macros.proofs.Emptiness.{below_limit}
+use Rattle.std.{proofs.{Common.{◌≡◌, ◌≤◌, ap, arith, false, length, nat_lt, rules, sym, ◌∙◌}, lemmas.Grind.common_steps}, specs.Option.option_map_or}
+use Rattle.pim_model.{specs.{Sets.{assert_star, is_loser, is_winner, joins_star}, State.{InterfaceTable, iface_count, is_own}, Tables.{has_row, row_at}, Unicast.rpf_interface_rp}}
+use Rattle.pim_store.{specs.PimTables.PimTables}
+use Rattle.pim_types.{specs.Keys.star_key}
+use Rattle.pim_macros.{proofs.{Asserted.shown_of_all, Emptiness.below_limit}}
 use Rattle.pim_macros.proofs.sight.StarSight.of.Goals as goal
 
 pub returns-clause-sight : goal.returns-clause-sight
@@ -40,5 +34,5 @@ returns-clause-sight c =
       bare = c.below.ensures.tunnel;
       few = few;
       is_own_rp = c.is_own.ensures ∙ ap (λ o. option_map_or (is_own s) o false) c.rp-rp.ensures.value;
-      short = rw (sym c.rp_route-rp_path.ensures) at (c.recall_short_preferences.ensures.group g);
+      short = rw (sym c.rp_route-rp_path.ensures) at (c.proof_short_preferences.ensures.group g);
     }

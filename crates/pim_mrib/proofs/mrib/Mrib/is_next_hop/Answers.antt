@@ -1,7 +1,6 @@
-use Rattle.std.proofs.Common.{ap, ◌==◌, ◌∙◌}
-use Rattle.std.specs.List.{list_any}
-use Rattle.pim_types.specs.declared.config.Route.{Route}
-use Rattle.pim_mrib.specs.Routes.{RouteTable}
+use Rattle.std.{proofs.Common.{ap, ◌==◌, ◌∙◌}, specs.List.list_any}
+use Rattle.pim_types.{specs.declared.config.Route.Route}
+use Rattle.pim_mrib.{specs.Routes.RouteTable}
 use Rattle.pim_mrib.proofs.mrib.Mrib.is_next_hop.Goals as goal
 
 pub returns : goal.returns

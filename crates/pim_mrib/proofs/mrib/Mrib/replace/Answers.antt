@@ -1,6 +1,5 @@
-use Rattle.std.proofs.Common.{sym, ◌∙◌}
-use Rattle.pim_mrib.proofs.Hops.{replaced_are_hops}
-use Rattle.pim_mrib.proofs.Preferences.{accepted_are_preferred, replaced_are_preferred}
+use Rattle.std.{proofs.Common.{sym, ◌∙◌}}
+use Rattle.pim_mrib.{proofs.{Hops.replaced_are_hops, Preferences.{accepted_are_preferred, replaced_are_preferred}}}
 use Rattle.pim_mrib.proofs.mrib.Mrib.replace.Goals as goal
 
 pub invariant_of-self-2 : goal.invariant_of-self-2

@@ -1,5 +1,5 @@
-use Rattle.std.proofs.Common.{sym, ◌∙◌}
-use Rattle.pim_mrib.proofs.Accepted.{ranges_canonical}
+use Rattle.std.{proofs.Common.{sym, ◌∙◌}}
+use Rattle.pim_mrib.{proofs.Accepted.ranges_canonical}
 use Rattle.pim_mrib.proofs.mrib.Mrib.replace_rps.Goals as goal
 
 pub replace-requires : goal.replace-requires

@@ -1,7 +1,6 @@
-use Rattle.std.proofs.Common.{◌≡◌, ◌∙◌}
-use Rattle.pim_trie.specs.Entries.{nodes_along}
-use Rattle.pim_mrib.specs.Index.{nodes_visited}
-use Rattle.pim_mrib.proofs.Filled.{found_none, found_some, index_nodes}
+use Rattle.std.{proofs.Common.{◌≡◌, ◌∙◌}}
+use Rattle.pim_trie.{specs.Entries.nodes_along}
+use Rattle.pim_mrib.{specs.Index.nodes_visited, proofs.Filled.{found_none, found_some, index_nodes}}
 use Rattle.pim_mrib.proofs.prefix_list.PrefixList.longest.Goals as goal
 
 pub returns-in_err-value : goal.returns-in_err-value

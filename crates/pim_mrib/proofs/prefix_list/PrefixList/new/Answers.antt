@@ -1,4 +1,4 @@
-use Rattle.pim_mrib.proofs.Filled.{index_of_none}
+use Rattle.pim_mrib.{proofs.Filled.index_of_none}
 use Rattle.pim_mrib.proofs.prefix_list.PrefixList.new.Goals as goal
 
 pub invariant_of-result : goal.invariant_of-result

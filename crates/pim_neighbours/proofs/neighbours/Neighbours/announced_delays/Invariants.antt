@@ -1,6 +1,6 @@
-use Rattle.std.proofs.Common.{◌≡◌}
-use Rattle.pim_model.specs.Tables.{rows_on}
-use Rattle.pim_neighbours.specs.Delays.{announced_among}
+use Rattle.std.{proofs.Common.◌≡◌}
+use Rattle.pim_model.{specs.Tables.rows_on}
+use Rattle.pim_neighbours.{specs.Delays.announced_among}
 use Rattle.pim_neighbours.proofs.neighbours.Neighbours.announced_delays.Given as goal
 
 abbrev pub invariant-loop-row : goal.invariant-loop-row

@@ -1,7 +1,5 @@
-use Rattle.std.proofs.Common.{◌≡◌}
-use Rattle.std.specs.List.{list_any}
-use Rattle.pim_model.specs.Neighbours.{is_better_dr}
-use Rattle.pim_model.specs.Tables.{rows_on}
+use Rattle.std.{proofs.Common.◌≡◌, specs.List.list_any}
+use Rattle.pim_model.{specs.{Neighbours.is_better_dr, Tables.rows_on}}
 use Rattle.pim_neighbours.proofs.neighbours.Neighbours.is_dr.Given as goal
 
 abbrev pub invariant-loop-key : goal.invariant-loop-key

@@ -1,6 +1,5 @@
-use Rattle.std.proofs.Common.{◌≡◌}
-use Rattle.pim_model.specs.Neighbours.{is_suppression_among}
-use Rattle.pim_model.specs.Tables.{rows_on}
+use Rattle.std.{proofs.Common.◌≡◌}
+use Rattle.pim_model.{specs.{Neighbours.is_suppression_among, Tables.rows_on}}
 use Rattle.pim_neighbours.proofs.neighbours.Neighbours.is_suppression_on.Given as goal
 
 abbrev pub invariant-loop-row : goal.invariant-loop-row

@@ -1,9 +1,7 @@
-use Rattle.std.proofs.Common.{◌≡◌, Some, Ok, subst}
-use Rattle.std.specs.Prelude.{IfOk, IfSome, OnOk, None, if◌then◌else◌}
-use Rattle.pim_model.specs.State.{State}
-use Rattle.pim_saved.specs.Reading.{reading}
-use Rattle.pim_net.specs.Showing.{Wired, with_state_at}
-use Rattle.pim_net.proofs.Restored.{net_put, works_on}
+use Rattle.std.{proofs.Common.{◌≡◌, Some, Ok, subst}, specs.Prelude.{IfOk, IfSome, OnOk, None, if◌then◌else◌}}
+use Rattle.pim_model.{specs.State.State}
+use Rattle.pim_saved.{specs.Reading.reading}
+use Rattle.pim_net.{specs.Showing.{Wired, with_state_at}, proofs.Restored.{net_put, works_on}}
 use Rattle.pim_net.proofs.net.Net.restore.Goals as goal
 
 pub invariant_of-self : goal.invariant_of-self

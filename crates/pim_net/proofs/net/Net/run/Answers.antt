@@ -1,7 +1,6 @@
-use Rattle.std.proofs.Common.{◌≡◌, ◌∙◌, Some, ap}
-use Rattle.pim_model.specs.Network.{network}
-use Rattle.pim_net.proofs.Asked.{log_is_asked, shown_works}
-use Rattle.pim_net.proofs.Stations.{of_some}
+use Rattle.std.{proofs.Common.{◌≡◌, ◌∙◌, Some, ap}}
+use Rattle.pim_model.{specs.Network.network}
+use Rattle.pim_net.{proofs.{Asked.{log_is_asked, shown_works}, Stations.of_some}}
 use Rattle.pim_net.proofs.net.Net.run.Goals as goal
 
 pub returns-clause-asked : goal.returns-clause-asked

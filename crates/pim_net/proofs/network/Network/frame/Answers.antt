@@ -1,7 +1,5 @@
-use Rattle.std.proofs.Common.{◌∙◌, subst}
-use Rattle.std.specs.Slice.{IsItemAt}
-use Rattle.pim_net.proofs.Lookups.{frame_found, no_frame_zero, shows}
-use Rattle.pim_net.proofs.Stations.{if_some}
+use Rattle.std.{proofs.Common.{◌∙◌, subst}, specs.Slice.IsItemAt}
+use Rattle.pim_net.{proofs.{Lookups.{frame_found, no_frame_zero, shows}, Stations.if_some}}
 use Rattle.pim_net.proofs.network.Network.frame.Goals as goal
 
 pub returns-in-Some : goal.returns-in-Some

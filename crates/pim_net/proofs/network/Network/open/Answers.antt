@@ -1,6 +1,5 @@
-use Rattle.std.proofs.Common.{◌≡◌, ◌∙◌, true, false, ap, sym}
-use Rattle.pim_net.proofs.Nodes.{lawful, network_shown, then_configs, unlawful}
-use Rattle.pim_net.proofs.Stations.{of_err, of_ok}
+use Rattle.std.{proofs.Common.{◌≡◌, ◌∙◌, true, false, ap, sym}}
+use Rattle.pim_net.{proofs.{Nodes.{lawful, network_shown, then_configs, unlawful}, Stations.{of_err, of_ok}}}
 use Rattle.pim_net.proofs.network.Network.open.Goals as goal
 
 pub returns-then-not-are_lawful-clause-refused : goal.returns-then-not-are_lawful-clause-refused

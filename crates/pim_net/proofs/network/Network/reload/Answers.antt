@@ -1,11 +1,7 @@
-use Rattle.std.proofs.Common.{rules, ◌≤◌, ◌<◌, ◌∙◌, Some, length, ap, refl, sym}
-use Rattle.std.proofs.lemmas.Option.{slice_get_read}
-use Rattle.pim_types.specs.declared.outcome.Outcome.{Outcome}
-use Rattle.pim_model.specs.Network.{Network}
-use Rattle.pim_net.specs.Showing.{node_of}
-use Rattle.pim_net.proofs.Lookups.{shows}
-use Rattle.pim_net.proofs.Reloads.{fault_is, network_is, nowhere, outcome_is}
-use Rattle.pim_net.proofs.Stations.{if_some}
+use Rattle.std.{proofs.{Common.{rules, ◌≤◌, ◌<◌, ◌∙◌, Some, length, ap, refl, sym}, lemmas.Option.slice_get_read}}
+use Rattle.pim_types.{specs.declared.outcome.Outcome.Outcome}
+use Rattle.pim_model.{specs.Network.Network}
+use Rattle.pim_net.{specs.Showing.node_of, proofs.{Lookups.shows, Reloads.{fault_is, network_is, nowhere, outcome_is}, Stations.if_some}}
 use Rattle.pim_net.proofs.network.Network.reload.Goals as goal
 
 pub returns-then-router-len-clause-outcome : goal.returns-then-router-len-clause-outcome

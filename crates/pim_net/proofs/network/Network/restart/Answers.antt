@@ -1,8 +1,5 @@
-use Rattle.std.proofs.Common.{rules, ◌<◌, ◌∙◌, length, refl}
-use Rattle.std.proofs.lemmas.Option.{slice_get_read}
-use Rattle.pim_net.proofs.Faults.{fault_at}
-use Rattle.pim_net.proofs.Lookups.{shows}
-use Rattle.pim_net.proofs.Stations.{if_some}
+use Rattle.std.{proofs.{Common.{rules, ◌<◌, ◌∙◌, length, refl}, lemmas.Option.slice_get_read}}
+use Rattle.pim_net.{proofs.{Faults.fault_at, Lookups.shows, Stations.if_some}}
 use Rattle.pim_net.proofs.network.Network.restart.Goals as goal
 
 pub returns-clause-fault : goal.returns-clause-fault

@@ -1,12 +1,7 @@
-use Rattle.std.proofs.Common.{rules, ◌≡◌, ◌<◌, Option, Some, Ok, length, refl, subst}
-use Rattle.std.proofs.lemmas.Option.{slice_get_read}
-use Rattle.std.specs.Prelude.{IfOk, IfSome, OnOk, set}
-use Rattle.pim_model.specs.Network.{Network}
-use Rattle.pim_model.specs.State.{State}
-use Rattle.pim_saved.specs.Reading.{reading}
-use Rattle.pim_net.specs.Showing.{with_state_at}
-use Rattle.pim_net.proofs.Lookups.{shown}
-use Rattle.pim_net.proofs.Restored.{network_put}
+use Rattle.std.{proofs.{Common.{rules, ◌≡◌, ◌<◌, Option, Some, Ok, length, refl, subst}, lemmas.Option.slice_get_read}, specs.Prelude.{IfOk, IfSome, OnOk, set}}
+use Rattle.pim_model.{specs.{Network.Network, State.State}}
+use Rattle.pim_saved.{specs.Reading.reading}
+use Rattle.pim_net.{specs.Showing.with_state_at, proofs.{Lookups.shown, Restored.network_put}}
 use Rattle.pim_net.proofs.network.Network.restore.Goals as goal
 
 pub returns-clause-restored : goal.returns-clause-restored

@@ -1,7 +1,5 @@
-use Rattle.std.proofs.Common.{◌∙◌, subst}
-use Rattle.std.specs.Slice.{IsItemAt}
-use Rattle.pim_net.proofs.Lookups.{shows, station_found, station_missing}
-use Rattle.pim_net.proofs.Stations.{if_some}
+use Rattle.std.{proofs.Common.{◌∙◌, subst}, specs.Slice.IsItemAt}
+use Rattle.pim_net.{proofs.{Lookups.{shows, station_found, station_missing}, Stations.if_some}}
 use Rattle.pim_net.proofs.network.Network.station.Goals as goal
 
 pub returns-clause-some : goal.returns-clause-some

@@ -1,10 +1,7 @@
-use Rattle.std.proofs.Common.{rules, ◌≤◌, ◌<◌, ◌∙◌, Some, length, ap, refl, sym}
-use Rattle.std.proofs.lemmas.Option.{slice_get_read}
-use Rattle.pim_types.specs.declared.outcome.Outcome.{Outcome}
-use Rattle.pim_model.specs.Network.{Network}
-use Rattle.pim_net.proofs.Lookups.{shows}
-use Rattle.pim_net.proofs.Stations.{if_some}
-use Rattle.pim_net.proofs.Steps.{fault_is, network_is, nowhere, outcome_is}
+use Rattle.std.{proofs.{Common.{rules, ◌≤◌, ◌<◌, ◌∙◌, Some, length, ap, refl, sym}, lemmas.Option.slice_get_read}}
+use Rattle.pim_types.{specs.declared.outcome.Outcome.Outcome}
+use Rattle.pim_model.{specs.Network.Network}
+use Rattle.pim_net.{proofs.{Lookups.shows, Stations.if_some, Steps.{fault_is, network_is, nowhere, outcome_is}}}
 use Rattle.pim_net.proofs.network.Network.step.Goals as goal
 
 pub returns-then-router-len-clause-outcome : goal.returns-then-router-len-clause-outcome

@@ -1,8 +1,6 @@
-use Rattle.std.proofs.Common.{◌≡◌, ◌∙◌, None, Some, false, true, List, ℕ, ap, refl, sym}
-use Rattle.pim_model.specs.Network.{Deliver, Sent, event_of}
-use Rattle.pim_net.specs.Showing.{brought_on}
-use Rattle.pim_net.proofs.Events.{no_frame, no_station, on_link}
-use Rattle.pim_net.proofs.Stations.{if_some, of_some, on_none}
+use Rattle.std.{proofs.Common.{◌≡◌, ◌∙◌, None, Some, false, true, List, ℕ, ap, refl, sym}}
+use Rattle.pim_model.{specs.Network.{Deliver, Sent, event_of}}
+use Rattle.pim_net.{specs.Showing.brought_on, proofs.{Events.{no_frame, no_station, on_link}, Stations.{if_some, of_some, on_none}}}
 use Rattle.pim_net.proofs.network.Network.to_interface.Goals as goal
 
 pub returns-in_err-station-clause-none : goal.returns-in_err-station-clause-none

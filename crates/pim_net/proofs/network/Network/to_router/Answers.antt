@@ -1,8 +1,6 @@
-use Rattle.std.proofs.Common.{◌≡◌, ◌∙◌, None, Some, List, ℕ, ap, refl, sym}
-use Rattle.pim_model.specs.Network.{DeliverUnicast, Sent, event_of}
-use Rattle.pim_net.specs.Showing.{brought_to}
-use Rattle.pim_net.proofs.Events.{as_unicast, no_frame, no_station}
-use Rattle.pim_net.proofs.Stations.{if_some, of_some, on_none}
+use Rattle.std.{proofs.Common.{◌≡◌, ◌∙◌, None, Some, List, ℕ, ap, refl, sym}}
+use Rattle.pim_model.{specs.Network.{DeliverUnicast, Sent, event_of}}
+use Rattle.pim_net.{specs.Showing.brought_to, proofs.{Events.{as_unicast, no_frame, no_station}, Stations.{if_some, of_some, on_none}}}
 use Rattle.pim_net.proofs.network.Network.to_router.Goals as goal
 
 pub returns-in_err-station-clause-none : goal.returns-in_err-station-clause-none

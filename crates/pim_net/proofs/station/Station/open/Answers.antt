@@ -1,6 +1,6 @@
-use Rattle.std.proofs.Common.{arith}
-use Rattle.pim_laws.proofs.Accepted.{few_interfaces}
-use Rattle.pim_net.proofs.Stations.{of_ok}
+use Rattle.std.{proofs.Common.arith}
+use Rattle.law_settled.{proofs.Accepted.few_interfaces}
+use Rattle.pim_net.{proofs.Stations.of_ok}
 use Rattle.pim_net.proofs.station.Station.open.Goals as goal
 
 pub invariant_of-result : goal.invariant_of-result

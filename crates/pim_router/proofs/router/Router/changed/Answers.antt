@@ -1,7 +1,6 @@
-use Rattle.std.proofs.Common.{subst}
-use Rattle.std.specs.List.Sorted.{IsStrictlySortedBy}
-use Rattle.pim_types.specs.Keys.{key_cmp}
-use Rattle.pim_router.specs.Standing.{Shown}
+use Rattle.std.{proofs.Common.subst, specs.List.Sorted.IsStrictlySortedBy}
+use Rattle.pim_types.{specs.Keys.key_cmp}
+use Rattle.pim_router.{specs.Standing.Shown}
 use Rattle.pim_router.proofs.router.Router.changed.Goals as goal
 
 pub returns-then-self-clause-once : goal.returns-then-self-clause-once

@@ -1,14 +1,10 @@
-use Rattle.std.proofs.Common.{[], subst, sym}
-use Rattle.std.specs.List.Sorted.{IsStrictlySortedBy}
-use Rattle.pim_types.specs.Keys.{key_cmp}
-use Rattle.pim_fanout.specs.Refreshing.{CacheValue}
-use Rattle.pim_fanout.proofs.Shown.{opening_shows_rows}
-use Rattle.pim_mfc.specs.Laws.{ShowsRows}
-use Rattle.pim_model.specs.Cache.{cached}
-use Rattle.pim_model.specs.State.{State}
-use Rattle.pim_locality.proofs.Rest.{opening_is_at_rest}
-use Rattle.pim_locality.specs.Rest.{IsAtRest}
-use Rattle.pim_router.proofs.Accepted.{opening_accepted}
+use Rattle.std.{proofs.Common.{[], subst, sym}, specs.List.Sorted.IsStrictlySortedBy}
+use Rattle.pim_types.{specs.Keys.key_cmp}
+use Rattle.pim_fanout.{specs.Refreshing.CacheValue, proofs.Shown.opening_shows_rows}
+use Rattle.pim_mfc.{specs.Laws.ShowsRows}
+use Rattle.pim_model.{specs.{Cache.cached, State.State}}
+use Rattle.law_scope.{proofs.Rest.opening_is_at_rest, specs.Rest.IsAtRest}
+use Rattle.pim_router.{proofs.Accepted.opening_accepted}
 use Rattle.pim_router.proofs.router.Router.new.Goals as goal
 
 pub invariant_of-result : goal.invariant_of-result

@@ -1,7 +1,5 @@
-use Rattle.std.proofs.Common.{List, subst, sym}
-use Rattle.std.specs.List.Sorted.{IsStrictlySortedBy}
-use Rattle.pim_types.specs.Keys.{key_cmp}
-use Rattle.pim_types.specs.declared.fact.Key.{Key}
+use Rattle.std.{proofs.Common.{List, subst, sym}, specs.List.Sorted.IsStrictlySortedBy}
+use Rattle.pim_types.{specs.{Keys.key_cmp, declared.fact.Key.Key}}
 use Rattle.pim_router.proofs.router.Router.restore.Goals as goal
 
 pub invariant_of-result : goal.invariant_of-result

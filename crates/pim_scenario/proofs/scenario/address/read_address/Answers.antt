@@ -1,6 +1,5 @@
 -- A text that writes no address is not what is printed of one.
-use Rattle.std.proofs.Common.{arith, refl, ◌∷◌, []}
-use Rattle.std.specs.Int.{byte_at}
+use Rattle.std.{proofs.Common.{arith, refl, ◌∷◌, []}, specs.Int.byte_at}
 use Rattle.pim_scenario.proofs.scenario.address.read_address.Goals as goal
 
 pub returns-in-Err : goal.returns-in-Err

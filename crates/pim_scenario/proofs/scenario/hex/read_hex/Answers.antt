@@ -1,6 +1,6 @@
 -- A pair of digits is one byte more.
-use Rattle.std.proofs.Common.{arith}
-use Rattle.pim_scenario.proofs.HexLemmas.{hex_kept}
+use Rattle.std.{proofs.Common.arith}
+use Rattle.pim_scenario.{proofs.HexLemmas.hex_kept}
 use Rattle.pim_scenario.proofs.scenario.hex.read_hex.Goals as goal
 
 pub loop-rest-preserved : goal.loop-rest-preserved

@@ -1,8 +1,6 @@
 -- A move whose kind is wrong.
-use Rattle.toml.specs.View.{table_view}
-use Rattle.pim_scenario.specs.Scenario.{IsEvent, IsKind}
-use Rattle.pim_scenario.proofs.ReadLemmas.{fails}
-use Rattle.pim_scenario.proofs.MoveLemmas.{kind_of}
+use Rattle.toml.{specs.View.table_view}
+use Rattle.pim_scenario.{specs.Scenario.{IsEvent, IsKind}, proofs.{ReadLemmas.fails, MoveLemmas.kind_of}}
 use Rattle.pim_scenario.proofs.scenario.moves.event_in.Goals as goal
 
 pub returns-in_err-kind : goal.returns-in_err-kind

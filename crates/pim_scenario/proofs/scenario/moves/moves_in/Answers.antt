@@ -1,8 +1,7 @@
 -- Each table in turn is read.
-use Rattle.std.proofs.Common.{arith, sym}
-use Rattle.toml.specs.View.{table_view}
-use Rattle.pim_scenario.specs.Scenario.{IsTable, IsMove}
-use Rattle.pim_scenario.proofs.ReadLemmas.{more_read, all_read, none_read, part_fails, no_table, table_said}
+use Rattle.std.{proofs.Common.{arith, sym}}
+use Rattle.toml.{specs.View.table_view}
+use Rattle.pim_scenario.{specs.Scenario.{IsTable, IsMove}, proofs.ReadLemmas.{more_read, all_read, none_read, part_fails, no_table, table_said}}
 use Rattle.pim_scenario.proofs.scenario.moves.moves_in.Goals as goal
 
 pub loop-value-preserved : goal.loop-value-preserved

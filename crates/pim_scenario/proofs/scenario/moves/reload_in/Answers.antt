@@ -1,8 +1,6 @@
 -- A configuration that is wrong.
-use Rattle.toml.specs.View.{table_view}
-use Rattle.pim_scenario.specs.Scenario.{IsConfigText, IsReload}
-use Rattle.pim_scenario.proofs.MoveLemmas.{config_of}
-use Rattle.pim_scenario.proofs.ReadLemmas.{fails}
+use Rattle.toml.{specs.View.table_view}
+use Rattle.pim_scenario.{specs.Scenario.{IsConfigText, IsReload}, proofs.{MoveLemmas.config_of, ReadLemmas.fails}}
 use Rattle.pim_scenario.proofs.scenario.moves.reload_in.Goals as goal
 
 pub returns-in_err-config_text_in : goal.returns-in_err-config_text_in

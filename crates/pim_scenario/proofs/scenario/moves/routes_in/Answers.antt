@@ -1,10 +1,7 @@
 -- A list that is wrong.
-use Rattle.std.proofs.Common.{map}
-use Rattle.std.specs.List.{AllZip}
-use Rattle.toml.specs.View.{view, table_view}
-use Rattle.pim_scenario.specs.Scenario.{AreRouteWords, IsRoutes, IsText}
-use Rattle.pim_scenario.proofs.MoveLemmas.{routes_of}
-use Rattle.pim_scenario.proofs.ReadLemmas.{fails}
+use Rattle.std.{proofs.Common.map, specs.List.AllZip}
+use Rattle.toml.{specs.View.{view, table_view}}
+use Rattle.pim_scenario.{specs.Scenario.{AreRouteWords, IsRoutes, IsText}, proofs.{MoveLemmas.routes_of, ReadLemmas.fails}}
 use Rattle.pim_scenario.proofs.scenario.moves.routes_in.Goals as goal
 
 pub returns-in_err-routes_in : goal.returns-in_err-routes_in

@@ -1,10 +1,7 @@
 -- A list that is wrong.
-use Rattle.std.proofs.Common.{map}
-use Rattle.std.specs.List.{AllZip}
-use Rattle.toml.specs.View.{view, table_view}
-use Rattle.pim_scenario.specs.Scenario.{AreRpWords, IsRps, IsText}
-use Rattle.pim_scenario.proofs.MoveLemmas.{rps_of}
-use Rattle.pim_scenario.proofs.ReadLemmas.{fails}
+use Rattle.std.{proofs.Common.map, specs.List.AllZip}
+use Rattle.toml.{specs.View.{view, table_view}}
+use Rattle.pim_scenario.{specs.Scenario.{AreRpWords, IsRps, IsText}, proofs.{MoveLemmas.rps_of, ReadLemmas.fails}}
 use Rattle.pim_scenario.proofs.scenario.moves.rps_in.Goals as goal
 
 pub returns-in_err-rps_in : goal.returns-in_err-rps_in

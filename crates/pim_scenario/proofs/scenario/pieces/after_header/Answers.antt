@@ -1,8 +1,6 @@
 -- The first eight bytes are the header.
-use Rattle.std.proofs.Common.{◌≡◌, ◌∙◌, codes, sym}
-use Rattle.std.proofs.lemmas.Bool.{OnTrue_at}
-use Rattle.std.proofs.lemmas.Slice.Eq.{bytes_eq-Decides}
-use Rattle.pim_scenario.proofs.PieceScenarios.{header_text}
+use Rattle.std.{proofs.{Common.{◌≡◌, ◌∙◌, codes, sym}, lemmas.{Bool.OnTrue_at, Slice.Eq.bytes_eq-Decides}}}
+use Rattle.pim_scenario.{proofs.PieceScenarios.header_text}
 use Rattle.pim_scenario.proofs.scenario.pieces.after_header.Goals as goal
 
 pub returns-then-begins_line : goal.returns-then-begins_line

@@ -1,6 +1,6 @@
 -- The text is cut where a line begins.
-use Rattle.std.proofs.lemmas.Bool.{OnTrue_at}
-use Rattle.pim_scenario.proofs.PieceScenarios.{cut_text}
+use Rattle.std.{proofs.lemmas.Bool.OnTrue_at}
+use Rattle.pim_scenario.{proofs.PieceScenarios.cut_text}
 use Rattle.pim_scenario.proofs.scenario.pieces.before_move.Goals as goal
 
 pub returns-then-begins_header : goal.returns-then-begins_header

@@ -1,5 +1,5 @@
 -- The last byte is tested.
-use Rattle.pim_scenario.proofs.PieceScenarios.{ends_test}
+use Rattle.pim_scenario.{proofs.PieceScenarios.ends_test}
 use Rattle.pim_scenario.proofs.scenario.pieces.ends_line.Goals as goal
 
 pub returns-then-length-gt0 : goal.returns-then-length-gt0

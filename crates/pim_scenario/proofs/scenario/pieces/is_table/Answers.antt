@@ -1,5 +1,5 @@
 -- A value is a table where it has one.
-use Rattle.pim_scenario.proofs.PieceScenarios.{mapped_test}
+use Rattle.pim_scenario.{proofs.PieceScenarios.mapped_test}
 use Rattle.pim_scenario.proofs.scenario.pieces.is_table.Goals as goal
 
 pub returns : goal.returns

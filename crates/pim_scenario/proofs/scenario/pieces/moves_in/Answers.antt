@@ -1,6 +1,6 @@
 -- Each block in turn is read.
-use Rattle.std.proofs.Common.{rules}
-use Rattle.pim_scenario.proofs.PieceScenarios.{next_move, last_move}
+use Rattle.std.{proofs.Common.rules}
+use Rattle.pim_scenario.{proofs.PieceScenarios.{next_move, last_move}}
 use Rattle.pim_scenario.proofs.scenario.pieces.moves_in.Goals as goal
 
 pub returns-in_default-before_move : goal.returns-in_default-before_move

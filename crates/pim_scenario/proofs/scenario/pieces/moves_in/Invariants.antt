@@ -1,9 +1,8 @@
 -- Whatever the text is that ends so, the moves so far are said by what is read of it.
-use Rattle.std.proofs.Common.{◌≡◌, ℕ, List, [], None}
-use denote.Shadow.{shadow}
-use denote.Text.{Utf8}
-use Rattle.toml.specs.Tables.{Nodes, get_node}
-use Rattle.pim_scenario.specs.Pieces.{HasMoves, move_key}
+use Rattle.std.{proofs.Common.{◌≡◌, ℕ, List, [], None}}
+use denote.{Shadow.shadow, Text.Utf8}
+use Rattle.toml.{specs.Tables.{Nodes, get_node}}
+use Rattle.pim_scenario.{specs.Pieces.{HasMoves, move_key}}
 use Rattle.pim_scenario.proofs.scenario.pieces.moves_in.Given as goal
 
 abbrev pub invariant-moves : goal.invariant-moves

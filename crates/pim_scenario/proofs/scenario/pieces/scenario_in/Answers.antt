@@ -1,8 +1,7 @@
 -- The head and the moves are the whole.
-use Rattle.std.proofs.Common.{map, sym}
-use Rattle.toml.specs.View.{view, table_view}
-use Rattle.pim_scenario.specs.declared.scenario.Scenario.{Scenario}
-use Rattle.pim_scenario.proofs.PieceScenarios.{whole_scenario}
+use Rattle.std.{proofs.Common.{map, sym}}
+use Rattle.toml.{specs.View.{view, table_view}}
+use Rattle.pim_scenario.{specs.declared.scenario.Scenario.Scenario, proofs.PieceScenarios.whole_scenario}
 use Rattle.pim_scenario.proofs.scenario.pieces.scenario_in.Goals as goal
 
 pub returns : goal.returns

@@ -1,7 +1,6 @@
 -- A table whose configuration is wrong.
-use Rattle.toml.specs.View.{table_view}
-use Rattle.pim_scenario.specs.Scenario.{IsConfig, IsConfigText}
-use Rattle.pim_scenario.proofs.ReadLemmas.{fails}
+use Rattle.toml.{specs.View.table_view}
+use Rattle.pim_scenario.{specs.Scenario.{IsConfig, IsConfigText}, proofs.ReadLemmas.fails}
 use Rattle.pim_scenario.proofs.scenario.reload.config_text_in.Goals as goal
 
 pub returns-in_err-config : goal.returns-in_err-config

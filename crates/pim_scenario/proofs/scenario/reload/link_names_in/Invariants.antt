@@ -1,8 +1,7 @@
 -- The values so far were read.
-use Rattle.std.proofs.Common.{take}
-use Rattle.std.specs.List.{AllZip}
-use Rattle.toml.specs.View.{view}
-use Rattle.pim_scenario.specs.Scenario.{IsTable, NamesLink}
+use Rattle.std.{proofs.Common.take, specs.List.AllZip}
+use Rattle.toml.{specs.View.view}
+use Rattle.pim_scenario.{specs.Scenario.{IsTable, NamesLink}}
 use Rattle.pim_scenario.proofs.scenario.reload.link_names_in.Given as goal
 
 abbrev pub invariant-loop-value : goal.invariant-loop-value

@@ -1,8 +1,6 @@
 -- A subnet that is no prefix.
-use Rattle.toml.specs.View.{table_view}
-use Rattle.pim_scenario.specs.Scenario.{IsInterface}
-use Rattle.pim_scenario.proofs.ReadLemmas.{wrong}
-use Rattle.pim_scenario.proofs.InterfaceLemmas.{no_subnet}
+use Rattle.toml.{specs.View.table_view}
+use Rattle.pim_scenario.{specs.Scenario.IsInterface, proofs.{ReadLemmas.wrong, InterfaceLemmas.no_subnet}}
 use Rattle.pim_scenario.proofs.scenario.router.interface_in.Goals as goal
 
 pub returns-in_err-subnet : goal.returns-in_err-subnet

@@ -1,8 +1,6 @@
 -- Each table in turn is read, and its link is numbered.
-use Rattle.std.proofs.Common.{arith, sym, ap, ◌∙◌, ℕ, List, Some}
-use Rattle.pim_scenario.specs.Scenario.{IsTable, IsLink}
-use Rattle.pim_scenario.proofs.LinkLemmas.{grows_by_name, link_added, links_more}
-use Rattle.pim_scenario.proofs.ReadLemmas.{more_read, all_read, none_read, no_table, of_table, not_both}
+use Rattle.std.{proofs.Common.{arith, sym, ap, ◌∙◌, ℕ, List, Some}}
+use Rattle.pim_scenario.{specs.Scenario.{IsTable, IsLink}, proofs.{LinkLemmas.{grows_by_name, link_added, links_more}, ReadLemmas.{more_read, all_read, none_read, no_table, of_table, not_both}}}
 use Rattle.pim_scenario.proofs.scenario.router.links_in.Goals as goal
 
 pub loop-value-preserved : goal.loop-value-preserved

@@ -1,9 +1,7 @@
 -- The values so far were read, and their links are numbered.
-use Rattle.std.proofs.Common.{◌≡◌, take}
-use Rattle.std.specs.List.{All, AllZip}
-use Rattle.toml.specs.View.{view}
-use Rattle.pim_scenario.specs.Links.{names_in}
-use Rattle.pim_scenario.specs.Scenario.{names_after, IsLink, IsNumbered, IsTable}
+use Rattle.std.{proofs.Common.{◌≡◌, take}, specs.List.{All, AllZip}}
+use Rattle.toml.{specs.View.view}
+use Rattle.pim_scenario.{specs.{Links.names_in, Scenario.{names_after, IsLink, IsNumbered, IsTable}}}
 use Rattle.pim_scenario.proofs.scenario.router.links_in.Given as goal
 
 abbrev pub invariant-loop-value : goal.invariant-loop-value

@@ -1,7 +1,6 @@
 -- A router whose configuration is wrong.
-use Rattle.toml.specs.View.{table_view}
-use Rattle.pim_scenario.specs.Scenario.{IsConfig, IsRouter}
-use Rattle.pim_scenario.proofs.ReadLemmas.{fails}
+use Rattle.toml.{specs.View.table_view}
+use Rattle.pim_scenario.{specs.Scenario.{IsConfig, IsRouter}, proofs.ReadLemmas.fails}
 use Rattle.pim_scenario.proofs.scenario.router.router_in.Goals as goal
 
 pub returns-in_err-config-clause-router : goal.returns-in_err-config-clause-router

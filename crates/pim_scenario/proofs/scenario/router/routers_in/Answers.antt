@@ -1,15 +1,7 @@
 -- Each table in turn is read.
-use Rattle.std.proofs.Common.{arith, rules, ◌≡◌, None, sym, ap, ◌∙◌, ◌+◌, ℕ, [], ◌∷◌, List, length, length-append, true, map, subst}
-use Rattle.std.proofs.lemmas.Slice.Zip.{AllZip-long}
-use Rattle.std.proofs.lemmas.List.{length-map}
-use Rattle.std.specs.List.{All}
-use Rattle.std.specs.Option.{is_some}
-use Rattle.std.specs.Prelude.{string_bytes}
-use Rattle.toml.specs.View.{view, table_view}
-use Rattle.pim_scenario.specs.Scenario.{AreRouters, HasNumbered, IsTable, IsRouter, place_of}
-use Rattle.pim_scenario.proofs.LinkLemmas.{grows_by_names, router_added, routers_more}
-use Rattle.pim_scenario.proofs.NameLemmas.{names_more, twice}
-use Rattle.pim_scenario.proofs.ReadLemmas.{more_read, all_read, one_read, wrong, fails, no_table, table_said}
+use Rattle.std.{proofs.{Common.{arith, rules, ◌≡◌, None, sym, ap, ◌∙◌, ◌+◌, ℕ, [], ◌∷◌, List, length, length-append, true, map, subst}, lemmas.{Slice.Zip.AllZip-long, List.length-map}}, specs.{List.All, Option.is_some, Prelude.string_bytes}}
+use Rattle.toml.{specs.View.{view, table_view}}
+use Rattle.pim_scenario.{specs.Scenario.{AreRouters, HasNumbered, IsTable, IsRouter, place_of}, proofs.{LinkLemmas.{grows_by_names, router_added, routers_more}, NameLemmas.{names_more, twice}, ReadLemmas.{more_read, all_read, one_read, wrong, fails, no_table, table_said}}}
 use Rattle.pim_scenario.proofs.scenario.router.routers_in.Goals as goal
 
 pub loop-value-preserved : goal.loop-value-preserved

@@ -1,9 +1,7 @@
 -- The values so far were read, each as one router, with a name of its own, and their links are numbered.
-use Rattle.std.proofs.Common.{◌≡◌, length, take}
-use Rattle.std.specs.List.{All, AllZip}
-use Rattle.toml.specs.View.{view}
-use Rattle.pim_scenario.specs.Links.{names_in}
-use Rattle.pim_scenario.specs.Scenario.{link_names, HasNumbered, HaveOwnNames, IsRouter, IsTable}
+use Rattle.std.{proofs.Common.{◌≡◌, length, take}, specs.List.{All, AllZip}}
+use Rattle.toml.{specs.View.view}
+use Rattle.pim_scenario.{specs.{Links.names_in, Scenario.{link_names, HasNumbered, HaveOwnNames, IsRouter, IsTable}}}
 use Rattle.pim_scenario.proofs.scenario.router.routers_in.Given as goal
 
 abbrev pub invariant-loop-value : goal.invariant-loop-value

@@ -1,6 +1,5 @@
 -- A word that writes no number.
-use Rattle.pim_scenario.proofs.ReadLemmas.{wrong}
-use Rattle.pim_scenario.proofs.RouteLemmas.{five_words}
+use Rattle.pim_scenario.{proofs.{ReadLemmas.wrong, RouteLemmas.five_words}}
 use Rattle.pim_scenario.proofs.scenario.routes.read_route.Goals as goal
 
 pub returns-in_err-read_number : goal.returns-in_err-read_number

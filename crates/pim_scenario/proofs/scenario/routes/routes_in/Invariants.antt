@@ -1,8 +1,7 @@
 -- The texts so far were read.
-use Rattle.std.proofs.Common.{take}
-use Rattle.std.specs.List.{AllZip}
-use Rattle.toml.specs.View.{view}
-use Rattle.pim_scenario.specs.Scenario.{IsText, AreRouteWords}
+use Rattle.std.{proofs.Common.take, specs.List.AllZip}
+use Rattle.toml.{specs.View.view}
+use Rattle.pim_scenario.{specs.Scenario.{IsText, AreRouteWords}}
 use Rattle.pim_scenario.proofs.scenario.routes.routes_in.Given as goal
 
 abbrev pub invariant-loop-text : goal.invariant-loop-text

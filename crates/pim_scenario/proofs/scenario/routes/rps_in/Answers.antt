@@ -1,7 +1,6 @@
 -- Each text in turn is read.
-use Rattle.std.proofs.Common.{arith, sym, map}
-use Rattle.pim_scenario.specs.Scenario.{IsText, AreRpWords}
-use Rattle.pim_scenario.proofs.ReadLemmas.{more_read, all_read, none_read, part_fails, no_text, words_said}
+use Rattle.std.{proofs.Common.{arith, sym, map}}
+use Rattle.pim_scenario.{specs.Scenario.{IsText, AreRpWords}, proofs.ReadLemmas.{more_read, all_read, none_read, part_fails, no_text, words_said}}
 use Rattle.pim_scenario.proofs.scenario.routes.rps_in.Goals as goal
 
 pub loop-text-preserved : goal.loop-text-preserved

@@ -1,7 +1,6 @@
 -- Each word in turn is taken.
-use Rattle.std.proofs.Common.{[], subst, append-nil, map}
-use Rattle.pim_scenario.specs.Words.{AreWords}
-use Rattle.pim_scenario.proofs.WordLemmas.{words_more, next_word}
+use Rattle.std.{proofs.Common.{[], subst, append-nil, map}}
+use Rattle.pim_scenario.{specs.Words.AreWords, proofs.WordLemmas.{words_more, next_word}}
 use Rattle.pim_scenario.proofs.scenario.words.split.Goals as goal
 
 pub loop-word-preserved : goal.loop-word-preserved

@@ -1,7 +1,6 @@
 -- The words so far, and those of what is left, are those of the text.
-use Rattle.std.proofs.Common.{List, ℕ, ◌++◌, map}
-use Rattle.std.specs.Str.Iter.{split_whitespace_rest}
-use Rattle.pim_scenario.specs.Words.{AreWords}
+use Rattle.std.{proofs.Common.{List, ℕ, ◌++◌, map}, specs.Str.Iter.split_whitespace_rest}
+use Rattle.pim_scenario.{specs.Words.AreWords}
 use Rattle.pim_scenario.proofs.scenario.words.split.Given as goal
 
 abbrev pub invariant-loop-word : goal.invariant-loop-word

@@ -1,6 +1,6 @@
-use Rattle.std.proofs.Common.{◌∙◌}
-use Rattle.pim_types.specs.Keys.{star_key}
-use Rattle.pim_session.proofs.Taking.{record_of}
+use Rattle.std.{proofs.Common.◌∙◌}
+use Rattle.pim_types.{specs.Keys.star_key}
+use Rattle.pim_session.{proofs.Taking.record_of}
 use Rattle.pim_session.proofs.asked.AskedQuerier.group_record.Goals as goal
 
 pub returns : goal.returns

@@ -1,6 +1,6 @@
-use Rattle.std.proofs.Common.{◌∙◌}
-use Rattle.pim_types.specs.Keys.{star_key}
-use Rattle.pim_session.proofs.Taking.{has_record_of}
+use Rattle.std.{proofs.Common.◌∙◌}
+use Rattle.pim_types.{specs.Keys.star_key}
+use Rattle.pim_session.{proofs.Taking.has_record_of}
 use Rattle.pim_session.proofs.asked.AskedQuerier.has_group_record.Goals as goal
 
 pub returns : goal.returns

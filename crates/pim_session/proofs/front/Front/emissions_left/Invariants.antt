@@ -1,5 +1,5 @@
-use Rattle.std.proofs.Common.{◌≡◌, ◌++◌, map}
-use Rattle.pim_session.specs.Front.{emission_left}
+use Rattle.std.{proofs.Common.{◌≡◌, ◌++◌, map}}
+use Rattle.pim_session.{specs.Front.emission_left}
 use Rattle.pim_session.proofs.front.Front.emissions_left.Given as goal
 
 abbrev pub invariant-loop-emission : goal.invariant-loop-emission

@@ -1,7 +1,6 @@
-use Rattle.std.proofs.Common.{subst}
-use Rattle.std.specs.List.Sorted.{IsStrictlySortedBy}
-use Rattle.pim_types.specs.Keys.{key_cmp}
-use Rattle.pim_session.specs.Session.{ShownSession}
+use Rattle.std.{proofs.Common.subst, specs.List.Sorted.IsStrictlySortedBy}
+use Rattle.pim_types.{specs.Keys.key_cmp}
+use Rattle.pim_session.{specs.Session.ShownSession}
 use Rattle.pim_session.proofs.session.Session.changed.Goals as goal
 
 pub returns-then-self-clause-once : goal.returns-then-self-clause-once

@@ -1,4 +1,4 @@
-use Rattle.std.proofs.Common.{◌∙◌}
+use Rattle.std.{proofs.Common.◌∙◌}
 use Rattle.pim_session.proofs.session.Session.restore.Goals as goal
 
 pub returns-in_ok-new-in-Ok-clause-restored : goal.returns-in_ok-new-in-Ok-clause-restored

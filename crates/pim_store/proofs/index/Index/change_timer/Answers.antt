@@ -1,8 +1,6 @@
-use Rattle.std.proofs.Common.{Some, sym, ◌∙◌}
-use Rattle.pim_source_trie.specs.Entries.{entry_key}
-use Rattle.pim_store.proofs.Lowered.{not_there}
-use Rattle.pim_store.proofs.Timers.{changed_on, no_timer_astray, no_timer_under}
-use Rattle.pim_store.specs.Said.{timers_in}
+use Rattle.std.{proofs.Common.{Some, sym, ◌∙◌}}
+use Rattle.pim_source_trie.{specs.Entries.entry_key}
+use Rattle.pim_store.{proofs.{Lowered.not_there, Timers.{changed_on, no_timer_astray, no_timer_under}}, specs.Said.timers_in}
 use Rattle.pim_store.proofs.index.Index.change_timer.Goals as goal
 
 pub set_known-requires : goal.set_known-requires

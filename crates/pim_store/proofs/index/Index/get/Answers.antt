@@ -1,8 +1,5 @@
-use Rattle.std.proofs.Common.{ap, sym, ◌∙◌}
-use Rattle.std.specs.Option.{option_copied}
-use Rattle.pim_store.specs.Said.{timer_in, tunnel_in}
-use Rattle.pim_store.specs.declared.marks.Marks.{Marks}
-use Rattle.pim_store.proofs.Timers.{found_timer}
+use Rattle.std.{proofs.Common.{ap, sym, ◌∙◌}, specs.Option.option_copied}
+use Rattle.pim_store.{specs.{Said.{timer_in, tunnel_in}, declared.marks.Marks.Marks}, proofs.Timers.found_timer}
 use Rattle.pim_store.proofs.index.Index.get.Goals as goal
 
 pub returns-in-Some-clause-bare : goal.returns-in-Some-clause-bare

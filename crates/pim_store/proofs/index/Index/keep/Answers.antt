@@ -1,5 +1,5 @@
-use Rattle.pim_source_trie.specs.Entries.{entry_key}
-use Rattle.pim_store.proofs.Timers.{kept_as, timers_back}
+use Rattle.pim_source_trie.{specs.Entries.entry_key}
+use Rattle.pim_store.{proofs.Timers.{kept_as, timers_back}}
 use Rattle.pim_store.proofs.index.Index.keep.Goals as goal
 
 pub invariant_of-self : goal.invariant_of-self

@@ -1,9 +1,7 @@
-use Rattle.std.proofs.Common.{OnOk, Some, ap, subst, sym, ◌∙◌}
-use Rattle.pim_source_trie.specs.Entries.{entry_key}
-use Rattle.pim_store.specs.Said.{Writes, timer_in}
-use Rattle.pim_model.specs.Tables.{row_at}
-use Rattle.pim_store.proofs.Marked.{got_none, marks_set, not_some, plain_set}
-use Rattle.pim_store.proofs.Timers.{no_timer_at}
+use Rattle.std.{proofs.Common.{OnOk, Some, ap, subst, sym, ◌∙◌}}
+use Rattle.pim_source_trie.{specs.Entries.entry_key}
+use Rattle.pim_store.{specs.Said.{Writes, timer_in}, proofs.{Marked.{got_none, marks_set, not_some, plain_set}, Timers.no_timer_at}}
+use Rattle.pim_model.{specs.Tables.row_at}
 use Rattle.pim_store.proofs.index.Index.mark.Goals as goal
 
 pub returns-then-is_some-clause-ok : goal.returns-then-is_some-clause-ok

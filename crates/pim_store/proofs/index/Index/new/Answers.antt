@@ -1,10 +1,7 @@
-use Rattle.std.proofs.Common.{ap, length, subst, sym}
-use Rattle.pim_model.specs.Tables.{Table}
-use Rattle.pim_tables.specs.RowsIn.{rows_in}
-use Rattle.pim_store.specs.JoinTimers.{AreTimersInStep}
-use Rattle.pim_store.specs.Said.{timers_in}
-use Rattle.pim_store.specs.declared.marks.Marks.{Marks}
-use Rattle.pim_store.proofs.Writes.{no_entries}
+use Rattle.std.{proofs.Common.{ap, length, subst, sym}}
+use Rattle.pim_model.{specs.Tables.Table}
+use Rattle.pim_tables.{specs.RowsIn.rows_in}
+use Rattle.pim_store.{specs.{JoinTimers.AreTimersInStep, Said.timers_in, declared.marks.Marks.Marks}, proofs.Writes.no_entries}
 use Rattle.pim_store.proofs.index.Index.new.Goals as goal
 
 pub invariant_of-result : goal.invariant_of-result

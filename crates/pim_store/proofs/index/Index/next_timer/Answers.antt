@@ -1,4 +1,4 @@
-use Rattle.pim_store.proofs.Timers.{timers_rise}
+use Rattle.pim_store.{proofs.Timers.timers_rise}
 use Rattle.pim_store.proofs.index.Index.next_timer.Goals as goal
 
 pub returns : goal.returns

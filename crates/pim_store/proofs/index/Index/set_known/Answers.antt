@@ -1,13 +1,9 @@
-use Rattle.std.proofs.Common.{◌≡◌, None, OnOk, Some, ap, subst, sym, ◌∙◌}
-use Rattle.pim_types.specs.declared.fact.JoinTimerRow.{JoinTimerRow}
-use Rattle.pim_types.specs.declared.fact.Key.{Key}
-use Rattle.pim_types.specs.declared.timer.TimerKind.{TimerKind}
-use Rattle.pim_model.specs.Tables.{Table, row_at, set_row}
-use Rattle.pim_tables.specs.Ends.{InStep, InStepBeside}
-use Rattle.pim_source_trie.specs.Entries.{entry_key}
-use Rattle.pim_store.specs.Said.{Writes, timers_in}
-use Rattle.pim_store.proofs.Places.{source_again}
-use Rattle.pim_store.proofs.Timers.{counted_on, marks_keep, tunnel_timed}
+use Rattle.std.{proofs.Common.{◌≡◌, None, OnOk, Some, ap, subst, sym, ◌∙◌}}
+use Rattle.pim_types.{specs.declared.{fact.{JoinTimerRow.JoinTimerRow, Key.Key}, timer.TimerKind.TimerKind}}
+use Rattle.pim_model.{specs.Tables.{Table, row_at, set_row}}
+use Rattle.pim_tables.{specs.Ends.{InStep, InStepBeside}}
+use Rattle.pim_source_trie.{specs.Entries.entry_key}
+use Rattle.pim_store.{specs.Said.{Writes, timers_in}, proofs.{Places.source_again, Timers.{counted_on, marks_keep, tunnel_timed}}}
 use Rattle.pim_store.proofs.index.Index.set_known.Goals as goal
 
 pub write_armed-set-requires-clause-bare : goal.write_armed-set-requires-clause-bare

@@ -1,10 +1,6 @@
-use Rattle.std.proofs.Common.{ap, sym, ◌∙◌}
-use Rattle.pim_source_trie.specs.Entries.{entry_key}
-use Rattle.pim_store.specs.Said.{timers_in}
-use Rattle.pim_store.proofs.Timers.{kept_as}
-use Rattle.pim_store.specs.Entry.{with_plain}
-use Rattle.pim_store.proofs.Altered.{altered_writes, entries_altered, timers_stay, unaltered}
-use Rattle.pim_store.proofs.Changed.{timer_with_plain, tunnel_with_plain}
+use Rattle.std.{proofs.Common.{ap, sym, ◌∙◌}}
+use Rattle.pim_source_trie.{specs.Entries.entry_key}
+use Rattle.pim_store.{specs.{Said.timers_in, Entry.with_plain}, proofs.{Timers.kept_as, Altered.{altered_writes, entries_altered, timers_stay, unaltered}, Changed.{timer_with_plain, tunnel_with_plain}}}
 use Rattle.pim_store.proofs.index.Index.set_plain.Goals as goal
 
 pub invariant_of-self : goal.invariant_of-self

@@ -1,11 +1,6 @@
-use Rattle.std.proofs.Common.{ap, ◌∙◌}
-use Rattle.pim_source_trie.specs.Entries.{entry_key}
-use Rattle.pim_store.specs.Said.{timers_in}
-use Rattle.pim_store.proofs.Timers.{kept_as}
-use Rattle.pim_store.specs.Entry.{without_either}
-use Rattle.pim_store.proofs.Altered.{entries_altered, timers_stay}
-use Rattle.pim_store.proofs.Changed.{timer_without, tunnel_without}
-use Rattle.pim_store.proofs.Marked.{marks_cleared}
+use Rattle.std.{proofs.Common.{ap, ◌∙◌}}
+use Rattle.pim_source_trie.{specs.Entries.entry_key}
+use Rattle.pim_store.{specs.{Said.timers_in, Entry.without_either}, proofs.{Timers.kept_as, Altered.{entries_altered, timers_stay}, Changed.{timer_without, tunnel_without}, Marked.marks_cleared}}
 use Rattle.pim_store.proofs.index.Index.unmark.Goals as goal
 
 pub invariant_of-self : goal.invariant_of-self

@@ -1,5 +1,5 @@
-use Rattle.std.proofs.Common.{◌≡◌, length}
-use Rattle.pim_store.specs.Said.{timers_in}
+use Rattle.std.{proofs.Common.{◌≡◌, length}}
+use Rattle.pim_store.{specs.Said.timers_in}
 use Rattle.pim_store.proofs.join_timers.GroupJoinTimersIterator.next.Given as goal
 
 abbrev pub invariant-loop-key : goal.invariant-loop-key

@@ -1,9 +1,6 @@
-use Rattle.pim_types.specs.declared.fact.AssertRow.{AssertRow}
-use Rattle.pim_store.proofs.Lowered.{same_beside}
-use Rattle.pim_store.specs.Stored.{tables_of}
-use Rattle.pim_model.specs.Tables.{Table}
-use Rattle.pim_types.specs.declared.fact.JoinTimerRow.{JoinTimerRow}
-use Rattle.pim_store.proofs.Indexed.{after_asserts}
+use Rattle.pim_types.{specs.declared.fact.{AssertRow.AssertRow, JoinTimerRow.JoinTimerRow}}
+use Rattle.pim_store.{proofs.{Lowered.same_beside, Indexed.after_asserts}, specs.Stored.tables_of}
+use Rattle.pim_model.{specs.Tables.Table}
 use Rattle.pim_store.proofs.store.Store.change_assert.Goals as goal
 
 pub change_row-requires : goal.change_row-requires

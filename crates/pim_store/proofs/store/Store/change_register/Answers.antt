@@ -1,9 +1,6 @@
-use Rattle.pim_types.specs.declared.fact.RegisterRow.{RegisterRow}
-use Rattle.pim_store.proofs.Lowered.{same_beside}
-use Rattle.pim_store.specs.Stored.{tables_of}
-use Rattle.pim_model.specs.Tables.{Table}
-use Rattle.pim_types.specs.declared.fact.JoinTimerRow.{JoinTimerRow}
-use Rattle.pim_store.proofs.Indexed.{after_registers}
+use Rattle.pim_types.{specs.declared.fact.{RegisterRow.RegisterRow, JoinTimerRow.JoinTimerRow}}
+use Rattle.pim_store.{proofs.{Lowered.same_beside, Indexed.after_registers}, specs.Stored.tables_of}
+use Rattle.pim_model.{specs.Tables.Table}
 use Rattle.pim_store.proofs.store.Store.change_register.Goals as goal
 
 pub change_row-requires : goal.change_row-requires

@@ -1,9 +1,6 @@
-use Rattle.pim_types.specs.declared.fact.SourceRow.{SourceRow}
-use Rattle.pim_store.proofs.Lowered.{same_beside}
-use Rattle.pim_store.specs.Stored.{tables_of}
-use Rattle.pim_model.specs.Tables.{Table}
-use Rattle.pim_types.specs.declared.fact.JoinTimerRow.{JoinTimerRow}
-use Rattle.pim_store.proofs.Indexed.{after_sources}
+use Rattle.pim_types.{specs.declared.fact.{SourceRow.SourceRow, JoinTimerRow.JoinTimerRow}}
+use Rattle.pim_store.{proofs.{Lowered.same_beside, Indexed.after_sources}, specs.Stored.tables_of}
+use Rattle.pim_model.{specs.Tables.Table}
 use Rattle.pim_store.proofs.store.Store.change_source.Goals as goal
 
 pub change_row-requires : goal.change_row-requires

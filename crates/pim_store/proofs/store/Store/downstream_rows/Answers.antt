@@ -1,7 +1,6 @@
-use Rattle.std.proofs.Common.{nat_lt, ap, ◌∙◌}
-use Rattle.std.specs.List.{list_all}
-use Rattle.pim_types.specs.Keys.{iface_in}
-use Rattle.pim_store.proofs.Fitting.{all_fit}
+use Rattle.std.{proofs.Common.{nat_lt, ap, ◌∙◌}, specs.List.list_all}
+use Rattle.pim_types.{specs.Keys.iface_in}
+use Rattle.pim_store.{proofs.Fitting.all_fit}
 use Rattle.pim_store.proofs.store.Store.downstream_rows.Goals as goal
 
 pub returns-clause-below : goal.returns-clause-below

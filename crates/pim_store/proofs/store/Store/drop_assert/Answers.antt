@@ -1,5 +1,4 @@
-use Rattle.pim_store.specs.Stored.{tables_of}
-use Rattle.pim_store.proofs.Indexed.{after_asserts}
+use Rattle.pim_store.{specs.Stored.tables_of, proofs.Indexed.after_asserts}
 use Rattle.pim_store.proofs.store.Store.drop_assert.Goals as goal
 
 pub drop_row-requires : goal.drop_row-requires

@@ -1,5 +1,5 @@
-use Rattle.std.proofs.Common.{◌∙◌}
-use Rattle.pim_store.specs.Stored.{tables_of}
+use Rattle.std.{proofs.Common.◌∙◌}
+use Rattle.pim_store.{specs.Stored.tables_of}
 use Rattle.pim_store.proofs.store.Store.drop_on.Goals as goal
 
 pub returns : goal.returns

@@ -1,10 +1,7 @@
-use Rattle.std.proofs.Common.{◌+◌, drop, refl, ap, ◌∙◌}
-use Rattle.pim_types.specs.declared.fact.AssertRow.{AssertRow}
-use Rattle.pim_model.specs.Downstream.{is_named}
-use Rattle.pim_model.specs.Sets.{is_loser}
-use Rattle.pim_model.specs.Tables.{Table}
-use Rattle.pim_store.proofs.Losses.{one_further, past_last, staying}
-use Rattle.pim_store.specs.PimTables.{PimTables}
+use Rattle.std.{proofs.Common.{◌+◌, drop, refl, ap, ◌∙◌}}
+use Rattle.pim_types.{specs.declared.fact.AssertRow.AssertRow}
+use Rattle.pim_model.{specs.{Downstream.is_named, Sets.is_loser, Tables.Table}}
+use Rattle.pim_store.{proofs.Losses.{one_further, past_last, staying}, specs.PimTables.PimTables}
 use Rattle.pim_store.proofs.store.Store.end_losses.Goals as goal
 
 pub loop-key-preserved : goal.loop-key-preserved

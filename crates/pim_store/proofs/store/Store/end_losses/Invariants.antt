@@ -1,7 +1,6 @@
-use Rattle.std.proofs.Common.{◌≡◌, drop}
-use Rattle.pim_model.specs.Sets.{is_loser}
-use Rattle.pim_store.proofs.Losses.{staying}
-use Rattle.pim_store.specs.PimTables.{PimTables}
+use Rattle.std.{proofs.Common.{◌≡◌, drop}}
+use Rattle.pim_model.{specs.Sets.is_loser}
+use Rattle.pim_store.{proofs.Losses.staying, specs.PimTables.PimTables}
 use Rattle.pim_store.proofs.store.Store.end_losses.Given as goal
 
 abbrev pub invariant-loop-key : goal.invariant-loop-key

@@ -1,5 +1,5 @@
-use Rattle.std.proofs.Common.{◌∙◌}
-use Rattle.pim_store.proofs.Walked.{same_groups}
+use Rattle.std.{proofs.Common.◌∙◌}
+use Rattle.pim_store.{proofs.Walked.same_groups}
 use Rattle.pim_store.proofs.store.Store.groups.Goals as goal
 
 pub returns : goal.returns

@@ -1,5 +1,5 @@
-use Rattle.std.proofs.Common.{◌∙◌}
-use Rattle.pim_store.proofs.Walked.{source_marked}
+use Rattle.std.{proofs.Common.◌∙◌}
+use Rattle.pim_store.{proofs.Walked.source_marked}
 use Rattle.pim_store.proofs.store.Store.has_facts.Goals as goal
 
 pub returns-clause-has : goal.returns-clause-has

@@ -1,7 +1,6 @@
-use Rattle.std.proofs.Common.{ap, ◌∙◌}
-use Rattle.pim_model.specs.Tables.{row_at}
-use Rattle.pim_store.specs.Said.{timers_in}
-use Rattle.pim_store.proofs.Places.{entry_named}
+use Rattle.std.{proofs.Common.{ap, ◌∙◌}}
+use Rattle.pim_model.{specs.Tables.row_at}
+use Rattle.pim_store.{specs.Said.timers_in, proofs.Places.entry_named}
 use Rattle.pim_store.proofs.store.Store.join_timer.Goals as goal
 
 pub returns-clause-timer : goal.returns-clause-timer

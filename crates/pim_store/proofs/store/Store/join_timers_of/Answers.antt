@@ -1,7 +1,6 @@
-use Rattle.std.proofs.Common.{ap, ◌∙◌}
-use Rattle.pim_types.specs.Keys.{is_of_group}
-use Rattle.pim_store.specs.Said.{timers_in}
-use Rattle.pim_store.proofs.Timers.{timers_filtered}
+use Rattle.std.{proofs.Common.{ap, ◌∙◌}}
+use Rattle.pim_types.{specs.Keys.is_of_group}
+use Rattle.pim_store.{specs.Said.timers_in, proofs.Timers.timers_filtered}
 use Rattle.pim_store.proofs.store.Store.join_timers_of.Goals as goal
 
 pub returns : goal.returns

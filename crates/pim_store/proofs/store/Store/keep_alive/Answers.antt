@@ -1,12 +1,8 @@
-use Rattle.std.proofs.Common.{◌≡◌, OnOk, Some, ap, false, refl, subst, sym, ◌∙◌}
-use Rattle.pim_types.specs.declared.fact.JoinTimerRow.{JoinTimerRow}
-use Rattle.pim_types.specs.declared.fact.SourceRow.{SourceRow}
-use Rattle.pim_model.specs.Tables.{Table, put, row_at}
-use Rattle.pim_tables.proofs.Lookups.{absent}
-use Rattle.pim_store.specs.PimTables.{kept_alive}
-use Rattle.pim_store.specs.Stored.{tables_of}
-use Rattle.pim_store.proofs.KeptAlive.{alive_kept, alive_new, alive_there, with_end}
-use Rattle.pim_store.proofs.Lowered.{both_same, nothing_changed, same_beside}
+use Rattle.std.{proofs.Common.{◌≡◌, OnOk, Some, ap, false, refl, subst, sym, ◌∙◌}}
+use Rattle.pim_types.{specs.declared.fact.{JoinTimerRow.JoinTimerRow, SourceRow.SourceRow}}
+use Rattle.pim_model.{specs.Tables.{Table, put, row_at}}
+use Rattle.pim_tables.{proofs.Lookups.absent}
+use Rattle.pim_store.{specs.{PimTables.kept_alive, Stored.tables_of}, proofs.{KeptAlive.{alive_kept, alive_new, alive_there, with_end}, Lowered.{both_same, nothing_changed, same_beside}}}
 use Rattle.pim_store.proofs.store.Store.keep_alive.Goals as goal
 
 pub returns-then-branch-clause-state : goal.returns-then-branch-clause-state
@@ -14,7 +10,7 @@ returns-then-branch-clause-state c = rw (← c.self.view_is)
     (both_same (λ (t : Table SourceRow) (u : Table JoinTimerRow). record (tables_of c.self.inside) { sources = t; join_timers = u })
     c.in_ok-update_row.ensures.timers
     (c.in_ok-update_row.ensures.changed
-    ∙ alive_there c.args.end c.key-key.result c.self.inside.sources c.recall_rising.ensures
+    ∙ alive_there c.args.end c.key-key.result c.self.inside.sources c.proof_rising.ensures
     (sym c.in_ok-update_row.ensures.there ∙ c.if-branch.true)
     ∙ ap (λ k. put c.self.inside.sources k (kept_alive c.args.end (row_at c.self.inside.sources k))) c.key-key.ensures))
 

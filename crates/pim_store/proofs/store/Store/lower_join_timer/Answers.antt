@@ -1,9 +1,6 @@
-use Rattle.pim_types.specs.declared.fact.JoinTimerRow.{JoinTimerRow}
-use Rattle.pim_model.specs.Tables.{Table}
-use Rattle.pim_store.specs.Said.{timers_in}
-use Rattle.pim_store.specs.Stored.{tables_of}
-use Rattle.pim_store.proofs.Indexed.{after_join_timers}
-use Rattle.pim_store.proofs.Lowered.{same_on_ok}
+use Rattle.pim_types.{specs.declared.fact.JoinTimerRow.JoinTimerRow}
+use Rattle.pim_model.{specs.Tables.Table}
+use Rattle.pim_store.{specs.{Said.timers_in, Stored.tables_of}, proofs.{Indexed.after_join_timers, Lowered.same_on_ok}}
 use Rattle.pim_store.proofs.store.Store.lower_join_timer.Goals as goal
 
 pub invariant_of-self : goal.invariant_of-self

@@ -1,6 +1,5 @@
-use Rattle.std.proofs.Common.{refl, ◌∙◌}
-use Rattle.pim_store.specs.declared.marks.Mark.TheVariants.{Joined, Branched, Pruned, Lost, Won, HasOverrideTimer, HasSource, HasRegister}
-use Rattle.pim_store.proofs.Indexed.{row_lost, row_there, row_won}
+use Rattle.std.{proofs.Common.{refl, ◌∙◌}}
+use Rattle.pim_store.{specs.declared.marks.Mark.TheVariants.{Joined, Branched, Pruned, Lost, Won, HasOverrideTimer, HasSource, HasRegister}, proofs.Indexed.{row_lost, row_there, row_won}}
 use Rattle.pim_store.proofs.store.Store.marks.Goals as goal
 
 pub returns-clause-joined : goal.returns-clause-joined

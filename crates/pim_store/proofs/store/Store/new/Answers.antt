@@ -1,7 +1,6 @@
-use Rattle.std.proofs.Common.{ap, refl}
-use Rattle.pim_tables.specs.RowsIn.{rows_in}
-use Rattle.pim_store.specs.Said.{timers_in}
-use Rattle.pim_store.proofs.Indexed.{none_told}
+use Rattle.std.{proofs.Common.{ap, refl}}
+use Rattle.pim_tables.{specs.RowsIn.rows_in}
+use Rattle.pim_store.{specs.Said.timers_in, proofs.Indexed.none_told}
 use Rattle.pim_store.proofs.store.Store.new.Goals as goal
 
 pub invariant_of-result : goal.invariant_of-result

@@ -1,5 +1,5 @@
-use Rattle.pim_tables.specs.Ends.{row_endings}
-use Rattle.pim_store.specs.PimTables.{stored_endings}
+use Rattle.pim_tables.{specs.Ends.row_endings}
+use Rattle.pim_store.{specs.PimTables.stored_endings}
 use Rattle.pim_store.proofs.store.Store.next.Goals as goal
 
 pub returns : goal.returns

@@ -1,7 +1,7 @@
-use Rattle.std.proofs.Common.{ap, filter, ◌∙◌}
-use Rattle.pim_types.specs.Keys.{is_of_group, is_on}
-use Rattle.pim_model.specs.Records.{is_at_group}
-use Rattle.pim_store.proofs.Fitting.{all_fit, of_router_when_source, passed_by_all}
+use Rattle.std.{proofs.Common.{ap, filter, ◌∙◌}}
+use Rattle.pim_types.{specs.Keys.{is_of_group, is_on}}
+use Rattle.pim_model.{specs.Records.is_at_group}
+use Rattle.pim_store.{proofs.Fitting.{all_fit, of_router_when_source, passed_by_all}}
 use Rattle.pim_store.proofs.store.Store.registers_of.Goals as goal
 
 pub returns : goal.returns

@@ -1,11 +1,7 @@
-use Rattle.pim_types.specs.declared.fact.AssertRow.{AssertRow}
-use Rattle.pim_store.proofs.Lowered.{same_beside}
-use Rattle.pim_store.specs.Stored.{tables_of}
-use Rattle.pim_model.specs.Tables.{Table, set_row}
-use Rattle.pim_types.specs.declared.fact.JoinTimerRow.{JoinTimerRow}
-use Rattle.pim_store.proofs.Indexed.{after_asserts}
-use Rattle.std.proofs.Common.{false, ◌≡◌, OnOk, subst}
-use Rattle.pim_store.proofs.Places.{fact_named}
+use Rattle.pim_types.{specs.declared.fact.{AssertRow.AssertRow, JoinTimerRow.JoinTimerRow}}
+use Rattle.pim_store.{proofs.{Lowered.same_beside, Indexed.after_asserts, Places.fact_named}, specs.Stored.tables_of}
+use Rattle.pim_model.{specs.Tables.{Table, set_row}}
+use Rattle.std.{proofs.Common.{false, ◌≡◌, OnOk, subst}}
 use Rattle.pim_store.proofs.store.Store.set_assert.Goals as goal
 
 pub set_row-requires-clause-told : goal.set_row-requires-clause-told

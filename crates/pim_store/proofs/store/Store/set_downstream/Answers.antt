@@ -1,9 +1,6 @@
-use Rattle.pim_types.specs.declared.fact.DownstreamRow.{DownstreamRow}
-use Rattle.pim_store.proofs.Lowered.{same_beside}
-use Rattle.pim_store.specs.Stored.{tables_of}
-use Rattle.pim_model.specs.Tables.{Table}
-use Rattle.pim_types.specs.declared.fact.JoinTimerRow.{JoinTimerRow}
-use Rattle.pim_store.proofs.Indexed.{after_downstream}
+use Rattle.pim_types.{specs.declared.fact.{DownstreamRow.DownstreamRow, JoinTimerRow.JoinTimerRow}}
+use Rattle.pim_store.{proofs.{Lowered.same_beside, Indexed.after_downstream}, specs.Stored.tables_of}
+use Rattle.pim_model.{specs.Tables.Table}
 use Rattle.pim_store.proofs.store.Store.set_downstream.Goals as goal
 
 pub set_row-requires-clause-told : goal.set_row-requires-clause-told

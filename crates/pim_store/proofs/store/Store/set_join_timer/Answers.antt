@@ -1,11 +1,7 @@
-use Rattle.std.proofs.Common.{◌≡◌, OnOk, subst}
-use Rattle.pim_types.specs.declared.fact.JoinTimerRow.{JoinTimerRow}
-use Rattle.pim_model.specs.Tables.{Table, set_row}
-use Rattle.pim_store.specs.Said.{timers_in}
-use Rattle.pim_store.specs.Stored.{tables_of}
-use Rattle.pim_store.proofs.Indexed.{after_join_timers}
-use Rattle.pim_store.proofs.Places.{entry_named}
-use Rattle.pim_store.proofs.Lowered.{same_on_ok}
+use Rattle.std.{proofs.Common.{◌≡◌, OnOk, subst}}
+use Rattle.pim_types.{specs.declared.fact.JoinTimerRow.JoinTimerRow}
+use Rattle.pim_model.{specs.Tables.{Table, set_row}}
+use Rattle.pim_store.{specs.{Said.timers_in, Stored.tables_of}, proofs.{Indexed.after_join_timers, Places.entry_named, Lowered.same_on_ok}}
 use Rattle.pim_store.proofs.store.Store.set_join_timer.Goals as goal
 
 pub invariant_of-self : goal.invariant_of-self

@@ -1,10 +1,7 @@
-use Rattle.std.proofs.Common.{◌≡◌, OnOk, subst}
-use Rattle.pim_types.specs.declared.fact.OverrideTimerRow.{OverrideTimerRow}
-use Rattle.pim_store.proofs.Lowered.{same_beside}
-use Rattle.pim_store.specs.Stored.{tables_of}
-use Rattle.pim_model.specs.Tables.{Table, set_row}
-use Rattle.pim_types.specs.declared.fact.JoinTimerRow.{JoinTimerRow}
-use Rattle.pim_store.proofs.Indexed.{after_override_timers}
+use Rattle.std.{proofs.Common.{◌≡◌, OnOk, subst}}
+use Rattle.pim_types.{specs.declared.fact.{OverrideTimerRow.OverrideTimerRow, JoinTimerRow.JoinTimerRow}}
+use Rattle.pim_store.{proofs.{Lowered.same_beside, Indexed.after_override_timers}, specs.Stored.tables_of}
+use Rattle.pim_model.{specs.Tables.{Table, set_row}}
 use Rattle.pim_store.proofs.store.Store.set_override_timer.Goals as goal
 
 pub set_row-requires-clause-told : goal.set_row-requires-clause-told

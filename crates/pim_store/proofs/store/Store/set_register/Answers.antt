@@ -1,10 +1,7 @@
-use Rattle.std.proofs.Common.{◌≡◌, OnOk, subst}
-use Rattle.pim_types.specs.declared.fact.RegisterRow.{RegisterRow}
-use Rattle.pim_store.proofs.Lowered.{same_beside}
-use Rattle.pim_store.specs.Stored.{tables_of}
-use Rattle.pim_model.specs.Tables.{Table, set_row}
-use Rattle.pim_types.specs.declared.fact.JoinTimerRow.{JoinTimerRow}
-use Rattle.pim_store.proofs.Indexed.{after_registers}
+use Rattle.std.{proofs.Common.{◌≡◌, OnOk, subst}}
+use Rattle.pim_types.{specs.declared.fact.{RegisterRow.RegisterRow, JoinTimerRow.JoinTimerRow}}
+use Rattle.pim_store.{proofs.{Lowered.same_beside, Indexed.after_registers}, specs.Stored.tables_of}
+use Rattle.pim_model.{specs.Tables.{Table, set_row}}
 use Rattle.pim_store.proofs.store.Store.set_register.Goals as goal
 
 pub set_row-requires-clause-told : goal.set_row-requires-clause-told

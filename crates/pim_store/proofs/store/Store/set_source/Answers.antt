@@ -1,10 +1,7 @@
-use Rattle.pim_types.specs.declared.fact.SourceRow.{SourceRow}
-use Rattle.pim_store.proofs.Lowered.{same_beside}
-use Rattle.pim_store.specs.Stored.{tables_of}
-use Rattle.pim_model.specs.Tables.{Table, set_row}
-use Rattle.pim_types.specs.declared.fact.JoinTimerRow.{JoinTimerRow}
-use Rattle.std.proofs.Common.{◌≡◌, OnOk, subst}
-use Rattle.pim_store.proofs.Indexed.{after_sources}
+use Rattle.pim_types.{specs.declared.fact.{SourceRow.SourceRow, JoinTimerRow.JoinTimerRow}}
+use Rattle.pim_store.{proofs.{Lowered.same_beside, Indexed.after_sources}, specs.Stored.tables_of}
+use Rattle.pim_model.{specs.Tables.{Table, set_row}}
+use Rattle.std.{proofs.Common.{◌≡◌, OnOk, subst}}
 use Rattle.pim_store.proofs.store.Store.set_source.Goals as goal
 
 pub set_row-requires-clause-told : goal.set_row-requires-clause-told

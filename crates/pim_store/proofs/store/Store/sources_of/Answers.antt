@@ -1,5 +1,5 @@
-use Rattle.std.proofs.Common.{◌∙◌}
-use Rattle.pim_store.proofs.Walked.{same_sources}
+use Rattle.std.{proofs.Common.◌∙◌}
+use Rattle.pim_store.{proofs.Walked.same_sources}
 use Rattle.pim_store.proofs.store.Store.sources_of.Goals as goal
 
 pub returns : goal.returns

@@ -1,5 +1,5 @@
-use Rattle.std.proofs.Common.{◌≡◌, length}
-use Rattle.pim_store.specs.Sources.{sources_in}
+use Rattle.std.{proofs.Common.{◌≡◌, length}}
+use Rattle.pim_store.{specs.Sources.sources_in}
 use Rattle.pim_store.proofs.walks.SourcesIterator.next.Given as goal
 
 abbrev pub invariant-loop-key : goal.invariant-loop-key

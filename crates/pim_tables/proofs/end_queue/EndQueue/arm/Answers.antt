@@ -1,5 +1,5 @@
-use Rattle.pim_timers.specs.Armed.{holds}
-use Rattle.pim_tables.proofs.Steps.{armed_beside, row_still_armed}
+use Rattle.pim_timers.{specs.Armed.holds}
+use Rattle.pim_tables.{proofs.Steps.{armed_beside, row_still_armed}}
 use Rattle.pim_tables.proofs.end_queue.EndQueue.arm.Goals as goal
 
 pub returns-clause-before : goal.returns-clause-before

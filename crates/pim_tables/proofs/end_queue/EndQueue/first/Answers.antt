@@ -1,4 +1,4 @@
-use Rattle.pim_tables.proofs.Firsts.{next_is_first}
+use Rattle.pim_tables.{proofs.Firsts.next_is_first}
 use Rattle.pim_tables.proofs.end_queue.EndQueue.first.Goals as goal
 
 pub returns : goal.returns

@@ -1,5 +1,5 @@
-use Rattle.std.proofs.Common.{[], refl}
-use Rattle.pim_tables.proofs.Steps.{none_in_step}
+use Rattle.std.{proofs.Common.{[], refl}}
+use Rattle.pim_tables.{proofs.Steps.none_in_step}
 use Rattle.pim_tables.proofs.end_queue.EndQueue.new.Goals as goal
 
 pub returns : goal.returns

@@ -1,10 +1,8 @@
-use Rattle.std.proofs.Common.{◌∙◌, Some, ap, sym}
-use Rattle.std.specs.Option.{option_copied_mut}
-use Rattle.pim_model.specs.Tables.{keys_in, row_at}
-use Rattle.pim_types.specs.Keys.{addr_cmp, key_cmp}
+use Rattle.std.{proofs.Common.{◌∙◌, Some, ap, sym}, specs.Option.option_copied_mut}
+use Rattle.pim_model.{specs.Tables.{keys_in, row_at}}
+use Rattle.pim_types.{specs.Keys.{addr_cmp, key_cmp}}
+use Rattle.pim_tables.{proofs.{facts.Facts.change.Goals.{in-Some, in_default}, Rows.{absent_is_unchanged, always, written_is_changed}}}
 use Rattle.pim_tables.proofs.facts.Facts.change.Goals as goal
-use Rattle.pim_tables.proofs.facts.Facts.change.Goals.{in-Some, in_default}
-use Rattle.pim_tables.proofs.Rows.{absent_is_unchanged, always, written_is_changed}
 
 pub returns-clause-to : goal.returns-clause-to
 unfolding keys_in key_cmp addr_cmp row_at

@@ -1,6 +1,6 @@
-use Rattle.std.proofs.Common.{◌≤◌, ap, arith, length}
-use Rattle.pim_model.specs.Tables.{rows_on}
-use Rattle.pim_tables.proofs.Counting.{at_most_all}
+use Rattle.std.{proofs.Common.{◌≤◌, ap, arith, length}}
+use Rattle.pim_model.{specs.Tables.rows_on}
+use Rattle.pim_tables.{proofs.Counting.at_most_all}
 use Rattle.pim_tables.proofs.facts.Facts.count_on.Goals as goal
 
 pub overflow_add-count : goal.overflow_add-count

@@ -1,5 +1,5 @@
-use Rattle.std.proofs.Common.{◌≡◌, length, ◌+◌}
-use Rattle.pim_model.specs.Tables.{rows_on}
+use Rattle.std.{proofs.Common.{◌≡◌, length, ◌+◌}}
+use Rattle.pim_model.{specs.Tables.rows_on}
 use Rattle.pim_tables.proofs.facts.Facts.count_on.Given as goal
 
 abbrev pub invariant-loop-row : goal.invariant-loop-row

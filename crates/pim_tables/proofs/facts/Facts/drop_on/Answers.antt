@@ -1,7 +1,7 @@
-use Rattle.std.proofs.Common.{◌<◌, ap, length, subst, sym, ◌∙◌}
-use Rattle.pim_types.specs.Keys.{is_on}
-use Rattle.pim_model.specs.Tables.{drop_where, rows_on}
-use Rattle.pim_tables.proofs.Gone.{fewer, goes_anyhow, none_goes}
+use Rattle.std.{proofs.Common.{◌<◌, ap, length, subst, sym, ◌∙◌}}
+use Rattle.pim_types.{specs.Keys.is_on}
+use Rattle.pim_model.{specs.Tables.{drop_where, rows_on}}
+use Rattle.pim_tables.{proofs.Gone.{fewer, goes_anyhow, none_goes}}
 use Rattle.pim_tables.proofs.facts.Facts.drop_on.Goals as goal
 
 pub loop-first-smaller : goal.loop-first-smaller

@@ -1,6 +1,6 @@
-use Rattle.std.proofs.Common.{◌≡◌, length}
-use Rattle.pim_types.specs.Keys.{is_on}
-use Rattle.pim_model.specs.Tables.{drop_where}
+use Rattle.std.{proofs.Common.{◌≡◌, length}}
+use Rattle.pim_types.{specs.Keys.is_on}
+use Rattle.pim_model.{specs.Tables.drop_where}
 use Rattle.pim_tables.proofs.facts.Facts.drop_on.Given as goal
 
 abbrev pub invariant-loop-first : goal.invariant-loop-first

@@ -1,7 +1,7 @@
-use Rattle.std.proofs.Common.{◌++◌, ap, filter, refl, ◌∙◌}
-use Rattle.pim_model.specs.Tables.{keys_in}
-use Rattle.pim_laws.proofs.FoundRows.{all_found, found, passed}
-use Rattle.pim_tables.proofs.GroupKeys.{rpt_keys_of_group}
+use Rattle.std.{proofs.Common.{◌++◌, ap, filter, refl, ◌∙◌}}
+use Rattle.pim_model.{specs.Tables.keys_in}
+use Rattle.law_settled.{proofs.FoundRows.{all_found, found, passed}}
+use Rattle.pim_tables.{proofs.GroupKeys.rpt_keys_of_group}
 use Rattle.pim_tables.proofs.facts.Facts.push_rpt_keys_at.Goals as goal
 
 pub loop-key-init : goal.loop-key-init

@@ -1,7 +1,7 @@
-use Rattle.std.proofs.Common.{◌++◌, ◌&&◌, filter}
-use Rattle.pim_types.specs.Keys.{is_of_group, is_on}
-use Rattle.pim_model.specs.Tables.{keys_in}
-use Rattle.pim_laws.proofs.FoundRows.{Keeps}
+use Rattle.std.{proofs.Common.{◌++◌, ◌&&◌, filter}}
+use Rattle.pim_types.{specs.Keys.{is_of_group, is_on}}
+use Rattle.pim_model.{specs.Tables.keys_in}
+use Rattle.law_settled.{proofs.FoundRows.Keeps}
 use Rattle.pim_tables.proofs.facts.Facts.push_rpt_keys_at.Given as goal
 
 abbrev pub invariant-loop-key : goal.invariant-loop-key

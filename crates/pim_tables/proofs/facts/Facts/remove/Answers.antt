@@ -1,7 +1,7 @@
-use Rattle.std.proofs.Common.{◌∙◌}
-use Rattle.pim_model.specs.Tables.{keys_in}
-use Rattle.pim_types.specs.Keys.{addr_cmp, key_cmp}
-use Rattle.pim_laws.proofs.RemovalLaws.{removed_is_dropped}
+use Rattle.std.{proofs.Common.◌∙◌}
+use Rattle.pim_model.{specs.Tables.keys_in}
+use Rattle.pim_types.{specs.Keys.{addr_cmp, key_cmp}}
+use Rattle.law_settled.{proofs.RemovalLaws.removed_is_dropped}
 use Rattle.pim_tables.proofs.facts.Facts.remove.Goals as goal
 
 pub returns : goal.returns

@@ -1,6 +1,6 @@
-use Rattle.std.proofs.Common.{ap, is_some, sym, ◌∙◌}
-use Rattle.pim_model.specs.Tables.{has_row}
-use Rattle.pim_tables.proofs.Standing.{has}
+use Rattle.std.{proofs.Common.{ap, is_some, sym, ◌∙◌}}
+use Rattle.pim_model.{specs.Tables.has_row}
+use Rattle.pim_tables.{proofs.Standing.has}
 use Rattle.pim_tables.proofs.placed.Placed.place.Goals as goal
 
 pub returns : goal.returns

@@ -1,6 +1,6 @@
-use Rattle.std.proofs.Common.{◌≡◌, length}
-use Rattle.slab.specs.Slab.{get}
-use Rattle.pim_tables.specs.Places.{rows_placed}
+use Rattle.std.{proofs.Common.{◌≡◌, length}}
+use Rattle.slab.{specs.Slab.get}
+use Rattle.pim_tables.{specs.Places.rows_placed}
 use Rattle.pim_tables.proofs.placed.PlacedRowsIterator.next.Given as goal
 
 abbrev pub invariant-loop-place : goal.invariant-loop-place

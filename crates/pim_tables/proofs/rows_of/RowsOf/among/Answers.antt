@@ -1,9 +1,8 @@
-use Rattle.std.proofs.Common.{ap, filter, subst, sym, ◌∙◌}
-use Rattle.pim_ip.specs.declared.addr.Addr.{Addr}
-use Rattle.pim_types.specs.Keys.{addr_cmp, key_cmp, star_key}
-use Rattle.pim_model.specs.Tables.{keys_in}
-use Rattle.pim_tables.specs.RowsOf.{RiseFrom, is_of}
-use Rattle.pim_tables.proofs.Walks.{all_of_them, begun, begun_at}
+use Rattle.std.{proofs.Common.{ap, filter, subst, sym, ◌∙◌}}
+use Rattle.pim_ip.{specs.declared.addr.Addr.Addr}
+use Rattle.pim_types.{specs.Keys.{addr_cmp, key_cmp, star_key}}
+use Rattle.pim_model.{specs.Tables.keys_in}
+use Rattle.pim_tables.{specs.RowsOf.{RiseFrom, is_of}, proofs.Walks.{all_of_them, begun, begun_at}}
 use Rattle.pim_tables.proofs.rows_of.RowsOf.among.Goals as goal
 
 pub invariant_of-result : goal.invariant_of-result

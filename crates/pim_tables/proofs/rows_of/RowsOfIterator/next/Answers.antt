@@ -1,6 +1,5 @@
-use Rattle.std.proofs.Common.{ap, filter, subst, sym, ◌∙◌}
-use Rattle.pim_tables.specs.RowsOf.{RiseFrom, is_of}
-use Rattle.pim_tables.proofs.Walks.{is_over, risen}
+use Rattle.std.{proofs.Common.{ap, filter, subst, sym, ◌∙◌}}
+use Rattle.pim_tables.{specs.RowsOf.{RiseFrom, is_of}, proofs.Walks.{is_over, risen}}
 use Rattle.pim_tables.proofs.rows_of.RowsOfIterator.next.Goals as goal
 
 pub invariant_of-self-then-not-is_of : goal.invariant_of-self-then-not-is_of

@@ -1,5 +1,5 @@
-use Rattle.pim_timers.specs.Armed.{holds}
-use Rattle.pim_tables.proofs.Steps.{fewer_armed}
+use Rattle.pim_timers.{specs.Armed.holds}
+use Rattle.pim_tables.{proofs.Steps.fewer_armed}
 use Rattle.pim_tables.proofs.timed.Timed+R.drop_on.Goals as goal
 
 pub settle_all-requires : goal.settle_all-requires

@@ -1,4 +1,4 @@
-use Rattle.pim_timers.proofs.Members.{first_copied}
+use Rattle.pim_timers.{proofs.Members.first_copied}
 use Rattle.pim_timers.proofs.dues.Dues.first.Goals as goal
 
 pub returns : goal.returns

@@ -1,4 +1,4 @@
-use Rattle.pim_timers.proofs.Members.{inserted}
+use Rattle.pim_timers.{proofs.Members.inserted}
 use Rattle.pim_timers.proofs.dues.Dues.insert.Goals as goal
 
 pub returns-clause-ok : goal.returns-clause-ok

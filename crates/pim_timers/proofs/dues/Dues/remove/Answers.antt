@@ -1,4 +1,4 @@
-use Rattle.pim_timers.proofs.Members.{removed}
+use Rattle.pim_timers.{proofs.Members.removed}
 use Rattle.pim_timers.proofs.dues.Dues.remove.Goals as goal
 
 pub returns : goal.returns

@@ -1,6 +1,6 @@
-use Rattle.std.proofs.Common.{ap, sym, ◌∙◌}
+use Rattle.std.{proofs.Common.{ap, sym, ◌∙◌}}
+use Rattle.pim_timers.{proofs.Entries.get_contents}
 use Rattle.std.specs.FinMap as finmap
-use Rattle.pim_timers.proofs.Entries.{get_contents}
 use Rattle.pim_timers.proofs.moments.Moments.get.Goals as goal
 
 pub returns : goal.returns

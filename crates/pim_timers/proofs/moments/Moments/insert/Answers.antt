@@ -1,7 +1,6 @@
-use Rattle.std.proofs.Common.{ap, sym, ◌∙◌}
+use Rattle.std.{proofs.Common.{ap, sym, ◌∙◌}}
+use Rattle.pim_timers.{proofs.{Lookups.on_err_always, Entries.{get_contents, inserted}}}
 use Rattle.std.specs.FinMap as finmap
-use Rattle.pim_timers.proofs.Lookups.{on_err_always}
-use Rattle.pim_timers.proofs.Entries.{get_contents, inserted}
 use Rattle.pim_timers.proofs.moments.Moments.insert.Goals as goal
 
 pub returns-in_err-insert-clause-absent : goal.returns-in_err-insert-clause-absent

@@ -1,6 +1,6 @@
-use Rattle.std.proofs.Common.{ap, sym, ◌∙◌}
+use Rattle.std.{proofs.Common.{ap, sym, ◌∙◌}}
+use Rattle.pim_timers.{proofs.Entries.len_contents}
 use Rattle.std.specs.FinMap as finmap
-use Rattle.pim_timers.proofs.Entries.{len_contents}
 use Rattle.pim_timers.proofs.moments.Moments.len.Goals as goal
 
 pub returns : goal.returns

@@ -1,10 +1,6 @@
-use Rattle.std.proofs.Common.{Option, cond, is_some, ap, sym, ◌∙◌}
-use Rattle.std.proofs.lemmas.Bool.{true≢false}
+use Rattle.std.{proofs.{Common.{Option, cond, is_some, ap, sym, ◌∙◌}, lemmas.Bool.true≢false}}
+use Rattle.pim_timers.{specs.Ends.same_timer, proofs.{Entries.{get_contents, inserted, removed}, Held.{not_refused, surely}, Lookups.{get_inserted, get_removed}}}
 use Rattle.std.specs.FinMap as map
-use Rattle.pim_timers.specs.Ends.{same_timer}
-use Rattle.pim_timers.proofs.Entries.{get_contents, inserted, removed}
-use Rattle.pim_timers.proofs.Held.{not_refused, surely}
-use Rattle.pim_timers.proofs.Lookups.{get_inserted, get_removed}
 use Rattle.pim_timers.proofs.moments.Moments.put_back.Goals as goal
 
 pub returns-in-Some : goal.returns-in-Some

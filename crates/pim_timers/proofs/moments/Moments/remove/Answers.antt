@@ -1,6 +1,6 @@
-use Rattle.std.proofs.Common.{ap, sym, ◌∙◌}
+use Rattle.std.{proofs.Common.{ap, sym, ◌∙◌}}
+use Rattle.pim_timers.{proofs.Entries.{get_contents, removed}}
 use Rattle.std.specs.FinMap as finmap
-use Rattle.pim_timers.proofs.Entries.{get_contents, removed}
 use Rattle.pim_timers.proofs.moments.Moments.remove.Goals as goal
 
 pub returns-clause-before : goal.returns-clause-before

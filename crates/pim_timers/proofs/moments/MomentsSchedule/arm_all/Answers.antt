@@ -1,8 +1,6 @@
-use Rattle.std.proofs.Common.{length, ap, arith, ◌∙◌}
+use Rattle.std.{proofs.Common.{length, ap, arith, ◌∙◌}}
+use Rattle.pim_timers.{specs.Armed.holds, proofs.{Arming.{moment_armed, moments_armed, moments_owed}, Entries.len_contents}}
 use Rattle.std.specs.FinMap as map
-use Rattle.pim_timers.specs.Armed.{holds}
-use Rattle.pim_timers.proofs.Arming.{moment_armed, moments_armed, moments_owed}
-use Rattle.pim_timers.proofs.Entries.{len_contents}
 use Rattle.pim_timers.proofs.moments.MomentsSchedule.arm_all.Goals as goal
 
 pub loop-timer-init : goal.loop-timer-init

@@ -1,9 +1,6 @@
-use Rattle.std.proofs.Common.{◌≤◌, ◌+◌, length}
+use Rattle.std.{proofs.Common.{◌≤◌, ◌+◌, length}, specs.Map.lookup}
+use Rattle.pim_timers.{specs.Armed.holds, proofs.{Armed.Owes, Entries.tied}}
 use Rattle.std.specs.FinMap as map
-use Rattle.std.specs.Map.{lookup}
-use Rattle.pim_timers.specs.Armed.{holds}
-use Rattle.pim_timers.proofs.Armed.{Owes}
-use Rattle.pim_timers.proofs.Entries.{tied}
 use Rattle.pim_timers.proofs.moments.MomentsSchedule.arm_all.Given as goal
 
 abbrev pub invariant-loop-timer : goal.invariant-loop-timer

@@ -1,8 +1,5 @@
-use Rattle.std.proofs.Common.{◌∙◌}
-use Rattle.pim_timers.specs.Armed.{holds}
-use Rattle.pim_timers.proofs.Armed.{now_armed, put_grows, put_held, put_kept, same_held}
-use Rattle.pim_timers.proofs.Held.{after_ok, either_way}
-use Rattle.pim_timers.proofs.Together.{other}
+use Rattle.std.{proofs.Common.◌∙◌}
+use Rattle.pim_timers.{specs.Armed.holds, proofs.{Armed.{now_armed, put_grows, put_held, put_kept, same_held}, Held.{after_ok, either_way}, Together.other}}
 use Rattle.pim_timers.proofs.queue.Queue.arm.Goals as goal
 
 pub returns-in-Some-clause-ok : goal.returns-in-Some-clause-ok

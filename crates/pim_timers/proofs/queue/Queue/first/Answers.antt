@@ -1,7 +1,5 @@
-use Rattle.std.proofs.Common.{arith, refl, sym}
-use Rattle.std.proofs.lemmas.Bool.{true≢false}
-use Rattle.pim_timers.specs.Armed.{holds}
-use Rattle.pim_timers.proofs.Held.{none_held, some_first}
+use Rattle.std.{proofs.{Common.{arith, refl, sym}, lemmas.Bool.true≢false}}
+use Rattle.pim_timers.{specs.Armed.holds, proofs.Held.{none_held, some_first}}
 use Rattle.pim_timers.proofs.queue.Queue.first.Goals as goal
 
 pub returns-in-Some : goal.returns-in-Some

@@ -1,9 +1,5 @@
-use Rattle.std.proofs.Common.{Some, arith, subst}
-use Rattle.pim_timers.specs.Armed.{holds}
-use Rattle.pim_timers.specs.Dues.{IsFirst}
-use Rattle.pim_timers.proofs.Armed.{now_armed, put_grows, put_held}
-use Rattle.pim_timers.proofs.SameDues.{is_just}
-use Rattle.pim_timers.proofs.Held.{left_in}
+use Rattle.std.{proofs.Common.{Some, arith, subst}}
+use Rattle.pim_timers.{specs.{Armed.holds, Dues.IsFirst}, proofs.{Armed.{now_armed, put_grows, put_held}, SameDues.is_just, Held.left_in}}
 use Rattle.pim_timers.proofs.queue.Queue.move_first.Goals as goal
 
 pub returns-then-eq-clause-others : goal.returns-then-eq-clause-others

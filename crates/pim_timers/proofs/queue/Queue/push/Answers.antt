@@ -1,9 +1,5 @@
-use Rattle.std.proofs.Common.{◌||◌, ap, ◌∙◌}
-use Rattle.std.specs.List.{list_any}
-use Rattle.pim_timers.specs.Armed.{Entries, holds}
-use Rattle.pim_timers.specs.Dues.{same_due}
-use Rattle.pim_timers.proofs.Held.{pushed}
-use Rattle.pim_timers.proofs.Lookups.{on_err_always}
+use Rattle.std.{proofs.Common.{◌||◌, ap, ◌∙◌}, specs.List.list_any}
+use Rattle.pim_timers.{specs.{Armed.{Entries, holds}, Dues.same_due}, proofs.{Held.pushed, Lookups.on_err_always}}
 use Rattle.pim_timers.proofs.queue.Queue.push.Goals as goal
 
 pub returns-in_err-push-clause-err : goal.returns-in_err-push-clause-err

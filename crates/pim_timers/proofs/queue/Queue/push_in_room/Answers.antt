@@ -1,7 +1,5 @@
-use Rattle.std.proofs.Common.{◌<◌, arith}
-use Rattle.std.specs.BinaryHeap.{heap_capacity, heap_len}
-use Rattle.pim_timers.specs.Armed.{holds}
-use Rattle.pim_timers.proofs.Held.{longer, pushed, pushed_aside, surely}
+use Rattle.std.{proofs.Common.{◌<◌, arith}, specs.BinaryHeap.{heap_capacity, heap_len}}
+use Rattle.pim_timers.{specs.Armed.holds, proofs.Held.{longer, pushed, pushed_aside, surely}}
 use Rattle.pim_timers.proofs.queue.Queue.push_in_room.Goals as goal
 
 has_room : (c : goal.After-push) → heap_len c.self.inside.heap < heap_capacity c.self.inside.heap

@@ -1,8 +1,5 @@
-use Rattle.std.proofs.Common.{◌==◌, Some, not, arith, sym, ap, ◌∙◌}
-use Rattle.std.specs.Option.{option_eq}
-use Rattle.pim_timers.specs.Armed.{holds}
-use Rattle.pim_timers.specs.Ends.{ends_at}
-use Rattle.pim_timers.proofs.Armed.{end_is, moved_armed, no_such_end, real_one, such_an_end}
+use Rattle.std.{proofs.Common.{◌==◌, Some, not, arith, sym, ap, ◌∙◌}, specs.Option.option_eq}
+use Rattle.pim_timers.{specs.{Armed.holds, Ends.ends_at}, proofs.Armed.{end_is, moved_armed, no_such_end, real_one, such_an_end}}
 use Rattle.pim_timers.proofs.queue.Queue.put_right.Goals as goal
 
 pub returns-then-eq-clause-real : goal.returns-then-eq-clause-real

@@ -1,7 +1,5 @@
-use Rattle.std.proofs.Common.{◌≤◌, length, not}
-use Rattle.std.specs.List.{count_by}
-use Rattle.pim_timers.specs.Armed.{AreArmed, holds}
-use Rattle.pim_timers.specs.Ends.{ends_at}
+use Rattle.std.{proofs.Common.{◌≤◌, length, not}, specs.List.count_by}
+use Rattle.pim_timers.{specs.{Armed.{AreArmed, holds}, Ends.ends_at}}
 use Rattle.pim_timers.proofs.queue.Queue.put_right.Given as goal
 
 abbrev pub invariant-loop-first : goal.invariant-loop-first

@@ -1,10 +1,5 @@
-use Rattle.std.proofs.Common.{◌≡◌, ap, arith, ◌∙◌, ◌||◌}
-use Rattle.std.specs.BinaryHeap.{heap_items}
-use Rattle.std.specs.List.Sorted.{IsPermutation}
-use Rattle.std.specs.Prelude.{◌∷◌}
-use Rattle.pim_timers.specs.Armed.{holds}
-use Rattle.pim_timers.specs.Dues.{Due, same_due}
-use Rattle.pim_timers.proofs.Held.{Entry, among, first_popped, popped, popped_one, shorter, upper}
+use Rattle.std.{proofs.Common.{◌≡◌, ap, arith, ◌∙◌, ◌||◌}, specs.{BinaryHeap.heap_items, List.Sorted.IsPermutation, Prelude.◌∷◌}}
+use Rattle.pim_timers.{specs.{Armed.holds, Dues.{Due, same_due}}, proofs.Held.{Entry, among, first_popped, popped, popped_one, shorter, upper}}
 use Rattle.pim_timers.proofs.queue.Queue.take_first.Goals as goal
 
 taken : (c : goal.After-pop) → (x : Entry) × (x.0 ≡ c.args.first)

@@ -1,6 +1,5 @@
-use Rattle.std.proofs.Common.{refl}
-use Rattle.pim_timers.specs.Dues.{is_among}
-use Rattle.pim_timers.proofs.Together.{none_together}
+use Rattle.std.{proofs.Common.refl}
+use Rattle.pim_timers.{specs.Dues.is_among, proofs.Together.none_together}
 use Rattle.pim_timers.proofs.sorted.SortedTimers.new.Goals as goal
 
 pub invariant_of-result : goal.invariant_of-result

@@ -1,6 +1,5 @@
-use Rattle.std.proofs.Common.{sym, ◌∙◌}
-use Rattle.pim_timers.specs.Dues.{is_among}
-use Rattle.pim_timers.proofs.Together.{cancelled, not_set}
+use Rattle.std.{proofs.Common.{sym, ◌∙◌}}
+use Rattle.pim_timers.{specs.Dues.is_among, proofs.Together.{cancelled, not_set}}
 use Rattle.pim_timers.proofs.sorted.SortedTimersTimers.cancel.Goals as goal
 
 pub invariant_of-self : goal.invariant_of-self

@@ -1,6 +1,5 @@
+use Rattle.pim_timers.{specs.Dues.is_among, proofs.Together.first_is_next}
 use Rattle.std.specs.FinMap as map
-use Rattle.pim_timers.specs.Dues.{is_among}
-use Rattle.pim_timers.proofs.Together.{first_is_next}
 use Rattle.pim_timers.proofs.sorted.SortedTimersTimers.next.Goals as goal
 
 pub returns : goal.returns

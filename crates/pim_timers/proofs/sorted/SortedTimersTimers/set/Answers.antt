@@ -1,7 +1,5 @@
-use Rattle.std.proofs.Common.{sym, ap, Some, ◌∙◌, ◌==◌, false, ℕ, ◌≡◌, arith}
-use Rattle.std.proofs.lemmas.Bool.Decides.{nat_tests}
-use Rattle.pim_timers.specs.Dues.{is_among}
-use Rattle.pim_timers.proofs.Together.{set_moved, set_new, set_same, set_undone}
+use Rattle.std.{proofs.{Common.{sym, ap, Some, ◌∙◌, ◌==◌, false, ℕ, ◌≡◌, arith}, lemmas.Bool.Decides.nat_tests}}
+use Rattle.pim_timers.{specs.Dues.is_among, proofs.Together.{set_moved, set_new, set_same, set_undone}}
 use Rattle.pim_timers.proofs.sorted.SortedTimersTimers.set.Goals as goal
 
 differ : (a b : ℕ) → (a ≡ b → ⊥) → (a == b) ≡ false

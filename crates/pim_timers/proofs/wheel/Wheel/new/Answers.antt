@@ -1,8 +1,7 @@
-use Rattle.std.proofs.Common.{length, arith, ap, refl}
+use Rattle.std.{proofs.Common.{length, arith, ap, refl}}
+use Rattle.pim_types.{specs.Timers.timer_cmp}
+use Rattle.pim_timers.{specs.Armed.holds, proofs.Armed.{none_armed, none_real}}
 use Rattle.std.specs.FinMap as map
-use Rattle.pim_types.specs.Timers.{timer_cmp}
-use Rattle.pim_timers.specs.Armed.{holds}
-use Rattle.pim_timers.proofs.Armed.{none_armed, none_real}
 use Rattle.pim_timers.proofs.wheel.Wheel.new.Goals as goal
 
 pub invariant_of-result : goal.invariant_of-result

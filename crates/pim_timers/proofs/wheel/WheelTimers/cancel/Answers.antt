@@ -1,9 +1,6 @@
-use Rattle.std.proofs.Common.{sym, subst, ◌∙◌}
+use Rattle.std.{proofs.Common.{sym, subst, ◌∙◌}}
+use Rattle.pim_timers.{specs.{Armed.{IsSettled, holds}, Schedule.Contents}, proofs.{Changes.{gone_armed, gone_right, none_gone}, Held.not_some}}
 use Rattle.std.specs.FinMap as map
-use Rattle.pim_timers.specs.Armed.{IsSettled, holds}
-use Rattle.pim_timers.specs.Schedule.{Contents}
-use Rattle.pim_timers.proofs.Changes.{gone_armed, gone_right, none_gone}
-use Rattle.pim_timers.proofs.Held.{not_some}
 use Rattle.pim_timers.proofs.wheel.WheelTimers.cancel.Goals as goal
 
 pub settle-requires-clause-armed : goal.settle-requires-clause-armed

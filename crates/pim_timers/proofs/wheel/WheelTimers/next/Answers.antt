@@ -1,6 +1,5 @@
+use Rattle.pim_timers.{specs.Armed.holds, proofs.Armed.first_is_next}
 use Rattle.std.specs.FinMap as map
-use Rattle.pim_timers.specs.Armed.{holds}
-use Rattle.pim_timers.proofs.Armed.{first_is_next}
 use Rattle.pim_timers.proofs.wheel.WheelTimers.next.Goals as goal
 
 pub returns : goal.returns

@@ -1,7 +1,6 @@
-use Rattle.std.proofs.Common.{arith, subst}
+use Rattle.std.{proofs.Common.{arith, subst}}
+use Rattle.pim_timers.{specs.Next.IsNext, proofs.Least.least_moment}
 use Rattle.std.specs.FinMap as map
-use Rattle.pim_timers.specs.Next.{IsNext}
-use Rattle.pim_timers.proofs.Least.{least_moment}
 use Rattle.pim_timers.proofs.wheel.WheelTimers.pop_due.Goals as goal
 
 pub returns-then-due-moment-clause-later : goal.returns-then-due-moment-clause-later

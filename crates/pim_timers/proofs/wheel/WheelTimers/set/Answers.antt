@@ -1,9 +1,6 @@
-use Rattle.std.proofs.Common.{◌≡◌, is_some, sym, ap, subst, ◌∙◌}
+use Rattle.std.{proofs.Common.{◌≡◌, is_some, sym, ap, subst, ◌∙◌}}
+use Rattle.pim_timers.{specs.{Armed.{IsSettled, holds}, Schedule.Contents}, proofs.{Changes.{restored, set_armed, set_right, settled_kept}, Together.own_inserted}}
 use Rattle.std.specs.FinMap as map
-use Rattle.pim_timers.specs.Armed.{IsSettled, holds}
-use Rattle.pim_timers.specs.Schedule.{Contents}
-use Rattle.pim_timers.proofs.Changes.{restored, set_armed, set_right, settled_kept}
-use Rattle.pim_timers.proofs.Together.{own_inserted}
 use Rattle.pim_timers.proofs.wheel.WheelTimers.set.Goals as goal
 
 pub put_back-requires : goal.put_back-requires

@@ -1,4 +1,4 @@
-use Rattle.pim_types.proofs.Packed.{lower_joined}
+use Rattle.pim_types.{proofs.Packed.lower_joined}
 use Rattle.pim_types.proofs.fact.Key.lower.Goals as goal
 
 pub returns : goal.returns

@@ -1,5 +1,5 @@
-use Rattle.std.proofs.Common.{rules}
-use Rattle.pim_types.proofs.Packed.{upper_joined}
+use Rattle.std.{proofs.Common.rules}
+use Rattle.pim_types.{proofs.Packed.upper_joined}
 use Rattle.pim_types.proofs.fact.Key.upper.Goals as goal
 
 pub returns-clause-number : goal.returns-clause-number

@@ -1,5 +1,5 @@
-use Rattle.std.proofs.Common.{◌∙◌}
-use Rattle.pim_types.proofs.Packed.{by_lower, by_upper}
+use Rattle.std.{proofs.Common.◌∙◌}
+use Rattle.pim_types.{proofs.Packed.{by_lower, by_upper}}
 use Rattle.pim_types.proofs.fact.KeyOrd.cmp.Goals as goal
 
 pub returns-then-one-two : goal.returns-then-one-two

@@ -1,8 +1,5 @@
-use Rattle.std.proofs.Common.{◌≡◌, ℕ, ◌+◌, ◌-◌, List, ◌++◌, sym, ap, ◌∙◌, arith, rules}
-use Rattle.pim_wire.specs.declared.join_prune.Entry.{Entry}
-use Rattle.pim_wire.specs.JoinPrunes.{entries_at}
-use Rattle.pim_wire.proofs.Walks.{entries_none, entries_more}
-use Rattle.pim_wire.proofs.Yields.{gives_first, gives_none, is_shorter}
+use Rattle.std.{proofs.Common.{◌≡◌, ℕ, ◌+◌, ◌-◌, List, ◌++◌, sym, ap, ◌∙◌, arith, rules}}
+use Rattle.pim_wire.{specs.{declared.join_prune.Entry.Entry, JoinPrunes.entries_at}, proofs.{Walks.{entries_none, entries_more}, Yields.{gives_first, gives_none, is_shorter}}}
 use Rattle.pim_wire.proofs.join_prune.EntriesIterator.next.Goals as goal
 
 pub returns-then-is_some-clause-steps : goal.returns-then-is_some-clause-steps

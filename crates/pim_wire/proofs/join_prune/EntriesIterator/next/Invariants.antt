@@ -1,6 +1,5 @@
-use Rattle.std.proofs.Common.{◌≡◌}
-use Rattle.pim_wire.specs.JoinPrunes.{entries_at}
-use Rattle.pim_wire.specs.Groups.{HasSources}
+use Rattle.std.{proofs.Common.◌≡◌}
+use Rattle.pim_wire.{specs.{JoinPrunes.entries_at, Groups.HasSources}}
 use Rattle.pim_wire.proofs.join_prune.EntriesIterator.next.Given as goal
 
 -- the entries that were passed over were skipped

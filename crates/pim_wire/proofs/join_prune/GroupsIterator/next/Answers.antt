@@ -1,8 +1,5 @@
-use Rattle.std.proofs.Common.{◌≡◌, ℕ, ◌-◌, List, ◌++◌, sym, ap, ◌∙◌, arith, rules}
-use Rattle.pim_wire.specs.Values.{Group}
-use Rattle.pim_wire.specs.JoinPrunes.{groups_at, after_group}
-use Rattle.pim_wire.proofs.Walks.{groups_at_none, groups_at_more, has_first, has_others}
-use Rattle.pim_wire.proofs.Yields.{gives_first, gives_none, is_shorter}
+use Rattle.std.{proofs.Common.{◌≡◌, ℕ, ◌-◌, List, ◌++◌, sym, ap, ◌∙◌, arith, rules}}
+use Rattle.pim_wire.{specs.{Values.Group, JoinPrunes.{groups_at, after_group}}, proofs.{Walks.{groups_at_none, groups_at_more, has_first, has_others}, Yields.{gives_first, gives_none, is_shorter}}}
 use Rattle.pim_wire.proofs.join_prune.GroupsIterator.next.Goals as goal
 
 pub group_at-group-requires : goal.group_at-group-requires

@@ -1,6 +1,5 @@
-use Rattle.std.proofs.Common.{◌≡◌}
-use Rattle.pim_wire.specs.JoinPrunes.{groups_at}
-use Rattle.pim_wire.specs.Groups.{HasGroups}
+use Rattle.std.{proofs.Common.◌≡◌}
+use Rattle.pim_wire.{specs.{JoinPrunes.groups_at, Groups.HasGroups}}
 use Rattle.pim_wire.proofs.join_prune.GroupsIterator.next.Given as goal
 
 -- the groups that were passed over were skipped

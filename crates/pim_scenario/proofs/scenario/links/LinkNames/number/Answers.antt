@@ -1,6 +1,6 @@
 -- A name that is there keeps its place, and a new one is the last.
-use Rattle.std.proofs.Common.{sym, rules, length, ◌≡◌}
-use Rattle.pim_scenario.proofs.LinkLemmas.{found, fresh, kept_name, new_name}
+use Rattle.std.{proofs.Common.{sym, rules, length, ◌≡◌}}
+use Rattle.pim_scenario.{proofs.LinkLemmas.{found, fresh, kept_name, new_name}}
 use Rattle.pim_scenario.proofs.scenario.links.LinkNames.number.Goals as goal
 
 pub returns-in-Some-clause-place : goal.returns-in-Some-clause-place

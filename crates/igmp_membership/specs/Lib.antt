@@ -1,0 +1,4 @@
+pub mod Listing
+pub mod MembershipTables
+pub mod Sources
+pub mod StaleQueries

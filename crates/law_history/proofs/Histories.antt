@@ -1,0 +1,65 @@
+-- What led a router to its state: it is at rest, and without reloads it is a run.
+use Rattle.std.{proofs.{Common.{◌≡◌, ℕ, nat_le, Bool, true, false, not, List, [], ◌∷◌, map, Ok, refl, sym, subst}, lemmas.List.Elements.{All-cons, All-nil}}, specs.List.All}
+use Rattle.pim_ip.{specs.declared.refusal.Refusal.Refusal}
+use Rattle.pim_types.{specs.declared.{event.Event.Event, outcome.{Ignored.Ignored, Outcome.Outcome}}}
+use Rattle.law_scope.{specs.Rest.IsAtRest, proofs.Rest.{opening_is_at_rest, step_is_at_rest}}
+use Rattle.pim_model.{specs.{Cause.{Past, past_after}, declared.accepted.Accepted.Accepted, Full.is_full, Judging.{down_judged, ignore_if, judged, refuse_if, ◌>>◌}, State.{State, iface_count, is_up, opening}, Step.{change, concluded, done, outcome_of, ran, run, state_after, step, taken, taken_unless_full}}}
+use Rattle.law_reloaded.{specs.Reloading.{down_event, reload, removals}, proofs.Rest.reload_leaves_rest}
+use Rattle.law_history.{specs.{History.{AreAccepted, Given, past_given, state_given}, Laws.{EventsAloneAreARun, EventsAloneAreThePast, LedStatesRest, RemovalsCopyNothing}}}
+
+-- ---- without reloads
+
+pub events_alone_are_a_run : EventsAloneAreARun
+unfolding state_given state_after ran
+events_alone_are_a_run s [] = refl
+events_alone_are_a_run s (e ∷ es) = events_alone_are_a_run (step s e).state es
+
+past_alone : (past : Past) (s : State) (events : List Event)
+    → past_given past s (map Given.Happening events) ≡ past_after past s events
+unfolding past_given past_after
+past_alone past s [] = refl
+past_alone past s (e ∷ es) = past_alone (record { before = s; event = e } ∷ past) (step s e).state es
+
+pub events_alone_are_the_past : EventsAloneAreThePast
+events_alone_are_the_past s events = past_alone [] s events
+
+-- ---- at rest
+
+pub given_rests : (before : List Given) (s : State) → IsAtRest s → AreAccepted before → IsAtRest (state_given s before)
+unfolding state_given
+given_rests [] s rest accepted = rest
+given_rests (Given.Happening e ∷ later) s rest accepted =
+    given_rests later (step s e).state (step_is_at_rest s e rest) accepted
+given_rests (Given.Reload c w ∷ later) s rest accepted =
+    given_rests later (reload s c w).0 (reload_leaves_rest s c w accepted.0 rest) accepted.1
+
+pub led_states_rest : LedStatesRest
+led_states_rest c before s led =
+    subst IsAtRest (sym led.led) (given_rests before (opening c) (opening_is_at_rest c led.accepted) led.reloads)
+
+-- ---- no copy
+
+module _ (s : State) (w i : ℕ) where
+  down_copies : (a u : Bool)
+      → (concluded s (taken_unless_full s w) (refuse_if a Refusal.NoInterface >> ignore_if (not u) Ignored.Already
+      >> Ok (Accepted.Down (record { number = i })))).copies ≡ 0
+  unfolding taken_unless_full is_full taken done change
+  down_copies true u = refl
+  down_copies false true = refl
+  down_copies false false = refl
+
+  step_copies : (step s (down_event w i)).copies ≡ 0
+  unfolding step judged down_judged
+  step_copies = down_copies (nat_le (iface_count s) i) (is_up s i)
+
+downs_copy : (w : ℕ) (is : List ℕ) (s : State) → All (λ (o : Outcome). o.copies ≡ 0) (run s (map (down_event w) is))
+unfolding run ran
+downs_copy w [] s = All-nil (λ (o : Outcome). o.copies ≡ 0)
+downs_copy w (i ∷ is) s =
+    All-cons (λ (o : Outcome). o.copies ≡ 0) (outcome_of (step s (down_event w i)))
+    (run (step s (down_event w i)).state (map (down_event w) is)) (step_copies s w i)
+    (downs_copy w is (step s (down_event w i)).state)
+
+pub removals_copy_nothing : RemovalsCopyNothing
+unfolding removals
+removals_copy_nothing s c w = downs_copy w _ s

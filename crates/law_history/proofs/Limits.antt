@@ -1,0 +1,131 @@
+-- Facts stay within the greatest limit, whatever reloads came.
+use Rattle.std.{proofs.Common.{◌≡◌, ⊎_elim, ◌+◌, ◌≤◌, ℕ, max, Bool, true, false, List, [], ◌∷◌, Ok, Err, refl, sym, ap, subst, ◌∙◌, arith}}
+use Rattle.pim_types.{specs.declared.{config.{Config.Config, Settings.Settings}, event.Event.Event, outcome.Stop.Stop}}
+use Rattle.law_scope.{specs.Rest.IsAtRest, proofs.Rest.{opening_is_at_rest, step_is_at_rest}}
+use Rattle.law_settled.{proofs.UnchangedLaws.full_or_taken}
+use Rattle.pim_model.{specs.{declared.accepted.Accepted.Accepted, Full.{counted, is_full}, Judging.{Judged, judged}, State.{State, opening, settings_of}, Step.{concluded, ran, rps_replaced, state_after, step, taken, taken_unless_full}}}
+use Rattle.law_promises.{specs.Bounded.{AddsAtMost, AddsNone, counted_beside_asserts, needed_by, needed_of}, proofs.{Bounded.{adds_what_is_needed, has_room}, Fewer.settled_none, Within.room}}
+use Rattle.law_reloaded.{specs.Reloading.{hellos_anew, reload, removals, replaced, under}, proofs.Rest.reload_leaves_rest}
+use Rattle.law_history.{specs.{History.{AreAccepted, Given, greatest_limit, state_given}, Laws.FactsStayWithinTheGreatest}, proofs.Histories.given_rests}
+
+-- the facts are within a limit that is no less than the state's own
+record IsUnder (limit : ℕ) (s : State) : Type 0 where
+  facts : counted_beside_asserts s ≤ limit
+  own : s.settings.limit ≤ limit
+
+module _ (limit : ℕ) (s : State) (e : Event) (f : IsUnder limit s) where
+  with_none : (n : ℕ) (t : State) → n ≡ 0 → AddsAtMost n s t → counted_beside_asserts t ≤ limit
+  with_none n t none adds = let x = adds.together in let y = f.facts in omega (arith, none, x, y)
+
+  with_room : (n : ℕ) (t : State) → counted s + n ≤ s.settings.limit → AddsAtMost n s t → counted_beside_asserts t ≤ limit
+  unfolding counted
+  with_room n t fits adds = let x = adds.together in let y = f.own in omega (arith, fits, x, y)
+
+  same : (t : State) → AddsAtMost 0 s t → counted_beside_asserts t ≤ limit
+  same t adds = with_none 0 t refl adds
+
+  taken_under : (a : Accepted) (t : State) → is_full s a ≡ false → AddsAtMost (needed_by s a) s t
+      → counted_beside_asserts t ≤ limit
+  taken_under a t is adds =
+      ⊎_elim (λ (none : needed_by s a ≡ 0). with_none (needed_by s a) t none adds)
+      (λ (fits : counted s + needed_by s a ≤ s.settings.limit). with_room (needed_by s a) t fits adds)
+      (room s (needed_by s a) (has_room s a is))
+
+  full_under : (a : Accepted) (b : Bool) → is_full s a ≡ b → AddsAtMost (needed_by s a) s (full_or_taken s e.draw a b).state
+      → counted_beside_asserts (full_or_taken s e.draw a b).state ≤ limit
+  full_under a true is adds = f.facts
+  full_under a false is adds = taken_under a (taken s e.draw a).state is adds
+
+  concluded_under : (j : Judged) → AddsAtMost (needed_of s j) s (concluded s (taken_unless_full s e.draw) j).state
+      → counted_beside_asserts (concluded s (taken_unless_full s e.draw) j).state ≤ limit
+  unfolding taken_unless_full
+  concluded_under (Err (Stop.Refuse refusal)) adds = f.facts
+  concluded_under (Err (Stop.Ignore reason)) adds = f.facts
+  concluded_under (Ok a) adds = full_under a (is_full s a) refl adds
+
+  step_under : IsAtRest s → IsUnder limit (step s e).state
+  unfolding step
+  step_under rest =
+      let adds : AddsAtMost (needed_of s (judged s e.kind)) s (step s e).state = adds_what_is_needed s e rest.settled in
+      record {
+        facts = concluded_under (judged s e.kind) adds;
+        own = subst (λ (x : Settings). x.limit ≤ limit) (sym adds.settings) f.own;
+      }
+
+run_under : (limit : ℕ) (events : List Event) (s : State) → IsUnder limit s → IsAtRest s
+    → IsUnder limit (state_after s events)
+unfolding state_after ran
+run_under limit [] s f rest = f
+run_under limit (e ∷ es) s f rest =
+    run_under limit es (step s e).state (step_under limit s e f rest) (step_is_at_rest s e rest)
+
+-- ---- a reload
+
+lower : (limit other : ℕ) (s : State) → IsUnder limit s → IsUnder (max limit other) s
+lower limit other s f =
+    let x = f.facts in
+    let y = f.own in
+    record { facts = omega (arith, x); own = omega (arith, y) }
+
+-- as long as the longest that they were
+no_longer : (limit : ℕ) (s t : State) → AddsNone s t → counted_beside_asserts s ≤ limit → counted_beside_asserts t ≤ limit
+no_longer limit s t none le =
+    let a = none.neighbours in
+    let b = none.groups in
+    let c = none.members in
+    let d = none.downstream in
+    let e = none.sources in
+    omega (arith, a, b, c, d, e, le)
+
+moved_facts : (s : State) (c : Config) → counted_beside_asserts (under s c) ≡ counted_beside_asserts s
+unfolding under rps_replaced
+moved_facts s c = refl
+
+moved_limit : (s : State) (c : Config) → (under s c).settings.limit ≡ c.limit
+unfolding under rps_replaced settings_of
+moved_limit s c = refl
+
+greater : (a b : ℕ) → b ≤ max a b
+greater a b = omega arith
+
+replaced_under : (limit : ℕ) (s : State) (c : Config) (w : ℕ) → IsUnder limit s → IsUnder (max limit c.limit) (replaced s c w).0
+unfolding replaced
+replaced_under limit s c w f =
+    let none : AddsNone (under s c) (replaced s c w).0 = settled_none s (under s c, hellos_anew s c.interfaces) w in
+    record {
+      facts = no_longer (max limit c.limit) (under s c) (replaced s c w).0 none
+          (subst (λ (n : ℕ). n ≤ max limit c.limit) (sym (moved_facts s c)) (lower limit c.limit s f).facts);
+      own = subst (λ (n : ℕ). n ≤ max limit c.limit)
+          (sym (ap (λ (x : Settings). x.limit) none.settings ∙ moved_limit s c)) (greater limit c.limit);
+    }
+
+reload_under : (limit : ℕ) (s : State) (c : Config) (w : ℕ) → IsUnder limit s → IsAtRest s
+    → IsUnder (max limit c.limit) (reload s c w).0
+unfolding reload state_after
+reload_under limit s c w f rest =
+    replaced_under limit (state_after s (removals s c w)) c w (run_under limit (removals s c w) s f rest)
+
+-- ---- one after the other
+
+given_under : (before : List Given) (limit : ℕ) (s : State) → IsUnder limit s → IsAtRest s → AreAccepted before
+    → IsUnder (greatest_limit limit before) (state_given s before)
+unfolding greatest_limit state_given
+given_under [] limit s f rest accepted = f
+given_under (Given.Happening e ∷ later) limit s f rest accepted =
+    given_under later limit (step s e).state (step_under limit s e f rest) (step_is_at_rest s e rest) accepted
+given_under (Given.Reload c w ∷ later) limit s f rest accepted =
+    given_under later (max limit c.limit) (reload s c w).0 (reload_under limit s c w f rest)
+    (reload_leaves_rest s c w accepted.0 rest) accepted.1
+
+opening_under : (c : Config) → IsUnder c.limit (opening c)
+unfolding opening settings_of
+opening_under c = record { facts = omega arith; own = omega arith }
+
+pub facts_stay_within_the_greatest : FactsStayWithinTheGreatest
+facts_stay_within_the_greatest c before s events led =
+    let limit : ℕ = greatest_limit c.limit before in
+    let rest : IsAtRest (opening c) = opening_is_at_rest c led.accepted in
+    let after : State = state_given (opening c) before in
+    subst (λ (t : State). counted_beside_asserts (state_after t events) ≤ limit) (sym led.led)
+    (run_under limit events after (given_under before c.limit (opening c) (opening_under c) rest led.reloads)
+    (given_rests before (opening c) rest led.reloads)).facts

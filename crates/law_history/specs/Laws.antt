@@ -1,0 +1,38 @@
+-- What holds of a router after any events and reloads.
+use Rattle.std.{specs.{List.All, Prelude.{List, [], map, ℕ, ◌≡◌, ◌≤◌}}}
+use Rattle.pim_types.{specs.declared.{config.Config.Config, event.Event.Event, outcome.Outcome.Outcome}}
+use Rattle.law_scope.{specs.Rest.IsAtRest}
+use Rattle.pim_model.{specs.{Cause.{OutcomesAreAsked, past_after}, State.{State, opening}, Step.{run, state_after}}}
+use Rattle.law_promises.{specs.Bounded.counted_beside_asserts}
+use Rattle.law_reloaded.{specs.Reloading.removals}
+use Rattle.law_history.{specs.History.{Given, IsLedTo, greatest_limit, past_given, state_given}}
+
+-- Without a reload the state and the past are those of the events.
+abbrev pub EventsAloneAreARun : Type 0
+EventsAloneAreARun = (s : State) (events : List Event) → state_given s (map Given.Happening events) ≡ state_after s events
+
+abbrev pub EventsAloneAreThePast : Type 0
+EventsAloneAreThePast = (s : State) (events : List Event)
+    → past_given [] s (map Given.Happening events) ≡ past_after [] s events
+
+-- A reload sends no copy of a packet: the events by which interfaces go down send none, and all else that it sends are
+-- messages.
+abbrev pub RemovalsCopyNothing : Type 0
+RemovalsCopyNothing = (s : State) (c : Config) (w : ℕ)
+    → All (λ (o : Outcome). o.copies ≡ 0) (run s (removals s c w))
+
+-- Over any events and reloads nothing flows unasked: each copy that a later event makes on a link has its cause in an
+-- earlier event, and the interface didn't go down since, by an event or because a reload removed it.
+abbrev pub NothingFlowsUnaskedOverReloads : Type 0
+NothingFlowsUnaskedOverReloads = (c : Config) (before : List Given) (s : State) (events : List Event) → IsLedTo c before s
+    → OutcomesAreAsked (past_given [] (opening c) before) s events (run s events)
+
+-- The facts that count, without the asserts, stay within the greatest limit of the configurations so far: a lower limit
+-- removes none, and none is made above it.
+abbrev pub FactsStayWithinTheGreatest : Type 0
+FactsStayWithinTheGreatest = (c : Config) (before : List Given) (s : State) (events : List Event) → IsLedTo c before s
+    → counted_beside_asserts (state_after s events) ≤ greatest_limit c.limit before
+
+-- A router is at rest after any events and reloads.
+abbrev pub LedStatesRest : Type 0
+LedStatesRest = (c : Config) (before : List Given) (s : State) → IsLedTo c before s → IsAtRest s

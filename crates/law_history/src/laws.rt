@@ -1,0 +1,32 @@
+//! The laws.
+ghost use Rattle.law_history.specs.Laws.{EventsAloneAreARun, EventsAloneAreThePast, FactsStayWithinTheGreatest, LedStatesRest, NothingFlowsUnaskedOverReloads, RemovalsCopyNothing};
+
+/// Without a reload the state is that of a run.
+pub fn events_alone_are_a_run()
+    ensures { EventsAloneAreARun }
+{}
+
+/// Without a reload the past is that of a run.
+pub fn events_alone_are_the_past()
+    ensures { EventsAloneAreThePast }
+{}
+
+/// The events of a reload send no copy.
+pub fn removals_copy_nothing()
+    ensures { RemovalsCopyNothing }
+{}
+
+/// Over any events and reloads each copy has its cause in an earlier event.
+pub fn nothing_flows_unasked_over_reloads()
+    ensures { NothingFlowsUnaskedOverReloads }
+{}
+
+/// The facts that count, without the asserts, stay within the greatest limit so far.
+pub fn facts_stay_within_the_greatest()
+    ensures { FactsStayWithinTheGreatest }
+{}
+
+/// A router is at rest after any events and reloads.
+pub fn led_states_rest()
+    ensures { LedStatesRest }
+{}

@@ -1,0 +1,66 @@
+-- A running router under another configuration: interfaces that are removed go down, then the configuration is replaced,
+-- and what follows of that is done. Sections are those of RFC 7761.
+use Rattle.std.{specs.{List.{flat_map, range_with_len}, Prelude.{Bool, List, Option, Some, false, filter, length, map, not, slice_get, ℕ, ◌&&◌, ◌++◌, ◌-◌, ◌==◌}}}
+use Rattle.pim_types.{specs.declared.{config.{Config.Config, InterfaceConfig.InterfaceConfig}, event.{Event.Event, EventKind.EventKind}, outcome.{Emission.Emission, Outcome.Outcome}}}
+use Rattle.pim_model.{specs.{Firing.settled, Messages.Message, State.{State, iface_config, iface_count, is_up, settings_of}, Step.{ran, rps_replaced}, Tables.below}}
+
+-- ---- what is removed
+
+-- Interface I goes down, in an event with this draw.
+abbrev pub down_event : ℕ → ℕ → Event
+down_event w i = record { draw = w; kind = EventKind.Down (record { number = i }) }
+
+-- The events by which the interfaces go down that the other configuration doesn't have. Interfaces are numbered in the
+-- order of the configuration, so these are the last ones. One that is down already stays as it is.
+unfoldable pub removals : State → Config → ℕ → List Event
+removals s c w = map (down_event w) (range_with_len (length c.interfaces) (iface_count s - length c.interfaces))
+
+-- ---- what is replaced
+
+-- All facts under another configuration. Where RP(G) is another one, the registers of G change as RP changed (4.4.1).
+-- here: facts stay, whatever the new limit; where they are more, an event that needs new ones is refused
+unfoldable pub under : State → Config → State
+under s c = rps_replaced (record s { settings = settings_of c; configured = c.interfaces; routes = c.routes }) c.rps
+
+-- ---- Hellos
+
+-- A Hello of an interface says the same by both configurations: from the same address the same priority and delays.
+unfoldable pub says_same : InterfaceConfig → InterfaceConfig → Bool
+says_same a b =
+    (a.address.bits == b.address.bits) && (a.priority == b.priority)
+    && (a.propagation_delay == b.propagation_delay) && (a.override_interval == b.override_interval)
+
+-- An interface is in both configurations, and its Hello says something else by the second.
+abbrev pub says_other : Option InterfaceConfig → Option InterfaceConfig → Bool
+says_other (Some a) (Some b) = not (says_same a b)
+says_other _ _ = false
+
+-- The interface is up, and its Hello says something else when these are the configured interfaces.
+unfoldable pub tells_anew : State → List InterfaceConfig → ℕ → Bool
+tells_anew s configured i = is_up s i && says_other (iface_config s i) (slice_get configured i)
+
+-- "After an interface has changed its IP address, it MUST send a Hello message with its new IP address" (4.3.1): the
+-- Hello leaves at once. "The Hello Timer should not be reset except when it expires" (4.3.1): it isn't.
+-- here: the same for another priority or delay, so that the neighbours elect the DR (4.3.2) and take the delays (4.3.3)
+-- by what the router goes by
+-- here: no Hello with holdtime 0 leaves from an address that changes
+unfoldable pub hellos_anew : State → List InterfaceConfig → List Message
+hellos_anew s configured = map Message.Hello (filter (tells_anew s configured) (below (length configured)))
+
+-- ---- a whole reload
+
+-- The state after the configuration is replaced, with what follows of that, and what that sends.
+unfoldable pub replaced : State → Config → ℕ → State × List Emission
+replaced s c w = settled s (under s c, hellos_anew s c.interfaces) w
+
+-- what outcomes sent, in their order
+unfoldable pub sent_by : List Outcome → List Emission
+sent_by outcomes = flat_map (λ (o : Outcome). o.emissions) outcomes
+
+-- The state after a reload with another configuration, and what leaves by it. The draw is that of each event and of
+-- what follows.
+unfoldable pub reload : State → Config → ℕ → State × List Emission
+reload s c w =
+    let gone : List Outcome × State = ran s (removals s c w) in
+    let after : State × List Emission = replaced gone.1 c w in
+    (after.0, sent_by gone.0 ++ after.1)

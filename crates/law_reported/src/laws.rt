@@ -1,0 +1,70 @@
+//! A plane that reports a source's last packet by `keep`. Laws of the definitions, each the contract of a function with
+//! nothing to do.
+
+ghost use Rattle.law_reported.specs.AtOnce.{AdvanceAtOnce, KeptAtOnce};
+ghost use Rattle.law_reported.specs.Documented.{DocumentedPlaneIsSound, PlainActsAreRight};
+ghost use Rattle.law_reported.specs.Guests.{SplitRouterByOffersIsSound};
+ghost use Rattle.law_reported.specs.Kept.{KeptInAnyOrder, KeptIsCaughtUp, SplitRouterByKeepIsSound};
+ghost use Rattle.law_reported.specs.Silent.{CatchesUpSilently};
+ghost use Rattle.law_reported.specs.Near.{EachKeepaliveIsNear};
+
+/// Each keepalive timer that runs expires at most 210 s after the present time.
+#[tactic(auto, using(crate::proofs::NearEnds::each_keepalive_is_near))]
+pub fn each_keepalive_is_near()
+    ensures { EachKeepaliveIsNear }
+{}
+
+/// What a plane reports by `keep` leaves the core in the state in which each packet at its own timestamp does.
+#[tactic(auto, using(crate::proofs::KeptSplits::kept_is_caught_up))]
+pub fn kept_is_caught_up()
+    ensures { KeptIsCaughtUp }
+{}
+
+/// A router whose plane reports its notes by `keep` sends what a router sends that gets every packet as an event.
+#[tactic(auto, using(crate::proofs::KeptSplits::split_router_by_keep_is_sound))]
+pub fn split_router_by_keep_is_sound()
+    ensures { SplitRouterByKeepIsSound }
+{}
+
+/// Notes that are reported by `keep` may come in any order, those that are reported as seen packets by their
+/// timestamps.
+#[tactic(auto, using(crate::proofs::KeptOrders::kept_in_any_order))]
+pub fn kept_in_any_order()
+    ensures { KeptInAnyOrder }
+{}
+
+/// A router whose plane keeps rows of sources without a fact until they may differ sends what a router sends that gets
+/// every packet.
+#[tactic(auto, using(crate::proofs::GuestSplits::split_router_by_offers_is_sound))]
+pub fn split_router_by_offers_is_sound()
+    ensures { SplitRouterByOffersIsSound }
+{}
+
+/// An Advance within which no timer expires, and a later one, are the later one alone.
+#[tactic(auto, using(crate::proofs::AtOnce::advance_at_once))]
+pub fn advance_at_once()
+    ensures { AdvanceAtOnce }
+{}
+
+/// After its notes a plane may have the router advance past its next timer at once.
+#[tactic(auto, using(crate::proofs::KeptAtOnces::kept_at_once))]
+pub fn kept_at_once()
+    ensures { KeptAtOnce }
+{}
+
+/// A plane as it is documented sends what a router alone sends.
+#[tactic(auto, using(crate::proofs::DocumentedPlanes::documented_plane_is_sound))]
+pub fn documented_plane_is_sound()
+    ensures { DocumentedPlaneIsSound }
+{}
+
+/// Any list of events is one of a plane as it is documented.
+pub fn plain_acts_are_right()
+    ensures { PlainActsAreRight }
+{}
+
+/// While notes are reported the router sends nothing.
+#[tactic(auto, using(crate::proofs::Silent::catches_up_silently))]
+pub fn catches_up_silently()
+    ensures { CatchesUpSilently }
+{}

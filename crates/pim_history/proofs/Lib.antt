@@ -1,4 +1,0 @@
-pub mod EachStep
-pub mod Asked
-pub mod Limits
-pub mod Histories

@@ -1,4 +1,0 @@
-pub mod Listing
-pub mod MembershipTables
-pub mod Sources
-pub mod Unrecorded

@@ -1,5 +1,0 @@
-use Rattle.pim_offload.proofs.Keeps.{keep_is_at_rest}
-use Rattle.pim_offload.proofs.plane.keep_is_at_rest.Goals as goal
-
-pub returns : goal.returns
-returns c = keep_is_at_rest

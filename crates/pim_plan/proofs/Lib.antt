@@ -1,0 +1,18 @@
+mod Asserted
+mod Direct
+mod Growing
+mod Heard
+mod IgmpFacts
+mod Machines
+mod MovedEnds
+mod MovedReports
+pub mod OtherRoutes
+mod Packets
+mod Plans
+pub mod Repeats
+pub mod Sourced
+mod Stopped
+mod Tables
+pub mod Touching
+pub mod Tunnelled
+mod WonAgain

@@ -1,0 +1,27 @@
+//! Keys that are opened one by one, where they are few.
+ghost use Rattle.std.specs.Prelude.{◌≡◌, length, nat_lt};
+ghost use Rattle.pim_plan.specs.Few.{few_or_all};
+
+use pim_state::Touched;
+use pim_types::{Key, Series};
+
+// The most keys that are opened one by one.
+const MOST_OPENED: usize = 256;
+
+/// Whether there are more than 256 keys.
+pub(crate) fn are_many(keys: &[Key]) -> bool
+    ensures { result ≡ nat_lt 256 (length keys.now) }
+{
+    keys.len() > MOST_OPENED
+}
+
+/// The given keys, or all where there are more than 256: each touched group is looked for among the keys, so that the
+/// cost grows with their square.
+pub fn few_or_all(keys: Vec<Key>) -> Touched
+    ensures { result ≡ few_or_all keys.items }
+{
+    if are_many(&keys) {
+        return Touched::All;
+    }
+    Touched::Keys(Series::from_vec(keys))
+}

@@ -1,5 +1,0 @@
-use Rattle.pim_promises.proofs.Own.{data_gives_copies_or_assert}
-use Rattle.pim_promises.proofs.laws.data_gives_copies_or_assert.Goals as goal
-
-pub returns : goal.returns
-returns c = data_gives_copies_or_assert

@@ -1,5 +1,0 @@
-use Rattle.pim_promises.proofs.LiesUnder.{each_lies_under}
-use Rattle.pim_promises.proofs.laws.each_lies_under.Goals as goal
-
-pub returns : goal.returns
-returns c = each_lies_under

@@ -1,5 +1,0 @@
-use Rattle.pim_promises.proofs.Hops.{hops_end}
-use Rattle.pim_promises.proofs.laws.hops_end.Goals as goal
-
-pub returns : goal.returns
-returns c = hops_end

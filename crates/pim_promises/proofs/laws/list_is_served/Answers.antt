@@ -1,5 +1,0 @@
-use Rattle.pim_promises.proofs.Served.{list_is_served}
-use Rattle.pim_promises.proofs.laws.list_is_served.Goals as goal
-
-pub returns : goal.returns
-returns c = list_is_served

@@ -1,5 +1,0 @@
-use Rattle.pim_promises.proofs.Own.{register_gives_copies_and_stop}
-use Rattle.pim_promises.proofs.laws.register_gives_copies_and_stop.Goals as goal
-
-pub returns : goal.returns
-returns c = register_gives_copies_and_stop

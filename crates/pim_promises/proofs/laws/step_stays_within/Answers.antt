@@ -1,5 +1,0 @@
-use Rattle.pim_promises.proofs.Bounded.{step_stays_within}
-use Rattle.pim_promises.proofs.laws.step_stays_within.Goals as goal
-
-pub returns : goal.returns
-returns c = step_stays_within

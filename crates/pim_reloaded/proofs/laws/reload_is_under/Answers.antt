@@ -1,5 +1,0 @@
-use Rattle.pim_reloaded.proofs.Ground.{reload_is_under}
-use Rattle.pim_reloaded.proofs.laws.reload_is_under.Goals as goal
-
-pub returns : goal.returns
-returns c = reload_is_under

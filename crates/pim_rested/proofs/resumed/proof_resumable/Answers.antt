@@ -1,0 +1,8 @@
+use Rattle.pim_rested.proofs.resumed.proof_resumable.Goals as goal
+
+pub returns : goal.returns
+returns c = record {
+  held = c.proof_held.ensures c.requires.accepted;
+  accepted = c.requires.accepted;
+  rest = c.requires.rest;
+}

@@ -1,0 +1,28 @@
+//! Networks that meet the premises of the laws of streams, computed by the kernel.
+ghost use Rattle.pim_runs.specs.StreamChain.{NextIsServed, NoneEnds, SecondBegins, WayStreams};
+ghost use Rattle.pim_runs.specs.Switch.{Switches};
+
+/// Two routers below the RP pass the stream, the first to a host and the second to a router.
+pub fn way_streams()
+    ensures { WayStreams }
+{}
+
+/// The second router begins to pass it with the Join that it takes.
+pub fn second_begins()
+    ensures { SecondBegins }
+{}
+
+/// In 290 s of packets, repeated Joins and reports nothing ends it.
+pub fn none_ends_it()
+    ensures { NoneEnds }
+{}
+
+/// The third Register of the stream brings its packet to the host, with a TTL that is just enough.
+pub fn next_is_served()
+    ensures { NextIsServed }
+{}
+
+/// The first packet on the tree of the source ends passing from the shared tree and begins it from that of the source.
+pub fn switches()
+    ensures { Switches }
+{}

@@ -1,5 +1,0 @@
-use Rattle.pim_served.proofs.Timed.{run_is_timed}
-use Rattle.pim_served.proofs.laws.run_is_timed.Goals as goal
-
-pub returns : goal.returns
-returns c = run_is_timed

@@ -1,4 +1,0 @@
-use Rattle.pim_store.proofs.join_timers.LentHoldingJoinTimerRow.count.Goals as goal
-
-pub returns : goal.returns
-returns c = rw (← c.self.view_is) c.self.invariant.counted

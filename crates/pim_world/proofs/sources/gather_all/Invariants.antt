@@ -1,7 +1,0 @@
-use Rattle.std.proofs.Common.{◌≡◌}
-use Rattle.pim_world.specs.Groups.{gathered, numbers_of}
-use Rattle.pim_world.proofs.sources.gather_all.Given as goal
-
-abbrev pub invariant-loop-source : goal.invariant-loop-source
-invariant-loop-source l =
-    gathered l.source-iterator (numbers_of l.found.entries) ≡ gathered l.fn.sources (numbers_of l.fn.found.entries)

@@ -1,9 +1,0 @@
-use Rattle.std.proofs.Common.{nat_lt, length, ◌∙◌}
-use Rattle.std.specs.List.{list_all}
-use Rattle.pim_types.specs.Keys.{iface_in}
-use Rattle.pim_world.proofs.world.World.reconfigure.Goals as goal
-
-pub reconfigure-requires : goal.reconfigure-requires
-reconfigure-requires c =
-    (λ j. list_all (λ e. nat_lt (iface_in e.0) (length (c.other.view_is j).configured)) (c.self.view_is j).interfaces)
-    ∙ c.requires.below

@@ -1,6 +1,0 @@
--- Preferences of 31 bits, as an Assert has them.
-use Rattle.std.specs.Prelude.{IfSome, Option, ◌<◌, ◌^◌}
-use Rattle.pim_types.specs.declared.path.Path.{Path}
-
-abbrev pub IsShort : Option Path → Type 0
-IsShort path = IfSome path (λ (p : Path). p.preference < 2 ^ 31)

@@ -1,0 +1,252 @@
+//! What is written, compared with bytes that come from outside.
+use igmp_wire::{GroupRecord, QueryHeader, RecordType, write_query, write_report};
+use pim_ip::{Addr, read_ipv4, sum16, write_copy, write_igmp_packet, write_pim_packet};
+use pim_wire::{
+    Entry, EntryKind, write_assert, write_hello, write_join_prune, write_null_register,
+    write_register, write_register_stop,
+};
+use std::process::Abort;
+use std::test::Fail;
+
+const GROUP: Addr = Addr { bits: 0xE101_0101 };
+
+const RP: Addr = Addr { bits: 0x0A09_0909 };
+
+const SOURCE: Addr = Addr { bits: 0x0A00_0305 };
+
+const SENDER: Addr = Addr { bits: 0x0A00_0205 };
+
+const UPSTREAM: Addr = Addr { bits: 0x0A00_0001 };
+
+const ALL_SYSTEMS: Addr = Addr { bits: 0xE000_0001 };
+
+const ALL_PIM_ROUTERS: Addr = Addr { bits: 0xE000_000D };
+
+// Before a PIM message of 34 bytes.
+const PIM_HEADER: &[u8] = &[
+    0x45, 0xC0, 0x00, 0x36, 0x00, 0x00, 0x00, 0x00, 0x01, 0x67, 0xCD, 0x92, 0x0A, 0x00, 0x01, 0x02,
+    0xE0, 0x00, 0x00, 0x0D,
+];
+
+// Before an IGMP message of 12 bytes.
+const IGMP_HEADER: &[u8] = &[
+    0x46, 0xC0, 0x00, 0x24, 0x00, 0x00, 0x00, 0x00, 0x01, 0x02, 0x3A, 0x11, 0x0A, 0x00, 0x00, 0x02,
+    0xE0, 0x00, 0x00, 0x01, 0x94, 0x04, 0x00, 0x00,
+];
+
+const HELLO: &[u8] = &[
+    0x20, 0x00, 0xD3, 0x9E, 0x00, 0x01, 0x00, 0x02, 0x00, 0x69, 0x00, 0x02, 0x00, 0x04, 0x01, 0xF4,
+    0x09, 0xC4, 0x00, 0x13, 0x00, 0x04, 0x00, 0x00, 0x00, 0x01, 0x00, 0x14, 0x00, 0x04, 0x00, 0x00,
+    0x00, 0x07,
+];
+
+const JOIN_AND_PRUNE: &[u8] = &[
+    0x23, 0x00, 0xBF, 0xAF, 0x01, 0x00, 0x0A, 0x00, 0x00, 0x01, 0x00, 0x01, 0x00, 0xD2, 0x01, 0x00,
+    0x00, 0x20, 0xE1, 0x01, 0x01, 0x01, 0x00, 0x01, 0x00, 0x01, 0x01, 0x00, 0x07, 0x20, 0x0A, 0x09,
+    0x09, 0x09, 0x01, 0x00, 0x05, 0x20, 0x0A, 0x00, 0x03, 0x05,
+];
+
+const SOURCE_JOIN: &[u8] = &[
+    0x23, 0x00, 0xDA, 0xE2, 0x01, 0x00, 0x0A, 0x00, 0x00, 0x01, 0x00, 0x01, 0x00, 0xD2, 0x01, 0x00,
+    0x00, 0x20, 0xE1, 0x01, 0x01, 0x01, 0x00, 0x01, 0x00, 0x00, 0x01, 0x00, 0x05, 0x20, 0x0A, 0x00,
+    0x03, 0x05,
+];
+
+// A UDP packet.
+const PACKET: &[u8] = &[
+    0x45, 0x00, 0x00, 0x1C, 0x00, 0x00, 0x00, 0x00, 0x40, 0x11, 0x8C, 0xCA, 0x0A, 0x00, 0x02, 0x05,
+    0xE1, 0x01, 0x01, 0x01, 0x00, 0x01, 0x00, 0x02, 0x00, 0x03, 0x00, 0x04,
+];
+
+// The copy of the data packet that leaves: its TTL is one lower.
+const COPY: &[u8] = &[
+    0x45, 0x00, 0x00, 0x1C, 0x00, 0x00, 0x00, 0x00, 0x3F, 0x11, 0x8D, 0xCA, 0x0A, 0x00, 0x02, 0x05,
+    0xE1, 0x01, 0x01, 0x01, 0x00, 0x01, 0x00, 0x02, 0x00, 0x03, 0x00, 0x04,
+];
+
+const REGISTER: &[u8] = &[
+    0x21, 0x00, 0xDE, 0xFF, 0x00, 0x00, 0x00, 0x00, 0x45, 0x00, 0x00, 0x1C, 0x00, 0x00, 0x00, 0x00,
+    0x40, 0x11, 0x8C, 0xCA, 0x0A, 0x00, 0x02, 0x05, 0xE1, 0x01, 0x01, 0x01, 0x00, 0x01, 0x00, 0x02,
+    0x00, 0x03, 0x00, 0x04,
+];
+
+const NULL_REGISTER: &[u8] = &[
+    0x21, 0x00, 0x9E, 0xFF, 0x40, 0x00, 0x00, 0x00, 0x45, 0x00, 0x00, 0x14, 0x00, 0x00, 0x00, 0x00,
+    0x01, 0x67, 0xCB, 0x7C, 0x0A, 0x00, 0x02, 0x05, 0xE1, 0x01, 0x01, 0x01,
+];
+
+const REGISTER_STOP: &[u8] = &[
+    0x22, 0x00, 0xED, 0xD7, 0x01, 0x00, 0x00, 0x20, 0xE1, 0x01, 0x01, 0x01, 0x01, 0x00, 0x0A, 0x00,
+    0x02, 0x05,
+];
+
+const STAR_ASSERT: &[u8] = &[
+    0x25, 0x00, 0x76, 0x5A, 0x01, 0x00, 0x00, 0x20, 0xE1, 0x01, 0x01, 0x01, 0x01, 0x00, 0x00, 0x00,
+    0x00, 0x00, 0x80, 0x00, 0x00, 0x6E, 0x00, 0x00, 0x00, 0x14,
+];
+
+const ASSERT: &[u8] = &[
+    0x25, 0x00, 0xE9, 0x55, 0x01, 0x00, 0x00, 0x20, 0xE1, 0x01, 0x01, 0x01, 0x01, 0x00, 0x0A, 0x00,
+    0x03, 0x05, 0x00, 0x00, 0x00, 0x6E, 0x00, 0x00, 0x00, 0x14,
+];
+
+// A query of a source of a group.
+const OF_SOURCE: &[u8] = &[
+    0x11, 0x0A, 0xFE, 0x6F, 0xE1, 0x01, 0x01, 0x01, 0x02, 0x7D, 0x00, 0x01, 0x0A, 0x00, 0x02, 0x05,
+];
+
+// A query of 225.1.1.1 with S set and no source.
+const SUPPRESSED: &[u8] = &[
+    0x11, 0x0A, 0x02, 0x76, 0xE1, 0x01, 0x01, 0x01, 0x0A, 0x7D, 0x00, 0x00,
+];
+
+// Two records, the first with two sources.
+const TWO_RECORDS: &[u8] = &[
+    0x22, 0x00, 0xF9, 0xE9, 0x00, 0x00, 0x00, 0x02, 0x05, 0x00, 0x00, 0x02, 0xE1, 0x01, 0x01, 0x01,
+    0x0A, 0x00, 0x02, 0x05, 0x0A, 0x00, 0x02, 0x06, 0x03, 0x00, 0x00, 0x00, 0xE1, 0x01, 0x01, 0x02,
+];
+
+// A comparison written out in a body costs a proof of its own there, so tests call this one.
+fn same(rt: &impl Abort, got: &[u8], want: &[u8]) {
+    assert_eq!(rt; got, want);
+}
+
+// Compares what was written, and empties it.
+fn take_written(rt: &impl Abort, out: &mut Vec<u8>, want: &[u8]) {
+    same(rt, out, want);
+    out.clear();
+}
+
+// Compares how long a packet is and its header, and empties it.
+fn take_packet(rt: &impl Abort, out: &mut Vec<u8>, length: usize, header: &[u8]) {
+    assert_eq!(rt; out.len(), length);
+    out.truncate(header.len());
+    take_written(rt, out, header);
+}
+
+fn sums_to(rt: &impl Abort, bytes: &[u8], sum: u16) {
+    assert_eq!(rt; sum16(bytes), sum);
+}
+
+#[test]
+fn prints_addresses(rt: HostRuntime) -> Result<(), Fail> {
+    let text = SENDER.to_string(rt.alloc())?;
+    same(&rt, text.as_bytes(), "10.0.2.5".as_bytes());
+    Ok(())
+}
+
+#[test]
+fn sums_words(rt: HostRuntime) {
+    // The example of RFC 1071, and the same with its last byte cut off.
+    let bytes = [0x00, 0x01, 0xF2, 0x03, 0xF4, 0xF5, 0xF6, 0xF7];
+    sums_to(&rt, &bytes, 0x220D);
+    sums_to(&rt, &bytes[..7], 0x2304);
+}
+
+#[test]
+fn writes_packets(rt: HostRuntime) -> Result<(), Fail> {
+    let mut out = Vec::new(rt.alloc());
+    let source = Addr { bits: 0x0A00_0102 };
+    write_pim_packet(1, source, ALL_PIM_ROUTERS, &[0x20; 34], &mut out)?;
+    take_packet(&rt, &mut out, 54, PIM_HEADER);
+    let source = Addr { bits: 0x0A00_0002 };
+    write_igmp_packet(source, ALL_SYSTEMS, &[0x11; 12], &mut out)?;
+    take_packet(&rt, &mut out, 36, IGMP_HEADER);
+    Ok(())
+}
+
+#[test]
+fn copies_a_packet(rt: HostRuntime) -> Result<(), Fail> {
+    let packet = read_ipv4(PACKET)?;
+    let mut out = Vec::new(rt.alloc());
+    write_copy(&packet, &mut out)?;
+    take_written(&rt, &mut out, COPY);
+    Ok(())
+}
+
+#[test]
+fn writes_hellos(rt: HostRuntime) -> Result<(), Fail> {
+    let mut out = Vec::new(rt.alloc());
+    write_hello(500, 2500, 1, 7, &mut out)?;
+    take_written(&rt, &mut out, HELLO);
+    Ok(())
+}
+
+#[test]
+fn writes_join_prunes(rt: HostRuntime) -> Result<(), Fail> {
+    let star = Entry {
+        kind: EntryKind::Star,
+        address: RP,
+    };
+    let source = Entry {
+        kind: EntryKind::SourceRpt,
+        address: SOURCE,
+    };
+    let mut out = Vec::new(rt.alloc());
+    write_join_prune(UPSTREAM, GROUP, &[star], &[source], &mut out)?;
+    take_written(&rt, &mut out, JOIN_AND_PRUNE);
+    write_join_prune(UPSTREAM, GROUP, &[source], &[], &mut out)?;
+    take_written(&rt, &mut out, SOURCE_JOIN);
+    Ok(())
+}
+
+#[test]
+fn writes_registers(rt: HostRuntime) -> Result<(), Fail> {
+    let mut out = Vec::new(rt.alloc());
+    write_register(PACKET, &mut out)?;
+    take_written(&rt, &mut out, REGISTER);
+    write_null_register(SENDER, GROUP, &mut out)?;
+    take_written(&rt, &mut out, NULL_REGISTER);
+    write_register_stop(GROUP, SENDER, &mut out)?;
+    take_written(&rt, &mut out, REGISTER_STOP);
+    Ok(())
+}
+
+#[test]
+fn writes_asserts(rt: HostRuntime) -> Result<(), Fail> {
+    let mut out = Vec::new(rt.alloc());
+    write_assert(GROUP, Addr { bits: 0 }, true, 110, 20, &mut out)?;
+    take_written(&rt, &mut out, STAR_ASSERT);
+    write_assert(GROUP, SOURCE, false, 110, 20, &mut out)?;
+    take_written(&rt, &mut out, ASSERT);
+    Ok(())
+}
+
+#[test]
+fn writes_queries(rt: HostRuntime) -> Result<(), Fail> {
+    let suppressed = QueryHeader {
+        max_response_code: 10,
+        group: GROUP,
+        suppress: true,
+        robustness: 2,
+        interval_code: 125,
+    };
+    let asking = QueryHeader {
+        suppress: false,
+        ..suppressed
+    };
+    let mut out = Vec::new(rt.alloc());
+    write_query(&mut out, &suppressed, &[])?;
+    take_written(&rt, &mut out, SUPPRESSED);
+    write_query(&mut out, &asking, &[SENDER])?;
+    take_written(&rt, &mut out, OF_SOURCE);
+    Ok(())
+}
+
+#[test]
+fn writes_reports(rt: HostRuntime) -> Result<(), Fail> {
+    let allow = GroupRecord {
+        record_type: RecordType::Allow,
+        group: GROUP,
+        sources: &[SENDER, Addr { bits: 0x0A00_0206 }],
+    };
+    let leave = GroupRecord {
+        record_type: RecordType::ToInclude,
+        group: Addr { bits: 0xE101_0102 },
+        sources: &[],
+    };
+    let mut out = Vec::new(rt.alloc());
+    write_report(&mut out, &[allow, leave])?;
+    take_written(&rt, &mut out, TWO_RECORDS);
+    Ok(())
+}
