@@ -2,7 +2,7 @@
 use Rattle.std.{proofs.{Common.{◌≡◌, ◌==◌, ◌||◌, ◌+◌, ◌++◌, ℕ, Bool, true, false, not, cond, List, [], ◌∷◌, filter, map, min, Option, Some, None, refl, sym, ap, subst, ◌∙◌, arith}, lemmas.{Bool.{or_left, or_right}, List.Folds.list_any-append}}, specs.{List.{list_all, list_any}, Prelude.if◌then◌else◌}}
 use Rattle.pim_types.{specs.{declared.{fact.{AssertRow.AssertRow, InterfaceRow.InterfaceRow, JoinTimerRow.JoinTimerRow, Key.Key, NeighbourRow.NeighbourRow}, path.Path.Path, timer.TimerKind.TimerKind}, Keys.{iface_in, is_on, neighbour_key, source_in}}, proofs.Keys.equal_keys}
 use Rattle.pim_wire.{specs.declared.hello.Hello.Hello as HelloValue}
-use Rattle.pim_model.{specs.{Downstream.holdtime_end_from, Firing.fired, Hellos.{hello_holdtime_of, hello_received, hello_triggered, hellos_triggered, is_generation_changed, is_lost_to, neighbour_due, neighbour_replaced, neighbour_restarted, neighbours_replaced, triggered_hello_delay}, Neighbours.{is_dr, is_neighbour}, Reach.own_firing, State.State, Tables.{Table, delay_in, has_row, keys_in, rows_where, same_bool, set_row}, Timers.Ending, Upstream.fact_keys}}
+use Rattle.pim_model.{specs.{Firing.fired, Hellos.{hello_holdtime_of, hello_received, hello_triggered, hellos_triggered, is_generation_changed, is_lost_to, neighbour_due, neighbour_replaced, neighbour_restarted, neighbours_replaced, row_of_hello, triggered_hello_delay}, Neighbours.{is_dr, is_neighbour}, Reach.own_firing, State.State, Tables.{Table, delay_in, has_row, keys_in, rows_where, same_bool, set_row}, Timers.Ending, Upstream.fact_keys}}
 use Rattle.law_settled.{proofs.{FewerFacts.{IsFewer, fewer_both, fewer_so, no_other, rows_left, table_fewer}, ListLaws.{each_of_all, list_of_each}, Parts.{Asserts, JoinTimers}, RowLaws.has_row_put}}
 use Rattle.law_scope.{specs.{Locality.{AgreesBut, touching}, Scopes.{only_up, only_winner, reads, scope}}}
 use Rattle.law_named.{specs.Adjacent.{AdjoinsAlone, AreSourced, dr_keys, end_keeps_dr, has_same_hop, hello_keeps_dr, is_still_neighbour, is_touched_where_hop_differs, keys_of_end, keys_of_hello, keys_of_neighbour, keys_towards, lost_keys, with_neighbour_rows}, proofs.{LinkKeys.dr_served, OneRow.{SetsOne, dr_kept, same_next_hop}, Towards.{all_taken, all_winners, led_among, lost_among}}}
@@ -119,18 +119,6 @@ module _ (s : State) (i a w : ℕ) (h : HelloValue) where
   abbrev changed : Bool
   changed = is_generation_changed s i a h
 
-  -- the row that it leaves
-  abbrev lasting : NeighbourRow
-  lasting = record {
-    end = holdtime_end_from s.present (hello_holdtime_of h);
-    lan_delay = h.lan_delay;
-    priority = h.priority;
-    generation = h.generation;
-  }
-
-  abbrev new_row : Option NeighbourRow
-  new_row = if hello_holdtime_of h == 0 then None else Some lasting
-
   -- after whether a Hello is owed and whether the neighbour restarted
   abbrev after : Bool → Bool → State
   after triggers restarts =
@@ -138,7 +126,7 @@ module _ (s : State) (i a w : ℕ) (h : HelloValue) where
       if restarts then neighbour_restarted s i a w replaced else replaced
 
   neighbours_after : (triggers restarts : Bool)
-      → (after triggers restarts).neighbours ≡ set_row s.neighbours (neighbour_key i a) new_row
+      → (after triggers restarts).neighbours ≡ set_row s.neighbours (neighbour_key i a) (row_of_hello s.present h)
   unfolding hello_triggered neighbour_replaced neighbours_replaced neighbour_restarted
   neighbours_after triggers restarts = grind arith
 

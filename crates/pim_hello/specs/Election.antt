@@ -1,8 +1,7 @@
 -- Whether the router is the DR of an interface where the row of one neighbour there is another, or there is none.
-use Rattle.std.{specs.{List.list_any, Prelude.{Bool, None, Option, Some, if◌then◌else◌, is_none, not, ℕ, ◌&&◌, ◌==◌}}}
+use Rattle.std.{specs.{List.list_any, Prelude.{Bool, Option, is_none, not, ◌&&◌}}}
 use Rattle.pim_types.{specs.{Keys.{iface_in, same_key}, declared.fact.{Key.Key, NeighbourRow.NeighbourRow}}}
-use Rattle.pim_wire.{specs.declared.hello.Hello.Hello as HelloValue}
-use Rattle.pim_model.{specs.{Downstream.holdtime_end_from, Hellos.hello_holdtime_of, Neighbours.is_dr_among, State.{State, my_address, my_priority}, Tables.{Table, rows_on, set_row}}}
+use Rattle.pim_model.{specs.{Neighbours.is_dr_among, State.{State, my_address, my_priority}, Tables.{Table, rows_on, set_row}}}
 
 -- The row is another neighbour's than the key's, and passes a test.
 abbrev pub is_other : Key → (Key × NeighbourRow → Bool) → Key × NeighbourRow → Bool
@@ -21,14 +20,3 @@ abbrev pub is_dr_with : State → Key → Option NeighbourRow → Bool
 is_dr_with s k row =
     is_dr_among (my_priority s (iface_in k)) (my_address s (iface_in k))
     (rows_on (iface_in k) (set_row s.neighbours k row))
-
--- the row that a Hello leaves
-abbrev pub row_of_hello : ℕ → HelloValue → Option NeighbourRow
-row_of_hello present h =
-    if hello_holdtime_of h == 0 then None
-    else Some (record {
-      end = holdtime_end_from present (hello_holdtime_of h);
-      lan_delay = h.lan_delay;
-      priority = h.priority;
-      generation = h.generation;
-    })

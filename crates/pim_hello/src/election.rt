@@ -2,16 +2,16 @@
 //! 7761, section 4.3.2).
 ghost use Rattle.std.specs.Prelude.{◌≡◌, ◌||◌, None, Some, is_none, not};
 ghost use Rattle.law_named.specs.Adjacent.{end_keeps_dr, hello_keeps_dr};
-ghost use Rattle.pim_hello.specs.Election.{is_dr_with, is_other, is_unranked, row_of_hello, some_other};
+ghost use Rattle.pim_hello.specs.Election.{is_dr_with, is_other, is_unranked, some_other};
 ghost use Rattle.pim_model.specs.Neighbours.{is_better_dr};
 ghost use Rattle.pim_model.specs.State.{my_address, my_priority};
 ghost use Rattle.pim_types.specs.Keys.{same_key};
 
-use pim_neighbours::{holdtime_end, is_better_dr};
+use pim_neighbours::{is_better_dr, row_of_hello};
 use pim_state::World;
 use pim_types::fact::NeighbourRow;
 use pim_types::{Addr, IfaceId, InterfaceConfig, Key};
-use pim_wire::{DEFAULT_HOLDTIME, Hello};
+use pim_wire::Hello;
 
 // What is configured of the interface.
 fn own(world: &World, iface: IfaceId) -> InterfaceConfig
@@ -130,30 +130,13 @@ fn is_dr_with(world: &World, key: Key, row: Option<NeighbourRow>) -> bool
     }
 }
 
-// The row that a Hello leaves of its neighbour; none with holdtime 0.
-#[tactic(auto, unfolding(pim_model::specs::Downstream::holdtime_end_from))]
-fn row_of_hello(world: &World, hello: &Hello) -> Option<NeighbourRow>
-    ensures { result ≡ row_of_hello world.now.present hello.now }
-{
-    let holdtime = hello.holdtime.unwrap_or(DEFAULT_HOLDTIME);
-    if holdtime == 0 {
-        return None;
-    }
-    Some(NeighbourRow {
-        end: holdtime_end(world.present(), holdtime),
-        lan_delay: hello.lan_delay,
-        priority: hello.priority,
-        generation: hello.generation,
-    })
-}
-
 /// Whether a Hello from the address leaves unchanged whether the router is the DR of the interface.
 #[tactic(auto, unfolding(law_named::specs::Adjacent::hello_keeps_dr, pim_model::specs::Hellos::neighbour_replaced, pim_model::specs::Hellos::neighbours_replaced, pim_model::specs::Neighbours::is_dr))]
 pub fn hello_keeps_dr(world: &World, iface: IfaceId, from: Addr, hello: &Hello) -> bool
     ensures { result ≡ hello_keeps_dr world.now iface.number from.bits hello.now }
 {
     let key = Key::neighbour(iface, from);
-    let after = is_dr_with(world, key, row_of_hello(world, hello));
+    let after = is_dr_with(world, key, row_of_hello(world.present(), hello));
     if world.is_dr(iface) { after } else { !after }
 }
 

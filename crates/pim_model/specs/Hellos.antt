@@ -47,17 +47,21 @@ hello_triggered s i w =
     let end : ℕ = s.present + delay_in 1 triggered_hello_delay w in
     record s { interfaces = hellos_triggered i end s.interfaces }
 
--- the values of a Hello replace what was known of its neighbour (4.3.1), and NLT(N,I) is set to its holdtime (4.3.2),
--- which may be 0
-unfoldable pub neighbours_replaced : ℕ → ℕ → ℕ → HelloValue → Table NeighbourRow → Table NeighbourRow
-neighbours_replaced present i address h rows =
-    let row : NeighbourRow = record {
+-- the row that a Hello leaves of its neighbour (4.3.1): NLT(N,I) is set to its holdtime (4.3.2), and with holdtime 0 there
+-- is no row
+abbrev pub row_of_hello : ℕ → HelloValue → Option NeighbourRow
+row_of_hello present h =
+    if hello_holdtime_of h == 0 then None
+    else Some (record {
       end = holdtime_end_from present (hello_holdtime_of h);
       lan_delay = h.lan_delay;
       priority = h.priority;
       generation = h.generation;
-    } in
-    set_row rows (neighbour_key i address) (if hello_holdtime_of h == 0 then None else Some row)
+    })
+
+-- the values of a Hello replace what was known of its neighbour (4.3.1)
+unfoldable pub neighbours_replaced : ℕ → ℕ → ℕ → HelloValue → Table NeighbourRow → Table NeighbourRow
+neighbours_replaced present i address h rows = set_row rows (neighbour_key i address) (row_of_hello present h)
 
 -- the state in which the values of a Hello replace what was known of its neighbour (4.3.1, 4.3.2)
 unfoldable pub neighbour_replaced : State → ℕ → ℕ → HelloValue → State

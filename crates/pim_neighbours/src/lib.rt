@@ -6,4 +6,4 @@ pub mod delays;
 pub mod neighbours;
 
 pub use delays::delay_in;
-pub use neighbours::{Neighbours, holdtime_end, is_better_dr};
+pub use neighbours::{Neighbours, holdtime_end, is_better_dr, row_of_hello};

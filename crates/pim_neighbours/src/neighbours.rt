@@ -3,7 +3,7 @@ ghost use Rattle.std.specs.Prelude.{◌≡◌, ◌↔◌, ◌+◌, ◌<◌, ◌�
 ghost use Rattle.std.specs.List.Sorted.{IsStrictlySortedBy};
 ghost use Rattle.pim_model.specs.Clearing.{first_by};
 ghost use Rattle.pim_model.specs.Downstream.{holdtime_end_from};
-ghost use Rattle.pim_model.specs.Hellos.{is_generation_changed_among, neighbours_replaced};
+ghost use Rattle.pim_model.specs.Hellos.{is_generation_changed_among, neighbours_replaced, row_of_hello};
 ghost use Rattle.pim_model.specs.Neighbours.{all_have_priority, is_better_dr, is_dr_among, is_suppression_among, nbr_among, override_interval_among, propagation_delay_among, t_override_among, t_suppressed_among};
 ghost use Rattle.pim_model.specs.Tables.{drop_at, drop_where, has_row, keys_in, put, row_at, rows_on, same_option};
 ghost use Rattle.pim_model.specs.Timers.{endings, is_ending_first};
@@ -64,6 +64,24 @@ pub fn holdtime_end(present: u64, holdtime: u16) -> Option<u64>
     } else {
         Some(present + 1000 * u64::from(holdtime))
     }
+}
+
+/// The row that a Hello leaves of its neighbour, which came at the present time, in ms. Without a Holdtime option it
+/// expires after 105 s; with holdtime 0 there is none.
+pub fn row_of_hello(present: u64, hello: &Hello) -> Option<NeighbourRow>
+    requires { present ≤ 2 ^ 62 }
+    ensures { result ≡ row_of_hello present hello.now }
+{
+    let holdtime = hello.holdtime.unwrap_or(DEFAULT_HOLDTIME);
+    if holdtime == 0 {
+        return None;
+    }
+    Some(NeighbourRow {
+        end: holdtime_end(present, holdtime),
+        lan_delay: hello.lan_delay,
+        priority: hello.priority,
+        generation: hello.generation,
+    })
 }
 
 /// Whether the neighbour comes before the router in the election of the DR (RFC 7761, section 4.3.2): by the
@@ -350,16 +368,9 @@ impl Neighbours {
         ensures err { OnErr result (self.new ≡ self.old) }
     {
         let key = Key::neighbour(iface, address);
-        let holdtime = hello.holdtime.unwrap_or(DEFAULT_HOLDTIME);
-        if holdtime == 0 {
+        let Some(row) = row_of_hello(present, hello) else {
             self.rows.remove(key);
             return Ok(());
-        }
-        let row = NeighbourRow {
-            end: holdtime_end(present, holdtime),
-            lan_delay: hello.lan_delay,
-            priority: hello.priority,
-            generation: hello.generation,
         };
         self.rows.put(key, row)
     }
