@@ -13,7 +13,7 @@ from collections.abc import Iterator, Sequence
 from pathlib import Path
 from typing import TYPE_CHECKING, Any
 
-from pimtext import kit, unproved
+from pimtext import checks, kit, unproved
 from pimtext.kept import brought, crates_of, kept_library
 
 if TYPE_CHECKING:
@@ -70,33 +70,17 @@ def proved_router() -> Path:
     return PROVED
 
 
-def libraries() -> Iterator[str]:
-    """Where the kit finds the libraries below the crate: its own, and those that were proved."""
-    kits, crates = kit.kit() / "rlibs", crates_of("pim_c")
-    built = {name: TOP / "crates" / name / "out" / "rlib" for name in crates if name != "pim_c"}
-    for name in ["std", *crates["pim_c"]]:
-        yield from ("--extern", f"{name}={built.get(name, kits) / name}.rlib")
-    for folder in (kits, *built.values()):
-        yield from ("-L", f"dependency={folder}")
-
-
 def prove_over_gate() -> None:
     """Proves and builds the archive over the libraries that `rt ci` has proved just now. It keeps them for no other
     command of its own, which would prove them again. Where a clone has older ones they are left to `rt lib`, which
     knows which are up to date."""
-    if any((TOP / "crates" / name / "out" / "rlib" / "stamp").exists() for name in crates_of("pim_c")):
+    crates = crates_of("pim_c")
+    if not checks.are_of_gate(checks.below("pim_c", crates), TOP):
         return
     where = kit.kit()
-    words = [
-        "--antt-project",
-        where / "rattle" / "logic" / "antt-project.json",
-        "--logic-built",
-        where / "logic_built",
-        "--jobs",
-        "2",
-    ]
+    words = [*checks.over_proved("pim_c", crates, TOP), *checks.logic(), "--jobs", str(len(os.sched_getaffinity(0)))]
     words += ["--links", "pim_c=", "--crate-type", "staticlib", "--toolchain", where / "toolchain", "-o", PROVED]
-    ran([where / "bin" / "rattle", "build", "--crate-name", "pim_c", "src/lib.rt", *libraries(), *words], cwd=CRATE)
+    ran([where / "bin" / "rattle", "build", "--crate-name", "pim_c", "src/lib.rt", *words], cwd=CRATE)
     PROVED_OF.write_text(sum_of_proved())
 
 

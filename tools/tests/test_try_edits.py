@@ -117,15 +117,43 @@ class Tried(unittest.TestCase):
         self.assertEqual((1, COUNTS.format(0, 0, 0, 0, 1)), (status, lines[-1]))
         self.assertEqual(1, self.of_low(TOLD, edit)[0])
 
+    def by_front(self, told, edit, built=()):
+        """What the front end is asked of edits that no type allows, with what comes of it."""
+        files = {**FILES, "crates/middle/edits/typed.edit": edit, "crates/middle/edits/other.edit": edit, **{
+            f"crates/{name}/out/rlib/{name}.rlib/format": "" for name in built}}
+        with mock.patch.object(try_edits.checks, "said", return_value=told) as front:
+            status, lines, asked, _ = tried("", "--types", files=files)
+        self.assertEqual([], asked)
+        return status, lines, [call.args for call in front.call_args_list]
+
     def test_those_alone_that_no_type_allows(self):
         edit = EDIT.replace("number same", "error[unknown-name]")
-        told = REFUSES.replace(TOLD,
-            "BAD EDIT: it did not reach the prover; the first lines of what it said:\nsrc/lib.rt:2:1: "
-            "error[unknown-name]: no")
-        status, lines, asked, _ = tried(told, "--types",
-            files={**FILES, "crates/low/edits/typed.edit": edit, "crates/low/edits/other.edit": edit})
-        self.assertEqual((0, COUNTS.format(2, 0, 0, 0, 0)), (status, lines[-1]))
-        self.assertEqual(["must-fail low", "must-fail low"], [each.partition(" in ")[0] for each in asked])
+        told = "so far: 2\nsrc/lib.rt:2:1: error[unknown-name]: no\nonly=0"
+        with mock.patch.object(try_edits.checks.kit, "kit", return_value="/kit"):
+            status, lines, asked = self.by_front(told, edit)
+            self.assertEqual((0, COUNTS.format(2, 0, 0, 0, 0)), (status, lines[-1]))
+            self.assertIn("middle/typed: refused: src/lib.rt:2:1: error[unknown-name]: no", lines)
+            self.assertEqual([("middle", "middle", "")] * 2, [(name, at.name, only) for name, at, _, only in asked])
+            self.assertIn("low:core,std=", " ".join(asked[0][2]))
+            self.assertIn("low=/", " ".join(self.by_front(told, edit, ["low"])[2][0][2]))
+            status, lines, _ = self.by_front("only=0 proved=0", edit)
+            self.assertEqual((1, COUNTS.format(0, 0, 2, 0, 0)), (status, lines[-1]))
+
+    def test_a_library_that_the_crate_does_not_name_is_known_by_what_is_built_alone(self):
+        edit = EDIT.replace("number same", "error[unknown-library]")
+        with mock.patch.object(try_edits.checks.kit, "kit", return_value="/kit"):
+            status, lines, asked = self.by_front("error[unknown-library]", edit)
+            self.assertEqual((2, []), (status, asked))
+            self.assertIn("middle/typed: not tried: it wants the libraries that ./test makes", lines)
+            self.assertEqual(0, self.by_front("error[unknown-library]", edit, ["low"])[0])
+
+    def test_a_line_is_read_whole_over_what_the_gate_proved(self):
+        files = {**FILES, "crates/low/out/rlib/low.rlib/format": ""}
+        with mock.patch.object(try_edits.checks.kit, "kit", return_value="/kit"):
+            with mock.patch.object(try_edits.checks, "said", return_value=GOAL) as prover:
+                status, lines, asked, _ = tried("", "--whole", "middle/one", files=files)
+        self.assertEqual((0, f"middle/one: refused: {GOAL}", []), (status, lines[0], asked))
+        self.assertEqual(("middle", "number"), prover.call_args.args[::3])
 
     def test_a_line_that_the_judge_cuts_is_read_whole(self):
         judge = REFUSES.replace(TOLD, TOLD[:TOLD.index("-clause-same")]).replace("for edit",
