@@ -1,0 +1,78 @@
+"""Runs the kit's command `rt` with two of its questions answered once in each call and not once for each path.
+
+    quick_gate.py WORD ..
+
+`rt` asks what stands below a crate, and the sum of all its files, by asking each library of the crate the same, so it
+does so once for each path of libraries that leads down. Of such paths there are hundreds of thousands here, and the
+questions took more time than the proofs. Here a library that was asked in a call isn't asked again in that call. The
+answers are the same, and nothing that is checked, proved or printed differs: `rt ci` alone does all of it, and takes
+longer.
+"""
+from __future__ import annotations
+
+import functools
+import importlib.machinery
+import importlib.util
+import os
+import shutil
+import sys
+import threading
+from collections.abc import Callable
+from pathlib import Path
+from typing import TYPE_CHECKING, Any
+
+if TYPE_CHECKING:
+    from types import ModuleType
+
+QUESTIONS = ("below", "stamp")
+
+
+def command() -> Path:
+    """The kit's command."""
+    return Path(os.path.realpath(shutil.which("rt") or sys.exit("there is no command `rt`, the Rattle kit's")))
+
+
+def loaded() -> ModuleType | None:
+    """The command as a module, with quick answers; None where it isn't written in Python, as `rt` of these kits is."""
+    path = command()
+    if not (path.parent / "rtlib.py").exists():
+        return None
+    loader = importlib.machinery.SourceFileLoader("rt", str(path))
+    made = importlib.util.module_from_spec(importlib.util.spec_from_loader("rt", loader))
+    loader.exec_module(made)
+    crate = getattr(made.rtlib, "Crate", None)
+    for name in QUESTIONS:
+        if asked := getattr(crate, name, None):
+            setattr(crate, name, once_in_a_call(asked))
+    return made
+
+
+def once_in_a_call(asked: Callable[[Any], Any]) -> Callable[[Any], Any]:
+    """A crate's method that calls itself of the crates below: a call of it from without asks each crate once."""
+    here = threading.local()
+
+    @functools.wraps(asked)
+    def answer(crate: Any) -> Any:
+        is_first = getattr(here, "known", None) is None
+        if is_first:
+            here.known = {}
+        try:
+            if crate.folder not in here.known:
+                here.known[crate.folder] = asked(crate)
+            return here.known[crate.folder]
+        finally:
+            if is_first:
+                here.known = None
+
+    return answer
+
+
+def main(words: list[str]) -> int:
+    made = loaded()
+    if made is None:
+        os.execvp("rt", ["rt", *words])
+    return made.main(words)
+
+
+if __name__ == "__main__":
+    sys.exit(main(sys.argv[1:]))
