@@ -1,13 +1,5 @@
-"""Runs the kit's command `rt` with two of its questions answered once in each call and not once for each path.
-
-    quick_gate.py WORD ..
-
-`rt` asks what stands below a crate, and the sum of all its files, by asking each library of the crate the same, so it
-does so once for each path of libraries that leads down. Of such paths there are hundreds of thousands here, and the
-questions took more time than the proofs. Here a library that was asked in a call isn't asked again in that call. The
-answers are the same, and nothing that is checked, proved or printed differs: `rt ci` alone does all of it, and takes
-longer.
-"""
+"""The kit's command `rt`, with two of its questions answered once in each call, and not once for each path of libraries
+(`tools/rt` says why)."""
 from __future__ import annotations
 
 import functools
@@ -68,11 +60,8 @@ def once_in_a_call(asked: Callable[[Any], Any]) -> Callable[[Any], Any]:
 
 
 def main(words: list[str]) -> int:
+    """Runs the command with these words; the status."""
     made = loaded()
     if made is None:
         os.execvp("rt", ["rt", *words])
     return made.main(words)
-
-
-if __name__ == "__main__":
-    sys.exit(main(sys.argv[1:]))

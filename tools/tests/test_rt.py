@@ -2,7 +2,7 @@
 import unittest
 from unittest import mock
 
-from pimtext import quick_gate
+from pimtext import quick
 from tests.rooms import kit, repository
 
 
@@ -27,7 +27,7 @@ class Crate:
 
 
 class Quick(Crate):
-    below, stamp = (quick_gate.once_in_a_call(getattr(Crate, name)) for name in quick_gate.QUESTIONS)
+    below, stamp = (quick.once_in_a_call(getattr(Crate, name)) for name in quick.QUESTIONS)
 
 
 def chain(made, length):
@@ -69,16 +69,17 @@ class Command(unittest.TestCase):
            "def main(words):\n    return rtlib.Crate().stamp() if words == ['ci'] else 2\n")
 
     def test_the_command_is_taken_with_quick_answers(self):
-        with repository({"bin/rtlib.py": "class Crate:\n    folder = 'here'\n\n    def stamp(self):\n        return 7\n"}) as room:
+        library = "class Crate:\n    folder = 'here'\n\n    def stamp(self):\n        return 7\n"
+        with repository({"bin/rtlib.py": library}) as room:
             with kit(room, ""):
                 (room / "bin" / "rt").write_text(self.KIT.format(folder=str(room / "bin")))
-                made = quick_gate.loaded()
+                made = quick.loaded()
         self.assertTrue(hasattr(made.rtlib.Crate.stamp, "__wrapped__"))
         self.assertEqual(7, made.main(["ci"]))
 
     def test_another_command_is_run_as_it_is(self):
         with repository({}) as room, kit(room, "exit 0"):
-            self.assertIsNone(quick_gate.loaded())
-            with mock.patch.object(quick_gate.os, "execvp", side_effect=SystemExit(5)) as run:
-                self.assertRaises(SystemExit, quick_gate.main, ["ci", "low"])
+            self.assertIsNone(quick.loaded())
+            with mock.patch.object(quick.os, "execvp", side_effect=SystemExit(5)) as run:
+                self.assertRaises(SystemExit, quick.main, ["ci", "low"])
         self.assertEqual(("rt", ["rt", "ci", "low"]), run.call_args.args)
