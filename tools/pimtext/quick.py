@@ -25,14 +25,16 @@ def command() -> Path:
 
 
 def loaded() -> ModuleType | None:
-    """The command as a module, with quick answers; None where it isn't written in Python, as `rt` of these kits is."""
+    """The command as a module, with quick answers; None where it isn't written as these are."""
     path = command()
     if not (path.parent / "rtlib.py").exists():
         return None
     loader = importlib.machinery.SourceFileLoader("rt", str(path))
     made = importlib.util.module_from_spec(importlib.util.spec_from_loader("rt", loader))
     loader.exec_module(made)
-    crate = getattr(made.rtlib, "Crate", None)
+    crate = getattr(getattr(made, "rtlib", None), "Crate", None)
+    if crate is None or not hasattr(made, "main"):
+        return None
     for name in QUESTIONS:
         if asked := getattr(crate, name, None):
             setattr(crate, name, once_in_a_call(asked))
