@@ -25,7 +25,7 @@ def command() -> Path:
 
 
 def loaded() -> ModuleType | None:
-    """The command as a module, with quick answers; None where it isn't written as these are."""
+    """The command as a module, with quick answers; None where it asks no such questions."""
     path = command()
     if not (path.parent / "rtlib.py").exists():
         return None
