@@ -6,6 +6,7 @@ from pathlib import Path
 from typing import TYPE_CHECKING
 
 from pimtext import kit
+from pimtext.kept import crates_below
 
 if TYPE_CHECKING:
     from collections.abc import Iterator
@@ -16,12 +17,7 @@ Crates = dict[str, list[str]]
 
 def below(name: str, crates: Crates) -> list[str]:
     """The crates of the repository that a crate stands on."""
-    found, left = [], [name]
-    while left:
-        new = [it for it in crates[left.pop()] if it in crates and it not in found]
-        found += new
-        left += new
-    return found
+    return sorted(crates_below(name, crates, set()) - {name})
 
 
 def logic() -> list[str]:

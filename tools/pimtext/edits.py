@@ -146,6 +146,20 @@ class Edit:
                 text = text.replace(old, line.removeprefix("new:").removeprefix(" "))
         return text
 
+    def applies(self) -> bool:
+        """Whether each text that it changes stands in its file once, where those before it are changed."""
+        texts, at, old = dict(self.crate.files), "", ""
+        for line in self.lines:
+            if line.startswith("file: "):
+                at = line.removeprefix("file: ").strip()
+            elif line.startswith("old: "):
+                old = line.removeprefix("old: ")
+                if texts.get(at, "").count(old) != 1:
+                    return False
+            elif line.startswith("new:"):
+                texts[at] = texts[at].replace(old, line.removeprefix("new:").removeprefix(" "))
+        return True
+
     def files(self) -> set[str]:
         return {line.removeprefix("file: ").strip() for line in self.lines if line.startswith("file: ")}
 

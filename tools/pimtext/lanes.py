@@ -3,7 +3,7 @@ import os
 import re
 from pathlib import Path
 
-# What a check of a crate takes at most, in bytes: twice the most that was seen.
+# What a check of a crate takes at most, in bytes: a fifth more than the most that was seen (4.1 GB).
 CHECK = 5_000_000_000
 
 

@@ -139,6 +139,11 @@ class Tried(unittest.TestCase):
             status, lines, _ = self.by_front("only=0 proved=0", edit)
             self.assertEqual((1, COUNTS.format(0, 0, 2, 0, 0)), (status, lines[-1]))
 
+    def test_an_edit_of_a_text_that_stands_twice_does_not_apply(self):
+        edit = EDIT.replace("number same", "error[unknown-name]").replace("    n\n", "n\n")
+        status, lines, asked = self.by_front("error[unknown-name]", edit)
+        self.assertEqual((1, COUNTS.format(0, 0, 0, 0, 2), []), (status, lines[-1], asked))
+
     def test_a_library_that_the_crate_does_not_name_is_known_by_what_is_built_alone(self):
         edit = EDIT.replace("number same", "error[unknown-library]")
         with mock.patch.object(try_edits.checks.kit, "kit", return_value="/kit"):
