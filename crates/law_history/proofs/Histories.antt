@@ -1,11 +1,13 @@
 -- What led a router to its state: it is at rest, and without reloads it is a run.
-use Rattle.std.{proofs.{Common.{◌≡◌, ℕ, nat_le, Bool, true, false, not, List, [], ◌∷◌, map, Ok, refl, sym, subst}, lemmas.List.Elements.{All-cons, All-nil}}, specs.List.All}
+use Rattle.std.{proofs.{Common.{◌≡◌, ℕ, nat_le, Bool, true, false, not, List, [], ◌∷◌, map, ◌++◌, Result, Ok, refl, sym, ap, subst, ◌∙◌}, lemmas.List.Elements.{All-cons, All-nil}}, specs.List.All}
 use Rattle.pim_ip.{specs.declared.refusal.Refusal.Refusal}
 use Rattle.pim_types.{specs.declared.{event.Event.Event, outcome.{Ignored.Ignored, Outcome.Outcome}}}
 use Rattle.law_scope.{specs.Rest.IsAtRest, proofs.Rest.{opening_is_at_rest, step_is_at_rest}}
 use Rattle.pim_model.{specs.{Cause.{Past, past_after}, declared.accepted.Accepted.Accepted, Full.is_full, Judging.{down_judged, ignore_if, judged, refuse_if, ◌>>◌}, State.{State, iface_count, is_up, opening}, Step.{change, concluded, done, outcome_of, ran, run, state_after, step, taken, taken_unless_full}}}
 use Rattle.law_reloaded.{specs.Reloading.{down_event, reload, removals}, proofs.Rest.reload_leaves_rest}
-use Rattle.law_history.{specs.{History.{AreAccepted, Given, past_given, state_given}, Laws.{EventsAloneAreARun, EventsAloneAreThePast, LedStatesRest, RemovalsCopyNothing}}}
+use Rattle.law_plane.{specs.Keeping.keep, proofs.Keeps.keep_is_at_rest}
+use Rattle.pim_saved.{specs.{Fits.FitsState, Reading.reading, Text.text}, proofs.SpelledStates.text_is_read}
+use Rattle.law_history.{specs.{History.{AreAccepted, Given, past_given, state_given}, Laws.{CallLeadsOn, EventsAloneAreARun, EventsAloneAreThePast, LedStatesRest, ReadStateIsLedTo, RemovalsCopyNothing}}}
 
 -- ---- without reloads
 
@@ -32,6 +34,8 @@ given_rests (Given.Happening e ∷ later) s rest accepted =
     given_rests later (step s e).state (step_is_at_rest s e rest) accepted
 given_rests (Given.Reload c w ∷ later) s rest accepted =
     given_rests later (reload s c w).0 (reload_leaves_rest s c w accepted.0 rest) accepted.1
+given_rests (Given.Kept g src m ∷ later) s rest accepted =
+    given_rests later (keep s g src m) (keep_is_at_rest s g src m rest) accepted
 
 pub led_states_rest : LedStatesRest
 led_states_rest c before s led =
@@ -63,3 +67,36 @@ downs_copy w (i ∷ is) s =
 pub removals_copy_nothing : RemovalsCopyNothing
 unfolding removals
 removals_copy_nothing s c w = downs_copy w _ s
+
+-- ---- one call more
+
+state_appended : (before later : List Given) (s : State)
+    → state_given s (before ++ later) ≡ state_given (state_given s before) later
+unfolding state_given
+state_appended [] later s = refl
+state_appended (Given.Happening e ∷ before) later s = state_appended before later (step s e).state
+state_appended (Given.Reload c w ∷ before) later s = state_appended before later (reload s c w).0
+state_appended (Given.Kept g src m ∷ before) later s = state_appended before later (keep s g src m)
+
+accepted_appended : (before later : List Given) → AreAccepted before → AreAccepted later → AreAccepted (before ++ later)
+accepted_appended [] later f g = g
+accepted_appended (Given.Happening e ∷ before) later f g = accepted_appended before later f g
+accepted_appended (Given.Reload c w ∷ before) later f g = (f.0, accepted_appended before later f.1 g)
+accepted_appended (Given.Kept g' src m ∷ before) later f g = accepted_appended before later f g
+
+pub call_leads_on : CallLeadsOn
+call_leads_on c before s one led accepted = record {
+  accepted = led.accepted;
+  reloads = accepted_appended before (one ∷ []) led.reloads accepted;
+  led = ap (λ t. state_given t (one ∷ [])) led.led ∙ sym (state_appended before (one ∷ []) (opening c));
+}
+
+same_ok : {E : Type 0} (r : Result State E) (t s : State) → r ≡ Ok t → r ≡ Ok s → t ≡ s
+same_ok r t s e f = cc
+
+pub read_state_is_led_to : ReadStateIsLedTo
+read_state_is_led_to c before s t led fits is = record {
+  accepted = led.accepted;
+  reloads = led.reloads;
+  led = same_ok (reading (text s)) t s is (text_is_read s fits) ∙ led.led;
+}

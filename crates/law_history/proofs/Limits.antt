@@ -1,10 +1,11 @@
 -- Facts stay within the greatest limit, whatever reloads came.
-use Rattle.std.{proofs.Common.{◌≡◌, ⊎_elim, ◌+◌, ◌≤◌, ℕ, max, Bool, true, false, List, [], ◌∷◌, Ok, Err, refl, sym, ap, subst, ◌∙◌, arith}}
-use Rattle.pim_types.{specs.declared.{config.{Config.Config, Settings.Settings}, event.Event.Event, outcome.Stop.Stop}}
+use Rattle.std.{proofs.Common.{◌≡◌, ⊎_elim, ◌+◌, ◌≤◌, ℕ, max, Bool, true, false, List, [], ◌∷◌, length, Option, Some, Ok, Err, refl, sym, ap, subst, ◌∙◌, arith}}
+use Rattle.pim_types.{specs.{Keys.source_key, declared.{config.{Config.Config, Settings.Settings}, event.Event.Event, outcome.Stop.Stop}}}
 use Rattle.law_scope.{specs.Rest.IsAtRest, proofs.Rest.{opening_is_at_rest, step_is_at_rest}}
-use Rattle.law_settled.{proofs.UnchangedLaws.full_or_taken}
-use Rattle.pim_model.{specs.{declared.accepted.Accepted.Accepted, Full.{counted, is_full}, Judging.{Judged, judged}, State.{State, opening, settings_of}, Step.{concluded, ran, rps_replaced, state_after, step, taken, taken_unless_full}}}
-use Rattle.law_promises.{specs.Bounded.{AddsAtMost, AddsNone, counted_beside_asserts, needed_by, needed_of}, proofs.{Bounded.{adds_what_is_needed, has_room}, Fewer.settled_none, Within.room}}
+use Rattle.law_settled.{proofs.{RisingKeys.up_of_sorted, UnchangedLaws.full_or_taken}}
+use Rattle.pim_model.{specs.{declared.accepted.Accepted.Accepted, Full.{counted, is_full}, Judging.{Judged, judged}, State.{State, opening, settings_of}, Registers.keepalive_period, Sets.spt_bit, Step.{concluded, ran, rps_replaced, state_after, step, taken, taken_unless_full}, Tables.has_row}}
+use Rattle.law_promises.{specs.Bounded.{AddsAtMost, AddsNone, counted_beside_asserts, needed_by, needed_of}, proofs.{Bounded.{adds_what_is_needed, has_room}, Counting.put_there, Fewer.settled_none, Within.room}}
+use Rattle.law_plane.{specs.Keeping.{keep, keepalive_end, kept_until}, proofs.Keeps.{keep_by, keep_is_at_rest, running, running_there}}
 use Rattle.law_reloaded.{specs.Reloading.{hellos_anew, reload, removals, replaced, under}, proofs.Rest.reload_leaves_rest}
 use Rattle.law_history.{specs.{History.{AreAccepted, Given, greatest_limit, state_given}, Laws.FactsStayWithinTheGreatest}, proofs.Histories.given_rests}
 
@@ -105,6 +106,35 @@ unfolding reload state_after
 reload_under limit s c w f rest =
     replaced_under limit (state_after s (removals s c w)) c w (run_under limit (removals s c w) s f rest)
 
+-- ---- what a plane reports
+
+kept_facts : (s : State) (g src end before : ℕ) → IsAtRest s → keepalive_end s g src ≡ Some before
+    → counted_beside_asserts (kept_until s g src end) ≤ counted_beside_asserts s
+unfolding kept_until
+kept_facts s g src end before rest runs =
+    let there : has_row s.sources (source_key 0 g src) ≡ true = running_there s g src (running s g src before runs) in
+    let shorter : length (kept_until s g src end).sources ≤ length s.sources =
+    put_there s.sources (source_key 0 g src) (record { keepalive = Some end; spt = spt_bit s g src })
+    (up_of_sorted s.sources rest.settled.ordered.sources) there in
+    omega (arith, shorter)
+
+kept_settings : (s : State) (g src end : ℕ) → (kept_until s g src end).settings ≡ s.settings
+unfolding kept_until
+kept_settings s g src end = refl
+
+keep_under : (limit : ℕ) (s : State) (g src m : ℕ) → IsUnder limit s → IsAtRest s → IsUnder limit (keep s g src m)
+keep_under limit s g src m f rest =
+    keep_by s g src m (IsUnder limit) f
+    (λ before runs sooner.
+    let later = kept_until s g src (m + keepalive_period) in
+    let no_more : counted_beside_asserts later ≤ counted_beside_asserts s =
+    kept_facts s g src (m + keepalive_period) before rest runs in
+    let facts = f.facts in
+    record {
+      facts = omega (arith, no_more, facts);
+      own = subst (λ (x : Settings). x.limit ≤ limit) (sym (kept_settings s g src (m + keepalive_period))) f.own;
+    })
+
 -- ---- one after the other
 
 given_under : (before : List Given) (limit : ℕ) (s : State) → IsUnder limit s → IsAtRest s → AreAccepted before
@@ -116,6 +146,8 @@ given_under (Given.Happening e ∷ later) limit s f rest accepted =
 given_under (Given.Reload c w ∷ later) limit s f rest accepted =
     given_under later (max limit c.limit) (reload s c w).0 (reload_under limit s c w f rest)
     (reload_leaves_rest s c w accepted.0 rest) accepted.1
+given_under (Given.Kept g src m ∷ later) limit s f rest accepted =
+    given_under later limit (keep s g src m) (keep_under limit s g src m f rest) (keep_is_at_rest s g src m rest) accepted
 
 opening_under : (c : Config) → IsUnder c.limit (opening c)
 unfolding opening settings_of

@@ -1,19 +1,23 @@
--- What led a router to its state: events, and reloads with other configurations.
+-- What led a router to its state: events, reloads with other configurations, and what a plane reported by `keep`.
 use Rattle.std.{specs.Prelude.{List, Ok, [], max, ℕ, ◌≡◌, ◌∷◌}}
 use Rattle.pim_types.{specs.declared.{config.Config.Config, event.Event.Event}}
 use Rattle.pim_model.{specs.{Cause.{Past, past_after}, Limits.config_test, State.{State, opening}, Step.step}}
 use Rattle.law_reloaded.{specs.Reloading.{reload, removals}}
+use Rattle.law_plane.{specs.Keeping.keep}
 
--- What a router is given: an event, or another configuration, with the draw of its reload.
+-- What a router is given: an event; another configuration, with the draw of its reload; or that a plane forwarded packets
+-- of a group and a source up to a timestamp.
 pub data Given : Type 0 where
   Happening : Event → Given
   Reload : Config → ℕ → Given
+  Kept : ℕ → ℕ → ℕ → Given
 
 -- The state after events and reloads, from a state on.
 unfoldable pub state_given : State → List Given → State
 state_given s [] = s
 state_given s (Given.Happening e ∷ later) = state_given (step s e).state later
 state_given s (Given.Reload c w ∷ later) = state_given (reload s c w).0 later
+state_given s (Given.Kept g src m ∷ later) = state_given (keep s g src m) later
 
 -- The past of a router after events and reloads. The events of a reload are those by which interfaces go down.
 unfoldable pub past_given : Past → State → List Given → Past
@@ -21,18 +25,21 @@ past_given past s [] = past
 past_given past s (Given.Happening e ∷ later) = past_given (record { before = s; event = e } ∷ past) (step s e).state later
 past_given past s (Given.Reload c w ∷ later) =
     past_given (past_after past s (removals s c w)) (reload s c w).0 later
+past_given past s (Given.Kept g src m ∷ later) = past_given past (keep s g src m) later
 
 -- The configuration of each reload is accepted.
 abbrev pub AreAccepted : List Given → Type 0
 AreAccepted [] = Unit {0}
 AreAccepted (Given.Happening e ∷ later) = AreAccepted later
 AreAccepted (Given.Reload c w ∷ later) = (config_test c ≡ Ok tt) × AreAccepted later
+AreAccepted (Given.Kept g src m ∷ later) = AreAccepted later
 
 -- The greatest of a limit and those of the reloads.
 unfoldable pub greatest_limit : ℕ → List Given → ℕ
 greatest_limit limit [] = limit
 greatest_limit limit (Given.Happening e ∷ later) = greatest_limit limit later
 greatest_limit limit (Given.Reload c w ∷ later) = greatest_limit (max limit c.limit) later
+greatest_limit limit (Given.Kept g src m ∷ later) = greatest_limit limit later
 
 -- Events and reloads led a new router of the configuration to the state; all configurations are accepted.
 pub record IsLedTo (c : Config) (before : List Given) (s : State) : Type 0 where

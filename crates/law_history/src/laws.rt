@@ -1,5 +1,5 @@
 //! The laws.
-ghost use Rattle.law_history.specs.Laws.{EventsAloneAreARun, EventsAloneAreThePast, FactsStayWithinTheGreatest, LedStatesRest, NothingFlowsUnaskedOverReloads, RemovalsCopyNothing};
+ghost use Rattle.law_history.specs.Laws.{CallIsAsked, CallLeadsOn, EventsAloneAreARun, EventsAloneAreThePast, FactsStayWithinTheGreatest, LedStatesRest, NothingFlowsUnaskedOverReloads, ReadStateIsLedTo, RemovalsCopyNothing};
 
 /// Without a reload the state is that of a run.
 pub fn events_alone_are_a_run()
@@ -29,4 +29,19 @@ pub fn facts_stay_within_the_greatest()
 /// A router is at rest after any events and reloads.
 pub fn led_states_rest()
     ensures { LedStatesRest }
+{}
+
+/// What one event sends is asked for by what led the router to its state.
+pub fn call_is_asked()
+    ensures { CallIsAsked }
+{}
+
+/// Each call goes on with what led the router to its state.
+pub fn call_leads_on()
+    ensures { CallLeadsOn }
+{}
+
+/// What is read of saved bytes was led to by what led to the state that was saved.
+pub fn read_state_is_led_to()
+    ensures { ReadStateIsLedTo }
 {}

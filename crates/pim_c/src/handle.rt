@@ -497,7 +497,7 @@ fn is_copy(sent: &[Emission], copies: u32, index: usize) -> bool
     requires { index < length sent.now }
     ensures { result ≡ is_copy sent.now copies index }
 {
-    links(&sent[index + 1..]) < copies as usize
+    copies != 0 && links(&sent[index + 1..]) < copies as usize
 }
 
 // Writes out one of the packets, if it exists.

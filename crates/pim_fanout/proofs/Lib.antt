@@ -12,3 +12,4 @@ mod SameSets
 pub mod Shown
 pub mod Untouched
 mod Joining
+mod Grouping

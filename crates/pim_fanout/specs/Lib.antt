@@ -6,3 +6,4 @@ pub mod Same
 pub mod Named
 pub mod Refreshing
 pub mod Laws
+pub mod Grouped

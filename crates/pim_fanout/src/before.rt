@@ -1,14 +1,16 @@
 //! What an event touches, as it is before the event's own change: gathered once, for the machines and for the
 //! forwarding cache.
 ghost use Rattle.std.specs.List.{flat_map};
-ghost use Rattle.std.specs.Prelude.{◌≡◌, ◌++◌, ◌∷◌, [], true, IfOk, IfSome, OnOk, map};
+ghost use Rattle.std.specs.List.Sorted.{IsNonDecreasingBy, IsPermutation};
+ghost use Rattle.std.specs.Prelude.{◌≡◌, ◌++◌, ◌∷◌, [], true, None, IfOk, IfSome, OnOk, filter, map};
 ghost use Rattle.pim_fanout.specs.Alone.{TouchesAlone, opening_alone};
+ghost use Rattle.pim_fanout.specs.Grouped.{IsGrouped, TouchAlike};
 ghost use Rattle.pim_fanout.specs.Before.{AreBefore, IsBefore, IsSourceBefore, IsKnown, key_before, name_key, seen_key};
 ghost use Rattle.pim_macros.specs.Sights.{IsSourceSight, IsStarSight};
 ghost use Rattle.pim_model.specs.Sets.{register_state};
 ghost use Rattle.pim_model.specs.Tables.{has_row};
-ghost use Rattle.pim_views.specs.Openings.{group_opening, opening_of, source_opening, touched_sources};
-ghost use Rattle.pim_types.specs.Keys.{source_key};
+ghost use Rattle.pim_views.specs.Openings.{group_opening, is_whole, opening_of, source_opening, touched_sources};
+ghost use Rattle.pim_types.specs.Keys.{group_in, is_of_group, source_key};
 ghost use Rattle.pim_state.specs.Groups.{numbers_of};
 ghost use Rattle.pim_state.specs.declared.touched.Touched.{Touched as TouchedKeys};
 
@@ -16,7 +18,7 @@ use pim_macros::{SourceSight, StarSight};
 use pim_state::{Meter, Touched, World};
 use pim_types::fact::RegisterState;
 use pim_types::{Addr, Key, Series, SourceGroup};
-use pim_views::{GroupOpening, Opening, SourceOpening, is_whole, touched_sources};
+use pim_views::{GroupOpening, Opening, SourceOpening, is_whole, is_whole_by, sources_by_keys, touched_sources};
 use std::alloc::{AllocError, Global};
 use std::collections::BTreeMap;
 use std::marker::Model;
@@ -202,13 +204,60 @@ fn gather_source(
     })
 }
 
-// Gathers what is touched, group after group.
+// Gathers what is touched, group after group. The keys of many groups are put in the order of their groups first, so that
+// each group finds its own by a search.
 fn gather_groups(
     world: &World,
     alloc: Global,
     touched: &Touched,
     meter: &mut Meter,
 ) -> Result<Gathered, AllocError>
+    ensures opening { IfOk result (λ gathered. gathered.opening ≡ opening_of world.now touched.now) }
+    ensures before { IfOk result (λ gathered. IsBefore world.now touched.now gathered.before) }
+{
+    match grouped(alloc, touched)? {
+        Some(grouped) => gather_grouped(world, alloc, &grouped, meter),
+        None => gather_grouped(world, alloc, touched, meter),
+    }
+}
+
+// What is touched, with its keys in the order of their groups, unless they are so by being few.
+fn grouped(alloc: Global, touched: &Touched) -> Result<Option<Touched>, AllocError>
+    ensures grouped { IfOk result (λ found. IfSome found (λ sorted. IsGrouped sorted)) }
+    ensures alike { IfOk result (λ found. IfSome found (λ sorted. TouchAlike sorted touched.now)) }
+    ensures few { IfOk result (λ found. found ≡ None → IsGrouped touched.now) }
+{
+    match touched {
+        Touched::All => Ok(None),
+        Touched::Keys(keys) => {
+            if keys.len() < 2 {
+                return Ok(None);
+            }
+            let sorted = by_group(alloc, keys.as_slice())?;
+            Ok(Some(Touched::Keys(Series::from_vec(sorted))))
+        }
+    }
+}
+
+// The keys in the order of their groups.
+fn by_group(alloc: Global, keys: &[Key]) -> Result<Vec<Key>, AllocError>
+    ensures same { IfOk result (λ sorted. IsPermutation keys.now sorted.items) }
+    ensures order { IfOk result (λ sorted. IsNonDecreasingBy group_in sorted.items) }
+{
+    let mut sorted = Vec::with_capacity(alloc, keys.len())?;
+    sorted.extend_from_slice(keys)?;
+    sorted.sort_unstable_by_key(|key| key.group.bits);
+    Ok(sorted)
+}
+
+// Gathers what is touched, group after group, where the keys are in the order of their groups.
+fn gather_grouped(
+    world: &World,
+    alloc: Global,
+    touched: &Touched,
+    meter: &mut Meter,
+) -> Result<Gathered, AllocError>
+    requires { IsGrouped touched.now }
     ensures opening { IfOk result (λ gathered. gathered.opening ≡ opening_of world.now touched.now) }
     ensures before { IfOk result (λ gathered. IsBefore world.now touched.now gathered.before) }
 {
@@ -233,7 +282,8 @@ fn open_groups(
     meter: &mut Meter,
     before: &mut Vec<SourceBefore>,
 ) -> Result<Vec<GroupOpening>, AllocError>
-    requires { AreBefore world.now before.old.items }
+    requires grouped { IsGrouped touched.now }
+    requires before { AreBefore world.now before.old.items }
     ensures opened { IfOk result (λ opened. opened.items
         ≡ map (group_opening world.now touched.now) (numbers_of groups.now.entries)) }
     ensures keys { OnOk result (map key_before before.new.items ≡ map key_before before.old.items
@@ -248,6 +298,67 @@ fn open_groups(
     Ok(opened)
 }
 
+// The keys of the group, of keys in the order of their groups.
+fn keys_of(keys: &[Key], group: Addr) -> &[Key]
+    requires { IsNonDecreasingBy group_in keys.now }
+    ensures { filter (is_of_group group.bits) result.now ≡ filter (is_of_group group.bits) keys.now }
+{
+    up_to(from(keys, group), group)
+}
+
+// The keys without those of lower groups.
+fn from(keys: &[Key], group: Addr) -> &[Key]
+    requires { IsNonDecreasingBy group_in keys.now }
+    ensures kept { filter (is_of_group group.bits) result.now ≡ filter (is_of_group group.bits) keys.now }
+    ensures order { IsNonDecreasingBy group_in result.now }
+{
+    let first = keys.partition_point(|key| key.group.bits < group.bits);
+    &keys[first..]
+}
+
+// The keys without those of higher groups.
+fn up_to(keys: &[Key], group: Addr) -> &[Key]
+    requires { IsNonDecreasingBy group_in keys.now }
+    ensures { filter (is_of_group group.bits) result.now ≡ filter (is_of_group group.bits) keys.now }
+{
+    let count = keys.partition_point(|key| key.group.bits <= group.bits);
+    &keys[..count]
+}
+
+// Whether all of the group is touched, where the keys are in the order of their groups.
+fn is_whole_of(touched: &Touched, group: Addr) -> bool
+    requires { IsGrouped touched.now }
+    ensures { result ≡ is_whole touched.now group.bits }
+{
+    match touched {
+        Touched::All => is_whole(touched, group),
+        Touched::Keys(keys) => is_whole_by(keys_of(keys.as_slice(), group), group),
+    }
+}
+
+// The sources of the group that are touched, where the keys are in the order of their groups.
+fn sources_of(
+    alloc: Global,
+    world: &World,
+    touched: &Touched,
+    group: Addr,
+    meter: &mut Meter,
+) -> Result<BTreeMap<Addr, (), Global>, AllocError>
+    requires { IsGrouped touched.now }
+    ensures { IfOk result (λ found. numbers_of found.entries ≡ touched_sources world.now touched.now group.bits) }
+{
+    match touched {
+        Touched::All => {
+            let found = touched_sources(alloc, world, touched, group, meter)?;
+            Ok(found)
+        }
+        Touched::Keys(keys) => {
+            let found = sources_by_keys(alloc, world, keys_of(keys.as_slice(), group), group, meter)?;
+            Ok(found)
+        }
+    }
+}
+
 // Opens a group.
 fn open_group(
     world: &World,
@@ -257,18 +368,19 @@ fn open_group(
     meter: &mut Meter,
     before: &mut Vec<SourceBefore>,
 ) -> Result<GroupOpening, AllocError>
-    requires { AreBefore world.now before.old.items }
+    requires grouped { IsGrouped touched.now }
+    requires before { AreBefore world.now before.old.items }
     ensures opened { IfOk result (λ opened. opened ≡ group_opening world.now touched.now group.bits) }
     ensures keys { OnOk result (map key_before before.new.items ≡ map key_before before.old.items
         ++ map (source_key 0 group.bits) (touched_sources world.now touched.now group.bits)) }
     ensures each { OnOk result (AreBefore world.now before.new.items) }
 {
     let star = StarSight::of(world, group, meter);
-    let sources = touched_sources(alloc, world, touched, group, meter)?;
+    let sources = sources_of(alloc, world, touched, group, meter)?;
     let sources = open_sources(world, alloc, &star, &sources, meter, before)?;
     Ok(GroupOpening {
         group,
-        is_whole: is_whole(touched, group),
+        is_whole: is_whole_of(touched, group),
         star: star.view(),
         sources: Series::from_vec(sources),
     })

@@ -1,6 +1,7 @@
 pub mod Apart
-mod Links
 pub mod Rows
 mod Tested
 mod UpKeys
 mod Reconfigured
+mod Around
+mod FoundLinks

@@ -1,7 +1,8 @@
 //! The interfaces of a router.
 ghost use Rattle.std.specs.List.{list_all};
 ghost use Rattle.std.specs.List.Sorted.{IsStrictlySortedBy};
-ghost use Rattle.std.specs.Prelude.{◌≡◌, ◌<◌, ◌≤◌, [], length, nat_lt, slice_get, option_map, true, IfSome, IsTrue, Ok, OnOk, OnErr, Some};
+ghost use Rattle.std.specs.Option.{option_map_or};
+ghost use Rattle.std.specs.Prelude.{◌≡◌, ◌<◌, ◌≤◌, ◌==◌, false, [], length, nat_lt, slice_get, option_map, true, IfSome, IsTrue, Ok, OnOk, OnErr, Some};
 ghost use Rattle.pim_model.specs.Hellos.{hellos_triggered};
 ghost use Rattle.pim_model.specs.State.{is_own_among};
 ghost use Rattle.pim_model.specs.Clearing.{first_by};
@@ -135,12 +136,20 @@ impl Interfaces {
     pub fn is_own(&self, address: Addr) -> bool
         ensures { result ≡ is_own_among self.now.configured address.bits }
     {
-        for interface in self.configured() {
-            if interface.address == address {
-                return true;
-            }
+        match self.configured.around(address) {
+            Some(number) => self.has_address(number, address),
+            None => false,
         }
-        false
+    }
+
+    // Whether the address is that of the interface.
+    fn has_address(&self, number: u32, address: Addr) -> bool
+        ensures { result ≡ option_map_or (λ c. c.address.bits == address.bits) (slice_get self.now.configured number) false }
+    {
+        match self.configured().get(number as usize) {
+            Some(interface) => interface.address == address,
+            None => false,
+        }
     }
 
     /// The first interface that is up and whose subnet the address lies in.
@@ -149,15 +158,9 @@ impl Interfaces {
         ensures first { option_map (λ i. i.number) result ≡ link_among self.now.configured self.now.rows address.bits }
         ensures configured { IfSome result (λ i. i.number < length self.now.configured) }
     {
-        for (number, subnet) in self.configured.subnets().iter().enumerate() {
-            let iface = IfaceId {
-                number: number as u32,
-            };
-            if subnet.has(address) && self.is_up(iface) {
-                return Some(iface);
-            }
-        }
-        None
+        let number = self.configured.around(address)?;
+        let iface = IfaceId { number };
+        if self.is_up(iface) { Some(iface) } else { None }
     }
 
     /// On which interface the Hello timer expires first, and when, in ms: the least by timestamp, then by key. `None`

@@ -1,4 +1,5 @@
 //! Why input is refused, with its numbers and words.
+use std::fmt;
 use thiserror::Error;
 
 /// Why input was refused. A refused event, list of routes or configuration has changed nothing.
@@ -7,59 +8,32 @@ use thiserror::Error;
 /// routers, 30 to 38 about a configuration and 39 about a scenario.
 #[derive(Clone, Copy, PartialEq, Eq, Debug, Error)]
 pub enum Refusal {
-    #[error("a field is missing")]
     Short = 1,
-    #[error("another version")]
     BadVersion = 2,
-    #[error("a checksum is wrong")]
     BadChecksum = 3,
-    #[error("a length is wrong")]
     BadLength = 4,
-    #[error("an address is wrong")]
     BadAddress = 5,
-    #[error("an address is no group")]
     NotMulticast = 6,
-    #[error("an IGMP message of version 1 or 2")]
     OldVersion = 7,
-    #[error("an IGMP message of unknown type")]
     UnknownType = 8,
-    #[error("a fragment")]
     Fragment = 9,
-    #[error("the moment is past")]
     MomentBack = 20,
-    #[error("the moment is too far ahead")]
     MomentFar = 21,
-    #[error("no such interface")]
     NoInterface = 22,
-    #[error("the interface is down")]
     InterfaceDown = 23,
-    #[error("the limit on facts is reached")]
     Full = 24,
-    #[error("a list of routes is wrong")]
     BadRoutes = 25,
-    #[error("a list of RP ranges is wrong")]
     BadRps = 26,
-    #[error("no such router, frame or interface on the frame's link")]
     BadMove = 27,
-    #[error("a router has no interface or too many")]
     InterfaceCount = 30,
-    #[error("an interface's address is wrong")]
     InterfaceAddress = 31,
-    #[error("an interface's prefix length is wrong")]
     InterfaceLength = 32,
-    #[error("two subnets overlap")]
     Overlap = 33,
-    #[error("the limit on facts is wrong")]
     BadLimit = 34,
-    #[error("a value of the querier is wrong")]
     BadQuerier = 35,
-    #[error("a LAN delay is wrong")]
     BadDelay = 36,
-    #[error("the configured routes are wrong")]
     ConfiguredRoutes = 37,
-    #[error("the configured RP ranges are wrong")]
     ConfiguredRps = 38,
-    #[error("the scenario is wrong")]
     BadScenario = 39,
 }
 
@@ -72,5 +46,44 @@ impl Refusal {
         ensures { result ≡ refusal_number self }
     {
         self as u8
+    }
+
+    /// What is wrong, in English.
+    pub fn words(self) -> &'static str {
+        match self {
+            Refusal::Short => "a field is missing",
+            Refusal::BadVersion => "another version",
+            Refusal::BadChecksum => "a checksum is wrong",
+            Refusal::BadLength => "a length is wrong",
+            Refusal::BadAddress => "an address is wrong",
+            Refusal::NotMulticast => "an address is no group",
+            Refusal::OldVersion => "an IGMP message of version 1 or 2",
+            Refusal::UnknownType => "an IGMP message of unknown type",
+            Refusal::Fragment => "a fragment",
+            Refusal::MomentBack => "the moment is past",
+            Refusal::MomentFar => "the moment is too far ahead",
+            Refusal::NoInterface => "no such interface",
+            Refusal::InterfaceDown => "the interface is down",
+            Refusal::Full => "the limit on facts is reached",
+            Refusal::BadRoutes => "a list of routes is wrong",
+            Refusal::BadRps => "a list of RP ranges is wrong",
+            Refusal::BadMove => "no such router, frame or interface on the frame's link",
+            Refusal::InterfaceCount => "a router has no interface or too many",
+            Refusal::InterfaceAddress => "an interface's address is wrong",
+            Refusal::InterfaceLength => "an interface's prefix length is wrong",
+            Refusal::Overlap => "two subnets overlap",
+            Refusal::BadLimit => "the limit on facts is wrong",
+            Refusal::BadQuerier => "a value of the querier is wrong",
+            Refusal::BadDelay => "a LAN delay is wrong",
+            Refusal::ConfiguredRoutes => "the configured routes are wrong",
+            Refusal::ConfiguredRps => "the configured RP ranges are wrong",
+            Refusal::BadScenario => "the scenario is wrong",
+        }
+    }
+}
+
+impl fmt::Display for Refusal {
+    fn fmt<W: fmt::Write>(&self, f: &mut fmt::Formatter<W>) -> fmt::Result {
+        f.write_str(self.words())
     }
 }

@@ -3,3 +3,4 @@ mod Offering
 mod Runs
 mod Shown
 pub mod Reloaded
+pub mod Asked

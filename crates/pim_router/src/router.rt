@@ -19,6 +19,7 @@ ghost use Rattle.pim_event.specs.Replacing.{may_differ};
 ghost use Rattle.pim_event.specs.Staying.{LastOffersStay, OffersStay};
 ghost use Rattle.pim_fanout.specs.Named.{keys_of};
 ghost use Rattle.law_history.specs.History.{Given, IsLedTo, greatest_limit, past_given};
+ghost use Rattle.pim_router.specs.Asked.{LeadsOn, SentIsAsked};
 ghost use Rattle.law_named.specs.Named.{event_named};
 ghost use Rattle.pim_ip.specs.declared.fault.Fault.{Fault};
 ghost use Rattle.pim_model.specs.Step.{run, step};
@@ -36,6 +37,7 @@ ghost use Rattle.pim_router.specs.Standing.{begun, nothing_shown, last_copies, s
 ghost use Rattle.pim_types.specs.Keys.{key_cmp};
 ghost use Rattle.pim_types.specs.declared.config.Config.{Config as ConfigValue};
 ghost use Rattle.pim_types.specs.declared.event.Event.{Event as EventValue};
+ghost use Rattle.pim_types.specs.declared.outcome.Emission.{Emission as EmissionValue};
 ghost use Rattle.pim_model.specs.Sure.{needs_no_memory};
 ghost use Rattle.law_scope.specs.Rest.{IsAtRest};
 ghost use Rattle.law_promises.specs.Bounded.{IsBounded, counted_beside_asserts};
@@ -317,8 +319,42 @@ impl Router {
     }
 
     /// Takes one event whose packet, routes or ranges are borrowed, and copies none of them. All else is as `step`
-    /// says.
+    /// says. Whatever events, reloads and reports of a plane led to the router's state, each copy among the packets that
+    /// leave has its cause among them.
     pub fn step_lent(
+        &mut self,
+        event: &LentEvent<'_>,
+        emissions: &mut Vec<Emission>,
+    ) -> Result<Result<Verdict, Refusal>, Fault>
+        ensures answer { IfSome self.old.standing (λ r. IfOk result (λ answer. answer ≡ (step r.state event.now).answer)) }
+        ensures state { IfSome self.old.standing (λ r. OnOk result (self.new.standing ≡ Some (standing (step r.state event.now)))) }
+        ensures sent { IfSome self.old.standing (λ r. OnOk result (emissions.new.items
+            ≡ emissions.old.items ++ (step r.state event.now).emissions)) }
+        ensures cheap { IfSome self.old.standing (λ r. OnOk result
+            (IsCheap r.state event.now self.new.probes self.new.touched)) }
+        ensures changed { IfSome self.old.standing (λ r. OnOk result
+            (ListsSame self.new.changed (event_named r.state event.now))) }
+        ensures disturbed { IfSome self.old.standing (λ r. OnOk result
+            (self.new.disturbed ≡ event_disturbed r.state event.now)) }
+        ensures stays { IfSome self.old.standing (λ r. OnOk result
+            (OffersStay self.new.disturbed r.state (step r.state event.now).state)) }
+        ensures failing { OnErr result (self.new ≡ nothing_shown) }
+        ensures silent { OnErr result (emissions.new.items ≡ emissions.old.items) }
+        ensures failed { (result ≡ Err Fault.Failed) ↔ (self.old.standing ≡ None) }
+        ensures fault { IfSome self.old.standing (λ r. IsOkUnless result Fault.Memory) }
+        ensures asked { IfSome self.old.standing (λ r. IfOk result (λ answer. IfSome self.new.standing (λ after.
+            (sent : List EmissionValue) → emissions.new.items ≡ emissions.old.items ++ sent
+            → SentIsAsked r.state event.now answer sent after.copies))) }
+        ensures led { IfSome self.old.standing (λ r. OnOk result (IfSome self.new.standing (λ after.
+            LeadsOn r.state (Given.Happening event.now) after.state))) }
+        ensures sure { IfSome self.old.standing (λ r. IsTrue (needs_no_memory (step r.state event.now).answer)
+            → IsOk result) }
+    {
+        self.take_lent(event, emissions)
+    }
+
+    // Takes one event whose packet, routes or ranges are borrowed.
+    fn take_lent(
         &mut self,
         event: &LentEvent<'_>,
         emissions: &mut Vec<Emission>,
@@ -378,6 +414,11 @@ impl Router {
             ≡ event_disturbed r.state (seen_event draw iface group.bits source.bits))) }
         ensures stays { IfSome self.old.standing (λ r. OnOk result (OffersStay self.new.disturbed r.state
             (step r.state (seen_event draw iface group.bits source.bits)).state)) }
+        ensures asked { IfSome self.old.standing (λ r. IfOk result (λ answer. IfSome self.new.standing (λ after.
+            (sent : List EmissionValue) → emissions.new.items ≡ emissions.old.items ++ sent
+            → SentIsAsked r.state (seen_event draw iface group.bits source.bits) answer sent after.copies))) }
+        ensures led { IfSome self.old.standing (λ r. OnOk result (IfSome self.new.standing (λ after.
+            LeadsOn r.state (Given.Happening (seen_event draw iface group.bits source.bits)) after.state))) }
         ensures failing { OnErr result (self.new ≡ nothing_shown) }
         ensures silent { OnErr result (emissions.new.items ≡ emissions.old.items) }
         ensures failed { (result ≡ Err Fault.Failed) ↔ (self.old.standing ≡ None) }
@@ -400,6 +441,21 @@ impl Router {
     /// run isn't started. A timestamp past the latest that an event may have counts as the latest. What `copies`,
     /// `probes`, `touched`, `changed`, `may_differ` and `offload` answer is unchanged.
     pub fn keep(&mut self, source: Addr, group: Addr, moment: u64) -> Result<bool, Fault>
+        ensures runs { IfSome self.old.standing (λ r. IfOk result (λ runs.
+            runs ≡ is_kept_alive r.state group.bits source.bits)) }
+        ensures state { IfSome self.old.standing (λ r. OnOk result (self.new
+            ≡ with_state self.old r (keep r.state group.bits source.bits (min moment last_moment)))) }
+        ensures led { IfSome self.old.standing (λ r. OnOk result (IfSome self.new.standing (λ after.
+            LeadsOn r.state (Given.Kept group.bits source.bits (min moment last_moment)) after.state))) }
+        ensures failing { OnErr result (self.new ≡ nothing_shown) }
+        ensures failed { (result ≡ Err Fault.Failed) ↔ (self.old.standing ≡ None) }
+        ensures fault { IfSome self.old.standing (λ r. IsOkUnless result Fault.Memory) }
+    {
+        self.keep_later(source, group, moment)
+    }
+
+    // Sets the keepalive timer of (S,G), if it runs, to a later end.
+    fn keep_later(&mut self, source: Addr, group: Addr, moment: u64) -> Result<bool, Fault>
         ensures runs { IfSome self.old.standing (λ r. IfOk result (λ runs.
             runs ≡ is_kept_alive r.state group.bits source.bits)) }
         ensures state { IfSome self.old.standing (λ r. OnOk result (self.new

@@ -1,3 +1,4 @@
+pub mod Leaving
 pub mod Behind
 pub mod Front
 pub mod Laws

@@ -26,6 +26,9 @@ ghost use Rattle.pim_event.specs.Replacing.{may_differ};
 ghost use Rattle.pim_event.specs.Listing.{ListsSame};
 ghost use Rattle.pim_event.specs.Staying.{OffersStay};
 ghost use Rattle.pim_rested.specs.Resuming.{IsResumable, restore_test};
+ghost use Rattle.law_history.specs.History.{Given};
+ghost use Rattle.pim_router.specs.Asked.{LeadsOn};
+ghost use Rattle.pim_session.specs.Leaving.{LeftIsAsked};
 ghost use Rattle.pim_router.specs.Standing.{begun, nothing_shown, standing, with_state};
 ghost use Rattle.pim_saved.specs.Fits.{FitsState};
 ghost use Rattle.pim_saved.specs.Reading.{reading};
@@ -147,6 +150,42 @@ impl Session {
     /// from then on. A session that hasn't failed has no fault where the event is ignored, or is refused for its bytes,
     /// its timestamp or its interface, if its packet was given to the router as it came.
     pub fn step(
+        &mut self,
+        alloc: Global,
+        event: &LentEvent<'_>,
+    ) -> Result<Result<Verdict, Refusal>, Fault>
+        ensures answer { IfSome self.old.router.standing (λ r. IfOk result (λ answer. answer
+            ≡ (step r.state (given self.old.front r.state event.now)).answer)) }
+        ensures state { IfSome self.old.router.standing (λ r. OnOk result
+            (self.new.router.standing ≡ Some (standing (step r.state (given self.old.front r.state event.now))))) }
+        ensures sent { IfSome self.old.router.standing (λ r. OnOk result (self.new.sent
+            ≡ emissions_left self.old.front (step r.state (given self.old.front r.state event.now)).emissions)) }
+        ensures asked { IfSome self.old.router.standing (λ r. IfOk result (λ answer. IfSome self.new.router.standing (λ after.
+            LeftIsAsked self.old.front r.state (given self.old.front r.state event.now) answer self.new.sent after.copies))) }
+        ensures led { IfSome self.old.router.standing (λ r. OnOk result (IfSome self.new.router.standing (λ after.
+            LeadsOn r.state (Given.Happening (given self.old.front r.state event.now)) after.state))) }
+        ensures front { IfSome self.old.router.standing (λ r. OnOk result
+            (self.new.front ≡ front_after self.old.front r.state event.now)) }
+        ensures cheap { IfSome self.old.router.standing (λ r. OnOk result
+            (IsCheap r.state (given self.old.front r.state event.now) self.new.router.probes self.new.router.touched)) }
+        ensures changed { IfSome self.old.router.standing (λ r. OnOk result
+            (ListsSame self.new.router.changed (event_named r.state (given self.old.front r.state event.now)))) }
+        ensures disturbed { IfSome self.old.router.standing (λ r. OnOk result
+            (self.new.router.disturbed ≡ event_disturbed r.state (given self.old.front r.state event.now))) }
+        ensures stays { IfSome self.old.router.standing (λ r. OnOk result
+            (OffersStay self.new.router.disturbed r.state (step r.state (given self.old.front r.state event.now)).state)) }
+        ensures failing { OnErr result ((self.new.router ≡ nothing_shown) × (self.new.front ≡ None)) }
+        ensures silent { OnErr result (self.new.sent ≡ self.old.sent) }
+        ensures failed { (result ≡ Err Fault.Failed) ↔ (self.old.router.standing ≡ None) }
+        ensures fault { IfSome self.old.router.standing (λ r. IsOkUnless result Fault.Memory) }
+        ensures sure { IfSome self.old.router.standing (λ r. IsTrue (is_sure self.old.front r.state event.now) → IsOk result) }
+        ensures rows { (self.new.rows ≡ self.old.rows) × (self.new.older_rows ≡ self.old.older_rows) }
+    {
+        self.take(alloc, event)
+    }
+
+    // Takes one event, and keeps its packets.
+    fn take(
         &mut self,
         alloc: Global,
         event: &LentEvent<'_>,

@@ -7,4 +7,4 @@ pub mod sources;
 
 pub use after::{GroupAfter, SourceAfter};
 pub use opening::{GroupOpening, Opening, SourceOpening, is_whole};
-pub use sources::touched_sources;
+pub use sources::{is_whole as is_whole_by, sources_by_keys, touched_sources};

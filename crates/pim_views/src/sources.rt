@@ -65,6 +65,23 @@ fn sources_of_whole(
     Ok(BTreeMap::new(alloc))
 }
 
+/// The sources of the group that the keys touch, ascending: those that they name, and, where they touch all of the
+/// group, those that have any fact. The meter rises by the nodes visited.
+pub fn sources_by_keys(
+    alloc: Global,
+    world: &World,
+    keys: &[Key],
+    group: Addr,
+    meter: &mut Meter,
+) -> Result<BTreeMap<Addr, (), Global>, AllocError>
+    ensures { IfOk result (λ found. numbers_of found.entries
+        ≡ touched_sources world.now (TouchedKeys.Keys keys.now) group.bits) }
+{
+    let mut found = sources_of_whole(alloc, world, keys, group, meter)?;
+    gather_named(keys, group, &mut found)?;
+    Ok(found)
+}
+
 /// The sources of the group that are touched, ascending: those of the touched keys, and, where all of the group is
 /// touched, those that have any fact. The meter rises by the nodes visited.
 pub fn touched_sources(
@@ -82,8 +99,7 @@ pub fn touched_sources(
             Ok(found)
         }
         Touched::Keys(keys) => {
-            let mut found = sources_of_whole(alloc, world, keys.as_slice(), group, meter)?;
-            gather_named(keys.as_slice(), group, &mut found)?;
+            let found = sources_by_keys(alloc, world, keys.as_slice(), group, meter)?;
             Ok(found)
         }
     }

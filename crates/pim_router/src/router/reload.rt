@@ -7,6 +7,8 @@ ghost use Rattle.pim_model.specs.State.{opening};
 ghost use Rattle.law_reloaded.specs.Reloading.{reload};
 ghost use Rattle.pim_reloader.specs.Listing.{ListsFacts};
 ghost use Rattle.pim_reloader.specs.Reloads.{Reloads};
+ghost use Rattle.law_history.specs.History.{Given};
+ghost use Rattle.pim_router.specs.Asked.{LeadsOn};
 ghost use Rattle.pim_router.specs.Stepping.{Stands};
 ghost use Rattle.pim_router.specs.Standing.{beginning, nothing_shown};
 ghost use Rattle.pim_state.specs.declared.touched.Touched.{Touched as TouchedValue};
@@ -28,6 +30,34 @@ impl Router {
     /// `Failed` from then on; the only fault of a router that hasn't failed is want of memory. `copies` answers 0 after
     /// a reload, `changed` lists all sources with a fact before or after it, and `may_differ` answers yes for all.
     pub fn reload(
+        &mut self,
+        draw: u32,
+        config: &Config,
+        emissions: &mut Vec<Emission>,
+    ) -> Result<Result<(), Refusal>, Fault>
+        ensures accepted { IfOk result (λ answer. OnOk answer (config_test config.now ≡ Ok tt)) }
+        ensures state { IfSome self.old.standing (λ r. IfOk result (λ answer. OnOk answer
+            (self.new.standing ≡ Some (beginning (reload r.state config.now draw).0)))) }
+        ensures sent { IfSome self.old.standing (λ r. IfOk result (λ answer. OnOk answer
+            (emissions.new.items ≡ emissions.old.items ++ (reload r.state config.now draw).1))) }
+        ensures led { IfSome self.old.standing (λ r. IfOk result (λ answer. OnOk answer (IfSome self.new.standing (λ after.
+            LeadsOn r.state (Given.Reload config.now draw) after.state)))) }
+        ensures refused { IfOk result (λ answer. IfErr answer (λ refusal. (config_test config.now ≡ Err refusal)
+            × (self.new ≡ self.old) × (emissions.new.items ≡ emissions.old.items))) }
+        ensures changed { IfSome self.old.standing (λ r. IfOk result (λ answer. OnOk answer
+            (ListsFacts r.state (reload r.state config.now draw).0 self.new.changed))) }
+        ensures disturbed { IfOk result (λ answer. OnOk answer
+            (self.new.disturbed ≡ record { touched = TouchedValue.All; replaced = NoneReplaced })) }
+        ensures failing { OnErr result (self.new ≡ nothing_shown) }
+        ensures silent { OnErr result (emissions.new.items ≡ emissions.old.items) }
+        ensures failed { (result ≡ Err Fault.Failed) ↔ (self.old.standing ≡ None) }
+        ensures fault { IfSome self.old.standing (λ r. IsOkUnless result Fault.Memory) }
+    {
+        self.take_config(draw, config, emissions)
+    }
+
+    // Puts the router under another configuration.
+    fn take_config(
         &mut self,
         draw: u32,
         config: &Config,

@@ -4,7 +4,7 @@ use Rattle.pim_model.{specs.{Tables.ascending, Upstream.groups_of}}
 use Rattle.pim_state.{specs.{Groups.{gathered, numbers_of}, Touches.concerned_keys}}
 use Rattle.pim_views.{specs.Openings.{group_opening, opening_of, touched_sources}}
 use Rattle.pim_fanout.{specs.{Before.{key_before, opened_sources}, declared.before.SourceBefore.SourceBefore}}
-use Rattle.pim_fanout.proofs.before.gather_groups.Goals as goal
+use Rattle.pim_fanout.proofs.before.gather_grouped.Goals as goal
 
 pub returns-clause-opening : goal.returns-clause-opening
 unfolding opening_of gathered groups_of ascending

@@ -1,0 +1,85 @@
+-- What a call sends is asked for: from what is said of its answer, its packets and its state.
+use Rattle.std.{proofs.{Common.{◌≡◌, ℕ, Bool, List, [], ◌∷◌, ◌++◌, Option, Some, None, Result, Ok, Err, refl, sym, ap, subst, ◌∙◌}, lemmas.List.append_cancel_left}, specs.Prelude.{IfOk, IfSome, OnOk}}
+use Rattle.pim_ip.{specs.declared.{fault.Fault.Fault, refusal.Refusal.Refusal}}
+use Rattle.pim_types.{specs.declared.{config.Config.Config, event.Event.Event, outcome.{Emission.Emission, Outcome.Outcome, Verdict.Verdict}}}
+use Rattle.pim_model.{specs.{Cause.CopiesAreAsked, Limits.config_test, State.{State, opening}, Step.{Answered, outcome_of, step}}}
+use Rattle.law_plane.{specs.Keeping.keep}
+use Rattle.law_reloaded.{specs.Reloading.reload}
+use Rattle.law_history.{specs.History.{Given, past_given, state_given}, proofs.{Asked.call_is_asked, Histories.call_leads_on}}
+use Rattle.pim_router.{specs.{Asked.{LeadsOn, SentIsAsked}, Standing.{Shown, Standing, beginning, standing, with_state}}}
+
+pub step_asked : (s : State) (e : Event) (answer : Result Verdict Refusal) (sent : List Emission)
+    → answer ≡ (step s e).answer → sent ≡ (step s e).emissions → SentIsAsked s e answer sent (step s e).copies
+step_asked s e answer sent is are c before led =
+    let told : outcome_of (step s e) ≡ record { answer = answer; emissions = sent; copies = (step s e).copies } =
+    λ i. record { answer = sym is i; emissions = sym are i; copies = (step s e).copies } in
+    subst (λ (o : Outcome). CopiesAreAsked (past_given [] (opening c) before) (record { before = s; event = e }) o) told
+    (call_is_asked c before s e led)
+
+pub asked_by : (was now : Option Standing) (r : Result (Result Verdict Refusal) Fault) (old new : List Emission) (e : Event)
+    → IfSome was (λ r'. IfOk r (λ answer. answer ≡ (step r'.state e).answer))
+    → IfSome was (λ r'. OnOk r (now ≡ Some (standing (step r'.state e))))
+    → IfSome was (λ r'. OnOk r (new ≡ old ++ (step r'.state e).emissions))
+    → IfSome was (λ r'. IfOk r (λ answer. IfSome now (λ after. (sent : List Emission) → new ≡ old ++ sent
+    → SentIsAsked r'.state e answer sent after.copies)))
+asked_by None now r old new e answered stands sent = tt
+asked_by (Some r') now (Err f) old new e answered stands sent = tt
+asked_by (Some r') now (Ok answer) old new e answered stands sent =
+    subst (λ (o : Option Standing). IfSome o (λ after. (more : List Emission) → new ≡ old ++ more
+    → SentIsAsked r'.state e answer more after.copies)) (sym stands)
+    (λ more is. step_asked r'.state e answer more answered
+    (append_cancel_left old more (step r'.state e).emissions (sym is ∙ sent)))
+
+-- ---- it leads on
+
+pub step_leads : (s : State) (e : Event) → LeadsOn s (Given.Happening e) (step s e).state
+unfolding state_given
+step_leads s e c before led = call_leads_on c before s (Given.Happening e) led tt
+
+keep_leads : (s : State) (g src m : ℕ) → LeadsOn s (Given.Kept g src m) (keep s g src m)
+unfolding state_given
+keep_leads s g src m c before led = call_leads_on c before s (Given.Kept g src m) led tt
+
+reload_leads : (s : State) (d : Config) (w : ℕ) → config_test d ≡ Ok tt → LeadsOn s (Given.Reload d w) (reload s d w).0
+unfolding state_given
+reload_leads s d w accepted c before led = call_leads_on c before s (Given.Reload d w) led (accepted, tt)
+
+pub leads_now : (s : State) (one : Given) (now : Option Standing) (t : Standing) → now ≡ Some t → LeadsOn s one t.state
+    → IfSome now (λ after. LeadsOn s one after.state)
+leads_now s one now t is leads = subst (λ (o : Option Standing). IfSome o (λ after. LeadsOn s one after.state)) (sym is) leads
+
+pub led_by : (was now : Option Standing) (r : Result (Result Verdict Refusal) Fault) (e : Event)
+    → IfSome was (λ r'. OnOk r (now ≡ Some (standing (step r'.state e))))
+    → IfSome was (λ r'. OnOk r (IfSome now (λ after. LeadsOn r'.state (Given.Happening e) after.state)))
+led_by None now r e stands = tt
+led_by (Some r') now (Err f) e stands = tt
+led_by (Some r') now (Ok answer) e stands =
+    leads_now r'.state (Given.Happening e) now (standing (step r'.state e)) stands (step_leads r'.state e)
+
+pub kept_by : (was now : Shown) (r : Result Bool Fault) (g src m : ℕ)
+    → IfSome was.standing (λ r'. OnOk r (now ≡ with_state was r' (keep r'.state g src m)))
+    → IfSome was.standing (λ r'. OnOk r (IfSome now.standing (λ after. LeadsOn r'.state (Given.Kept g src m) after.state)))
+kept_by was now r g src m = go was.standing refl
+  where
+    go : (o : Option Standing) → was.standing ≡ o → IfSome o (λ r'. OnOk r (now ≡ with_state was r' (keep r'.state g src m)))
+        → IfSome o (λ r'. OnOk r (IfSome now.standing (λ after. LeadsOn r'.state (Given.Kept g src m) after.state)))
+    go None is f = tt
+    go (Some r') is f = by_result r f
+      where
+        by_result : (r : Result Bool Fault) → OnOk r (now ≡ with_state was r' (keep r'.state g src m))
+            → OnOk r (IfSome now.standing (λ after. LeadsOn r'.state (Given.Kept g src m) after.state))
+        by_result (Err f) e = tt
+        by_result (Ok b) e =
+            leads_now r'.state (Given.Kept g src m) now.standing (record r' { state = keep r'.state g src m })
+            (ap (λ (x : Shown). x.standing) e) (keep_leads r'.state g src m)
+
+pub reloaded_by : (was now : Option Standing) (r : Result (Result (Unit {0}) Refusal) Fault) (d : Config) (w : ℕ)
+    → IfOk r (λ answer. OnOk answer (config_test d ≡ Ok tt))
+    → IfSome was (λ r'. IfOk r (λ answer. OnOk answer (now ≡ Some (beginning (reload r'.state d w).0))))
+    → IfSome was (λ r'. IfOk r (λ answer. OnOk answer
+    (IfSome now (λ after. LeadsOn r'.state (Given.Reload d w) after.state))))
+reloaded_by None now r d w accepted stands = tt
+reloaded_by (Some r') now (Err f) d w accepted stands = tt
+reloaded_by (Some r') now (Ok (Err refusal)) d w accepted stands = tt
+reloaded_by (Some r') now (Ok (Ok done)) d w accepted stands =
+    leads_now r'.state (Given.Reload d w) now (beginning (reload r'.state d w).0) stands (reload_leads r'.state d w accepted)

@@ -1,0 +1,47 @@
+-- A session's call, by what is said of its answer, its packets and its state.
+use Rattle.std.{proofs.Common.{◌≡◌, ◌∷◌, [], List, Option, Some, None, Result, Ok, Err, refl, sym, subst}, specs.Prelude.{IfOk, IfSome, OnOk}}
+use Rattle.pim_ip.{specs.declared.{fault.Fault.Fault, refusal.Refusal.Refusal}}
+use Rattle.pim_types.{specs.declared.{event.Event.Event, outcome.{Emission.Emission, Verdict.Verdict}}}
+use Rattle.pim_model.{specs.{State.State, Step.step}}
+use Rattle.law_history.{specs.History.Given}
+use Rattle.pim_router.{specs.{Asked.LeadsOn, Standing.{Standing, standing}}, proofs.Asked.{leads_now, step_asked, step_leads}}
+use Rattle.pim_session.{specs.{Leaving.LeftIsAsked, Front.{Front, emissions_left}}}
+
+module _ (front : Option Front) (event : State → Event) (was now : Option Standing) where
+  pub left_by : (r : Result (Result Verdict Refusal) Fault) (left : List Emission)
+      → IfSome was (λ r'. IfOk r (λ answer. answer ≡ (step r'.state (event r'.state)).answer))
+      → IfSome was (λ r'. OnOk r (now ≡ Some (standing (step r'.state (event r'.state)))))
+      → IfSome was (λ r'. OnOk r (left ≡ emissions_left front (step r'.state (event r'.state)).emissions))
+      → IfSome was (λ r'. IfOk r (λ answer. IfSome now (λ after.
+      LeftIsAsked front r'.state (event r'.state) answer left after.copies)))
+  left_by = go was
+    where
+      go : (o : Option Standing) (r : Result (Result Verdict Refusal) Fault) (left : List Emission)
+          → IfSome o (λ r'. IfOk r (λ answer. answer ≡ (step r'.state (event r'.state)).answer))
+          → IfSome o (λ r'. OnOk r (now ≡ Some (standing (step r'.state (event r'.state)))))
+          → IfSome o (λ r'. OnOk r (left ≡ emissions_left front (step r'.state (event r'.state)).emissions))
+          → IfSome o (λ r'. IfOk r (λ answer. IfSome now (λ after.
+          LeftIsAsked front r'.state (event r'.state) answer left after.copies)))
+      go None r left is stands sent = tt
+      go (Some r') (Err f) left is stands sent = tt
+      go (Some r') (Ok answer) left is stands sent =
+          subst (λ (o : Option Standing). IfSome o (λ after. LeftIsAsked front r'.state (event r'.state) answer left after.copies)) (sym stands)
+          (record {
+            sent = (step r'.state (event r'.state)).emissions;
+            leaves = sent;
+            asked = step_asked r'.state (event r'.state) answer (step r'.state (event r'.state)).emissions is refl;
+          })
+
+  pub led_by : (r : Result (Result Verdict Refusal) Fault)
+      → IfSome was (λ r'. OnOk r (now ≡ Some (standing (step r'.state (event r'.state)))))
+      → IfSome was (λ r'. OnOk r (IfSome now (λ after. LeadsOn r'.state (Given.Happening (event r'.state)) after.state)))
+  led_by = go was
+    where
+      go : (o : Option Standing) (r : Result (Result Verdict Refusal) Fault)
+          → IfSome o (λ r'. OnOk r (now ≡ Some (standing (step r'.state (event r'.state)))))
+          → IfSome o (λ r'. OnOk r (IfSome now (λ after. LeadsOn r'.state (Given.Happening (event r'.state)) after.state)))
+      go None r stands = tt
+      go (Some r') (Err f) stands = tt
+      go (Some r') (Ok answer) stands =
+          leads_now r'.state (Given.Happening (event r'.state)) now (standing (step r'.state (event r'.state))) stands
+          (step_leads r'.state (event r'.state))

@@ -1,0 +1,15 @@
+-- What leaves by a call of a session is asked for, behind a front for older hosts too.
+use Rattle.std.{specs.Prelude.{List, Option, Result, ℕ, ◌≡◌}}
+use Rattle.pim_ip.{specs.declared.refusal.Refusal.Refusal}
+use Rattle.pim_types.{specs.declared.{event.Event.Event, outcome.{Emission.Emission, Verdict.Verdict}}}
+use Rattle.pim_model.{specs.State.State}
+use Rattle.pim_router.{specs.Asked.SentIsAsked}
+use Rattle.pim_session.{specs.Front.{Front, emissions_left}}
+
+-- What left is what the router sent, with queries as the interfaces' versions have them, and each copy among it has its
+-- cause in what led to the state.
+pub record LeftIsAsked (front : Option Front) (s : State) (e : Event) (answer : Result Verdict Refusal) (left : List Emission) (copies : ℕ)
+    : Type 0 where
+  pub sent : List Emission
+  pub leaves : left ≡ emissions_left front sent
+  pub asked : SentIsAsked s e answer sent copies
