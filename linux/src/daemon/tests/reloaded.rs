@@ -110,9 +110,13 @@ fn it_is_recorded() {
     daemon.core.flush_record();
     let files = std::fs::read_dir(&folder).expect("it is there").filter_map(Result::ok);
     let written = files.filter_map(|file| std::fs::read(file.path()).ok()).max_by_key(Vec::len).expect("one is there");
-    // Two interfaces, one route and two ranges, and then the settings.
-    let wanted: Vec<_> =
-        [2u32, 1, 2, 24 + 2 * 20 + 24 + 2 * 12, 1000, 2].iter().flat_map(|it| it.to_be_bytes()).collect();
+    // A record of a reload behind its draw (docs/LIBRARY.md, "A recording"): the settings, two interfaces, one route and
+    // two ranges, as docs/SAVED.md has them, and the answer.
+    let words = |numbers: &[u32]| numbers.iter().flat_map(|number| number.to_be_bytes()).collect::<Vec<_>>();
+    let mut wanted = [words(&[1000]), vec![0], words(&[2, 125, 100, 10])].concat();
+    wanted.extend(words(&[0, 2, 0x0a01_0001, 24, 1, 500, 2500, 0x0a05_0001, 24, 1, 500, 2500]));
+    wanted.extend(words(&[0, 1, 0x0a09_0000, 16, 0x0a01_0002, 0, 110, 1]));
+    wanted.extend(words(&[0, 2, 0xef01_0000, 16, 0x0a01_0001, 0xef02_0000, 16, 0x0a09_0001, 0]));
     assert!(written.windows(wanted.len()).any(|it| it == wanted));
     std::fs::remove_dir_all(&folder).expect("it is there");
 }
