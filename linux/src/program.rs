@@ -121,7 +121,9 @@ pub fn hold_signals(they_wait: bool) {
     unsafe {
         let mut set = std::mem::zeroed();
         libc::sigemptyset(&mut set);
-        SIGNALS.iter().for_each(|signal| drop(libc::sigaddset(&mut set, *signal)));
+        for signal in SIGNALS {
+            libc::sigaddset(&mut set, signal);
+        }
         libc::sigprocmask(how, &set, std::ptr::null_mut());
     }
 }

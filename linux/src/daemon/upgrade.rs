@@ -124,7 +124,9 @@ impl Daemon {
             -1 => Err(io::Error::last_os_error()),
             0 => {
                 // A router that begins meanwhile is to have them alone.
-                self.kernel.sockets().iter().for_each(|(_, fd)| unsafe { drop(libc::close(*fd)) });
+                for (_, fd) in self.kernel.sockets() {
+                    unsafe { libc::close(fd) };
+                }
                 let saved = self.save(path);
                 unsafe { libc::_exit(i32::from(saved.is_err())) }
             }
@@ -152,7 +154,9 @@ impl Daemon {
         let gone = kept.keys().filter(|name| !sockets.contains_key(*name)).map(|name| manager.forget(name));
         let new = sockets.iter().filter(|(name, fd)| kept.get(*name) != Some(fd));
         let told = gone.chain(new.map(|(name, fd)| manager.keep(name, *fd)));
-        if let Some(error) = told.filter_map(Result::err).last() {
+        // All are told, whatever becomes of one.
+        let errors: Vec<_> = told.filter_map(Result::err).collect();
+        if let Some(error) = errors.last() {
             warn!("the service manager can't be told which sockets it is to keep: {error}");
         }
         self.keeping.kept = sockets;

@@ -245,8 +245,11 @@ fn own_time() -> u64 {
     time.tv_sec as u64 * 1_000_000_000 + time.tv_nsec as u64
 }
 
+/// What happens in each turn, by its number.
+type Happening<'a> = &'a dyn Fn(u32) -> (Source, kernel::Event);
+
 /// How long an event takes at the median of some rounds, in ns: of the daemon and the library, without the machine.
-fn event_takes(settings: &str, event: &dyn Fn(u32) -> (Source, kernel::Event)) -> u64 {
+fn event_takes(settings: &str, event: Happening) -> u64 {
     const EVENTS: u32 = 2_000;
     let (mut daemon, fake) = begun(settings, &both());
     happens(&mut daemon, &fake, report(ETH1, [10, 5, 0, 77], GROUP));
@@ -272,7 +275,7 @@ fn what_recording_costs() {
     let recorded = format!("{TWO}[recorder]\nfolder = \"{}\"\n", folder.display());
     let data = data([10, 1, 0, 50].into(), GROUP, 0, 1_000);
     let flows = key([10, 1, 0, 50].into(), GROUP.octets());
-    let kinds: [(&str, &dyn Fn(u32) -> (Source, kernel::Event)); 4] = [
+    let kinds: [(&str, Happening); 4] = [
         ("a report of a known group", &|_| report(ETH1, [10, 5, 0, 77], GROUP)),
         ("a report of a new group", &|number| report(ETH1, [10, 5, 0, 77], (0xef01_0200 + number % 7_000).into())),
         ("a Hello", &|_| hello()),
