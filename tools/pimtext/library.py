@@ -196,9 +196,11 @@ class Library:
         return made
 
     def rust_program(self, source: Path) -> Path:
-        """A Rust program with it."""
-        made = self.room / f"{source.stem}_rs"
-        ran(["rustc", "--edition", "2021", "-O", "-o", made, source, "-C", f"link-arg={self.archive}"])
+        """A Rust program with it, by the Rust crate."""
+        made, crate = self.room / f"{source.stem}_rs", self.room / "libviqeshor.rlib"
+        words = ["rustc", "--edition", "2021", "-O"]
+        ran([*words, "--crate-name", "viqeshor", "--crate-type", "rlib", "-o", crate, BINDINGS / "rust/src/lib.rs"])
+        ran([*words, "-o", made, source, "--extern", f"viqeshor={crate}", "-C", f"link-arg={self.archive}"])
         return made
 
 

@@ -5,15 +5,12 @@
 //! SETUP has a line for each event before the data: `up IFACE`, or `frame IFACE HEX`. With `time` the packets go through both in turn,
 //! a batch each, and the nanoseconds of both a packet are printed. With `count` all go first through the one and then through the
 //! other, for a count of instructions in `library_batch` and `plain_batch`.
-#[allow(dead_code)]
-#[path = "../../../bindings/rust/src/lib.rs"]
-mod viqeshor;
 mod plain;
 
-use viqeshor::{Error, Interface, MOST_BYTES, Range, Route, Router, Settings, Verdict};
 use plain::{Plain, sum16};
 use std::hint::black_box;
 use std::time::Instant;
+use viqeshor::{Error, Interface, MOST_BYTES, Range, Route, Router, Settings, Verdict};
 
 const BATCH: usize = 64;
 const FIRST_GROUP: u32 = 0xE101_0000;
