@@ -104,9 +104,9 @@ module _ (xs ys : List Key) (moved : IsPermutation xs ys) where
   groups_alike : groups_of xs ≡ groups_of ys
   unfolding groups_of is_among
   groups_alike = members_tell (map group_in xs) (map group_in ys) (λ n.
-    any_ascending (λ m. m == n) (map group_in xs) ∙ any_of_map (λ m. m == n) group_in xs
-    ∙ (any_alike (λ k. group_in k == n)
-    ∙ sym (any_ascending (λ m. m == n) (map group_in ys) ∙ any_of_map (λ m. m == n) group_in ys)))
+      any_ascending (λ m. m == n) (map group_in xs) ∙ any_of_map (λ m. m == n) group_in xs
+      ∙ (any_alike (λ k. group_in k == n)
+      ∙ sym (any_ascending (λ m. m == n) (map group_in ys) ∙ any_of_map (λ m. m == n) group_in ys)))
 
   any_whole : (g : ℕ) → list_any (is_of_all g) xs ≡ list_any (is_of_all g) ys
   any_whole g = any_alike (is_of_all g)
@@ -128,7 +128,7 @@ module _ (xs ys : List Key) (moved : IsPermutation xs ys) where
   all_sources : (s : State) (g : ℕ) → touched_sources s (Keys xs) g ≡ touched_sources s (Keys ys) g
   unfolding touched_sources sources_of is_among
   all_sources s g = members_tell _ _ (λ n.
-    any_ascending (λ m. m == n) _ ∙ any_source s g n ∙ sym (any_ascending (λ m. m == n) _))
+      any_ascending (λ m. m == n) _ ∙ any_source s g n ∙ sym (any_ascending (λ m. m == n) _))
 
   opened_alike : (s : State) (g : ℕ) → group_opening s (Keys xs) g ≡ group_opening s (Keys ys) g
   unfolding is_whole

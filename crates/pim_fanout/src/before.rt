@@ -18,7 +18,9 @@ use pim_macros::{SourceSight, StarSight};
 use pim_state::{Meter, Touched, World};
 use pim_types::fact::RegisterState;
 use pim_types::{Addr, Key, Series, SourceGroup};
-use pim_views::{GroupOpening, Opening, SourceOpening, is_whole, is_whole_by, sources_by_keys, touched_sources};
+use pim_views::{
+    GroupOpening, Opening, SourceOpening, is_whole, is_whole_by, sources_by_keys, touched_sources,
+};
 use std::alloc::{AllocError, Global};
 use std::collections::BTreeMap;
 use std::marker::Model;
@@ -353,7 +355,13 @@ fn sources_of(
             Ok(found)
         }
         Touched::Keys(keys) => {
-            let found = sources_by_keys(alloc, world, keys_of(keys.as_slice(), group), group, meter)?;
+            let found = sources_by_keys(
+                alloc,
+                world,
+                keys_of(keys.as_slice(), group),
+                group,
+                meter,
+            )?;
             Ok(found)
         }
     }

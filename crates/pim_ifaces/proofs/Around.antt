@@ -93,14 +93,15 @@ all_owns : (all cs : List InterfaceConfig) (n : ℕ) → ((k : ℕ) → slice_ge
     → AllByRecursion (IsOwnOf all) (owns_from n cs)
 unfolding owns_from
 all_owns all [] n same = tt
-all_owns all (c ∷ cs) n same =
-    ((c, ap (slice_get all) (first n) ∙ same 0, refl),
-    all_owns all cs (n + 1) (λ k. ap (slice_get all) (next n k) ∙ same (suc k))) where
-      first : (n : ℕ) → n ≡ n + 0
-      first n = omega arith
+all_owns all (c ∷ cs) n same = (
+  (c, ap (slice_get all) (first n) ∙ same 0, refl),
+  all_owns all cs (n + 1) (λ k. ap (slice_get all) (next n k) ∙ same (suc k)),
+) where
+  first : (n : ℕ) → n ≡ n + 0
+  first n = omega arith
 
-      next : (n k : ℕ) → n + 1 + k ≡ n + suc k
-      next n k = omega arith
+  next : (n k : ℕ) → n + 1 + k ≡ n + suc k
+  next n k = omega arith
 
 abbrev own : ℕ → InterfaceConfig → Own
 own n c = record { address = c.address.bits; number = n }
@@ -176,9 +177,9 @@ module _ (cs : List InterfaceConfig) (owns : List Own) (a point : ℕ) (ordered 
     finds_one n lies = record {
       lies = lies;
       only = λ i e.
-        let mine = there a (slice_get cs n) lies in
-        let other = there a (slice_get cs i) e in
-        ap Some (unique cs ordered.apart n i a mine.0 other.0 mine.1 other.1 mine.2 other.2);
+          let mine = there a (slice_get cs n) lies in
+          let other = there a (slice_get cs i) e in
+          ap Some (unique cs ordered.apart n i a mine.0 other.0 mine.1 other.1 mine.2 other.2);
     }
 
   module _ (bound : point ≤ length owns)
@@ -214,10 +215,10 @@ module _ (cs : List InterfaceConfig) (owns : List Own) (a point : ℕ) (ordered 
 
     pub of_place : found_before cs owns a point ≡ None → Finds cs a (found_at cs owns a point)
     of_place none = record {
-      lies = lies_if (slice_get owns point) ;
+      lies = lies_if (slice_get owns point);
       only = λ i e.
-        let mine = there a (slice_get cs i) e in
-        ⊎_elim (λ f. let no : ⊥ = cc in absurd no) (λ f. f) (either_place i mine.0 mine.1 mine.2);
+          let mine = there a (slice_get cs i) e in
+          ⊎_elim (λ f. let no : ⊥ = cc in absurd no) (λ f. f) (either_place i mine.0 mine.1 mine.2);
     } where
       lies_if : (o : Option Own)
           → IfSome (option_and_then (λ o. if lies_in cs a o.number then Some o.number else None) o) (λ n. lies_in cs a n ≡ true)

@@ -162,7 +162,11 @@ fn around_at(
     ensures { result ≡ found_at interfaces.now owns.now address.bits place }
 {
     let own = owns.get(place)?;
-    if lies_in(interfaces, own.number, address) { Some(own.number) } else { None }
+    if lies_in(interfaces, own.number, address) {
+        Some(own.number)
+    } else {
+        None
+    }
 }
 
 // The same of the place before this one, if there is one.
@@ -174,7 +178,11 @@ fn around_before(
 ) -> Option<u32>
     ensures { result ≡ found_before interfaces.now owns.now address.bits place }
 {
-    if place == 0 { None } else { around_at(interfaces, owns, place - 1, address) }
+    if place == 0 {
+        None
+    } else {
+        around_at(interfaces, owns, place - 1, address)
+    }
 }
 
 // The interface in whose subnet the address lies. Subnets are apart, so no own address of another interface lies between
