@@ -18,10 +18,6 @@ is_exclude s g i = is_exclude_among s.group_records g i
 abbrev pub is_include_among : Table GroupRecordRow → ℕ → ℕ → Bool
 is_include_among groups g i = has_row groups (star_key i g) && not (is_exclude_among groups g i)
 
--- the router filter-mode of the group on I is INCLUDE in a state (RFC 3376, section 6.2.1)
-abbrev pub is_include : State → ℕ → ℕ → Bool
-is_include s g i = is_include_among s.group_records g i
-
 -- the source record of S, which has when its source timer expires (RFC 3376, section 6.2.3)
 abbrev pub source_record_among : Table SourceRecordRow → ℕ → ℕ → ℕ → Option SourceRecordRow
 source_record_among sources g src i = row_at sources (source_key i g src)

@@ -2,14 +2,14 @@
 -- the moments at which timers end.
 use Rattle.std.{proofs.Common.{◌≡◌, ℕ, ◌&&◌, ◌||◌, Bool, true, false, not, cond, List, [], ◌∷◌, fold, map, Option, Some, None, is_none, is_some, option_map, refl, ap, sym, subst, ◌∙◌, eq-eqb}, specs.List.{cons_option, filter, filter_map, list_any, Sorted.IsStrictlySortedBy}}
 use Rattle.igmp_wire.{specs.declared.report.RecordType.RecordType}
-use Rattle.pim_types.{specs.{declared.fact.{Key.Key, SourceRecordRow.SourceRecordRow}, Keys.{key_cmp, same_key, source_in, source_key}}, proofs.Keys.{equal_keys, same_key_same}}
-use Rattle.pim_model.{specs.{Records.{SourceState, Absent, Excluded, Included, GroupRecord, Member, apply_record, from_exclude, from_include, source_state_in, is_at_group, is_no_record, kept_or_until, members_of, put_member, record_with}, Tables.{Table, drop_where, has_row, is_among, keys_in, put, row_at}, Cause.is_including}}
-use Rattle.law_settled.{proofs.{ListLaws.either, RowLaws.{row_put, row_put_away}, TableLaws.row_is_there}}
+use Rattle.pim_types.{specs.{declared.fact.{Key.Key, SourceRecordRow.SourceRecordRow}, Keys.{key_cmp, same_key, source_in, source_key}}, proofs.Keys.equal_keys}
+use Rattle.pim_model.{specs.{Records.{SourceState, Absent, Excluded, Included, GroupRecord, Member, apply_record, from_exclude, from_include, source_state_in, is_at_group, is_no_record, kept_or_until, members_of, put_member, record_with}, Tables.{Table, drop_where, has_row, is_among, keys_in, row_at}, Cause.is_including}}
+use Rattle.law_settled.{proofs.{ListLaws.either, TableLaws.row_is_there}}
 use Rattle.law_cache.{proofs.KeptAlive.with_its_row}
 use Rattle.pim_filters.{proofs.{Applying.all_of, Merging.source_state_among}}
 use Rattle.law_scope.{specs.Scopes.only_running, proofs.{Rows.{cut_entry, row_at_cut}, SourceMacros.cut_source}}
 use Rattle.pim_querier.{specs.Reports.{keeps_others, stays}, proofs.{NamedRecords.{all_among, gone_of, is_member, neither, none_written}, NamedSources.{anew, anew_elsewhere, anew_row, known, known_row, made, row_of, up_anew}, OneSource.{AreSources, rebuilt, member_after, row_after}}}
-use Rattle.pim_tables.{proofs.RisingRows.{Above, Up, head_row, same_rows, up_of_sorted, up_put}}
+use Rattle.pim_tables.{proofs.RisingRows.{Above, Up, head_row, up_of_sorted}}
 
 -- ---- tables that are alike
 
@@ -21,31 +21,6 @@ module _ {R : Type 0} (cut : R → R) where
   pub up_cut : (t : Table R) → Up t → Up (map (cut_entry cut) t)
   up_cut [] up = tt
   up_cut (e ∷ t) up = (above_cut e.0 t up.0, up_cut t up.1)
-
-  -- tables that rise are alike where their rows are
-  pub tables_alike : (t u : Table R) → Up t → Up u
-      → ((k : Key) → option_map cut (row_at t k) ≡ option_map cut (row_at u k)) → map (cut_entry cut) t ≡ map (cut_entry cut) u
-  tables_alike t u up up' same =
-      same_rows (map (cut_entry cut) t) (map (cut_entry cut) u) (up_cut t up) (up_cut u up')
-      (λ k. row_at_cut cut k t ∙ same k ∙ sym (row_at_cut cut k u))
-
-  put_row : (k : Key) (r old : R) (t : Table R) → cut r ≡ cut old → row_at t k ≡ Some old → (q : Key) (b : Bool)
-      → same_key k q ≡ b → option_map cut (row_at (put t k r) q) ≡ option_map cut (row_at t q)
-  put_row k r old t alike there q true is =
-      subst (λ (x : Key). option_map cut (row_at (put t k r) x) ≡ option_map cut (row_at t x)) (equal_keys k q is)
-      (ap (option_map cut) (row_put k r t) ∙ ap (λ (x : R). Some x) alike ∙ sym (ap (option_map cut) there))
-  put_row k r old t alike there q false is =
-      ap (option_map cut) (row_put_away k q other r t)
-    where
-      other : k ≡ q → ⊥
-      other same =
-          let yes : same_key k q ≡ true = subst (λ (x : Key). same_key k x ≡ true) same (same_key_same k) in cc
-
-  -- a row that is put in place of one that it is alike
-  pub put_alike : (k : Key) (r old : R) (t : Table R) → Up t → cut r ≡ cut old → row_at t k ≡ Some old
-      → map (cut_entry cut) (put t k r) ≡ map (cut_entry cut) t
-  put_alike k r old t up alike there =
-      tables_alike (put t k r) t (up_put k r t up) up (λ q. put_row k r old t alike there q (same_key k q) refl)
 
   keys_cut : (t : Table R) → keys_in (map (cut_entry cut) t) ≡ keys_in t
   unfolding keys_in

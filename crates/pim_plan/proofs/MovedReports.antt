@@ -4,7 +4,7 @@ use Rattle.igmp_wire.{specs.{Values.Record, declared.report.RecordType.RecordTyp
 use Rattle.pim_types.{specs.{declared.fact.{GroupRecordRow.GroupRecordRow, GroupRepeatRow.GroupRepeatRow, Key.Key, SendingRow.SendingRow, SourceRecordRow.SourceRecordRow, SourceRepeatRow.SourceRepeatRow}, Keys.{group_in, iface_in, is_of_group, is_on, key_cmp, same_key, source_in, source_key, star_key}}, proofs.Keys.{equal_keys, same_key_same}}
 use Rattle.pim_model.{specs.{Downstream.is_named, Full.reported_sources, Messages.Message, Querier.{each_in_turn, exceeds, group_end, group_membership_interval, is_querier, is_skipped, lower_group, lower_sources, lowered, query_asked, query_end, query_group, query_sources, record_seen, report_seen, robustness, send_sources, source_end, sources_sent}, Records.{AskGroup, AskSources, Asked, GroupRecord, Member, apply_record, is_at_group, is_no_record, put_member, record_of, with_members, with_record, with_repeats_of_rows}, Rows.{same_both, same_source_record}, State.State, Tables.{Table, drop_at, drop_where, has_row, is_among, is_empty_list, keys_in, put, row_at, rows_where}, Upstream.fact_keys, Cause.is_including}}
 use Rattle.law_settled.{proofs.{ListLaws.{any_more, by_cond, each_filter, either}, RowLaws.{each_put, has_row_without, row_drop_away, row_put, row_put_away}, TableLaws.{any_in_filter, any_of_map}, TurnLaws.{kept_by_fold, kept_in_turn}}, specs.Laws.is_under_source}
-use Rattle.law_scope.{specs.{Locality.{AgreesBut, touching}, Scopes.{is_mode_read, modes_read, only_mode, only_running, only_side, reads, scope}}, proofs.{Differing.{passing_named, row_named}, Rows.{cut_entry, row_at_cut, row_in_scope, row_out_of_scope, rows_where_cut}, SameRows.of_source_records, SameTables.seen_found_alike, SourceMacros.cut_source, StarMacros.{cut_group, some_cut}}}
+use Rattle.law_scope.{specs.{Locality.{AgreesBut, touching}, Scopes.{is_mode_read, modes_read, only_mode, only_running, only_side, reads, scope}}, proofs.{Differing.{passing_named, row_named}, Rows.{cut_entry, row_at_cut, row_in_scope, row_out_of_scope}, SameRows.of_source_records, SameTables.seen_found_alike, SourceMacros.cut_source, StarMacros.{cut_group, some_cut}}}
 use Rattle.pim_querier.{specs.Reports.{all_keep_modes, keeps_mode, keeps_others, moved_by, moved_named, moved_others, moved_sources, stays}, proofs.OneSource.AreSources}
 use Rattle.pim_tables.{proofs.RisingRows.{Above, Up, same_rows, sorted_of_up, up_filtered, up_of_sorted, up_put}}
 use Rattle.pim_plan.{proofs.{Growing.{any_left, any_right, row_among}, MovedEnds.{Fares, IsMoved, any_kept, applied_moved, is_left, keys_alike, own_here, row_alike, side, up_cut}}}
@@ -12,10 +12,6 @@ use Rattle.pim_plan.{proofs.{Growing.{any_left, any_right, row_among}, MovedEnds
 -- ---- tables that are alike, of the rows of some keys and changed in their places
 
 module _ {R : Type 0} (cut : R → R) where
-  where_alike : (p : Key → Bool) (t u : Table R) → map (cut_entry cut) t ≡ map (cut_entry cut) u
-      → map (cut_entry cut) (rows_where p t) ≡ map (cut_entry cut) (rows_where p u)
-  where_alike p t u e = sym (rows_where_cut cut p t) ∙ ap (rows_where p) e ∙ rows_where_cut cut p u
-
   module _ (test : Key → Bool) (change : Key × R → R) (alike : (e : Key × R) → cut (change e) ≡ cut e.1) where
     place_step : (x : Key × R) (xs ys : Table R) (b : Bool) → map (cut_entry cut) ys ≡ map (cut_entry cut) xs
         → map (cut_entry cut) (cond b (x.0, change x) x ∷ ys) ≡ map (cut_entry cut) (x ∷ xs)
