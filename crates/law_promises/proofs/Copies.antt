@@ -1,9 +1,9 @@
 -- The laws of copies, from what an event makes.
-use Rattle.std.{proofs.Common.{◌≡◌, ◌∙◌, ℕ, ◌<◌, ◌==◌, true, false, List, ◌++◌, Option, sym, ap, subst, arith, ltb-true}, specs.List.{All, AllByRecursion, Contains}}
+use Rattle.std.{proofs.{Common.{◌≡◌, ◌∙◌, ℕ, ◌<◌, ◌==◌, true, false, List, [], ◌∷◌, ◌++◌, inl, inr, Option, refl, sym, ap, subst, arith, ltb-true}, lemmas.List.Elements.recursion_from_All}, specs.List.{All, AllByRecursion, Contains}}
 use Rattle.pim_types.{specs.declared.{event.Event.Event, outcome.Emission.Emission}}
 use Rattle.pim_model.{specs.{declared.accepted.Accepted.Accepted, Cause.done_as, State.{State, iface_count}, Step.step, Writing.on_link}}
-use Rattle.law_settled.{proofs.ListLaws.{each_map, each_more}}
-use Rattle.law_promises.{specs.Copies.{IsLower, IsLowerInside, NeverBack, NeverTwice, TtlFalls, TunnelTtlFalls, happens}, proofs.{Links.{each_contained, on_each, to_all}, Made.{IsOf, IsRegister, Made, NotBack, step_made}}}
+use Rattle.law_settled.{proofs.ListLaws.{each_append, each_both, each_map, each_more}}
+use Rattle.law_promises.{specs.{Copies.{IsLower, IsLowerInside, NeverBack, NeverTwice, TtlFalls, copies_at, happens}, Data.{EachEmissionIsOfAKind, IsMessage, IsOfAKind, OnlyCopiesAreData, SendsOnly}}, proofs.{Links.{contains_later, each_contained, on_each, to_all}, Made.{IsOf, IsRegister, Made, NotBack, step_made}}}
 
 pub never_twice : NeverTwice
 never_twice s e =
@@ -59,13 +59,36 @@ ttl_falls s e =
 lower_inside : (s : State) (e : Event) (x : Emission) → IsRegister (done_as (happens s e)) x → IsLowerInside s e x
 lower_inside s e x f = grind (arith, ltb-true)
 
-pub tunnel_ttl_falls : TunnelTtlFalls
-tunnel_ttl_falls s e =
+pub only_copies_are_data : OnlyCopiesAreData
+only_copies_are_data s e =
     let made : Made s (done_as (happens s e)) (step s e) = step_made s e in
     record {
       messages = made.messages;
       registered = made.registered;
       emissions = made.emissions ∙ ap (λ (c : List Emission). made.messages ++ c ++ made.registered) (sym made.copies);
-      each = to_all (IsLowerInside s e) made.registered
+      own = to_all IsMessage made.messages made.own;
+      copies = ttl_falls s e;
+      around = to_all (IsLowerInside s e) made.registered
           (each_more (IsRegister (done_as (happens s e))) (IsLowerInside s e) (λ x f. lower_inside s e x f) made.registered made.round);
     }
+
+each_itself : {X : Type 0} (xs : List X) → AllByRecursion (λ x. Contains xs x) xs
+each_itself [] = tt
+each_itself (x ∷ xs) =
+    ((0, omega arith, refl), each_more (λ y. Contains xs y) (λ y. Contains (x ∷ xs) y) (λ y c. contains_later x y xs c) xs (each_itself xs))
+
+pub each_emission_is_of_a_kind : EachEmissionIsOfAKind
+each_emission_is_of_a_kind s e =
+    let sent : SendsOnly s e = only_copies_are_data s e in
+    let K : Emission → Type 0 = IsOfAKind s e in
+    let own : AllByRecursion K sent.messages =
+    each_more IsMessage K (λ x f. inl f) sent.messages (recursion_from_All IsMessage sent.messages sent.own) in
+    let copies : AllByRecursion K (copies_at s e) =
+    each_both (λ x. Contains (copies_at s e) x) (IsLower s e) K (λ x here low. inr (inl (here, low))) (copies_at s e)
+    (each_itself (copies_at s e)) (recursion_from_All (IsLower s e) (copies_at s e) sent.copies) in
+    let around : AllByRecursion K sent.registered =
+    each_more (IsLowerInside s e) K (λ x f. inr (inr f)) sent.registered
+    (recursion_from_All (IsLowerInside s e) sent.registered sent.around) in
+    subst (All K) (sym sent.emissions) (to_all K (sent.messages ++ copies_at s e ++ sent.registered)
+    (each_append K (sent.messages ++ copies_at s e) sent.registered
+    (each_append K sent.messages (copies_at s e) own copies) around))

@@ -1,4 +1,5 @@
 pub mod Links
+pub mod Messages
 pub mod Made
 pub mod Copies
 pub mod Served

@@ -3,9 +3,9 @@ use Rattle.std.{proofs.{Common.{◌≡◌, ◌∙◌, ℕ, ◌+◌, ◌-◌, ◌
 use Rattle.pim_ip.{specs.{Ipv4.{Packet, copy_text}, declared.refusal.Refusal.Refusal}}
 use Rattle.pim_types.{specs.declared.{config.{IfaceId.IfaceId, InterfaceConfig.InterfaceConfig}, event.Event.Event, outcome.{Emission.Emission, Stop.Stop, Verdict.Verdict}}}
 use Rattle.pim_wire.{specs.{Registers.register_text, Values.Encapsulated}}
-use Rattle.pim_model.{specs.{declared.accepted.Accepted.Accepted, Asserts.{data_seen, wins, with_spt_bit}, Cause.{copies_in, done_as, if_done, is_on_link, packet_in}, Firing.settled, Forwarding.{Forwarded, forwarded, list_chosen, register_at_rp, register_received, source_here, source_joined, spt_updated, stray, watched}, Judging.{Judged, judged}, Registers.{settle_register, with_keepalive}, Sets.{Set, members}, State.{State, iface_count}, Step.{Answered, advanced, change, concluded, done, outcome_of, packet_forwarded, step, stopped, taken, taken_unless_full}, Tables.below, Writing.{copies_of, leaves, pim_to, register_of_packet, tunnel_of}}}
+use Rattle.pim_model.{specs.{declared.accepted.Accepted.Accepted, Asserts.{data_seen, wins, with_spt_bit}, Cause.{copies_in, done_as, if_done, is_on_link, packet_in}, Firing.settled, Forwarding.{Forwarded, forwarded, list_chosen, register_at_rp, register_received, source_here, source_joined, spt_updated, stray, watched}, Judging.{Judged, judged}, Registers.{settle_register, with_keepalive}, Sets.{Set, members}, State.{State, iface_count}, Step.{Answered, Change, advanced, change, concluded, done, outcome_of, packet_forwarded, step, stopped, taken, taken_unless_full}, Tables.below, Writing.{copies_of, leaves, pim_to, register_of_packet, tunnel_of}}}
 use Rattle.law_settled.{proofs.{ListLaws.{each_filter, each_more, each_passes}, UnchangedLaws.{full_or_taken, taken_done}}}
-use Rattle.law_promises.{specs.Copies.happens, proofs.Links.{all_below, each_on_link, none_on_link, on_each, rising_below}}
+use Rattle.law_promises.{specs.Copies.happens, proofs.{Messages.{Own, own_all, own_settled}, Links.{all_below, each_on_link, none_on_link, on_each, rising_below}}}
 
 -- ---- the interfaces of a packet's state are those of the state that it found
 
@@ -65,6 +65,7 @@ pub record Made (s : State) (o : Option Accepted) (a : Answered) : Type 0 where
   pub links : List ℕ
   pub text : List ℕ
   pub messages : List Emission
+  pub own : Own messages
   pub registered : List Emission
   pub emissions : a.emissions ≡ messages ++ on_each text links ++ registered
   pub copies : copies_in (outcome_of a) ≡ on_each text links
@@ -149,6 +150,7 @@ module _ (s : State) (w : ℕ) (o : Option Accepted) (p : Packet) (brought : pac
         links = links;
         text = text;
         messages = sent;
+        own = own_settled s (f.state, f.messages) w;
         registered = registered;
         emissions = ap (λ (c : List Emission). sent ++ c ++ registered) (copies_of_links f.state p f.list);
         copies = subst (λ (c : List Emission). copies_in (record { answer = Ok Verdict.Done; emissions = sent ++ c ++ registered; copies = length c }) ≡ on_each text links)
@@ -167,11 +169,12 @@ module _ (s : State) (w : ℕ) (o : Option Accepted) (p : Packet) (brought : pac
 no_links_back : (o : Option Accepted) → NotBack o []
 no_links_back o = grind arith
 
-none_made : (s : State) (o : Option Accepted) (a : Answered) → a.copies ≡ 0 → Made s o a
-none_made s o a e = record {
+none_made : (s : State) (o : Option Accepted) (a : Answered) → Own a.emissions → a.copies ≡ 0 → Made s o a
+none_made s o a own e = record {
   links = [];
   text = [];
   messages = a.emissions;
+  own = own;
   registered = [];
   emissions = sym (append-nil (a.emissions ++ []) ∙ append-nil a.emissions);
   copies = none_found a e;
@@ -182,6 +185,17 @@ none_made s o a e = record {
   round = tt;
 }
 
+advanced_made : (s : State) (w moment : ℕ) (o : Option Accepted) → Made s o (advanced s w moment)
+unfolding advanced
+advanced_made s w moment o = none_made s o (advanced s w moment) (own_all w moment s) refl
+
+silent_made : (s : State) (w : ℕ) (o : Option Accepted) (c : Change) → c.copies ≡ [] → c.registered ≡ []
+    → Made s o (done s w c)
+unfolding done
+silent_made s w o c copies registered =
+    none_made s o (done s w c) (rw (copies, registered, append-nil, append-nil) (own_settled s (c.state, c.messages) w))
+    (ap (λ (es : List Emission). length es) copies)
+
 -- ---- every event
 
 never_back : (s : State) (g src iif j : ℕ) → (forwarded s g src iif).list j ≡ true → (j == iif) ≡ false
@@ -189,9 +203,9 @@ unfolding forwarded
 never_back s g src iif j e = not-true (j == iif) (second_so _ _ e)
 
 taken_made : (s : State) (w : ℕ) (a : Accepted) → Made s (Some a) (taken s w a)
-unfolding taken advanced change done
+unfolding taken change
 taken_made s w a =
-    grind (arith, packet_made, forwarded_configured, each_more, never_back, register_configured, none_made)
+    grind (arith, packet_made, forwarded_configured, each_more, never_back, register_configured, silent_made, advanced_made)
 
 stopped_made : (s : State) (o : Option Accepted) (stop : Stop) → Made s o (stopped s stop)
 stopped_made s o stop = grind (arith, none_made)

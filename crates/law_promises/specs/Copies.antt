@@ -1,5 +1,5 @@
 -- The copies of a packet that an event makes on links.
-use Rattle.std.{specs.{List.{All, Contains, Sorted.IsStrictlySortedBy}, Ordering.nat_cmp, Prelude.{List, Ok, Some, map, ℕ, ◌++◌, ◌<◌, ◌≡◌}}}
+use Rattle.std.{specs.{List.{All, Contains, Sorted.IsStrictlySortedBy}, Ordering.nat_cmp, Prelude.{List, Ok, Some, map, ℕ, ◌<◌, ◌≡◌}}}
 use Rattle.pim_ip.{specs.{Ipv4.{Packet, copy_text, ipv4_reading}, View.{ReadsAs, copied}}}
 use Rattle.pim_types.{specs.declared.{config.IfaceId.IfaceId, event.Event.Event, outcome.Emission.Emission}}
 use Rattle.pim_wire.{specs.Registers.register_text}
@@ -43,7 +43,7 @@ pub record IsLower (s : State) (e : Event) (copy : Emission) : Type 0 where
 abbrev pub TtlFalls : Type 0
 TtlFalls = (s : State) (e : Event) → All (IsLower s e) (copies_at s e)
 
--- What a step sends after the messages and the copies: nothing, or a Register around the copy of the packet that came.
+-- A Register around the packet that the event brings with its TTL one lower, which was above 1.
 pub record IsLowerInside (s : State) (e : Event) (register : Emission) : Type 0 where
   pub from : ℕ
   pub rp : ℕ
@@ -51,18 +51,6 @@ pub record IsLowerInside (s : State) (e : Event) (register : Emission) : Type 0 
   pub brought : packet_in (done_as (happens s e)) ≡ Some packet
   pub lives : 1 < packet.time_to_live
   pub is : register ≡ pim_to from rp (register_text (copy_text packet))
-
--- What an event sends by the register tunnel stands last, and has the packet with its TTL one lower.
-pub record TunnelIsLower (s : State) (e : Event) : Type 0 where
-  pub messages : List Emission
-  pub registered : List Emission
-  pub emissions : (step s e).emissions ≡ messages ++ copies_at s e ++ registered
-  pub each : All (IsLowerInside s e) registered
-
--- The packet inside the Register by which data leaves by the tunnel has the TTL one lower, and the packet's TTL was
--- above 1.
-abbrev pub TunnelTtlFalls : Type 0
-TunnelTtlFalls = (s : State) (e : Event) → TunnelIsLower s e
 
 -- a copy of a packet that was read is read as that packet with a TTL one lower
 abbrev pub CopiesReadLower : Type 0

@@ -1,4 +1,5 @@
 pub mod Copies
+pub mod Data
 pub mod Served
 pub mod Bounded
 pub mod Independent

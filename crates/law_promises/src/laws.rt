@@ -3,7 +3,8 @@
 ghost use Rattle.law_promises.specs.Answers.{AnswersAreBounded, AssertGivesOne, DataGivesCopiesOrAssert, HelloAgainIsSilent, OneSourceFollows, OthersGiveNone, RecordAsksFew, RegisterGivesCopiesAndStop, SeenIsSilent};
 ghost use Rattle.law_promises.specs.Bounded.{AddsWhatIsNeeded, AssertsStayBounded, CountedStayBounded, NothingNewAddsNone, RunStaysWithin, StepStaysWithin, TimeAddsNone};
 ghost use Rattle.law_promises.specs.Brought.{PacketIsBrought};
-ghost use Rattle.law_promises.specs.Copies.{CopiesReadLower, NeverBack, NeverTwice, TtlFalls, TunnelTtlFalls};
+ghost use Rattle.law_promises.specs.Copies.{CopiesReadLower, NeverBack, NeverTwice, TtlFalls};
+ghost use Rattle.law_promises.specs.Data.{EachEmissionIsOfAKind, OnlyCopiesAreData};
 ghost use Rattle.law_promises.specs.Hops.{HopsEnd};
 ghost use Rattle.law_promises.specs.Independent.{OtherGroupsKeep, OtherGroupsOutlast};
 ghost use Rattle.law_promises.specs.NetHops.{NetHopsEnd};
@@ -36,10 +37,16 @@ pub fn copies_read_lower()
     ensures { CopiesReadLower }
 {}
 
-/// The packet inside the Register by which data leaves by the tunnel has the TTL one lower, and the packet's TTL was
-/// above 1.
-pub fn tunnel_ttl_falls()
-    ensures { TunnelTtlFalls }
+/// What an event sends are messages that the router writes, then the copies of the packet, then a Register around it;
+/// the packet in a copy, and in the Register, has the TTL one lower, and its TTL was above 1.
+pub fn only_copies_are_data()
+    ensures { OnlyCopiesAreData }
+{}
+
+/// Each packet that an event sends on a link is a message or one of the copies; each that it sends to an address is a
+/// Register-Stop, a Null-Register, or a Register around the packet.
+pub fn each_emission_is_of_a_kind()
+    ensures { EachEmissionIsOfAKind }
 {}
 
 /// From router to router, in any states, a packet makes fewer hops than its TTL, as copies on links and in Registers.

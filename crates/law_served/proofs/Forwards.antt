@@ -4,7 +4,7 @@ use Rattle.pim_ip.{specs.{Ipv4.{Packet, all_pim_routers, copy_text, frame_limit,
 use Rattle.pim_types.{specs.{declared.{config.IfaceId.IfaceId, event.{Event.Event, EventKind.EventKind}, fact.{Key.Key, SourceRow.SourceRow}, outcome.Emission.Emission}, Keys.source_key}}
 use Rattle.pim_model.{specs.{declared.accepted.Accepted.Accepted, Asserts.with_spt_bit, Cause.done_as, Forwarding.{is_spt_reached, source_here, source_joined, spt_updated, when}, Full.{is_full, source_is_full}, Judging.{data_judged, frame_judged, judged, packet_judged}, Registers.{settle_register, with_keepalive}, Sets.spt_bit, State.{State, iface_count, is_own, is_up}, Step.step, Unicast.{is_connected, is_rpf_interface, is_rpf_interface_rp, route, rp_of, rp_route, rpf_interface, rpf_interface_rp}, Writing.on_link}}
 use Rattle.law_settled.{proofs.{ListLaws.by_cond, RowLaws.row_put, ReadPackets.{Passed, passed}}}
-use Rattle.law_promises.{specs.{Copies.{TunnelIsLower, copies_at, happens}, Served.{IsMember, IsServed, OnATree, renewed}}, proofs.{Copies.tunnel_ttl_falls, Read.{copies_read_lower, read_is}, Served.{member_is_served, served_here}}}
+use Rattle.law_promises.{specs.{Copies.{copies_at, happens}, Data.SendsOnly, Served.{IsMember, IsServed, OnATree, renewed}}, proofs.{Copies.only_copies_are_data, Read.{copies_read_lower, read_is}, Served.{member_is_served, served_here}}}
 use Rattle.law_served.{proofs.{Passes.done_if, ReadBack.within_range}}
 
 -- ---- its bytes
@@ -116,7 +116,7 @@ module _ (s : State) (g src iif : ℕ) (on : is_rpf_interface_rp s g iif ≡ tru
 
 pub from_copies : (s : State) (e : Event) (x : Emission) → Contains (copies_at s e) x → Contains (step s e).emissions x
 from_copies s e x c =
-    let f : TunnelIsLower s e = tunnel_ttl_falls s e in
+    let f : SendsOnly s e = only_copies_are_data s e in
     subst (λ (es : List Emission). Contains es x) (sym f.emissions)
     (Contains-append_left (f.messages ++ copies_at s e) f.registered x (Contains-append_right f.messages (copies_at s e) x c))
 
