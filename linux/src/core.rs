@@ -3,18 +3,25 @@ use crate::error::Fatal;
 use crate::left::Told;
 use crate::mroute::Key;
 use crate::older::Speech;
+use crate::packet::{self, is_pim, HELLO};
 use crate::plane::Row;
 use crate::recorder::{answer_of, Configuration, Place, Recorder};
 use crate::settings::{RpSettings, Settings};
 use log::{error, info};
 use rand::rngs::{OsRng, StdRng};
-use rand::{RngCore, SeedableRng};
+use rand::{Rng, RngCore, SeedableRng};
 use std::collections::BTreeMap;
 use std::net::Ipv4Addr;
 use viqeshor::{
     Error, Link, NeighbourRow, OlderRow, Packet, Range, Refusal, Route, Router, Sent, SourceTree, Table, TableRow,
     Tree, Verdict, MOST_BYTES,
 };
+
+/// A Hello that an event triggers leaves after a part of Triggered_Hello_Delay, in ms (RFC 7761, 4.3.1 and 4.11), which
+/// is the event's number modulo this.
+const TRIGGERED_HELLO_DELAY: u32 = 5_000;
+/// Neighbours are to know each other sooner: here it leaves after so many ms at most.
+const SOON: u32 = 100;
 
 /// What happens to the router.
 #[derive(Clone, Copy, Debug)]
@@ -31,6 +38,17 @@ pub enum Event<'a> {
     Ranges(&'a [Range]),
     /// The kernel saw a packet of a source on an interface.
     Seen(u32, Key),
+}
+
+impl Event<'_> {
+    /// Whether a Hello may follow of it: an interface goes up, or a neighbour is new or has begun anew.
+    fn triggers_hello(&self) -> bool {
+        match self {
+            Event::Up(_) => true,
+            Event::Frame(_, bytes) => packet::Packet::read(bytes).map_or(false, |frame| is_pim(frame, HELLO)),
+            _ => false,
+        }
+    }
 }
 
 /// What an event came to.
@@ -210,9 +228,18 @@ impl Core {
         }
     }
 
+    /// A number for an event.
+    fn draw(&mut self, event: &Event) -> u32 {
+        let drawn = self.draws.next_u32();
+        match event.triggers_hello() {
+            true => drawn - drawn % TRIGGERED_HELLO_DELAY + self.draws.gen_range(0..SOON),
+            false => drawn,
+        }
+    }
+
     /// An event, by a number of its own.
     pub fn take(&mut self, event: Event) -> Result<Answer, Fatal> {
-        let draw = self.draws.next_u32();
+        let draw = self.draw(&event);
         let router = &mut self.router;
         let verdict = match event {
             Event::Advance(moment) => router.advance(moment, draw),

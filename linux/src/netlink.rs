@@ -66,6 +66,8 @@ const ROOM: usize = 64 << 10;
 const HEADER: usize = 16;
 const LINK_HEAD: usize = 16;
 const NEXTHOP_HEAD: usize = 8;
+/// Where a route's flags are.
+const ROUTE_FLAGS_AT: usize = 8;
 const GROUP_MEMBER: usize = 8;
 
 #[derive(Clone, Debug, PartialEq, Eq)]
@@ -200,8 +202,16 @@ fn request(kind: u16, head: usize, sequence: u32) -> Vec<u8> {
 
 /// A message as it came, or as far as it is read here.
 enum Message {
-    Link { is_gone: bool, link: Link },
+    Link {
+        is_gone: bool,
+        link: Link,
+    },
     NextHop(Option<(u32, NextHop)>),
+    /// With the flags of its next hop, where it has one alone: the crate keeps those that it knows.
+    Route {
+        flags: u8,
+        route: RouteMessage,
+    },
     Other(RtnlMessage),
     Failed(io::Error),
     Done,
@@ -238,6 +248,9 @@ fn message(bytes: &[u8]) -> Option<Message> {
         RTM_NEWLINK | RTM_DELLINK => link_of(content).map(|link| Message::Link { is_gone: kind == RTM_DELLINK, link }),
         RTM_NEWNEXTHOP | RTM_DELNEXTHOP => Some(Message::NextHop(next_hop_of(content))),
         _ => match NetlinkMessage::<RtnlMessage>::deserialize(bytes).map(|message| message.payload) {
+            Ok(NetlinkPayload::InnerMessage(RtnlMessage::NewRoute(route))) => {
+                Some(Message::Route { flags: word(content, ROUTE_FLAGS_AT) as u8, route })
+            }
             Ok(NetlinkPayload::InnerMessage(inner)) => Some(Message::Other(inner)),
             Ok(NetlinkPayload::Error(error)) => Some(Message::Failed(io::Error::from_raw_os_error(-error.code))),
             Ok(_) => Some(Message::Done),
@@ -296,10 +309,14 @@ fn vrf_table(information: &[u8]) -> Option<u32> {
     is_vrf.then(|| word(&table, 0))
 }
 
+/// Whether a next hop with these flags is one by which nothing leaves.
+fn is_dead(flags: u8) -> bool {
+    flags & (RTNH_F_DEAD | RTNH_F_LINKDOWN) != 0
+}
+
 /// A next hop object with its number.
 fn next_hop_of(content: &[u8]) -> Option<(u32, NextHop)> {
-    let is_dead = word(content, 4) as u8 & (RTNH_F_DEAD | RTNH_F_LINKDOWN) != 0;
-    let mut hop = Hop { gateway: None, index: 0, is_dead };
+    let mut hop = Hop { gateway: None, index: 0, is_dead: is_dead(word(content, 4) as u8) };
     let (mut number, mut group, mut is_blackhole) = (None, None, false);
     for (kind, value) in attributes(content.get(NEXTHOP_HEAD..)?) {
         match kind {
@@ -384,7 +401,7 @@ impl Netlink {
         asked.header.address_family = AF_INET as u8;
         let found = self.dump(|sequence| serialized(RtnlMessage::GetRoute(asked), sequence))?;
         let route = |it: &Message| match it {
-            Message::Other(RtnlMessage::NewRoute(it)) => route_of(it, table),
+            Message::Route { flags, route } => route_of(route, *flags, table),
             _ => None,
         };
         let mut routes: Vec<_> = found.iter().filter_map(route).collect();
@@ -417,7 +434,7 @@ impl Netlink {
         asked.header.address_family = RTNL_FAMILY_IPMR;
         let found = self.dump(|sequence| serialized(RtnlMessage::GetRoute(asked), sequence))?;
         let used = |it: &Message| match it {
-            Message::Other(RtnlMessage::NewRoute(it)) => used_of(it, table),
+            Message::Route { route, .. } => used_of(route, table),
             _ => None,
         };
         Ok(found.iter().filter_map(used).collect())
@@ -444,14 +461,13 @@ fn change_of(message: Message) -> Option<Change> {
     match message {
         Message::Link { is_gone: true, link } => Some(Change::LinkGone(link.index)),
         Message::Link { link, .. } => Some(Change::Link(link)),
-        Message::NextHop(_) => Some(Change::Routes),
+        Message::NextHop(_) | Message::Route { .. } | Message::Other(RtnlMessage::DelRoute(_)) => Some(Change::Routes),
         Message::Other(RtnlMessage::NewAddress(it)) => {
             subnet_of(&it).map(|(index, subnet)| Change::Address { index, subnet })
         }
         Message::Other(RtnlMessage::DelAddress(it)) => {
             subnet_of(&it).map(|(index, subnet)| Change::AddressGone { index, subnet })
         }
-        Message::Other(RtnlMessage::NewRoute(_) | RtnlMessage::DelRoute(_)) => Some(Change::Routes),
         _ => None,
     }
 }
@@ -490,14 +506,13 @@ fn eight(bytes: &[u8]) -> u64 {
 }
 
 /// With the number of its next hop object, where it has one.
-fn route_of(message: &RouteMessage, table: u32) -> Option<(KernelRoute, Option<u32>)> {
+fn route_of(message: &RouteMessage, flags: u8, table: u32) -> Option<(KernelRoute, Option<u32>)> {
     let header = &message.header;
     let kind = match header.kind {
         RTN_UNICAST => Kind::Unicast,
         RTN_BLACKHOLE..=RTN_THROW => Kind::Refusing,
         _ => return None,
     };
-    let is_dead = header.flags.bits() as u8 & (RTNH_F_DEAD | RTNH_F_LINKDOWN) != 0;
     let mut route = KernelRoute {
         prefix: 0,
         length: header.destination_prefix_length,
@@ -506,7 +521,7 @@ fn route_of(message: &RouteMessage, table: u32) -> Option<(KernelRoute, Option<u
         protocol: header.protocol,
         hops: Vec::new(),
     };
-    let mut own = Hop { gateway: None, index: 0, is_dead };
+    let mut own = Hop { gateway: None, index: 0, is_dead: is_dead(flags) };
     let (mut in_table, mut object) = (u32::from(header.table), None);
     for nla in &message.nlas {
         match nla {
@@ -547,8 +562,7 @@ fn hops_of(bytes: &[u8]) -> Vec<Hop> {
                 hop.nlas
                     .iter()
                     .find_map(|nla| if let route_nlas::Nla::Gateway(bytes) = nla { four(bytes) } else { None });
-            let is_dead = rest[2] & (RTNH_F_DEAD | RTNH_F_LINKDOWN) != 0;
-            found.push(Hop { gateway, index: hop.interface_id, is_dead });
+            found.push(Hop { gateway, index: hop.interface_id, is_dead: is_dead(rest[2]) });
         }
         rest = &rest[rest.len().min((length + 3) & !3)..];
     }
@@ -601,19 +615,39 @@ mod tests {
             several.extend([10, 0, 0, last]);
         }
         let nlas = vec![route_nlas::Nla::Destination(vec![10, 9, 0, 0]), route_nlas::Nla::MultiPath(several)];
-        let (read, object) = route_of(&route(RTN_UNICAST, nlas), 254).unwrap();
+        let (read, object) = route_of(&route(RTN_UNICAST, nlas), 0, 254).unwrap();
         assert_eq!(object, None);
         let hop = |last, index, is_dead| Hop { gateway: Some(Ipv4Addr::new(10, 0, 0, last).into()), index, is_dead };
         assert_eq!(read.hops, [hop(2, 3, false), hop(9, 4, true)]);
         assert_eq!((read.prefix, read.length), (Ipv4Addr::new(10, 9, 0, 0).into(), 16));
     }
 
+    /// As Linux 6.18 told `10.1.0.0/24 via 10.2.0.1 dev va metric 10`, without a carrier; with one the flags are 0.
+    #[test]
+    fn a_route_by_a_link_without_a_carrier_is_dead() {
+        let recorded =
+            "4400000018000200070000007d5d000002180000fe0300011000000008000f00fe000000080001000a010000080006000a\
+                        000000080005000a0200010800040003000000";
+        let byte = |at: usize| u8::from_str_radix(&recorded[at..at + 2], 16).unwrap();
+        let mut bytes: Vec<_> = (0..recorded.len()).step_by(2).map(byte).collect();
+        for (flags, is_dead) in [(0x10, true), (0, false), (1, true)] {
+            bytes[HEADER + ROUTE_FLAGS_AT] = flags;
+            let read = match &messages(&bytes)[..] {
+                [(7, Message::Route { flags, route })] => route_of(route, *flags, 254),
+                _ => None,
+            };
+            let (route, _) = read.expect("it is one route of the table");
+            let gateway = Some(Ipv4Addr::new(10, 2, 0, 1).into());
+            assert_eq!((route.metric, route.hops), (10, vec![Hop { gateway, index: 3, is_dead }]));
+        }
+    }
+
     #[test]
     fn only_the_table_is_read() {
-        assert_eq!(route_of(&route(RTN_UNICAST, vec![route_nlas::Nla::Table(7)]), 254), None);
-        assert!(route_of(&route(RTN_UNICAST, vec![route_nlas::Nla::Table(700)]), 700).is_some());
-        assert_eq!(route_of(&route(RTN_BLACKHOLE, Vec::new()), 254).unwrap().0.kind, Kind::Refusing);
-        assert_eq!(route_of(&route(2, Vec::new()), 254), None);
+        assert_eq!(route_of(&route(RTN_UNICAST, vec![route_nlas::Nla::Table(7)]), 0, 254), None);
+        assert!(route_of(&route(RTN_UNICAST, vec![route_nlas::Nla::Table(700)]), 0, 700).is_some());
+        assert_eq!(route_of(&route(RTN_BLACKHOLE, Vec::new()), 0, 254).unwrap().0.kind, Kind::Refusing);
+        assert_eq!(route_of(&route(2, Vec::new()), 0, 254), None);
     }
 
     #[test]
@@ -701,7 +735,7 @@ mod tests {
             object(3, attribute(NHA_GROUP, &group)),
             object(4, attribute(NHA_BLACKHOLE, &[])),
         ]);
-        let (mut told, _) = route_of(&route(RTN_UNICAST, Vec::new()), 254).expect("it is of the table");
+        let (mut told, _) = route_of(&route(RTN_UNICAST, Vec::new()), 0, 254).expect("it is of the table");
         resolve(&mut told, 3, &objects);
         let hop = |last| Hop { gateway: Some(Ipv4Addr::new(10, 0, 0, last).into()), index: 3, is_dead: false };
         assert_eq!((told.kind, &told.hops[..]), (Kind::Unicast, &[hop(2), hop(9)][..]));

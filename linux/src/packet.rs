@@ -145,6 +145,9 @@ fn pseudo_header(packet: Packet) -> [u8; 12] {
     pseudo
 }
 
+/// The type of a Hello.
+pub const HELLO: u8 = 0;
+
 /// Whether a packet is a PIM message of a type, with a whole header.
 pub fn is_pim(packet: Packet, kind: u8) -> bool {
     packet.protocol() == PIM && packet.content().len() >= 4 && packet.content()[0] == 0x20 | kind
@@ -222,7 +225,7 @@ pub fn priority_of(hello: Packet) -> Option<u32> {
 
 /// The same Hello with another holdtime, in seconds; 0 says goodbye. `None` where the packet is no Hello.
 pub fn with_holdtime(hello: &[u8], holdtime: u16) -> Option<Vec<u8>> {
-    let packet = Packet::read(hello).filter(|packet| is_pim(*packet, 0))?;
+    let packet = Packet::read(hello).filter(|packet| is_pim(*packet, HELLO))?;
     let mut content = packet.content().to_vec();
     for (_, value) in options(&content).into_iter().filter(|(kind, value)| *kind == HOLDTIME && value.len() == 2) {
         content[value].copy_from_slice(&holdtime.to_be_bytes());

@@ -7,11 +7,12 @@
 //! - where they are the router's, the entry accepts them and sends them to the register tunnel alone: then each comes
 //!   up
 //!   whole;
-//! - where there is no incoming interface, and packets on another one are the router's, the entry accepts those
-//!   likewise;
+//! - where there is no incoming interface, or nothing would leave of what comes on it, and packets on another one are
+//!   the router's, the entry accepts those likewise;
 //! - where nothing is to be had, the entry accepts on the register tunnel, and sends nowhere.
 //!
-//! What comes on another interface is a stray for the kernel, which drops it and hands up one in three seconds, whole.
+//! What comes on another interface is a stray for the kernel, which drops it and hands up one in three seconds, whole. Of
+//! a new entry it hands up the first at once: so an entry is made anew where the router begins to wait for what strays.
 use crate::mroute::{Forwarded, Key, REGISTER_VIF};
 use crate::netlink::Used;
 use std::collections::{BTreeSet, HashMap};
@@ -80,9 +81,11 @@ pub fn way(key: Key, row: Option<&Row>, came_on: Option<u32>, ways: &Ways) -> Wa
     };
     let has_vif = |iface: &u32| (ways.vif)(*iface).is_some();
     let incoming = row.incoming.filter(has_vif);
-    // Else where the router waits for them, which is where they come if it waits there.
-    let at_core = || came_on.filter(|iface| row.to_core.contains(*iface) && has_vif(iface));
-    let accepted = incoming.or_else(at_core).or_else(|| row.to_core.iter().find(has_vif));
+    // Where the router waits for them: where they come, if it waits there.
+    let is_core = |iface: &u32| row.to_core.contains(*iface) && has_vif(iface);
+    let core = || came_on.filter(is_core).or(incoming.filter(is_core)).or_else(|| row.to_core.iter().find(has_vif));
+    let flows = incoming.filter(|iface| row.outgoing.iter().any(|other| other != *iface && has_vif(&other)));
+    let accepted = flows.or_else(core).or(incoming);
     let (iface, parent) = match accepted.and_then(|iface| Some((iface, (ways.vif)(iface)?))) {
         Some(found) => found,
         None => return NOWHERE,
@@ -123,6 +126,12 @@ pub struct Entry {
 impl Entry {
     pub fn is_known(&self) -> bool {
         self.row.map_or(false, |row| row.is_known)
+    }
+
+    /// Whether the router waits for strays that come where packets of the source came last.
+    fn waits_for_strays(&self) -> bool {
+        let waits = |row: &Row, iface| row.to_core.contains(iface) && self.way.accepted != Some(iface);
+        self.row.as_ref().zip(self.came_on).map_or(false, |(row, iface)| waits(row, iface))
     }
 
     /// Packets leave by it.
@@ -235,13 +244,19 @@ impl Plane {
             told: now,
             came_whole: false,
         });
-        entry.row = row;
         entry.came_on = came_on.or(entry.came_on);
+        let waited = entry.is_unset || entry.waits_for_strays();
+        entry.row = row;
         if entry.is_kept {
             return Ok(());
         }
         let before = entry.way.forwarded;
         entry.way = way(key, entry.row.as_ref(), entry.came_on, ways);
+        if !waited && entry.waits_for_strays() {
+            // It may be gone with its interface.
+            let _ = cache.remove(key);
+            (entry.is_unset, entry.used) = (true, None);
+        }
         if entry.is_unset || entry.way.forwarded != before {
             entry.is_unset = true;
             cache.put(key, entry.way.forwarded)?;
@@ -323,6 +338,13 @@ impl Plane {
     pub fn let_go(&mut self, key: Key) {
         if let Some(entry) = self.entries.get_mut(&key) {
             entry.is_kept = false;
+        }
+    }
+
+    /// A packet of the source strayed on an interface.
+    pub fn strayed(&mut self, key: Key, iface: u32) {
+        if let Some(entry) = self.entries.get_mut(&key) {
+            entry.came_on = Some(iface);
         }
     }
 
@@ -469,6 +491,38 @@ mod tests {
         assert_eq!(to(Some(it), Some(2), &ways()), up(1));
         let all_but_one = Ways { vif: &|iface| (iface != 1).then_some(iface as u16), ..ways() };
         assert_eq!(to(Some(it), None, &all_but_one), up(3));
+    }
+
+    /// A join comes for a source on a link of the router (3), whose RP is behind 1: the source's packets are strays until
+    /// the router has had one.
+    #[test]
+    fn what_the_router_waits_for_is_accepted_where_nothing_else_leaves() {
+        let up = |parent| Forwarded { parent, outgoing: 1 << REGISTER_VIF };
+        assert_eq!(to(Some(row(Some(1), &[1], &[3], &[3])), Some(3), &ways()), up(3));
+        assert_eq!(to(Some(row(Some(1), &[], &[3], &[2, 3])), None, &ways()), up(2));
+        assert_eq!(to(Some(row(Some(3), &[], &[3], &[2, 3])), None, &ways()), up(3));
+        // What comes on the shared tree isn't cut off for that.
+        let flows = Forwarded { parent: 1, outgoing: 1 };
+        assert_eq!(to(Some(row(Some(1), &[0, 1], &[3], &[3])), Some(3), &ways()), flows);
+        // Where the router waits for nothing, its incoming interface is kept.
+        assert_eq!(to(Some(row(Some(1), &[1], &[3], &[])), Some(3), &ways()), Forwarded { parent: 1, outgoing: 0 });
+    }
+
+    #[test]
+    fn where_the_router_begins_to_wait_for_strays_the_entry_is_made_anew() {
+        let (cache, mut plane) = (Written::default(), Plane::default());
+        plane.place(&cache, placed(row(Some(1), &[], &[3], &[]), 0), &ways()).unwrap();
+        plane.strayed(KEY, 3);
+        plane.place(&cache, placed(row(Some(1), &[0], &[3], &[3]), 1), &ways()).unwrap();
+        let flows = Forwarded { parent: 1, outgoing: 1 };
+        assert_eq!(cache.written.borrow()[1..], [(KEY, None), (KEY, Some(flows))]);
+        // Once it waits it is told of one, and then of one in three seconds.
+        plane.place(&cache, placed(row(Some(1), &[0], &[], &[2, 3]), 2), &ways()).unwrap();
+        assert_eq!(cache.written.borrow().len(), 3);
+        // What strays elsewhere makes nothing anew.
+        plane.place(&cache, placed(row(Some(1), &[0], &[], &[]), 3), &ways()).unwrap();
+        plane.place(&cache, placed(row(Some(1), &[0], &[], &[2]), 4), &ways()).unwrap();
+        assert_eq!(cache.written.borrow().len(), 3);
     }
 
     #[test]

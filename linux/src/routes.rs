@@ -2,9 +2,10 @@
 //!
 //! The router knows routes by a next hop on an interface of its own, and the subnets of its interfaces. Whatever else
 //! the kernel has for a prefix (a blackhole, an interface that isn't the router's, another subnet on a link, a next
-//! hop in IPv6) is a hole: there a shorter route has to end, so it is told as the prefixes around the hole.
+//! hop in IPv6) is a hole: there a shorter route has to end, so it is told as the prefixes around the hole. A route
+//! whose links are all down is none: another one of its prefix counts, with a higher metric, or a shorter one.
 use crate::settings::{mask, RouteSettings, Subnet};
-use std::collections::HashMap;
+use std::collections::{HashMap, HashSet};
 use viqeshor::Route;
 
 pub const MOST_ROUTES: usize = 100_000;
@@ -44,6 +45,8 @@ pub struct Counts {
     pub multipath: usize,
     /// Of a prefix that has one with a lower metric.
     pub higher_metric: usize,
+    /// Whose links are all down.
+    pub dead: usize,
     /// Subnets of the router's interfaces.
     pub own_subnets: usize,
     pub refusing: usize,
@@ -54,9 +57,19 @@ pub struct Counts {
 /// What the router's machine knows of its interfaces.
 #[derive(Clone, Debug, Default)]
 pub struct Ours {
-    /// From the kernel's number of an interface to the router's.
+    /// From the kernel's number of an interface that is up to the router's.
     pub numbers: HashMap<u32, u32>,
+    /// The kernel's numbers of those that are down.
+    pub down: HashSet<u32>,
     pub subnets: Vec<Subnet>,
+}
+
+impl Ours {
+    /// Whether nothing leaves by a route, whatever the kernel's flags say of the router's own interfaces.
+    fn is_dead(&self, route: &KernelRoute) -> bool {
+        let is_dead = |hop: &Hop| hop.is_dead || self.down.contains(&hop.index);
+        route.kind == Kind::Unicast && !route.hops.is_empty() && route.hops.iter().all(is_dead)
+    }
 }
 
 #[derive(Clone, Copy, Debug)]
@@ -83,6 +96,10 @@ pub fn taken(kernel: &[KernelRoute], ours: &Ours, settings: &RouteSettings) -> (
     for route in sorted {
         if before == Some((route.prefix, route.length)) {
             counts.higher_metric += 1;
+            continue;
+        }
+        if ours.is_dead(route) {
+            counts.dead += 1;
             continue;
         }
         before = Some((route.prefix, route.length));
@@ -192,6 +209,7 @@ mod tests {
         let subnet = |address: &str| Subnet { address: address.parse().unwrap(), length: 24 };
         Ours {
             numbers: [(11, 0), (12, 1)].into_iter().collect(),
+            down: [13].into_iter().collect(),
             subnets: vec![subnet("10.0.0.1"), subnet("10.0.1.1")],
         }
     }
@@ -260,6 +278,23 @@ mod tests {
         let worse = KernelRoute { metric: 30, ..kernel("10.9.0.0/16", &[("10.0.0.9", 11)]) };
         let (routes, counts) = taken(&[worse, kernel("10.9.0.0/16", &[("10.0.0.2", 11)])], &ours(), &settings());
         assert_eq!((u32::from(routes[0].next_hop), routes.len(), counts.higher_metric), (number("10.0.0.2"), 1, 1));
+    }
+
+    /// Neither another one of its prefix nor a shorter one is hidden by it, be it the kernel that says so or the router.
+    #[test]
+    fn a_dead_route_hides_no_living_one() {
+        let mut dead = kernel("10.9.0.0/16", &[("10.0.1.2", 12)]);
+        dead.hops[0].is_dead = true;
+        let other = || KernelRoute { metric: 30, ..kernel("10.9.0.0/16", &[("10.0.0.9", 11)]) };
+        let by_one_that_is_down = kernel("10.9.0.0/16", &[("10.0.2.2", 13)]);
+        for dead in [dead, by_one_that_is_down] {
+            assert_eq!(told(&[dead.clone(), other()]), ["10.9.0.0/16 10.0.0.9 0"]);
+            let shorter = kernel("10.8.0.0/15", &[("10.0.0.2", 11)]);
+            assert_eq!(told(&[shorter, dead.clone()]), ["10.8.0.0/15 10.0.0.2 0"]);
+            assert!(told(&[dead]).is_empty());
+        }
+        // One that leads elsewhere lives: the kernel sends there.
+        assert!(told(&[kernel("10.9.0.0/16", &[("10.8.0.1", 99)]), other()]).is_empty());
     }
 
     #[test]

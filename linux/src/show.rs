@@ -598,12 +598,13 @@ fn counters(daemon: &mut Daemon) -> Result<Rows, Fatal> {
 
 /// What was taken of the kernel's routes, in words.
 pub fn routes_said(counts: &Counts, told: usize) -> String {
-    let Counts { by_next_hop, multipath, higher_metric, refusing, elsewhere, .. } = counts;
+    let Counts { by_next_hop, multipath, higher_metric, dead, refusing, elsewhere, .. } = counts;
     format!(
         "the kernel's routes: {by_next_hop} are taken by their next hop ({multipath} of several, the highest on an \
-         interface of the router); {higher_metric} are left out for another one of their prefix with a lower metric; \
-         {refusing} that refuse (blackhole, unreachable, prohibit, throw) and {elsewhere} that lead elsewhere (another \
-         interface, another subnet, IPv6) are holes; told to the router are {told}"
+         interface of the router); {higher_metric} are left out for another one of their prefix with a lower metric, \
+         and {dead} since their links are down; {refusing} that refuse (blackhole, unreachable, prohibit, throw) and \
+         {elsewhere} that lead elsewhere (another interface, another subnet, IPv6) are holes; told to the router are \
+         {told}"
     )
 }
 

@@ -142,6 +142,7 @@ impl Daemon {
             return Ok(());
         }
         self.advance()?;
+        self.plane.strayed(key, iface);
         let row = self.offload(key);
         if row.map_or(true, |row| row.to_core.contains(iface)) {
             return self.whole(key, iface, packet);

@@ -1,7 +1,7 @@
 //! What comes from other routers and from hosts: PIM and IGMP.
 use super::{Answer, Daemon, Event, Fatal, Ledger, Neighbour};
 use crate::older::{self, Older, Version};
-use crate::packet::{as_of_nobody, fill_registered, is_of_host, is_pim, message_of, priority_of, Packet};
+use crate::packet::{as_of_nobody, fill_registered, is_of_host, is_pim, message_of, priority_of, Packet, HELLO};
 use crate::policy::registered;
 use crate::{split, stand_in, words};
 use log::{debug, info, warn};
@@ -78,7 +78,7 @@ impl Daemon {
 
     /// A message that the library reads: one that came in fragments may be longer, and is taken in parts.
     pub(super) fn take_part(&mut self, number: u32, let_in: &[u8]) -> Result<(), Fatal> {
-        if let Some(packet) = Packet::read(let_in).filter(|packet| is_pim(*packet, 0)) {
+        if let Some(packet) = Packet::read(let_in).filter(|packet| is_pim(*packet, HELLO)) {
             self.neighbours.hellos.insert((number, packet.source()), (words::of(let_in), priority_of(packet)));
             self.neighbours.are_stale = true;
         }

@@ -128,9 +128,12 @@ impl Daemon {
                 return None;
             }
         };
-        let numbers = self.ports.iter().filter_map(|port| Some((port.index?, port.number))).collect();
+        let there = self.ports.iter().filter_map(|port| Some((port.index?, port)));
+        let (up, down): (Vec<_>, Vec<_>) = there.partition(|(_, port)| port.standing.is_up());
+        let numbers = up.iter().map(|(index, port)| (*index, port.number)).collect();
+        let down = down.iter().map(|(index, _)| *index).collect();
         let subnets = self.ports.iter().map(Port::told_subnet).collect();
-        Some(routes::taken(&kernel, &Ours { numbers, subnets }, &self.settings.routes))
+        Some(routes::taken(&kernel, &Ours { numbers, down, subnets }, &self.settings.routes))
     }
 
     pub(super) fn read_routes(&mut self) -> Result<(), Fatal> {

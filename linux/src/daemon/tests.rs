@@ -425,6 +425,20 @@ fn holdtimes(fake: &Fake, index: u32) -> Vec<usize> {
     hellos.map(|(_, bytes)| crate::packet::two(bytes, 28)).collect()
 }
 
+/// On a link that comes up, and after that of a new neighbour (RFC 7761, 4.3.1: within five seconds).
+#[test]
+fn the_first_hellos_leave_soon() {
+    for _ in 0..20 {
+        let (mut daemon, fake) = begun(TWO, &both());
+        passes(&mut daemon, &fake, 200);
+        assert_eq!((holdtimes(&fake, ETH0).len(), holdtimes(&fake, ETH1).len()), (1, 1));
+        let content = summed(&[0x20, 0, 0, 0, 0, 1, 0, 2, 0, 105]);
+        happens(&mut daemon, &fake, frame(ETH1, packet(PIM, [10, 5, 0, 2].into(), [224, 0, 0, 13].into(), &content)));
+        passes(&mut daemon, &fake, 200);
+        assert_eq!((holdtimes(&fake, ETH0).len(), holdtimes(&fake, ETH1).len()), (1, 2));
+    }
+}
+
 #[test]
 fn hellos_leave_as_often_as_the_settings_say_and_hold_as_long() {
     let quick = TWO.replace("name = \"eth0\"\n", "name = \"eth0\"\nhello_interval = 0.5\nhello_holdtime = 3\n");
