@@ -394,9 +394,11 @@ fn each_front_is_refused(rt: HostRuntime) -> Result<(), Fail> {
     for n in 6..STATE.len() {
         refuses(&rt, alloc, &STATE[..n], SavedRefusal::Damaged);
     }
+    // What is missing is read of the sum first, where a flag may be none.
     for n in 6..SUM {
         let bytes = summed(alloc, &STATE[..n])?;
-        refuses(&rt, alloc, &bytes, SavedRefusal::CutShort);
+        assert!(rt; is_refused(alloc, &bytes, SavedRefusal::CutShort)
+            || is_refused(alloc, &bytes, SavedRefusal::OutOfRange));
     }
     Ok(())
 }
