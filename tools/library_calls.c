@@ -731,6 +731,14 @@ static void reloads(void) {
 
 static uint8_t saved[4096], again[4096];
 
+static uint32_t crc_of(uint32_t crc, const uint8_t *bytes, size_t length) {
+    for (size_t at = 0; at < length; at++) {
+        crc ^= bytes[at];
+        for (int bit = 0; bit < 8; bit++) crc = crc & 1 ? crc >> 1 ^ 0xedb88320 : crc >> 1;
+    }
+    return crc;
+}
+
 /* Whether bytes are refused; a router of them is ended. */
 static uint32_t restored(const uint8_t *bytes, size_t length) {
     struct viq_router *router = (struct viq_router *)&wrong;
@@ -740,6 +748,15 @@ static uint32_t restored(const uint8_t *bytes, size_t length) {
     return answer;
 }
 
+/* The same of these bytes and their sum. */
+static uint32_t summed(const uint8_t *bytes, size_t length) {
+    static uint8_t whole[sizeof saved + 4];
+    uint32_t sum = ~crc_of(UINT32_MAX, bytes, length);
+    memcpy(whole, bytes, length);
+    for (int at = 0; at < 4; at++) whole[length + at] = (uint8_t)(sum >> (24 - 8 * at));
+    return restored(whole, length + 4);
+}
+
 static void sizes(struct viq_router *router) {
     size_t size = 7, other = 7;
     is("the size", viq_save(router, NULL, 0, &size), VIQ_DONE);
@@ -747,7 +764,7 @@ static void sizes(struct viq_router *router) {
     memset(saved, 7, sizeof saved);
     is("save into too little", viq_save(router, saved, 6, &other), VIQ_DONE);
     is("the same size", other, size);
-    is("as many as fit", memcmp(saved, "VQST\0\1", 6) == 0 && saved[6] == 7, true);
+    is("as many as fit", memcmp(saved, "VQST\0\2", 6) == 0 && saved[6] == 7, true);
     is("save into more", viq_save(router, saved, sizeof saved, &other), VIQ_DONE);
     is("the same size again", other, size);
     is("the rest stays", saved[size], 7);
@@ -789,22 +806,35 @@ static void refused_bytes(struct viq_router *router) {
     is("save for what is refused", viq_save(router, saved, sizeof saved, &size), VIQ_DONE);
     is("no bytes", restored(NULL, 0), VIQ_CUT_SHORT);
     is("one byte", restored(saved, 1), VIQ_CUT_SHORT);
-    for (size_t length = 0; length < size; length++) is("cut short", restored(saved, length), VIQ_CUT_SHORT);
+    for (size_t length = 0; length < 6; length++) is("cut short", restored(saved, length), VIQ_CUT_SHORT);
+    for (size_t length = 6; length < size; length++) is("without its sum", restored(saved, length), VIQ_DAMAGED);
+    /* What is missing is read of the sum first, where a flag may be none. */
+    for (size_t length = 6; length < size - 4; length++) {
+        uint32_t answer = summed(saved, length);
+        is("cut short, and its sum", answer == VIQ_CUT_SHORT || answer == VIQ_OUT_OF_RANGE, true);
+    }
+    for (size_t at = 6; at < size; at++) {
+        saved[at] ^= 1 << at % 8;
+        is("one bit", restored(saved, size), VIQ_DAMAGED);
+        saved[at] ^= 1 << at % 8;
+    }
     saved[size] = 0;
-    is("one byte more", restored(saved, size + 1), VIQ_LEFT_OVER);
+    is("one byte more", restored(saved, size + 1), VIQ_DAMAGED);
+    memset(saved + size - 4, 0, 1);
+    is("one byte more, and its sum", summed(saved, size - 3), VIQ_LEFT_OVER);
     saved[0] ^= 1;
-    is("another beginning", restored(saved, size), VIQ_NOT_OURS);
+    is("another beginning", summed(saved, size - 4), VIQ_NOT_OURS);
     saved[0] ^= 1;
-    saved[5] = 2;
-    is("another version", restored(saved, size), VIQ_OTHER_VERSION);
     saved[5] = 1;
+    is("another version", summed(saved, size - 4), VIQ_OTHER_VERSION);
+    saved[5] = 2;
     saved[10] = 2;
-    is("no such switch", restored(saved, size), VIQ_OUT_OF_RANGE);
+    is("no such switch", summed(saved, size - 4), VIQ_OUT_OF_RANGE);
     saved[10] = 0;
     memset(saved + 6, 0, 4);
-    is("no limit", restored(saved, size), VIQ_NOT_HELD);
+    is("no limit", summed(saved, size - 4), VIQ_NOT_HELD);
     saved[7] = 1;
-    is("as it was", restored(saved, size), VIQ_DONE);
+    is("as it was", summed(saved, size - 4), VIQ_DONE);
     is("another ABI", viq_restore(&other, VIQ_ABI + 1, saved, size), VIQ_OTHER_ABI);
     is("no router of it", other == NULL, true);
 }
@@ -823,14 +853,6 @@ static void saved_routers(void) {
 }
 
 /* ---- records */
-
-static uint32_t crc_of(uint32_t crc, const uint8_t *bytes, size_t length) {
-    for (size_t at = 0; at < length; at++) {
-        crc ^= bytes[at];
-        for (int bit = 0; bit < 8; bit++) crc = crc & 1 ? crc >> 1 ^ 0xedb88320 : crc >> 1;
-    }
-    return crc;
-}
 
 /* A number in network order. */
 static size_t put(uint8_t *to, uint64_t number, size_t width) {

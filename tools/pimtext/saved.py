@@ -1,13 +1,14 @@
 """The bytes of a saved state, read by docs/SAVED.md alone: its configuration, its time, and its tables."""
 from __future__ import annotations
 
+import zlib
 from collections.abc import Callable, Iterator
 from dataclasses import dataclass
 from typing import Any, NamedTuple
 
 from pimtext.addresses import dotted
 
-MAGIC, VERSION = b"VQST", 1
+MAGIC, VERSION = b"VQST", 2
 
 
 class Unreadable(ValueError):
@@ -145,6 +146,8 @@ def read(data: bytes) -> Saved:
         raise Unreadable(60, "the first four bytes aren't VQST")
     if r.half() != VERSION:
         raise Unreadable(61, "another version")
+    if int.from_bytes(data[-4:], "big") != zlib.crc32(data[:-4]):
+        raise Unreadable(69, "the sum isn't that of the bytes")
     settings = {"limit": r.word(), "stays_on_shared_tree": r.tag(1)}
     names = ("robustness", "query_interval", "query_response_interval", "last_member_query_interval")
     settings |= {name: r.word() for name in names}
@@ -153,9 +156,15 @@ def read(data: bytes) -> Saved:
     routes = r.list(lambda: r.in_turn(r.address, r.word, r.address, r.word, r.word, r.word))
     ranges = r.list(lambda: r.in_turn(r.address, r.word, r.address))
     tables = {name: r.table(row) for name, row in row_readers(r).items()}
+    r.word()
     if r.at != len(data):
-        raise Unreadable(65, "bytes follow the last table")
+        raise Unreadable(65, "bytes follow the sum")
     return Saved(settings, interfaces, present, routes, ranges, tables)
+
+
+def summed(front: bytes) -> bytes:
+    """These bytes, with their sum behind them."""
+    return front + zlib.crc32(front).to_bytes(4, "big")
 
 
 # ---- as lines

@@ -38,6 +38,11 @@ class Restarted(unittest.TestCase):
                 self.assertIn(self.tool.taken(self.library, given), [0, *self.tool.REFUSALS])
             self.assertEqual(self.tool.taken(self.library, saved), 0)
 
+    def test_each_flipped_bit_is_told(self):
+        draws = random.Random(2)
+        for given in (self.tool.flipped(saved, draws) for saved in self.runs.saved[:10] for _ in range(1000)):
+            self.assertNotEqual(self.tool.taken(self.library, given), 0)
+
     def test_an_older_state_is_noticed(self):
         """A router that is restored of what was saved before its last event."""
         before = {}

@@ -39,14 +39,19 @@ class Saved(unittest.TestCase):
         swapped = saved.read(self.data).tables["downstream"]
         self.assertEqual([key.source for key, _ in swapped], [None, 0x0A000205])
         star = bytes.fromhex("00000000e1010101000001000000000003345000")
+        front = self.data[:-4]
         for given, number in (
             (b"", 62),
-            (self.data[:-1], 62),
+            (self.data[:5], 62),
             (b"VQSS" + self.data[4:], 60),
-            (self.data[:5] + b"\2" + self.data[6:], 61),
-            (self.data[:10] + b"\2" + self.data[11:], 63),
-            (self.data.replace(star, star.replace(b"\xe1\1\1\1", b"\xe1\1\1\2")), 64),
-            (self.data + b"\0", 65),
+            (self.data[:5] + b"\1" + self.data[6:], 61),
+            (self.data[:-1], 69),
+            (self.data + b"\0", 69),
+            (front[:10] + b"\2" + front[11:] + self.data[-4:], 69),
+            (saved.summed(front[:-1]), 62),
+            (saved.summed(front[:10] + b"\2" + front[11:]), 63),
+            (saved.summed(front.replace(star, star.replace(b"\xe1\1\1\1", b"\xe1\1\1\2"))), 64),
+            (saved.summed(front + b"\0"), 65),
         ):
             with self.assertRaises(saved.Unreadable) as caught:
                 saved.read(given)

@@ -4,6 +4,7 @@ import gc
 import threading
 import unittest
 import weakref
+import zlib
 
 import viqeshor
 from viqeshor import Answer, Closed, DownstreamRow, NeighbourRow, Refused, Router, hosts
@@ -346,14 +347,23 @@ class Routers(unittest.TestCase):
 
     def test_bytes_of_no_router(self):
         saved = self.joined().save()
+        front = saved[:-4]
+
+        def summed(given):
+            return given + zlib.crc32(given).to_bytes(4, "big")
+
+        self.assertEqual(summed(front), saved)
         for given, answer in (
             (b"", Answer.CUT_SHORT),
-            (saved[:-1], Answer.CUT_SHORT),
+            (saved[:-1], Answer.DAMAGED),
+            (saved + b"\0", Answer.DAMAGED),
+            (saved[:30] + bytes([saved[30] ^ 4]) + saved[31:], Answer.DAMAGED),
             (b"other" + saved, Answer.NOT_OURS),
-            (saved[:4] + b"\0\2" + saved[6:], Answer.OTHER_VERSION),
-            (saved[:10] + b"\2" + saved[11:], Answer.OUT_OF_RANGE),
-            (saved + b"\0", Answer.LEFT_OVER),
-            (saved[:6] + bytes(4) + saved[10:], Answer.NOT_HELD),
+            (saved[:4] + b"\0\1" + saved[6:], Answer.OTHER_VERSION),
+            (summed(front[:-1]), Answer.CUT_SHORT),
+            (summed(front[:10] + b"\2" + front[11:]), Answer.OUT_OF_RANGE),
+            (summed(front + b"\0"), Answer.LEFT_OVER),
+            (summed(front[:6] + bytes(4) + front[10:]), Answer.NOT_HELD),
         ):
             with self.assertRaises(Refused) as caught:
                 Router.restore(given)

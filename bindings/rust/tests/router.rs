@@ -278,7 +278,7 @@ fn it_goes_on_from_saved_bytes() {
     assert_eq!((router.packets(), router.save()), (other.packets(), other.save()));
     let mut room = [7; 6];
     assert_eq!(router.save_into(&mut room), Ok(router.save().unwrap().len()));
-    assert_eq!(&room, b"VQST\0\x01");
+    assert_eq!(&room, b"VQST\0\x02");
 }
 
 #[test]
@@ -307,26 +307,38 @@ fn what_is_recorded() {
     assert_eq!(put[wanted.len()..][..5], [b'c', 0, 0, 0, 7]);
 }
 
+/// These bytes, with their CRC-32 behind them.
+fn summed(front: &[u8]) -> Vec<u8> {
+    let step = |crc: u32, _| if crc & 1 == 1 { crc >> 1 ^ 0xedb8_8320 } else { crc >> 1 };
+    let sum = front.iter().fold(!0, |crc, &byte| (0..8).fold(crc ^ u32::from(byte), step));
+    [front, &(!sum).to_be_bytes()].concat()
+}
+
 #[test]
 fn bytes_of_no_router() {
     let saved = joined().save().unwrap();
+    let front = saved[..saved.len() - 4].to_vec();
     let changed = |place: usize, value: u8| {
-        let mut given = saved.clone();
+        let mut given = front.clone();
         given[place] = value;
-        given
+        summed(&given)
     };
+    let mut flipped = saved.clone();
+    flipped[20] ^= 1;
     for (given, refusal) in [
         (vec![], Refusal::CutShort),
-        (saved[..saved.len() - 1].to_vec(), Refusal::CutShort),
+        (saved[..saved.len() - 1].to_vec(), Refusal::Damaged),
+        (flipped, Refusal::Damaged),
+        (summed(&front[..front.len() - 1]), Refusal::CutShort),
         (changed(0, 0), Refusal::NotOurs),
-        (changed(5, 2), Refusal::OtherVersion),
+        (changed(5, 1), Refusal::OtherVersion),
         (changed(10, 2), Refusal::OutOfRange),
-        ([&saved[..], &[0]].concat(), Refusal::LeftOver),
+        (summed(&[&front[..], &[0]].concat()), Refusal::LeftOver),
         (changed(7, 0), Refusal::NotHeld),
     ] {
         assert_eq!(Router::restore(&given).err(), Some(Error::Refused(refusal)));
     }
-    assert_eq!(Error::Refused(Refusal::NotQuiet).number(), 68);
+    assert_eq!(Error::Refused(Refusal::Damaged).number(), 69);
 }
 
 #[test]

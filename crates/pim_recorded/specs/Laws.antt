@@ -1,7 +1,7 @@
 -- A record and its bytes determine each other, whatever follows, and so do a whole recording and its bytes.
-use Rattle.std.{specs.{List.{AllByRecursion, flat_map}, Prelude.{List, Ok, [], ◌++◌, ◌∷◌, ◌≡◌, ℕ}}}
+use Rattle.std.{specs.{List.{AllByRecursion, flat_map}, Prelude.{List, Ok, ◌++◌, ◌≡◌, ℕ}}}
 use Rattle.pim_saved.{specs.Laws.AreBytes}
-use Rattle.pim_recorded.{specs.{Crc.crc32, Fits.FitsRecord, Reading.record_at, Records.{Record, record_text}}}
+use Rattle.pim_recorded.{specs.{Fits.FitsRecord, Reading.record_at, Records.{Record, record_text}}}
 
 -- what is read from the front is the record that was written, and what followed it
 abbrev pub RecordIsRead : Type 0
@@ -16,7 +16,3 @@ ReadingIsRecord = (bytes rest : List ℕ) (r : Record) → AreBytes bytes → re
 abbrev pub OneRecording : Type 0
 OneRecording = (rs qs : List Record) → AllByRecursion FitsRecord rs → AllByRecursion FitsRecord qs
     → flat_map record_text rs ≡ flat_map record_text qs → rs ≡ qs
-
--- the sum of the digits 1 to 9 as text, by which implementations of CRC-32 are tried
-abbrev pub CrcIsKnown : Type 0
-CrcIsKnown = crc32 (49 ∷ 50 ∷ 51 ∷ 52 ∷ 53 ∷ 54 ∷ 55 ∷ 56 ∷ 57 ∷ []) ≡ 0xCBF43926

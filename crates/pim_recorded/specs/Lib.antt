@@ -1,4 +1,3 @@
-pub mod Crc
 pub mod Fits
 pub mod Laws
 pub mod Reading

@@ -3,8 +3,8 @@
 use Rattle.std.{specs.{List.flat_map, Prelude.{List, [], length, ℕ, ◌∷◌}}}
 use Rattle.pim_ip.{specs.declared.addr.Addr.Addr}
 use Rattle.pim_types.{specs.declared.{config.{IfaceId.IfaceId, InterfaceConfig.InterfaceConfig, Route.Route, RpRange.RpRange, Settings.Settings}, event.{Event.Event, EventKind.EventKind}, outcome.Emission.Emission}}
-use Rattle.pim_saved.{specs.Text.{address_text, interface_text, list_text, moment_text, range_text, route_text, settings_text, word_text, ◌then◌}}
-use Rattle.pim_recorded.{specs.{Crc.{after_bytes, crc32}, declared.answered.Answered.Answered}}
+use Rattle.pim_saved.{specs.{Crc.{after_bytes, crc32}, Text.{address_text, interface_text, list_text, moment_text, range_text, route_text, settings_text, word_text, ◌then◌}}}
+use Rattle.pim_recorded.{specs.declared.answered.Answered.Answered}
 
 -- what a router was given
 pub data Call : Type 0 where

@@ -1,5 +1,5 @@
 //! What is proved of the bytes of a recording. Each law is the contract of a function with nothing to do.
-ghost use Rattle.pim_recorded.specs.Laws.{CrcIsKnown, OneRecording, ReadingIsRecord, RecordIsRead};
+ghost use Rattle.pim_recorded.specs.Laws.{OneRecording, ReadingIsRecord, RecordIsRead};
 
 /// Each record whose fields fit is read of its bytes, whatever follows them.
 pub fn record_is_read()
@@ -14,9 +14,4 @@ pub fn one_text_a_record()
 /// The bytes of a recording are those of no other.
 pub fn one_recording()
     ensures { OneRecording }
-{}
-
-/// The CRC-32 of the nine digits is the one that each implementation of it gives.
-pub fn crc_is_known()
-    ensures { CrcIsKnown }
 {}

@@ -2,13 +2,12 @@
 #![tactic(auto)]
 
 mod answered;
-mod crc;
 mod laws;
 mod sent;
 mod writing;
 
 pub use answered::Answered;
-pub use laws::{crc_is_known, one_recording, one_text_a_record, record_is_read};
+pub use laws::{one_recording, one_text_a_record, record_is_read};
 pub use sent::sum_of;
 pub use writing::{
     write_advance, write_down, write_frame, write_hosts, write_kept, write_ranges, write_reloaded,

@@ -1,9 +1,9 @@
 //! A sum of what was sent.
 ghost use Rattle.std.specs.Prelude.{◌≡◌};
-ghost use Rattle.pim_recorded.specs.Crc.{after_bytes};
+ghost use Rattle.pim_saved.specs.Crc.{after_bytes};
 ghost use Rattle.pim_recorded.specs.Records.{after_sent, emission_text, packet_text, sum_of};
 
-use crate::crc::{BEGUN, ended, with_byte, with_bytes};
+use pim_saver::{BEGUN, ended, with_byte, with_bytes};
 use pim_types::Emission;
 
 // The register after a packet: its letter, its interface or its destination, and its bytes.

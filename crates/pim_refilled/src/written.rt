@@ -2,10 +2,10 @@
 ghost use Rattle.std.specs.List.{AllByRecursion, flat_map};
 ghost use Rattle.std.specs.Prelude.{◌≡◌, ◌++◌, OnOk};
 ghost use Rattle.pim_saved.specs.Fits.{FitsEntry, FitsGround, FitsJoinTimer, FitsLink, FitsList, FitsRecord, FitsSource, FitsState, FitsTree};
-ghost use Rattle.pim_saved.specs.Text.{entry_text, ground_text, join_timer_text, links_text, records_text, source_text, table_text, text, trees_text};
+ghost use Rattle.pim_saved.specs.Text.{entry_text, front_text, ground_text, join_timer_text, links_text, records_text, source_text, table_text, text, trees_text};
 ghost use Rattle.pim_saved.specs.Parts.{ground_of, links_of, records_of, trees_of};
 
-use pim_saver::{MAGIC, Saved, VERSION, write_entry, write_list, write_table};
+use pim_saver::{MAGIC, Saved, VERSION, write_entry, write_list, write_sum, write_table};
 use pim_state::{Meter, World};
 use pim_store::{JoinTimerRows, Store};
 use pim_tables::PlacedRows;
@@ -119,11 +119,10 @@ fn write_trees(world: &World, out: &mut Vec<u8>, meter: &mut Meter) -> Result<()
     Ok(())
 }
 
-/// Puts the one text of the state behind the others; its numbers fit their words, so that it is read again as this state.
-/// The meter rises by the nodes visited. An error is want of memory, and leaves behind what was written before it.
-#[tactic(auto, unfolding(pim_saved::specs::Text::text, pim_saved::specs::Text::body_text))]
-pub fn write_world(world: &World, out: &mut Vec<u8>, meter: &mut Meter) -> Result<(), AllocError>
-    ensures ok { OnOk result (out.new.items ≡ out.old.items ++ text world.now) }
+// Puts all bytes of the state but for their sum at the end.
+#[tactic(auto, unfolding(pim_saved::specs::Text::front_text, pim_saved::specs::Text::body_text))]
+fn write_front(world: &World, out: &mut Vec<u8>, meter: &mut Meter) -> Result<(), AllocError>
+    ensures ok { OnOk result (out.new.items ≡ out.old.items ++ front_text world.now) }
     ensures fitting { OnOk result (FitsState world.now) }
 {
     MAGIC.write(out)?;
@@ -132,5 +131,18 @@ pub fn write_world(world: &World, out: &mut Vec<u8>, meter: &mut Meter) -> Resul
     write_links(world, out)?;
     write_records(world, out)?;
     write_trees(world, out, meter)?;
+    Ok(())
+}
+
+/// Puts the one text of the state behind the others; its numbers fit their words, so that it is read again as this state.
+/// The meter rises by the nodes visited. An error is want of memory, and leaves behind what was written before it.
+#[tactic(auto, unfolding(pim_saved::specs::Text::text))]
+pub fn write_world(world: &World, out: &mut Vec<u8>, meter: &mut Meter) -> Result<(), AllocError>
+    ensures ok { OnOk result (out.new.items ≡ out.old.items ++ text world.now) }
+    ensures fitting { OnOk result (FitsState world.now) }
+{
+    let begin = out.len();
+    write_front(world, out, meter)?;
+    write_sum(begin, out)?;
     Ok(())
 }

@@ -18,7 +18,7 @@ impl RestoreRefusal {
     ghost use Rattle.std.specs.Prelude.{◌≡◌};
     ghost use Rattle.pim_rested.specs.Refused.{restore_refusal_number};
 
-    /// The number of the refusal, which is none of [`pim_ip::Refusal`]: 60 to 65 for bytes, and then 66, 67 and 68.
+    /// The number of the refusal, which is none of [`pim_ip::Refusal`]: 60 to 65 and 69 for bytes, 66, 67 and 68 for a state.
     #[tactic(auto, unfolding(crate::specs::Refused::restore_refusal_number))]
     pub fn number(self) -> u8
         ensures { result ≡ restore_refusal_number self }

@@ -1,8 +1,8 @@
 -- Tables, and the whole state.
-use Rattle.std.{proofs.{Common.{Some, ◌≡◌, ℕ, arith, Bool, true, false, cond, eqb, List, [], ◌∷◌, ◌++◌, ◌&&◌, Ok, Err, refl, sym, ap, subst, ◌∙◌}, lemmas.{Bool.eqb-true, List.append-nil}}, specs.{List.{AllByRecursion, Sorted.IsStrictlySortedBy}, Ordering.is_lt, declared.cmp.Ordering.Ordering, Cmp.IsTotalOrder}}
+use Rattle.std.{proofs.{Common.{Some, ◌≡◌, ℕ, arith, Bool, true, false, cond, eqb, List, [], ◌∷◌, ◌++◌, ◌&&◌, Ok, Err, refl, sym, ap, subst, ◌∙◌, append_assoc}, lemmas.{Bool.eqb-true, List.append-nil}}, specs.{List.{AllByRecursion, Sorted.IsStrictlySortedBy}, Ordering.is_lt, declared.cmp.Ordering.Ordering, Cmp.IsTotalOrder}}
 use Rattle.pim_types.{specs.{FieldOrder.fields_total, Keys.{addr_cmp, key_cmp}, declared.fact.Key.Key}}
 use Rattle.pim_model.{specs.{State.State, Tables.{Table, keys_in}}}
-use Rattle.pim_saved.{specs.{declared.refusal.SavedRefusal.SavedRefusal, Fits.{FitsEntry, FitsGround, FitsLink, FitsList, FitsRecord, FitsState, FitsTable, FitsTree}, Laws.{AreBytes, ReadingIsText, TextIsRead}, Parts.{parts_of, state_of}, Reading.{Reader, at_end, ground_at, half_at, in_order, in_turn, key_at, links_at, list_at, made, magic_at, parts_at, reading, records_at, rise, rise_after, table_at, trees_at, version_at, word_at}, Text.{body_text, ground_text, half_text, links_text, magic, records_text, table_text, text, trees_text, version, word_text}}, proofs.{Spelled.{IsSpelled, Takes, bind_ok, both, half, list, made_of, moment, ok_is, passed, word}, SpelledRows.{asserted, downstream, group_record, group_repeat, interface, join_timer, key, neighbour, override_timer, querier, range, register, route, sending, settings, source, source_record, source_repeat, up}}}
+use Rattle.pim_saved.{specs.{declared.refusal.SavedRefusal.SavedRefusal, Crc.crc32, Fits.{FitsEntry, FitsGround, FitsLink, FitsList, FitsRecord, FitsState, FitsTable, FitsTree, FitsWord}, Laws.{AreBytes, ReadingIsText, TextIsRead}, Parts.{parts_of, state_of}, Reading.{Reader, ◌>>=◌, at_end, ground_at, half_at, in_order, in_turn, key_at, links_at, list_at, made, magic_at, parts_at, reading, records_at, rise, rise_after, table_at, trees_at, undamaged, version_at, word_at}, Text.{body_text, front_text, ground_text, half_text, links_text, magic, records_text, table_text, text, trees_text, version, word_text}}, proofs.{Summed.{is_summed, sum_fits, sum_of_front}, Spelled.{IsSpelled, Takes, bind_ok, both, half, list, made_of, moment, ok_is, passed, word}, SpelledRows.{asserted, downstream, group_record, group_repeat, interface, join_timer, key, neighbour, override_timer, querier, range, register, route, sending, settings, source, source_record, source_repeat, up}}}
 
 -- ---- keys that rise
 
@@ -118,31 +118,49 @@ version_again n rest e = subst (λ (m : ℕ). version_at (half_text m ++ rest) �
 this_version : IsSpelled (λ (n : ℕ). n ≡ version) half_text version_at
 this_version = record { takes = version_takes; again = version_again }
 
-whole : IsSpelled (λ (p : ℕ × (ℕ × State)). (p.0 ≡ magic) × ((p.1.0 ≡ version) × FitsState p.1.1)) (λ (p : ℕ × (ℕ × State)). word_text p.0 ++ (half_text p.1.0 ++ body_text p.1.1)) (in_turn magic_at (in_turn version_at (made state_of parts_at)))
-whole = both ours (both this_version state)
+head : IsSpelled (λ (p : ℕ × ℕ). (p.0 ≡ magic) × (p.1 ≡ version)) (λ (p : ℕ × ℕ). word_text p.0 ++ half_text p.1) (in_turn magic_at version_at)
+head = both ours this_version
+
+tail : IsSpelled (λ (p : State × ℕ). FitsState p.0 × FitsWord p.1) (λ (p : State × ℕ). body_text p.0 ++ word_text p.1) (in_turn (made state_of parts_at) word_at)
+tail = both state word
+
+-- the parts of a text: its head, its body, and its sum
+parted : (a b c d : List ℕ) → (a ++ (b ++ c)) ++ d ≡ (a ++ b) ++ (c ++ d)
+parted a b c d = simp append_assoc
 
 pub text_is_read : TextIsRead
-unfolding text reading
+unfolding text reading front_text
 text_is_read s fits =
-    let e : in_turn magic_at (in_turn version_at (made state_of parts_at)) (text s) ≡ Ok ((magic, (version, s)), []) =
-    ap (in_turn magic_at (in_turn version_at (made state_of parts_at))) (sym (append-nil (text s)))
-    ∙ whole.again (magic, (version, s)) [] (refl, (refl, fits)) in
-    rw e refl
+    let sum : ℕ = crc32 (front_text s) in
+    let first : in_turn magic_at version_at (text s) ≡ Ok ((magic, version), body_text s ++ word_text sum) =
+    ap (in_turn magic_at version_at) (parted (word_text magic) (half_text version) (body_text s) (word_text sum))
+    ∙ head.again (magic, version) (body_text s ++ word_text sum) (refl, refl) in
+    let last : in_turn (made state_of parts_at) word_at (body_text s ++ word_text sum) ≡ Ok ((s, sum), []) =
+    ap (in_turn (made state_of parts_at) word_at) (sym (append-nil (body_text s ++ word_text sum)))
+    ∙ tail.again (s, sum) [] (fits, sum_fits (front_text s)) in
+    rw (first, is_summed (front_text s), last) refl
 
 ended : (s t : State) (rest : List ℕ) → at_end s rest ≡ Ok t → (rest ≡ []) × (s ≡ t)
 ended s t [] e = (refl, ok_is s t e)
 ended s t (b ∷ rest) e = absurd cc
 
 pub reading_is_text : ReadingIsText
-unfolding text reading
+unfolding text reading front_text
 reading_is_text bytes s fits e =
-    let a = bind_ok (in_turn magic_at (in_turn version_at (made state_of parts_at)) bytes) (λ x. at_end x.0.1.1 x.1) s e in
-    let last = ended a.0.0.1.1 s a.0.1 a.2 in
-    let t = whole.takes bytes a.0 fits a.1 in
-    let written : bytes ≡ word_text a.0.0.0 ++ (half_text a.0.0.1.0 ++ body_text a.0.0.1.1) =
-    t.0.parts ∙ ap (λ (r : List ℕ). (word_text a.0.0.0 ++ (half_text a.0.0.1.0 ++ body_text a.0.0.1.1)) ++ r) last.0
-    ∙ append-nil (word_text a.0.0.0 ++ (half_text a.0.0.1.0 ++ body_text a.0.0.1.1)) in
-    let as_ours : bytes ≡ text a.0.0.1.1 =
-    written ∙ ap (λ (m : ℕ). word_text m ++ (half_text a.0.0.1.0 ++ body_text a.0.0.1.1)) t.1.0
-    ∙ ap (λ (v : ℕ). word_text magic ++ (half_text v ++ body_text a.0.0.1.1)) t.1.1.0 in
-    subst (λ (z : State). (text z ≡ bytes) × FitsState z) last.1 (sym as_ours, t.1.1.1)
+    let a = bind_ok (in_turn magic_at version_at bytes) (λ h. undamaged bytes >>= λ u. in_turn (made state_of parts_at) word_at h.1 >>= λ x. at_end x.0.0 x.1) s e in
+    let u = bind_ok (undamaged bytes) (λ u. in_turn (made state_of parts_at) word_at a.0.1 >>= λ x. at_end x.0.0 x.1) s a.2 in
+    let b = bind_ok (in_turn (made state_of parts_at) word_at a.0.1) (λ x. at_end x.0.0 x.1) s u.2 in
+    let last = ended b.0.0.0 s b.0.1 b.2 in
+    let h = head.takes bytes a.0 fits a.1 in
+    let t = tail.takes a.0.1 b.0 h.0.rest_fits b.1 in
+    let front : List ℕ = front_text b.0.0.0 in
+    let behind_head : a.0.1 ≡ body_text b.0.0.0 ++ word_text b.0.0.1 =
+    t.0.parts ∙ ap (λ (r : List ℕ). (body_text b.0.0.0 ++ word_text b.0.0.1) ++ r) last.0 ∙ append-nil (body_text b.0.0.0 ++ word_text b.0.0.1) in
+    let written : bytes ≡ front ++ word_text b.0.0.1 =
+    h.0.parts ∙ ap (λ (r : List ℕ). (word_text a.0.0.0 ++ half_text a.0.0.1) ++ r) behind_head
+    ∙ ap (λ (m : ℕ). (word_text m ++ half_text a.0.0.1) ++ (body_text b.0.0.0 ++ word_text b.0.0.1)) h.1.0
+    ∙ ap (λ (v : ℕ). (word_text magic ++ half_text v) ++ (body_text b.0.0.0 ++ word_text b.0.0.1)) h.1.1
+    ∙ sym (parted (word_text magic) (half_text version) (body_text b.0.0.0) (word_text b.0.0.1)) in
+    let sum : b.0.0.1 ≡ crc32 front = sum_of_front front b.0.0.1 u.0 t.1.1 (ap undamaged (sym written) ∙ u.1) in
+    let as_ours : bytes ≡ text b.0.0.0 = written ∙ ap (λ (n : ℕ). front ++ word_text n) sum in
+    subst (λ (z : State). (text z ≡ bytes) × FitsState z) last.1 (sym as_ours, t.1.0)

@@ -1,9 +1,9 @@
 -- Bytes read as a state from left to right, with the first fault that is met.
-use Rattle.std.{specs.{Int.{Width, byte_len, from_be_bytes, w16, w32, w64}, Option.option_map_or, Ordering.is_lt, Prelude.{Bool, Err, List, None, Ok, Option, Result, Some, [], drop, false, if◌then◌else◌, length, nat_lt, suc, take, true, zero, ℕ, ◌&&◌, ◌==◌, ◌∷◌}}}
+use Rattle.std.{specs.{Int.{Width, byte_len, from_be_bytes, w16, w32, w64}, Option.option_map_or, Ordering.is_lt, Prelude.{Bool, Err, List, None, Ok, Option, Result, Some, [], drop, false, if◌then◌else◌, length, nat_lt, suc, take, true, zero, ℕ, ◌&&◌, ◌-◌, ◌==◌, ◌∷◌}}}
 use Rattle.pim_ip.{specs.declared.{addr.{Addr.Addr, Prefix.Prefix}, lan.LanDelay.LanDelay}}
 use Rattle.pim_types.{specs.{Keys.key_cmp, declared.{config.{IfaceId.IfaceId, InterfaceConfig.InterfaceConfig, Route.Route, RpRange.RpRange, Settings.Settings, SptSwitch.SptSwitch}, fact.{AssertMetric.AssertMetric, AssertRole.AssertRole, AssertRow.AssertRow, DownstreamRow.DownstreamRow, GroupRecordRow.GroupRecordRow, GroupRepeatRow.GroupRepeatRow, InterfaceRow.InterfaceRow, JoinTimerRow.JoinTimerRow, Key.Key, NeighbourRow.NeighbourRow, OverrideTimerRow.OverrideTimerRow, QuerierRole.QuerierRole, QuerierRow.QuerierRow, RegisterRow.RegisterRow, RegisterState.RegisterState, SendingRow.SendingRow, SourceRecordRow.SourceRecordRow, SourceRepeatRow.SourceRepeatRow, SourceRow.SourceRow}}}}
 use Rattle.pim_model.{specs.{State.State, Tables.{Table, keys_in}}}
-use Rattle.pim_saved.{specs.{Parts.{GroundParts, LinkParts, RecordParts, StateParts, TreeParts, state_of}, Text.{magic, version}, declared.refusal.SavedRefusal.SavedRefusal}}
+use Rattle.pim_saved.{specs.{Crc.crc32, Parts.{GroundParts, LinkParts, RecordParts, StateParts, TreeParts, state_of}, Text.{magic, version}, declared.refusal.SavedRefusal.SavedRefusal}}
 
 infixl 10 ◌>>=◌
 abbrev pub ◌>>=◌ : {A B : Type 0} → Result A SavedRefusal → (A → Result B SavedRefusal) → Result B SavedRefusal
@@ -285,5 +285,15 @@ abbrev pub at_end : State → List ℕ → Result State SavedRefusal
 at_end s [] = Ok s
 at_end s (b ∷ rest) = Err SavedRefusal.LeftOver
 
+-- The last four bytes are the CRC-32 of those before them.
+unfoldable pub undamaged : List ℕ → Result (Unit {0}) SavedRefusal
+undamaged bytes =
+    word_at (drop (length bytes - 4) bytes)
+    >>= λ w. if w.0 == crc32 (take (length bytes - 4) bytes) then Ok tt else Err SavedRefusal.Damaged
+
+-- The magic number and the version come first, so that bytes of another version are told as such. Then the sum of all
+-- bytes is compared, before anything else is read.
 unfoldable pub reading : List ℕ → Result State SavedRefusal
-reading bytes = in_turn magic_at (in_turn version_at (made state_of parts_at)) bytes >>= λ x. at_end x.0.1.1 x.1
+reading bytes =
+    in_turn magic_at version_at bytes >>= λ h. undamaged bytes
+    >>= λ u. in_turn (made state_of parts_at) word_at h.1 >>= λ x. at_end x.0.0 x.1

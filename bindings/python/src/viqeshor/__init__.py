@@ -83,7 +83,7 @@ __all__ = [
 Buffer: TypeAlias = bytes | bytearray | memoryview
 
 # What this package and the library have to agree on: VIQ_ABI of viqeshor.h.
-ABI = 4
+ABI = 5
 NEVER, NO_INTERFACE, MOST_BYTES = 2**64 - 1, 2**32 - 1, 1528
 # The letters of the tables.
 TABLES = "NGSDAURF"
@@ -93,7 +93,7 @@ OLDER_HOSTS = {"none": 0, "v2": 1, "all": 2}
 
 class Answer(enum.IntEnum):
     """What became of an event. `docs/SCENARIOS.md` has the refusals, 1 to 39, and the reasons to ignore, from 101.
-    Those of 40 to 51, of 53 and of 54 are raised as an `Error`, and so are the refusals of saved bytes, 60 to 68, which
+    Those of 40 to 51, of 53 and of 54 are raised as an `Error`, and so are the refusals of saved bytes, 60 to 69, which
     `docs/SAVED.md` has."""
     DONE = 0
     SHORT = 1
@@ -138,6 +138,7 @@ class Answer(enum.IntEnum):
     NOT_HELD = 66
     NOT_SETTLED = 67
     NOT_QUIET = 68
+    DAMAGED = 69
     OWN = 101
     NOT_FOR_ME = 102
     OTHER_TYPE = 103

@@ -1,5 +1,6 @@
 use Rattle.std.{proofs.Common.{ap, ◌∙◌}}
-use Rattle.pim_recorded.{specs.Crc.{begun, ended}, proofs.Entries.after_sent_is}
+use Rattle.pim_saved.{specs.Crc.{begun, ended}}
+use Rattle.pim_recorded.{proofs.Entries.after_sent_is}
 use Rattle.pim_recorded.proofs.sent.sum_of.Goals as goal
 
 pub returns : goal.returns

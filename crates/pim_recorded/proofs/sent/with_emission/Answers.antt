@@ -1,5 +1,6 @@
 use Rattle.std.{proofs.Common.{List, ap, ◌∙◌, ℕ}}
-use Rattle.pim_recorded.{specs.{Crc.after_bytes, Records.packet_text}}
+use Rattle.pim_saved.{specs.Crc.after_bytes}
+use Rattle.pim_recorded.{specs.Records.packet_text}
 use Rattle.pim_recorded.proofs.sent.with_emission.Goals as goal
 
 pub returns-in-Link : goal.returns-in-Link

@@ -1,6 +1,6 @@
 //! CRC-32 (RFC 1952, section 8).
 ghost use Rattle.std.specs.Prelude.{◌≡◌, ◌<◌};
-ghost use Rattle.pim_recorded.specs.Crc.{after_bytes, entry, ended, with_byte};
+ghost use Rattle.pim_saved.specs.Crc.{after_bytes, crc32, entry, ended, with_byte};
 
 // What each byte makes of a register of 0.
 const ENTRIES: [u32; 256] = [
@@ -269,11 +269,11 @@ fn entry(place: usize) -> u32
     ENTRIES[place]
 }
 
-// The register of the checksum before the first byte.
+/// The register of the checksum before the first byte.
 pub const BEGUN: u32 = 0xffff_ffff;
 
 /// The register of the checksum after one more byte.
-#[tactic(auto, unfolding(crate::specs::Crc::with_byte))]
+#[tactic(auto, unfolding(pim_saved::specs::Crc::with_byte))]
 pub fn with_byte(register: u32, byte: u8) -> u32
     ensures { result ≡ with_byte register byte }
 {
@@ -296,4 +296,11 @@ pub fn ended(register: u32) -> u32
     ensures { result ≡ ended register }
 {
     register ^ 0xffff_ffff
+}
+
+/// CRC-32 of the bytes.
+pub fn crc32(bytes: &[u8]) -> u32
+    ensures { result ≡ crc32 bytes.now }
+{
+    ended(with_bytes(BEGUN, bytes))
 }
