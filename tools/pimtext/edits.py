@@ -1,4 +1,8 @@
-"""Edits that must fail: what each changes, and whether what the kit says of it is the refusal that it names."""
+"""Edits that must fail: what each changes, and whether what the kit says of it is the refusal that it names.
+
+Those of a crate stand in its `edits.txt`, with an empty line between two. An edit has a line `edit: NAME`, lines
+`refused: FUNCTION CLAUSE`, and for each file a line `file: PATH` with pairs of lines `old: TEXT` and `new: TEXT`. A
+line that begins with `#` is for readers."""
 from __future__ import annotations
 
 import re
@@ -15,11 +19,10 @@ if TYPE_CHECKING:
 
 # What the front end is to say of an edit that no type allows.
 ERROR = re.compile(r"error\[[\w-]+\]")
-# What the kit says of an edit in must-fail/, of one that it can name no crate for, and how it begins where it is
-# refused.
+# What the kit says of an edit, of one that it can name no crate for, and how it begins where it is refused.
 SAID = re.compile(r"rt: must-fail ([\w-]+)/(\S+)\.edit: (.*)")
 BAD = re.compile(r"rt: (\S+): BAD EDIT: (.*)")
-NAME = re.compile(r"[A-Za-z0-9_-][A-Za-z0-9_.-]*\.edit")
+LINE = re.compile(r"(?:edit: \w+|(?:refused|file|old): .+|new:(?: .*)?|#.*|)")
 REFUSED = "refused, as it must be"
 UNNAMED = "it names no reason in a line `refused: FUNCTION CLAUSE`"
 BY_A_NAME, BY_A_LIMIT = "only because a proof file names", "only by a limit of the prover"
@@ -81,6 +84,24 @@ class AnyClause:
         return True
 
 
+def texts_of(folder: Path) -> dict[str, list[str]]:
+    """The lines of each edit of the crate in a folder, by its name."""
+    path, found, lines = folder / "edits.txt", {}, None
+    if not path.is_file():
+        return found
+    for number, line in enumerate(path.read_text(encoding="utf-8").splitlines(), 1):
+        name = line.removeprefix("edit: ")
+        if name in found:
+            raise SystemExit(f"{path}:{number}: a second edit of that name")
+        if name != line and LINE.fullmatch(line):
+            lines = found[name] = []
+        elif line and not line.startswith("#"):
+            if lines is None or not LINE.fullmatch(line):
+                raise SystemExit(f"{path}:{number}: no line of an edit")
+            lines.append(line)
+    return found
+
+
 class Crate:
     """A crate's folder, with the functions of its source."""
 
@@ -89,6 +110,9 @@ class Crate:
         self.files = {str(path.relative_to(folder)): path.read_text(encoding="utf-8")
                       for path in sorted((folder / "src").rglob("*.rt"))}
         self.found = {path: functions(path, text) for path, text in self.files.items()}
+
+    def edits(self) -> list[Edit]:
+        return [Edit(name, lines, self) for name, lines in texts_of(self.folder).items()]
 
     def all(self) -> list[Found]:
         return [one for found in self.found.values() for one in found]
@@ -129,9 +153,8 @@ def stands_in(function: Function, parts: list[str]) -> bool:
 class Edit:
     """An edit that must fail, with the reasons that it names."""
 
-    def __init__(self, path: Path, crate: Crate) -> None:
-        self.path, self.crate, self.name = path, crate, path.stem
-        self.lines = path.read_text(encoding="utf-8").splitlines()
+    def __init__(self, name: str, lines: list[str], crate: Crate) -> None:
+        self.name, self.lines, self.crate = name, lines, crate
         self.wanted = [tuple(line.split()[1:]) for line in self.lines if line.startswith("refused: ")]
 
     def edited(self, file: str) -> str:

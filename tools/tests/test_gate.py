@@ -74,10 +74,6 @@ TOLD = {
     "is_not_there": "BAD EDIT: an 'old:' text is in src/lib.rt 0 times, and not once",
     "stands_often": "BAD EDIT: an 'old:' text is in src/lib.rt 2 times, and not once",
 }
-NO_EDIT = (
-    "BAD EDIT: an edit stands right in must-fail/, and its name is of letters, digits, _, - and . and ends in .edit "
-    "(or .md, "
-           "if it is only to be read)")
 EDITS = {
     "keeps_the_whole": KEEPS,
     "goes_too_far": f"refused: lower ensures\n{TOO_FAR}",
@@ -100,9 +96,10 @@ def lines(names, passed, failed, told=TOLD):
 
 def ended(names, printed, status=0, more=(), listed="", words=(), source=SOURCE):
     """The gate's status and its lines that aren't the kit's, beside a kit that prints these."""
+    listed = "".join(f"low/{name}  what it does\n" for name in names) + listed
     files = {"crates.txt": "# Words\n# numbers\nlow:\n", "tools/wrong_bodies.txt": listed,
         "crates/low/src/lib.rt": source,
-             **{f"crates/low/must-fail/{name}.edit": EDITS[name] for name in names}, **dict(more)}
+             "crates/low/edits.txt": "".join(f"edit: {name}\n{EDITS[name]}" for name in names), **dict(more)}
     out = io.StringIO()
     with repository(files) as room, mock.patch.object(gate, "TOP", room), kit(room,
         f"cat {room}/printed; exit {status}"):
@@ -158,15 +155,6 @@ class Gate(unittest.TestCase):
             self.assertEqual("1 passed, 1 failed",
                 self.assert_red(ended([name], lines([name], 1, 0)), f"low/{name}.edit: BAD EDIT"))
 
-    def test_what_is_no_edit_by_its_name_or_its_place(self):
-        more = {"crates/low/must-fail/misnamed.edits": TOO_FAR, "crates/low/must-fail/aside/below.edit": TOO_FAR}
-        told = [f"rt: {path}: {NO_EDIT}" for path in more]
-        printed = lines(GOOD, 4, 0)
-        last = self.assert_red(ended(GOOD, [*printed[:-1], *told, printed[-1]], more=more),
-            *(f"gate: {path}: " for path in more))
-        self.assertEqual("4 passed, 2 failed", last)
-        self.assert_red(ended(GOOD, printed, more=more), *(f"gate: {path}: " for path in more))
-
     def test_an_edit_of_the_contract_itself(self):
         last = self.assert_red(ended(["changes_the_contract"], lines(["changes_the_contract"], 2, 0)),
             "changes the contract of lib::lower")
@@ -197,7 +185,8 @@ class Gate(unittest.TestCase):
             "low/sends_nothing.edit: it isn't there, and is to be: nothing is sent")
 
     def test_a_wrong_body_that_no_type_allows(self):
-        more = {"crates/low/edits/halves_the_world.edit": "refused: error[unknown-name]\n" + TOO_FAR}
+        texts = "".join(f"edit: {name}\n{EDITS[name]}" for name in GOOD)
+        more = {"crates/low/edits.txt": f"{texts}edit: halves_the_world\nrefused: error[unknown-name]\n{TOO_FAR}"}
         listed = "low/halves_the_world  halves what isn't there\n"
         for came, wanted in (("refused", (0, "5 passed, 0 failed")), ("STILL PROVED", (1, "4 passed, 1 failed"))):
             with mock.patch.object(gate, "tried_again", return_value={"low/halves_the_world": f"{came}: so"}):
@@ -213,13 +202,14 @@ class Gate(unittest.TestCase):
             self.assertEqual(("--whole", "low/raises_a_number"), again.call_args.args[1:])
 
     def test_of_crates_that_are_named(self):
-        more = {"crates.txt": "# Words\n# numbers\nlow:\nother:\n", "crates/other/must-fail/one.edit": KEEPS,
+        more = {"crates.txt": "# Words\n# numbers\nlow:\nother:\n", "crates/other/edits.txt": f"edit: one\n{KEEPS}",
             "crates/other/src/lib.rt": SOURCE}
         printed = lines(GOOD, 4, 0)
         printed[-1] += " (low and the crates below alone: not the gate)"
         self.assertEqual((0, ["4 passed, 0 failed (low and the crates below alone: not the gate)"]),
                          ended(GOOD, printed, more=more, words=["low"]))
-        self.assert_red(ended(GOOD, lines(GOOD, 4, 0), more=more), "other/one.edit: it wasn't tried")
+        self.assert_red(ended(GOOD, lines(GOOD, 4, 0), more=more, listed="other/one  what it does\n"),
+            "other/one.edit: it wasn't tried")
 
 
 class Judged(unittest.TestCase):
@@ -227,7 +217,8 @@ class Judged(unittest.TestCase):
 
     def wrong(self, said, edit, source=SOURCE):
         with repository(
-            {"crates.txt": "low:\n", "crates/low/src/lib.rt": source, "crates/low/must-fail/one.edit": edit}) as room:
+            {"crates.txt": "low:\n", "crates/low/src/lib.rt": source, "crates/low/edits.txt": f"edit: one\n{edit}",
+             "tools/wrong_bodies.txt": "low/one  what it does\n"}) as room:
             printed = [f"rt: must-fail low/one.edit: {said}"] if said else []
             _, found = gate.judged(Path(room), printed, {"low"})
         return found[0][1] if found else None
@@ -314,12 +305,6 @@ class List(unittest.TestCase):
     def test_the_wrong_bodies_of_this_repository(self):
         top = Path(gate.__file__).resolve().parent.parent
         self.assertEqual([], list(gate.missing(top, gate.below(top, []))))
-
-    def test_each_edit_that_the_gate_tries_is_in_the_list(self):
-        top = Path(gate.__file__).resolve().parent.parent
-        listed = {line.partition(" ")[0] for line in (top / "tools" / "wrong_bodies.txt").read_text().splitlines()}
-        tried = {f"{edit.crate.name}/{edit.name}" for edit in gate.edits(top, gate.below(top, []))}
-        self.assertEqual(set(), tried - listed)
 
     def test_the_edits_of_this_repository_name_one_function_each_and_change_code(self):
         top = Path(gate.__file__).resolve().parent.parent

@@ -11,10 +11,11 @@ from tests.rooms import kit, repository
 try_edits = stored.tool("try_edits")
 CODE = "/// The number.\npub fn number(n: u32) -> u32\n    ensures same { result ≡ n }\n{\n    n\n}\n"
 EDIT = "refused: number same\nfile: src/lib.rt\nold:     n\nnew:     n / 2\n"
+WEAK = "edit: weak\n"
 FILES = {
     "crates.txt": "# the crates\nhigh: middle std\nmiddle: low\nlow: std\nother: std\n",
-    "crates/low/src/lib.rt": CODE, "crates/low/out/kept": "what a check kept", "crates/low/edits/weak.edit": EDIT,
-    "crates/middle/src/lib.rt": CODE, "crates/middle/edits/one.edit": EDIT, "crates/middle/must-fail/two.edit": EDIT,
+    "crates/low/src/lib.rt": CODE, "crates/low/out/kept": "what a check kept", "crates/low/edits.txt": WEAK + EDIT,
+    "crates/middle/src/lib.rt": CODE, "crates/middle/edits.txt": f"edit: one\n{EDIT}\nedit: two\n{EDIT}",
     "crates/high/src/lib.rt": "high", "crates/other/src/lib.rt": "other",
 }
 GOAL = ("note: src/lib.rt:2:1: it is not proved that what the function ensures holds when it returns "
@@ -58,10 +59,9 @@ class Crates(unittest.TestCase):
             self.assertEqual(try_edits.all_below(["high"], found), ["low", "middle"])
             self.assertEqual(try_edits.all_below(["low"], found), [])
 
-    def test_the_edits_of_this_repository_have_names_of_their_own(self):
+    def test_the_edits_of_this_repository_are_read(self):
         for name in try_edits.crates():
-            names = [path.name for path in try_edits.edits_of(name)]
-            self.assertEqual(len(names), len(set(names)), name)
+            try_edits.edits_of(name)
 
 
 class Tried(unittest.TestCase):
@@ -72,7 +72,7 @@ class Tried(unittest.TestCase):
             [f"{name}: refused: {GOAL}" for name in ("low/weak", "middle/one", "middle/two")])
         self.assertEqual(lines[-1], COUNTS.format(3, 0, 0, 0, 0))
         self.assertEqual([each.partition(" in ")[0] for each in asked], ["lib", "must-fail low", "must-fail middle"])
-        self.assertEqual(left, {name for name in FILES if name.endswith(".edit")})
+        self.assertEqual(left, set())
 
     def test_of_one_crate_with_what_is_below_it_built(self):
         status, lines, asked, _ = tried(REFUSES, "middle")
@@ -90,7 +90,7 @@ class Tried(unittest.TestCase):
 
     def of_low(self, told, edit=EDIT, *words):
         return tried(REFUSES.replace(TOLD, told), *words, "low",
-            files={**FILES, "crates/low/edits/weak.edit": edit})[:2]
+            files={**FILES, "crates/low/edits.txt": WEAK + edit})[:2]
 
     def test_an_edit_that_another_clause_refuses(self):
         status, lines = self.of_low(TOLD.replace("clause-same", "clause-other"))
@@ -119,7 +119,7 @@ class Tried(unittest.TestCase):
 
     def by_front(self, told, edit, built=()):
         """What the front end is asked of edits that no type allows, with what comes of it."""
-        files = {**FILES, "crates/middle/edits/typed.edit": edit, "crates/middle/edits/other.edit": edit, **{
+        files = {**FILES, "crates/middle/edits.txt": f"edit: typed\n{edit}edit: other\n{edit}", **{
             f"crates/{name}/out/rlib/{name}.rlib/format": "" for name in built}}
         with mock.patch.object(try_edits.checks, "said", return_value=told) as front:
             status, lines, asked, _ = tried("", "--types", files=files)
@@ -173,20 +173,19 @@ class Tried(unittest.TestCase):
         self.assertEqual((1, COUNTS.format(0, 0, 1, 0, 0)), (status, lines[-1]))
 
     def test_a_clause_that_is_written_in(self):
-        with repository({**FILES, "crates/low/edits/weak.edit": EDIT.partition("\n")[2]}) as room:
-            crate = try_edits.Crate(room / "crates" / "low")
+        with repository({**FILES, "crates/low/edits.txt": WEAK + EDIT.partition("\n")[2]}) as room:
             for _ in range(2):
-                edit = try_edits.Edit(room / "crates/low/edits/weak.edit", crate)
+                edit = try_edits.Crate(room / "crates" / "low").edits()[0]
                 try_edits.named(edit, edit.reason(GOAL))
-                self.assertEqual(EDIT, edit.path.read_text())
+                self.assertEqual(WEAK + EDIT, (room / "crates/low/edits.txt").read_text())
 
     def test_edits_of_several_functions_in_one_check(self):
         half = CODE.replace("number", "half").replace("    n\n", "    n / 1\n")
         file = "file: src/lib.rt\n"
         files = {**FILES, "crates/low/src/lib.rt": CODE.replace("    n\n", "    n + 0\n") + half,
-                 "crates/low/edits/weak.edit": f"refused: number same\n{file}old: n + 0\nnew: n / 2\n",
-                 "crates/low/edits/half.edit": f"{file}old: n / 1\nnew: n / 3\n",
-                 "crates/low/edits/other.edit": f"refused: half same\n{file}old: n / 1\nnew: n / 4\n"}
+                 "crates/low/edits.txt": f"edit: weak\nrefused: number same\n{file}old: n + 0\nnew: n / 2\n"
+                 f"edit: half\n{file}old: n / 1\nnew: n / 3\n"
+                 f"edit: other\nrefused: half same\n{file}old: n / 1\nnew: n / 4\n"}
         # It refuses the second and third number, in the function three lines above.
         check = ('[ "$1" = check ] || exit 0\necho "$(grep -c "n / [234]" src/lib.rt) at once" >> {log}\n'
                  'for line in $(grep -n "n / [23]" src/lib.rt | cut -d: -f1); do\n'
@@ -198,8 +197,8 @@ class Tried(unittest.TestCase):
     def test_a_function_that_waits_for_one_that_it_calls_is_checked_again(self):
         half = CODE.replace("number", "half").replace("    n\n", "    number(n) / 1\n")
         files = {**FILES, "crates/low/src/lib.rt": CODE.replace("    n\n", "    n + 0\n") + half,
-                 "crates/low/edits/weak.edit": "refused: number same\nfile: src/lib.rt\nold: n + 0\nnew: n / 2\n",
-                 "crates/low/edits/half.edit": "refused: half same\nfile: src/lib.rt\nold: / 1\nnew: / 3\n"}
+                 "crates/low/edits.txt": "edit: weak\nrefused: number same\nfile: src/lib.rt\nold: n + 0\nnew: n / 2\n"
+                 "edit: half\nrefused: half same\nfile: src/lib.rt\nold: / 1\nnew: / 3\n"}
         # It tells of the first function, and of the other where the first is as it was.
         check = ('[ "$1" = check ] || exit 0\ngrep -c "/ [23]" src/lib.rt >> {log}\n'
                  f"if grep -q '/ 2' src/lib.rt; then echo '{GOAL}'; echo 'fn low::lib::half: not proved; it calls "
@@ -214,18 +213,18 @@ class Tried(unittest.TestCase):
         code += CODE.replace("number", "other").replace("    n\n", "    n + MOST - 2\n")
         for old, function in (("u32 = 1", "lib::number"), ("u32 = 2", "None"), ("- 2", "lib::other")):
             edit = f"file: src/lib.rt\nold: {old}\nnew: {old}0\n"
-            with repository({"crates/low/src/lib.rt": code, "crates/low/edits/weak.edit": edit}) as room:
+            with repository({"crates/low/src/lib.rt": code, "crates/low/edits.txt": WEAK + edit}) as room:
                 crate = try_edits.Crate(room / "crates" / "low")
                 self.assertEqual(function,
-                    str(together.changed(try_edits.Edit(room / "crates/low/edits/weak.edit", crate))))
+                    str(together.changed(crate.edits()[0])))
 
     def test_two_lines_in_the_other_order(self):
         code = CODE.replace("    n\n", "    let half = n / 2;\n    let twice = half * 2;\n    n\n")
         edit = ("file: src/lib.rt\nold: let half = n / 2;\nnew: let all = half * 2;\nold: let twice = half * 2;\n"
                 "new: let half = n / 2;\nold: let all\nnew: let twice\n")
-        with repository({"crates/low/src/lib.rt": code, "crates/low/edits/weak.edit": edit}) as room:
+        with repository({"crates/low/src/lib.rt": code, "crates/low/edits.txt": WEAK + edit}) as room:
             crate = try_edits.Crate(room / "crates" / "low")
-            edit = try_edits.Edit(room / "crates/low/edits/weak.edit", crate)
+            edit = crate.edits()[0]
             self.assertEqual("lib::number", str(together.changed(edit)))
             self.assertTrue(together.applies(edit, dict(crate.files)))
 
@@ -235,19 +234,20 @@ class Tried(unittest.TestCase):
         edit = "refused: sum {}\nfile: src/lib.rt\nold: 0..n\nnew: 1..n\n"
         goal = "note: src/lib.rt:4:5: it is not proved that the loop goes on (`all-preserved`)"
         for clause, meets in (("loop", True), ("same", False)):
-            with repository({"crates/low/src/lib.rt": code, "crates/low/edits/weak.edit": edit.format(clause)}) as room:
+            files = {"crates/low/src/lib.rt": code, "crates/low/edits.txt": WEAK + edit.format(clause)}
+            with repository(files) as room:
                 crate = try_edits.Crate(room / "crates" / "low")
-                self.assertEqual(meets, try_edits.Edit(room / "crates/low/edits/weak.edit", crate).meets(goal))
+                self.assertEqual(meets, crate.edits()[0].meets(goal))
 
     def test_a_proof_by_hand(self):
         code = CODE.replace("pub fn number", "pub fn same") + CODE
-        files = {"crates/low/src/lib.rt": code, "crates/low/edits/weak.edit": EDIT}
+        files = {"crates/low/src/lib.rt": code, "crates/low/edits.txt": WEAK + EDIT}
         line = "./proofs/lib/{}/Answers.antt:7:5: error: {}"
         standing = ("2 declarations that depend on `changed`, which was rejected, were not checked: "
                     "returns-clause-{}, auto")
         there = ("`returns-clause-same`: the two types differ", standing.format("same"))
         with repository(files) as room:
-            edit = try_edits.Edit(room / "crates/low/edits/weak.edit", try_edits.Crate(room / "crates" / "low"))
+            edit = try_edits.Crate(room / "crates" / "low").edits()[0]
         for name, told, meets in (
             *(("number", it, True) for it in there), *(("+number", it, True) for it in there),
             *(("same", it, False) for it in there), ("number", standing.format("other"), False),
@@ -275,15 +275,15 @@ class Tried(unittest.TestCase):
     def test_the_clause_is_named_that_tells_most(self):
         goals = ("requires-same", "invariant_of-self", "returns-clause-same", "slice_bounds-all")
         lines = [GOAL.replace("returns-clause-same", it) for it in goals]
-        with repository({**FILES, "crates/low/edits/weak.edit": EDIT}) as room:
+        with repository({**FILES, "crates/low/edits.txt": WEAK + EDIT}) as room:
             crate = try_edits.Crate(room / "crates" / "low")
-            batch = next(try_edits.batches([try_edits.Edit(room / "crates/low/edits/weak.edit", crate)]))
+            batch = next(try_edits.batches([crate.edits()[0]]))
         (told,) = together.by_prover(batch, lines).values()
         self.assertEqual([goals[at] for at in (2, 1, 0, 3)], [reason.goal for _, reason in told])
 
     def test_edits_that_are_not_judged_yet(self):
         status, lines, asked, _ = tried(REFUSES, "--unnamed", "low",
-            files={**FILES, "crates/low/edits/weak.edit": "file: src/lib.rt\n"})
+            files={**FILES, "crates/low/edits.txt": WEAK + "file: src/lib.rt\n"})
         self.assertEqual((1, ["low/weak", "1 edits name no clause"], []), (status, lines, asked))
 
     def test_a_judge_that_stops_before_all_are_tried(self):
@@ -300,9 +300,11 @@ class Tried(unittest.TestCase):
         self.assertEqual(status, 2)
         self.assertIn("try_edits: low isn't proved, so no edit was tried", lines)
 
-    def test_two_edits_of_one_name(self):
-        status, _, asked, _ = tried(REFUSES, files={**FILES, "crates/low/must-fail/weak.edit": "d"})
-        self.assertEqual((status, asked), ("try_edits: crates/low has two edits weak.edit", []))
+    def test_a_text_that_is_no_list_of_edits(self):
+        for text in (f"edit: weak\n{EDIT}edit: weak\n{EDIT}", f"edit: weak\n{EDIT}olds: 1\n", EDIT):
+            status, _, asked, _ = tried(REFUSES, files={**FILES, "crates/low/edits.txt": text})
+            self.assertRegex(str(status), r"/crates/low/edits.txt:\d: ")
+            self.assertEqual([], asked)
 
     def test_a_crate_that_is_not_there(self):
         status, lines, _, _ = tried(REFUSES, "lowest")
