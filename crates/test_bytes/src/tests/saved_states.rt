@@ -366,12 +366,7 @@ fn other_bytes_are_refused(rt: HostRuntime) -> Result<(), Fail> {
     let mut longer = Vec::new(alloc);
     longer.extend_from_slice(&STATE[..SUM])?;
     longer.push(0)?;
-    refuses(
-        &rt,
-        alloc,
-        &summed(alloc, &longer)?,
-        SavedRefusal::LeftOver,
-    );
+    refuses(&rt, alloc, &summed(alloc, &longer)?, SavedRefusal::LeftOver);
     Ok(())
 }
 
@@ -397,8 +392,10 @@ fn each_front_is_refused(rt: HostRuntime) -> Result<(), Fail> {
     // What is missing is read of the sum first, where a flag may be none.
     for n in 6..SUM {
         let bytes = summed(alloc, &STATE[..n])?;
-        assert!(rt; is_refused(alloc, &bytes, SavedRefusal::CutShort)
-            || is_refused(alloc, &bytes, SavedRefusal::OutOfRange));
+        assert!(rt;
+            is_refused(alloc, &bytes, SavedRefusal::CutShort)
+                || is_refused(alloc, &bytes, SavedRefusal::OutOfRange)
+        );
     }
     Ok(())
 }
