@@ -1,5 +1,5 @@
-//! The control socket: a client writes a line, `show WHAT`, `show WHAT json` or `clear WHAT`, and reads the answer to
-//! its end.
+//! The control socket: a client writes a line, `show WHAT`, `show WHAT json` or `clear WHAT`, and reads the answer. A
+//! mark ends it, so that one that was cut off is known.
 use crate::server::{Protocol, Server};
 use nix::sys::stat::{umask, Mode};
 use nix::unistd::{chown, Group};
@@ -12,7 +12,9 @@ use std::os::unix::io::{AsRawFd, FromRawFd};
 use std::os::unix::net::{UnixListener, UnixStream};
 use std::path::{Path, PathBuf};
 
-const LINE: Protocol = Protocol { whole: line, longest: 256 };
+/// End of transmission: it stands in no answer.
+const END: &str = "\x04";
+const LINE: Protocol = Protocol { whole: line, longest: 256, end: END };
 
 fn line(written: &[u8]) -> Option<String> {
     let end = written.iter().position(|byte| *byte == b'\n')?;
@@ -121,7 +123,9 @@ pub fn ask(path: &Path, line: &str) -> io::Result<String> {
     stream.write_all(format!("{line}\n").as_bytes())?;
     let mut answer = String::new();
     stream.read_to_string(&mut answer)?;
-    Ok(answer)
+    let cut =
+        || io::Error::new(io::ErrorKind::UnexpectedEof, format!("the answer was cut off after {} bytes", answer.len()));
+    answer.strip_suffix(END).map(str::to_string).ok_or_else(cut)
 }
 
 #[cfg(test)]
@@ -136,9 +140,12 @@ mod tests {
     }
 
     /// Answers each line with a text, and counts those that clear.
+    #[derive(Default)]
     struct Always<'a> {
         text: &'a str,
         users: Vec<Option<u32>>,
+        /// Something goes wrong after the text.
+        is_cut: bool,
     }
 
     impl Answers for Always<'_> {
@@ -149,14 +156,23 @@ mod tests {
             })
         }
 
-        fn tell(&mut self, line: &str) -> String {
-            format!("{line}: {}", self.text)
+        fn tell(&mut self, line: &str, to: &mut dyn Write) -> io::Result<()> {
+            write!(to, "{line}: {}", self.text)?;
+            if self.is_cut {
+                Err(io::ErrorKind::Other.into())
+            } else {
+                Ok(())
+            }
         }
     }
 
     fn asked(control: &mut Control, line: &'static str, by: &mut Always) -> String {
+        answered(control, line, by).unwrap()
+    }
+
+    fn answered(control: &mut Control, line: &'static str, by: &mut Always) -> io::Result<String> {
         let path = control.path.clone();
-        let asker = std::thread::spawn(move || ask(&path, line).unwrap());
+        let asker = std::thread::spawn(move || ask(&path, line));
         while !asker.is_finished() {
             control.serve(by);
             std::thread::sleep(Duration::from_millis(1));
@@ -170,16 +186,27 @@ mod tests {
         let mut control = Control::open(&place).unwrap();
         assert!(Control::open(&place).is_err());
         let text = "a line of an answer\n".repeat(30_000);
-        let mut by = Always { text: &text, users: Vec::new() };
+        let mut by = Always { text: &text, ..Always::default() };
         assert_eq!(asked(&mut control, "show rp", &mut by), format!("show rp: {text}"));
         drop(control);
         assert!(!place.path.exists());
     }
 
     #[test]
+    fn an_answer_that_was_cut_off_is_an_error() {
+        let mut control = Control::open(&place("cut")).unwrap();
+        let text = "a line of an answer\n".repeat(30_000);
+        for text in ["", &text] {
+            let mut by = Always { text, is_cut: true, ..Always::default() };
+            let error = answered(&mut control, "show rp", &mut by).unwrap_err();
+            assert_eq!(error.kind(), io::ErrorKind::UnexpectedEof);
+        }
+    }
+
+    #[test]
     fn what_changes_the_router_is_done_by_itself_and_knows_the_user() {
         let mut control = Control::open(&place("change")).unwrap();
-        let mut by = Always { text: "", users: Vec::new() };
+        let mut by = Always::default();
         assert_eq!(asked(&mut control, "clear counters", &mut by), "cleared");
         assert_eq!(by.users, [Some(nix::unistd::getuid().as_raw())]);
     }
@@ -188,7 +215,7 @@ mod tests {
     fn silent_clients_lock_no_one_out() {
         let mut control = Control::open(&place("silent")).unwrap();
         let silent: Vec<_> = (0..MOST_CLIENTS).map(|_| UnixStream::connect(&control.path).unwrap()).collect();
-        let mut by = Always { text: "yes", users: Vec::new() };
+        let mut by = Always { text: "yes", ..Always::default() };
         control.serve(&mut by);
         assert_eq!(control.clients(), MOST_CLIENTS);
         assert_eq!(asked(&mut control, "show rp", &mut by), "show rp: yes");

@@ -28,3 +28,9 @@ pub enum Fatal {
     #[error("the router failed: {0}")]
     Router(#[from] viqeshor::Error),
 }
+
+impl From<Fatal> for io::Error {
+    fn from(fatal: Fatal) -> io::Error {
+        io::Error::new(io::ErrorKind::Other, fatal.to_string())
+    }
+}

@@ -14,7 +14,8 @@ use std::io;
 use std::net::SocketAddr;
 use viqeshor::{ActiveRow, AssertRow, DownstreamRow, DownstreamState, GroupRow, NeighbourRow, SourceRow, UpstreamRow};
 
-const HEAD: Protocol = Protocol { whole: first_line, longest: 8_192 };
+/// The length in an answer's head says where it ends.
+const HEAD: Protocol = Protocol { whole: first_line, longest: 8_192, end: "" };
 
 /// Of the head of a request the first line, once an empty line ends it.
 fn first_line(written: &[u8]) -> Option<String> {
@@ -47,17 +48,18 @@ impl Answers for Http<'_> {
         None
     }
 
-    fn tell(&mut self, line: &str) -> String {
+    fn tell(&mut self, line: &str, to: &mut dyn io::Write) -> io::Result<()> {
         let words: Vec<_> = line.split_whitespace().collect();
         let path = words.get(1).map_or("", |target| target.split('?').next().unwrap_or(""));
-        match (words.first(), path) {
+        let answer = match (words.first(), path) {
             (Some(&"GET" | &"HEAD"), "/metrics") => match text(self.0) {
                 Ok(text) => response("200 OK", if words[0] == "GET" { &text } else { "" }, text.len()),
                 Err(error) => failed("500 Internal Server Error", &format!("{error}\n")),
             },
             (Some(&"GET" | &"HEAD"), _) => failed("404 Not Found", "there is /metrics\n"),
             _ => failed("405 Method Not Allowed", "GET is answered\n"),
-        }
+        };
+        to.write_all(answer.as_bytes())
     }
 }
 

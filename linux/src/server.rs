@@ -5,7 +5,7 @@
 use log::debug;
 use nix::sys::socket::{getsockopt, sockopt::PeerCredentials};
 use socket2::Socket;
-use std::io::{self, Read, Write};
+use std::io::{self, BufWriter, Read, Write};
 use std::os::unix::io::{AsRawFd, RawFd};
 use std::time::{Duration, Instant};
 
@@ -15,16 +15,20 @@ pub const MOST_CLIENTS: usize = 32;
 const MOST_ANSWERS: usize = 4;
 /// A client that hasn't asked after so long is let go.
 const PATIENCE: Duration = Duration::from_secs(5);
-/// An answer that isn't read to its end after so long is let go, in seconds.
-const LONGEST_ANSWER: u32 = 30;
+/// An answer is written in blocks of so many bytes.
+const BLOCK: usize = 65_536;
+/// One of which no block is worked out and read in so long is let go, in seconds.
+const LONGEST_BLOCK: u32 = 30;
 
-/// How a request looks.
+/// How a request looks, and how an answer ends.
 #[derive(Clone, Copy)]
 pub struct Protocol {
     /// The request in what a client has written, once it is whole.
     pub whole: fn(&[u8]) -> Option<String>,
     /// The most bytes of one.
     pub longest: usize,
+    /// What stands behind an answer that is whole.
+    pub end: &'static str,
 }
 
 /// Who answers.
@@ -32,8 +36,8 @@ pub trait Answers {
     /// What a request changes is done here, and answered; `None` for one that only asks. `user` is the client's, where
     /// the socket tells it.
     fn act(&mut self, request: &str, user: Option<u32>) -> Option<String>;
-    /// The answer to one that only asks.
-    fn tell(&mut self, request: &str) -> String;
+    /// Writes the answer to one that only asks, as it is worked out.
+    fn tell(&mut self, request: &str, to: &mut dyn Write) -> io::Result<()>;
 }
 
 struct Client {
@@ -76,8 +80,36 @@ impl Client {
     }
 }
 
+/// A client, as an answer is written to it: each block has its time.
+struct Reader(Socket);
+
+impl Write for Reader {
+    fn write(&mut self, block: &[u8]) -> io::Result<usize> {
+        // SAFETY: it touches no memory.
+        unsafe { libc::alarm(LONGEST_BLOCK) };
+        self.0.write(block)
+    }
+
+    fn flush(&mut self) -> io::Result<()> {
+        Ok(())
+    }
+}
+
+/// Writes an answer to its end.
+fn write(stream: Socket, answer: impl FnOnce(&mut dyn Write) -> io::Result<()>, end: &str) -> io::Result<()> {
+    stream.set_nonblocking(false)?;
+    let mut to = BufWriter::with_capacity(BLOCK, Reader(stream));
+    answer(&mut to)?;
+    to.write_all(end.as_bytes())?;
+    to.flush()
+}
+
 /// Writes an answer in a process of its own, which answers its number.
-fn answer_elsewhere(mut stream: Socket, answer: impl FnOnce() -> String) -> io::Result<libc::pid_t> {
+fn write_elsewhere(
+    stream: Socket,
+    answer: impl FnOnce(&mut dyn Write) -> io::Result<()>,
+    end: &str,
+) -> io::Result<libc::pid_t> {
     // SAFETY: the router has one thread, so the child has all of its memory in order. It calls nothing but what works
     // the answer out and writes it, and ends without running what its parent is to run at its end.
     match unsafe { libc::fork() } {
@@ -86,9 +118,9 @@ fn answer_elsewhere(mut stream: Socket, answer: impl FnOnce() -> String) -> io::
             unsafe {
                 libc::signal(libc::SIGTERM, libc::SIG_DFL);
                 libc::signal(libc::SIGALRM, libc::SIG_DFL);
-                libc::alarm(LONGEST_ANSWER);
+                libc::alarm(LONGEST_BLOCK);
             }
-            let written = stream.set_nonblocking(false).and_then(|()| stream.write_all(answer().as_bytes()));
+            let written = write(stream, answer, end);
             unsafe { libc::_exit(i32::from(written.is_err())) }
         }
         child => Ok(child),
@@ -163,7 +195,11 @@ impl Server {
             match client.read(self.protocol) {
                 Turn::Asked(request) if self.answers.len() < MOST_ANSWERS => {
                     let done = by.act(&request, client.user());
-                    match answer_elsewhere(client.stream, || done.unwrap_or_else(|| by.tell(&request))) {
+                    let answer = |to: &mut dyn Write| match &done {
+                        Some(done) => to.write_all(done.as_bytes()),
+                        None => by.tell(&request, to),
+                    };
+                    match write_elsewhere(client.stream, answer, self.protocol.end) {
                         Ok(child) => self.answers.push(child),
                         Err(error) => debug!("\"{request}\" can't be answered: {error}"),
                     }

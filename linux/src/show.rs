@@ -1,25 +1,23 @@
 //! What the router says of itself over the control socket, as tables of text and as JSON.
+mod forwarded;
 pub mod joins;
-pub mod why;
+mod sheet;
+mod why;
 
 use crate::daemon::Daemon;
 use crate::error::Fatal;
 use crate::metrics::Kind;
-use crate::mroute::{Key, REGISTER_VIF};
-use crate::netlink::{Netlink, Used};
 use crate::older::Version;
-use crate::plane::Entry;
 use crate::ports::{Port, Standing};
 use crate::routes::{longest, Counts};
 use crate::settings::RpSettings;
 use clap::ValueEnum;
-use serde_json::{json, Map, Value};
+use serde_json::{json, Value};
+use sheet::Sheet;
 use std::collections::{BTreeMap, BTreeSet, HashMap};
+use std::io::{self, Write};
 use std::net::Ipv4Addr;
-use viqeshor::{
-    ActiveRow, DownstreamRow, GroupRow, Interfaces, NeighbourRow, OlderRow, RegisterState, Rpf, RptRow, SourceRow,
-    UpstreamRow,
-};
+use viqeshor::{GroupRow, NeighbourRow, OlderRow, SourceRow, UpstreamRow};
 
 /// What can be shown.
 #[derive(Clone, Copy, Debug, PartialEq, Eq, ValueEnum)]
@@ -74,26 +72,66 @@ impl Topic {
 type Cells = Vec<(&'static str, Value)>;
 type Rows = Vec<Cells>;
 
-/// The answer to a line of a client.
-pub fn answer(daemon: &mut Daemon, line: &str) -> String {
-    let mut words: Vec<_> = line.split_whitespace().collect();
-    let is_json = words.last() == Some(&"json");
-    words.truncate(words.len() - usize::from(is_json));
-    let (name, about) = match words[..] {
-        ["show", name, ref about @ ..] if about.len() <= most_about(name) => (name, about),
-        _ => return format!("error: \"{line}\" is nothing that can be asked\n"),
-    };
-    let topic = match Topic::of(name) {
-        Some(topic) => topic,
-        None => {
-            let names: Vec<_> = Topic::value_variants().iter().map(|topic| topic.name()).collect();
-            return format!("error: there is no \"{name}\" to show, but {}\n", names.join(", "));
+/// Of which groups and sources rows are wanted: of all, of a group, or of a source of it.
+#[derive(Clone, Copy, Default)]
+pub struct About {
+    group: Option<Ipv4Addr>,
+    source: Option<Ipv4Addr>,
+}
+
+impl About {
+    pub fn has_group(&self, group: Ipv4Addr) -> bool {
+        self.group.map_or(true, |wanted| wanted == group)
+    }
+
+    /// Whether rows of a group, or of a source of it, are wanted.
+    fn has(&self, group: Ipv4Addr, source: Option<Ipv4Addr>) -> bool {
+        self.has_group(group) && (self.source.is_none() || self.source == source)
+    }
+}
+
+/// What a line of a client asks for.
+struct Asked {
+    topic: Topic,
+    /// The addresses behind it.
+    addresses: Vec<Ipv4Addr>,
+    is_json: bool,
+}
+
+impl Asked {
+    fn read(line: &str) -> Result<Asked, String> {
+        let mut words: Vec<_> = line.split_whitespace().collect();
+        let is_json = words.last() == Some(&"json");
+        words.truncate(words.len() - usize::from(is_json));
+        let (name, about) = match words[..] {
+            ["show", name, ref about @ ..] if about.len() <= most_about(name) => (name, about),
+            _ => return Err(format!("\"{line}\" is nothing that can be asked")),
+        };
+        let names = || Topic::value_variants().iter().map(|topic| topic.name()).collect::<Vec<_>>().join(", ");
+        let topic = Topic::of(name).ok_or_else(|| format!("there is no \"{name}\" to show, but {}", names()))?;
+        let addresses = about.iter().map(address_in).collect::<Result<Vec<_>, _>>()?;
+        match addresses.first() {
+            Some(group) if topic != Topic::Rpf && !group.is_multicast() => Err(format!("{group} isn't a group")),
+            _ => Ok(Asked { topic, addresses, is_json }),
         }
+    }
+
+    fn about(&self) -> About {
+        About { group: self.addresses.first().copied(), source: self.addresses.get(1).copied() }
+    }
+}
+
+/// Writes the answer to a line of a client, row by row.
+pub fn answer(daemon: &mut Daemon, line: &str, to: &mut dyn Write) -> io::Result<()> {
+    let asked = match Asked::read(line) {
+        Ok(asked) => asked,
+        Err(error) => return writeln!(to, "error: {error}"),
     };
-    match rows(daemon, topic, about) {
-        Err(error) => format!("error: {error}\n"),
-        Ok(rows) if is_json => as_json(name, rows),
-        Ok(rows) => as_text(&rows),
+    let mut sheet = Sheet::new(to, asked.topic.name(), asked.is_json);
+    match rows(daemon, &asked, &mut sheet) {
+        Ok(()) => sheet.end(),
+        Err(error) if sheet.is_blank() => writeln!(to, "error: {error}"),
+        Err(error) => Err(error),
     }
 }
 
@@ -101,7 +139,7 @@ pub fn answer(daemon: &mut Daemon, line: &str) -> String {
 fn most_about(name: &str) -> usize {
     match Topic::of(name) {
         Some(Topic::Rpf) => 1,
-        Some(Topic::Why) => 2,
+        Some(Topic::Mroute | Topic::Why | Topic::Igmp | Topic::Joins | Topic::Upstream | Topic::Asserts) => 2,
         _ => 0,
     }
 }
@@ -111,66 +149,22 @@ fn address_in(text: &&str) -> Result<Ipv4Addr, String> {
     text.parse().map_err(|_| format!("\"{text}\" isn't an IPv4 address"))
 }
 
-fn rows(daemon: &mut Daemon, topic: Topic, about: &[&str]) -> Result<Rows, String> {
-    let of = about.iter().map(address_in).collect::<Result<Vec<_>, _>>()?;
-    if let Some(group) = of.first().filter(|first| topic == Topic::Why && !first.is_multicast()) {
-        return Err(format!("{group} isn't a group"));
-    }
-    let rows = match topic {
-        Topic::Mroute => mroute(daemon),
-        Topic::Why => why::why(daemon, of.first().copied(), of.get(1).copied()),
-        Topic::Neighbors => neighbours(daemon),
-        Topic::Igmp => igmp(daemon),
-        Topic::Rp => rp(daemon),
-        Topic::Interfaces => interfaces(daemon),
-        Topic::Joins => joins::joins(daemon),
-        Topic::Upstream => joins::upstream(daemon),
-        Topic::Asserts => joins::asserts(daemon),
-        Topic::Rpf => joins::rpf(daemon, of.first().copied()),
-        Topic::Counters => counters(daemon),
+fn rows(daemon: &mut Daemon, asked: &Asked, sheet: &mut Sheet) -> io::Result<()> {
+    let about = asked.about();
+    let few = match asked.topic {
+        Topic::Mroute => return forwarded::mroute(daemon, about, sheet),
+        Topic::Why => return why::why(daemon, about, sheet),
+        Topic::Igmp => return igmp(daemon, about, sheet),
+        Topic::Joins => return joins::joins(daemon, about, sheet),
+        Topic::Upstream => return joins::upstream(daemon, about, sheet),
+        Topic::Asserts => return joins::asserts(daemon, about, sheet),
+        Topic::Neighbors => neighbours(daemon)?,
+        Topic::Rp => rp(daemon)?,
+        Topic::Interfaces => interfaces(daemon)?,
+        Topic::Rpf => joins::rpf(daemon, asked.addresses.first().copied())?,
+        Topic::Counters => counters(daemon)?,
     };
-    rows.map_err(|error| error.to_string())
-}
-
-fn as_json(topic: &str, rows: Rows) -> String {
-    let objects = rows.into_iter().map(|row| {
-        Value::Object(row.into_iter().map(|(name, value)| (name.to_string(), value)).collect::<Map<_, _>>())
-    });
-    let whole = json!({ topic: objects.collect::<Vec<_>>() });
-    format!("{whole:#}\n")
-}
-
-fn cell(value: &Value) -> String {
-    match value {
-        Value::Null => "-".to_string(),
-        Value::String(text) => text.clone(),
-        Value::Array(list) if list.is_empty() => "-".to_string(),
-        Value::Array(list) => {
-            let cells: Vec<_> = list.iter().map(cell).collect();
-            cells.join(if cells.iter().any(|cell| cell.contains(' ')) { ", " } else { " " })
-        }
-        other => other.to_string(),
-    }
-}
-
-/// Columns as wide as what stands in them.
-fn as_text(rows: &Rows) -> String {
-    let names: Vec<_> =
-        rows.first().map_or(Vec::new(), |row| row.iter().map(|(name, _)| name.replace('_', " ")).collect());
-    let cells = rows.iter().map(|row| row.iter().map(|(_, value)| cell(value)).collect::<Vec<_>>());
-    let lines: Vec<_> = std::iter::once(names).chain(cells).collect();
-    let count = lines[0].len();
-    let widths: Vec<_> =
-        (0..count).map(|column| lines.iter().map(|line| line[column].len()).max().unwrap_or(0)).collect();
-    let padded = |line: &Vec<String>| {
-        line.iter().zip(&widths).map(|(cell, width)| format!("{cell:width$}")).collect::<Vec<_>>().join("  ")
-    };
-    let text: Vec<_> = lines.iter().map(|line| padded(line).trim_end().to_string()).collect();
-    if rows.is_empty() {
-        "none\n".to_string()
-    } else {
-        text.join("\n") + "\n"
-    }
+    few.into_iter().try_for_each(|row| sheet.row(row))
 }
 
 fn seconds(milliseconds: u64) -> Value {
@@ -213,11 +207,13 @@ fn rp(daemon: &mut Daemon) -> Result<Rows, Fatal> {
     let joined = daemon.core.rows_of::<UpstreamRow>()?;
     let mut groups: BTreeSet<u32> = joined.iter().map(|row| u32::from(row.group)).collect();
     groups.extend(daemon.core.rows_of::<GroupRow>()?.iter().map(|row| u32::from(row.group)));
+    let groups: Vec<_> = groups.into_iter().map(|group| (group, rp_of(daemon, group))).collect();
     let ranges = &daemon.settings.rps;
     let row = |range: &RpSettings| {
         let is_here = is_here(daemon, range.address);
         let way = way(daemon, range.address).filter(|_| !is_here);
-        let is_used = |group: &&u32| rp_of(daemon, **group) == Some(range.address) && range.groups.contains(**group);
+        let is_used =
+            |(group, rp): &&(u32, Option<Ipv4Addr>)| *rp == Some(range.address) && range.groups.contains(*group);
         vec![
             ("groups", json!(range.groups.to_string())),
             ("rp", json!(range.address.to_string())),
@@ -295,226 +291,50 @@ fn compatibility(older: Option<&OlderRow>) -> (Value, Option<u64>) {
     (json!(version.to_string()), end)
 }
 
-fn igmp(daemon: &mut Daemon) -> Result<Rows, Fatal> {
+fn igmp_group(daemon: &Daemon, row: &GroupRow, older: Option<&OlderRow>) -> Cells {
     let now = daemon.now();
-    let groups = daemon.core.rows_of::<GroupRow>()?;
-    let sources = daemon.core.rows_of::<SourceRow>()?;
+    let (version, older_end) = compatibility(older);
+    vec![
+        ("interface", json!(daemon.name(row.iface))),
+        ("group", address(u32::from(row.group))),
+        ("source", json!("*")),
+        ("mode", json!(if row.is_exclude { "exclude" } else { "include" })),
+        ("expires_seconds", until(row.end, now)),
+        ("version", version),
+        ("older_expires_seconds", until(older_end, now)),
+    ]
+}
+
+fn igmp_source(daemon: &Daemon, row: &SourceRow) -> Cells {
+    vec![
+        ("interface", json!(daemon.name(row.iface))),
+        ("group", address(u32::from(row.group))),
+        ("source", address(u32::from(row.source))),
+        ("mode", json!(if row.end.is_none() { "excluded" } else { "included" })),
+        ("expires_seconds", until(row.end, daemon.now())),
+        ("version", Value::Null),
+        ("older_expires_seconds", Value::Null),
+    ]
+}
+
+/// Each group of an interface, and then its sources.
+fn igmp(daemon: &mut Daemon, about: About, sheet: &mut Sheet) -> io::Result<()> {
     let older = daemon.core.older_rows()?;
-    let older: BTreeMap<_, _> = older.iter().map(|row| ((row.iface, row.group), row)).collect();
-    let of_group = |row: &GroupRow| {
-        let mode = if row.is_exclude { "exclude" } else { "include" };
-        let (version, older_end) = compatibility(older.get(&(row.iface, row.group)).copied());
-        vec![
-            ("interface", json!(daemon.name(row.iface))),
-            ("group", address(u32::from(row.group))),
-            ("source", json!("*")),
-            ("mode", json!(mode)),
-            ("expires_seconds", until(row.end, now)),
-            ("version", version),
-            ("older_expires_seconds", until(older_end, now)),
-        ]
-    };
-    let of_source = |row: &SourceRow| {
-        let mode = if row.end.is_none() { "excluded" } else { "included" };
-        vec![
-            ("interface", json!(daemon.name(row.iface))),
-            ("group", address(u32::from(row.group))),
-            ("source", address(u32::from(row.source))),
-            ("mode", json!(mode)),
-            ("expires_seconds", until(row.end, now)),
-            ("version", Value::Null),
-            ("older_expires_seconds", Value::Null),
-        ]
-    };
-    let key = |row: &SourceRow| (row.iface, u32::from(row.group), u32::from(row.source));
-    let mut all: BTreeMap<_, _> =
-        groups.iter().map(|row| ((row.iface, u32::from(row.group), 0), of_group(row))).collect();
-    all.extend(sources.iter().map(|row| (key(row), of_source(row))));
-    Ok(all.into_values().collect())
-}
-
-// ---- the forwarding cache
-
-/// Where packets of an entry leave.
-fn leaving(daemon: &Daemon, entry: &Entry) -> Vec<String> {
-    let accepted = entry.way.accepted;
-    let outgoing = entry.row.filter(|_| accepted.is_some()).map(|row| row.outgoing);
-    let leaves = outgoing.iter().flat_map(|set: &Interfaces| set.iter()).filter(|iface| Some(*iface) != accepted);
-    leaves.map(|iface| daemon.name(iface).to_string()).collect()
-}
-
-/// The interfaces where somebody asks for a group's sources, or for one of them: by group and source, 0 for all.
-type Asking = BTreeMap<(u32, u32), BTreeSet<u32>>;
-
-/// Hosts that the router serves: pim_include(*,G) and pim_include(S,G).
-fn asking_hosts(daemon: &mut Daemon) -> Result<Asking, Fatal> {
-    let groups = daemon.core.rows_of::<GroupRow>()?;
-    let sources = daemon.core.rows_of::<SourceRow>()?;
-    let mut asking = Asking::new();
-    for row in &groups {
-        let served = daemon.core.tree(row.group).map(|tree| tree.pim_include);
-        asking.insert((row.group.into(), 0), served.iter().flat_map(|set| set.iter()).collect());
+    let older: HashMap<_, _> = older.iter().map(|row| ((row.iface, row.group), row)).collect();
+    let mut groups = daemon.core.rows_of::<GroupRow>()?;
+    let mut sources = daemon.core.rows_of::<SourceRow>()?;
+    groups.retain(|row| about.has(row.group, None));
+    sources.retain(|row| about.has(row.group, Some(row.source)));
+    let of_groups = groups.iter().enumerate().map(|(at, row)| ((row.iface, row.group, None), at));
+    let of_sources = sources.iter().enumerate().map(|(at, row)| ((row.iface, row.group, Some(row.source)), at));
+    let all: BTreeMap<_, _> = of_groups.chain(of_sources).collect();
+    for ((iface, group, source), at) in all {
+        sheet.row(match source {
+            None => igmp_group(daemon, &groups[at], older.get(&(iface, group)).copied()),
+            Some(_) => igmp_source(daemon, &sources[at]),
+        })?;
     }
-    for row in &sources {
-        let key = Key { source: row.source, group: row.group };
-        let served = daemon.core.source_tree(key).map(|tree| tree.pim_include);
-        asking.insert((row.group.into(), row.source.into()), served.iter().flat_map(|set| set.iter()).collect());
-    }
-    asking.retain(|_, ifaces| !ifaces.is_empty());
-    Ok(asking)
-}
-
-/// Routers that joined.
-fn asking_routers(daemon: &mut Daemon) -> Result<Asking, Fatal> {
-    let mut asking = Asking::new();
-    for row in daemon.core.rows_of::<DownstreamRow>()?.iter().filter(|row| !row.is_rpt) {
-        let source = row.source.map_or(0, u32::from);
-        asking.entry((u32::from(row.group), source)).or_default().insert(row.iface);
-    }
-    Ok(asking)
-}
-
-/// Who asks for which groups and sources.
-struct Askers {
-    hosts: Asking,
-    routers: Asking,
-}
-
-impl Askers {
-    fn read(daemon: &mut Daemon) -> Result<Askers, Fatal> {
-        Ok(Askers { hosts: asking_hosts(daemon)?, routers: asking_routers(daemon)? })
-    }
-
-    /// A source is also asked for by those who ask for all of its group.
-    fn is_asked(asking: &Asking, (group, source): (u32, u32)) -> bool {
-        asking.contains_key(&(group, 0)) || asking.contains_key(&(group, source))
-    }
-
-    fn in_words(&self, place: (u32, u32)) -> Vec<&'static str> {
-        let kinds = [("hosts", &self.hosts), ("routers", &self.routers)];
-        kinds.into_iter().filter(|(_, asking)| Askers::is_asked(asking, place)).map(|(name, _)| name).collect()
-    }
-}
-
-/// What the flags of `show mroute` say, in the order of their letters.
-#[derive(Clone, Copy, Default)]
-struct Flags {
-    /// Hosts that the router serves ask for it.
-    has_hosts: bool,
-    /// It goes to an interface, or to the RP in Registers.
-    is_sent: bool,
-    /// The source is pruned off the shared tree.
-    is_pruned: bool,
-    is_registering: bool,
-    has_spt_bit: bool,
-}
-
-impl Flags {
-    fn letters(self) -> String {
-        let Flags { has_hosts, is_sent, is_pruned, is_registering, has_spt_bit } = self;
-        let flags = [
-            ('S', true),
-            ('C', has_hosts),
-            ('P', !is_sent),
-            ('R', is_pruned),
-            ('F', is_registering),
-            ('T', has_spt_bit),
-        ];
-        flags.into_iter().filter(|(_, is_set)| *is_set).map(|(letter, _)| letter).collect()
-    }
-}
-
-/// The shared trees: each group that a host or a router asked for. Its packets leave on immediate_olist(*,G).
-fn shared_trees(daemon: &Daemon, askers: &Askers) -> BTreeMap<(u32, u32), Cells> {
-    let asked = askers.hosts.keys().chain(askers.routers.keys());
-    let groups: BTreeSet<_> = asked.filter(|(_, source)| *source == 0).map(|(group, _)| *group).collect();
-    let row = |group: u32| {
-        let tree = daemon.core.tree(group.into())?;
-        let way = tree.path.map(|path| path.iface);
-        let leaves: BTreeSet<_> = tree.immediate_olist.iter().filter(|iface| Some(*iface) != way).collect();
-        let place = (group, 0);
-        let has_hosts = Askers::is_asked(&askers.hosts, place);
-        let flags = Flags { has_hosts, is_sent: !leaves.is_empty(), ..Flags::default() };
-        let cells = vec![
-            ("source", json!("*")),
-            ("group", address(group)),
-            ("flags", json!(flags.letters())),
-            ("asked_by", json!(askers.in_words(place))),
-            ("incoming", way.map_or(Value::Null, |iface| json!(daemon.name(iface)))),
-            ("outgoing", json!(leaves.iter().map(|iface| daemon.name(*iface)).collect::<BTreeSet<_>>())),
-            ("forwarding", json!(if tree.rpf == Rpf::Own { "this is the RP" } else { "by each source's entry" })),
-            ("up_seconds", Value::Null),
-            ("packets", Value::Null),
-            ("bytes", Value::Null),
-            ("stray", Value::Null),
-        ];
-        Some((place, cells))
-    };
-    groups.into_iter().filter_map(row).collect()
-}
-
-/// Who forwards packets of an entry.
-fn forwarding(entry: &Entry) -> &'static str {
-    match (entry.row, entry.way.forwarded.outgoing) {
-        _ if entry.is_unset => "nobody: the kernel refused the entry, which is tried again",
-        _ if entry.is_kept => "kernel, as before the router was made anew",
-        _ if entry.way.is_refused => "nobody: the settings refuse it",
-        (None, _) => "nobody: the router is full, refuses it, or is the source",
-        (Some(_), outgoing) if outgoing == 1 << REGISTER_VIF => "router",
-        (Some(_), 0) if entry.way.accepted.is_none() => "nobody: it has no incoming interface",
-        (Some(_), 0) => "nobody asks",
-        (Some(_), _) => "kernel",
-    }
-}
-
-/// What the kernel counts now; where it can't be asked, what it counted last.
-fn used(daemon: &Daemon) -> HashMap<Key, Used> {
-    let before = || daemon.plane.entries().filter_map(|(key, entry)| Some((*key, entry.used?))).collect();
-    // A socket of its own, since the router goes on to ask by the other one.
-    let table = daemon.kernel.multicast_table();
-    let read = Netlink::open().and_then(|mut netlink| netlink.used(table));
-    read.map_or_else(|_| before(), |used| used.into_iter().map(|it| (it.key, it)).collect())
-}
-
-fn mroute(daemon: &mut Daemon) -> Result<Rows, Fatal> {
-    let (used, now) = (used(daemon), daemon.now());
-    let active = daemon.core.rows_of::<ActiveRow>()?;
-    let states: BTreeMap<_, _> =
-        active.iter().map(|row| ((u32::from(row.group), u32::from(row.source)), row)).collect();
-    let trees = daemon.core.rows_of::<RptRow>()?;
-    let pruned: BTreeSet<_> =
-        trees.iter().filter(|row| row.is_pruned).map(|row| (u32::from(row.group), u32::from(row.source))).collect();
-    let askers = Askers::read(daemon)?;
-    let mut all = shared_trees(daemon, &askers);
-    for (key, entry) in daemon.plane.entries() {
-        let place = (u32::from(key.group), u32::from(key.source));
-        let state = states.get(&place);
-        let outgoing = leaving(daemon, entry);
-        let is_registering = state.map_or(false, |row| row.register == Some(RegisterState::Joined));
-        let flags = Flags {
-            has_hosts: Askers::is_asked(&askers.hosts, place),
-            is_sent: is_registering || !outgoing.is_empty(),
-            is_pruned: pruned.contains(&place),
-            is_registering,
-            has_spt_bit: state.map_or(false, |row| row.spt_bit),
-        };
-        let used = used.get(key);
-        let cells = vec![
-            ("source", address(place.1)),
-            ("group", address(place.0)),
-            ("flags", json!(flags.letters())),
-            ("asked_by", json!(askers.in_words(place))),
-            ("incoming", entry.way.accepted.map_or(Value::Null, |iface| json!(daemon.name(iface)))),
-            ("outgoing", json!(outgoing)),
-            ("forwarding", json!(forwarding(entry))),
-            ("up_seconds", seconds(now.saturating_sub(entry.since))),
-            ("packets", used.map_or(Value::Null, |used| json!(used.packets))),
-            ("bytes", used.map_or(Value::Null, |used| json!(used.bytes))),
-            ("stray", used.map_or(Value::Null, |used| json!(used.stray))),
-        ];
-        all.insert(place, cells);
-    }
-    Ok(all.into_values().collect())
+    Ok(())
 }
 
 // ---- counters
@@ -611,39 +431,6 @@ pub fn routes_said(counts: &Counts, told: usize) -> String {
 #[cfg(test)]
 mod tests {
     use super::*;
-
-    #[test]
-    fn a_table_has_columns() {
-        let rows = vec![
-            vec![("name", json!("a")), ("is_up", json!(true)), ("out", json!(["x", "y"]))],
-            vec![("name", json!("long")), ("is_up", json!(false)), ("out", json!([]))],
-        ];
-        assert_eq!(as_text(&rows), "name  is up  out\na     true   x y\nlong  false  -\n");
-        assert_eq!(as_text(&Vec::new()), "none\n");
-        let read: Value = serde_json::from_str(&as_json("things", rows)).unwrap();
-        assert_eq!(read["things"][1], json!({"name": "long", "is_up": false, "out": []}));
-    }
-
-    #[test]
-    fn a_flag_has_one_letter_for_a_group_and_for_a_source() {
-        let told = Flags { has_hosts: true, is_sent: true, is_pruned: true, is_registering: true, has_spt_bit: true };
-        assert_eq!(told.letters(), "SCRFT");
-        assert_eq!(Flags::default().letters(), "SP");
-        assert_eq!(Flags { is_sent: true, ..Flags::default() }.letters(), "S");
-        assert_eq!(Flags { is_registering: true, is_sent: true, ..Flags::default() }.letters(), "SF");
-    }
-
-    #[test]
-    fn a_source_is_asked_for_by_those_who_ask_for_its_group() {
-        let asking = |places: &[(u32, u32)]| places.iter().map(|place| (*place, BTreeSet::from([3]))).collect();
-        let askers = Askers { hosts: asking(&[(1, 0), (2, 9)]), routers: asking(&[(2, 0)]) };
-        assert_eq!(askers.in_words((1, 0)), ["hosts"]);
-        assert_eq!(askers.in_words((1, 9)), ["hosts"]);
-        assert_eq!(askers.in_words((2, 0)), ["routers"]);
-        assert_eq!(askers.in_words((2, 9)), ["hosts", "routers"]);
-        assert_eq!(askers.in_words((2, 8)), ["routers"]);
-        assert!(askers.in_words((3, 9)).is_empty());
-    }
 
     #[test]
     fn a_moment_is_told_in_tenths_of_a_second() {

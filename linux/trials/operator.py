@@ -9,7 +9,7 @@ import sys
 import time
 from typing import TYPE_CHECKING
 
-from trials.network import AS_SERVICE, HOST, NOBODY, SOURCE, Failed, ended, goes_on, inside, received, until
+from trials.network import AS_SERVICE, HOST, NOBODY, SENDER, SOURCE, Failed, ended, goes_on, inside, received, until
 
 if TYPE_CHECKING:
     from trials.network import Network
@@ -181,4 +181,40 @@ def imported(net: Network) -> str:
     return f"{came} of {of} came, {twice} twice"
 
 
-TRIALS = [metrics, shown_beside_frr, watch, clear, socket_of_a_group, imported]
+TOPICS = ("why", "mroute", "igmp", "upstream")
+
+
+def shown_after(net: Network, topic: str, *about: str) -> tuple[float, int]:
+    """After how many seconds a topic is shown, and how many rows."""
+    began = time.monotonic()
+    rows = len(net.show(topic, *about))
+    return time.monotonic() - began, rows
+
+
+def show_of_many_groups(net: Network) -> str:
+    """what `show` takes rises with the groups: 60,000 are shown whole, in at most 60 times the time of 4,000"""
+    net.stop_router()
+    net.start_router("limit = 200000\n", "max_groups = 100000\n")
+    until("the router knows second", 40, lambda: "10.3.0.1" in net.neighbours())
+    took, said = {}, []
+    for count in (1_000, 4_000, 60_000):
+        words = [sys.executable, SENDER, "to-router", "10.5.0.50", "reports", count, 0.002, "239.1.16.0"]
+        subprocess.run(inside("hosts", *words), check=True, stdout=subprocess.DEVNULL)
+        until(f"{count} groups are known", 60, lambda: len(net.show("igmp")) >= count)
+        for topic in TOPICS:
+            took[topic, count], rows = shown_after(net, topic)
+            if rows < count:
+                raise Failed(f"{topic} shows {rows} of {count} after {took[topic, count]:.1f} s")
+        said.append(f"{count}: " + ", ".join(f"{topic} {took[topic, count]:.2f}" for topic in TOPICS))
+    for topic in TOPICS:
+        if took[topic, 60_000] > 60 * took[topic, 4_000]:
+            raise Failed(f"{topic} takes too long: {'; '.join(said)} s")
+    of_one = [shown_after(net, topic, "239.1.16.9") for topic in TOPICS]
+    if [rows for _, rows in of_one] != [1] * len(TOPICS):
+        raise Failed(f"of one group they show {of_one}")
+    net.stop_router()
+    net.start_router()
+    return f"{'; '.join(said)}; one group of 60,000 " + ", ".join(f"{after:.2f}" for after, _ in of_one) + " s"
+
+
+TRIALS = [metrics, shown_beside_frr, watch, clear, socket_of_a_group, imported, show_of_many_groups]

@@ -4,6 +4,7 @@ use crate::ports::{Passed, Port, Standing};
 use crate::server::Answers;
 use crate::show;
 use log::{error, info};
+use std::io;
 
 /// Answers lines of the control socket.
 pub(super) struct Lines<'a>(pub &'a mut Daemon);
@@ -23,8 +24,8 @@ impl Answers for Lines<'_> {
         })
     }
 
-    fn tell(&mut self, line: &str) -> String {
-        show::answer(self.0, line)
+    fn tell(&mut self, line: &str, to: &mut dyn io::Write) -> io::Result<()> {
+        show::answer(self.0, line, to)
     }
 }
 

@@ -1,11 +1,13 @@
 //! Joins and asserts, and the ways to RPs and sources.
-use super::{address, is_here, seconds, until, way, Cells, Rows};
+use super::sheet::Sheet;
+use super::{address, is_here, seconds, until, way, About, Cells, Rows};
 use crate::daemon::Daemon;
 use crate::error::Fatal;
 use crate::mroute::Key;
 use crate::routes::longest_route;
 use serde_json::{json, Value};
 use std::collections::{BTreeMap, BTreeSet};
+use std::io;
 use std::net::Ipv4Addr;
 use viqeshor::{
     ActiveRow, AssertRow, DownstreamRow, DownstreamState, Hop, Path, Rpf, RptRow, SourceTree, Tree, UpstreamRow,
@@ -38,7 +40,7 @@ fn source_cell(source: Option<Ipv4Addr>) -> Value {
 }
 
 /// What neighbours have joined.
-pub fn joins(daemon: &mut Daemon) -> Result<Rows, Fatal> {
+pub fn joins(daemon: &mut Daemon, about: About, sheet: &mut Sheet) -> io::Result<()> {
     let now = daemon.now();
     let state = |row: &DownstreamRow| match row.state {
         DownstreamState::Joined => "joined",
@@ -46,7 +48,7 @@ pub fn joins(daemon: &mut Daemon) -> Result<Rows, Fatal> {
         DownstreamState::Pruned => "pruned",
         _ => "none",
     };
-    let rows = daemon.core.rows_of()?;
+    let rows = daemon.core.rows_of::<DownstreamRow>()?;
     let cells = |row: &DownstreamRow| {
         vec![
             ("interface", json!(daemon.name(row.iface))),
@@ -58,12 +60,12 @@ pub fn joins(daemon: &mut Daemon) -> Result<Rows, Fatal> {
             ("prune_seconds", until(row.pending, now)),
         ]
     };
-    Ok(rows.iter().map(cells).collect())
+    rows.iter().filter(|row| about.has(row.group, row.source)).try_for_each(|row| sheet.row(cells(row)))
 }
 
-pub fn asserts(daemon: &mut Daemon) -> Result<Rows, Fatal> {
+pub fn asserts(daemon: &mut Daemon, about: About, sheet: &mut Sheet) -> io::Result<()> {
     let now = daemon.now();
-    let rows = daemon.core.rows_of()?;
+    let rows = daemon.core.rows_of::<AssertRow>()?;
     let cells = |row: &AssertRow| {
         vec![
             ("interface", json!(daemon.name(row.iface))),
@@ -74,7 +76,7 @@ pub fn asserts(daemon: &mut Daemon) -> Result<Rows, Fatal> {
             ("expires_seconds", until(Some(row.end), now)),
         ]
     };
-    Ok(rows.iter().map(cells).collect())
+    rows.iter().filter(|row| about.has(row.group, row.source)).try_for_each(|row| sheet.row(cells(row)))
 }
 
 // ---- upstream
@@ -134,30 +136,48 @@ fn upstream_cells(daemon: &Daemon, name: Name, state: &str, upstream: Option<Ups
     ]
 }
 
+/// RPF' of a tree that the router has joined.
+fn of_joined(daemon: &Daemon, name: Name) -> Option<Upstream> {
+    let tree = |source| daemon.core.source_tree(Key { source, group: name.group });
+    match name.source {
+        None => daemon.core.tree(name.group).map(|tree| Upstream::of_group(&tree)),
+        Some(source) => tree(source).map(|tree| Upstream::of_source(&tree)),
+    }
+}
+
+/// RPF' of a source of a shared tree.
+fn of_rpt(daemon: &Daemon, row: &RptRow) -> Option<Upstream> {
+    let own = daemon.core.source_tree(Key { source: row.source, group: row.group })?;
+    Some(Upstream::of_pruned(&daemon.core.tree(row.group)?, &own))
+}
+
 /// The trees that the router has joined, and the sources of shared ones, each with RPF'.
-pub fn upstream(daemon: &mut Daemon) -> Result<Rows, Fatal> {
+pub fn upstream(daemon: &mut Daemon, about: About, sheet: &mut Sheet) -> io::Result<()> {
     let now = daemon.now();
-    let joined = daemon.core.rows_of::<UpstreamRow>()?;
-    let trees = daemon.core.rows_of::<RptRow>()?;
-    let tree = |group| daemon.core.tree(group);
-    let source_tree = |source, group| daemon.core.source_tree(Key { source, group });
-    let mut all = BTreeMap::new();
-    for row in &joined {
-        let found = match row.source {
-            None => tree(row.group).map(|tree| Upstream::of_group(&tree)),
-            Some(source) => source_tree(source, row.group).map(|tree| Upstream::of_source(&tree)),
-        };
-        let name = Name { group: row.group, source: row.source, is_rpt: false };
-        all.insert(name, upstream_cells(daemon, name, "joined", found, until(Some(row.next_join), now)));
+    let mut joined = daemon.core.rows_of::<UpstreamRow>()?;
+    let mut trees = daemon.core.rows_of::<RptRow>()?;
+    joined.retain(|row| about.has(row.group, row.source));
+    trees.retain(|row| about.has(row.group, Some(row.source)));
+    let of_joined_trees =
+        joined.iter().enumerate().map(|(at, row)| (Name { group: row.group, source: row.source, is_rpt: false }, at));
+    let of_trees = trees
+        .iter()
+        .enumerate()
+        .map(|(at, row)| (Name { group: row.group, source: Some(row.source), is_rpt: true }, at));
+    let all: BTreeMap<_, _> = of_joined_trees.chain(of_trees).collect();
+    for (name, at) in all {
+        sheet.row(match name.is_rpt {
+            false => {
+                let next_join = until(Some(joined[at].next_join), now);
+                upstream_cells(daemon, name, "joined", of_joined(daemon, name), next_join)
+            }
+            true => {
+                let state = if trees[at].is_pruned { "pruned" } else { "not pruned" };
+                upstream_cells(daemon, name, state, of_rpt(daemon, &trees[at]), Value::Null)
+            }
+        })?;
     }
-    for row in &trees {
-        let state = if row.is_pruned { "pruned" } else { "not pruned" };
-        let both = tree(row.group).zip(source_tree(row.source, row.group));
-        let found = both.map(|(shared, tree)| Upstream::of_pruned(&shared, &tree));
-        let name = Name { group: row.group, source: Some(row.source), is_rpt: true };
-        all.insert(name, upstream_cells(daemon, name, state, found, Value::Null));
-    }
-    Ok(all.into_values().collect())
+    Ok(())
 }
 
 // ---- ways

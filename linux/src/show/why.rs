@@ -1,11 +1,13 @@
 //! Why an interface is in a tree's list of outgoing interfaces, or isn't.
-use super::{address, designated, is_here, Cells, Rows};
+use super::sheet::Sheet;
+use super::{address, designated, is_here, About, Cells, Rows};
 use crate::daemon::Daemon;
 use crate::error::Fatal;
 use crate::mroute::Key;
 use crate::ports::Port;
 use serde_json::json;
-use std::collections::BTreeSet;
+use std::collections::{BTreeMap, BTreeSet, HashMap};
+use std::io;
 use std::net::Ipv4Addr;
 use viqeshor::{ActiveRow, AssertRow, DownstreamRow, GroupRow, Interfaces, SourceTree, Tree, UpstreamRow};
 
@@ -104,19 +106,18 @@ impl Sight {
         self.asked.iter().flat_map(|asked| asked.reasons(iface)).collect()
     }
 
-    fn lost(&self, iface: u32, asserts: &[AssertRow]) -> Vec<String> {
+    fn lost(&self, iface: u32, winners: &Winners) -> Vec<String> {
         let of = |asked: &Asked| {
-            let is_it = |row: &&AssertRow| (row.iface, row.group, row.source) == (iface, self.group, asked.source);
-            let row = asserts.iter().filter(|row| row.is_loser).find(is_it).filter(|_| asked.is_lost(iface))?;
-            Some(format!("lost assert {} to {}", asked.tree, row.winner))
+            let winner = winners.get(&(iface, self.group, asked.source)).filter(|_| asked.is_lost(iface))?;
+            Some(format!("lost assert {} to {winner}", asked.tree))
         };
         self.asked.iter().filter_map(of).collect()
     }
 
     /// What keeps the packets off an interface.
-    fn against(&self, daemon: &Daemon, port: &Port, asserts: &[AssertRow]) -> Vec<String> {
+    fn against(&self, daemon: &Daemon, port: &Port, winners: &Winners) -> Vec<String> {
         let iface = port.number;
-        let mut found = self.lost(iface, asserts);
+        let mut found = self.lost(iface, winners);
         if self.pruned.contains(&iface) {
             found.push("pruned (S,G,rpt)".to_string());
         }
@@ -146,14 +147,14 @@ impl Sight {
     }
 
     /// The interfaces on which somebody asks for the packets or an assert was lost, and the register tunnel.
-    fn rows(&self, daemon: &Daemon, asserts: &[AssertRow]) -> Rows {
+    fn rows(&self, daemon: &Daemon, winners: &Winners) -> Rows {
         let row = |port: &Port| {
-            let (reasons, lost) = (self.reasons(port.number), self.lost(port.number, asserts));
+            let (reasons, lost) = (self.reasons(port.number), self.lost(port.number, winners));
             if reasons.is_empty() && lost.is_empty() {
                 return None;
             }
             let is_outgoing = self.outgoing.contains(port.number) && self.incoming != Some(port.number);
-            let against = if is_outgoing { Vec::new() } else { self.against(daemon, port, asserts) };
+            let against = if is_outgoing { Vec::new() } else { self.against(daemon, port, winners) };
             Some(self.cells(&port.settings.name, is_outgoing, reasons, against))
         };
         let mut rows: Rows = daemon.ports.iter().filter_map(row).collect();
@@ -164,51 +165,63 @@ impl Sight {
     }
 }
 
-/// The sources of a group that the router has a fact or an entry of.
-fn sources_of(daemon: &mut Daemon, group: Ipv4Addr) -> Result<BTreeSet<Ipv4Addr>, Fatal> {
-    let joined = daemon.core.rows_of::<DownstreamRow>()?;
-    let joins = daemon.core.rows_of::<UpstreamRow>()?;
-    let active = daemon.core.rows_of::<ActiveRow>()?;
-    let of_joined = joined.iter().map(|row| (row.group, row.source));
-    let of_joins = joins.iter().map(|row| (row.group, row.source));
-    let of_active = active.iter().map(|row| (row.group, Some(row.source)));
-    let of_entries = daemon.plane.entries().map(|(key, _)| (key.group, Some(key.source)));
-    let all = of_joined.chain(of_joins).chain(of_active).chain(of_entries);
-    Ok(all.filter(|(of, _)| *of == group).filter_map(|(_, source)| source).collect())
+/// The winner of each assert that the router lost, by the interface, the group and the source.
+type Winners = HashMap<(u32, Ipv4Addr, Option<Ipv4Addr>), Ipv4Addr>;
+
+/// What the router knows of groups, each table read once.
+struct Known {
+    /// The groups that somebody asks for, or of which there is an assert or an entry, and the sources of each that the
+    /// router has a fact or an entry of.
+    groups: BTreeMap<Ipv4Addr, BTreeSet<Ipv4Addr>>,
+    winners: Winners,
 }
 
-/// The groups that somebody asks for, or of which there is an assert or an entry.
-fn groups(daemon: &mut Daemon) -> Result<BTreeSet<Ipv4Addr>, Fatal> {
-    let mut found: BTreeSet<_> = daemon.core.rows_of::<GroupRow>()?.iter().map(|row| row.group).collect();
-    found.extend(daemon.core.rows_of::<DownstreamRow>()?.iter().map(|row| row.group));
-    found.extend(daemon.core.rows_of::<AssertRow>()?.iter().map(|row| row.group));
-    found.extend(daemon.plane.entries().map(|(key, _)| key.group));
-    Ok(found)
+impl Known {
+    fn read(daemon: &mut Daemon, about: About) -> Result<Known, Fatal> {
+        let asserts = daemon.core.rows_of::<AssertRow>()?;
+        let reported = daemon.core.rows_of::<GroupRow>()?;
+        let joined = daemon.core.rows_of::<DownstreamRow>()?;
+        let joins = daemon.core.rows_of::<UpstreamRow>()?;
+        let active = daemon.core.rows_of::<ActiveRow>()?;
+        let of_hosts = reported.iter().map(|row| (row.group, None));
+        let of_routers = joined.iter().map(|row| (row.group, row.source));
+        let of_entries = daemon.plane.entries().map(|(key, _)| (key.group, Some(key.source)));
+        let listed = of_hosts.chain(of_routers).chain(asserts.iter().map(|row| (row.group, None))).chain(of_entries);
+        let own = joins.iter().map(|row| (row.group, row.source));
+        let sources_alone = own.chain(active.iter().map(|row| (row.group, Some(row.source))));
+        let mut groups: BTreeMap<Ipv4Addr, BTreeSet<Ipv4Addr>> =
+            about.group.map(|it| (it, BTreeSet::new())).into_iter().collect();
+        listed.filter(|(group, _)| about.has_group(*group)).for_each(|(group, source)| {
+            groups.entry(group).or_default().extend(source);
+        });
+        sources_alone.for_each(|(group, source)| groups.get_mut(&group).into_iter().for_each(|it| it.extend(source)));
+        let lost = asserts.iter().filter(|row| row.is_loser);
+        Ok(Known { groups, winners: lost.map(|row| ((row.iface, row.group, row.source), row.winner)).collect() })
+    }
 }
 
-/// The rows of a group: of (\*,G) and of each source, or of one source alone.
-fn rows_of_group(daemon: &mut Daemon, group: Ipv4Addr, source: Option<Ipv4Addr>) -> Result<Rows, Fatal> {
-    let asserts = daemon.core.rows_of::<AssertRow>()?;
-    let sources = source.map_or_else(|| sources_of(daemon, group), |source| Ok(BTreeSet::from([source])))?;
+/// A group's (\*,G) and each (S,G), or one of them alone.
+fn sights(daemon: &Daemon, group: Ipv4Addr, sources: &BTreeSet<Ipv4Addr>, of: Option<Ipv4Addr>) -> Vec<Sight> {
     let shared = match daemon.core.tree(group) {
         Some(shared) => shared,
-        None => return Ok(Rows::new()),
+        None => return Vec::new(),
     };
-    let own = |source: &Ipv4Addr| {
-        let key = Key { source: *source, group };
+    let own = |source: Ipv4Addr| {
+        let key = Key { source, group };
         Some(own_sight(key, &shared, &daemon.core.source_tree(key)?))
     };
-    let first = source.is_none().then(|| shared_sight(group, &shared));
-    let sights = first.into_iter().chain(sources.iter().filter_map(own));
-    Ok(sights.flat_map(|sight| sight.rows(daemon, &asserts)).collect())
+    match of {
+        Some(source) => own(source).into_iter().collect(),
+        None => std::iter::once(shared_sight(group, &shared)).chain(sources.iter().copied().filter_map(own)).collect(),
+    }
 }
 
-/// Of a group, or of one of its sources; without a group of all.
-pub fn why(daemon: &mut Daemon, group: Option<Ipv4Addr>, source: Option<Ipv4Addr>) -> Result<Rows, Fatal> {
-    let groups = group.map_or_else(|| groups(daemon), |group| Ok(BTreeSet::from([group])))?;
-    let mut rows = Rows::new();
-    for group in groups {
-        rows.extend(rows_of_group(daemon, group, source)?);
+/// Of all groups, of one, or of one of its sources.
+pub fn why(daemon: &mut Daemon, about: About, sheet: &mut Sheet) -> io::Result<()> {
+    let Known { groups, winners } = Known::read(daemon, about)?;
+    for (group, sources) in groups {
+        let sights = sights(daemon, group, &sources, about.source);
+        sights.iter().flat_map(|sight| sight.rows(daemon, &winners)).try_for_each(|row| sheet.row(row))?;
     }
-    Ok(rows)
+    Ok(())
 }

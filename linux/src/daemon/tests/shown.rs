@@ -3,7 +3,7 @@ use super::*;
 use crate::daemon::cleared::Lines;
 use crate::metrics::{text, Http};
 use crate::server::Answers;
-use crate::show::{answer, Topic};
+use crate::show::{self, Topic};
 use clap::ValueEnum;
 use serde_json::{json, Value};
 
@@ -65,6 +65,13 @@ fn busy() -> (Daemon, Rc<Fake>) {
     passes(&mut daemon, &fake, 5_000);
     happens(&mut daemon, &fake, assert_of([10, 1, 0, 3], far));
     (daemon, fake)
+}
+
+/// What a client reads.
+fn answer(daemon: &mut Daemon, line: &str) -> String {
+    let mut text = Vec::new();
+    show::answer(daemon, line, &mut text).expect("memory takes it");
+    String::from_utf8(text).expect("it is text")
 }
 
 pub(super) fn shown(daemon: &mut Daemon, line: &str) -> Vec<Value> {
@@ -240,6 +247,29 @@ fn each_interface_of_a_tree_has_its_reasons() {
 }
 
 #[test]
+fn rows_of_a_group_or_of_a_source_are_shown() {
+    let (mut daemon, _) = busy();
+    let about = |row: &Value| [row["group"].clone(), row["source"].clone()];
+    for topic in ["mroute", "igmp", "joins", "upstream"] {
+        let all: Vec<_> = shown(&mut daemon, topic).iter().map(about).collect();
+        for [group, source] in &all {
+            let of_group: Vec<_> = all.iter().filter(|it| it[0] == *group).cloned().collect();
+            let found = |daemon: &mut Daemon, line: String| shown(daemon, &line).iter().map(about).collect::<Vec<_>>();
+            let group = group.as_str().expect("an address");
+            assert_eq!(found(&mut daemon, format!("{topic} {group}")), of_group, "{topic}");
+            if let Some(source) = source.as_str().filter(|source| *source != "*") {
+                let of_source: Vec<_> = of_group.into_iter().filter(|it| it[1] == source).collect();
+                assert_eq!(found(&mut daemon, format!("{topic} {group} {source}")), of_source, "{topic}");
+            }
+        }
+        assert!(shown(&mut daemon, &format!("{topic} 239.9.9.9")).is_empty());
+        assert!(answer(&mut daemon, &format!("show {topic} 10.5.0.50")).starts_with("error: "));
+    }
+    assert_eq!(shown(&mut daemon, "igmp 239.1.1.1").len(), 1);
+    assert_eq!(shown(&mut daemon, "mroute 239.1.1.1").len(), 2);
+}
+
+#[test]
 fn the_way_to_an_address_is_shown() {
     let (mut daemon, _) = busy();
     let far = shown(&mut daemon, "rpf 10.9.3.3").remove(0);
@@ -311,7 +341,11 @@ fn metrics_tell_what_happened() {
 #[test]
 fn http_is_answered() {
     let (mut daemon, _) = begun(TWO, &both());
-    let mut told = |line: &str| Http(&mut daemon).tell(line);
+    let mut told = |line: &str| {
+        let mut answer = Vec::new();
+        Http(&mut daemon).tell(line, &mut answer).expect("memory takes it");
+        String::from_utf8(answer).expect("it is text")
+    };
     let whole = told("GET /metrics HTTP/1.1");
     let (head, body) = whole.split_once("\r\n\r\n").expect("a head and a body");
     assert!(head.starts_with("HTTP/1.1 200 OK\r\nContent-Type: text/plain; version=0.0.4"));
