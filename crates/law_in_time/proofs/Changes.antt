@@ -43,7 +43,7 @@ module _ (x : Join) (g b : ℕ) where
   abbrev By : State → Type 0
   By s = EndsBy x g b s
 
-  by_table : (s t : State) → t.join_timers ≡ s.join_timers → By s → By t
+  pub by_table : (s t : State) → t.join_timers ≡ s.join_timers → By s → By t
   by_table s t e f = ap (λ (rows : Table JoinTimerRow). is_after b (row_at rows q)) e ∙ f
 
   eq_swapped : (x y : ℕ) → (x == y) ≡ (y == x)
@@ -57,7 +57,7 @@ module _ (x : Join) (g b : ℕ) where
   lower_is : (e n : ℕ) → nat_lt b e ≡ false → nat_lt b (min e n) ≡ false
   lower_is e n f = grind (arith, nat_tests, f)
 
-  lowered_by : (s : State) (k : Key) (end : ℕ) → By s → By (lower_join_timer s k end)
+  pub lowered_by : (s : State) (k : Key) (end : ℕ) → By s → By (lower_join_timer s k end)
   unfolding lower_join_timer
   lowered_by s k end f =
       set_good (is_after b) refl k q _ s.join_timers
@@ -72,7 +72,7 @@ module _ (x : Join) (g b : ℕ) where
   unfolding raise_join_timer
   raised_by s k end off f = set_good (is_after b) refl k q _ s.join_timers (λ same. absurd (off same)) f
 
-  cancelled_by : (s : State) (k : Key) → By s → By (cancel_override_timer s k)
+  pub cancelled_by : (s : State) (k : Key) → By s → By (cancel_override_timer s k)
   unfolding cancel_override_timer
   cancelled_by s k f = f
 
@@ -183,7 +183,7 @@ module _ (x : Join) (g b : ℕ) where
     unfolding lower_override_timer
     tree_by n src t f = by_cond By _ _ t f f
 
-    prune_by : (t : State) (n : Named) → By t → By (prune_seen s w hop t n)
+    pub prune_by : (t : State) (n : Named) → By t → By (prune_seen s w hop t n)
     unfolding prune_seen
     prune_by t n f = go (n.1).kind (n.1).address.bits
       where
@@ -213,16 +213,6 @@ module _ (x : Join) (g b : ℕ) where
   -- ---- every event
 
   module _ (s : State) (w : ℕ) (hop : Hop) (towards : Towards x g hop s) (f : By s) where
-    by_lasting : (t : State) → lasting t ≡ lasting s → By t
-    by_lasting t e = by_table s t (ap (λ (u : Lasting). u.join_timers) e) f
-
-    by_whole : (t : State) → whole t ≡ whole s → By t
-    by_whole t e = by_lasting t (ap (λ (u : Whole). u.lasting) e)
-
-    from_here : (n src iif : ℕ) → (source_here s n src iif).join_timers ≡ s.join_timers
-    unfolding source_here settle_register with_keepalive
-    from_here n src iif = grind arith
-
     seen_if : (i : IfaceId) (m : JoinPrune) → is_suppressed x s g hop (Some (Accepted.JoinPruneSeen i m)) ≡ false
         → By (seen s w i.number m)
     seen_if i m off = seen_by s w i.number m (rw towards.upstream (turned off)) f
@@ -233,20 +223,38 @@ module _ (x : Join) (g b : ℕ) where
             ap (λ (c : Bool). c && is_named (joined_keys s i.number m) (join_key x i.number g))
             (both_swapped hop.iface.number i.number hop.address.bits m.upstream) ∙ e
 
-    pub change_by : (a : Accepted) → is_suppressed x s g hop (Some a) ≡ false → By (change s w a).state
+  module _ (s : State) (w : ℕ) (f : By s) where
+    by_lasting : (t : State) → lasting t ≡ lasting s → By t
+    by_lasting t e = by_table s t (ap (λ (u : Lasting). u.join_timers) e) f
+
+    by_whole : (t : State) → whole t ≡ whole s → By t
+    by_whole t e = by_lasting t (ap (λ (u : Whole). u.lasting) e)
+
+    from_here : (n src iif : ℕ) → (source_here s n src iif).join_timers ≡ s.join_timers
+    unfolding source_here settle_register with_keepalive
+    from_here n src iif = grind arith
+
+    -- a Join/Prune between other routers aside
+    pub unless_seen : (a : Accepted) → ((i : IfaceId) (m : JoinPrune) → a ≡ Accepted.JoinPruneSeen i m → By (seen s w i.number m))
+        → By (change s w a).state
     unfolding change iface_up querier_up querying iface_down rps_replaced to_me keys_taken register_stop_seen
-    change_by (Accepted.Advance moment) e = f
-    change_by (Accepted.Up i) e = f
-    change_by (Accepted.Down i) e = f
-    change_by (Accepted.Routes routes) e = f
-    change_by (Accepted.Rps ranges) e = f
-    change_by (Accepted.Hello i from h) e = hello_by s i.number from.bits h w f
-    change_by (Accepted.JoinPruneToMe i m) e = f
-    change_by (Accepted.JoinPruneSeen i m) e = seen_if i m e
-    change_by (Accepted.Assert i from a) e = by_whole (assert_received s i.number from.bits a).0 (assert_whole s i.number from.bits a)
-    change_by (Accepted.Query i from q) e = by_lasting (query_seen s i.number from.bits q) (query_lasting s i.number from.bits q)
-    change_by (Accepted.Report i records) e = by_lasting (report_seen s i.number records).0 (report_lasting s i.number records)
-    change_by (Accepted.Data i p) e = grind (arith, by_table, lasting, data_whole, from_here)
-    change_by (Accepted.Register p (Encapsulated inner)) e = grind (arith, by_whole, register_whole)
-    change_by (Accepted.Register p (Null source group)) e = grind (arith, by_whole, register_whole)
-    change_by (Accepted.RegisterStop from r) e = f
+    unless_seen (Accepted.Advance moment) e = f
+    unless_seen (Accepted.Up i) e = f
+    unless_seen (Accepted.Down i) e = f
+    unless_seen (Accepted.Routes routes) e = f
+    unless_seen (Accepted.Rps ranges) e = f
+    unless_seen (Accepted.Hello i from h) e = hello_by s i.number from.bits h w f
+    unless_seen (Accepted.JoinPruneToMe i m) e = f
+    unless_seen (Accepted.JoinPruneSeen i m) e = e i m refl
+    unless_seen (Accepted.Assert i from a) e = by_whole (assert_received s i.number from.bits a).0 (assert_whole s i.number from.bits a)
+    unless_seen (Accepted.Query i from q) e = by_lasting (query_seen s i.number from.bits q) (query_lasting s i.number from.bits q)
+    unless_seen (Accepted.Report i records) e = by_lasting (report_seen s i.number records).0 (report_lasting s i.number records)
+    unless_seen (Accepted.Data i p) e = grind (arith, by_table, lasting, data_whole, from_here)
+    unless_seen (Accepted.Register p (Encapsulated inner)) e = grind (arith, by_whole, register_whole)
+    unless_seen (Accepted.Register p (Null source group)) e = grind (arith, by_whole, register_whole)
+    unless_seen (Accepted.RegisterStop from r) e = f
+
+  pub change_by : (s : State) (w : ℕ) (hop : Hop) → Towards x g hop s → By s → (a : Accepted)
+      → is_suppressed x s g hop (Some a) ≡ false → By (change s w a).state
+  change_by s w hop towards f a e =
+      unless_seen s w f a (λ i m is. seen_if s w hop towards f i m (subst (λ (b : Accepted). is_suppressed x s g hop (Some b) ≡ false) is e))

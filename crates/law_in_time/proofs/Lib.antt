@@ -1,8 +1,16 @@
 pub mod Timers
 pub mod Changes
+pub mod Raised
 pub mod Turns
 pub mod Firings
 pub mod Lower
 pub mod Upper
+pub mod Refresh
 pub mod Pairs
 pub mod Streams
+pub mod OneDr
+pub mod NeighbourLasts
+pub mod Neighbours
+pub mod HelloTimer
+pub mod Adjacent
+pub mod Computed

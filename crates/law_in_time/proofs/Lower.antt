@@ -1,5 +1,5 @@
 -- Each event at the lower router has its Join timer end no later, or sends a Join.
-use Rattle.std.{proofs.{Common.{◌≡◌, ℕ, ◌+◌, ◌-◌, ◌≤◌, Bool, true, false, List, ◌++◌, ◌⊎◌, inl, inr, length, Ok, Some, refl, arith}, lemmas.{Bool.both_ways, List.Elements.{Contains-append_left, Contains-append_right}}}}
+use Rattle.std.{proofs.{Common.{◌≡◌, ℕ, ◌+◌, ◌-◌, ◌≤◌, Bool, true, false, List, ◌++◌, ◌⊎◌, inl, inr, length, Ok, Option, Some, refl, subst, arith}, lemmas.{Bool.both_ways, List.Elements.{Contains-append_left, Contains-append_right}}}}
 use Rattle.pim_types.{specs.declared.{event.Event.Event, outcome.Emission.Emission, path.Hop.Hop}}
 use Rattle.pim_model.{specs.{declared.accepted.Accepted.Accepted, Cause.done_as, Firing.{fire_all, fire_instant, fire_once}, Full.is_full, Judging.{Judged, judged}, Neighbours.nbr, State.{State, my_address}, Step.{Answered, advanced, change, concluded, done, step, taken, taken_unless_full}, Tables.has_row, Timers.{Ending, next_due, timers}}}
 use Rattle.law_settled.{proofs.{FiringLaws.next_is_due, UnchangedLaws.full_or_taken, SettledStates.settled_is_lawful}}
@@ -7,7 +7,7 @@ use Rattle.law_scope.{specs.Rest.IsAtRest}
 use Rattle.law_promises.{specs.Copies.happens}
 use Rattle.law_served.{specs.Timed.AreTimed, proofs.Passes.done_if}
 use Rattle.law_stream.{proofs.Ways.ground_itself}
-use Rattle.law_in_time.{specs.Joins.{IsRp, Join, is_lost_at, is_suppressed, is_wanted, way_to}, proofs.{Changes.change_by, Firings.{Base, SendsJoin, base_then, fewer, goes_so, hop_key, is_there, turn}, Timers.{EndsBy, Towards, goes_on_by}, Turns.to_the_end}}
+use Rattle.law_in_time.{specs.Joins.{IsRp, Join, is_lost_at, is_suppressed, is_wanted, way_to}, proofs.{Changes.change_by, Raised.change_raised, Firings.{Base, SendsJoin, base_then, fewer, goes_so, hop_key, is_there, turn}, Timers.{EndsBy, Towards, goes_on_by}, Turns.to_the_end}}
 
 -- ---- time
 
@@ -123,33 +123,46 @@ module _ (join : Join) (g from : ℕ) (hop : Hop) (s : State) (e : Event) (rests
   begins : (x m : ℕ) → EndsBy join g x s → Ends join g m from hop s f.own f.rp_known f.next x s
   begins x m by = grind (arith, ground_itself, settled_is_lawful)
 
-  module _ (x : ℕ) (by : EndsBy join g x s) where
+  -- the event's own change has the timer end no later
+  module _ (x : ℕ) (by : EndsBy join g x s)
+      (changed : (a : Accepted) → done_as (happens s e) ≡ Some a → EndsBy join g x (change s e.draw a).state) where
     by_time : (m : ℕ) → Goes join g from hop (advanced s e.draw m).state → Lasts x (advanced s e.draw m)
     unfolding nbr
     by_time m to =
         time_turns join g m from hop s f.own f.rp_known f.next e.draw s
         (is_there ((advanced s e.draw m).state).neighbours hop (way_to join (advanced s e.draw m).state g) to.next) x (begins x m by)
 
-    by_change : (a : Accepted) → is_suppressed join s g hop (Some a) ≡ false
+    by_change : (a : Accepted) → done_as (happens s e) ≡ Some a
         → Goes join g from hop (done s e.draw (change s e.draw a)).state → Lasts x (done s e.draw (change s e.draw a))
     unfolding done
-    by_change a off to = grind (arith, goes_on_by, to_the_hop, change_by)
+    by_change a is to = grind (arith, goes_on_by, to_the_hop, changed)
 
-    by_taken : (a : Accepted) → is_suppressed join s g hop (Some a) ≡ false → Goes join g from hop (taken s e.draw a).state
+    by_taken : (a : Accepted) → done_as (happens s e) ≡ Some a → Goes join g from hop (taken s e.draw a).state
         → Lasts x (taken s e.draw a)
     unfolding taken
-    by_taken a off to = grind (arith, by_time, by_change)
+    by_taken a is to = grind (arith, by_time, by_change)
 
-    module _ (unsuppressed : is_suppressed join s g hop (done_as (happens s e)) ≡ false) where
-      by_room : (a : Accepted) (full : Bool) → judged s e.kind ≡ Ok a → is_full s a ≡ full
-          → Goes join g from hop (full_or_taken s e.draw a full).state → Lasts x (full_or_taken s e.draw a full)
-      by_room a full is room to = grind (arith, by_taken, done_if)
+    by_room : (a : Accepted) (full : Bool) → judged s e.kind ≡ Ok a → is_full s a ≡ full
+        → Goes join g from hop (full_or_taken s e.draw a full).state → Lasts x (full_or_taken s e.draw a full)
+    by_room a full is room to = grind (arith, by_taken, done_if)
 
-      by_judgement : (j : Judged) → judged s e.kind ≡ j → Goes join g from hop (concluded s (taken_unless_full s e.draw) j).state
-          → Lasts x (concluded s (taken_unless_full s e.draw) j)
-      unfolding taken_unless_full
-      by_judgement j is to = grind (arith, by_room)
+    by_judgement : (j : Judged) → judged s e.kind ≡ j → Goes join g from hop (concluded s (taken_unless_full s e.draw) j).state
+        → Lasts x (concluded s (taken_unless_full s e.draw) j)
+    unfolding taken_unless_full
+    by_judgement j is to = grind (arith, by_room)
 
-      pub each_event : Goes join g from hop (step s e).state → Lasts x (step s e)
-      unfolding step
-      each_event to = by_judgement (judged s e.kind) refl to
+    pub each_event : Goes join g from hop (step s e).state → Lasts x (step s e)
+    unfolding step
+    each_event to = by_judgement (judged s e.kind) refl to
+
+  -- where no Join of another router has it hold its own back
+  pub each_unsuppressed : (x : ℕ) → EndsBy join g x s → is_suppressed join s g hop (done_as (happens s e)) ≡ false
+      → Goes join g from hop (step s e).state → Lasts x (step s e)
+  each_unsuppressed x by off to =
+      each_event x by
+      (λ a is. change_by join g x s e.draw hop (to_the_hop join g from hop s f) by a
+      (subst (λ (o : Option Accepted). is_suppressed join s g hop o ≡ false) is off)) to
+
+  -- any event, where the bound is 84 s from its present at least
+  pub each_raised : (x : ℕ) → EndsBy join g x s → s.present + 84000 ≤ x → Goes join g from hop (step s e).state → Lasts x (step s e)
+  each_raised x by high to = each_event x by (λ a is. change_raised join g x s e.draw high by a) to

@@ -5,7 +5,7 @@ use Rattle.pim_model.{specs.{declared.accepted.Accepted.Accepted, Cause.done_as,
 use Rattle.law_promises.{specs.Copies.happens}
 use Rattle.law_served.{specs.Joins.HoldsTree}
 use Rattle.law_stream.{specs.Passing.{Passes, Receiver, Tree, ends_passing, has_expired, lacks_room, leaves_tree, takes_effect, takes_from, takes_link}, proofs.{InTime.unexpired, Passing.event_keeps_passing, Tests.{Four, none_of_four}}}
-use Rattle.law_in_time.{specs.{Joins.{Always, AreInTime, AreThere, IsHeld, IsInTime, IsJoin, Join, Pair, Source, Star, Wants, join_key}, Streams.{IsFor, IsPassing, JoinsKeepStream, NoneEndsOtherwise, asker, ends_otherwise, is_pruned_off, prunes_source}}, proofs.{Pairs.{Now, Steps, begins, early_anyway, first_of, one_move, one_router, same_station}, Upper.moves_on}}
+use Rattle.law_in_time.{specs.{Joins.{Always, HoldsTo, IsJoin, Join, Pair, Source, Star, join_key}, Streams.{IsFor, IsPassing, JoinsKeepStream, NoneEndsOtherwise, asker, ends_otherwise, is_pruned_off, prunes_source}}, proofs.{Pairs.{By, Holds, Outlasts, Steps, Timer, held_ever, next, one_router, same_station}, Refresh.{Ever, Held, ever_first}, Upper.moves_on}}
 
 -- ---- who is served
 
@@ -78,25 +78,31 @@ module _ (join : Join) (tree : Tree) (s : State) (e : Event) (g src up down end 
 
 module _ (join : Join) (tree : Tree) (g d src up : ℕ) (started : ℕ → ℕ) (c : Pair) (isg : IsJoin join g) (is_for : IsFor join src) (few : d < 75000)
     (apart : (c.lower == c.upper) ≡ false) where
-  abbrev IsNow : Network → List Move → Type 0
-  IsNow n ms = Now join g d started c isg few apart n ms
+  abbrev IsEver : Network → List Move → Type 0
+  IsEver = Ever (next join g d started c isg few apart) 210000 d (By join g d started c isg few apart) (Timer join g d started c isg few apart)
+      (Holds join g d started c isg few apart) (Outlasts join g d started c isg few apart)
 
-  module _ (n : Network) (m : Move) (ms : List Move) (now : IsNow n (m ∷ ms)) (here : AreThere join g c n)
-      (there : AreThere join g c (moved n m).1) (wants : Wants join g c.lower n) (wanted : Wants join g c.lower (moved n m).1)
-      (in_time : IsInTime join g d started c n m ms) (f : IsPassing join tree g src up c n)
+  module _ (n : Network) (m : Move) (ms : List Move) (now : IsEver n (m ∷ ms)) (f : IsPassing join tree g src up c n)
       (off : (e : Event) (st : Station) → event_of n m ≡ Some (c.upper, e) → station_at n c.upper ≡ Some st
       → ends_otherwise join tree st.state e g src up c.down ≡ false) where
-    holds_now : HoldsTree (f.station).state (join_key join c.down g) (Some (now.held).end)
-    holds_now = grind (arith, same_station)
+    abbrev held : HoldsTo join g started c ((now.0).held).limit n
+    held = ((now.0).held).holds
+
+    holds_now : HoldsTree (f.station).state (join_key join c.down g) (Some (held).end)
+    holds_now =
+        subst (λ (x : Station). HoldsTree x.state (join_key join c.down g) (Some (held).end)) (same_station (held).there f.there) (held).holds
 
     held_at : (st : Station) → station_at (moved n m).1 c.upper ≡ Some st
         → has_row (st.state).downstream (join_key join c.down g) ≡ true
     unfolding has_row
-    held_at st at =
-        let later : IsHeld join g c (moved n m).1 =
-        (one_move join g d started c isg few apart n m ms now here there wants wanted in_time).held in
-        subst (λ (x : Station). has_row (x.state).downstream (join_key join c.down g) ≡ true) (same_station later.there at)
-        (ap is_some (later.holds).found)
+    held_at st at = go (ever_first _ 210000 d _ _ _ _ ms (moved n m).1 now.1)
+      where
+        go : Held (next join g d started c isg few apart) 210000 d (By join g d started c isg few apart) (Timer join g d started c isg few apart)
+            (Holds join g d started c isg few apart) (Outlasts join g d started c isg few apart) (moved n m).1
+            → has_row (st.state).downstream (join_key join c.down g) ≡ true
+        go h =
+            subst (λ (x : Station). has_row (x.state).downstream (join_key join c.down g) ≡ true) (same_station (h.holds).there at)
+            (ap is_some ((h.holds).holds).found)
 
     passing_then : IsPassing join tree g src up c (moved n m).1
     passing_then = go (one_router n m c.upper f.station f.there)
@@ -107,26 +113,16 @@ module _ (join : Join) (tree : Tree) (g d src up : ℕ) (started : ℕ → ℕ) 
           station = record f.station { state = (step (f.station).state w.event).state };
           there = (w.stepped).here;
           passes =
-              passes_on join tree (f.station).state w.event g src up c.down (now.held).end is_for holds_now
-              (early_anyway join g d started c isg few apart n m ms now here there wants wanted in_time _ (w.stepped).here)
-              (held_at _ (w.stepped).here) f.passes (off w.event f.station w.is f.there);
+              passes_on join tree (f.station).state w.event g src up c.down (held).end is_for holds_now
+              ((now.0).outlasts held _ (w.stepped).here) (held_at _ (w.stepped).here) f.passes (off w.event f.station w.is f.there);
         }
 
-  all_passing : (ms : List Move) (n : Network) → IsNow n ms → Always (AreThere join g c) n ms → Always (Wants join g c.lower) n ms
-      → AreInTime join g d started c n ms → IsPassing join tree g src up c n → NoneEndsOtherwise join tree g src up c n ms
+  all_passing : (ms : List Move) (n : Network) → IsEver n ms → IsPassing join tree g src up c n → NoneEndsOtherwise join tree g src up c n ms
       → Always (IsPassing join tree g src up c) n ms
-  all_passing [] n now there wants in_time f off = f
-  all_passing (m ∷ ms) n now there wants in_time f off =
-      let next : Network = (moved n m).1 in
-      let there_next : AreThere join g c next = first_of join g d started c isg few apart (AreThere join g c) next ms there.1 in
-      let wants_next : Wants join g c.lower next = first_of join g d started c isg few apart (Wants join g c.lower) next ms wants.1 in (
-        f,
-        all_passing ms next
-            (one_move join g d started c isg few apart n m ms now there.0 there_next wants.0 wants_next in_time.0) there.1 wants.1
-            in_time.1 (passing_then n m ms now there.0 there_next wants.0 wants_next in_time.0 f off.0) off.1,
-      )
+  all_passing [] n now f off = f
+  all_passing (m ∷ ms) n now f off = (f, all_passing ms (moved n m).1 now.1 (passing_then n m ms now f off.0) off.1)
 
 pub joins_keep_stream : JoinsKeepStream
 joins_keep_stream join tree g d src up started c n ms isg is_for few f wants passing off =
-    all_passing join tree g d src up started c isg is_for few f.apart ms n (begins join g d started c n ms isg few f) f.there wants
-    f.in_time passing off
+    all_passing join tree g d src up started c isg is_for few f.apart ms n (held_ever join g d started c isg few f.apart n ms f wants)
+    passing off

@@ -1,5 +1,6 @@
--- Joins come in time: where what a router sends to its next hop is delivered soon, and neither goes down, the Join
--- there never expires while the router wants the group, or the source.
+-- Joins come in time: where what a router sends to its next hop is delivered soon, and neither goes down, what it joins
+-- there never expires while it wants the group, or the source. On a link with several routers it may hold its Join back
+-- for another router's (Join suppression, RFC 7761, 4.5.4 and 4.5.5).
 use Rattle.std.{specs.Prelude.{Bool, List, None, Option, Some, [], false, length, map, slice_get, true, ℕ, ◌&&◌, ◌*◌, ◌+◌, ◌<◌, ◌==◌, ◌∷◌, ◌≡◌, ◌≤◌, ◌⊎◌}}
 use Rattle.pim_types.{specs.{Keys.key_of, declared.{event.Event.Event, fact.{JoinTimerRow.JoinTimerRow, Key.Key}, path.{Hop.Hop, Path.Path}}}}
 use Rattle.pim_wire.{specs.declared.join_prune.{Entry.Entry, EntryKind.EntryKind}}
@@ -171,6 +172,37 @@ is_suppressed x s g hop (Some (Accepted.JoinPruneSeen j m)) =
     && is_named (joined_keys s j.number m) (join_key x j.number g)
 is_suppressed x s g hop o = false
 
+-- a third of what the holdtime of a Join (210 s) is beyond the longest suppression (84 s)
+abbrev pub most_late_shared : ℕ
+most_late_shared = 42000
+
+-- the upper router holds what is joined beyond its present time, and until a timestamp at least
+pub record HoldsTo (x : Join) (g : ℕ) (started : ℕ → ℕ) (c : Pair) (limit : ℕ) (n : Network) : Type 0 where
+  pub station : Station
+  pub there : station_at n c.upper ≡ Some station
+  pub end : ℕ
+  pub later : (station.state).present < end
+  pub holds : HoldsTree station.state (join_key x c.down g) (Some end)
+  pub lasts : limit ≤ end + started c.upper
+
+-- before the upper one's time is past d after a Join was sent, it holds what is joined until 210 s after that
+abbrev pub IsHeldSoon : Join → (g d : ℕ) → (ℕ → ℕ) → Pair → (sent : ℕ) → Network → List Move → Type 0
+IsHeldSoon x g d started c sent n [] = Unit {0}
+IsHeldSoon x g d started c sent n (m ∷ ms) =
+    IsBy started c.upper (sent + d) (moved n m).1
+    × (HoldsTo x g started c (sent + 210000) (moved n m).1 ⊎ IsHeldSoon x g d started c sent (moved n m).1 ms)
+
+-- a Join of another router that the lower one saw at a move comes to both within d, which is below 42 s; n is the
+-- network before the move
+pub record ComesToBoth (x : Join) (g d : ℕ) (started : ℕ → ℕ) (c : Pair) (n : Network) (m : Move) (ms : List Move) : Type 0 where
+  pub few : d < most_late_shared
+  pub sent : ℕ
+  -- the lower one sees it within d, and no sooner than it was sent
+  pub seen : (st : Station) → station_at n c.lower ≡ Some st → time_at started c.lower st ≤ sent + d
+  pub after : (st : Station) → station_at (moved n m).1 c.lower ≡ Some st → sent ≤ time_at started c.lower st
+  -- so does the upper one
+  pub comes : HoldsTo x g started c (sent + 210000) (moved n m).1 ⊎ IsHeldSoon x g d started c sent (moved n m).1 ms
+
 pub record IsInTime (x : Join) (g d : ℕ) (started : ℕ → ℕ) (c : Pair) (n : Network) (m : Move) (ms : List Move) : Type 0 where
   -- the lower one's Join timer is at most d late, by the time at either router
   pub timer : (st : Station) (row : JoinTimerRow) → station_at n c.lower ≡ Some st
@@ -183,11 +215,12 @@ pub record IsInTime (x : Join) (g d : ℕ) (started : ℕ → ℕ) (c : Pair) (n
       → frame_at (moved n m).1 number ≡ Some (frame_of x g c pruned)
       → IsWritable c.from (c.hop).address.bits g (entry_of x) (prunes_of pruned)
       × ComesBy x g d started c pruned number (time_at started c.lower st) (moved n m).1 ms
-  -- nobody prunes the group, or the source, at the upper router, and the lower one isn't suppressed
+  -- nobody prunes the group, or the source, at the upper router
   pub unpruned : (e : Event) (st : Station) → event_of n m ≡ Some (c.upper, e) → station_at n c.upper ≡ Some st
       → prunes_it x g c.down (done_as (happens st.state e)) ≡ false
-  pub unsuppressed : (e : Event) (st : Station) → event_of n m ≡ Some (c.lower, e) → station_at n c.lower ≡ Some st
-      → is_suppressed x st.state g c.hop (done_as (happens st.state e)) ≡ false
+  -- each Join of another router, for which the lower one holds its own back, comes to both
+  pub shared : (e : Event) (st : Station) → event_of n m ≡ Some (c.lower, e) → station_at n c.lower ≡ Some st
+      → is_suppressed x st.state g c.hop (done_as (happens st.state e)) ≡ true → ComesToBoth x g d started c n m ms
 
 abbrev pub AreInTime : Join → (g d : ℕ) → (ℕ → ℕ) → Pair → Network → List Move → Type 0
 AreInTime x g d started c n [] = Unit {0}
@@ -227,11 +260,30 @@ pub record ComeInTime (x : Join) (g d : ℕ) (started : ℕ → ℕ) (c : Pair) 
   pub there : Always (AreThere x g c) n ms
   pub in_time : AreInTime x g d started c n ms
 
--- however many moves there are, while the lower one wants the group, or the source, the upper one holds its Join
-abbrev pub JoinsComeInTime : Type 0
-JoinsComeInTime = (x : Join) (g d : ℕ) (started : ℕ → ℕ) (c : Pair) (n : Network) (ms : List Move)
+-- However many moves there are, while the lower one wants the group, or the source, the upper one holds it, whoever's
+-- Joins refresh it.
+abbrev pub JoinsAreShared : Type 0
+JoinsAreShared = (x : Join) (g d : ℕ) (started : ℕ → ℕ) (c : Pair) (n : Network) (ms : List Move)
     → IsJoin x g → d < most_late → ComeInTime x g d started c n ms → Always (Wants x g c.lower) n ms
     → Always (IsHeld x g c) n ms
+
+-- ---- it comes to be held
+
+-- after each move the upper one's time isn't past a bound yet, or it holds what is joined
+abbrev pub IsHeldAfter : Join → (g : ℕ) → (ℕ → ℕ) → Pair → (bound : ℕ) → Network → List Move → Type 0
+IsHeldAfter x g started c bound n [] = Unit {0}
+IsHeldAfter x g started c bound n (m ∷ ms) =
+    (IsBy started c.upper bound (moved n m).1 ⊎ IsHeld x g c (moved n m).1)
+    × IsHeldAfter x g started c bound (moved n m).1 ms
+
+-- While the lower one wants the group, or the source, the upper one holds it from 2 d after the end of the lower one's
+-- present Join timer on, and without end, whether it held it before or not.
+abbrev pub JoinsComeToBeHeld : Type 0
+JoinsComeToBeHeld = (x : Join) (g d : ℕ) (started : ℕ → ℕ) (c : Pair) (n : Network) (ms : List Move) (st : Station) (row : JoinTimerRow)
+    → IsJoin x g → d < most_late → (c.lower == c.upper) ≡ false → IsReady c.lower n → IsReady c.upper n
+    → Always (AreThere x g c) n ms → AreInTime x g d started c n ms → Always (Wants x g c.lower) n ms
+    → station_at n c.lower ≡ Some st → row_at (st.state).join_timers (join_key x 0 g) ≡ Some row
+    → IsHeldAfter x g started c (row.end + started c.lower + 2 * d) n ms
 
 -- ---- along a way
 
@@ -252,7 +304,8 @@ abbrev pub AreHeld : Join → ℕ → Network → List Move → List Pair → Ty
 AreHeld x g n ms [] = Unit {0}
 AreHeld x g n ms (c ∷ cs) = Always (IsHeld x g c) n ms × AreHeld x g n ms cs
 
--- while the first router of a way wants the group, or the source, each of the others holds the Join of the one below
+-- While the first router of a way wants the group, or the source, each of the others holds it, whoever's Joins refresh
+-- it.
 abbrev pub WayStaysJoined : Type 0
 WayStaysJoined = (x : Join) (g d : ℕ) (started : ℕ → ℕ) (n : Network) (ms : List Move) (r : ℕ) (cs : List Pair)
     → IsJoin x g → d < most_late → IsWayUp x g d started n ms r cs → Always (Wants x g r) n ms

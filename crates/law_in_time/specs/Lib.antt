@@ -1,2 +1,5 @@
 pub mod Joins
 pub mod Streams
+pub mod Neighbours
+pub mod Adjacent
+pub mod OneDr

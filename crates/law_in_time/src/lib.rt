@@ -1,4 +1,4 @@
-//! A Join that is sent in time keeps its tree joined.
+//! What is sent in time keeps its tree joined, and its sender a neighbour.
 #![tactic(auto)]
 
 pub mod laws;

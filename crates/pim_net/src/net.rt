@@ -85,8 +85,9 @@ impl<W: Wire> Net<W> {
     /// sends the frame's bytes to the receiver's port, and what the wire returns there is the packet that the router
     /// receives; there is no other call of the wire. Without moves no memory is taken, so there is no fault. A fault is
     /// `Memory`, after which the net answers `Failed` from then on; or `Wire`, where the wire failed: then the moves
-    /// before it are done, and the net goes on working. In the first run of a net nothing flows unasked: each copy
-    /// of a packet has its cause among what came to its router before.
+    /// before it are done, and the net goes on working. After either the outcomes of the moves before it are lost. In
+    /// the first run of a net nothing flows unasked: each copy of a packet has its cause among what came to its router
+    /// before.
     pub fn run(&mut self, moves: &[Move]) -> Result<NetLog, Fault>
         ensures outcomes { W.is_faithful ≡ true → IfSome self.old.network (λ n. IfOk result (λ log.
             log.items ≡ (network_ran n (map move_of moves.now)).0)) }
@@ -144,8 +145,9 @@ impl<W: Wire> Net<W> {
     }
 
     /// Saves a router, counted from 0, and puts one that is made of its bytes in its place: nothing is sent, and the net
-    /// is as it was, also after a fault. An unknown router is left alone. The only fault of a net that works is want of
-    /// memory.
+    /// is as it was, also after a fault. A router that is made of saved bytes shows the state that was saved, so the
+    /// contract says no more of this than that nothing changed. An unknown router is left alone. The only fault of a net
+    /// that works is want of memory.
     pub fn restart(&mut self, router: usize) -> Result<(), Fault>
         ensures same { self.new ≡ self.old }
         ensures fault { IfSome self.old.network (λ n. IsOkUnless result Fault.Memory) }

@@ -487,11 +487,12 @@ impl Router {
     }
 
     /// Takes events one after the other, and returns the outcome of each. After a fault the router answers `Failed`
-    /// from then on. Without events no memory is taken, so there is no fault. Where earlier events and reloads, or none,
-    /// led from the opening of an accepted configuration to the router's state, nothing flows unasked: each copy of a
-    /// packet has its cause in an earlier event, of this run or before it. After such a run the facts that count, without
-    /// the asserts, are within the greatest limit of the configurations so far; and where no reload was among what came
-    /// before, with the asserts they are at most the limit once for each interface and once more.
+    /// from then on, and the outcomes of the events before the fault are lost: who is to send what these sent calls
+    /// `step` for each event. Without events no memory is taken, so there is no fault. Where earlier events and reloads,
+    /// or none, led from the opening of an accepted configuration to the router's state, nothing flows unasked: each copy
+    /// of a packet has its cause in an earlier event, of this run or before it. After such a run the facts that count,
+    /// without the asserts, are within the greatest limit of the configurations so far; and where no reload was among
+    /// what came before, with the asserts they are at most the limit once for each interface and once more.
     pub fn run(&mut self, events: &[Event]) -> Result<Vec<Outcome>, Fault>
         ensures outcomes { IfSome self.old.standing (λ r. IfOk result (λ outcomes. outcomes.items ≡ run r.state events.now)) }
         ensures state { IfSome self.old.standing (λ r. OnOk result (self.new.standing ≡ Some (standing_after r events.now))) }

@@ -20,3 +20,7 @@ pub mod ServedChain
 pub mod StreamChain
 pub mod Switch
 pub mod Split
+pub mod LastHop
+pub mod InTime
+pub mod History
+pub mod Plane

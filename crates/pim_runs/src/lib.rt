@@ -8,6 +8,8 @@ pub mod cached;
 pub mod causes;
 pub mod changes;
 pub mod data;
+pub mod histories;
+pub mod in_time;
 pub mod joins;
 pub mod limits;
 pub mod membership;

@@ -2,6 +2,7 @@
 #![tactic(auto, unfolding(crate::proofs::SplitLiterals::split_on_literals))]
 
 ghost use Rattle.pim_runs.specs.Split.{CoreCatchesUp, DrNamesWhatItServes, EachLinkIsHandled, HostIsHeardOf, LastPacketIsOwed, UnknownIsForwarded};
+ghost use Rattle.pim_runs.specs.Plane.{PlaneOwesANote};
 
 /// What the row of a joined source says of a packet on each link.
 pub fn each_link_is_handled()
@@ -31,4 +32,9 @@ pub fn dr_names_what_it_serves()
 /// A host whose DR is another router.
 pub fn host_is_heard_of()
     ensures { HostIsHeardOf }
+{}
+
+/// A plane as it is documented owes a note of the second packet, and none after the next event of the router's own.
+pub fn plane_owes_a_note()
+    ensures { PlaneOwesANote }
 {}

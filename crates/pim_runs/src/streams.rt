@@ -1,6 +1,7 @@
 //! Networks that meet the premises of the laws of streams, computed by the kernel.
 ghost use Rattle.pim_runs.specs.StreamChain.{NextIsServed, NoneEnds, SecondBegins, WayStreams};
 ghost use Rattle.pim_runs.specs.Switch.{Switches};
+ghost use Rattle.pim_runs.specs.LastHop.{LastHopCanChange, LastHopChanges};
 
 /// Two routers below the RP pass the stream, the first to a host and the second to a router.
 pub fn way_streams()
@@ -25,4 +26,14 @@ pub fn next_is_served()
 /// The first packet on the tree of the source ends passing from the shared tree and begins it from that of the source.
 pub fn switches()
     ensures { Switches }
+{}
+
+/// At that packet the last hop can change to the tree of the source.
+pub fn last_hop_can_change()
+    ensures { LastHopCanChange }
+{}
+
+/// So it changes, and goes on passing the stream to its host.
+pub fn last_hop_changes()
+    ensures { LastHopChanges }
 {}
