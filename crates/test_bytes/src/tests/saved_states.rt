@@ -290,10 +290,10 @@ fn state(alloc: Global) -> Result<SavedState, AllocError> {
     })
 }
 
-// The bytes with another one at a place.
-fn spoilt(alloc: Global, place: usize, byte: u8) -> Result<Vec<u8>, Fail> {
+// These bytes with another one at a place.
+fn changed(alloc: Global, given: &[u8], place: usize, byte: u8) -> Result<Vec<u8>, Fail> {
     let mut bytes = Vec::new(alloc);
-    for (i, old) in STATE.iter().enumerate() {
+    for (i, old) in given.iter().enumerate() {
         bytes.push(if i == place { byte } else { *old })?;
     }
     Ok(bytes)
@@ -307,10 +307,15 @@ fn summed(alloc: Global, front: &[u8]) -> Result<Vec<u8>, Fail> {
     Ok(bytes)
 }
 
-// The bytes with another one at a place, and the sum that they have then.
+// The state with another byte at a place.
+fn spoilt(alloc: Global, place: usize, byte: u8) -> Result<Vec<u8>, Fail> {
+    changed(alloc, STATE, place, byte)
+}
+
+// The state with another byte at a place, and the sum that it has then.
 fn spoilt_and_summed(alloc: Global, place: usize, byte: u8) -> Result<Vec<u8>, Fail> {
-    let bytes = spoilt(alloc, place, byte)?;
-    summed(alloc, &bytes[..SUM])
+    let front = changed(alloc, &STATE[..SUM], place, byte)?;
+    summed(alloc, &front)
 }
 
 fn is_refused(alloc: Global, bytes: &[u8], refusal: SavedRefusal) -> bool {
