@@ -25,6 +25,7 @@ use crate::policy::{Books, Gate, Policy};
 use crate::ports::{self, Machine, Port};
 use crate::routes::Counts;
 use crate::settings::Settings;
+use crate::waiting::Waiting;
 use crate::{stand_in, words};
 use log::{debug, info, warn};
 use std::collections::{BTreeMap, BTreeSet};
@@ -67,10 +68,31 @@ pub struct Neighbours {
 pub struct Routing {
     pub told: Vec<Route>,
     pub counts: Counts,
+    waiting: Waiting,
     /// When they are read again, in ms.
     due: Option<u64>,
+    /// They are read at once, before that too.
+    is_urgent: bool,
     /// How long after a change they are read, in ms.
     settle: u64,
+}
+
+impl Routing {
+    fn new() -> Routing {
+        Routing {
+            told: Vec::new(),
+            counts: Counts::default(),
+            waiting: Waiting::default(),
+            due: None,
+            is_urgent: false,
+            settle: machine::ROUTES_SETTLE,
+        }
+    }
+
+    /// They are to be read at a moment, if not before.
+    fn is_due_at(&mut self, moment: u64) {
+        self.due = Some(self.due.map_or(moment, |due| due.min(moment)));
+    }
 }
 
 /// What is to be done at a moment, in ms.
@@ -216,7 +238,7 @@ impl Daemon {
             ports,
             machine,
             plane: Plane::default(),
-            routing: Routing { told: Vec::new(), counts: Counts::default(), due: None, settle: machine::ROUTES_SETTLE },
+            routing: Routing::new(),
             neighbours: Neighbours::default(),
             counters: Counters::default(),
             older_heard: BTreeSet::new(),

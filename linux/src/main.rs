@@ -30,6 +30,7 @@ mod show;
 mod split;
 mod stand_in;
 mod tables;
+mod waiting;
 mod wire;
 mod words;
 

@@ -196,12 +196,14 @@ impl Daemon {
         for key in gone {
             self.neighbours.known.remove(&key);
             self.keeping.changed();
+            self.routes_may_move();
             info!("the neighbour {} on {} is gone", key.1, self.name(key.0));
         }
         let hellos = std::mem::take(&mut self.neighbours.hellos);
         for (key, (said, priority)) in hellos.into_iter().filter(|(key, _)| there.contains(key)) {
             if !self.neighbours.known.contains_key(&key) {
                 self.keeping.changed();
+                self.routes_may_move();
                 info!("a neighbour on {}: {said}", self.name(key.0));
             }
             let since = self.neighbours.known.get(&key).map_or(now, |known| known.since);

@@ -6,6 +6,8 @@ use crate::ports::{Machine, Port, Standing};
 use crate::routes::{self, Counts, Ours, MOST_ROUTES};
 use crate::show;
 use log::{debug, error, info, log, warn, Level};
+use std::collections::HashSet;
+use std::net::Ipv4Addr;
 use viqeshor::Route;
 
 /// Routes that change together are read together, in ms. Where reading them takes long they are read less often.
@@ -96,6 +98,8 @@ impl Daemon {
             self.neighbours.are_stale = true;
             self.take(Event::Down(number as u32))?;
             self.all_unknown_may_differ();
+            // Its routes lead nowhere, whenever the kernel takes them back.
+            self.routing.is_urgent = true;
         }
         Ok(())
     }
@@ -138,6 +142,12 @@ impl Daemon {
 
     pub(super) fn read_routes(&mut self) -> Result<(), Fatal> {
         self.routing.due = None;
+        self.take_routes()
+    }
+
+    /// Tells the router the kernel's routes, where they differ.
+    pub(super) fn take_routes(&mut self) -> Result<(), Fatal> {
+        self.routing.is_urgent = false;
         let began = self.now();
         let (told, counts) = match self.routes_of_kernel() {
             Some(found) => found,
@@ -149,10 +159,11 @@ impl Daemon {
             self.routing.counts = counts;
         }
         self.routing.settle = ROUTES_SETTLE.max(PART_OF_TIME * (self.now() - began));
+        self.advance()?;
+        let told = self.held(told)?;
         if told == self.routing.told {
             return Ok(());
         }
-        self.advance()?;
         match self.take(Event::Routes(&told))? {
             Answer::Refused(refusal) => {
                 error!("{} routes are refused ({refusal:?}; at most {MOST_ROUTES}): the old ones stay", told.len())
@@ -165,12 +176,30 @@ impl Daemon {
         Ok(())
     }
 
+    /// The routes that are told in place of the kernel's, where some wait for a neighbour.
+    fn held(&mut self, routes: Vec<Route>) -> Result<Vec<Route>, Fatal> {
+        let there: HashSet<_> = self.core.neighbours()?.into_iter().collect();
+        let is_neighbour = |route: &Route| there.contains(&(route.iface, Ipv4Addr::from(u32::from(route.next_hop))));
+        let now = self.now();
+        let routing = &mut self.routing;
+        let held = routing.waiting.held(&routing.told, &routes, now, is_neighbour);
+        if let Some(moment) = routing.waiting.due() {
+            routing.is_due_at(moment);
+        }
+        Ok(held)
+    }
+
+    /// Neighbours came or went, for which routes may wait.
+    pub(super) fn routes_may_move(&mut self) {
+        self.routing.is_urgent |= self.routing.waiting.due().is_some();
+    }
+
     pub(super) fn changed(&mut self, changes: Vec<Change>) -> Result<(), Fatal> {
         for change in changes {
             debug!("the kernel tells {change:?}");
             // What goes down takes routes with it of which the kernel says nothing.
             let due = self.now() + self.routing.settle;
-            self.routing.due.get_or_insert(due);
+            self.routing.is_due_at(due);
             match change {
                 Change::Routes => {}
                 Change::Lost => self.read_machine()?,

@@ -20,6 +20,9 @@ struct Fake {
     now: Cell<u64>,
     waiting: RefCell<VecDeque<(Source, kernel::Event)>>,
     addresses: RefCell<Vec<(u32, Subnet)>>,
+    /// By which next hop on which link FAR is; none where there is no other than usual.
+    way: Cell<Option<(Ipv4Addr, u32)>>,
+    is_down: Cell<bool>,
     entries: RefCell<BTreeMap<Key, Forwarded>>,
     used: RefCell<Vec<Used>>,
     has_no_memory: Cell<bool>,
@@ -87,7 +90,7 @@ impl Kernel for Handle {
             index,
             name: name.to_string(),
             mtu: 1500,
-            is_running: true,
+            is_running: index != ETH0 || !self.0.is_down.get(),
             is_loopback: false,
             vrf_table: None,
         };
@@ -103,7 +106,8 @@ impl Kernel for Handle {
     }
 
     fn routes(&mut self, _: Option<u32>) -> io::Result<Vec<KernelRoute>> {
-        let hop = Hop { gateway: Some(Ipv4Addr::new(10, 1, 0, 2).into()), index: ETH0, is_dead: false };
+        let (gateway, index) = self.0.way.get().unwrap_or((Ipv4Addr::new(10, 1, 0, 2), ETH0));
+        let hop = Hop { gateway: Some(gateway.into()), index, is_dead: false };
         let prefix = Ipv4Addr::new(10, 9, 0, 0).into();
         Ok(vec![KernelRoute { prefix, length: 16, kind: Kind::Unicast, metric: 1, protocol: 4, hops: vec![hop] }])
     }
@@ -437,6 +441,42 @@ fn the_first_hellos_leave_soon() {
         passes(&mut daemon, &fake, 200);
         assert_eq!((holdtimes(&fake, ETH0).len(), holdtimes(&fake, ETH1).len()), (1, 2));
     }
+}
+
+/// Where FAR is for the router.
+fn way_to_far(daemon: &Daemon) -> Option<(Ipv4Addr, u32)> {
+    crate::routes::longest(&daemon.routing.told, FAR.into()).map(|(next_hop, iface)| (next_hop.into(), iface))
+}
+
+#[test]
+fn a_route_moves_once_its_next_hop_is_a_neighbour() {
+    let (mut daemon, fake) = begun(TWO, &both());
+    let (old, new) = (([10, 1, 0, 2].into(), 0), ([10, 5, 0, 2].into(), 1));
+    let changes = || (Source::Changes, kernel::Event::Changes(vec![Change::Routes]));
+    assert_eq!(way_to_far(&daemon), Some(old));
+    fake.way.set(Some((new.0, ETH1)));
+    happens(&mut daemon, &fake, changes());
+    passes(&mut daemon, &fake, 10_000);
+    assert_eq!(way_to_far(&daemon), Some(old));
+    let content = summed(&[0x20, 0, 0, 0, 0, 1, 0, 2, 0, 105]);
+    happens(&mut daemon, &fake, frame(ETH1, packet(PIM, new.0, [224, 0, 0, 13].into(), &content)));
+    daemon.house_keeping().expect("it goes on");
+    assert_eq!(way_to_far(&daemon), Some(new));
+    // One that never comes isn't waited for any longer than a Hello takes.
+    fake.way.set(Some(([10, 1, 0, 9].into(), ETH0)));
+    happens(&mut daemon, &fake, changes());
+    passes(&mut daemon, &fake, 34_000);
+    assert_eq!(way_to_far(&daemon), Some(new));
+    passes(&mut daemon, &fake, 2_000);
+    assert_eq!(way_to_far(&daemon), Some(([10, 1, 0, 9].into(), 0)));
+}
+
+#[test]
+fn a_route_by_a_link_that_goes_down_is_none_in_the_same_turn() {
+    let (mut daemon, fake) = begun(TWO, &both());
+    fake.is_down.set(true);
+    happens(&mut daemon, &fake, (Source::Changes, kernel::Event::Changes(vec![Change::Lost])));
+    assert_eq!((daemon.ports[0].standing.is_up(), way_to_far(&daemon)), (false, None));
 }
 
 #[test]

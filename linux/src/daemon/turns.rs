@@ -234,6 +234,7 @@ impl Daemon {
         let times = [
             self.core.next_moment(),
             self.routing.due,
+            Some(0).filter(|_| self.routing.is_urgent),
             due.machine,
             due.unset,
             due.addresses,
@@ -307,6 +308,8 @@ impl Daemon {
         }
         if is_due(self.routing.due) {
             self.read_routes()?;
+        } else if self.routing.is_urgent {
+            self.take_routes()?;
         }
         if self.due.look <= now {
             self.look()?;
