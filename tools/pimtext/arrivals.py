@@ -55,12 +55,11 @@ class Arrivals:
         """Whoever gave a report or data to a router, and in which answers."""
         for at, step in enumerate(self.steps):
             data = step.taken() if step.did["do"] == "frame" else None
-            interfaces = self.recording.played.router(step.router).interfaces
-            if data is None or len(data) < 20 or step.iface >= len(interfaces):
+            if data is None or len(data) < 20 or step.link is None:
                 continue
             is_data = data[9] not in (packets.PIM, packets.IGMP) and packets.is_multicast(data[16:20])
             if is_data or data[9] == packets.IGMP and not self.is_router(packets.dotted(data[12:16])):
-                self.senders[at] = self.host(packets.dotted(data[12:16]), interfaces[step.iface].link)
+                self.senders[at] = self.host(packets.dotted(data[12:16]), step.link)
 
     def is_router(self, address: str) -> bool:
         return any(router.has(address) for router in self.recording.played.routers)

@@ -32,7 +32,7 @@ class Askers:
     def older_refused(self, is_heard: bool) -> Iterator[Heard]:
         """Messages of IGMPv1 and IGMPv2 that routers refused, where they hear the version or where they don't."""
         for each in self.hosts.heard:
-            setting = self.run.played.router(each.step.router).table.get("older_hosts", "none")
+            setting = self.known[each.step.router].router.table.get("older_hosts", "none")
             if each.step.verdict == "refused" and each.version < 3 and (each.version in HEARD[setting]) == is_heard:
                 yield each
 

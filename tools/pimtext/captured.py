@@ -342,9 +342,5 @@ def run_of(sorter: Sorter, events: list[Event], step: int = STEP, is_running: bo
     table = sorter.router.table
     played = scenario.scenario_of({"router": [table], "move": moves})
     steps, _ = story.played(played, scenario.run_text(scenario.text_of([table], moves)))
-    sent = [(each, iface_of(played, each)) for step in steps for each in step.sent]
+    sent = [(each, each.iface) for step in steps for each in step.sent]
     return Run(moves, sent, steps, early, not step)
-
-
-def iface_of(played: scenario.Scenario, sent: story.Sent) -> int | None:
-    return None if sent.is_unicast() else story.sending_interface(played, sent)

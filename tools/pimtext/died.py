@@ -28,9 +28,8 @@ def ttl_of(taken: trace.Taken) -> int:
 
 def refused(world: served.World, taken: trace.Taken) -> End:
     """The end of a packet that a router refused or ignored."""
-    interfaces, iface = world.known[taken.router].router.interfaces, taken.iface
-    link = interfaces[iface].link if iface is not None and iface < len(interfaces) else None
-    what = "the Register" if iface is None else f"the packet on {link}"
+    link = taken.step.link
+    what = "the Register" if taken.iface is None else f"the packet on {link}"
     told = f"{what} was {words.answer(taken.step.verdict, taken.step.cause)} at {taken.router}"
     return End("refused", told, taken.router, link, None, taken.step.cause)
 

@@ -4,7 +4,7 @@ from __future__ import annotations
 from collections.abc import Callable, Iterable, Iterator
 from typing import TYPE_CHECKING
 
-from pimtext import packets, served, story, words
+from pimtext import packets, served, words
 from pimtext.addresses import ip_address, longest
 from pimtext.cause import Cause
 from pimtext.run import gathered
@@ -201,7 +201,7 @@ class Interfaces:
         """The interfaces of a router that a Hello has left."""
         mine = [sent for step in self.run.steps for sent in step.sent if sent.router == name and sent.kind == "frame"]
         hellos = [sent for sent in mine if packets.is_pim(sent.data, packets.HELLO)]
-        return {story.sending_interface(self.run.played, sent) for sent in hellos}
+        return {sent.iface for sent in hellos}
 
     def greets_by(self, name: str, number: int) -> int:
         """The moment by which the first Hello of an interface leaves."""

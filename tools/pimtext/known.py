@@ -103,6 +103,10 @@ class Known:
         """The interfaces that are up, by their numbers."""
         return {each.number for each in self.interfaces_up()}
 
+    def configured(self) -> list[Interface]:
+        """The interfaces that it has; those that a `reload` removed can be looked up as well."""
+        return self.router.interfaces[:len(self.router.table["iface"])]
+
     def interfaces_up(self) -> list[Interface]:
         return [each for each in self.router.interfaces if self.is_up(each.number)]
 

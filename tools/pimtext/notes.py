@@ -4,7 +4,7 @@ from __future__ import annotations
 
 from collections import Counter
 from collections.abc import Iterator
-from typing import TYPE_CHECKING
+from typing import TYPE_CHECKING, Any
 
 from pimtext import packets, story, trace, wishes, words
 from pimtext.cause import Symptom
@@ -103,7 +103,7 @@ class Notes:
                 yield Symptom("odd", *self.at_move(number, told))
 
     def key(self, step: story.Step) -> tuple[object, ...]:
-        what = self.meaning(step.move, step.router, step.cause)
+        what = self.meaning(step)
         return step.router, step.iface, step.verdict, step.cause, what, self.what(step), step.is_settle()
 
     @staticmethod
@@ -119,8 +119,7 @@ class Notes:
 
     def symptom(self, steps: list[story.Step]) -> Symptom:
         first, number = steps[0], steps[0].move
-        link = self.link(first)
-        meaning = self.meaning(number, first.router, first.cause)
+        meaning = self.meaning(first)
         one = "a delivery was" if first.is_settle() else "it was"
         many = f"{len(steps)} {self.what(first)} were" if len(steps) > 1 else one
         last = f", up to move {steps[-1].move}" if steps[-1].move != number else ""
@@ -130,27 +129,33 @@ class Notes:
         host = packets.dotted(data[12:16]) if data and len(data) >= 20 else None
         at = self.steps.index(first)
         more = {"host": host, "alone": f"{told}: {meaning}", "at": at}
-        return Symptom("odd", line, told, first.router, link, None, first.cause, **more)
+        return Symptom("odd", line, told, first.router, first.link, None, first.cause, **more)
 
-    def link(self, step: story.Step) -> str | None:
-        interfaces = self.played.router(step.router).interfaces
-        return interfaces[step.iface].link if step.iface is not None and step.iface < len(interfaces) else None
-
-    def meaning(self, number: int, router: str, cause: str) -> str:
+    def meaning(self, step: story.Step) -> str:
+        cause, did = step.cause, step.did
         if cause in ("25", "26"):
-            return self.wrong_list(number, router, cause == "25")
+            return self.wrong_list(step.move, step.router, cause == "25")
         if cause == "27":
-            return self.no_delivery(number, router)
+            return self.moved_on(step) if step.is_settle() else self.no_delivery(step)
         if cause.isdigit() and 30 <= int(cause) <= 38:
-            return self.wrong_configuration(number, int(cause))
-        count = len(self.played.router(router).interfaces)
-        bytes_given = len(self.played.moves[number - 1].get("hex", "")) // 2
-        if cause == "4" and bytes_given > packets.MOST_IN_A_FRAME and self.played.moves[number - 1]["do"] == "frame":
+            return self.wrong_configuration(step.move, int(cause))
+        count, bytes_given = self.present(step), len(did.get("hex", "")) // 2
+        if cause == "4" and bytes_given > packets.MOST_IN_A_FRAME and did["do"] == "frame":
             return f"a packet on a link has at most {packets.MOST_IN_A_FRAME} bytes, and this one has {bytes_given}"
-        size = ethernet_bytes(bytes.fromhex(self.played.moves[number - 1].get("hex", ""))) if len(cause) == 1 else 0
+        size = ethernet_bytes(bytes.fromhex(did.get("hex", ""))) if len(cause) == 1 else 0
         if size:
             return f"the bytes begin with an Ethernet header: leave out its {size} bytes, the first {2 * size} digits"
         return MEANINGS[cause] + (f", and it has {count}" if cause == "22" else "")
+
+    def present(self, step: story.Step) -> int:
+        """How many interfaces the router of a step had then."""
+        return len(self.configuration(step.router, step.move)["iface"])
+
+    def configuration(self, router: str, move: int) -> dict[str, Any]:
+        """The table of a router just before a move."""
+        before = (each for each in reversed(self.steps) if each.move < move and each.router == router)
+        done = (each for each in before if each.did["do"] == "reload" and each.verdict == "done")
+        return next((each.did["config"] for each in done), self.played.router(router).table)
 
     def wrong_list(self, number: int, router: str, is_routes: bool) -> str:
         """What is wrong with the routes or ranges of a move."""
@@ -170,19 +175,23 @@ class Notes:
         told = [f"{what} ({where})" for failed, _, where, what in configuration_faults(made) if failed == test]
         return "; ".join(told) + ": nothing changes"
 
-    def no_delivery(self, number: int, router: str) -> str:
+    def no_delivery(self, step: story.Step) -> str:
         """Why `deliver` or `carry` can't bring its packet."""
-        did = self.played.moves[number - 1]
-        before = [sent for sent in self.sent if sent.move < number]
-        if not 1 <= did["frame"] <= len(before):
-            return f"there is no packet {did['frame']} yet: {len(before)} were sent before, counted from 1"
-        sent, interfaces = before[did["frame"] - 1], self.played.router(router).interfaces
+        did, sent = step.did, step.brought
+        if sent is None:
+            count = sum(sent.move < step.move for sent in self.sent)
+            return f"there is no packet {did['frame']} yet: {count} were sent before, counted from 1"
         if sent.is_unicast():
             return f"packet {sent.number} is a unicast, which `carry` brings"
-        iface = did["iface"]
-        there = f"interface {iface} is on {interfaces[iface].link}" if iface < len(
-            interfaces) else f"it has no interface {iface}"
+        there = f"interface {did['iface']} is on {step.link}" if step.link else f"it has no interface {did['iface']}"
         return f"packet {sent.number} was sent on the link {sent.where}, and {there}"
+
+    @staticmethod
+    def moved_on(step: story.Step) -> str:
+        """Why a settle can't bring a packet: the interface that it left on is on another link by then."""
+        sent = step.brought
+        told = f"packet {sent.number} left interface {sent.iface} of {sent.router} on the link {sent.where}, and a"
+        return f"{told} `reload` put that interface on {step.link} before the settle: it reaches nobody on {sent.where}"
 
     # ---- packets that nobody took
 

@@ -24,10 +24,10 @@ def kinds(links: Iterable[str], ports: Mapping[str, list[str]], hosts: Mapping[s
     router to each host ("stub"), or nothing. `ports` are the routers on each link, `hosts` the hosts there."""
     found = {}
     for link in links:
-        routers, here = len(ports[link]), len(hosts[link])
+        routers, here = len(ports[link]), hosts[link]
         if routers == 2 and not here and len(set(ports[link])) == 2:
             found[link] = "pair"
-        elif routers == 1:
+        elif routers == 1 or not (routers or here):
             found[link] = "stub" if here else "none"
         else:
             found[link] = "lan"

@@ -260,10 +260,7 @@ class Recording:
         short, told = packet_words(sent.kind, sent.data)
         tree = tree_of(sent)
         where = self.text(sent.where) if sent.is_unicast() else self.links[sent.where]
-        left = None if sent.is_unicast() else story.sending_interface(self.played, sent)
-        iface = -1 if left is None else left
-        if sent.kind == "copy":
-            iface = next((each.number for each in self.played.router(sent.router).on(sent.where)), -1)
+        iface = -1 if sent.iface is None else sent.iface
         tree = -1 if tree is None else self.tree(*tree)
         return [self.routers[sent.router], where, int(sent.is_unicast()), self.text(short), self.text(told),
                 self.text(sent.data.hex()), at, tree, iface]

@@ -51,14 +51,14 @@ class Run:
 
     def on_link(self, name: str, link: str | None) -> int | Line:
         """The line of a router's interface on a link, else of the router."""
-        here = self.played.router(name).on(link) if link else []
+        here = self.known[name].router.on(link) if link else []
         return self.lines.interface(name, here[0].number) if here else self.lines.router(name)
 
     # ---- what it has
 
     def ports(self) -> dict[str, list[tuple[str, Interface]]]:
-        """The interfaces of each link, with their routers' names."""
-        interfaces = ((router.name, each) for router in self.played.routers for each in router.interfaces)
+        """The interfaces of each link at the end, with their routers' names."""
+        interfaces = ((name, each) for name, state in self.known.items() for each in state.configured())
         return gathered((interface.link, (name, interface)) for name, interface in interfaces)
 
     def wished(self) -> set[tuple[str, str]]:

@@ -11,6 +11,7 @@ import sys
 from collections.abc import Iterable
 from dataclasses import dataclass, field
 from ipaddress import IPv4Interface
+from itertools import chain
 from pathlib import Path
 from typing import TYPE_CHECKING, Any
 
@@ -49,6 +50,13 @@ class Router:
         """Its interfaces on a link."""
         return [interface for interface in self.interfaces if interface.link == link]
 
+    def link(self, number: int | None) -> str | None:
+        """The link of an interface, None where the router has no such interface."""
+        return None if number is None or number >= len(self.interfaces) else self.interfaces[number].link
+
+    def address(self, number: int) -> str | None:
+        return None if number >= len(self.interfaces) else self.interfaces[number].address
+
     def has(self, address: str | None) -> bool:
         return any(interface.address == address for interface in self.interfaces)
 
@@ -74,11 +82,12 @@ class Scenario:
         raise LookupError(f"the scenario has no router {name!r}")
 
     def links(self) -> dict[str, IPv4Network]:
-        """The links with their subnets, in the order in which they are named."""
+        """The links with their subnets, those that moves `reload` name too, in the order in which they are named."""
+        own = (each for router in self.routers for each in interfaces_of(router.table))
+        later = (each for did in self.moves if did["do"] == "reload" for each in later_interfaces(did["config"]))
         found = {}
-        for router in self.routers:
-            for interface in router.interfaces:
-                found.setdefault(interface.link, interface.own.network)
+        for each in chain(own, later):
+            found.setdefault(each.link, each.own.network)
         return found
 
     def text(self, moves: int | None = None) -> str:
@@ -90,17 +99,28 @@ def interface_of(number: int, table: dict[str, Any]) -> Interface:
     return Interface(number, table["link"], IPv4Interface(table["address"]), table.get("priority", 1))
 
 
+def interfaces_of(table: dict[str, Any]) -> list[Interface]:
+    return [interface_of(number, row) for number, row in enumerate(table["iface"])]
+
+
+def later_interfaces(config: dict[str, Any]) -> list[Interface]:
+    """The interfaces of a move `reload`; none where the router refuses an address."""
+    try:
+        return interfaces_of(config)
+    except ValueError:
+        return []
+
+
 def router_of(table: dict[str, Any]) -> Router:
-    interfaces = [interface_of(number, row) for number, row in enumerate(table["iface"])]
-    return Router(table["name"], interfaces, table, routes_of(table.get("routes", [])), ranges_of(table.get("rps", [])))
+    lists = routes_of(table.get("routes", [])), ranges_of(table.get("rps", []))
+    return Router(table["name"], interfaces_of(table), table, *lists)
 
 
 def add_interfaces(router: Router, moves: list[dict[str, Any]]) -> None:
     """Gives a router the interfaces that moves add."""
     for did in moves:
         if did["do"] == "reload" and did["router"] == router.name:
-            later = router_of({**did["config"], "name": router.name}).interfaces
-            router.interfaces += later[len(router.interfaces):]
+            router.interfaces += later_interfaces(did["config"])[len(router.interfaces):]
 
 
 def scenario_of(tables: dict[str, Any]) -> Scenario:

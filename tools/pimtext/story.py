@@ -9,7 +9,8 @@ from typing import TYPE_CHECKING, Any, TypeVar
 from pimtext import packets, printed
 
 if TYPE_CHECKING:
-    from pimtext.scenario import Scenario
+    from pimtext.scenario import Router, Scenario
+    from pimtext.twin import Twin
 
     R = TypeVar("R")
 
@@ -20,7 +21,7 @@ SETTLE_LIMIT = 10_000
 @dataclass(frozen=True)
 class Sent:
     """A packet that a router sent: `where` is a link, or for a unicast its destination; `moment` is the router's, in
-    ms.
+    ms; `iface` is the interface that it left on, None for a unicast.
     """
     kind: str
     number: int
@@ -29,6 +30,7 @@ class Sent:
     router: str
     move: int
     moment: int
+    iface: int | None = None
 
     def is_unicast(self) -> bool:
         return self.kind == "unicast"
@@ -41,7 +43,7 @@ class Sent:
 @dataclass
 class Step:
     """A move, or a delivery of a settle: who took what, and what left. `did` is the move's table, None where it isn't
-    known.
+    known. `link` is that of the interface `iface` at the time, None where the router had no such interface.
     """
     move: int
     router: str
@@ -51,6 +53,7 @@ class Step:
     did: dict | None = None
     brought: Sent | None = None
     iface: int | None = None
+    link: str | None = None
     sent: list = field(default_factory=list)
 
     def answer(self) -> str:
@@ -81,44 +84,62 @@ class Untold(Exception):
     """The lines aren't those of the scenario."""
 
 
-def sending_interface(scenario: Scenario, sent: Sent) -> int | None:
-    """The interface that a packet on a link left on: that of its address, else the router's first one on the link; None
-    where it has none there."""
-    here = scenario.router(sent.router).on(sent.where)
-    source = packets.dotted(sent.data[12:16])
-    found = next((interface for interface in here if interface.address == source), next(iter(here), None))
-    return None if found is None else found.number
+def left_on(step: Step, emission: printed.Emission, before: Router, after: Router) -> int | None:
+    """The interface that a packet left on. `before` is the router with the links that it had, on which it left, `after`
+    with the addresses that it has since; what a `reload` removes has those that it had. Where several of its interfaces
+    are on the link, a router's own packet has the address of its interface, and of a copy the lines don't say it: the
+    answer is the first one that the packet didn't come on."""
+    if emission.kind == "unicast":
+        return None
+    here = [each.number for each in before.on(emission.where)]
+    if emission.kind == "frame":
+        source = packets.dotted(emission.data[12:16])
+        own = [number for number in here if (after.address(number) or before.address(number)) == source]
+        return next(iter(own or here), None)
+    return next((number for number in here if number != step.iface), next(iter(here), None))
+
+
+def doubled(scenario: Scenario) -> set[str]:
+    """The routers that at some time have several interfaces on one link."""
+    tables = [(router.name, router.table) for router in scenario.routers]
+    tables += [(did["router"], did["config"]) for did in scenario.moves if did["do"] == "reload"]
+    links = [(name, [row["link"] for row in table["iface"]]) for name, table in tables]
+    return {name for name, here in links if len(set(here)) < len(here)}
 
 
 def receivers(scenario: Scenario, sent: Sent) -> list[tuple[str, int | None]]:
-    """Whom a settle brings a packet to: pairs of a router's name and an interface, None for a unicast."""
+    """Whom a settle brings a packet to where the routers have these interfaces: pairs of a router's name and an
+    interface, None for a unicast. A packet is on the link on which its interface is by then."""
     if sent.is_unicast():
         owners = (router.name for router in scenario.routers if router.has(sent.where))
         return [(name, None) for name in owners][:1]
-    left = (sent.router, sending_interface(scenario, sent))
-    if left[1] is None:
+    link = scenario.router(sent.router).link(sent.iface)
+    if link is None:
         return []
-    ports = [(router.name, interface.number) for router in scenario.routers for interface in router.on(sent.where)]
-    return [port for port in ports if port != left]
+    ports = [(router.name, interface.number) for router in scenario.routers for interface in router.on(link)]
+    return [port for port in ports if port != (sent.router, sent.iface)]
 
 
 class Teller:
     """Follows the lines, one after the other. Without a scenario it knows what the lines say alone. `present` has the
-    interfaces that the routers have at the moment."""
+    interfaces that the routers have at the moment, `before` those that they had before the move."""
 
     def __init__(self, scenario: Scenario | None = None) -> None:
         self.scenario = scenario
-        self.present = None if scenario is None else scenario.begun()
+        self.present = self.before = None if scenario is None else scenario.begun()
         self.moments = {}
         self.sent = []
         self.taken = 0
         self.begun = 0
         self.settling = iter(())
+        # Of routers with several interfaces on a link, a router of the library that takes the same.
+        self.twins = {}
+        self.doubled = doubled(scenario) if scenario else set()
 
     def after(self, scenario: Scenario) -> Teller:
         """Another one that goes on where this one is, in a scenario that has more moves."""
         other = Teller(scenario)
-        other.present = self.present
+        other.present, other.before, other.doubled = self.present, self.present, set()
         other.moments, other.sent, other.taken, other.begun = dict(self.moments), list(
             self.sent), self.taken, self.begun
         return other
@@ -179,11 +200,14 @@ class Teller:
         if self.scenario is None:
             return step
         self.begin(answer.move)
-        step.did = self.move(answer.move)
+        step.did, self.before = self.move(answer.move), self.present
         if step.is_settle():
             self.deliver(step)
         else:
             self.make(step)
+        step.link = self.before.router(step.router).link(step.iface)
+        if step.router in self.doubled:
+            self.twin(step.router).take_note(step)
         return step
 
     def deliver(self, step: Step) -> None:
@@ -204,9 +228,22 @@ class Teller:
             step.brought = self.sent[did["frame"] - 1]
 
     def sending(self, step: Step, emission: printed.Emission) -> None:
-        sent = Sent(*emission, step.router, step.move, step.moment)
+        sent = Sent(*emission, step.router, step.move, step.moment, self.left_on(step, emission))
         self.sent.append(sent)
         step.sent.append(sent)
+
+    def left_on(self, step: Step, emission: printed.Emission) -> int | None:
+        if self.scenario is None:
+            return None
+        if emission.kind == "copy" and step.router in self.doubled:
+            return self.twin(step.router).last()[len(step.sent)].where
+        return left_on(step, emission, self.before.router(step.router), self.present.router(step.router))
+
+    def twin(self, name: str) -> Twin:
+        if name not in self.twins:
+            from pimtext.twin import Twin
+            self.twins[name] = Twin(self.scenario.router(name).table)
+        return self.twins[name]
 
     def tell(self, lines: Iterable[str]) -> Iterator[Step | Tables]:
         """Steps and then tables, each as soon as it is whole."""

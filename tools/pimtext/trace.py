@@ -162,14 +162,10 @@ class Tracer:
         named = names(data) if data else None
         if named is None:
             return
-        link = None if is_unicast else self.link(step)
+        link = None if is_unicast else step.link
         alike = [each for each in self.packets if (each.link, each.content) == (link, data)]
         same = [each for each in alike if self.is_at_once(each, step)]
         self.take(Taken(at, step), (same[0] if same else self.packet(*named, link, data)).began)
-
-    def link(self, step: story.Step) -> str | None:
-        interfaces = self.played.router(step.router).interfaces
-        return interfaces[step.iface].link if step.iface < len(interfaces) else None
 
     def is_at_once(self, packet: Packet, step: story.Step) -> bool:
         """Whether a packet comes to another router of its link with this step, and nothing happened since it came to

@@ -136,6 +136,15 @@ class Twin:
         self.events, self.saved = [], {}
         self.router, self.taken = None, 0
 
+    def take_note(self, step: Step) -> None:
+        """The same of a step that the router may have refused or ignored."""
+        if step.verdict == "done":
+            self.add(step)
+
+    def last(self) -> list[viqeshor.Sent]:
+        """What left with the last event."""
+        return self.after(len(self.events)).packets()
+
     def add(self, step: Step) -> None:
         """The router took one event more."""
         event = event_of(step)

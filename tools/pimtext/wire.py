@@ -53,7 +53,7 @@ class Wire:
     """All that was sent in a run: `came` has the steps that brought each packet, by its number."""
 
     def __init__(self, played: Scenario, steps: list[story.Step]) -> None:
-        self.played, self.steps, self.ways = played, steps, {}
+        self.present, self.steps, self.ways = played.begun(), steps, {}
         self.came, self.up = defaultdict(list), set()
         for step in steps:
             if step.brought is not None and step.cause != "27":
@@ -68,17 +68,18 @@ class Wire:
             self.up.add((step.router, step.iface))
         if step.did["do"] == "down":
             self.up.discard((step.router, step.iface))
-        if step.did["do"] == "reload" and step.verdict == "done":
-            count = len(step.did["config"]["iface"])
-            self.up = {port for port in self.up if port[0] != step.router or port[1] < count}
         for sent in step.sent:
             # What is sent after the last delivery is still on its way at the end.
             if sent.move <= self.last:
                 self.count(sent)
+        if step.did["do"] == "reload" and step.verdict == "done":
+            count = len(step.did["config"]["iface"])
+            self.up = {port for port in self.up if port[0] != step.router or port[1] < count}
+            self.present = self.present.reloaded(step.router, step.did["config"])
 
     def count(self, sent: story.Sent) -> None:
         kind, came = kind_of(sent), {(step.router, step.iface) for step in self.came[sent.number]}
-        for router, iface in story.receivers(self.played, sent):
+        for router, iface in story.receivers(self.present, sent):
             if iface is not None and (router, iface) not in self.up:
                 continue
             link = None if iface is None else sent.where

@@ -83,10 +83,9 @@ class Hosts:
     def hear(self, at: int, step: Step) -> None:
         data = step.taken()
         message = igmp_of(data)
-        interfaces = self.played.router(step.router).interfaces
-        if not message or step.iface >= len(interfaces):
+        if not message or step.link is None:
             return
-        host, link, older = packets.dotted(data[12:16]), interfaces[step.iface].link, older_wish(message)
+        host, link, older = packets.dotted(data[12:16]), step.link, older_wish(message)
         wishes = [older] if older else [(record.group, record) for record in records_of(data)]
         if not wishes:
             return

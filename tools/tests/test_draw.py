@@ -23,7 +23,7 @@ class Drawn(unittest.TestCase):
     def drawn(self, text):
         read = scenario.scenario_of(toml_lines.plain(toml_lines.read(text)))
         steps, tables = story.played(read, scenario.run_text(text))
-        end = draw.Moment(read, known_after(read, steps, tables), [], "the end", draw.hosts_of(read, steps))
+        end = draw.Moment(read, known_after(read, steps, tables), [], "the end", draw.hosts_of(steps))
         return "\n".join(draw.graph(draw.picture(end)))
 
     def test_the_trees_of_an_example(self):

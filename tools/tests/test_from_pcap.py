@@ -33,7 +33,7 @@ def taken(steps, router):
 def shown(read, steps, router):
     """What the capture shows that others sent to a router, as a list of the same kind."""
     found = []
-    for seen in pcap.seen(read, steps, True):
+    for seen in pcap.seen(steps, True):
         is_own = seen.comment.startswith("packet ") and f" of {router.name}, move " in seen.comment
         ports = [each.number for each in router.on(seen.link)] if seen.link else []
         is_unicast = seen.link is None and looks_whole(seen.data) and router.has(packets.dotted(seen.data[16:20]))
@@ -63,7 +63,7 @@ def unfit(read, steps, router):
 def begins_late(read, steps, router):
     """Whether others' packets on a link of the router are in the capture before its own."""
     spoken = set()
-    for seen in pcap.seen(read, steps, True):
+    for seen in pcap.seen(steps, True):
         if seen.comment.startswith("packet ") and f" of {router.name}, move " in seen.comment:
             spoken.add(seen.link)
         elif seen.link and router.on(seen.link) and seen.link not in spoken:
@@ -75,7 +75,7 @@ def written(read, steps):
     """The capture of a run, read again."""
     with tempfile.TemporaryDirectory() as room:
         path = Path(room) / "run.pcapng"
-        path.write_bytes(b"".join(pcap.capture(read, pcap.seen(read, steps, True))))
+        path.write_bytes(b"".join(pcap.capture(read, pcap.seen(steps, True))))
         return capture.read(path)
 
 

@@ -20,7 +20,7 @@ WRONG = "(pim || igmp) && (_ws.malformed || _ws.expert.severity >= warning)"
 
 def sent_of(path, lines):
     read = scenario.read(path)
-    return read, list(pcap.seen(read, story.played(read, lines)[0], False))
+    return read, list(pcap.seen(story.played(read, lines)[0], False))
 
 
 def blocks(content):
@@ -49,7 +49,7 @@ class Written(unittest.TestCase):
 
     def test_what_routers_and_hosts_sent(self):
         read, steps = self.network()
-        written = list(packets_in(b"".join(pcap.capture(read, pcap.seen(read, steps, True)))))
+        written = list(packets_in(b"".join(pcap.capture(read, pcap.seen(steps, True)))))
         hosts = [(list(read.links())[number], comment) for number, _,
             comment in written if comment.startswith("given to")]
         self.assertEqual([link for link, _ in hosts], ["home", "studio"])
@@ -63,12 +63,12 @@ class Written(unittest.TestCase):
             number in (("hub", 1), ("east", 0))]
         for said, count in ((both, 1), (both + both, 2), (both[:1] * 3, 3)):
             read, steps = self.network(*said)
-            self.assertEqual(sum(each.comment.startswith("given to") for each in pcap.seen(read, steps, True)), count)
+            self.assertEqual(sum(each.comment.startswith("given to") for each in pcap.seen(steps, True)), count)
 
     def test_bytes_that_are_no_packet(self):
         for text in ("", "ff", "45000021" * 500):
             read, steps = self.network({"do": "frame", "router": "east", "iface": 1, "hex": text})
-            (given,) = [each for each in pcap.seen(read, steps, True) if each.comment.startswith("given to")]
+            (given,) = [each for each in pcap.seen(steps, True) if each.comment.startswith("given to")]
             self.assertIn("malformed", given.comment)
             self.assertIn(bytes.fromhex(text),
                 [content for _, content, _ in packets_in(b"".join(pcap.capture(read, [given])))])

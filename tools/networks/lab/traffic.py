@@ -133,12 +133,12 @@ class Traffic:
         """How a router sent data on."""
         data = step.brought.data if step.brought else bytes.fromhex(step.did.get("hex", ""))
         if len(data) >= 20 and is_data(data) and all(sent.kind == "copy" for sent in step.sent):
-            self.habits[step.router, step.iface, data[12:20]] = [sent.where for sent in step.sent]
+            self.habits[step.router, step.iface, data[12:20]] = [(sent.where, sent.iface) for sent in step.sent]
 
     def guess(self, move: dict[str, Any], moment: int) -> None:
         """What a router will send where it takes data: what it sent the last time."""
         data = self.content.get(move["frame"]) if move["do"] == "deliver" else bytes.fromhex(move.get("hex", ""))
         if data and is_data(data):
-            for link in self.habits.get((move["router"], move["iface"], data[12:20]), []):
-                copy = story.Sent("copy", self.last + 1, link, packets.aged(data), move["router"], 0, moment)
+            for link, iface in self.habits.get((move["router"], move["iface"], data[12:20]), []):
+                copy = story.Sent("copy", self.last + 1, link, packets.aged(data), move["router"], 0, moment, iface)
                 self.leave(copy, moment)
