@@ -4,7 +4,7 @@ from __future__ import annotations
 from collections.abc import Iterable, Iterator
 from dataclasses import dataclass, field
 from itertools import chain
-from typing import TYPE_CHECKING, Any, TypeVar
+from typing import TYPE_CHECKING, Any, NamedTuple, TypeVar
 
 from pimtext import packets, printed
 
@@ -93,13 +93,11 @@ def sending_interface(scenario: Scenario, sent: Sent) -> int | None:
 def receivers(scenario: Scenario, sent: Sent) -> list[tuple[str, int | None]]:
     """Whom a settle brings a packet to: pairs of a router's name and an interface, None for a unicast."""
     if sent.is_unicast():
-        owners = (router.name for router in scenario.routers if router.has(sent.where))
-        return [(name, None) for name in owners][:1]
+        return [(scenario.owners[sent.where], None)] if sent.where in scenario.owners else []
     left = (sent.router, sending_interface(scenario, sent))
     if left[1] is None:
         return []
-    ports = [(router.name, interface.number) for router in scenario.routers for interface in router.on(sent.where)]
-    return [port for port in ports if port != left]
+    return [port for port in scenario.ports.get(sent.where, ()) if port != left]
 
 
 class Teller:
@@ -242,6 +240,12 @@ class Teller:
         return steps, {part.router: part for part in parts if isinstance(part, Tables)}
 
 
-def played(scenario: Scenario, lines: Iterable[str]) -> tuple[list[Step], dict[str, Tables]]:
-    """The same of a scenario."""
-    return Teller(scenario).told(lines)
+class Story(NamedTuple):
+    """The steps of a run, and the tables at its end where they were printed: else routers are asked for them."""
+    steps: list[Step]
+    tables: dict[str, Tables]
+
+
+def played(scenario: Scenario, lines: Iterable[str] | Story) -> Story:
+    """The same of a scenario, of which the lines may have been read already."""
+    return lines if isinstance(lines, Story) else Story(*Teller(scenario).told(lines))
