@@ -4,9 +4,11 @@ The rules are those of docs/SCENARIOS.md. 39 is anything that keeps the file fro
 the tests of a router's configuration, in this order, of one router after the other.
 """
 import re
+import sys
 from collections.abc import Callable, Iterable, Iterator
 from dataclasses import dataclass
 from difflib import get_close_matches
+from functools import cached_property
 from typing import Any
 
 from pimtext import toml_lines
@@ -130,9 +132,10 @@ def why_no_prefix(text: str) -> str:
 class Judge:
     """Reads a document as a scenario, and gathers its faults."""
 
-    def __init__(self) -> None:
+    def __init__(self, most_routers: int = MOST_ROUTERS) -> None:
         self.faults, self.routers, self.moves = [], [], []
-        self.names = {}
+        self.names, self.most_routers = {}, most_routers
+        self.root = None
 
     def fault(self, line: int, where: str, what: str, number: int = 39) -> None:
         self.faults.append(Fault(line, where, what, number))
@@ -198,9 +201,9 @@ class Judge:
         routers = self.tables(root.get("router"), "router")
         for at, table in enumerate(routers):
             self.routers.append(self.router(table, at))
-        if len(routers) > MOST_ROUTERS:
-            line = routers[MOST_ROUTERS].line
-            self.fault(line, "", f"there are {len(routers)} routers, and at most {MOST_ROUTERS} are allowed")
+        if len(routers) > self.most_routers:
+            line = routers[self.most_routers].line
+            self.fault(line, "", f"there are {len(routers)} routers, and at most {self.most_routers} are allowed")
         for at, table in enumerate(self.tables(root.get("move"), "move")):
             self.moves.append(table)
             self.move(table, f"move {at + 1}")
@@ -492,16 +495,16 @@ def configuration_faults(router: dict[str, Any]) -> Iterator[tuple[int, int, str
 # ---- the whole
 
 
-def faults_of(text: str) -> tuple[Judge, int]:
+def faults_of(text: str, most_routers: int = MOST_ROUTERS) -> tuple[Judge, int]:
     """The judge of a scenario's text, with its faults by line, and the number that `pimlab` gives: 0 where it is
     accepted."""
-    judge = Judge()
+    judge = Judge(most_routers)
     try:
-        root = toml_lines.read(text)
+        judge.root = toml_lines.read(text)
     except toml_lines.Unreadable as wrong:
         judge.fault(wrong.line, "", f"this is no TOML: {wrong.what}")
         return judge, 39
-    judge.document(root)
+    judge.document(judge.root)
     number = 39 if judge.faults else 0
     if not number:
         for router in judge.routers:
@@ -510,3 +513,22 @@ def faults_of(text: str) -> tuple[Judge, int]:
             judge.faults += found_here
     judge.faults.sort(key=lambda fault: fault.line)
     return judge, number
+
+
+class LateJudge:
+    """The judge of a text that is read only where something of it was refused."""
+
+    def __init__(self, text: str) -> None:
+        self.text = text
+
+    @cached_property
+    def judge(self) -> Judge:
+        return faults_of(self.text, sys.maxsize)[0]
+
+    @property
+    def moves(self) -> list[toml_lines.Value]:
+        return self.judge.moves
+
+    @property
+    def routers(self) -> list[dict[str, Any]]:
+        return self.judge.routers

@@ -27,14 +27,14 @@ if TYPE_CHECKING:
 
 @dataclass
 class Known:
-    """A router with what it knows after so many events: its rows, its routes and RP ranges after all moves, and by
-    interface the last other router that queried there from a lower address. All else is asked of its twin; answers are
-    kept until it takes another event."""
+    """A router with what it knows after so many events: its routes and RP ranges after all moves, and by interface the
+    last other router that queried there from a lower address. Its rows are those that were `told`, else, as all else,
+    they are asked of its twin; answers are kept until it takes another event."""
     router: Router
     twin: Twin
     routes: list[Route]
     rps: list[tuple[IPv4Network, str]]
-    rows: list[printed.Row] = field(default_factory=list)
+    told: list[printed.Row] | None = None
     queriers: dict[int, str] = field(default_factory=dict)
     taken: int = 0
     moment: int = 0
@@ -46,15 +46,23 @@ class Known:
             self.kept[key] = find()
         return self.kept[key]
 
-    # ---- what was printed
+    # ---- its rows
+
+    @property
+    def rows(self) -> list[printed.Row]:
+        """The rows of its tables."""
+        if self.told is None:
+            self.told = self.twin.rows(self.taken)
+        return self.told
 
     def of(self, table: type[R], /, **values: object) -> list[R]:
         """The rows of a table that have these values in these columns."""
-        return self.once((table, *values.items()), lambda: printed.rows_of(self.rows, table, **values))
+        rows = self.once(("tables",), lambda: printed.by_table(self.rows)).get(table, [])
+        return self.once((table, *values.items()), lambda: printed.rows_of(rows, table, **values)) if values else rows
 
     def print(self, tables: Tables) -> None:
         """The router knows what was printed."""
-        self.rows, self.moment, self.kept = tables.rows, tables.moment, {}
+        self.told, self.moment, self.kept = tables.rows, tables.moment, {}
 
     def link(self, number: int) -> str:
         """The name of an interface's link."""
@@ -117,7 +125,7 @@ def begun(played: Scenario) -> dict[str, Known]:
 
 
 def known_after(played: Scenario, steps: Iterable[Step], tables: dict[str, Tables]) -> dict[str, Known]:
-    """What each router knows after the steps of a run, by the tables at its end."""
+    """What each router knows after the steps of a run, by the tables at its end where they were printed."""
     found = begun(played)
     for step in steps:
         follow(found[step.router], step)
@@ -139,7 +147,8 @@ def follow(state: Known, step: Step) -> None:
     if step.did is None or step.verdict != "done":
         return
     state.twin.add(step)
-    state.taken, state.kept = len(state.twin.events), {}
+    state.moment = max(state.moment, step.moment)
+    state.taken, state.told, state.kept = len(state.twin.events), None, {}
     match step.did["do"]:
         case "routes":
             state.routes = routes_of(step.did["list"])

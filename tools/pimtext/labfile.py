@@ -37,7 +37,7 @@ def told(net: Network, name: str, is_by_time: bool = True) -> playpage.Told:
     """A network's run, with the names of its hosts, and what is odd in it."""
     from lab.lines import Lines
     hosts = {host.address: host.name for host in net.hosts.values()}
-    return playpage.Told(name, net.scenario(), hosts, Lines(net), frozenset(net.unheard), is_by_time)
+    return playpage.Told(name, net.scenario(), hosts, Lines(net), frozenset(net.unheard), is_by_time, net.played())
 
 
 def is_lab_file(path: str | Path) -> bool:

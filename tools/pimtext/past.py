@@ -4,19 +4,18 @@ from __future__ import annotations
 from bisect import bisect_right
 from typing import TYPE_CHECKING
 
-from pimtext import scenario, story
 from pimtext.known import begun, copied, follow
 
 if TYPE_CHECKING:
+    from pimtext import scenario, story
     from pimtext.known import Known
 
 
 class Past:
-    """A run of a scenario. It is played once, with the tables of each answer; `each` are these lines where they are
-    there already."""
+    """A run of a scenario. What a router knew is asked of its twin."""
 
-    def __init__(self, played: scenario.Scenario, steps: list[story.Step], each: list[str] | None = None) -> None:
-        self.played, self.steps, self.each = played, steps, each
+    def __init__(self, played: scenario.Scenario, steps: list[story.Step]) -> None:
+        self.played, self.steps = played, steps
         self.times, self.states = None, None
 
     def known(self, at: int) -> dict[str, Known]:
@@ -30,16 +29,7 @@ class Past:
         known = begun(self.played)
         self.times = {name: [0] for name in known}
         self.states = {name: [copied(state)] for name, state in known.items()}
-        waiting, at = None, 0
-        for part in story.Teller(self.played).tell(self.each or scenario.run_each(self.played.text())):
-            if isinstance(part, story.Step):
-                waiting, at = part, at + 1
-            elif waiting is not None:
-                self.keep(known[waiting.router], waiting, part, at)
-                waiting = None
-
-    def keep(self, state: Known, step: story.Step, tables: story.Tables, at: int) -> None:
-        follow(state, step)
-        state.print(tables)
-        self.times[step.router].append(at)
-        self.states[step.router].append(copied(state))
+        for at, step in enumerate(self.steps, 1):
+            follow(known[step.router], step)
+            self.times[step.router].append(at)
+            self.states[step.router].append(copied(known[step.router]))

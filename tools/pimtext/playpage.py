@@ -13,7 +13,7 @@ from dataclasses import dataclass, field
 from pathlib import Path
 from typing import TYPE_CHECKING, Any
 
-from pimtext import colours, diagnosis, faults, places, recorded, scenario, toml_lines
+from pimtext import colours, diagnosis, faults, places, recorded, scenario, story, toml_lines
 
 if TYPE_CHECKING:
     from lab.lines import Lines
@@ -28,14 +28,24 @@ WIDE = 1.7
 @dataclass
 class Told:
     """A run to be shown: its name, the text of its scenario, and of a network of tools/lab the names of hosts by
-    address, the lines of its file, and what hosts didn't hear. Where it is by time, a stop of the slider is all moves
-    of one time."""
+    address, the lines of its file, what hosts didn't hear, and what was played. Where it is by time, a stop of the
+    slider is all moves of one time."""
     name: str
     text: str
     hosts: dict = field(default_factory=dict)
     places: Lines | None = None
     unheard: frozenset = frozenset()
     is_by_time: bool = False
+    played: tuple[scenario.Scenario, story.Story] | None = None
+
+    def read(self) -> tuple[faults.Judge | faults.LateJudge, scenario.Scenario, story.Story]:
+        """What judged the text, the scenario, and its run. Raises scenario.Refused where it isn't played."""
+        if self.played:
+            return faults.LateJudge(self.text), *self.played
+        lines = scenario.run_text(self.text)
+        judge = faults.faults_of(self.text)[0]
+        played = scenario.scenario_of(toml_lines.plain(judge.root))
+        return judge, played, story.played(played, lines)
 
 
 def notes_of(found: diagnosis.Diagnosis, numbers: dict[int, int], named: Callable[[str], str]) -> Iterator[list[Any]]:
@@ -52,10 +62,9 @@ def notes_of(found: diagnosis.Diagnosis, numbers: dict[int, int], named: Callabl
 
 def run_of(told: Told) -> dict[str, Any]:
     """What the page has of a run. Raises scenario.Refused where the program doesn't play it."""
-    played = scenario.scenario_of(toml_lines.plain(toml_lines.read(told.text)))
-    lines = scenario.run_each(told.text)
-    found = diagnosis.Diagnosis(faults.faults_of(told.text)[0], played, lines, told.places, told.unheard)
-    recording = recorded.Recording(played, told.hosts, told.is_by_time).record(lines)
+    judge, played, run = told.read()
+    found = diagnosis.Diagnosis(judge, played, run, told.places, told.unheard)
+    recording = recorded.Recording(played, told.hosts, told.is_by_time).record(run.steps)
     shown = recording.told(found)
     return {"name": told.name, "notes": list(notes_of(found, shown.pop("numbers"), recording.named)), **shown}
 

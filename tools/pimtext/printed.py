@@ -143,6 +143,14 @@ def rows_of(rows: Iterable[Row], table: type[R], /, **values: object) -> list[R]
     return [row for row in found if all(getattr(row, column) == value for column, value in values.items())]
 
 
+def by_table(rows: Iterable[Row]) -> dict[type[Row], list[Row]]:
+    """The rows of each table."""
+    found = {}
+    for row in rows:
+        found.setdefault(type(row), []).append(row)
+    return found
+
+
 def parsed(line: str) -> Answer | Emission | Heading | Row:
     """What a line says: an Answer, an Emission, a Heading or a row. Raises ValueError for any other line."""
     first, _, rest = line.partition(" ")

@@ -1,9 +1,9 @@
 """A run as a page shows it: what each router knew after each answer, what was sent, and what came to each host.
 
-It is made of one run of `pimlab run --tables-each`. A router's *shape* is all that it knows but for when its timers
-end: shapes come again and again, so each is kept once, with its tables, rows and trees, and a step names the shape and
-the ends alone. In a shape's texts an end stands as a moment of its own beyond all real ones, MARK seconds and its
-place.
+It is made of the steps of one run; what the routers knew after each is asked of their twins. A router's *shape* is all
+that it knows but for when its timers end: shapes come again and again, so each is kept once, with its tables, rows and
+trees, and a step names the shape and the ends alone. In a shape's texts an end stands as a moment of its own beyond all
+real ones, MARK seconds and its place.
 """
 from __future__ import annotations
 
@@ -125,7 +125,7 @@ class Shapes:
         key = rows, self.context, queriers(state)
         if key not in self.numbers:
             self.numbers[key] = len(self.all)
-            self.all.append(self.made(replace(copied(state), rows=list(rows))))
+            self.all.append(self.made(replace(copied(state), told=list(rows))))
         return self.numbers[key], ends
 
     def made(self, state: Known) -> dict[str, Any]:
@@ -209,16 +209,11 @@ class Recording:
     def tree(self, group: str, source: str) -> int:
         return self.trees.setdefault((group, source), len(self.trees))
 
-    def record(self, lines: Iterable[str]) -> Recording:
-        """Follows the lines, move by move."""
-        waiting = None
-        for part in story.Teller(self.played).tell(lines):
-            if isinstance(part, story.Step):
-                waiting = part
-            elif waiting is not None:
-                self.begin(waiting.move)
-                self.follow(waiting, part)
-                waiting = None
+    def record(self, steps: Iterable[story.Step]) -> Recording:
+        """Follows the steps, move by move."""
+        for step in steps:
+            self.begin(step.move)
+            self.follow(step)
         self.begin(len(self.played.moves) + 1)
         return self
 
@@ -236,10 +231,9 @@ class Recording:
         """The move that was begun last is over."""
         self.moves[-1][1] = len(self.steps) - self.moves[-1][0]
 
-    def follow(self, step: story.Step, tables: story.Tables) -> None:
+    def follow(self, step: story.Step) -> None:
         state = self.known[step.router]
         follow(state, step)
-        state.print(tables)
         place = self.routers[step.router]
         was, old = self.now[place]
         is_kept = step.verdict != "done" or step.did["do"] in SILENT

@@ -75,11 +75,33 @@ class Scenario:
         table = {**config, "name": name}
         return Scenario([router_of(table) if router.name == name else router for router in self.routers], self.moves)
 
-    def router(self, name: str) -> Router:
+    @functools.cached_property
+    def places(self) -> dict[str, int]:
+        """The routers' places in the file, by their names."""
+        return {router.name: place for place, router in enumerate(self.routers)}
+
+    @functools.cached_property
+    def ports(self) -> dict[str, list[tuple[str, int]]]:
+        """The interfaces of each link: pairs of a router's name and a number."""
+        found = {}
         for router in self.routers:
-            if router.name == name:
-                return router
-        raise LookupError(f"the scenario has no router {name!r}")
+            for interface in router.interfaces:
+                found.setdefault(interface.link, []).append((router.name, interface.number))
+        return found
+
+    @functools.cached_property
+    def owners(self) -> dict[str, str]:
+        """The first router that has each address."""
+        found = {}
+        for router in self.routers:
+            for interface in router.interfaces:
+                found.setdefault(interface.address, router.name)
+        return found
+
+    def router(self, name: str) -> Router:
+        if name not in self.places:
+            raise LookupError(f"the scenario has no router {name!r}")
+        return self.routers[self.places[name]]
 
     def links(self) -> dict[str, IPv4Network]:
         """The links with their subnets, those that moves `reload` name too, in the order in which they are named."""

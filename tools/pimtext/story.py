@@ -4,7 +4,7 @@ from __future__ import annotations
 from collections.abc import Iterable, Iterator
 from dataclasses import dataclass, field
 from itertools import chain
-from typing import TYPE_CHECKING, Any, TypeVar
+from typing import TYPE_CHECKING, Any, NamedTuple, TypeVar
 
 from pimtext import packets, printed
 
@@ -111,13 +111,9 @@ def receivers(scenario: Scenario, sent: Sent) -> list[tuple[str, int | None]]:
     """Whom a settle brings a packet to where the routers have these interfaces: pairs of a router's name and an
     interface, None for a unicast. A packet is on the link on which its interface is by then."""
     if sent.is_unicast():
-        owners = (router.name for router in scenario.routers if router.has(sent.where))
-        return [(name, None) for name in owners][:1]
+        return [(scenario.owners[sent.where], None)] if sent.where in scenario.owners else []
     link = scenario.router(sent.router).link(sent.iface)
-    if link is None:
-        return []
-    ports = [(router.name, interface.number) for router in scenario.routers for interface in router.on(link)]
-    return [port for port in ports if port != (sent.router, sent.iface)]
+    return [port for port in scenario.ports.get(link, ()) if port != (sent.router, sent.iface)]
 
 
 class Teller:
@@ -279,6 +275,12 @@ class Teller:
         return steps, {part.router: part for part in parts if isinstance(part, Tables)}
 
 
-def played(scenario: Scenario, lines: Iterable[str]) -> tuple[list[Step], dict[str, Tables]]:
-    """The same of a scenario."""
-    return Teller(scenario).told(lines)
+class Story(NamedTuple):
+    """The steps of a run, and the tables at its end where they were printed: else routers are asked for them."""
+    steps: list[Step]
+    tables: dict[str, Tables]
+
+
+def played(scenario: Scenario, lines: Iterable[str] | Story) -> Story:
+    """The same of a scenario, of which the lines may have been read already."""
+    return lines if isinstance(lines, Story) else Story(*Teller(scenario).told(lines))

@@ -10,7 +10,7 @@ import tempfile
 from pathlib import Path
 from typing import TYPE_CHECKING, Any
 
-from pimtext import fed, library, program
+from pimtext import fed, library, printed, program
 from pimtext.builds import keep
 from pimtext.kept import cache
 
@@ -127,6 +127,18 @@ def reload(router: viqeshor.Router, event: fed.Event, before: dict[str, Any]) ->
     return viqeshor.Answer.DONE
 
 
+def rows_of(router: viqeshor.Router) -> list[printed.Row]:
+    """The rows of a router's tables as they are printed, those of older hosts too."""
+    rows = [printed_row(row) for letter in viqeshor.TABLES for row in router.rows(letter)]
+    return rows + [printed.OlderHosts(row.iface, row.group, f"v{row.mode}", row.one_end, row.two_end)
+                   for row in router.older_rows()]
+
+
+@functools.lru_cache(maxsize=65536)
+def printed_row(row: viqeshor.Row) -> printed.Row:
+    return printed.parsed(str(row))
+
+
 class Twin:
     """What a router of a scenario took, and a router of the library that takes it too, as much of it as is asked for;
     `table` is the configuration that this one has. States that are saved stand with theirs."""
@@ -183,6 +195,10 @@ class Twin:
         """Where the states on the way to an event are saved, and the event itself."""
         yield from range((self.taken // APART + 1) * APART, count, APART)
         yield count
+
+    def rows(self, count: int) -> list[printed.Row]:
+        """The rows of its tables after so many events."""
+        return rows_of(self.after(count))
 
     def copy(self, count: int) -> viqeshor.Router:
         """Another router after so many events, which may take others from then on."""

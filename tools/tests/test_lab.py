@@ -9,7 +9,7 @@ from unittest import mock
 
 from lab import GroupRecord, Network, hosts, topology
 from lab.hosts import ALLOW, BLOCK, IS_EX, IS_IN, TO_EX, TO_IN, Wish
-from pimtext import packets, scenario, story
+from pimtext import packets, scenario, story, twin
 from pimtext.printed import OlderHosts
 from tests import stored
 
@@ -169,12 +169,13 @@ class Links(unittest.TestCase):
 
 
 class Calls(unittest.TestCase):
-    def test_a_ring_of_20_is_played_by_a_few_calls_of_the_program(self):
+    def test_each_event_of_a_ring_of_20_is_taken_once(self):
         net, names = Network(), [f"r{number}" for number in range(20)]
         net.ring(*names)
         net.rp("r10")
         camera, viewers = net.host("camera", "r0"), [net.host(f"viewer{at}", names[at]) for at in (3, 7, 12, 17)]
-        with mock.patch.object(scenario, "run_text", wraps=scenario.run_text) as played:
+        played = mock.patch.object(scenario, "run_text", side_effect=AssertionError("the program is called"))
+        with mock.patch.object(twin, "take", wraps=twin.take) as taken, played:
             net.run(10)
             for viewer in viewers:
                 viewer.join(GROUP)
@@ -183,7 +184,16 @@ class Calls(unittest.TestCase):
             net.run(60)
         self.assertEqual([set(viewer.payloads()) for viewer in viewers],
             4 * [{str(number).encode() for number in range(1, 21)}])
-        self.assertLessEqual(played.call_count, 10)
+        self.assertEqual(taken.call_count, len(net.player.steps))
+
+    def test_time_passes_where_something_is_due(self):
+        net, _, _ = small()
+        before = len(net.player.moves)
+        for _ in range(1000):
+            net.run(0.001)
+        told = [move for move in net.player.moves[before:] if move["do"] == "advance"]
+        self.assertLess(len(told), 20)
+        self.assertEqual({table.moment for table in net.tables().values()}, {16_000})
 
 
 class Odd(unittest.TestCase):

@@ -1,4 +1,4 @@
-"""Networks of multicast routers in a few lines of Python, played by `./pimlab`.
+"""Networks of multicast routers in a few lines of Python, each a router of the library.
 
     from lab import Network
 

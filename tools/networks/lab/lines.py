@@ -36,18 +36,20 @@ class Lines:
     """Where the moves, routers and interfaces of a network come from, for the notes on its run."""
 
     def __init__(self, net: Network) -> None:
-        self.net = net
+        made = {name: router.made for name, router in net.routers.items()}
+        self.routers = made
+        self.moves = [net.spoken.get(did.get("hex")) or made.get(did.get("router"), net.made)
+                      for did in net.player.moves]
+        self.made = net.made
 
     def move(self, number: int) -> Line:
-        did = self.net.player.moves[number - 1] if number <= len(self.net.player.moves) else {}
-        spoken = self.net.spoken.get(did.get("hex"))
-        return spoken or self.router(did["router"]) if "router" in did else self.net.made
+        return self.moves[number - 1] if number <= len(self.moves) else self.made
 
     def router(self, name: str) -> Line:
-        return self.net.routers[name].made
+        return self.routers[name]
 
     def interface(self, name: str, number: int) -> Line:
-        return self.net.routers[name].made
+        return self.routers[name]
 
     @staticmethod
     def words(line: Line) -> str:

@@ -19,11 +19,10 @@ from lab.playing import Action, Player
 from lab.topology import Link, Port, Router, routes
 from lab.traffic import HOSTS, START, Chances, Traffic
 from lab.tree import tree_of
-from pimtext import packets, scenario, toml_lines, words
+from pimtext import packets, words
 from pimtext.addresses import address_in, is_host, prefix_in
 from pimtext.diagnosis import Diagnosis
-from pimtext.faults import ROUTER_KEYS, faults_of
-from pimtext.known import known_after
+from pimtext.faults import ROUTER_KEYS, LateJudge, faults_of
 from pimtext.printed import ANY
 from pimtext.scenario import scenario_of, text_of
 
@@ -32,7 +31,8 @@ if TYPE_CHECKING:
     from lab.tree import Tree
     from pimtext.known import Known
     from pimtext.packets import Packet
-    from pimtext.story import Sent, Step, Tables
+    from pimtext.scenario import Scenario
+    from pimtext.story import Sent, Step, Story, Tables
     from pimtext.streams import Stream
 
 # All networks of this run.
@@ -298,42 +298,27 @@ class Network:
         if self.player is None:
             self.start()
         end = self.now + ms_given(seconds, "number of seconds")
-        while self.traffic.coming(self.stepped, self.step, end):
-            self.run_on(end)
+        while batch := self.traffic.coming(self.stepped, self.step, end):
+            self.happen(batch)
         self.now = self.present = end
         return self
 
-    def run_on(self, end: int) -> None:
-        """Plays what is planned up to the end, and keeps it as far as it is what really comes."""
-        settle = self.draw() if self.settles else None
-        planned = self.player.plan(self.traffic.copy(), self.stepped, self.step, end, settle)
-        self.player.play(planned)
-        kept = 0
-        for batch in planned:
-            coming = self.traffic.coming(self.stepped, self.step, end)
-            if coming is None or not batch.is_as(coming):
-                break
-            self.keep(batch)
-            kept += 1
-        self.player.grow(kept == len(planned))
-
-    def keep(self, batch: Batch) -> None:
-        """A batch happened."""
+    def happen(self, batch: Batch) -> None:
+        """All that happens at a moment."""
         self.present = batch.moment
         self.stepped = batch.moment if batch.is_step else self.stepped
-        self.traffic.drop(batch)
-        for due in batch.dues:
-            due.action.done(batch.moment)
-        for step in batch.steps:
+        steps = self.player.play(batch, self.draw if self.settles else None)
+        for action in batch.actions:
+            action.done(batch.moment)
+        for step in steps:
             self.follow(step, batch.moment)
-        for sent in self.player.keep(batch):
+        for sent in (sent for step in steps for sent in step.sent):
             self.leave(sent)
 
     def follow(self, step: Step, moment: int) -> None:
         """What a router did: which way its packets came, and whether it took what came."""
         came = () if step.brought is None else self.paths[step.brought.number]
         self.paths.update((sent.number, (*came, step.router)) for sent in step.sent)
-        self.traffic.learn(step)
         if step.verdict != "done":
             self.odd.append((moment, step))
 
@@ -342,9 +327,7 @@ class Network:
         self.sent.append(sent)
         if not sent.is_unicast():
             self.tell_hosts(self.links[sent.where], sent, sent.packet())
-        if self.settles:
-            self.traffic.note(sent)
-        else:
+        if not self.settles:
             self.traffic.leave(sent, self.present)
 
     def tell_hosts(self, link: Link, sent: Sent, packet: Packet) -> None:
@@ -361,7 +344,11 @@ class Network:
 
     def tables(self) -> dict[str, Tables]:
         """What each router knows at the present, by names."""
-        return self.running().tables
+        return {name: self.table_of(name) for name in self.running().cores}
+
+    def table_of(self, name: str) -> Tables:
+        """The same of one."""
+        return self.running().tables(name, self.now)
 
     def running(self) -> Player:
         """What plays it, once it has run."""
@@ -375,8 +362,7 @@ class Network:
 
     def known(self) -> dict[str, Known]:
         """The same with what follows of the run: interfaces that are up, routes, RP ranges, Hellos."""
-        tables = self.tables()
-        return known_after(self.player.played, self.player.told, tables)
+        return self.running().known(self.now)
 
     def served(self, host: Host, group: str, source: Host | str) -> Served:
         """Whether a host is served of a source, a host or an address, at the present; as a text, hop by hop how, or why
@@ -401,11 +387,13 @@ class Network:
         """The run up to the present with what went wrong in it; it is made once for each present."""
         key = len(self.running().moves), self.now
         if self.diagnosed is None or self.diagnosed[0] != key:
-            text = self.scenario()
-            played = scenario_of(toml_lines.plain(toml_lines.read(text)))
-            lines = scenario.run_text(text)
-            self.diagnosed = key, Diagnosis(faults_of(text)[0], played, lines, Lines(self), frozenset(self.unheard))
+            judge = LateJudge(self.scenario())
+            self.diagnosed = key, Diagnosis(judge, *self.played(), Lines(self), frozenset(self.unheard))
         return self.diagnosed[1]
+
+    def played(self) -> tuple[Scenario, Story]:
+        """The scenario that was played up to the present, and its run."""
+        return self.running().told(self.now)
 
     def notes(self) -> list[str]:
         """What a reader would wonder about in the run, as `tools/why --run` has it, with the lines of the file that
@@ -428,11 +416,8 @@ class Network:
 
     def scenario(self) -> str:
         """The text of the scenario that was played, for `pimlab` and the other tools."""
-        player = self.running()
-        last = [
-            {"do": "advance", "router": name, "moment": self.now, "draw": draw} for name, draw in player.draws.items()
-        ]
-        return text_of(player.routers, player.moves + last)
+        played = self.played()[0]
+        return text_of((router.table for router in played.routers), played.moves)
 
     def save(self, path: str | Path) -> None:
         """Writes it to a file."""

@@ -1,28 +1,26 @@
-"""Time: what happens at a moment, and how it is played by `./pimlab`.
+"""Time: what happens at a moment, and how it is played.
 
-The program plays a scenario from its beginning, so the moves of all coming moments are planned and played at once.
-Where what they bring isn't what the plan was made for, as where a host answers a query, or a packet has to be
-delivered, the moves up to then are kept and the rest is planned anew. Of the kept moves those that did nothing are
-dropped: time that only passed. What is kept is neither written nor read again. The program plays it again at each call,
-since it judges a scenario whole before it plays any of it. But it is called once for a plan and not for each step of
-time: a ring of 20 routers for 75 s takes 8 calls, and 60 ms of the program in all. """
+Each router of a network is one of the library, which goes on from where it is: a move costs what its router does with
+it, however many moves and routers there are. The routers whose next timer is due stand in a queue, so time passes only
+where it does something. What is played is kept as the moves and steps of a scenario; `./pimlab` prints the same of it.
+"""
 from __future__ import annotations
 
-from collections.abc import Iterable, Iterator
-from dataclasses import dataclass, field, replace
+import heapq
+from collections.abc import Callable, Iterable
+from dataclasses import dataclass, replace
 from typing import TYPE_CHECKING, Any
 
-from pimtext import scenario, story
+from pimtext import fed, scenario, story, twin
+from pimtext.known import begun, follow
 
 if TYPE_CHECKING:
-    from lab.traffic import Traffic
-
-# How many moves are planned at once: more after a plan that could be kept whole.
-FEWEST, MOST = 100, 4000
+    from pimtext.known import Known
+    from viqeshor import Answer, Router as Core
 
 
 class Action:
-    """Something that happens at a moment: moves, which are asked for when they are planned."""
+    """Something that happens at a moment: moves, which are asked for when it does."""
 
     def __init__(self, moves: Iterable[dict[str, Any]] = ()) -> None:
         self.made = list(moves)
@@ -31,143 +29,138 @@ class Action:
         return self.made
 
     def done(self, moment: int) -> None:
-        """It happened, and will not be planned anew."""
+        """It happened."""
 
 
 @dataclass(frozen=True)
-class Due:
-    """What is scheduled: at one moment the lower order comes first, and no two have the same."""
-    moment: int
-    order: tuple
-    action: Action
-
-    def key(self) -> tuple[int, tuple[Any, ...]]:
-        return self.moment, self.order
-
-
-@dataclass
 class Batch:
-    """All that happens at one moment. `is_step` where time passes for all routers; `before` counts the moves played
-    before it."""
+    """All that happens at one moment. `is_step` where time passes for all routers."""
     moment: int
-    dues: list
+    actions: list[Action]
     is_step: bool
-    moves: list = field(default_factory=list)
-    steps: list = field(default_factory=list)
-    before: int = 0
-
-    def is_as(self, other: Batch) -> bool:
-        """Whether another one has the same moment, and the same happens in it."""
-        return (self.moment, self.is_step) == (other.moment, other.is_step) and \
-            [due.key() for due in self.dues] == [due.key() for due in other.dues]
-
-    def make(self, clocks: dict[str, int], draws: dict[str, int], settle: int | None) -> None:
-        """Its moves: each router comes to the moment before it does anything else."""
-        wanted = [move for due in self.dues for move in due.action.moves()]
-        concerned = clocks if self.is_step or settle is not None else {move["router"] for move in wanted}
-        for router in [name for name in clocks if name in concerned and clocks[name] < self.moment]:
-            self.moves.append({"do": "advance", "router": router, "moment": self.moment, "draw": draws[router]})
-            clocks[router] = self.moment
-        self.moves += wanted
-        if settle is not None:
-            self.moves.append({"do": "settle", "draw": settle})
-
-    def busy(self) -> Iterator[int]:
-        """The places of the moves that did anything: time that passed did where its router sent, or took something
-        after it."""
-        routers = {step.router for step in self.steps if step.sent or step.did["do"] != "advance"}
-        settled = any(step.is_settle() for step in self.steps)
-        for place, move in enumerate(self.moves):
-            if settled if move["do"] == "settle" else move["do"] != "advance" or move["router"] in routers:
-                yield place
 
 
-@dataclass
+def words_of(answer: Answer) -> tuple[str, str | None]:
+    """What a router answered, as it is printed: a verdict, and what follows it."""
+    if answer.is_ignored:
+        return "ignored", "".join(word.capitalize() for word in answer.name.split("_"))
+    return ("refused", str(answer.value)) if answer.is_refused else ("done", None)
+
+
 class Player:
-    """The routers' tables in the scenario file, the draw of each for time that passes, and the moves that are kept: as
-    the file has them in `texts`, with their steps, and with how many lines these print. `teller` stands behind them."""
-    routers: list
-    draws: dict
-    moves: list = field(default_factory=list)
-    texts: list = field(default_factory=list)
-    steps: list = field(default_factory=list)
-    lines: int = 0
-    clocks: dict = field(default_factory=dict)
-    tables: dict = field(default_factory=dict)
-    played: scenario.Scenario | None = None
-    told: list = field(default_factory=list)
-    teller: story.Teller | None = None
-    size: int = FEWEST
+    """The routers' tables in the scenario file, the draw of each for time that passes, and what was played: `moves`
+    with their `steps`. `states` are what follows of them for each router; `clocks` say how far a router has come."""
 
-    def __post_init__(self) -> None:
-        self.clocks = {table["name"]: 0 for table in self.routers}
-        self.played = scenario.scenario_of({"router": self.routers})
+    def __init__(self, routers: list[dict[str, Any]], draws: dict[str, int]) -> None:
+        self.routers, self.draws = routers, draws
+        self.moves, self.steps = [], []
+        self.played = replace(scenario.scenario_of({"router": routers}), moves=self.moves)
         self.teller = story.Teller(self.played)
+        self.states, self.followed = begun(self.played), 0
+        self.cores = {table["name"]: twin.new_router(table, twin.shared()) for table in routers}
+        self.clocks = dict.fromkeys(self.cores, 0)
+        self.waking, self.next = [], {}
+        self.printed = {}
 
-    def plan(self, traffic: Traffic, stepped: int, step: int, end: int, settle: int | None) -> list[Batch]:
-        """As many of the coming batches as are played at once, with their moves, by a traffic of guesses."""
-        clocks, planned, before = dict(self.clocks), [], len(self.moves)
-        while before < len(self.moves) + self.size and (batch := traffic.coming(stepped, step, end)):
-            traffic.drop(batch)
-            stepped = batch.moment if batch.is_step else stepped
-            batch.before = before
-            batch.make(clocks, self.draws, settle)
-            if settle is None:
-                for move in batch.moves:
-                    traffic.guess(move, batch.moment)
-            planned.append(batch)
-            before += len(batch.moves)
-        return planned
+    # ---- a moment
 
-    def play(self, planned: list[Batch]) -> None:
-        """Plays what is kept and then these, which get their steps."""
-        coming = [(batch, move) for batch in planned for move in batch.moves]
-        texts = self.texts + [scenario.line_of(move) for _, move in coming]
-        lines = scenario.run_text(scenario.text_of_rows(self.routers, texts))
-        self.played = replace(self.played, moves=self.moves + [move for _, move in coming])
-        steps, self.tables = self.teller.after(self.played).told(lines[self.lines:])
-        for step in steps:
-            coming[step.move - len(self.moves) - 1][0].steps.append(step)
-        self.told = self.steps + steps
+    def play(self, batch: Batch, draw: Callable[[], int] | None) -> list[story.Step]:
+        """Plays what happens at a moment, and then a settle where one is asked for by its draw."""
+        first = len(self.steps)
+        wanted = [move for action in batch.actions for move in action.moves()]
+        for name in self.due(batch.moment) if batch.is_step or draw else []:
+            self.come(name, batch.moment)
+        for move in wanted:
+            self.come(move["router"], batch.moment)
+            self.make(move)
+        if draw and self.teller.taken < len(self.teller.sent):
+            self.settle({"do": "settle", "draw": draw()}, batch.moment)
+        return self.steps[first:]
 
-    def keep(self, batch: Batch) -> list[story.Sent]:
-        """Keeps the moves of a batch that did anything. Answers its packets, which have the numbers of the kept
-        moves."""
-        numbers, late = {}, []
-        for place in batch.busy():
-            move = batch.moves[place]
-            late += self.caught_up(move, batch.moment)
-            self.add(move, batch.moment)
-            numbers[batch.before + place + 1] = len(self.moves)
-        done = [step for step in batch.steps if step.move in numbers]
-        kept = [replace(step, move=numbers[step.move], sent=numbered(step.sent, numbers)) for step in done]
-        steps = sorted([*late, *kept], key=lambda step: step.move)
-        self.steps += steps
-        self.lines += sum(1 + len(step.sent) for step in steps)
-        self.teller.follow(steps, len(self.moves))
-        return [sent for step in steps for sent in step.sent]
+    def due(self, moment: int) -> list[str]:
+        """The routers for which time that passes up to a moment does something, in their order."""
+        found = set()
+        while self.waking and self.waking[0][0] <= moment:
+            ends, name = heapq.heappop(self.waking)
+            if self.next.get(name) == ends:
+                found.add(name)
+        return sorted(found, key=self.played.places.get)
 
-    def add(self, move: dict[str, Any], moment: int) -> None:
+    def come(self, name: str, moment: int) -> None:
+        """Time passes for a router, unless it is there."""
+        if self.clocks[name] < moment:
+            self.make({"do": "advance", "router": name, "moment": moment, "draw": self.draws[name]})
+
+    def make(self, move: dict[str, Any]) -> None:
+        """A router takes a move of its own."""
         self.moves.append(move)
-        self.texts.append(scenario.line_of(move))
+        name = move["router"]
+        step = story.Step(len(self.moves), name, "done", None, self.clocks[name], move, iface=move.get("iface"))
         if move["do"] == "advance":
-            self.clocks[move["router"]] = moment
+            step.moment = self.clocks[name] = move["moment"]
+        elif "frame" in move:
+            step.brought = self.teller.sent[move["frame"] - 1]
+        self.take(step)
+        self.steps.append(step)
 
-    def caught_up(self, move: dict[str, Any], moment: int) -> list[story.Step]:
-        """Time that passed for a router in an earlier batch, and did nothing there, is kept where the router does
-        something now."""
-        name = move.get("router")
-        if name is None or move["do"] == "advance" or self.clocks[name] >= moment:
-            return []
-        late = {"do": "advance", "router": name, "moment": moment, "draw": self.draws[name]}
-        self.add(late, moment)
-        return [story.Step(len(self.moves), name, "done", None, moment, late)]
+    def settle(self, move: dict[str, Any], moment: int) -> None:
+        """All that was sent comes to its receivers, for which time passes before the move: so its number is known once
+        it was made."""
+        steps, first = [], len(self.teller.sent)
+        for sent, name, iface in self.teller.deliveries():
+            self.come(name, moment)
+            steps.append(story.Step(0, name, "done", None, moment, move, sent, iface))
+            self.take(steps[-1])
+        self.moves.append(move)
+        here = self.teller.sent
+        here[first:] = [replace(sent, move=len(self.moves)) for sent in here[first:]]
+        for step in steps:
+            step.move, step.brought = len(self.moves), here[step.brought.number - 1]
+            step.sent = [here[sent.number - 1] for sent in step.sent]
+        self.steps += steps
 
-    def grow(self, is_whole: bool) -> None:
-        """The next plan is larger after one that was kept whole."""
-        self.size = min(2 * self.size, MOST) if is_whole else FEWEST
+    def take(self, step: story.Step) -> None:
+        """A router takes what a step brings it."""
+        core, name = self.cores[step.router], step.router
+        answer = twin.take(core, fed.event(step), self.played.router(name).table)
+        step.verdict, step.cause = words_of(answer)
+        for kind, where, data in core.packets():
+            place = where if kind == "unicast" else self.played.router(name).interfaces[where].link
+            number = len(self.teller.sent) + 1
+            step.sent.append(story.Sent(kind, number, place, data, name, step.move, step.moment))
+            self.teller.sent.append(step.sent[-1])
+        self.wake(name, core)
 
+    def wake(self, name: str, core: Core) -> None:
+        """Keeps when time does something for a router that has changed."""
+        self.printed.pop(name, None)
+        ends = core.next_moment()
+        if ends is not None and ends != self.next.get(name):
+            heapq.heappush(self.waking, (ends, name))
+        self.next[name] = ends
 
-def numbered(packets: Iterable[story.Sent], numbers: dict[int, int]) -> list[story.Sent]:
-    """Packets with the numbers that their moves have by now."""
-    return [replace(sent, move=numbers[sent.move]) for sent in packets]
+    # ---- what came of it
+
+    def told(self, moment: int) -> tuple[scenario.Scenario, story.Story]:
+        """The scenario and its run, with the time that has passed since for all routers."""
+        moves, steps = list(self.moves), list(self.steps)
+        for name, draw in self.draws.items():
+            moves.append({"do": "advance", "router": name, "moment": moment, "draw": draw})
+            steps.append(story.Step(len(moves), name, "done", None, moment, moves[-1]))
+        tables = {name: self.tables(name, moment) for name in self.cores}
+        return replace(self.played, moves=moves), story.Story(steps, tables)
+
+    def tables(self, name: str, moment: int) -> story.Tables:
+        """What a router knows at a moment up to which time has passed."""
+        if name not in self.printed:
+            self.printed[name] = twin.rows_of(self.cores[name])
+        return story.Tables(name, moment, self.printed[name])
+
+    def known(self, moment: int) -> dict[str, Known]:
+        """The same of all, with what follows of the steps."""
+        for step in self.steps[self.followed:]:
+            follow(self.states[step.router], step)
+        self.followed = len(self.steps)
+        for name, state in self.states.items():
+            state.told, state.moment = self.tables(name, moment).rows, moment
+        return {name: replace(state, queriers=dict(state.queriers)) for name, state in self.states.items()}

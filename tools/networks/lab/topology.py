@@ -53,7 +53,7 @@ class Router:
     def rows(self, kind: type[R], **values: object) -> list[R]:
         """The rows of a table, as of the end of the last `run`, that have these values."""
         table_given(kind, values)
-        return self.net.tables()[self.name].of(kind, **values)
+        return self.net.table_of(self.name).of(kind, **values)
 
     def neighbours(self) -> set[str]:
         """The names of the routers that it has as PIM neighbours."""

@@ -650,7 +650,7 @@ class Router:
             self._must(self._call("read", number(ord(letter), 8, "a letter")))
             for index in range(self._call("rows")):
                 self._call("row", index, byref(told))
-                rows.append(row_of(told))
+                rows.append(row_of(bytes(told)))
         return rows
 
     def tables(self) -> Iterator[str]:

@@ -3,6 +3,7 @@ import ctypes
 from collections.abc import Callable
 from ctypes import Structure, c_bool, c_uint32, c_uint64
 from dataclasses import dataclass
+from functools import lru_cache
 from typing import Any, ClassVar, TypeAlias
 
 from viqeshor.trees import NEVER, dotted
@@ -270,6 +271,9 @@ KINDS: dict[str, tuple[str, Callable[[Any], Row]]] = {
 }
 
 
-def row_of(told: ToldRow) -> Row:
-    member, row = KINDS[chr(told.table)]
-    return row(getattr(told.of, member))
+@lru_cache(maxsize=65536)
+def row_of(told: bytes) -> Row:
+    """The row that the bytes of a `ToldRow` say. Most rows are read again and again."""
+    value = ToldRow.from_buffer_copy(told)
+    member, row = KINDS[chr(value.table)]
+    return row(getattr(value.of, member))

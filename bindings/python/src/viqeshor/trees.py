@@ -19,8 +19,11 @@ class Words(Structure):
     _fields_ = [("low", c_uint64), ("high", c_uint64)]
 
     def interfaces(self) -> frozenset[int]:
-        bits = self.high << 64 | self.low
-        return frozenset(number for number in range(128) if bits >> number & 1)
+        bits, found = self.high << 64 | self.low, []
+        while bits:
+            found.append((bits & -bits).bit_length() - 1)
+            bits &= bits - 1
+        return frozenset(found)
 
 
 class ToldNumber(Structure):
