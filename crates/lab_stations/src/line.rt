@@ -11,16 +11,28 @@ pub struct MoveLine<'a> {
     pub answer: Result<Verdict, Refusal>,
 }
 
+// One write at one exit: each `?` between writes, and each arm with a write of its own, is dear to prove.
 impl fmt::Display for MoveLine<'_> {
     fn fmt<W: fmt::Write>(&self, f: &mut fmt::Formatter<W>) -> fmt::Result {
         let number = self.number;
         let router = self.router;
-        match self.answer {
-            Ok(Verdict::Done) => write!(f, "move {number} {router} done"),
-            Ok(Verdict::Ignored(reason)) => write!(f, "move {number} {router} ignored {reason:?}"),
+        let answer = Answered(self.answer);
+        write!(f, "move {number} {router} {answer}")
+    }
+}
+
+// What a router answered.
+#[derive(Clone, Copy)]
+struct Answered(Result<Verdict, Refusal>);
+
+impl fmt::Display for Answered {
+    fn fmt<W: fmt::Write>(&self, f: &mut fmt::Formatter<W>) -> fmt::Result {
+        match self.0 {
+            Ok(Verdict::Done) => f.write_str("done"),
+            Ok(Verdict::Ignored(reason)) => write!(f, "ignored {reason:?}"),
             Err(refusal) => {
                 let refused = refusal.number();
-                write!(f, "move {number} {router} refused {refused}")
+                write!(f, "refused {refused}")
             }
         }
     }
@@ -37,6 +49,26 @@ pub enum Way<'a> {
     Address(Addr),
 }
 
+impl Way<'_> {
+    // The first word of the line.
+    fn word(self) -> &'static str {
+        match self {
+            Way::Link(_) => "frame",
+            Way::Copy(_) => "copy",
+            Way::Address(_) => "unicast",
+        }
+    }
+}
+
+impl fmt::Display for Way<'_> {
+    fn fmt<W: fmt::Write>(&self, f: &mut fmt::Formatter<W>) -> fmt::Result {
+        match self {
+            Way::Link(link) | Way::Copy(link) => f.write_str(link),
+            Way::Address(address) => write!(f, "{address}"),
+        }
+    }
+}
+
 /// A packet that left.
 #[derive(Clone, Copy)]
 pub struct PacketLine<'a> {
@@ -48,13 +80,21 @@ pub struct PacketLine<'a> {
 
 impl fmt::Display for PacketLine<'_> {
     fn fmt<W: fmt::Write>(&self, f: &mut fmt::Formatter<W>) -> fmt::Result {
+        let word = self.way.word();
         let number = self.number;
-        match self.way {
-            Way::Link(link) => write!(f, "frame {number} {link} ")?,
-            Way::Copy(link) => write!(f, "copy {number} {link} ")?,
-            Way::Address(address) => write!(f, "unicast {number} {address} ")?,
-        }
-        for byte in self.bytes {
+        let way = self.way;
+        let bytes = Hexadecimal(self.bytes);
+        write!(f, "{word} {number} {way} {bytes}")
+    }
+}
+
+// Bytes as two digits each.
+#[derive(Clone, Copy)]
+struct Hexadecimal<'a>(&'a [u8]);
+
+impl fmt::Display for Hexadecimal<'_> {
+    fn fmt<W: fmt::Write>(&self, f: &mut fmt::Formatter<W>) -> fmt::Result {
+        for byte in self.0 {
             write!(f, "{byte:02x}")?;
         }
         Ok(())
