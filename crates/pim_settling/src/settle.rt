@@ -4,7 +4,7 @@ ghost use Rattle.pim_fanout.specs.Named.{keys_of};
 ghost use Rattle.pim_ip.specs.declared.fault.Fault.{Fault};
 ghost use Rattle.pim_macros.specs.Sights.{IsSourceSight};
 ghost use Rattle.pim_views.specs.After.{AreGathered, openings_in};
-ghost use Rattle.pim_event.specs.Settling.{AreNamed, cleared_by, followed_by, settled_by};
+ghost use Rattle.pim_settling.specs.Settling.{AreNamed, cleared_by, followed_by, settled_by};
 ghost use Rattle.pim_state.specs.Turns.{saying};
 
 use pim_fanout::{Before, Gathered, named, named_by_sights};

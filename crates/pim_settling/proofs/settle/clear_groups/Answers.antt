@@ -2,8 +2,8 @@ use Rattle.std.{proofs.Common.{◌≡◌, [], List, ap, sym, ◌∙◌}}
 use Rattle.pim_model.{specs.{Messages.Message, State.State}}
 use Rattle.pim_views.{specs.{After.openings_in, declared.{after.GroupAfter.GroupAfter, opening.GroupOpening.GroupOpening}}}
 use Rattle.pim_state.{specs.Turns.saying, proofs.Said.said_nothing}
-use Rattle.pim_event.{specs.Settling.cleared_by}
-use Rattle.pim_event.proofs.settle.clear_groups.Goals as goal
+use Rattle.pim_settling.{specs.Settling.cleared_by}
+use Rattle.pim_settling.proofs.settle.clear_groups.Goals as goal
 
 nothing_goes : (opening : List GroupOpening) (xs ys : List GroupAfter) (s : State) → ys ≡ xs → openings_in xs ≡ opening
     → cleared_by (openings_in ys) s ≡ (s, []) → cleared_by opening s ≡ (s, [])

@@ -8,7 +8,7 @@ use Rattle.pim_register.{specs.Settling.{opened_source_keys, registers_by}}
 use Rattle.pim_asserts.{specs.Opened.clear_by}
 use Rattle.pim_upstream.{specs.Told.upstream_by}
 use Rattle.pim_fanout.{specs.{Before.IsBefore, Named.named_among, declared.before.SourceBefore.SourceBefore}}
-use Rattle.pim_event.{specs.Settling.{AreNamed, cleared_by, followed_by}}
+use Rattle.pim_settling.{specs.Settling.{AreNamed, cleared_by, followed_by}}
 
 registers_alone : (s : State) (x : GroupOpening) (o : SourceOpening) → x.sources ≡ o ∷ []
     → registers_by (x ∷ []) s ≡ settle_register s (source_key 0 x.group.bits o.source.bits)

@@ -1,8 +1,8 @@
 use Rattle.std.{proofs.Common.{ap, ◌∙◌}}
 use Rattle.pim_fanout.{specs.Named.keys_of}
 use Rattle.pim_views.{specs.After.openings_in}
-use Rattle.pim_event.{proofs.Following.{seen_messages, seen_named, seen_state}}
-use Rattle.pim_event.proofs.settle.follow_groups.Goals as goal
+use Rattle.pim_settling.{proofs.Following.{seen_messages, seen_named, seen_state}}
+use Rattle.pim_settling.proofs.settle.follow_groups.Goals as goal
 
 pub returns-clause-state : goal.returns-clause-state
 returns-clause-state c =

@@ -4,8 +4,8 @@ use Rattle.pim_macros.{specs.{Sights.IsSourceSight, declared.sight.StarSight.Sta
 use Rattle.pim_model.{specs.State.State}
 use Rattle.pim_register.{specs.Settling.registers_by}
 use Rattle.pim_fanout.{specs.Named.keys_of}
-use Rattle.pim_event.{proofs.{Following.{followed_messages, followed_state, named_there, registered_alone}, SightStays.told_sight}}
-use Rattle.pim_event.proofs.settle.follow_source.Goals as goal
+use Rattle.pim_settling.{proofs.{Following.{followed_messages, followed_state, named_there, registered_alone}, SightStays.told_sight}}
+use Rattle.pim_settling.proofs.settle.follow_source.Goals as goal
 
 pub returns-clause-state : goal.returns-clause-state
 returns-clause-state c =

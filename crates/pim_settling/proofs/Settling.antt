@@ -12,7 +12,7 @@ use Rattle.pim_register.{specs.Settling.registers_by, proofs.{Opened.{registers_
 use Rattle.pim_asserts.{proofs.{Laws.{all_go_by_opened, touched_go_by_opened}, Facts.clearing_is_within}, specs.Opened.clear_by}
 use Rattle.pim_upstream.{specs.Told.upstream_by, proofs.UpstreamLaws.{upstream_of_all, upstream_of_keys}}
 use Rattle.pim_fanout.{specs.Contains.Contains}
-use Rattle.pim_event.{specs.Settling.{cleared_by, followed_by, settled_by}}
+use Rattle.pim_settling.{specs.Settling.{cleared_by, followed_by, settled_by}}
 
 -- ---- facts that only become fewer
 

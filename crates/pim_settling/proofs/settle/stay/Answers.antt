@@ -1,8 +1,8 @@
 use Rattle.std.{proofs.Common.{ap, ◌∙◌}}
 use Rattle.pim_asserts.{specs.Opened.clear_by}
 use Rattle.pim_views.{specs.After.openings_in}
-use Rattle.pim_event.{specs.Settling.cleared_by}
-use Rattle.pim_event.proofs.settle.stay.Goals as goal
+use Rattle.pim_settling.{specs.Settling.cleared_by}
+use Rattle.pim_settling.proofs.settle.stay.Goals as goal
 
 pub returns : goal.returns
 unfolding cleared_by

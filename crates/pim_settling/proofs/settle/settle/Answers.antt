@@ -1,5 +1,5 @@
-use Rattle.pim_event.{proofs.SightStays.some_written}
-use Rattle.pim_event.proofs.settle.settle.Goals as goal
+use Rattle.pim_settling.{proofs.SightStays.some_written}
+use Rattle.pim_settling.proofs.settle.settle.Goals as goal
 
 pub returns-clause-last : goal.returns-clause-last
 returns-clause-last c =
