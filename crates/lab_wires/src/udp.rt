@@ -1,8 +1,8 @@
 //! A wire of UDP sockets on the loopback interface.
 ghost use Rattle.std.specs.Prelude.{◌≡◌, ◌≤◌, IfErr, IfOk, length};
 ghost use Rattle.pim_ip.specs.declared.fault.Fault.{Fault};
-ghost use Rattle.pim_net.specs.Wires.{IsWireOrMemory};
-ghost use Rattle.pim_net.specs.Wires as counts;
+ghost use Rattle.lab_wires.specs.Wires.{IsWireOrMemory};
+ghost use Rattle.lab_wires.specs.Wires as counts;
 
 use crate::wire::Wire;
 use pim_types::Fault;

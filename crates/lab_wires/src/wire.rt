@@ -1,6 +1,6 @@
 //! What carries packets between the ports of a network, whatever it is made of.
 ghost use Rattle.std.specs.Prelude.{◌≡◌, ◌≤◌, IfErr, IfOk, OnOk, length, take, true};
-ghost use Rattle.pim_net.specs.Wires.{IsFaultOver, failures_after};
+ghost use Rattle.lab_wires.specs.Wires.{IsFaultOver, failures_after};
 
 use pim_types::Fault;
 

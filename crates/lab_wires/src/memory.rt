@@ -14,7 +14,7 @@ pub struct MemoryWire {
 }
 
 impl Model for MemoryWire {
-    ghost use Rattle.pim_net.specs.Keeping.{KeptPacket};
+    ghost use Rattle.lab_wires.specs.Keeping.{KeptPacket};
 
     ghost Value = { KeptPacket };
 
@@ -35,7 +35,7 @@ impl MemoryWire {
 
 impl Wire for MemoryWire {
     ghost use Rattle.std.specs.Prelude.{true, ◌≡◌};
-    ghost use Rattle.pim_net.specs.Keeping.{left_by, taken_by};
+    ghost use Rattle.lab_wires.specs.Keeping.{left_by, taken_by};
 
     ghost is_faithful = { true };
 
