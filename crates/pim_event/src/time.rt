@@ -32,7 +32,7 @@ use pim_fanout::{Cache, Gathered};
 use pim_hello::{end_keeps_dr, keys_of_end};
 use pim_macros::SourceSight;
 use pim_messages::Outbox;
-use pim_plan::few_or_all;
+use pim_rerouted::few_or_all;
 use pim_settling::settle;
 use pim_state::{Meter, Touched, Turn, World};
 use pim_types::{

@@ -1,6 +1,6 @@
 //! Keys that are named one by one, where they are few.
 ghost use Rattle.std.specs.Prelude.{◌≡◌, length, nat_lt};
-ghost use Rattle.pim_plan.specs.Few.{few_or_all};
+ghost use Rattle.pim_rerouted.specs.Few.{few_or_all};
 
 use pim_state::Touched;
 use pim_types::{Key, Series};
@@ -9,7 +9,7 @@ use pim_types::{Key, Series};
 const MOST_OPENED: usize = 256;
 
 /// Whether there are more than 256 keys.
-pub(crate) fn are_many(keys: &[Key]) -> bool
+pub fn are_many(keys: &[Key]) -> bool
     ensures { result ≡ nat_lt 256 (length keys.now) }
 {
     keys.len() > MOST_OPENED

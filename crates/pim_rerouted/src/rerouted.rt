@@ -10,7 +10,7 @@ ghost use Rattle.law_named.specs.Moved.{keys_by_routes, keys_by_rps, moved_of_gr
 ghost use Rattle.law_named.specs.Named.{has_same_rp};
 ghost use Rattle.pim_state.specs.Groups.{numbers_of};
 ghost use Rattle.pim_state.specs.declared.touched.Touched.{Touched as TouchedValue};
-ghost use Rattle.pim_plan.specs.OtherRoutes.{has_other_route, group_has_other_rp, with_routes};
+ghost use Rattle.pim_rerouted.specs.OtherRoutes.{has_other_route, group_has_other_rp, with_routes};
 
 use pim_fanout::{is_same_address, is_same_path};
 use pim_mrib::Mrib;
@@ -135,7 +135,7 @@ fn keys_with_other_rp(
 /// What the routes of the next table touch: the groups with any fact whose RP has another route, and of the other
 /// groups the sources with any fact that have another route. The meter rises by the nodes that the look-ups visit, at
 /// least those of the RP of each group and of the routes that are compared.
-pub(crate) fn touched_by_routes(
+pub fn touched_by_routes(
     world: &World,
     alloc: Global,
     meter: &mut Meter,
@@ -150,7 +150,7 @@ pub(crate) fn touched_by_routes(
 
 /// What the RP ranges of the next table touch: the groups with any fact that have another RP. The meter rises by the
 /// nodes of the RPs of each group.
-pub(crate) fn touched_by_rps(
+pub fn touched_by_rps(
     world: &World,
     alloc: Global,
     meter: &mut Meter,

@@ -1,8 +1,8 @@
 use Rattle.std.{proofs.Common.{◌≡◌, ◌++◌, filter, map}}
 use Rattle.pim_types.{specs.Keys.source_key}
 use Rattle.pim_state.{specs.Groups.numbers_of}
-use Rattle.pim_plan.{specs.OtherRoutes.{has_other_route, with_routes}}
-use Rattle.pim_plan.proofs.rerouted.put_sources.Given as goal
+use Rattle.pim_rerouted.{specs.OtherRoutes.{has_other_route, with_routes}}
+use Rattle.pim_rerouted.proofs.rerouted.put_sources.Given as goal
 
 abbrev pub invariant-loop-source : goal.invariant-loop-source
 invariant-loop-source l =

@@ -1,7 +1,7 @@
 use Rattle.std.{proofs.Common.{List, OnOk, ap, subst, ◌≡◌, ◌++◌, ◌∷◌, [], ◌∙◌}}
 use Rattle.pim_types.{specs.declared.fact.Key.Key}
-use Rattle.pim_plan.{proofs.OtherRoutes.{all_moved, some_moved}}
-use Rattle.pim_plan.proofs.rerouted.put_group.Goals as goal
+use Rattle.pim_rerouted.{proofs.OtherRoutes.{all_moved, some_moved}}
+use Rattle.pim_rerouted.proofs.rerouted.put_group.Goals as goal
 
 pub returns-then-is_group_moved : goal.returns-then-is_group_moved
 returns-then-is_group_moved c =

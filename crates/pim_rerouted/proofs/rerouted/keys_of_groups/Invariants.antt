@@ -1,8 +1,8 @@
 use Rattle.std.{proofs.Common.{◌≡◌, ◌++◌}, specs.List.flat_map}
 use Rattle.law_named.{specs.Moved.moved_of_group}
 use Rattle.pim_state.{specs.Groups.numbers_of}
-use Rattle.pim_plan.{specs.OtherRoutes.with_routes}
-use Rattle.pim_plan.proofs.rerouted.keys_of_groups.Given as goal
+use Rattle.pim_rerouted.{specs.OtherRoutes.with_routes}
+use Rattle.pim_rerouted.proofs.rerouted.keys_of_groups.Given as goal
 
 abbrev pub invariant-loop-group : goal.invariant-loop-group
 invariant-loop-group l =

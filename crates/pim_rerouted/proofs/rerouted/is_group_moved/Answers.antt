@@ -1,7 +1,7 @@
 use Rattle.std.{proofs.Common.{ap, option_map, sym, ◌∙◌}}
 use Rattle.pim_ip.{specs.declared.addr.Addr.Addr}
-use Rattle.pim_plan.{proofs.OtherRoutes.{moved_with_rp, unmoved_without_rp}}
-use Rattle.pim_plan.proofs.rerouted.is_group_moved.Goals as goal
+use Rattle.pim_rerouted.{proofs.OtherRoutes.{moved_with_rp, unmoved_without_rp}}
+use Rattle.pim_rerouted.proofs.rerouted.is_group_moved.Goals as goal
 
 pub returns-in-Some : goal.returns-in-Some
 returns-in-Some c =

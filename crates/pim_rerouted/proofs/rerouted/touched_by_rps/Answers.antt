@@ -3,8 +3,8 @@ use Rattle.pim_types.{specs.Keys.star_key}
 use Rattle.pim_state.{specs.declared.touched.Touched.Touched}
 use Rattle.pim_model.{specs.Step.rps_replaced}
 use Rattle.law_named.{specs.Moved.keys_by_rps}
-use Rattle.pim_plan.{specs.OtherRoutes.group_has_other_rp}
-use Rattle.pim_plan.proofs.rerouted.touched_by_rps.Goals as goal
+use Rattle.pim_rerouted.{specs.OtherRoutes.group_has_other_rp}
+use Rattle.pim_rerouted.proofs.rerouted.touched_by_rps.Goals as goal
 
 pub returns : goal.returns
 unfolding keys_by_rps
