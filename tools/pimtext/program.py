@@ -13,13 +13,15 @@ if TYPE_CHECKING:
     from pimtext.builds import Progress
 
 PROVED = TOP / "crates" / "pimlab" / "out" / "pimlab"
+# The same, compiled by Rattle's own compiler in the place of LLVM.
+BY_RATTLE = PROVED.with_name("pimlab.by-rattle")
 # What PIMLAB_BUILD may say.
-BUILDS = ["proved", "unproved", "sanitized"]
+BUILDS = ["proved", "by-rattle", "unproved", "sanitized"]
 
 
-def is_proved() -> bool:
-    """The proved binary is there, and newer than every source."""
-    return os.access(PROVED, os.X_OK) and is_newer(PROVED)
+def is_proved(build: Path = PROVED) -> bool:
+    """A proved binary is there, and newer than every source."""
+    return os.access(build, os.X_OK) and is_newer(build)
 
 
 def is_newer(build: Path) -> bool:
@@ -82,7 +84,10 @@ def wanted() -> str:
 
 def chosen() -> str | None:
     """Where the program is that is to be run, built where it isn't there; None where none can be kept."""
-    return str(PROVED) if wanted() == "proved" and is_proved() else unproved_program(wanted() == "sanitized")
+    build = wanted()
+    if build == "by-rattle":
+        return str(BY_RATTLE) if is_proved(BY_RATTLE) else sys.exit(f"pimlab: there is no {BY_RATTLE}: ./test makes it")
+    return str(PROVED) if build == "proved" and is_proved() else unproved_program(build == "sanitized")
 
 
 def kept() -> str:

@@ -107,15 +107,17 @@ class Called(unittest.TestCase):
             shutil.copy(PIMLAB.parent / "crates.txt", room)
             shutil.copytree(PIMLAB.parent / "tools" / "pimtext", f"{room}/tools/pimtext")
             os.mkdir(f"{room}/crates")
-            how = {"env": {"PATH": "/nowhere", "XDG_CACHE_HOME": room}, "capture_output": True}
-            ran = subprocess.run([sys.executable, Path(room) / "pimlab", "check", ONE_JOIN], **how)
-        self.assertEqual((ran.returncode, ran.stdout, ran.stderr.count(b"\n")), (1, b"", 1))
-        self.assertIn(b"there is no command `rt`", ran.stderr)
+            for build, reason in (("proved", b"there is no command `rt`"), ("by-rattle", b"./test makes it")):
+                env = {"PATH": "/nowhere", "XDG_CACHE_HOME": room, "PIMLAB_BUILD": build}
+                words = [sys.executable, Path(room) / "pimlab", "check", ONE_JOIN]
+                ran = subprocess.run(words, env=env, capture_output=True)
+                self.assertEqual((ran.returncode, ran.stdout, ran.stderr.count(b"\n")), (1, b"", 1))
+                self.assertIn(reason, ran.stderr)
 
     def test_a_build_that_there_is_not(self):
         status, out, err = called("check", ONE_JOIN, env={**os.environ, "PIMLAB_BUILD": "fast"})
         self.assertEqual((status, out, err.count(b"\n")), (1, b"", 1))
-        self.assertIn(b"should be one of proved, unproved, sanitized", err)
+        self.assertIn(b"should be one of proved, by-rattle, unproved, sanitized", err)
 
 
 if __name__ == "__main__":

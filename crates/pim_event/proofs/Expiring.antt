@@ -7,7 +7,8 @@ use Rattle.law_scope.{proofs.{OwnKeys.present_touches_none, SilentEvents.timer_t
 use Rattle.law_named.{specs.Adjacent.keys_of_end, proofs.Hellos.end_adjoins}
 use Rattle.pim_fanout.{specs.Contains.Contains}
 use Rattle.pim_views.{specs.{Covers.Concerns, Openings.has_facts}}
-use Rattle.pim_plan.{specs.Few.few_or_all, proofs.{Sourced.keyed_sourced, Touching.{few_contain, within_so}}}
+use Rattle.pim_rerouted.{specs.Few.few_or_all}
+use Rattle.pim_plan.{proofs.{Sourced.keyed_sourced, Touching.{few_contain, within_so}}}
 use Rattle.pim_event.{specs.Ends.{has_other_sources, keeps_group, touched_by_end, touched_by_source}, proofs.SourceEnds.source_end_touches}
 use Rattle.pim_store.{specs.PimTables.{AreKeyed, pim_tables}}
 

@@ -8,7 +8,8 @@ use Rattle.pim_state.{specs.{Turns.{Taking, saying}, declared.touched.Touched.To
 use Rattle.pim_views.{specs.{Openings.opening_of, declared.opening.GroupOpening.GroupOpening}}
 use Rattle.pim_store.{specs.PimTables.{AreKeyed, pim_tables}}
 use Rattle.pim_fanout.{specs.Contains.Contains}
-use Rattle.pim_event.{proofs.{Settling.settled_as_opened, Expiring.end_covered}, specs.{Ends.{ending_of, touched_by_end}, Settling.settled_by}}
+use Rattle.pim_settling.{proofs.Settling.settled_as_opened, specs.Settling.settled_by}
+use Rattle.pim_event.{proofs.Expiring.end_covered, specs.Ends.{ending_of, touched_by_end}}
 use Rattle.pim_tables.{specs.Ends.due_of}
 
 -- ---- what a result says where it is Ok

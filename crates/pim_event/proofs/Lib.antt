@@ -1,6 +1,5 @@
 mod Acts
 mod Caching
-mod Following
 mod Configured
 pub mod Costs
 pub mod Disturbing
@@ -17,8 +16,6 @@ mod Rows
 mod Sending
 pub mod Staying
 mod Serving
-pub mod Settling
-mod SightStays
 mod SourceEnds
 pub mod Taking
 mod Expiring

@@ -10,7 +10,8 @@ use Rattle.law_named.{specs.Named.{event_named, named_by, named_of}}
 use Rattle.law_cache.{specs.{Decided.decided_by_answers, Kept.is_listed}, proofs.PlainNames.plain_names_none}
 use Rattle.pim_state.{specs.declared.touched.Touched.Touched}
 use Rattle.pim_fanout.{specs.Named.keys_of, proofs.{Listed.names_are_named, Opened.names_rise}}
-use Rattle.pim_event.{specs.{Listing.{IsLastListed, ListsMore, ListsSame}, Settling.AreNames}, proofs.{Firings.{all_told, instant_told}, Rows.named_timeless}}
+use Rattle.pim_settling.{specs.Settling.AreNames}
+use Rattle.pim_event.{specs.Listing.{IsLastListed, ListsMore, ListsSame}, proofs.{Firings.{all_told, instant_told}, Rows.named_timeless}}
 
 -- ---- lists
 

@@ -11,7 +11,8 @@ use Rattle.pim_asserts.{specs.Opened.clear_by}
 use Rattle.pim_upstream.{specs.Told.upstream_by}
 use Rattle.pim_data.{specs.declared.leaving.Leaving.Leaving}
 use Rattle.pim_fanout.{specs.{Before.opened_sources, Contains.Contains, Laws.names_of, Named.named_among}}
-use Rattle.pim_event.{specs.{Sending.Sends, Settling.{AreNames, cleared_by, followed_by, settled_by}}, proofs.Taking.{answered, taken_in_turn}}
+use Rattle.pim_settling.{specs.Settling.{AreNames, cleared_by, followed_by, settled_by}}
+use Rattle.pim_event.{specs.Sending.Sends, proofs.Taking.{answered, taken_in_turn}}
 
 none_opened : (s : State) → [] ≡ opening_of s (Touched.Keys [])
 unfolding opening_of groups_of ascending

@@ -12,7 +12,8 @@ use Rattle.pim_views.{specs.{Openings.opening_of, declared.opening.GroupOpening.
 use Rattle.pim_store.{specs.PimTables.{AreKeyed, pim_tables}}
 use Rattle.pim_state.{specs.declared.touched.Touched.Touched}
 use Rattle.pim_fanout.{specs.{Before.IsBefore, Contains.Contains, Laws.names_of, Refreshing.{Refreshes, touches_in}, Named.{keys_of, named_among}, declared.before.SourceBefore.SourceBefore}, proofs.{Counts.costs_few, Few.names_are_few, Shown.{event_shows_rows, firing_shows_rows, present_shows_rows}}}
-use Rattle.pim_event.{specs.Settling.{AreNamed, AreNames, cleared_by}, proofs.{Settling.cleared_as_opened, Taking.taken_is_done}}
+use Rattle.pim_settling.{specs.Settling.{AreNamed, AreNames, cleared_by}, proofs.Settling.cleared_as_opened}
+use Rattle.pim_event.{proofs.Taking.taken_is_done}
 
 -- ---- the names
 

@@ -10,7 +10,8 @@ use Rattle.pim_store.{specs.PimTables.{AreKeyed, pim_tables}}
 use Rattle.law_scope.{specs.{Locality.IsQuiet as IsQuietState, Rest.IsAtRest}, proofs.Rest.step_is_at_rest}
 use Rattle.pim_data.{specs.declared.leaving.Leaving.Leaving}
 use Rattle.pim_fanout.{specs.Contains.Contains}
-use Rattle.pim_event.{specs.{Sending.Sends, Settling.settled_by, Stops.stop_outcome}, proofs.Settling.settled_as_opened}
+use Rattle.pim_settling.{specs.Settling.settled_by, proofs.Settling.settled_as_opened}
+use Rattle.pim_event.{specs.{Sending.Sends, Stops.stop_outcome}}
 
 module _ (s : State) (w : ℕ) where
   -- where no time passes

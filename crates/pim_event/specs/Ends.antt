@@ -5,7 +5,7 @@ use Rattle.pim_model.{specs.{Querier.group_end, Records.is_at_group, State.State
 use Rattle.law_scope.{specs.Touches.touched_by}
 use Rattle.law_named.{specs.Adjacent.{end_keeps_dr, keys_of_end}}
 use Rattle.pim_state.{specs.declared.touched.Touched.Touched}
-use Rattle.pim_plan.{specs.Few.few_or_all}
+use Rattle.pim_rerouted.{specs.Few.few_or_all}
 
 abbrev pub ending_of : ℕ × Timer → Ending
 ending_of due = record { end = due.0; timer = due.1 }

@@ -7,6 +7,5 @@ pub mod Costs
 pub mod Ends
 pub mod Plainly
 pub mod Sending
-pub mod Settling
 pub mod Stops
 pub mod Stepping

@@ -7,7 +7,7 @@ use Rattle.law_named.{specs.Named.has_same_routes}
 use Rattle.pim_state.{specs.declared.touched.Touched.Touched}
 use Rattle.pim_fanout.{specs.Disturbed.is_disturbed}
 use Rattle.pim_event.{specs.declared.replaced.Kept.Kept}
-use Rattle.pim_plan.{specs.OtherRoutes.with_routes}
+use Rattle.pim_rerouted.{specs.OtherRoutes.with_routes}
 
 -- The routes or the RP ranges that an event replaced, or neither.
 pub data Replaced : Type 0 where

@@ -8,7 +8,6 @@ pub mod parts;
 mod plain;
 mod quiet;
 mod replaced;
-pub mod settle;
 pub mod time;
 
 pub use event::take_in;

@@ -2,12 +2,12 @@
 //! sources the routes are others.
 ghost use Rattle.std.specs.Prelude.{◌≡◌, if◌then◌else◌, not};
 ghost use Rattle.pim_event.specs.Replacing.{NoneReplaced, RangesReplaced, RoutesReplaced, may_differ, with_ranges};
-ghost use Rattle.pim_plan.specs.OtherRoutes.{with_routes};
+ghost use Rattle.pim_rerouted.specs.OtherRoutes.{with_routes};
 ghost use Rattle.law_named.specs.Named.{has_same_routes};
 
 use pim_fanout::Disturbed;
 use pim_mrib::Mrib;
-use pim_plan::{group_has_other_rp, has_other_route, is_group_moved};
+use pim_rerouted::{group_has_other_rp, has_other_route, is_group_moved};
 use pim_state::{Meter, World};
 use pim_types::SourceGroup;
 use std::marker::Model;

@@ -12,7 +12,7 @@ ghost use Rattle.pim_model.specs.Cache.{cached};
 ghost use Rattle.pim_model.specs.Reach.{own_firing, told_all, told_instant};
 ghost use Rattle.law_named.specs.Named.{named_by};
 ghost use Rattle.pim_event.specs.Stepping.{TurnsInTime};
-ghost use Rattle.pim_event.specs.Settling.{AreNames};
+ghost use Rattle.pim_settling.specs.Settling.{AreNames};
 ghost use Rattle.law_scope.specs.Locality.{IsQuiet};
 ghost use Rattle.law_scope.specs.Rest.{IsAtRest};
 ghost use Rattle.pim_trie.specs.Meter.{raised};
@@ -28,12 +28,12 @@ ghost use Rattle.pim_event.specs.Ends.{disturbed_by_end, end_moves_dr, ending_of
 ghost use Rattle.pim_tables.specs.Ends.{due_of};
 
 use crate::parts::Core;
-use crate::settle::settle;
 use pim_fanout::{Cache, Gathered};
 use pim_hello::{end_keeps_dr, keys_of_end};
 use pim_macros::SourceSight;
 use pim_messages::Outbox;
-use pim_plan::few_or_all;
+use pim_rerouted::few_or_all;
+use pim_settling::settle;
 use pim_state::{Meter, Touched, Turn, World};
 use pim_types::{
     Emission, Fault, IfaceId, Key, Outcome, Series, SourceGroup, Timer, TimerKind, Verdict,

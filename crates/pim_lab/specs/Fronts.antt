@@ -1,10 +1,10 @@
 -- Routers behind their fronts for older hosts.
-use Rattle.std.{specs.Prelude.{◌≡◌, ℕ, List, Option, Some, option_map, Result, Ok, map}}
+use Rattle.std.{specs.Prelude.{◌≡◌, ℕ, List, Option, Some, option_map, Result, Ok}}
 use Rattle.pim_ip.{specs.declared.refusal.Refusal.Refusal}
-use Rattle.pim_types.{specs.declared.{config.Config.Config, event.EventKind.EventKind, fact.GroupRecordRow.GroupRecordRow, outcome.Verdict.Verdict}}
+use Rattle.pim_types.{specs.declared.{event.EventKind.EventKind, fact.GroupRecordRow.GroupRecordRow, outcome.Verdict.Verdict}}
 use Rattle.pim_model.{specs.{State.State, Tables.Table}}
 use Rattle.pim_net.{specs.Showing.Standing}
-use Rattle.igmp_older.{specs.{Joined.{Both, known_if, noted_answered, older_in}, Laws.none_known, Presence.{Present, left, looked}, declared.setting.OlderHosts.OlderHosts}}
+use Rattle.igmp_older.{specs.{Joined.{Both, known_if, noted_answered, older_in}, Presence.{Present, left, looked}}}
 use Rattle.pim_lab.{specs.declared.front.Mark.Mark}
 
 -- the router hasn't failed, and this is its state
@@ -14,10 +14,6 @@ Stands standing s = option_map (λ (r : Standing). r.state) standing ≡ Some s
 -- a router's state behind what is known of older hosts
 abbrev pub behind : Present → State → Both
 behind p s = record { present = p; state = s }
-
--- nobody is known yet behind the configuration, and such hosts are heard on each interface
-abbrev pub nobody_behind : Config → OlderHosts → Present
-nobody_behind c hosts = none_known c.limit (map (λ _. hosts) c.interfaces)
 
 abbrev pub marked_done : Present → Table GroupRecordRow → Mark → Present
 marked_done p groups (Mark.Note i given end) = p

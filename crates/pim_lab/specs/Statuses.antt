@@ -2,14 +2,9 @@
 use Rattle.std.{specs.Prelude.{Err, List, Ok, Result, map, ℕ, ⊤, ◌≡◌, ◌⊎◌}}
 use Rattle.pim_ip.{specs.declared.{fault.Fault.Fault, refusal.Refusal.Refusal}}
 use Rattle.pim_model.{specs.Network.nodes_test}
-use Rattle.pim_scenario.{specs.{Scenario.IsReadFrom, declared.{scenario.{Link.Link, RouterText.RouterText, Scenario.Scenario}, complaint.Complaint.Complaint}}}
+use Rattle.pim_scenario.{specs.{Scenario.IsReadFrom, declared.scenario.{Link.Link, RouterText.RouterText, Scenario.Scenario}}}
 use Rattle.pim_types.{specs.declared.config.Config.Config}
-use Rattle.pim_lab.{specs.declared.trouble.Trouble.Trouble}
-
--- The line by which a trouble is reported.
-abbrev pub complaint_of : Trouble → Complaint
-complaint_of (Trouble.Refused refusal) = Complaint.Scenario refusal
-complaint_of (Trouble.Fault fault) = Complaint.Fault fault
+use Rattle.lab_stations.{specs.declared.trouble.Trouble.Trouble}
 
 -- The configuration of a router, with the number of the link of each interface.
 abbrev pub router_node : RouterText → Config × List ℕ

@@ -1,16 +1,15 @@
 //! Moves over a network, and the lines that they print.
 ghost use Rattle.std.specs.Prelude.{◌≡◌, IfErr, IfOk, Ok, OnOk, map};
 ghost use Rattle.pim_net.specs.Showing.{node_of};
+ghost use Rattle.pim_lab.specs.Settling.{step_of};
 ghost use Rattle.pim_lab.specs.Statuses.{IsFault, IsTroubleOf, router_node, routers_test};
 
-use crate::frames::Frames;
-use crate::front::Asked;
-use crate::lines::Lines;
-use crate::names::Names;
-use crate::station::{Reloaded, Station};
-use crate::table::{OlderLine, RowLine};
-use crate::trouble::Trouble;
+use crate::front::{Asked, run_behind};
+use crate::nodes::{reloaded_of, station_of};
 use igmp_older::Presence;
+use lab_stations::{
+    Delivery, Frames, Lines, Names, OlderLine, Reloaded, RowLine, Station, Trouble,
+};
 use pim_net::{Move, Net, NetLog, Node, Router, Unrestored, Wire};
 use pim_rows::Table;
 use pim_scenario::{ConfigText, RouterText, ScenarioMove};
@@ -181,7 +180,7 @@ impl<W: Wire> Lab<W> {
             older_hosts,
         } = next;
         let links = self.names.links(self.alloc, links)?;
-        let (reloaded, node) = Reloaded::of(self.alloc, config, links, older_hosts)?;
+        let (reloaded, node) = reloaded_of(self.alloc, config, links, older_hosts)?;
         let outcome = self.net.reload(at.router, draw, node)?;
         let is_done = outcome.answer.is_ok();
         self.print(at, outcome, lines)?;
@@ -214,7 +213,8 @@ impl<W: Wire> Lab<W> {
         let Some(station) = self.stations.get_mut(at.router) else {
             return Err(Trouble::Fault(Fault::Failed));
         };
-        let log = station.run(self.alloc, &mut self.net, at.router, event)?;
+        let presence = &mut station.presence;
+        let log = run_behind(self.alloc, &mut self.net, at.router, presence, event)?;
         self.print_all(at, log, lines)
     }
 
@@ -283,7 +283,7 @@ impl<W: Wire> Lab<W> {
                 number,
                 router: delivery.router,
             };
-            self.play(at, delivery.with_draw(draw), lines)?;
+            self.play(at, move_of(delivery, draw), lines)?;
         }
         self.frames.end_settle();
         Ok(())
@@ -373,11 +373,32 @@ fn stations_of(
     let mut stations = Vec::new(alloc);
     let mut nodes = Vec::new(alloc);
     for text in texts.into_vec() {
-        let (station, node) = Station::of(alloc, text)?;
+        let (station, node) = station_of(alloc, text)?;
         stations.push(station)?;
         nodes.push(node)?;
     }
     Ok((stations, nodes))
+}
+
+// The move of the network for a delivery, with this draw.
+fn move_of(delivery: Delivery, draw: u32) -> Move
+    ensures { result ≡ step_of delivery draw }
+{
+    let router = delivery.router;
+    let frame = delivery.frame;
+    match delivery.iface {
+        Some(iface) => Move::Deliver {
+            router,
+            iface,
+            frame,
+            draw,
+        },
+        None => Move::DeliverUnicast {
+            router,
+            frame,
+            draw,
+        },
+    }
 }
 
 // The place from which on the packets on links are copies: copies are the last packets, except for a packet to the RP.

@@ -1,17 +1,11 @@
 //! What `pimlab` does: it reads scenarios, plays them over a network of routers, and prints what comes of them.
 #![tactic(auto)]
 
-mod frames;
 mod front;
 mod lab;
-mod line;
-mod lines;
-mod names;
+mod nodes;
 pub mod playing;
 pub mod saved;
-mod station;
-mod table;
-mod trouble;
 
 pub use pim_net::{MemoryWire, Move, Net, NetLog, Node, UdpWire, Wire};
 pub use pim_scenario::{

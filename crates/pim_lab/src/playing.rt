@@ -9,8 +9,7 @@ ghost use Rattle.pim_scenario.specs.Scenario.{IsReadFrom};
 ghost use Rattle.pim_scenario.specs.declared.complaint.Complaint.{Complaint};
 
 use crate::lab::Lab;
-use crate::lines::Lines;
-use crate::trouble::Trouble;
+use lab_stations::{Lines, Trouble};
 use pim_net::{MemoryWire, Wire};
 use pim_scenario::{Scenario, ScenarioMove, Tables, fault, read_scenario};
 use pim_types::{Fault, Series};

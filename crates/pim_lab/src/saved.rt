@@ -3,9 +3,8 @@ ghost use Rattle.std.specs.Prelude.{◌≡◌, ◌⊎◌};
 ghost use Rattle.pim_lab.specs.Statuses.{IsAccepted};
 
 use crate::lab::Lab;
-use crate::lines::Lines;
 use crate::playing::{Opened, make_moves, open_scenario, print_tables};
-use crate::trouble::Trouble;
+use lab_stations::{Lines, Trouble};
 use pim_net::{Unrestored, Wire};
 use pim_scenario::{Complaint, ScenarioMove, Tables};
 use pim_types::{Fault, Series};
@@ -76,7 +75,7 @@ impl From<Trouble> for Stop {
 impl From<Fault> for Stop {
     ghost use Rattle.std.specs.Prelude.{◌≡◌};
     ghost use Rattle.pim_lab.specs.declared.saved.Stop.{Stop};
-    ghost use Rattle.pim_lab.specs.declared.trouble.Trouble.{Trouble};
+    ghost use Rattle.lab_stations.specs.declared.trouble.Trouble.{Trouble};
 
     ghost from_gives = { λ fault stop. stop ≡ Stop.Trouble (Trouble.Fault fault) };
 

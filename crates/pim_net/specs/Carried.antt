@@ -2,6 +2,7 @@
 use Rattle.std.{specs.{Option.option_map_or, Prelude.{Bool, IsSome, List, None, Option, Some, [], get_or, length, option_and_then, option_map, slice_get, take, true, ℕ, ◌+◌, ◌<◌, ◌≡◌, ◌∷◌}}}
 use Rattle.pim_types.{specs.declared.{event.{Event.Event, EventKind.EventKind}, outcome.Outcome.Outcome}}
 use Rattle.pim_model.{specs.Network.{Network, Station, event_of, moved, moved_at, station_at}}
+use Rattle.lab_wires.{specs.Carrying.IsCarried}
 use Rattle.pim_net.{specs.{Showing.{brought_on, brought_to, move_of}, declared.moves.Move.Move}}
 
 -- the bytes of the packet that an event brings
@@ -42,19 +43,12 @@ pub record AreBoth {W : Type 0} (First Later : Network → W → Type 0) : Type 
   pub later : Later network wire
 
 module _ {W : Type 0} (is_faithful : Bool) (sends : W → ℕ → List ℕ → W → Type 0) (gives : W → ℕ → ℕ → List ℕ → W → Type 0) where
-  -- A packet is sent to a port, and what the wire returns there is taken: at most as many bytes as the packet has.
-  pub record IsCarried (before : W) (port : ℕ) (packet given : List ℕ) (after : W) : Type 0 where
-    pub between : W
-    pub is_sent : sends before port packet between
-    pub is_given : gives between port (length packet) given after
-    pub is_same : is_faithful ≡ true → given ≡ packet
-
   module _ (ports : List ℕ) where
     -- A delivery of a packet: what the wire returns comes to the router.
     pub record IsDelivery (n : Network) (before : W) (m : Move) (packet : List ℕ) (o : Outcome) (next : Network) (after : W)
         : Type 0 where
       pub given : List ℕ
-      pub carried : IsCarried before (port_of ports n m) packet given after
+      pub carried : IsCarried is_faithful sends gives before (port_of ports n m) packet given after
       pub moved_is : (o, next) ≡ moved_with n m given
 
     -- A move that carries nothing does what the specification's move does, and makes no call of the wire; any other is

@@ -3,7 +3,7 @@ ghost use Rattle.std.specs.Prelude.{Err, IfErr, IfNone, IfOk, IfSome, IsOk, IsOk
 ghost use Rattle.pim_ip.specs.declared.fault.Fault.{Fault};
 ghost use Rattle.law_causes.specs.Networks.{MovesAreAsked};
 ghost use Rattle.pim_model.specs.Network.{network, network_ran, nodes_test};
-ghost use Rattle.pim_net.specs.Carried.{HasMoved, IsCarried, IsPartWay, MovesTo, carried_packet};
+ghost use Rattle.pim_net.specs.Carried.{HasMoved, IsPartWay, MovesTo, carried_packet};
 ghost use Rattle.pim_net.specs.Ports.{first_ports};
 ghost use Rattle.pim_net.specs.Reloading.{reloaded_at};
 ghost use Rattle.pim_model.specs.State.{State};
@@ -12,7 +12,7 @@ ghost use Rattle.pim_rested.specs.declared.refusal.RestoreRefusal.{RestoreRefusa
 ghost use Rattle.pim_saved.specs.Reading.{reading};
 ghost use Rattle.pim_net.specs.Showing.{move_of, node_of, shown_state, with_state_at};
 ghost use Rattle.pim_net.specs.declared.unrestored.Unrestored.{Unrestored};
-ghost use Rattle.pim_net.specs.Wires.{IsFaultOver, failures_after};
+ghost use Rattle.lab_wires.specs.Wires.{IsFaultOver, failures_after};
 ghost use Rattle.pim_net.specs.declared.moves.Move.{Move};
 ghost use Rattle.pim_types.specs.declared.config.Config.{Config as ConfigValue};
 
@@ -20,9 +20,9 @@ use crate::moves::Move;
 use crate::network::{Network, bad_move};
 use crate::node::Node;
 use crate::unrestored::Unrestored;
-use crate::wire::Wire;
+use lab_wires::{Wire, carry};
 use pim_router::Router;
-use pim_types::{EventKind, Fault, IfaceId, Outcome, Refusal, Series};
+use pim_types::{EventKind, Fault, IfaceId, Outcome, Refusal};
 use std::alloc::Global;
 use std::marker::Model;
 
@@ -320,18 +320,4 @@ fn first_port(ports: &[u16], router: usize) -> u16
     ensures { result ≡ get_or ports.now router 0 }
 {
     ports.get(router).copied().unwrap_or(0)
-}
-
-// Sends bytes to a port, and takes what the wire returns there.
-fn carry<W: Wire>(alloc: Global, wire: &mut W, port: u32, bytes: &[u8]) -> Result<Series<u8>, Fault>
-    ensures carried { IfOk result (λ given. IsCarried W.is_faithful W.sends W.gives
-        wire.old port bytes.now given wire.new) }
-    ensures counted { W.failures wire.new ≡ failures_after (W.failures wire.old) result }
-    ensures fault { IfErr result (IsFaultOver (W.failures wire.old) (W.failures wire.new)) }
-{
-    wire.send(port, bytes)?;
-    let mut packet = vec![in alloc; 0; bytes.len()]?;
-    let taken = wire.recv(port, &mut packet)?;
-    packet.truncate(taken);
-    Ok(Series::from_vec(packet))
 }

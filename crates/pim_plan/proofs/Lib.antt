@@ -6,7 +6,6 @@ mod IgmpFacts
 mod Machines
 mod MovedEnds
 mod MovedReports
-pub mod OtherRoutes
 mod Packets
 mod Plans
 pub mod Repeats

@@ -11,7 +11,8 @@ use Rattle.pim_fanout.{specs.Contains.Contains}
 use Rattle.pim_state.{specs.declared.touched.Touched.Touched}
 use Rattle.pim_views.{specs.{Covers.{Concerns, IsWithin, NewAreNamed}, Openings.has_facts}}
 use Rattle.pim_neighbours.{specs.Refreshed.is_refreshed}
-use Rattle.pim_plan.{specs.{Few.few_or_all, Tunnels.keys_of_stop, Repeats.{is_assert_known, is_direct, keys_of_packet, moved_asserts, moves_at_most_the_keepalive_end}}, proofs.{IgmpFacts.{query_leaves_facts, report_names_facts, star_names_none}, MovedReports.{report_touches_moved, reported_known}, Sourced.keyed_sourced, Stopped.stop_agrees, Tunnelled.{routes_leave_facts, rps_leave_facts, stop_leaves_facts}, Direct.direct_touches, Packets.{packet_named, register_named, source_named}, Repeats.{assert_concerned, moved_concerned, packet_concerned, register_concerned, so_false}, Growing.{Grows, facts_grow, stays}, Heard.seen_named}}
+use Rattle.pim_rerouted.{specs.Few.few_or_all}
+use Rattle.pim_plan.{specs.{Tunnels.keys_of_stop, Repeats.{is_assert_known, is_direct, keys_of_packet, moved_asserts, moves_at_most_the_keepalive_end}}, proofs.{IgmpFacts.{query_leaves_facts, report_names_facts, star_names_none}, MovedReports.{report_touches_moved, reported_known}, Sourced.keyed_sourced, Stopped.stop_agrees, Tunnelled.{routes_leave_facts, rps_leave_facts, stop_leaves_facts}, Direct.direct_touches, Packets.{packet_named, register_named, source_named}, Repeats.{assert_concerned, moved_concerned, packet_concerned, register_concerned, so_false}, Growing.{Grows, facts_grow, stays}, Heard.seen_named}}
 use Rattle.igmp_wire.{specs.Values.{Query as QueryValue, Record}}
 use Rattle.pim_querier.{specs.Reports.{all_keep_modes, moved_sources}}
 use Rattle.pim_store.{specs.PimTables.{AreKeyed, pim_tables}}

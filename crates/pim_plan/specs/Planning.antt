@@ -9,7 +9,8 @@ use Rattle.pim_neighbours.{specs.Refreshed.is_refreshed}
 use Rattle.pim_querier.{specs.Reports.{all_keep_modes, moved_sources}}
 use Rattle.pim_state.{specs.declared.touched.Touched.Touched}
 use Rattle.pim_fanout.{specs.Contains.Contains}
-use Rattle.pim_plan.{specs.{Few.few_or_all, Repeats.{is_assert_known, keys_of_packet, moved_asserts}, OtherRoutes.with_routes, Tunnels.keys_of_stop, Acting.{HasRead, act_event}, declared.plan.{Plan.Plan, Planning.Planning}}}
+use Rattle.pim_rerouted.{specs.{Few.few_or_all, OtherRoutes.with_routes}}
+use Rattle.pim_plan.{specs.{Repeats.{is_assert_known, keys_of_packet, moved_asserts}, Tunnels.keys_of_stop, Acting.{HasRead, act_event}, declared.plan.{Plan.Plan, Planning.Planning}}}
 
 -- What an accepted event touches: the keys that it names, or that it moves. It touches none where it changes only when
 -- timers expire. An interface that goes up or down may touch all.

@@ -21,8 +21,6 @@ use crate::act::{Act, Control};
 use crate::again::{
     is_assert_known, is_direct, is_kept_alive, moved_asserts, moves_at_most_the_keepalive_end,
 };
-use crate::few::{are_many, few_or_all};
-use crate::rerouted::{touched_by_routes, touched_by_rps};
 use igmp_wire::{QueryView, ReportView};
 use pim_downstream::{Effect, Named};
 use pim_hello::keys_of_hello;
@@ -31,6 +29,7 @@ use pim_macros::{SourceSight, StarSight};
 use pim_model::Accepted;
 use pim_mrib::Mrib;
 use pim_register::source_is_full;
+use pim_rerouted::{are_many, few_or_all, touched_by_routes, touched_by_rps};
 use pim_state::{Meter, Touched, Turn, World};
 use pim_types::fact::RegisterState;
 use pim_types::{Addr, IfaceId, Key, Route, RpRange, Series, SourceGroup};

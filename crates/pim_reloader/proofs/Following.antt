@@ -7,7 +7,7 @@ use Rattle.law_scope.{specs.Rest.IsAtRest}
 use Rattle.pim_store.{specs.PimTables.{AreKeyed, pim_tables}}
 use Rattle.pim_state.{specs.{Turns.{Taking, saying}, declared.touched.Touched.Touched}}
 use Rattle.pim_views.{specs.{Covers.IsWithin, Openings.opening_of, declared.opening.GroupOpening.GroupOpening}}
-use Rattle.pim_event.{specs.Settling.settled_by, proofs.Settling.settled_as_opened}
+use Rattle.pim_settling.{specs.Settling.settled_by, proofs.Settling.settled_as_opened}
 use Rattle.pim_plan.{proofs.Tunnelled.rps_leave_facts}
 use Rattle.law_restored.{specs.Reload.config_of}
 use Rattle.law_reloaded.{specs.Reloading.{hellos_anew, replaced, under}}

@@ -2,7 +2,7 @@ use Rattle.std.{proofs.Common.{List, ap, subst, sym, ◌≡◌, ◌∙◌}}
 use Rattle.pim_types.{specs.declared.config.RpRange.RpRange}
 use Rattle.pim_model.{specs.Step.rps_replaced}
 use Rattle.pim_event.{specs.Replacing.RangesReplaced}
-use Rattle.pim_plan.{proofs.OtherRoutes.same_rps_replaced}
+use Rattle.pim_rerouted.{proofs.OtherRoutes.same_rps_replaced}
 use Rattle.pim_event.proofs.change.take_ranges.Goals as goal
 
 pub returns-then-has_ranges-clause-state : goal.returns-then-has_ranges-clause-state

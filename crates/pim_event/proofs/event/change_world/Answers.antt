@@ -5,7 +5,8 @@ use Rattle.pim_macros.{specs.{Sights.IsSourceSight, declared.sight.SourceSight.S
 use Rattle.pim_state.{specs.declared.touched.Touched.Touched}
 use Rattle.pim_fanout.{specs.Named.keys_of}
 use Rattle.pim_plan.{specs.{Acting.act_event, Planning.Fits, declared.plan.Plan.Plan}}
-use Rattle.pim_event.{specs.Settling.settled_by, proofs.{Acts.timeless, Quietly.named_quietly, Rows.names_opened, Taking.{changed_in_turn, outcome_told, taken_in_turn}}}
+use Rattle.pim_settling.{specs.Settling.settled_by}
+use Rattle.pim_event.{proofs.{Acts.timeless, Quietly.named_quietly, Rows.names_opened, Taking.{changed_in_turn, outcome_told, taken_in_turn}}}
 use Rattle.pim_event.proofs.event.change_world.Goals as goal
 
 pub returns-clause-outcome : goal.returns-clause-outcome

@@ -1,7 +1,8 @@
 use Rattle.std.{proofs.Common.{◌≡◌, ◌++◌, List, OnOk, subst, refl}}
 use Rattle.pim_fanout.{specs.Named.keys_of}
 use Rattle.pim_model.{specs.{Reach.own_firing, State.State}}
-use Rattle.pim_event.{specs.{Ends.ending_of, Settling.AreNames}, proofs.{Rows.{each_ok, names_opened}, Instants.{end_fired, end_touched, fired_in_turn}}}
+use Rattle.pim_settling.{specs.Settling.AreNames}
+use Rattle.pim_event.{specs.Ends.ending_of, proofs.{Rows.{each_ok, names_opened}, Instants.{end_fired, end_touched, fired_in_turn}}}
 use Rattle.pim_types.{specs.declared.outcome.Emission.Emission}
 use Rattle.pim_state.{specs.declared.touched.Touched.Touched}
 use Rattle.pim_event.proofs.time.fire_world.Goals as goal

@@ -1,6 +1,6 @@
 use Rattle.std.{proofs.Common.{List, ap, ◌∙◌}}
 use Rattle.pim_types.{specs.declared.fact.Key.Key}
-use Rattle.pim_plan.{specs.Few.few_or_all}
+use Rattle.pim_rerouted.{specs.Few.few_or_all}
 use Rattle.pim_event.proofs.time.touched_by_neighbour.Goals as goal
 
 pub returns : goal.returns

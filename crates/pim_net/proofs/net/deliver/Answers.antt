@@ -1,5 +1,6 @@
 use Rattle.std.{proofs.Common.{◌≡◌, ◌∙◌, ◌+◌, ℕ, ap, get_or, refl, subst}}
-use Rattle.pim_net.{specs.{Carried.{IsCarried, port_of}, declared.moves.Move.Move}, proofs.{Carries.{delivered, is_there, packet_on, refused, uncounted}, Stations.{if_some, of_some, on_err}}}
+use Rattle.lab_wires.{specs.Carrying.IsCarried}
+use Rattle.pim_net.{specs.{Carried.port_of, declared.moves.Move.Move}, proofs.{Carries.{delivered, is_there, packet_on, refused, uncounted}, Stations.{if_some, of_some, on_err}}}
 use Rattle.pim_net.proofs.net.deliver.Goals as goal
 
 pub returns-in_default-clause-moves : goal.returns-in_default-clause-moves

@@ -4,7 +4,8 @@ use Rattle.pim_state.{specs.declared.touched.Touched.Touched}
 use Rattle.pim_model.{specs.{declared.accepted.Accepted.Accepted, Step.rps_replaced}}
 use Rattle.pim_mrib.{specs.Routes.RouteTable}
 use Rattle.law_named.{specs.Moved.keys_by_rps}
-use Rattle.pim_plan.{specs.{Planning.IsPlanned, declared.plan.Planning.Planning}, proofs.{OtherRoutes.none_by_same_rps, Plans.rps_fit}}
+use Rattle.pim_rerouted.{proofs.OtherRoutes.none_by_same_rps}
+use Rattle.pim_plan.{specs.{Planning.IsPlanned, declared.plan.Planning.Planning}, proofs.Plans.rps_fit}
 use Rattle.pim_plan.proofs.plan.plan_rps.Goals as goal
 
 pub returns-then-has_ranges-clause-plan : goal.returns-then-has_ranges-clause-plan

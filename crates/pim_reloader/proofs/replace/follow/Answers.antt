@@ -1,7 +1,7 @@
 use Rattle.std.{proofs.Common.{List, ap, ◌++◌, ◌∙◌}}
 use Rattle.pim_types.{specs.declared.outcome.Emission.Emission}
 use Rattle.pim_model.{specs.State.State}
-use Rattle.pim_event.{specs.Settling.settled_by}
+use Rattle.pim_settling.{specs.Settling.settled_by}
 use Rattle.pim_reloader.{proofs.Following.followed}
 use Rattle.pim_reloader.proofs.replace.follow.Goals as goal
 

@@ -1,0 +1,197 @@
+//! The routers of a scenario, as they are printed and found.
+ghost use Rattle.std.specs.Prelude.{◌≡◌, IfOk, map};
+ghost use Rattle.lab_stations.specs.Stations.{nobody_behind};
+
+use crate::line::{MoveLine, PacketLine, Way};
+use igmp_older::{OlderHosts, Presence};
+use pim_scenario::Link;
+use pim_types::{Addr, Config, Emission, IfaceId, Refusal, Series, Verdict};
+use std::alloc::{AllocError, Global};
+
+/// What the lab knows of another configuration.
+#[derive(Drop)]
+pub struct Reloaded {
+    links: Series<Link>,
+    addresses: Series<Addr>,
+    limit: u32,
+    older_hosts: OlderHosts,
+}
+
+impl Reloaded {
+    /// What the lab keeps of another configuration with its links.
+    pub fn new(
+        alloc: Global,
+        config: &Config,
+        links: Series<Link>,
+        older_hosts: OlderHosts,
+    ) -> Result<Reloaded, AllocError> {
+        let addresses = addresses_of(alloc, config)?;
+        Ok(Reloaded {
+            links,
+            addresses,
+            limit: config.limit,
+            older_hosts,
+        })
+    }
+}
+
+/// What the lab knows of a router that the network doesn't.
+#[derive(Drop)]
+pub struct Station {
+    name: String,
+    /// The link of each interface.
+    pub links: Series<Link>,
+    /// The address of each interface.
+    pub addresses: Series<Addr>,
+    /// What the router's front knows of older hosts. Where none are heard the front changes nothing.
+    pub presence: Presence,
+}
+
+impl Station {
+    /// The router of this name and configuration, with the links of its interfaces.
+    pub fn new(
+        alloc: Global,
+        name: String,
+        config: &Config,
+        links: Series<Link>,
+        older_hosts: OlderHosts,
+    ) -> Result<Station, AllocError>
+        ensures links { IfOk result (λ station. station.links ≡ links) }
+        ensures addresses { IfOk result (λ station. station.addresses ≡ map (λ i. i.address) config.now.interfaces) }
+        ensures presence { IfOk result (λ station. station.presence ≡ nobody_behind config.now older_hosts) }
+    {
+        let addresses = addresses_of(alloc, config)?;
+        let presence = presence_of(alloc, config, older_hosts)?;
+        Ok(Station {
+            name,
+            links,
+            addresses,
+            presence,
+        })
+    }
+
+    /// Puts the router's interfaces on other links, and its front under another configuration. The front forgets what it
+    /// heard on interfaces that are removed, or that get another setting.
+    pub fn reload(&mut self, reloaded: Reloaded) -> Result<(), AllocError> {
+        let Reloaded {
+            links,
+            addresses,
+            limit,
+            older_hosts,
+        } = reloaded;
+        let count = u32::try_from(links.len()).map_err(|_| AllocError)?;
+        self.presence.resize(limit as usize, count)?;
+        set_hosts(&mut self.presence, count, older_hosts);
+        self.links = links;
+        self.addresses = addresses;
+        Ok(())
+    }
+
+    /// What is printed before the router's tables.
+    pub fn name(&self) -> &str {
+        self.name.as_str()
+    }
+
+    /// What became of a move.
+    pub fn move_line(&self, number: usize, answer: Result<Verdict, Refusal>) -> MoveLine<'_> {
+        MoveLine {
+            number,
+            router: self.name.as_str(),
+            answer,
+        }
+    }
+
+    /// A packet of the router, with its number.
+    pub fn packet_line<'a>(
+        &'a self,
+        number: u32,
+        emission: &'a Emission,
+        is_copy: bool,
+    ) -> PacketLine<'a> {
+        match emission {
+            Emission::Link { iface, bytes } => PacketLine {
+                number,
+                way: self.way(*iface, is_copy),
+                bytes: bytes.as_slice(),
+            },
+            Emission::Unicast { destination, bytes } => PacketLine {
+                number,
+                way: Way::Address(*destination),
+                bytes: bytes.as_slice(),
+            },
+        }
+    }
+
+    // The way over an interface's link.
+    fn way(&self, iface: IfaceId, is_copy: bool) -> Way<'_> {
+        let link = self.link_name(iface);
+        if is_copy {
+            Way::Copy(link)
+        } else {
+            Way::Link(link)
+        }
+    }
+
+    // The name of an interface's link. Each interface of a scenario has one.
+    fn link_name(&self, iface: IfaceId) -> &str {
+        match self.links.as_slice().get(iface.number as usize) {
+            Some(link) => link.name.as_str(),
+            None => "",
+        }
+    }
+}
+
+/// The numbers of the links. More links than a u32 can count count as want of memory.
+pub fn link_numbers(alloc: Global, links: &[Link]) -> Result<Series<u32>, AllocError>
+    ensures { IfOk result (λ numbers. numbers ≡ map (λ l. l.number) links.now) }
+{
+    let mut numbers = Series::new(alloc);
+    for link in links {
+        numbers.push(u32::try_from(link.number).map_err(|_| AllocError)?)?;
+    }
+    Ok(numbers)
+}
+
+// Nobody is known yet. The front has room for as many groups on interfaces as the router has for facts.
+fn presence_of(
+    alloc: Global,
+    config: &Config,
+    older_hosts: OlderHosts,
+) -> Result<Presence, AllocError>
+    ensures { IfOk result (λ presence. presence ≡ nobody_behind config.now older_hosts) }
+{
+    let mut hosts = Vec::new(alloc);
+    for _interface in config.interfaces.as_slice() {
+        hosts.push(older_hosts)?;
+    }
+    Ok(Presence::new(alloc, config.limit as usize, hosts))
+}
+
+// Gives the first interfaces this setting. Those that have it keep their rows.
+fn set_hosts(presence: &mut Presence, count: u32, older_hosts: OlderHosts) {
+    for number in 0..count {
+        let iface = IfaceId { number };
+        if !is_same(presence.hosts(iface), older_hosts) {
+            presence.set_hosts(iface, older_hosts);
+        }
+    }
+}
+
+fn is_same(left: OlderHosts, right: OlderHosts) -> bool {
+    matches!(
+        (left, right),
+        (OlderHosts::All, OlderHosts::All)
+            | (OlderHosts::VersionTwo, OlderHosts::VersionTwo)
+            | (OlderHosts::Nobody, OlderHosts::Nobody)
+    )
+}
+
+fn addresses_of(alloc: Global, config: &Config) -> Result<Series<Addr>, AllocError>
+    ensures { IfOk result (λ addresses. addresses ≡ map (λ i. i.address) config.now.interfaces) }
+{
+    let mut addresses = Series::new(alloc);
+    for interface in config.interfaces.as_slice() {
+        addresses.push(interface.address)?;
+    }
+    Ok(addresses)
+}

@@ -1,6 +1,0 @@
-use Rattle.pim_event.{proofs.SightStays.some_written}
-use Rattle.pim_event.proofs.settle.settle.Goals as goal
-
-pub returns-clause-last : goal.returns-clause-last
-returns-clause-last c =
-    some_written c.follow.new.world _ _ c.follow.new.last c.in_ok-write.ensures.state c.in_ok-names.ensures.last

@@ -1,0 +1,12 @@
+use Rattle.std.{proofs.Common.{List, ap, ◌∙◌, ℕ}, specs.List.flat_map}
+use Rattle.pim_state.{specs.declared.touched.Touched.Touched}
+use Rattle.law_named.{specs.Moved.{keys_by_routes, moved_of_group}}
+use Rattle.pim_rerouted.{specs.OtherRoutes.with_routes}
+use Rattle.pim_rerouted.proofs.rerouted.touched_by_routes.Goals as goal
+
+pub returns : goal.returns
+unfolding keys_by_routes
+returns c =
+    let s = c.args.world.now in
+    ap Touched.Keys (c.in_ok-keys_of_groups.ensures
+    ∙ ap (λ (gs : List ℕ). flat_map (moved_of_group s (with_routes s c.args.next.now.routes)) gs) c.in_ok-groups.ensures)

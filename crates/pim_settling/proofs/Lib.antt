@@ -1,0 +1,3 @@
+mod Following
+pub mod Settling
+mod SightStays
