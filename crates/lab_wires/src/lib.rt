@@ -1,12 +1,10 @@
 //! What carries packets between the ports of a network: a wire in memory, one of UDP sockets, or any other.
 #![tactic(auto)]
 
-mod carry;
 pub mod memory;
 pub mod udp;
 pub mod wire;
 
-pub use carry::carry;
 pub use memory::MemoryWire;
 pub use udp::{UdpWire, failures_after};
-pub use wire::Wire;
+pub use wire::{Wire, carry};

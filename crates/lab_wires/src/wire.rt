@@ -1,8 +1,10 @@
 //! What carries packets between the ports of a network, whatever it is made of.
 ghost use Rattle.std.specs.Prelude.{◌≡◌, ◌≤◌, IfErr, IfOk, OnOk, length, take, true};
+ghost use Rattle.lab_wires.specs.Carrying.{IsCarried};
 ghost use Rattle.lab_wires.specs.Wires.{IsFaultOver, failures_after};
 
-use pim_types::Fault;
+use pim_types::{Fault, Series};
+use std::alloc::Global;
 
 /// What carries packets to the ports of a network.
 pub trait Wire: Drop {
@@ -43,4 +45,23 @@ pub trait Wire: Drop {
     /// How many calls have failed so far; 2^64 - 1 stands for that many or more.
     fn failures(&self) -> u64
         ensures { result ≡ failures self.now };
+}
+
+/// Sends bytes to a port, and takes what the wire returns there.
+pub fn carry<W: Wire>(
+    alloc: Global,
+    wire: &mut W,
+    port: u32,
+    bytes: &[u8],
+) -> Result<Series<u8>, Fault>
+    ensures carried { IfOk result (λ given. IsCarried W.is_faithful W.sends W.gives
+        wire.old port bytes.now given wire.new) }
+    ensures counted { W.failures wire.new ≡ failures_after (W.failures wire.old) result }
+    ensures fault { IfErr result (IsFaultOver (W.failures wire.old) (W.failures wire.new)) }
+{
+    wire.send(port, bytes)?;
+    let mut packet = vec![in alloc; 0; bytes.len()]?;
+    let taken = wire.recv(port, &mut packet)?;
+    packet.truncate(taken);
+    Ok(Series::from_vec(packet))
 }

@@ -48,7 +48,7 @@ use pim_mfc::Forward;
 use pim_model::Accepted;
 use pim_mrib::Mrib;
 use pim_plan::{Act, Control, Plan, Planning, planned};
-use pim_settling::settle;
+use pim_settling::settle::settle;
 use pim_state::{Touched, Turn, World};
 use pim_trie::Meter;
 use pim_types::{Addr, Fault, IfaceId, Outcome, Refusal, Series, SourceGroup, Stop, Verdict};

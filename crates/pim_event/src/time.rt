@@ -33,7 +33,7 @@ use pim_hello::{end_keeps_dr, keys_of_end};
 use pim_macros::SourceSight;
 use pim_messages::Outbox;
 use pim_rerouted::few_or_all;
-use pim_settling::settle;
+use pim_settling::settle::settle;
 use pim_state::{Meter, Touched, Turn, World};
 use pim_types::{
     Emission, Fault, IfaceId, Key, Outcome, Series, SourceGroup, Timer, TimerKind, Verdict,

@@ -17,7 +17,7 @@ ghost use Rattle.pim_state.specs.declared.touched.Touched.{Touched as TouchedVal
 use crate::hellos::tell;
 use pim_event::Core;
 use pim_fanout::Gathered;
-use pim_settling::settle;
+use pim_settling::settle::settle;
 use pim_state::{Meter, Touched, Turn, World};
 use pim_tables::PlacedRows;
 use pim_types::fact::SourceRow;
