@@ -9,9 +9,8 @@ use std::time::Instant;
 
 const RUN: u64 = 210_000;
 const EVENTS: u64 = 10;
-const TIMERS: usize = 1_000_000;
-const ROUTES: usize = 100_000;
-const LOOKUPS: usize = 1_000_000;
+/// Timers and lookups, if no other number is given; a tenth as many routes.
+const COUNT: usize = 1_000_000;
 
 /// As the library takes it.
 #[repr(C)]
@@ -386,11 +385,14 @@ fn main() {
         .map_or(5, |text| text.parse().expect("a number of repeats"));
     let wanted = arguments.next().unwrap_or_default();
     let chosen = |part: &str| wanted.is_empty() || wanted == part;
+    let count = arguments
+        .next()
+        .map_or(COUNT, |text| text.parse().expect("a count"));
     println!("| what | how many | ns each | BTreeMap, ns each | ratio |");
     println!("|---|---|---|---|---|");
     if chosen("spread") {
         let names = ["Wheel, set", "Wheel, cancel", "", "Wheel, pop_due"];
-        compare_timers(repeats, &timers(TIMERS, spread), &names, |at, len| {
+        compare_timers(repeats, &timers(count, spread), &names, |at, len| {
             bench_wheel(at, len)
         });
     }
@@ -404,7 +406,7 @@ fn main() {
         ];
         compare_timers(
             repeats,
-            &timers(TIMERS, whole_seconds),
+            &timers(count, whole_seconds),
             &names,
             |at, len| bench_wheel(at, len),
         );
@@ -416,12 +418,12 @@ fn main() {
             "",
             "Wheel at one moment, pop_due",
         ];
-        compare_timers(repeats, &timers(TIMERS, |_| RUN), &names, |at, len| {
+        compare_timers(repeats, &timers(count, |_| RUN), &names, |at, len| {
             bench_wheel(at, len)
         });
     }
     if chosen("refresh") {
-        let given = timers(TIMERS, |numbers| 1 + numbers.below(RUN));
+        let given = timers(count, |numbers| 1 + numbers.below(RUN));
         let ours = || bench_refresh(given.as_ptr(), given.len());
         compare(
             repeats,
@@ -432,10 +434,7 @@ fn main() {
         );
     }
     if chosen("ask") {
-        let given = timers(TIMERS, |numbers| RUN / 2 + numbers.below(RUN / 2));
-        let count = arguments
-            .next()
-            .map_or(TIMERS, |text| text.parse().expect("a count"));
+        let given = timers(count, |numbers| RUN / 2 + numbers.below(RUN / 2));
         let ours = || bench_ask(given.as_ptr(), given.len(), count);
         compare(
             repeats,
@@ -452,7 +451,7 @@ fn main() {
             "",
             "SortedTimers, pop_due",
         ];
-        compare_timers(repeats, &timers(TIMERS, spread), &names, |at, len| {
+        compare_timers(repeats, &timers(count, spread), &names, |at, len| {
             bench_sorted(at, len)
         });
         let names = [
@@ -461,13 +460,13 @@ fn main() {
             "",
             "SortedTimers at one moment, pop_due",
         ];
-        compare_timers(repeats, &timers(TIMERS, |_| RUN), &names, |at, len| {
+        compare_timers(repeats, &timers(count, |_| RUN), &names, |at, len| {
             bench_sorted(at, len)
         });
     }
     if chosen("trie") {
-        let given = routes(ROUTES);
-        let looked_up = addresses(&given, LOOKUPS);
+        let given = routes(count / 10);
+        let looked_up = addresses(&given, count);
         let ours = || {
             bench_trie(
                 given.as_ptr(),
@@ -476,7 +475,7 @@ fn main() {
                 looked_up.len(),
             )
         };
-        compare(repeats, LOOKUPS, &["", "Trie, longest"], ours, || {
+        compare(repeats, count, &["", "Trie, longest"], ours, || {
             look_up_all(&given, &looked_up)
         });
     }

@@ -123,13 +123,14 @@ def archive(router: Path, how: str, room: Path) -> Path:
     """The archive, of a router's, that says how it was built, in a folder. The kit's few lines of C around malloc are
     in it, or are put there."""
     made, tool = room / "libviqeshor.a", archiver()
-    # The router's archive may be the one that is made.
-    put(made, router.read_bytes())
-    if HEAP not in ran([tool, "t", made]).decode().split():
-        with tempfile.TemporaryDirectory(dir=room) as folder:
+    with tempfile.TemporaryDirectory(dir=room) as folder:
+        whole = Path(folder) / made.name
+        shutil.copyfile(router, whole)
+        if HEAP not in ran([tool, "t", whole]).decode().split():
             ran([tool, "x", kit.kit() / "c" / "liblibc_c.a", HEAP], cwd=folder)
-            ran([tool, "r", made, Path(folder) / HEAP])
-    ran([tool, "rs", made, *written_in_c(how, room)])
+            ran([tool, "r", whole, Path(folder) / HEAP])
+        ran([tool, "rs", whole, *written_in_c(how, Path(folder))])
+        put_other(made, whole.read_bytes())
     return made
 
 
@@ -158,24 +159,26 @@ class Library:
 
     def shared(self) -> Path:
         """A shared library of all of it."""
-        made, names = self.room / "libviqeshor.so", self.room / "names"
-        names.write_text(f"{{ global: {'; '.join(names_of_calls())}; local: *; }};\n")
-        flags = [
-            f"-Wl,-soname,{SONAME}",
-            f"-Wl,--version-script={names}",
-            "-Wl,--whole-archive",
-            self.archive,
-            "-Wl,--no-whole-archive",
-        ]
-        ran([CC, "-shared", "-o", beside(made), *flags])
-        beside(made).replace(made)
-        # The kit takes no links below the repository, not even in what is built.
-        put(self.room / SONAME, made.read_bytes(), 0o755)
+        made = self.room / "libviqeshor.so"
+        with tempfile.TemporaryDirectory(dir=self.room) as folder:
+            whole, names = Path(folder) / made.name, Path(folder) / "names"
+            names.write_text(f"{{ global: {'; '.join(names_of_calls())}; local: *; }};\n")
+            flags = [
+                f"-Wl,-soname,{SONAME}",
+                f"-Wl,--version-script={names}",
+                "-Wl,--whole-archive",
+                self.archive,
+                "-Wl,--no-whole-archive",
+            ]
+            ran([CC, "-shared", "-o", whole, *flags])
+            # The kit takes no links below the repository, not even in what is built.
+            for path in (made, self.room / SONAME):
+                put_other(path, whole.read_bytes(), 0o755)
         return made
 
     def program(self, source: Path, *flags: str) -> Path:
         """A C program with it."""
-        made = self.room / source.stem
+        made = self.room / f"{source.parent.name}_{source.stem}"
         ran(
             [
                 CC,
@@ -187,13 +190,13 @@ class Library:
                 "-I",
                 INCLUDE,
                 "-o",
-                made,
+                beside(made),
                 source,
                 self.archive,
                 *flags,
             ]
         )
-        return made
+        return beside(made).replace(made)
 
     def rust_program(self, source: Path) -> Path:
         """A Rust program with it, by the Rust crate."""
@@ -238,6 +241,12 @@ def put(path: Path, content: bytes, mode: int = 0o644) -> None:
     made.write_bytes(content)
     made.chmod(mode)
     made.replace(path)
+
+
+def put_other(path: Path, content: bytes, mode: int = 0o644) -> None:
+    """The same where the file has another content, so that what was made of it stays up to date."""
+    if not (path.exists() and path.read_bytes() == content):
+        put(path, content, mode)
 
 
 def link(target: str, path: Path) -> None:
@@ -311,7 +320,7 @@ def install(library: Library, prefix: Path) -> None:
         put(headers / name, (INCLUDE / "viqeshor" / name).read_bytes())
     for name in named_docs():
         put(docs / name, (DOCS / name).read_bytes())
-    put(lib / "libviqeshor.a", library.archive.read_bytes())
+    put_other(lib / "libviqeshor.a", library.archive.read_bytes())
     put(lib / named, library.shared().read_bytes(), 0o755)
     link(named, lib / SONAME)
     link(SONAME, lib / "libviqeshor.so")

@@ -72,6 +72,16 @@ class Lint(unittest.TestCase):
         self.assertEqual(self.said(lint.long_lines, f"{'é' * 120}\n"), [])
         self.assertEqual(self.said(lint.long_lines, f"\n{'x' * 121}\n"), ["2: 121 columns; at most 120"])
 
+    def test_shell_and_c(self):
+        self.assertEqual(self.said(lint.unread, "#!/bin/bash\nif true; then echo; fi\n", "file.bash"), [])
+        self.assertIn("syntax error", self.said(lint.unread, "#!/bin/bash\nif true; then echo\n", "file.bash")[0])
+        self.assertEqual(self.said(lint.unread, "int one(void) { return 1; }\n", "file.c"), [])
+        self.assertIn("error", "".join(self.said(lint.unread, "int one(void) { return two; }\n", "file.c")))
+
+    def test_languages(self):
+        wanted = {"test": "bash", "tools/lint": "python", "tools/bench/memory.c": "c", "HANDLES": None}
+        self.assertEqual({name: lint.language(lint.TOP / name) for name in wanted}, wanted)
+
 
 if __name__ == "__main__":
     unittest.main()

@@ -217,10 +217,11 @@ module _ {N M : Type 0} (next : N → M → N) (hold d : ℕ) (By Timer Holds : 
         go t stays sent held = by_turn t.turn
           where
             by_comes : (s : Sent x (next n m) ms) → Holds (s.at + hold) (next n m) ⊎ Soon s.at (next n m) ms → EverAfter bound n (m ∷ ms)
-            by_comes s (inl h) =
-                (inr (record { limit = s.at + hold; holds = h }),
-                held_after bound ms (next n m) (held (s.at + hold) h []
-                (record { end = s.at + s.rest; timer = s.timer; soon = again_so s.at s.rest s.few })))
+            by_comes s (inl h) = (
+              inr (record { limit = s.at + hold; holds = h }),
+              held_after bound ms (next n m) (held (s.at + hold) h []
+                  (record { end = s.at + s.rest; timer = s.timer; soon = again_so s.at s.rest s.few })),
+            )
             by_comes s (inr soon) =
                 then_so (sent s.at (late_too s.at x s.low low) soon []
                 (record { end = s.at + s.rest; timer = s.timer; soon = again_so s.at s.rest s.few })) t.by

@@ -149,9 +149,10 @@ timely n n' low up st row at is =
     with_station nowhere n 0
     (λ st. row_at (st.state).join_timers (join_key joined 0 asked_group) ≡ Some row
     → IsBy started 0 (row.end + started 0 + late) n' × IsBy started 1 (row.end + started 0 + late) n')
-    (with_row n (λ (r : JoinTimerRow). IsBy started 0 (r.end + started 0 + late) n' × IsBy started 1 (r.end + started 0 + late) n')
-    (with_station nowhere n' 0 (λ st. time_at started 0 st ≤ (row_in n).end + started 0 + late) low,
-    with_station nowhere n' 1 (λ st. time_at started 1 st ≤ (row_in n).end + started 0 + late) up) row)
+    (with_row n (λ (r : JoinTimerRow). IsBy started 0 (r.end + started 0 + late) n' × IsBy started 1 (r.end + started 0 + late) n') (
+      with_station nowhere n' 0 (λ st. time_at started 0 st ≤ (row_in n).end + started 0 + late) low,
+      with_station nowhere n' 1 (λ st. time_at started 1 st ≤ (row_in n).end + started 0 + late) up,
+    ) row)
     st at is
 
 -- ---- the Join that leaves
@@ -226,10 +227,11 @@ comes_by : (number sent : ℕ) (pruned : List ℕ) → (number ≡ suc (length n
     × ComesBy joined asked_group late started pair pruned number sent n1 (m2 ∷ m3 ∷ [])
 comes_by number sent pruned both at =
     subst (λ (ps : List ℕ). IsWritable (pair.from) (pair.hop).address.bits asked_group (entry_of joined) (prunes_of ps)
-    × ComesBy joined asked_group late started pair ps number sent n1 (m2 ∷ m3 ∷ [])) (sym both.1)
-    (writable,
-    subst (λ (k : ℕ). ComesBy joined asked_group late started pair [] k sent n1 (m2 ∷ m3 ∷ [])) (sym both.0)
-    (subst (λ (k : ℕ). ComesBy joined asked_group late started pair [] (suc (length n0.frames)) k n1 (m2 ∷ m3 ∷ [])) (sym at) taken))
+    × ComesBy joined asked_group late started pair ps number sent n1 (m2 ∷ m3 ∷ [])) (sym both.1) (
+      writable,
+      subst (λ (k : ℕ). ComesBy joined asked_group late started pair [] k sent n1 (m2 ∷ m3 ∷ [])) (sym both.0)
+          (subst (λ (k : ℕ). ComesBy joined asked_group late started pair [] (suc (length n0.frames)) k n1 (m2 ∷ m3 ∷ [])) (sym at) taken),
+    )
 
 time_told : time_at started 0 (stand nowhere n1 0) ≡ 61000
 unfolding machine_on_literals join_packet
@@ -281,9 +283,13 @@ wants : Always (Wants joined asked_group 0) both repeats
 unfolding machine_on_literals join_packet
 wants = (
   record { station = stand nowhere n0 0; there = stands_there nowhere n0 0 refl; wanted = refl },
-  (record { station = stand nowhere n1 0; there = stands_there nowhere n1 0 refl; wanted = refl },
-  (record { station = stand nowhere n2 0; there = stands_there nowhere n2 0 refl; wanted = refl },
-  record { station = stand nowhere n3 0; there = stands_there nowhere n3 0 refl; wanted = refl })),
+  (
+    record { station = stand nowhere n1 0; there = stands_there nowhere n1 0 refl; wanted = refl },
+    (
+      record { station = stand nowhere n2 0; there = stands_there nowhere n2 0 refl; wanted = refl },
+      record { station = stand nowhere n3 0; there = stands_there nowhere n3 0 refl; wanted = refl },
+    ),
+  ),
 )
 
 its_group : IsJoin joined asked_group
