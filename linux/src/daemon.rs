@@ -179,8 +179,9 @@ pub struct Daemon {
     pace: Pace,
     /// The source of the data packet that the router has in hand, and where it came.
     in_hand: Option<(Key, Option<u32>)>,
-    /// What is kept for a router that begins after this one died.
+    /// What is kept for a router that begins after this one ended.
     keeping: upgrade::Keeping,
+    successor: upgrade::Successor,
 }
 
 /// The policy's view of the router.
@@ -249,6 +250,7 @@ impl Daemon {
             pace: Pace::default(),
             in_hand: None,
             keeping: upgrade::Keeping::default(),
+            successor: upgrade::Successor::default(),
             settings,
         }
     }

@@ -72,6 +72,10 @@ impl Inherited {
         self.0.remove(name).map(|fd| unsafe { Socket::from_raw_fd(fd.into_raw_fd()) })
     }
 
+    pub fn has(&self, name: &str) -> bool {
+        self.0.contains_key(name)
+    }
+
     /// The names that begin so, each without that.
     pub fn names(&self, begin: &str) -> Vec<String> {
         self.0.keys().filter_map(|name| name.strip_prefix(begin)).map(str::to_string).collect()

@@ -65,6 +65,8 @@ pub trait Kernel: Cache {
     fn sockets(&self) -> Vec<(String, RawFd)>;
     /// The kernel forgets the virtual interfaces and the entries, though others may have the socket too.
     fn end(&mut self);
+    /// What the router has set stays when it ends, for the next one.
+    fn stay(&mut self);
     /// The next of what waits at a place, or `None`.
     fn hear(&mut self, from: Source) -> io::Result<Option<Event>>;
     /// What becomes readable where something waits.
@@ -111,6 +113,8 @@ pub struct Linux {
     liveness: Liveness,
     netlink: Netlink,
     tables: Tables,
+    /// The rules of the tables stay.
+    stays: bool,
     names: HashMap<u32, String>,
     /// The most bytes of a packet, by the kernel's number of an interface.
     mtus: HashMap<u32, usize>,
@@ -136,6 +140,7 @@ impl Linux {
             unicasts: Unicasts::open(scope, inherited).map_err(Fatal::Socket)?,
             netlink,
             tables,
+            stays: false,
             names: HashMap::new(),
             mtus: HashMap::new(),
             room: vec![MaybeUninit::uninit(); ROOM],
@@ -166,7 +171,9 @@ impl Linux {
 
 impl Drop for Linux {
     fn drop(&mut self) {
-        self.tables.clear(&mut self.netlink);
+        if !self.stays {
+            self.tables.clear(&mut self.netlink);
+        }
     }
 }
 
@@ -203,6 +210,10 @@ impl Kernel for Linux {
         if let Err(error) = self.mroute.end() {
             debug!("the kernel's multicast routing was ended: {error}");
         }
+    }
+
+    fn stay(&mut self) {
+        self.stays = true;
     }
 
     fn hear(&mut self, from: Source) -> io::Result<Option<Event>> {

@@ -140,6 +140,9 @@ pub struct Left {
     pub unlearned: u64,
     /// The processes that write answers.
     pub answers: Vec<i32>,
+    /// The router that left it had ended in order, so that nothing happened since.
+    #[serde(default)]
+    pub is_in_order: bool,
 }
 
 /// Why what was left can't be taken.
@@ -305,6 +308,7 @@ mod tests {
             learned: Some(11),
             unlearned: 12,
             answers: vec![13],
+            is_in_order: true,
         }
     }
 

@@ -169,7 +169,7 @@ fn absent(settings: &Settings) -> std::io::Result<Vec<&str>> {
 /// What a router before this one left, and how; its sockets too.
 fn left(settings: &Settings) -> (Option<(Left, Vec<u8>, Way)>, Inherited) {
     let (read, mut inherited, fresh, way) = match Inherited::by_exec() {
-        Some(mut inherited) => (Ok(inherited.left()), inherited, u64::MAX, Way::Exec),
+        Some(mut inherited) => (Ok(inherited.left()), inherited, u64::MAX, Way::Whole),
         None => {
             let path = settings.state_file();
             let read = std::fs::read(&path).map(|bytes| Left::read(&bytes));
@@ -182,7 +182,10 @@ fn left(settings: &Settings) -> (Option<(Left, Vec<u8>, Way)>, Inherited) {
     let usable =
         read.map(|read| read.and_then(|(left, saved)| left.check(domain.as_deref(), fresh).map(|()| (left, saved))));
     match usable {
-        Ok(Ok((left, saved))) => return (Some((left, saved, way)), inherited),
+        Ok(Ok((left, saved))) => {
+            let is_whole = left.is_in_order && inherited.has(mroute::MROUTE);
+            return (Some((left, saved, if is_whole { Way::Whole } else { way })), inherited);
+        }
         Ok(Err(why)) => {
             ::log::warn!("the router begins anew, since what is left of the one before it can't be taken: {why}")
         }

@@ -1,17 +1,17 @@
 //! The program that runs, and the one that is there in its place.
 use crate::inherited::{close_on_exec, HANDED};
-use signal_hook::consts::{SIGHUP, SIGINT, SIGTERM, SIGUSR2};
+use signal_hook::consts::{SIGHUP, SIGINT, SIGTERM, SIGUSR1, SIGUSR2};
 use std::ffi::{CString, OsString};
 use std::io::{self, Read};
 use std::os::unix::ffi::OsStrExt;
 use std::os::unix::fs::MetadataExt;
 use std::os::unix::io::RawFd;
 use std::path::{Path, PathBuf};
-use std::process::{Command, Stdio};
+use std::process::{Child, Command, Stdio};
 use std::time::{Duration, Instant};
 
 /// The signals that the router knows.
-pub const SIGNALS: [i32; 4] = [SIGTERM, SIGINT, SIGHUP, SIGUSR2];
+pub const SIGNALS: [i32; 5] = [SIGTERM, SIGINT, SIGHUP, SIGUSR1, SIGUSR2];
 /// So long the other program may take to look at the settings.
 const PATIENCE: Duration = Duration::from_secs(10);
 /// What Linux puts behind the path of a program that was removed.
@@ -29,6 +29,37 @@ impl Stamp {
     fn of(path: &Path) -> Option<Stamp> {
         let it = std::fs::metadata(path).ok()?;
         Some(Stamp { device: it.dev(), inode: it.ino(), changed: (it.mtime(), it.mtime_nsec()) })
+    }
+}
+
+/// A program that looks at the settings.
+#[derive(Debug)]
+pub struct Asking {
+    child: Child,
+    end: Instant,
+    stamp: Option<Stamp>,
+}
+
+impl Asking {
+    /// Whether it can take over, or why it can't; `None` while it looks.
+    pub fn answer(&mut self) -> Option<Result<(), String>> {
+        let status = match self.child.try_wait() {
+            Ok(Some(status)) => status,
+            Ok(None) if Instant::now() <= self.end => return None,
+            Ok(None) => {
+                let _ = self.child.kill().and_then(|()| self.child.wait());
+                return Some(Err("it doesn't answer".to_string()));
+            }
+            Err(error) => return Some(Err(error.to_string())),
+        };
+        let mut said = String::new();
+        if let Some(mut told) = self.child.stderr.take() {
+            let _ = told.read_to_string(&mut said);
+        }
+        Some(match status.success() {
+            true => Ok(()),
+            false => Err(if said.is_empty() { status.to_string() } else { said.trim().to_string() }),
+        })
     }
 }
 
@@ -59,31 +90,19 @@ impl Program {
         there.is_some() && there != self.stamp
     }
 
-    /// Has the one that is there look at the settings, and say whether it can take over: why it can't.
-    pub fn check(&self, file: &Path) -> Result<(), String> {
+    /// Has the one that is there look at the settings, in a process of its own.
+    pub fn ask(&self, file: &Path) -> Result<Asking, String> {
+        let stamp = Stamp::of(&self.path);
         let mut command = Command::new(&self.path);
         command.args(["run", "--check", "--takes-over"]).arg(file);
         command.stdin(Stdio::null()).stdout(Stdio::null()).stderr(Stdio::piped());
-        let mut child = command.spawn().map_err(|error| error.to_string())?;
-        let end = Instant::now() + PATIENCE;
-        let status = loop {
-            match child.try_wait().map_err(|error| error.to_string())? {
-                Some(status) => break status,
-                None if Instant::now() > end => {
-                    let _ = child.kill().and_then(|()| child.wait());
-                    return Err("it doesn't answer".to_string());
-                }
-                None => std::thread::sleep(Duration::from_millis(2)),
-            }
-        };
-        let mut said = String::new();
-        if let Some(mut told) = child.stderr.take() {
-            let _ = told.read_to_string(&mut said);
-        }
-        match status.success() {
-            true => Ok(()),
-            false => Err(if said.is_empty() { status.to_string() } else { said.trim().to_string() }),
-        }
+        let child = command.spawn().map_err(|error| error.to_string())?;
+        Ok(Asking { child, end: Instant::now() + PATIENCE, stamp })
+    }
+
+    /// Whether the one that was asked is still in its place.
+    pub fn is_asked(&self, asking: &Asking) -> bool {
+        Stamp::of(&self.path) == asking.stamp
     }
 
     /// Becomes the one that is there, which gets descriptors by names. It returns where that fails, and all is as it
@@ -154,15 +173,39 @@ mod tests {
         assert!(!Program::running().has_changed());
     }
 
+    fn answered(program: &Program) -> Result<(), String> {
+        let mut asking = program.ask(Path::new("the-file"))?;
+        loop {
+            match asking.answer() {
+                Some(answer) => return answer,
+                None => std::thread::sleep(Duration::from_millis(1)),
+            }
+        }
+    }
+
+    #[test]
+    fn a_program_that_hangs_keeps_nobody_waiting() {
+        let hangs = program("hangs", "#!/bin/sh\nexec sleep 60\n");
+        let mut asking = hangs.ask(Path::new("the-file")).unwrap();
+        assert_eq!(asking.answer(), None);
+        assert!(hangs.is_asked(&asking));
+        std::fs::write(hangs.path.with_extension("new"), "two").unwrap();
+        std::fs::rename(hangs.path.with_extension("new"), &hangs.path).unwrap();
+        assert!(!hangs.is_asked(&asking));
+        asking.end = Instant::now() - Duration::from_millis(1);
+        assert_eq!(asking.answer(), Some(Err("it doesn't answer".to_string())));
+        std::fs::remove_file(&hangs.path).unwrap();
+    }
+
     #[test]
     fn a_program_that_refuses_the_settings_says_why() {
         let good = program("good", "#!/bin/sh\ntest \"$*\" = \"run --check --takes-over the-file\"\n");
-        assert_eq!(good.check(Path::new("the-file")), Ok(()));
+        assert_eq!(answered(&good), Ok(()));
         let bad = program("bad", "#!/bin/sh\necho 'line 3: no' >&2\nexit 2\n");
-        assert_eq!(bad.check(Path::new("the-file")), Err("line 3: no".to_string()));
+        assert_eq!(answered(&bad), Err("line 3: no".to_string()));
         let none = program("none", "");
         std::fs::remove_file(&none.path).unwrap();
-        assert!(none.check(Path::new("the-file")).is_err());
+        assert!(answered(&none).is_err());
         [good, bad].iter().for_each(|it| std::fs::remove_file(&it.path).unwrap());
     }
 

@@ -340,7 +340,7 @@ pub struct Liveness {
 }
 
 /// Of what BFD has, before the kernel's number of an interface, and the other side.
-const BFD: &str = "bfd-";
+pub const BFD: &str = "bfd-";
 
 impl Liveness {
     pub fn open(inherited: &mut Inherited) -> Liveness {

@@ -1,12 +1,14 @@
 #!/usr/bin/env python3
-"""A service manager for one program, as systemd is one with `Restart=on-failure` and `FileDescriptorStoreMax=`.
+"""A service manager for one program, as systemd is one with `Restart=on-failure`, `FileDescriptorStoreMax=` and
+`RestartKillSignal=SIGUSR1`.
 
     manager.py NOTIFY SECONDS PROGRAM ..
 
 It listens at the socket NOTIFY, keeps the descriptors that the program sends (FDSTORE=1), drops those that it names
 (FDSTOREREMOVE=1), and starts the program again SECONDS after it died, with the descriptors that it keeps (LISTEN_FDS).
-It ends where the program ends in order, and hands SIGTERM, SIGHUP and SIGUSR2 on to it. It prints a line for each
-start, and what it keeps then.
+It ends where the program ends in order, and hands SIGTERM, SIGHUP and SIGUSR2 on to it. At SIGUSR1 it restarts the
+program, as `systemctl restart` does: it sends it SIGUSR1, and starts it again once it has ended. It prints a line for
+each start, and what it keeps then.
 """
 import array
 import os
@@ -22,12 +24,18 @@ MOST = 128
 class Manager:
     def __init__(self, path: str, words: list[str]) -> None:
         self.path, self.words, self.kept, self.child = path, words, {}, 0
+        self.is_restart = False
         self.socket = socket.socket(socket.AF_UNIX, socket.SOCK_DGRAM)
         self.socket.bind(path)
         os.chmod(path, 0o666)
         self.socket.settimeout(0.05)
         for number in (signal.SIGTERM, signal.SIGHUP, signal.SIGUSR2):
             signal.signal(number, lambda number, _: os.kill(self.child, number))
+        signal.signal(signal.SIGUSR1, self.restart)
+
+    def restart(self, number: int, _: object) -> None:
+        self.is_restart = True
+        os.kill(self.child, number)
 
     def start(self) -> None:
         kept = dict(self.kept)
@@ -44,7 +52,7 @@ class Manager:
         if kept:
             environment |= {"LISTEN_FDS": str(len(kept)), "LISTEN_PID": str(os.getpid()),
                             "LISTEN_FDNAMES": ":".join(kept)}
-        for number in (signal.SIGTERM, signal.SIGHUP, signal.SIGUSR2):
+        for number in (signal.SIGTERM, signal.SIGHUP, signal.SIGUSR1, signal.SIGUSR2):
             signal.signal(number, signal.SIG_DFL)
         os.execvpe(self.words[0], self.words, environment)
 
@@ -79,10 +87,14 @@ class Manager:
             ended, status = os.waitpid(self.child, os.WNOHANG)
             if not ended:
                 continue
+            # What it said last is heard too.
+            while self.hear():
+                pass
+            if self.is_restart:
+                self.is_restart = False
+                self.start()
+                continue
             if os.waitstatus_to_exitcode(status) == 0:
-                # What it said last is heard too.
-                while self.hear():
-                    pass
                 print("ended with", " ".join(sorted(self.kept)) or "nothing", flush=True)
                 return 0
             time.sleep(seconds)

@@ -13,6 +13,7 @@ from typing import TYPE_CHECKING
 from trials import liveness
 from trials.network import (AS_SERVICE, HERE, HOST, NOBODY, SOURCE, Failed, ended, first_after, goes_on, inside,
                             received, run, until)
+from trials.streams import SOON
 from trials.with_frr import FEWER_BYTES
 
 if TYPE_CHECKING:
@@ -113,6 +114,29 @@ def upgrade(net: Network) -> str:
     return f"{said}; three upgrades took {', '.join(f'{it:.1f}' for it in times)} s each"
 
 
+def program_that_hangs(net: Network) -> str:
+    """while a program that hangs is asked whether it can take over the router goes on: a join has its first packet"""
+    group, program = "239.2.20.60", net.room / "viqeshord"
+    shutil.copy(program, net.room / "viqeshord.good")
+    other = net.room / "viqeshord.new"
+    other.write_text("#!/bin/sh\nexec sleep 60\n")
+    other.chmod(0o755)
+    os.rename(other, program)
+    sender = net.send("source", group, SOURCE, 6000, 100)
+    time.sleep(3)
+    refusals = lambda: net.log().count("can't take over: it doesn't answer")
+    before = refusals()
+    net.router.send_signal(signal.SIGUSR2)
+    after = first_after(net.receive("hosts", group, HOST, 1, 5))
+    is_asked = refusals() == before
+    until("the router stays as it was", 15, lambda: refusals() > before)
+    os.rename(net.room / "viqeshord.good", program)
+    ended(sender)
+    if not is_asked or after is None or after > SOON:
+        raise Failed(f"the first packet came after {after} ms; the other program was asked then: {is_asked}")
+    return f"the first packet came after {after} ms"
+
+
 def upgrade_by_reload(net: Network) -> None:
     """SIGHUP does the same where the program has changed, takes the settings, and refuses a program that can't go on"""
     count = net.log().count(GOES_ON)
@@ -139,6 +163,10 @@ def upgrade_by_reload(net: Network) -> None:
 
 def session_goes_on(net: Network) -> str:
     """a session of BFD goes on over an upgrade: FRR sees the same one, and no loss"""
+    return session_over(net, signal.SIGUSR2)
+
+
+def session_over(net: Network, number: int) -> str:
     bfdd = liveness.start_bfdd(net, "first")
     until("bfdd answers", 10, lambda: "bfd" in net.frr("first", "show daemons"))
     liveness.configure(net, "first", "interface to-lan", "ip pim bfd")
@@ -147,7 +175,7 @@ def session_goes_on(net: Network) -> str:
         liveness.came_up(net)
         time.sleep(2)
         before, count = liveness.peer(net), net.log().count(GOES_ON)
-        net.router.send_signal(signal.SIGUSR2)
+        net.router.send_signal(number)
         until("the other one goes on", 30, lambda: net.log().count(GOES_ON) > count)
         time.sleep(3)
         after = liveness.peer(net)
@@ -230,6 +258,35 @@ def killed(net: Network) -> str:
     if len(lines) != 3 or "mroute" not in lines[1]:
         raise Failed(f"the manager said {lines}")
     return f"{said}; it went on {', '.join(f'{it:.1f}' for it in times)} s after"
+
+
+def restarted(net: Network) -> str:
+    """a restart (SIGUSR1, as `systemctl restart` sends it): no packet is lost, none comes twice, no neighbour notices"""
+    before, times = generation(net), []
+    told = net.room / "manager.log"
+    starts = len(told.read_text().splitlines())
+
+    def act() -> None:
+        for _ in range(3):
+            count = net.log().count(GOES_ON)
+            began = time.monotonic()
+            net.router.send_signal(signal.SIGUSR1)
+            until("the next one goes on", 30, lambda: net.log().count(GOES_ON) > count)
+            times.append(time.monotonic() - began)
+            until("it answers", 10, lambda: net.neighbours() >= THREE)
+
+    said = at_a_rate(net, 31, act)
+    if generation(net) != before:
+        raise Failed(f"neighbours saw it begin anew: {before}, {generation(net)}")
+    lines = told.read_text().splitlines()[starts:]
+    if len(lines) != 3 or any("mroute" not in line for line in lines):
+        raise Failed(f"the manager said {lines}")
+    return f"{said}; it went on {', '.join(f'{it:.1f}' for it in times)} s after"
+
+
+def restarted_session(net: Network) -> str:
+    """over such a restart a session of BFD goes on: FRR sees no loss"""
+    return session_over(net, signal.SIGUSR1)
 
 
 def join_while_dead(net: Network) -> str:
@@ -317,5 +374,5 @@ def recorded(net: Network) -> str:
     return "; ".join(said)
 
 
-TRIALS = [upgrade, upgrade_by_reload, session_goes_on, another_limit, recorded, killed, join_while_dead,
-          killed_long_ago, ends_in_order]
+TRIALS = [upgrade, program_that_hangs, upgrade_by_reload, session_goes_on, another_limit, recorded, killed, restarted,
+          restarted_session, join_while_dead, killed_long_ago, ends_in_order]

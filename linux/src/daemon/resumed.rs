@@ -16,8 +16,8 @@ use std::path::Path;
 /// How a router came into the place of another one.
 #[derive(Clone, Copy, Debug, PartialEq, Eq)]
 pub enum Way {
-    /// That one became this one, and left what it had at that moment.
-    Exec,
+    /// That one became this one, or ended in order with its sockets kept: it left what it had at that moment.
+    Whole,
     /// It died, and what it had saved before is left.
     Death,
 }
@@ -52,6 +52,7 @@ impl Daemon {
             learned: self.due.learned,
             unlearned: self.due.unlearned,
             answers: Vec::new(),
+            is_in_order: false,
         }
     }
 
@@ -129,7 +130,7 @@ impl Daemon {
         self.neighbours.known = known.collect();
         self.neighbours.are_stale = true;
         // The other side of one that died has noticed it, or soon will: sessions begin anew then.
-        if way == Way::Exec {
+        if way == Way::Whole {
             self.sessions = left.sessions.into_iter().map(|it| ((it.iface, it.address), it.session)).collect();
         }
         (self.due.learned, self.due.unlearned) = (left.learned, left.unlearned);

@@ -35,6 +35,7 @@ struct Fake {
     /// How often an entry was set.
     puts: Cell<usize>,
     is_ended: Cell<bool>,
+    stays: Cell<bool>,
 }
 
 struct Handle(Rc<Fake>);
@@ -73,6 +74,10 @@ impl Kernel for Handle {
 
     fn end(&mut self) {
         self.0.is_ended.set(true);
+    }
+
+    fn stay(&mut self) {
+        self.0.stays.set(true);
     }
 
     fn hear(&mut self, from: Source) -> io::Result<Option<kernel::Event>> {

@@ -12,7 +12,7 @@ use crate::server::Server;
 use crate::{metrics, settings};
 use log::{error, info, warn};
 use nix::poll::{poll, PollFd, PollFlags};
-use signal_hook::consts::{SIGHUP, SIGINT, SIGTERM, SIGUSR2};
+use signal_hook::consts::{SIGHUP, SIGINT, SIGTERM, SIGUSR1, SIGUSR2};
 use std::net::SocketAddr;
 use std::os::unix::io::{AsRawFd, RawFd};
 use std::os::unix::net::UnixStream;
@@ -32,6 +32,7 @@ const TURN: usize = 256;
 /// What a signal asked for.
 struct Asked {
     end: Arc<AtomicBool>,
+    restart: Arc<AtomicBool>,
     reload: Arc<AtomicBool>,
     upgrade: Arc<AtomicBool>,
     wakes: UnixStream,
@@ -41,8 +42,15 @@ impl Asked {
     fn new() -> std::io::Result<Asked> {
         let (wakes, other) = UnixStream::pair()?;
         wakes.set_nonblocking(true)?;
-        let asked = Asked { end: Arc::default(), reload: Arc::default(), upgrade: Arc::default(), wakes };
-        let flags = [(SIGTERM, &asked.end), (SIGINT, &asked.end), (SIGHUP, &asked.reload), (SIGUSR2, &asked.upgrade)];
+        let [end, restart, reload, upgrade] = [(); 4].map(|()| Arc::default());
+        let asked = Asked { end, restart, reload, upgrade, wakes };
+        let flags = [
+            (SIGTERM, &asked.end),
+            (SIGINT, &asked.end),
+            (SIGUSR1, &asked.restart),
+            (SIGHUP, &asked.reload),
+            (SIGUSR2, &asked.upgrade),
+        ];
         for (signal, flag) in flags {
             signal_hook::flag::register(signal, Arc::clone(flag))?;
             signal_hook::low_level::pipe::register(signal, other.try_clone()?)?;
@@ -50,6 +58,10 @@ impl Asked {
         // The router before this one may have had them wait.
         hold_signals(false);
         Ok(asked)
+    }
+
+    fn is_over(&self) -> bool {
+        [&self.end, &self.restart].iter().any(|flag| flag.load(Ordering::Relaxed))
     }
 
     fn forget_wakes(&self) {
@@ -185,7 +197,7 @@ impl Daemon {
         let asked = Asked::new().map_err(Fatal::Signals)?;
         let mut servers = Servers::open(&self.settings, inherited)?;
         servers.control.take_answers(answers);
-        self.keeping = Keeping::new();
+        self.keeping = Keeping::new(self.kernel.as_ref());
         info!(
             "the router begins in {}: {} interfaces, {} RP ranges, the library {}",
             self.settings.domain,
@@ -194,14 +206,15 @@ impl Daemon {
             viqeshor::version()
         );
         self.begin()?;
-        while !asked.end.load(Ordering::Relaxed) {
+        while !asked.is_over() {
             self.wait(&asked, &servers)?;
             asked.forget_wakes();
             let [reload, upgrade] = [&asked.reload, &asked.upgrade].map(|flag| flag.swap(false, Ordering::Relaxed));
-            if upgrade || (reload && program.has_changed()) {
-                self.upgrade(&program, &servers);
+            let is_other = reload && program.has_changed();
+            if upgrade || is_other {
+                self.ask_successor(&program, is_other);
             }
-            if reload {
+            if self.follow_successor(&program, &servers) || (reload && !is_other) {
                 self.reload()?;
                 servers.take_settings(&self.settings);
             }
@@ -210,8 +223,10 @@ impl Daemon {
             servers.serve(self);
             self.keep();
         }
-        self.say_goodbye();
-        self.keep_no_more();
+        if asked.end.load(Ordering::Relaxed) || !self.keep_for_next() {
+            self.say_goodbye();
+            self.keep_no_more();
+        }
         Ok(())
     }
 
@@ -239,6 +254,7 @@ impl Daemon {
             due.unset,
             due.addresses,
             due.learned,
+            self.successor.due(self.now()),
             self.core.record_due(),
             Some(self.keeping.due(self.now())).filter(|_| self.settings.restart.saves),
             servers.each().filter_map(Server::due).min().map(|left| self.kernel.now() + left),

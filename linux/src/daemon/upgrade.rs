@@ -1,10 +1,12 @@
-//! An upgrade while the router runs, and what is kept for a router that begins after this one died.
+//! An upgrade while the router runs, and what is kept for a router that begins after this one ended.
 use super::turns::Servers;
 use super::Daemon;
 use crate::inherited::{sealed, STATE};
-use crate::left;
+use crate::kernel::Kernel;
+use crate::left::{self, Left};
 use crate::notify::Manager;
-use crate::program::Program;
+use crate::program::{Asking, Program};
+use crate::wire::BFD;
 use log::{debug, error, info, warn};
 use std::collections::BTreeMap;
 use std::io;
@@ -13,6 +15,24 @@ use std::path::Path;
 
 /// The state is saved for a part of the time where that takes long.
 const PART_OF_TIME: u64 = 50;
+
+/// So often it is looked whether a program has answered, in ms.
+const LOOK_FOR_ANSWER: u64 = 10;
+
+/// The program that is to take this one's place, while it is asked whether it can. The router goes on meanwhile.
+#[derive(Debug, Default)]
+pub struct Successor {
+    asking: Option<Asking>,
+    /// Where it can't, the settings are read all the same.
+    is_reload: bool,
+}
+
+impl Successor {
+    /// When it may have answered, in ms.
+    pub fn due(&self, now: u64) -> Option<u64> {
+        self.asking.as_ref().map(|_| now + LOOK_FOR_ANSWER)
+    }
+}
 
 /// What is kept.
 #[derive(Debug, Default)]
@@ -29,8 +49,11 @@ pub struct Keeping {
 }
 
 impl Keeping {
-    pub fn new() -> Keeping {
-        Keeping { manager: Manager::new(), ..Keeping::default() }
+    /// The manager has kept BFD's sockets too for a router that ended in order; some of this one's go on with them.
+    pub fn new(kernel: &dyn Kernel) -> Keeping {
+        let sockets = kernel.sockets().into_iter();
+        let kept = sockets.filter(|(name, _)| name.starts_with(BFD)).collect();
+        Keeping { manager: Manager::new(), kept, ..Keeping::default() }
     }
 
     /// Neighbours or interfaces changed.
@@ -52,18 +75,46 @@ impl Keeping {
 impl Daemon {
     // ---- an upgrade
 
-    /// Becomes the program that is in the place of this one. It returns where that can't be.
-    pub(super) fn upgrade(&mut self, program: &Program, servers: &Servers) {
-        info!("the router hands over to {}", program.path().display());
-        if let Err(why) = program.check(&self.file) {
-            error!("{} can't take over: {why}", program.path().display());
-            return error!("the router stays as it was");
+    /// Asks the program that is in the place of this one whether it can take over.
+    pub(super) fn ask_successor(&mut self, program: &Program, is_reload: bool) {
+        self.successor.is_reload |= is_reload;
+        if self.successor.asking.is_some() {
+            return;
         }
+        info!("the router hands over to {}", program.path().display());
+        match program.ask(&self.file) {
+            Ok(asking) => self.successor.asking = Some(asking),
+            Err(why) => self.stays(program, &why),
+        }
+    }
+
+    /// Becomes the other program, once that has said that it can. It answers whether the settings are to be read, since
+    /// it can't.
+    pub(super) fn follow_successor(&mut self, program: &Program, servers: &Servers) -> bool {
+        if let Some(answer) = self.successor.asking.as_mut().and_then(Asking::answer) {
+            let asked = self.successor.asking.take();
+            match answer {
+                Ok(()) if asked.map_or(false, |asked| program.is_asked(&asked)) => self.upgrade(program, servers),
+                // Another one is there by now.
+                Ok(()) => self.ask_successor(program, false),
+                Err(why) => self.stays(program, &why),
+            }
+        }
+        self.successor.asking.is_none() && std::mem::take(&mut self.successor.is_reload)
+    }
+
+    fn stays(&self, program: &Program, why: &str) {
+        error!("{} can't take over: {why}", program.path().display());
+        error!("the router stays as it was");
+    }
+
+    /// Becomes the program that is in the place of this one. It returns where that can't be.
+    fn upgrade(&mut self, program: &Program, servers: &Servers) {
         let error = match self.handed(servers) {
             Ok((_state, handed)) => program.become_it(&handed),
             Err(error) => error,
         };
-        error!("{} can't take over: {error}; the router stays as it was", program.path().display());
+        self.stays(program, &error.to_string());
     }
 
     /// What another program gets: the state, and the sockets by names.
@@ -136,17 +187,26 @@ impl Daemon {
 
     /// Saves the state in a file.
     pub(super) fn save(&self, path: &Path) -> io::Result<()> {
+        self.save_as(path, false)
+    }
+
+    fn save_as(&self, path: &Path, is_in_order: bool) -> io::Result<()> {
         let saved = self.core.save().map_err(|error| io::Error::new(io::ErrorKind::Other, error))?;
-        left::write(path, &self.left().bytes(&saved))
+        let left = Left { is_in_order, ..self.left() };
+        left::write(path, &left.bytes(&saved))
     }
 
     fn keep_sockets(&mut self) {
+        // After a death those of BFD begin anew with their sessions.
+        self.keep_those(|name| !name.starts_with(BFD));
+    }
+
+    /// Has the manager keep the sockets of some names.
+    fn keep_those(&mut self, are_kept: impl Fn(&str) -> bool) {
         if !self.keeping.manager.is_there() {
             return;
         }
-        // Those of BFD's sessions begin anew with them.
-        let sockets: BTreeMap<_, _> =
-            self.kernel.sockets().into_iter().filter(|(name, _)| !name.starts_with("bfd-")).collect();
+        let sockets: BTreeMap<_, _> = self.kernel.sockets().into_iter().filter(|(name, _)| are_kept(name)).collect();
         if sockets == self.keeping.kept {
             return;
         }
@@ -162,12 +222,42 @@ impl Daemon {
         self.keeping.kept = sockets;
     }
 
-    /// The router ends in order: nobody is to go on where it was.
-    pub(super) fn keep_no_more(&mut self) {
+    /// The one that saves has ended.
+    fn await_saver(&mut self) {
         if let Some((child, _)) = self.keeping.saver.take() {
             // SAFETY: no place for the status is passed.
             unsafe { libc::waitpid(child, std::ptr::null_mut(), 0) };
         }
+    }
+
+    // ---- a restart
+
+    /// The router ends, and one that begins soon goes on where it was: the state is saved, and the sockets and what the
+    /// kernel has are kept. It answers whether that is so.
+    pub(super) fn keep_for_next(&mut self) -> bool {
+        if !self.settings.restart.saves {
+            warn!("the state isn't to be saved ([restart] has save = false): the next router begins anew");
+            return false;
+        }
+        self.core.flush_record();
+        self.await_saver();
+        self.keep_those(|_| true);
+        match self.save_as(&self.settings.state_file(), true) {
+            Ok(()) => {
+                self.kernel.stay();
+                info!("the router ends, and the next one goes on where it was");
+                true
+            }
+            Err(error) => {
+                warn!("the state can't be saved: {error}; the next router begins anew");
+                false
+            }
+        }
+    }
+
+    /// The router ends in order: nobody is to go on where it was.
+    pub(super) fn keep_no_more(&mut self) {
+        self.await_saver();
         for name in self.keeping.kept.keys() {
             if let Err(error) = self.keeping.manager.forget(name) {
                 debug!("the service manager can't be told to forget {name}: {error}");

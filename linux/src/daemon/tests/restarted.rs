@@ -50,7 +50,7 @@ fn it_goes_on_and_nobody_notices() {
     let (before, entries) = (tables(&mut daemon), fake.entries.borrow().clone());
     assert_eq!(fake.entry(flows), Some(Forwarded { parent: 0, outgoing: 0b10 }));
     let other = same_machine(&fake);
-    let mut next = resumed(TWO, &other, left_by(&daemon), Way::Exec);
+    let mut next = resumed(TWO, &other, left_by(&daemon), Way::Whole);
     assert_eq!(tables(&mut next), before);
     // Nothing leaves, and nothing is set in the kernel.
     assert!(other.sent.borrow().is_empty() && other.unicasts.borrow().is_empty());
@@ -78,7 +78,7 @@ fn a_source_keeps_its_quota() {
     let (daemon, fake, ..) = at_work();
     let settings = format!("{TWO}[policy]\nmax_streams = 1\n");
     let other = same_machine(&fake);
-    let mut next = resumed(&settings, &other, left_by(&daemon), Way::Exec);
+    let mut next = resumed(&settings, &other, left_by(&daemon), Way::Whole);
     let second = key([10, 1, 0, 51].into(), GROUP.octets());
     happens(&mut next, &other, no_cache(0, second));
     assert!(next.core.offload(second).map_or(true, |row| !row.is_known));
@@ -110,7 +110,7 @@ fn what_changed_on_the_machine_is_taken() {
     let (daemon, fake, flows, _) = at_work();
     let other = same_machine(&fake);
     other.addresses.borrow_mut().retain(|(index, _)| *index != ETH1);
-    let mut next = resumed(TWO, &other, left_by(&daemon), Way::Exec);
+    let mut next = resumed(TWO, &other, left_by(&daemon), Way::Whole);
     assert!(next.ports[0].standing.is_up() && !next.ports[1].standing.is_up());
     assert!(next.core.rows(Table::Groups).expect("it tells").is_empty());
     assert_ne!(other.entry(flows), Some(Forwarded { parent: 0, outgoing: 0b10 }));
@@ -119,7 +119,7 @@ fn what_changed_on_the_machine_is_taken() {
 #[test]
 fn spoilt_bytes_have_it_made_anew_while_the_kernel_forwards() {
     let (daemon, fake, flows, idle) = at_work();
-    for way in [Way::Exec, Way::Death] {
+    for way in [Way::Whole, Way::Death] {
         let (left, mut saved) = left_by(&daemon);
         saved[4] ^= 1;
         let other = same_machine(&fake);
@@ -140,7 +140,7 @@ fn spoilt_bytes_have_it_made_anew_while_the_kernel_forwards() {
 #[test]
 fn other_settings_are_taken_by_a_router_that_goes_on() {
     let (daemon, fake, flows, _) = at_work();
-    for way in [Way::Exec, Way::Death] {
+    for way in [Way::Whole, Way::Death] {
         let other = same_machine(&fake);
         let next = resumed(&format!("limit = 3000\n{TWO}"), &other, left_by(&daemon), way);
         assert_eq!((next.counters.made_anew, next.counters.reloaded, next.core.told.limit), (0, 1, 3000));
@@ -152,10 +152,10 @@ fn other_settings_are_taken_by_a_router_that_goes_on() {
 fn an_interface_less_goes_down_and_one_more_is_taken() {
     let (daemon, fake, ..) = at_work();
     let one = TWO.replace("[[interface]]\nname = \"eth1\"\n", "");
-    let next = resumed(&one, &same_machine(&fake), left_by(&daemon), Way::Exec);
+    let next = resumed(&one, &same_machine(&fake), left_by(&daemon), Way::Whole);
     assert!(next.ports[0].standing.is_up() && next.ports[1].is_removed && !next.ports[1].standing.is_up());
     let three = format!("{TWO}[[interface]]\nname = \"eth7\"\n");
-    let next = resumed(&three, &same_machine(&fake), left_by(&daemon), Way::Exec);
+    let next = resumed(&three, &same_machine(&fake), left_by(&daemon), Way::Whole);
     assert_eq!((next.counters.made_anew, next.counters.reloaded, next.ports.len()), (0, 1, 3));
     assert!(next.core.link(2).is_some());
 }
@@ -164,7 +164,7 @@ fn an_interface_less_goes_down_and_one_more_is_taken() {
 fn other_ranges_are_taken() {
     let (daemon, fake, ..) = at_work();
     let other = TWO.replace("10.9.0.1", "10.9.0.2");
-    let mut next = resumed(&other, &same_machine(&fake), left_by(&daemon), Way::Exec);
+    let mut next = resumed(&other, &same_machine(&fake), left_by(&daemon), Way::Whole);
     let (mut usual, _) = begun(&other, &both());
     for daemon in [&mut next, &mut usual] {
         daemon.core.take(Event::Seen(1, key(NEAR, [239, 2, 1, 9]))).expect("it goes on");
@@ -193,7 +193,7 @@ fn a_session_goes_on_by_exec_and_begins_anew_after_a_death() {
         }
     }
     assert_eq!(daemon.bfd_state(&place), Some(State::Up));
-    let next = resumed(&settings, &same_machine(&fake), left_by(&daemon), Way::Exec);
+    let next = resumed(&settings, &same_machine(&fake), left_by(&daemon), Way::Whole);
     assert_eq!(next.sessions.get(&place), daemon.sessions.get(&place));
     let next = resumed(&settings, &same_machine(&fake), left_by(&daemon), Way::Death);
     assert_eq!(next.bfd_state(&place), Some(State::Down));
@@ -213,6 +213,27 @@ fn the_state_is_saved_in_a_file() {
 }
 
 #[test]
+fn a_restart_keeps_what_a_stop_gives_up() {
+    let folder = std::env::temp_dir().join(format!("viqeshord-restart-{}", std::process::id()));
+    std::fs::create_dir_all(&folder).expect("it is made");
+    let settings = format!("socket = \"{}/control\"\n{TWO}", folder.display());
+    let (mut daemon, fake) = begun(&settings, &both());
+    let sent = fake.sent.borrow().len();
+    assert!(daemon.keep_for_next());
+    // No neighbour hears of it.
+    assert_eq!((fake.stays.get(), fake.is_ended.get(), fake.sent.borrow().len()), (true, false, sent));
+    let file = daemon.settings.state_file();
+    let (left, _) = Left::read(&std::fs::read(&file).expect("it is there")).expect("it is whole");
+    assert!(left.is_in_order && !left_by(&daemon).0.is_in_order);
+    daemon.keep_no_more();
+    assert!(fake.is_ended.get() && !file.exists());
+    // Where no state is to be saved it is a stop.
+    let (mut daemon, fake) = begun(&format!("{settings}[restart]\nsave = false\n"), &both());
+    assert!(!daemon.keep_for_next() && !fake.stays.get() && !file.exists());
+    std::fs::remove_dir_all(&folder).expect("it is there");
+}
+
+#[test]
 fn a_recorded_router_goes_on_in_its_files() {
     let folder = std::env::temp_dir().join(format!("viqeshord-recorded-{}", std::process::id()));
     std::fs::create_dir_all(&folder).expect("it is made");
@@ -225,7 +246,7 @@ fn a_recorded_router_goes_on_in_its_files() {
     assert!(first > 0 && size(1) == 0);
     std::thread::sleep(Duration::from_millis(20));
     let other = same_machine(&fake);
-    let mut next = resumed(&settings, &other, left_by(&daemon), Way::Exec);
+    let mut next = resumed(&settings, &other, left_by(&daemon), Way::Whole);
     happens(&mut next, &other, report(ETH1, [10, 5, 0, 77], GROUP));
     passes(&mut next, &other, 300);
     assert!(size(0) == first && size(1) > 0);
