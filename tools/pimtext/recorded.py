@@ -8,9 +8,9 @@ real ones, MARK seconds and its place.
 from __future__ import annotations
 
 import re
-from collections.abc import Iterable
+from collections.abc import Iterable, Iterator
 from dataclasses import dataclass, field, replace
-from functools import cache
+from functools import cache, lru_cache
 from typing import TYPE_CHECKING, Any
 
 from pimtext import asked, packets, printed, story, view_text, views, words
@@ -44,18 +44,21 @@ class Texts:
         return self.numbers[text]
 
 
-def marked(rows: Iterable[printed.Row]) -> tuple[tuple[printed.Row, ...], list[float]]:
-    """The rows with their ends as marks, and the ends."""
-    ends, found = [], []
+@lru_cache(maxsize=65536)
+def parted(row: printed.Row) -> tuple[printed.Row, dict[str, float]]:
+    """A row without its ends, and these by their columns."""
+    ends = {column: getattr(row, column, None) for column in ("end", "pending")}
+    ends = {column: end for column, end in ends.items() if end is not None and end != printed.NEVER}
+    return (row._replace(**dict.fromkeys(ends, 0)) if ends else row), ends
+
+
+def marked(rows: Iterable[printed.Row]) -> Iterator[printed.Row]:
+    """The rows with their ends as marks."""
+    count = 0
     for row in rows:
-        changed = {}
-        for column in ("end", "pending"):
-            end = getattr(row, column, None)
-            if end is not None and end != printed.NEVER:
-                changed[column] = (MARK + len(ends)) * 1000
-                ends.append(end)
-        found.append(row._replace(**changed) if changed else row)
-    return tuple(found), ends
+        ends = parted(row)[1]
+        yield row._replace(**{column: (MARK + count + place) * 1000 for place, column in enumerate(ends)})
+        count += len(ends)
 
 
 # ---- rows in words
@@ -95,13 +98,13 @@ def row_words(router: Router, row: printed.Row) -> str:
 
 
 def around(state: Known) -> tuple[object, ...]:
-    """What a shape shows of a router beside its rows, their ends and its queriers: what is up, its routes and RPs, the
-    options of its neighbours' Hellos, and which asserts it lost."""
+    """What a shape shows of a router beside its rows, their ends, its queriers, routes and RPs: what is up, the options
+    of its neighbours' Hellos, and which asserts it lost."""
     said = [(row.iface, row.address, *state.neighbour(row.iface, row.address)[1:])
             for row in state.of(printed.Neighbour)]
     lost = [(row.group, row.source, asked.lost(state, row.group, row.source))
             for row in state.of(printed.AssertState)]
-    return tuple(sorted(state.up)), tuple(state.routes), tuple(state.rps), tuple(said), tuple(lost)
+    return tuple(sorted(state.up)), tuple(said), tuple(lost)
 
 
 def queriers(state: Known) -> tuple[tuple[int, str], ...]:
@@ -116,17 +119,25 @@ class Shapes:
     def __init__(self, recording: Recording, router: Router) -> None:
         self.recording, self.router = recording, router
         self.numbers, self.all, self.context = {}, [], None
+        self.lists, self.list = {}, (None, None, 0)
 
     def of(self, state: Known, is_context_kept: bool) -> tuple[int, list[float]]:
         """The number of a router's shape, and its ends."""
-        rows, ends = marked(state.rows)
+        parts = [parted(row) for row in state.rows]
         if self.context is None or not is_context_kept:
             self.context = around(state)
-        key = rows, self.context, queriers(state)
+        key = tuple(row for row, _ in parts), self.context, queriers(state), self.number_of_lists(state)
         if key not in self.numbers:
             self.numbers[key] = len(self.all)
-            self.all.append(self.made(replace(copied(state), told=list(rows))))
-        return self.numbers[key], ends
+            self.all.append(self.made(replace(copied(state), told=list(marked(state.rows)))))
+        return self.numbers[key], [end for _, ends in parts for end in ends.values()]
+
+    def number_of_lists(self, state: Known) -> int:
+        """A number of a router's routes and RPs: equal ones have the same."""
+        if self.list[0] is not state.routes or self.list[1] is not state.rps:
+            key = tuple(state.routes), tuple(state.rps)
+            self.list = state.routes, state.rps, self.lists.setdefault(key, len(self.lists))
+        return self.list[2]
 
     def made(self, state: Known) -> dict[str, Any]:
         text = self.recording.text

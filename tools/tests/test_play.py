@@ -69,7 +69,7 @@ class Recorded(unittest.TestCase):
             rows = [told["texts"][row] for row in told["shapes"][router][now[router][0]]["rows"]]
             self.assertEqual(rows, list(dict.fromkeys(recorded.row_words(read.routers[router], row)
                                                       for row in table.rows)))
-            self.assertEqual(now[router][1], recorded.marked(table.rows)[1])
+            self.assertEqual(now[router][1], [end for row in table.rows for end in recorded.parted(row)[1].values()])
 
     def test_what_came_to_a_host(self):
         told = run(networks.Network().text())
