@@ -1,6 +1,7 @@
 """Calls of the kit's own program on one crate, where the command `rt` would first prove what stands below it."""
 from __future__ import annotations
 
+import re
 import subprocess
 from pathlib import Path
 from typing import TYPE_CHECKING
@@ -13,6 +14,12 @@ if TYPE_CHECKING:
 
 # The crates of a repository, each with the names of what it stands on, of the kit too.
 Crates = dict[str, list[str]]
+
+
+def named(top: Path) -> Crates:
+    """The crates of crates.txt."""
+    lines = [it for it in (top / "crates.txt").read_text().splitlines() if ":" in it and not it.startswith("#")]
+    return {it.partition(":")[0].split()[0]: it.partition(":")[2].split() for it in lines}
 
 
 def below(name: str, crates: Crates) -> list[str]:
@@ -69,11 +76,21 @@ def are_of_gate(names: list[str], top: Path) -> bool:
     return are_there(names, top) and not any((library(name, top).parent / "stamp").exists() for name in names)
 
 
-def said(name: str, folder: Path, words: list[str], only: str) -> str:
-    """What the kit's program says of a crate in a folder, of one function; of none where the name is empty: then the
-    front end alone reads it, which takes seconds."""
-    root = next(it for it in ("src/lib.rt", "src/main.rt") if (folder / it).exists())
-    words = [f"{kit.kit()}/bin/rattle", "check", "--crate-name", name, root, *words, *logic(), "--jobs", "1", "--only",
-             only]
-    return subprocess.run(words, cwd=folder, stdout=subprocess.PIPE, stderr=subprocess.STDOUT, text=True,
-        errors="replace").stdout
+def kind(name: str, top: Path) -> list[str]:
+    """The words that say what a crate is to become, as crates.txt has it."""
+    head = next(it for it in (top / "crates.txt").read_text().splitlines() if re.match(rf"{name}\b[^:]*:", it))
+    return ["--crate-type", "staticlib"] if "staticlib" in head.partition(":")[0].split() else []
+
+
+def over(name: str, top: Path, libraries: Path | None) -> list[str]:
+    """The words with which a crate is checked: over the libraries that `rt ci` built in a folder, or over sources."""
+    crates = named(top)
+    lower = over_sources(name, crates, top) if libraries is None else over_proved(name, crates, libraries)
+    return [*lower, *logic(), "--links", f"{name}=", *kind(name, top)]
+
+
+def ran(words: list[str], folder: Path) -> tuple[int, list[str]]:
+    """Runs the kit's program in a folder: its status and its lines."""
+    how = {"stdin": subprocess.DEVNULL, "stdout": subprocess.PIPE, "stderr": subprocess.STDOUT}
+    done = subprocess.run(words, cwd=folder, text=True, errors="replace", **how)
+    return done.returncode, done.stdout.splitlines()

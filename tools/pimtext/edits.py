@@ -1,4 +1,4 @@
-"""Edits that must fail: what each changes, and whether what the kit says of it is the refusal that it names.
+"""Edits that must fail: what each changes, and whether what the prover says is the refusal that it names.
 
 Those of a crate stand in its `edits.txt`, with an empty line between two. An edit has a line `edit: NAME`, lines
 `refused: FUNCTION CLAUSE`, and for each file a line `file: PATH` with pairs of lines `old: TEXT` and `new: TEXT`. A
@@ -19,51 +19,41 @@ if TYPE_CHECKING:
 
 # What the front end is to say of an edit that no type allows.
 ERROR = re.compile(r"error\[[\w-]+\]")
-# What the kit says of an edit, of one that it can name no crate for, and how it begins where it is refused.
-SAID = re.compile(r"rt: must-fail ([\w-]+)/(\S+)\.edit: (.*)")
-BAD = re.compile(r"rt: (\S+): BAD EDIT: (.*)")
 LINE = re.compile(r"(?:edit: \w+|(?:refused|file|old): .+|new:(?: .*)?|#.*|)")
-REFUSED = "refused, as it must be"
+# So many edits may name no clause yet. The number may only fall.
+MAY_BE_UNNAMED = 349
 UNNAMED = "it names no reason in a line `refused: FUNCTION CLAUSE`"
-BY_A_NAME, BY_A_LIMIT = "only because a proof file names", "only by a limit of the prover"
-# What is said where the kit's line ends before the name of the clause: it passes on 160 letters of the prover's line.
-CUT = "a clause whose name the kit's line cuts"
+# What the prover says that is no refusal by a clause: a limit of its own, and a proof by hand that names what an edit
+# takes away.
+NO_REFUSAL = re.compile(r"antt ran out of |outgrew the memory limit|stopped at the step limit"
+                        r"|^(?:note: )?(?:\./)?proofs/.*(?:has no field|is not in scope|has no `|was not admitted)")
 # What a goal without a clause's name may be about.
 KINDS = {"ensures", "invariant", "requires", "loop", "overflow"}
 # These edits are of the network of which the runs are, and a run's premise refuses them.
 OF_NETWORKS = {"pim_runs": ("specs/ServedChain.antt",)}
 # Where a goal isn't met: in a proof by hand, whose path ends with the function's name, or in the code.
 IN_PROOF = re.compile(r"\./proofs/(\S*)/(?:Answers|Invariants|Proof)\.antt:\d+:\d+: error: "
-                      r"(?:\d+ declarations? that depends? on )?`([^`]*)(`?)(.*)")
+                      r"(?:\d+ declarations? that depends? on )?`([^`]*)`(.*)")
 # The goals of a proof by hand that stand on a declaration of its own that is rejected.
 STANDING_ON = re.compile(r", which was rejected, (?:was|were) not checked: (.*)")
-# So many letters of the prover's line the kit passes on.
-PASSED_ON = 160
 IN_CODE = re.compile(r"(?:note: )?(src/\S+?):(\d+):\d+: (?:error: )?(.*)")
-GOAL = re.compile(r"\(`([^`]*)(`?)")
+GOAL = re.compile(r"\(`([^`]*)`")
 
 
 @dataclass(frozen=True)
 class Reason:
-    """Why an edit is refused: the function whose contract isn't met, and the goal as far as the kit's line has it."""
+    """Why an edit is refused: the function whose contract isn't met, and the goal."""
 
     found: Found
     goal: str
-    is_whole: bool
 
     def __str__(self) -> str:
-        clause = clause_of(self.goal) if self.is_whole else f"{CUT} (`{self.goal}`)"
-        return f"{self.found.function} {clause}"
+        return f"{self.found.function} {clause_of(self.goal)}"
 
     def is_of(self, clause: str) -> bool:
-        """Whether the clause is this. Where the kit's line cuts its name, what is left of it has to be of no other
-        clause."""
-        if self.is_whole:
-            told = clause_of(self.goal)
-            return told == clause or (clause == "loop" and told in self.found.labels)
-        _, named, begun = self.goal.rpartition("-clause-")
-        alike = {it for it in clauses(self.found) if it.startswith(begun)} if named and begun else set()
-        return alike == {clause}
+        """Whether the clause is this."""
+        told = clause_of(self.goal)
+        return told == clause or (clause == "loop" and told in self.found.labels)
 
 
 def clause_of(goal: str) -> str:
@@ -110,6 +100,8 @@ class Crate:
         self.files = {str(path.relative_to(folder)): path.read_text(encoding="utf-8")
                       for path in sorted((folder / "src").rglob("*.rt"))}
         self.found = {path: functions(path, text) for path, text in self.files.items()}
+        others = {path: folder / path for path in OF_NETWORKS.get(self.name, ()) if (folder / path).is_file()}
+        self.texts = {**self.files, **{path: it.read_text(encoding="utf-8") for path, it in others.items()}}
 
     def edits(self) -> list[Edit]:
         return [Edit(name, lines, self) for name, lines in texts_of(self.folder).items()]
@@ -118,8 +110,10 @@ class Crate:
         return [one for found in self.found.values() for one in found]
 
     def named(self, words: str) -> list[Found]:
-        """The functions that a name is of."""
-        return [one for one in self.all() if one.function.is_named(words)]
+        """The functions that a name is of. A type's own goes before those of its traits, whose names have these."""
+        found = [one for one in self.all() if one.function.is_named(words)]
+        own = [one for one in found if not one.function.trait]
+        return own if len({(it.function.module, it.function.owner) for it in found}) == 1 and own else found
 
     def clauses_of(self, one: Found) -> set[str] | AnyClause:
         """What a refusal by a function can be about: its clauses, or those of its trait, and what no clause names."""
@@ -129,8 +123,8 @@ class Crate:
         return KINDS.union(clauses(one), *map(clauses, above)) if above or not trait else AnyClause()
 
     def can_name(self, reason: Reason) -> bool:
-        """Whether an edit may name this reason: it is whole, and of what the function's contract says."""
-        return reason.is_whole and clause_of(reason.goal) in self.clauses_of(reason.found)
+        """Whether an edit may name this reason: it is of what the function's contract says."""
+        return clause_of(reason.goal) in self.clauses_of(reason.found)
 
     def proved_in(self, path: str) -> list[Found]:
         """The functions whose proof stands in a folder below proofs/: its modules, its type with its trait, its
@@ -159,7 +153,7 @@ class Edit:
 
     def edited(self, file: str) -> str:
         """A file of the crate as the edit leaves it."""
-        text, at, old = self.crate.files[file], "", ""
+        text, at, old = self.crate.texts[file], "", ""
         for line in self.lines:
             if line.startswith("file: "):
                 at = line.removeprefix("file: ").strip()
@@ -169,18 +163,21 @@ class Edit:
                 text = text.replace(old, line.removeprefix("new:").removeprefix(" "))
         return text
 
-    def applies(self) -> bool:
-        """Whether each text that it changes stands in its file once, where those before it are changed."""
-        texts, at, old = dict(self.crate.files), "", ""
+    def applies(self, texts: dict[str, str] | None = None) -> bool:
+        """Whether each text that it changes stands in its file once, where those before it are changed. It is then
+        changed in these texts, if some are given."""
+        at, old, left = "", "", dict(self.crate.texts if texts is None else texts)
         for line in self.lines:
             if line.startswith("file: "):
                 at = line.removeprefix("file: ").strip()
             elif line.startswith("old: "):
                 old = line.removeprefix("old: ")
-                if texts.get(at, "").count(old) != 1:
+                if left.get(at, "").count(old) != 1:
                     return False
             elif line.startswith("new:"):
-                texts[at] = texts[at].replace(old, line.removeprefix("new:").removeprefix(" "))
+                left[at] = left[at].replace(old, line.removeprefix("new:").removeprefix(" "))
+        if texts is not None:
+            texts.update(left)
         return True
 
     def files(self) -> set[str]:
@@ -228,26 +225,23 @@ class Edit:
         return near[0] if near else None
 
     def reasons(self, told: str) -> list[Reason]:
-        """The reasons that the prover's line tells, as far as the kit passes it on. Of a proof by hand these are the
-        declaration that is rejected, and the goals that stand on it."""
+        """The reasons that the prover's line tells. Of a proof by hand these are the declaration that is rejected, and
+        the goals that stand on it."""
+        if NO_REFUSAL.search(told):
+            return []
         if found := IN_PROOF.match(told):
             near = self.crate.proved_in(found[1])
             if len(near) != 1:
                 return []
-            left = STANDING_ON.match(found[4])
-            on_it = left[1].split(", ") if left else []
-            if len(told) == PASSED_ON:
-                on_it = on_it[:-1]
-            return [Reason(near[0], found[2], bool(found[3])), *(Reason(near[0], it, True) for it in on_it)]
+            left = STANDING_ON.match(found[3])
+            return [Reason(near[0], goal) for goal in (found[2], *(left[1].split(", ") if left else []))]
         found = IN_CODE.match(told)
         if not found or found[1] not in self.crate.files:
             return []
         one, goals = self.function_at(found[1], int(found[2])), GOAL.findall(found[3])
         if one and "`invariant`" in found[3]:
-            return [Reason(one, "invariant", True)]
-        # A line that is cut may end before its goal begins.
-        goal, closed = goals[-1] if goals else ("", "")
-        return [Reason(one, goal, bool(closed))] if one else []
+            return [Reason(one, "invariant")]
+        return [Reason(one, goals[-1])] if one and goals else []
 
     def reason(self, told: str) -> Reason | None:
         """The reason that the prover's line tells: one of a clause that the function has, if there is any. None where
@@ -265,23 +259,8 @@ class Edit:
         words = [word for words in self.wanted for word in words]
         return words[0] if len(words) == 1 and ERROR.fullmatch(words[0]) else None
 
-    def wrong(self, said: str | None) -> str | None:
-        """What is wrong with the edit by the kit's words on it; None where it is refused as it says."""
-        if self.error() and said is not None:
-            return None if self.error() in ERROR.findall(said) else f"{said}; and not {self.error()}"
-        if said is not None and not said.startswith(REFUSED):
-            return said
-        if wrong := self.misnames() or self.changes_a_contract():
-            return wrong
-        if said is None:
-            return "it wasn't tried"
-        if BY_A_NAME in said:
-            return "it is refused only because a proof names what it takes away"
-        if BY_A_LIMIT in said:
-            return "the prover stopped at a limit and gave no verdict"
-        told = said.removeprefix(REFUSED).removeprefix(": ")
-        reason = self.reason(told)
-        if reason is None:
-            return f"the kit tells no goal that isn't met: {said}"
-        named = " or ".join(" ".join(words) for words in self.wanted)
-        return None if self.meets(told) else f"it is refused by {reason}, and not by {named}"
+    def flaw(self) -> str | None:
+        """What is wrong with the edit itself, so that it tells nothing; None where nothing is."""
+        if not self.applies():
+            return "a text that it changes doesn't stand there once"
+        return None if self.error() else self.wanted and self.misnames() or self.changes_a_contract()

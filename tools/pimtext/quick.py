@@ -13,6 +13,8 @@ from collections.abc import Callable
 from pathlib import Path
 from typing import TYPE_CHECKING, Any
 
+from pimtext import beside
+
 if TYPE_CHECKING:
     from types import ModuleType
 
@@ -66,4 +68,6 @@ def main(words: list[str]) -> int:
     made = loaded()
     if made is None:
         os.execvp("rt", ["rt", *words])
+    if words[:1] == ["ci"] and hasattr(made, "in_lanes"):
+        beside.added(made, "--anew" in words)
     return made.main(words)

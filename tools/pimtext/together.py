@@ -1,37 +1,46 @@
 """Many edits in one check: those of a crate that change functions of their own, put to the prover at once.
 
-A function is proved by the contracts of those that it calls, so what the prover says of one tells of the edit that
-changed it alone."""
+A function is proved by the contracts of those that it calls; its code and its proof are private to it (`rattle check
+--help`). So what the prover says of one function tells of the edit that changed it alone. Functions that call one
+another have one proof (`#[cycle(NAME)]`), so no two edits of a cycle are in one check."""
 from __future__ import annotations
 
 import re
-import subprocess
+import shutil
+import signal
 from collections.abc import Iterable, Iterator
 from pathlib import Path
 from typing import TYPE_CHECKING
 
-from pimtext.edits import KINDS, Crate, Edit, Reason, clause_of
+from pimtext import kit
+from pimtext.checks import ran
+from pimtext.edits import ERROR, KINDS, Crate, Edit, Reason, clause_of
 
 if TYPE_CHECKING:
     from pimtext.functions import Found, Function
 
+PARTS = ("src", "specs", "proofs")
 # The lines on each edit that is refused, each with the reason that it tells, if it tells one.
-Told = dict[Edit, list[tuple[str, Reason | None]]]
+Told = dict[Edit, list[tuple[str, "Reason | None"]]]
+# What came of an edit, and what there is to say.
+Answer = tuple[str, str]
 # What the front end says of a line of the code: then no function is put to the prover.
 BY_FRONT_END = re.compile(r"(src/\S+?):(\d+):\d+: error\[[\w-]+\]")
-# What the prover says of a function that it doesn't try.
+# What the prover says of a function, and of one that it doesn't try.
+PROVED = re.compile(r"fn (\S+): proved")
 WAITS = re.compile(r"fn (\S+): not proved; it calls `")
+# The last line of a check of some functions.
+ENDED = re.compile(r"only=\d+ ")
 CONSTANT = re.compile(r"\s*(?:pub(?:\([a-z]+\))? )?const (\w+):")
+CYCLE = re.compile(r"\s*#\[cycle\((\w+)\)\]")
 
 
 class Batch(Edit):
     """Edits that change functions of their own, as one edit of all."""
 
     def __init__(self, edits: list[Edit]) -> None:
-        self.crate, self.edits = edits[0].crate, edits
-        self.lines = [line for edit in edits for line in edit.lines]
-        self.wanted = [words for edit in edits for words in edit.wanted]
-        self.of = {changed(edit): edit for edit in edits}
+        super().__init__("together", [line for edit in edits for line in edit.lines], edits[0].crate)
+        self.edits, self.of = edits, {changed(edit): edit for edit in edits}
 
 
 def last_line(lines: list[str], first: int) -> int:
@@ -81,20 +90,17 @@ def changed(edit: Edit) -> Function | None:
     return found.pop() if len(found) == 1 else None
 
 
-def applies(edit: Edit, texts: dict[str, str]) -> bool:
-    """Whether what an edit replaces stands in these texts exactly once, where it is then replaced."""
-    at, old, left = "", "", dict(texts)
-    for line in edit.lines:
-        if line.startswith("file: "):
-            at = line.removeprefix("file: ").strip()
-        elif line.startswith("old: "):
-            old = line.removeprefix("old: ")
-            if left.get(at, "").count(old) != 1:
-                return False
-        elif line.startswith("new:"):
-            left[at] = left[at].replace(old, line.removeprefix("new:").removeprefix(" "))
-    texts.update(left)
-    return True
+def proved_with(edit: Edit) -> object:
+    """What has one proof: the function that an edit changes, or the cycle of calls that it is in."""
+    function = changed(edit)
+    for file, found in edit.crate.found.items():
+        lines = edit.crate.files[file].splitlines()
+        for at in (one.line - 2 for one in found if one.function == function):
+            while at >= 0 and lines[at].lstrip().startswith(("#[", "//")):
+                if cycle := CYCLE.match(lines[at]):
+                    return cycle[1]
+                at -= 1
+    return function
 
 
 def batches(edits: Iterable[Edit], most: int = 40) -> Iterator[Batch]:
@@ -103,23 +109,43 @@ def batches(edits: Iterable[Edit], most: int = 40) -> Iterator[Batch]:
     while left:
         taken, functions, texts = [], set(), dict(left[0].crate.files)
         for edit in left:
-            if len(taken) < most and changed(edit) not in functions and applies(edit, texts):
+            if len(taken) < most and proved_with(edit) not in functions and edit.applies(texts):
                 taken.append(edit)
-                functions.add(changed(edit))
+                functions.add(proved_with(edit))
         if not taken:
             return
         yield Batch(taken)
         left = [edit for edit in left if edit not in taken]
 
 
-def checked(batch: Batch, folder: Path) -> list[str]:
-    """What a check says of the crate in this folder with all edits of a batch in it."""
-    for file in batch.files():
-        (folder / file).write_text(batch.edited(file), encoding="utf-8")
-    ran = subprocess.run(["rt", "check", "--jobs", "1"], cwd=folder, capture_output=True, text=True)
-    for file in batch.files():
-        (folder / file).write_text(batch.crate.files[file], encoding="utf-8")
-    return (ran.stdout + ran.stderr).splitlines()
+class Prover:
+    """The kit's program on a crate, in a copy of its files. The words name what stands below it; those before them hold
+    the program, where it isn't to outlive what runs it."""
+
+    def __init__(self, crate: Crate, room: Path, words: list[str], before: Iterable[str] = ()) -> None:
+        self.folder, self.room = room / crate.name, room
+        for part in PARTS:
+            if (crate.folder / part).is_dir():
+                shutil.copytree(crate.folder / part, self.folder / part)
+        root = next(it for it in ("src/lib.rt", "src/main.rt") if (self.folder / it).exists())
+        program = f"{kit.kit()}/bin/rattle"
+        self.command = [*before, program, "check", "--crate-name", crate.name, root, *words, "--jobs", "1"]
+
+    def says(self, edit: Edit, only: Iterable[str], anew: bool = False) -> list[str]:
+        """What it says of some functions with an edit in the crate, over what it kept of earlier checks, or anew."""
+        over = self.room / ("anew" if anew else "kept")
+        shutil.rmtree(self.room / "anew", ignore_errors=True)
+        over.mkdir(exist_ok=True)
+        words = [*self.command, *(word for one in only for word in ("--only", one)), "--incremental", str(over)]
+        for file in edit.files():
+            (self.folder / file).write_text(edit.edited(file), encoding="utf-8")
+        status, lines = ran(words, self.folder)
+        if status == -signal.SIGKILL:
+            # Most likely for memory.
+            status, lines = ran(words, self.folder)
+        for file in edit.files():
+            (self.folder / file).write_text(edit.crate.texts[file], encoding="utf-8")
+        return lines
 
 
 def by_front_end(batch: Batch, lines: list[str]) -> Told:
@@ -155,30 +181,109 @@ def rank(batch: Batch, reason: Reason) -> int:
     return kinds.index(clause) if clause in kinds else 0
 
 
-def waiting(batch: Batch, lines: list[str]) -> set[Function]:
-    """The changed functions that the prover hasn't tried, since one that they call isn't proved."""
-    paths = {told[1] for told in map(WAITS.match, lines) if told}
-    return {one for one in batch.of if one and any(path.endswith(f"::{ending(one)}") for path in paths)}
+def path_of(function: Function) -> str:
+    """A function's path below its crate as a check prints it, of a method without the modules."""
+    modules = [it for it in function.module if it not in ("lib", "main", "mod")]
+    return "::".join([*([function.owner + function.trait] if function.owner else modules), function.name])
 
 
-def ending(function: Function) -> str:
-    """How the prover's name of a function ends: with its type, or else with its modules."""
-    return "::".join([*([function.owner] if function.owner else function.module), function.name])
+def in_state(batch: Batch, lines: list[str], state: re.Pattern[str]) -> set[Edit]:
+    """The edits of those functions of which the prover says this."""
+    paths = [told[1] for told in map(state.match, lines) if told]
+    crate = batch.crate.name
+    return {edit for one, edit in batch.of.items() for path in paths
+            if path == f"{crate}::{path_of(one)}" or one.owner and path.endswith(f"::{path_of(one)}")}
 
 
-def told_together(batch: Batch, folder: Path) -> Told:
-    """The lines on each edit of a batch that is refused. Where the front end refuses some, the others are checked again
-    without these; so are those that the prover hasn't tried, since another edit of the batch was refused."""
-    told: Told = {}
+def put_together(batch: Batch, prover: Prover, anew: bool = False) -> Iterator[tuple[Edit, Answer]]:
+    """What comes of each edit of a batch. Where the front end refuses some, the others are checked again without these;
+    so are those that the prover hasn't tried, since another edit of the batch was refused."""
     while True:
-        lines = checked(batch, folder)
-        refused = by_front_end(batch, lines)
-        if not refused:
-            refused = by_prover(batch, lines)
-            left = [batch.of[one] for one in waiting(batch, lines) if batch.of[one] not in refused]
+        lines = prover.says(batch, sorted(map(path_of, batch.of)), anew)
+        told, left = by_front_end(batch, lines), []
+        if told:
+            left = [edit for edit in batch.edits if edit not in told]
+        elif not any(map(ENDED.match, lines)):
+            told = {edit: [] for edit in batch.edits}
+            yield from ((edit, ("not tried", (lines or ["it said nothing"])[-1])) for edit in told)
+            return
         else:
-            left = [edit for edit in batch.edits if edit not in refused]
-        told.update(refused)
+            told = by_prover(batch, lines)
+            left = [edit for edit in in_state(batch, lines, WAITS) if edit not in told]
+        proved = in_state(batch, lines, PROVED)
+        for edit in batch.edits:
+            if edit not in left or len(left) == len(batch.edits):
+                yield edit, ("STILL PROVED", "") if edit in proved else answer(edit, told.get(edit, []))
         if not left or len(left) == len(batch.edits):
-            return told
+            return
         batch = Batch(left)
+
+
+def answer(edit: Edit, told: list[tuple[str, Reason | None]]) -> Answer:
+    """What came of an edit that isn't proved, by the lines on its function and the reasons that they tell."""
+    if not told:
+        return "NOT AS IT SAYS", "the prover tells no goal that isn't met"
+    if not edit.wanted:
+        return "NAMES NO CLAUSE", told[0][0]
+    met = (line for line, reason in told for name, clause in edit.wanted
+        if reason and reason.found.function.is_named(name) and reason.is_of(clause))
+    line = next(met, None)
+    return ("refused", line) if line else ("NOT AS IT SAYS", told[0][0])
+
+
+def by_itself(edit: Edit, prover: Prover, anew: bool = False) -> Answer:
+    """What comes of an edit that changes more than one function, which none other is tried with."""
+    named = [one.function for words in edit.wanted for one in edit.crate.named(words[0])]
+    lines = prover.says(edit, sorted({path_of(one) for one in named}), anew)
+    if met := next(filter(edit.meets, lines), None):
+        return "refused", met
+    if "only=" not in (lines or [""])[-1]:
+        return ("NOT AS IT SAYS" if any(map(BY_FRONT_END.search, lines)) else "not tried"), front_line(lines)
+    paths = [told[1] for told in map(PROVED.match, lines) if told]
+    is_proved = all(any(path.endswith(f"::{path_of(one)}") for path in paths) for one in named)
+    return ("STILL PROVED", "") if is_proved else ("NOT AS IT SAYS", front_line(lines))
+
+
+def front_line(lines: list[str]) -> str:
+    """The line of a check with an error, or else its last."""
+    return next(filter(ERROR.search, lines), lines[-1] if lines else "it said nothing")
+
+
+def by_types(edit: Edit, prover: Prover) -> Answer:
+    """What the front end says of an edit that no type allows."""
+    line = front_line(prover.says(edit, [""]))
+    return ("refused" if edit.error() in ERROR.findall(line) else "NOT AS IT SAYS"), line
+
+
+def all_tried(edits: list[Edit], prover: Prover) -> Iterator[tuple[Edit, Answer]]:
+    """What comes of each of these edits of a crate. One that is still proved is tried once more, alone and from
+    nothing."""
+    flaws = {edit: flaw for edit in edits if (flaw := edit.flaw())}
+    yield from ((edit, ("NOT AS IT SAYS" if edit.applies() else "does not apply", it)) for edit, it in flaws.items())
+    whole = [edit for edit in edits if edit not in flaws]
+    yield from ((edit, by_types(edit, prover)) for edit in whole if edit.error())
+    for batch in batches(whole):
+        for edit, came in put_together(batch, prover):
+            again = put_together(Batch([edit]), prover, anew=True) if came[0] == "STILL PROVED" else ()
+            yield next(iter(again), (edit, came))
+    for edit in (it for it in whole if not it.error() and not changed(it)):
+        if not edit.wanted:
+            yield edit, ("NAMES NO CLAUSE", "it changes more than one function, so it is tried where it names a clause")
+            continue
+        came = by_itself(edit, prover)
+        yield edit, by_itself(edit, prover, anew=True) if came[0] == "STILL PROVED" else came
+
+
+def read_by_front_end(edits: list[Edit], prover: Prover) -> Iterator[tuple[Edit, Answer]]:
+    """Those edits of a crate that the front end alone judges or spoils: it is to refuse those that no type allows, and
+    no other."""
+    flaws = {edit: flaw for edit in edits if (flaw := edit.flaw())}
+    yield from ((edit, ("does not apply", it)) for edit, it in flaws.items())
+    whole = [edit for edit in edits if edit not in flaws]
+    yield from ((edit, by_types(edit, prover)) for edit in whole if edit.error())
+    for batch in batches(whole):
+        left = batch.edits
+        while left:
+            told = by_front_end(batch := Batch(left), prover.says(batch, [""]))
+            yield from ((edit, ("NOT AS IT SAYS", lines[0][0])) for edit, lines in told.items())
+            left = [edit for edit in left if edit not in told] if told else []

@@ -1,316 +1,194 @@
-"""`tools/gate` on a small crate, with lines that the kit printed of it."""
+"""`tools/gate` on a small crate, beside a stand-in for the kit."""
 import contextlib
 import io
-import re
-import sys
+import os
 import unittest
 from pathlib import Path
 from unittest import mock
 
+from pimtext import turns
+from pimtext.edits import MAY_BE_UNNAMED
 from tests import stored
 from tests.rooms import kit, repository
 
 gate = stored.tool("gate")
-SOURCE = """//! Numbers halved and raised.
-#![tactic(auto)]
-
-ghost use Rattle.std.specs.Prelude.{◌≡◌, ◌+◌, ◌≤◌, ℕ, Some, None};
-
-/// A number.
-pub struct Half {
-    value: u32,
-}
-
-impl Half {
-    /// Of a number.
-    pub fn of(value: u32) -> Half
-        ensures small { result.value ≤ value }
-        ensures here { result.value + result.value ≤ value }
-    {
-        Half { value: value / 2 }
-    }
-}
-
-/// The number, or half of it.
-pub fn lower(value: u32, all: bool) -> u32
-    ensures { result ≤ value }
-{
-    if all { value } else { value / 2 }
-}
-
-/// The same, of a number that is there.
-pub fn lower_of_some_number_that_may_be_there(value: Option<u32>, all: bool) -> u32
-    ensures none { value ≡ None → result ≡ 0 }
-    ensures at_most_as_much_as_was_there { (n : ℕ) → value ≡ Some n → result ≤ n }
-    ensures at_least { 0 ≤ result }
-{
-    match value {
-        Some(value) => lower(value, all),
-        None => 0,
-    }
-}
-"""
-LOWERS = "file: src/lib.rt\nold: if all { value } else { value / 2 }\nnew: "
-TOO_FAR = f"{LOWERS}if all {{ value }} else {{ value | 2 }}\n"
-KEEPS = "refused: Half::of here\nfile: src/lib.rt\nold: Half { value: value / 2 }\nnew: Half { value: value / 1 }\n"
-RAISES = "old: Some(value) => lower(value, all),\nnew: Some(value) => lower(value, all).max(3),\n"
-LONG = "lower_of_some_number_that_may_be_there"
-# What is told of crates while the kit runs.
-OF_CRATES = re.compile(r"\d+ (?:of \d+ )?crates")
-# What the kit printed of each edit of the crate.
-ENSURES = ("refused, as it must be: note: src/lib.rt:{}: it is not proved that what the function ensures holds when "
-           "it returns (`{}`)")
-TELLS = "; the facts known there allow values at which t"
-TOLD = {
-    "keeps_the_whole": ENSURES.format("13:5", "returns-clause-here") + "; the facts known there allow values at whic",
-    "goes_too_far": ENSURES.format("22:1", "returns-else-all") + TELLS,
-    "raises_a_number": ENSURES.format("29:1", "returns-in-Some-clause-at_most_as_much_as_was_there") + "; the facts ",
-    "changes_the_contract": ENSURES.format("22:1", "returns-then-all") + TELLS,
-    "means_the_same": "NOT REFUSED: the crate is still proved with this edit (one that means the same as before "
-                      "cannot be refused: remove it)",
-    "does_not_compile": "BAD EDIT: it did not reach the prover; the first lines of what it said:\nsrc/lib.rt:25:14: "
-                        "error[unknown-name]: "
-                        "cannot find value `values` in this scope: help: a similar name exists: `value`",
-    "is_not_there": "BAD EDIT: an 'old:' text is in src/lib.rt 0 times, and not once",
-    "stands_often": "BAD EDIT: an 'old:' text is in src/lib.rt 2 times, and not once",
-}
-EDITS = {
-    "keeps_the_whole": KEEPS,
-    "goes_too_far": f"refused: lower ensures\n{TOO_FAR}",
-    "raises_a_number": f"refused: {LONG} at_most_as_much_as_was_there\nfile: src/lib.rt\n{RAISES}",
-    "changes_the_contract": "refused: lower ensures\nfile: src/lib.rt\nold:     ensures { result ≤ value }\nnew:     "
-                            "ensures { result + 1 ≤ value }\n",
-    "means_the_same": f"refused: lower ensures\n{LOWERS}if all {{ value }} else {{ value / 4 }}\n",
-    "does_not_compile": f"refused: lower ensures\n{LOWERS}if all {{ values }} else {{ value / 2 }}\n",
-    "is_not_there": "refused: lower ensures\nfile: src/lib.rt\nold: if some { value }\nnew: if some { value * 2 }\n",
-    "stands_often": "refused: lower ensures\nfile: src/lib.rt\nold: value / 2\nnew: value\n",
-}
+TOP = stored.TOOLS.parent
+EDIT = "refused: lower ensures\nfile: src/lib.rt\nold: 1\nnew: 2\n"
 GOOD = ("keeps_the_whole", "goes_too_far", "raises_a_number")
+PROVED = ["== low", "rt: low proved"]
 
 
-def lines(names, passed, failed, told=TOLD):
-    """What the kit prints where the crate is proved and these are its edits."""
-    return ["== low", "rt: low proved", *(f"rt: must-fail low/{name}.edit: {told[name]}" for name in names),
-        f"{passed} passed, {failed} failed"]
+def lines(came, last="1 passed, 0 failed"):
+    """What the kit prints where the crate is proved and this came of its edits."""
+    return [*PROVED, *(f"edit low/{name}: {what}" for name, what in came.items()), "seconds low edits 3.0 2.0", last]
 
 
-def ended(names, printed, status=0, more=(), listed="", words=(), source=SOURCE):
-    """The gate's status and its lines that aren't the kit's, beside a kit that prints these."""
-    listed = "".join(f"low/{name}  what it does\n" for name in names) + listed
-    files = {"crates.txt": "# Words\n# numbers\nlow:\n", "tools/wrong_bodies.txt": listed,
-        "crates/low/src/lib.rt": source,
-             "crates/low/edits.txt": "".join(f"edit: {name}\n{EDITS[name]}" for name in names), **dict(more)}
+def refused(*names):
+    return dict.fromkeys(names, "refused: note: src/lib.rt:1:1")
+
+
+def ended(names, printed, status=0, words=("--alone",), listed="", more=(), **environment):
+    """The gate's lines, what the kit was called with and asked to try, and the file of crates whose edits were all
+    tried, beside a kit that prints these."""
+    files = {"crates.txt": "# Words\nlow:\nother: low\n", "tools/wrong_bodies.txt": listed,
+             "crates/low/src/lib.rt": "1",
+             "crates/low/edits.txt": "".join(f"edit: {name}\n{EDIT}" for name in names), **dict(more)}
     out = io.StringIO()
-    with repository(files) as room, mock.patch.object(gate, "TOP", room), kit(room,
-        f"cat {room}/printed; exit {status}"):
-        (room / "printed").write_text("\n".join(printed) + "\n")
-        with mock.patch.object(sys, "argv", ["gate", *words]), contextlib.redirect_stdout(out):
-            try:
+    with repository(files) as room, mock.patch.object(gate, "TOP", room), mock.patch.dict(os.environ, environment):
+        (room / "printed").write_text("".join(f"{line}\n" for line in printed))
+        script = f'echo "$*; $VIQESHOR_EDITS" > {room}/asked; cat {room}/printed; exit {status}  # --anew'
+        with kit(room, script), mock.patch("sys.argv", ["gate", *words]):
+            with contextlib.redirect_stdout(out), contextlib.suppress(SystemExit):
                 gate.main()
-            except SystemExit as end:
-                told = [line for line in out.getvalue().splitlines() if not OF_CRATES.match(line)]
-                return end.code, [line for line in told if line not in printed[:-1]]
+                raise AssertionError("it went on")
+        asked = (room / "asked").read_text().strip() if (room / "asked").exists() else ""
+        written = (room / turns.TRIED).read_text() if (room / turns.TRIED).exists() else None
+    return out.getvalue().splitlines(), asked, written
 
 
 class Gate(unittest.TestCase):
-    """The whole of it: what it prints beside the kit's lines, and its status."""
-
-    def assert_red(self, found, *whats):
-        status, printed = found
-        self.assertEqual(1, status)
-        self.assertEqual(len(whats) + 1, len(printed[-1:] + [line for line in printed if line.startswith("gate: ")]),
-            printed)
+    def assert_red(self, printed, *whats):
+        self.assertEqual(len(whats), len([line for line in printed if line.startswith("gate: ")]), printed)
         for what in whats:
             self.assertTrue(any(what in line for line in printed), (what, printed))
         return printed[-1]
 
-    def test_green_where_each_edit_is_refused_as_it_says(self):
-        self.assertEqual((0, ["4 passed, 0 failed"]), ended(GOOD, lines(GOOD, 4, 0)))
+    def test_edits_that_are_refused_count_as_passed(self):
+        printed, asked, _ = ended(GOOD, lines(refused(*GOOD)), words=["--edits", "--alone"])
+        self.assertEqual(("4 passed, 0 failed", "ci; --archive low"), (printed[-1], asked))
+        self.assertTrue(any(line.startswith("low: 3 of 3 edits are refused as they say") for line in printed), printed)
 
-    def test_what_the_kit_prints_goes_to_a_file(self):
-        with repository(
-            {"crates.txt": "low:\n", "tools/wrong_bodies.txt": "", "crates/low/src/lib.rt": SOURCE}) as room:
-            printed = ["== low", "fn low::lower: proved", "rt: low proved", "rt: ok", "1 passed, 0 failed"]
-            script = "; ".join(f"echo '{line}'" for line in printed) + "; echo 'rt: a warning' >&2"
-            out = io.StringIO()
-            with mock.patch.object(gate, "TOP", room), kit(room, script), mock.patch.object(sys, "argv", ["gate"]):
-                with contextlib.redirect_stdout(out), self.assertRaises(SystemExit):
-                    gate.main()
-            self.assertEqual([*printed, "rt: a warning"], (room / "out" / "gate.log").read_text().splitlines())
-        told = out.getvalue().splitlines()
-        self.assertEqual("1 crates; what the kit prints goes to out/gate.log", told[0])
-        self.assertRegex(told[1],
-            r"1 of 1 crates: low proved, 0 functions; 0 min 0\d s so far; left: edits and programs")
-        self.assertEqual(["rt: ok", "rt: a warning", "1 passed, 0 failed"], told[2:])
+    def test_those_that_are_not_count_as_failed(self):
+        came = {"keeps_the_whole": "STILL PROVED", "goes_too_far": "NOT AS IT SAYS: note: src/lib.rt:2:2: other",
+                **refused("raises_a_number")}
+        last = self.assert_red(ended(GOOD, lines(came), words=["--edits", "--alone"])[0],
+                               "low/keeps_the_whole: STILL PROVED", "low/goes_too_far: NOT AS IT SAYS: note: src/lib")
+        self.assertEqual("2 passed, 2 failed", last)
 
-    def test_three_bad_edits_of_which_the_kit_counts_none(self):
-        names = [*GOOD, "does_not_compile", "is_not_there", "stands_often"]
-        found = ended(names, lines(names, 4, 0))
-        last = self.assert_red(found, "does_not_compile.edit: BAD EDIT", "is_not_there.edit: BAD EDIT",
-            "stands_often.edit: BAD EDIT")
-        self.assertEqual("4 passed, 3 failed", last)
+    def test_one_that_names_no_clause_is_red_where_none_may(self):
+        came = {**refused(*GOOD), "keeps_the_whole": "NAMES NO CLAUSE: note"}
+        for may, last in ((1, "4 passed, 0 failed"), (0, "3 passed, 1 failed")):
+            with mock.patch.object(gate, "MAY_BE_UNNAMED", may):
+                self.assertEqual(last, ended(GOOD, lines(came), words=["--edits", "--alone"])[0][-1])
 
-    def test_one_bad_edit_alone(self):
-        for name in ("does_not_compile", "is_not_there", "stands_often"):
-            self.assertEqual("1 passed, 1 failed",
-                self.assert_red(ended([name], lines([name], 1, 0)), f"low/{name}.edit: BAD EDIT"))
-
-    def test_an_edit_of_the_contract_itself(self):
-        last = self.assert_red(ended(["changes_the_contract"], lines(["changes_the_contract"], 2, 0)),
-            "changes the contract of lib::lower")
-        self.assertEqual("1 passed, 1 failed", last)
-
-    def test_an_edit_that_is_still_proved_counts_once(self):
-        names = [*GOOD, "means_the_same"]
-        self.assertEqual("4 passed, 1 failed",
-            self.assert_red(ended(names, lines(names, 4, 1), 1), "means_the_same.edit: NOT REFUSED"))
-
-    def test_an_edit_that_the_kit_does_not_tell_of(self):
-        self.assert_red(ended(GOOD, lines(GOOD[1:], 3, 0)), "low/keeps_the_whole.edit: it wasn't tried")
+    def test_one_that_was_not_tried(self):
+        last = self.assert_red(ended(GOOD, lines(refused(*GOOD[1:])), words=["--edits", "--alone"])[0],
+                               "low/keeps_the_whole: it wasn't tried")
+        self.assertEqual("3 passed, 1 failed", last)
 
     def test_a_crate_that_is_not_proved(self):
-        status, printed = ended(GOOD, ["rt: low NOT PROVED", "0 passed, 1 failed"], 1)
-        self.assertEqual((1, "0 passed, 4 failed"), (status, printed[-1]))
+        printed, _, _ = ended(GOOD, ["rt: low NOT PROVED", "0 passed, 1 failed"], 1, words=["--edits", "--alone"])
+        self.assertEqual("0 passed, 1 failed", printed[-1])
 
-    def test_a_kit_that_ends_without_its_counts(self):
-        status, printed = ended(GOOD, lines(GOOD, 4, 0)[:-1] + ["killed"], 137)
-        self.assertEqual((137, "3 passed, 1 failed"), (status, printed[-1]))
-
-    def test_a_kit_that_ends_badly_over_good_counts(self):
-        self.assertEqual((1, ["4 passed, 1 failed"]), ended(GOOD, lines(GOOD, 4, 0), 1))
+    def test_a_kit_that_ends_badly(self):
+        whole = lines(refused(*GOOD))
+        for printed, last in ((whole, "4 passed, 1 failed"), (whole[:-1], "3 passed, 1 failed")):
+            self.assertEqual(last, ended(GOOD, printed, 137, words=["--edits", "--alone"])[0][-1])
 
     def test_a_wrong_body_of_the_list_without_its_edit(self):
         listed = "# wrong bodies\nlow/keeps_the_whole  halves nothing\nlow/sends_nothing  nothing is sent\n"
-        self.assert_red(ended(GOOD, lines(GOOD, 4, 0), listed=listed),
-            "low/sends_nothing.edit: it isn't there, and is to be: nothing is sent")
-
-    def test_a_wrong_body_that_no_type_allows(self):
-        texts = "".join(f"edit: {name}\n{EDITS[name]}" for name in GOOD)
-        more = {"crates/low/edits.txt": f"{texts}edit: halves_the_world\nrefused: error[unknown-name]\n{TOO_FAR}"}
-        listed = "low/halves_the_world  halves what isn't there\n"
-        for came, wanted in (("refused", (0, "5 passed, 0 failed")), ("STILL PROVED", (1, "4 passed, 1 failed"))):
-            with mock.patch.object(gate, "tried_again", return_value={"low/halves_the_world": f"{came}: so"}):
-                status, printed = ended(GOOD, lines(GOOD, 4, 0), more=more, listed=listed)
-            self.assertEqual(wanted, (status, printed[-1]))
-
-    def test_a_clause_that_the_kit_cuts_is_read_whole(self):
-        told = {**TOLD, "raises_a_number": TOLD["raises_a_number"].partition("-clause")[0]}
-        for came, wanted in (("refused", (0, "4 passed, 0 failed")), ("NOT AS IT SAYS", (1, "3 passed, 1 failed"))):
-            with mock.patch.object(gate, "tried_again", return_value={"low/raises_a_number": f"{came}: so"}) as again:
-                status, printed = ended(GOOD, lines(GOOD, 4, 0, told))
-            self.assertEqual(wanted, (status, printed[-1]))
-            self.assertEqual(("--whole", "low/raises_a_number"), again.call_args.args[1:])
+        self.assert_red(ended(GOOD, lines(refused(*GOOD)), listed=listed, words=["low"])[0],
+                        "low/sends_nothing: it isn't there, and is to be: nothing is sent")
 
     def test_of_crates_that_are_named(self):
-        more = {"crates.txt": "# Words\n# numbers\nlow:\nother:\n", "crates/other/edits.txt": f"edit: one\n{KEEPS}",
-            "crates/other/src/lib.rt": SOURCE}
-        printed = lines(GOOD, 4, 0)
-        printed[-1] += " (low and the crates below alone: not the gate)"
-        self.assertEqual((0, ["4 passed, 0 failed (low and the crates below alone: not the gate)"]),
-                         ended(GOOD, printed, more=more, words=["low"]))
-        self.assert_red(ended(GOOD, lines(GOOD, 4, 0), more=more, listed="other/one  what it does\n"),
-            "other/one.edit: it wasn't tried")
+        printed, asked, _ = ended(GOOD, lines(refused(*GOOD), "1 passed, 0 failed (low alone)"), words=["low"])
+        self.assertEqual(("4 passed, 0 failed (low alone)", "ci low; low"), (printed[-1], asked))
+        self.assertEqual("ci other;", ended(GOOD, PROVED, words=["other"])[1])
+
+    def test_nothing_is_taken_where_all_is_to_be_tried_anew(self):
+        self.assertEqual("ci --anew low; --anew low", ended(GOOD, lines(refused(*GOOD)), words=["--anew", "low"])[1])
+
+    def test_what_is_printed_goes_to_a_file(self):
+        with repository({"crates.txt": "low:\n", "tools/wrong_bodies.txt": ""}) as room:
+            script = "; ".join(f"echo '{line}'" for line in [*PROVED, "1 passed, 0 failed"]) + "; echo 'rt: so' >&2"
+            with mock.patch.object(gate, "TOP", room), kit(room, script), contextlib.redirect_stdout(io.StringIO()):
+                (room / "out").mkdir()
+                gate.run([], [], gate.Told(["low"]))
+            printed = (room / "out/gate.log").read_text().splitlines()
+        self.assertEqual([*PROVED, "1 passed, 0 failed", "rt: so"], printed)
 
 
-class Judged(unittest.TestCase):
-    """One edit, by what it names and what the kit's line tells."""
+class Turns(unittest.TestCase):
+    """Whose edits are tried."""
 
-    def wrong(self, said, edit, source=SOURCE):
-        with repository(
-            {"crates.txt": "low:\n", "crates/low/src/lib.rt": source, "crates/low/edits.txt": f"edit: one\n{edit}",
-             "tools/wrong_bodies.txt": "low/one  what it does\n"}) as room:
-            printed = [f"rt: must-fail low/one.edit: {said}"] if said else []
-            _, found = gate.judged(Path(room), printed, {"low"})
-        return found[0][1] if found else None
+    def test_all_are_noted_where_all_were_tried_and_nothing_failed(self):
+        whole = lines(refused(*GOOD))
+        self.assertRegex(ended(GOOD, whole, words=["--edits", "--alone"])[2], r"\nlow [0-9a-f]{16}\n$")
+        self.assertIsNone(ended(GOOD, whole, 1, words=["--edits", "--alone"])[2])
+        self.assertIsNone(ended(GOOD, whole, words=["--edits", "low"])[2])
 
-    def test_refused_in_a_proof_by_hand(self):
-        told = ("refused, as it must be: ./proofs/lib/{}/Answers.antt:3:1: error: `returns-clause-here`: the two "
-                "types differ")
-        self.assertIsNone(self.wrong(told.format("Half/of"), KEEPS))
-        self.assertIn("tells no goal", self.wrong(told.format("Other/of"), KEEPS))
+    def test_a_crate_that_changed_is_tried(self):
+        with repository({"crates.txt": "low:\n", "crates/low/edits.txt": f"edit: a\n{EDIT}",
+                         "crates/low/src/lib.rt": "// one\n1\n"}) as room:
+            known = turns.sum_of(room, "low")
+            (room / "crates/low/src/lib.rt").write_text("1\n\n    // two\n")
+            self.assertEqual(known, turns.sum_of(room, "low"))
+        for text, asked in ((f"low {known}\n", ""), ("low 0123456789abcdef\n", "low")):
+            more = {str(turns.TRIED): text, "crates/low/edits.txt": f"edit: a\n{EDIT}"}
+            with mock.patch.object(turns, "in_turn", return_value=[]):
+                printed, came, _ = ended(["a"], lines(refused("a") if asked else {}), more=more)
+            self.assertEqual((f"ci; --archive {asked}".rstrip(), "1 passed" if not asked else "2 passed"),
+                             (came, printed[-1].partition(",")[0]))
 
-    def test_refused_by_another_clause(self):
-        self.assertIn("refused by lib::Half::of small, and not by Half::of here",
-                      self.wrong(ENSURES.format("13:5", "returns-clause-small"), KEEPS))
+    def test_where_no_run_of_all_is_known_it_says_so(self):
+        with mock.patch.object(turns, "now", return_value=0):
+            printed, _, _ = ended(GOOD, lines({}))
+        self.assertIn("of no run it is known that it tried all edits", printed[0])
 
-    def test_refused_by_another_function(self):
-        self.assertIn("refused by lib::lower ensures", self.wrong(TOLD["goes_too_far"], KEEPS))
+    def test_each_crate_has_its_turn(self):
+        files = {f"crates/c{number}/edits.txt": "".join(f"edit: e{it}\n" for it in range(number + 1))
+                 for number in range(9)}
+        with repository(files) as room:
+            names = [f"c{number}" for number in range(9)]
+            parts = [turns.in_turn(room, names, turn) for turn in range(turns.TURNS)]
+        self.assertEqual(names, sorted(name for part in parts for name in part))
+        self.assertEqual({9}, {sum(int(name[1]) + 1 for name in part) for part in parts})
 
-    def test_a_name_that_two_types_have(self):
-        source = SOURCE.replace("/// The number, or",
-            "impl Whole {\n    pub fn of(value: u32) -> Whole\n        ensures here { 0 ≤ value }\n    {\n"
-                                "        Whole { value }\n    }\n}\n\n/// The number, or")
-        self.assertIn("`of` may be lib::Half::of or lib::Whole::of",
-            self.wrong(TOLD["keeps_the_whole"], KEEPS.replace("Half::", ""), source))
-        self.assertIsNone(self.wrong(TOLD["keeps_the_whole"], KEEPS, source))
-        other = ENSURES.format("22:5", "returns-clause-here")
-        self.assertIn("refused by lib::Whole::of here", self.wrong(other, KEEPS, source))
 
-    def test_a_name_that_no_function_has(self):
-        self.assertIn("names no function of low",
-            self.wrong(TOLD["goes_too_far"], f"refused: lowered ensures\n{TOO_FAR}"))
+class Beside(unittest.TestCase):
+    """The quick tier beside it."""
 
-    def test_a_clause_that_the_function_does_not_have(self):
-        self.assertIn("lib::Half::of has no clause `there`",
-            self.wrong(TOLD["keeps_the_whole"], KEEPS.replace("here", "there")))
+    def ended(self, script):
+        more = {"tools/try_all": f"#!/bin/sh\n{script}\n"}
+        chmod = mock.patch.object(gate.subprocess, "Popen", wraps=gate.subprocess.Popen)
+        with chmod as begun:
+            begun.side_effect = lambda words, *_, **how: (
+                Path(words[-1]).chmod(0o755) if str(words[-1]).endswith("try_all") else None) or mock.DEFAULT
+            return ended(GOOD, lines(refused(*GOOD)), words=["--edits"], more=more)[0]
 
-    def test_a_clause_of_a_trait(self):
-        source = SOURCE.replace("impl Half {",
-            "pub trait Halved {\n    fn of(value: u32) -> Half\n        ensures here { 0 ≤ value };\n}\n\n"
-                                "impl Halved for Half {", 1)
-        self.assertIn("may be lib::Halved::of or lib::Half::of",
-            self.wrong(TOLD["keeps_the_whole"], KEEPS.replace("Half::", ""), source))
-        other = source.replace("        ensures here { result.value + result.value ≤ value }\n", "")
-        self.assertIsNone(self.wrong(ENSURES.format("18:5", "returns-clause-here"), KEEPS, other))
+    def test_its_checks_count(self):
+        self.assertEqual("11 passed, 0 failed", self.ended("echo '7 passed, 0 failed'")[-1])
 
-    def test_the_requires_of_a_call(self):
-        edit = f"refused: lower requires\n{TOO_FAR}"
-        told = ("refused, as it must be: note: src/lib.rt:25:29: it is not proved that what the call requires holds "
-                "(`abs-requires-else-all`)")
-        self.assertIsNone(self.wrong(told, edit))
+    def test_it_is_told_what_is_red(self):
+        printed = self.ended("echo 'RED lint: tools/lint'; echo '6 passed, 1 failed'; exit 1")
+        self.assertIn("RED lint: tools/lint", printed)
+        self.assertEqual("10 passed, 1 failed", printed[-1])
 
-    def test_one_of_several_clauses(self):
-        self.assertIsNone(self.wrong(TOLD["keeps_the_whole"], f"refused: Half::of small\n{KEEPS}"))
+    def test_one_that_ends_without_its_counts(self):
+        self.assertEqual("4 passed, 1 failed", self.ended("exit 0")[-1])
 
-    def test_a_clause_that_the_kit_cuts(self):
-        edit = EDITS["raises_a_number"]
-        whole = TOLD["raises_a_number"]
-        self.assertIsNone(self.wrong(whole[:whole.index("_as_was_there")], edit))
-        self.assertIn("whose name the kit's line cuts", self.wrong(whole[:whole.index("_most_as_much")], edit))
-        self.assertIn("whose name the kit's line cuts", self.wrong(whole[:whole.index("-clause")], edit))
-        self.assertIsNotNone(self.wrong(whole[:whole.index(" (`")], edit))
 
-    def test_refused_for_a_name_alone(self):
-        told = ("refused, as it must be (only because a proof file names what the edit took away, so this says little "
-                "of the contract): ./proofs/x")
-        self.assertIn("takes away", self.wrong(told, KEEPS))
-
-    def test_stopped_by_a_limit(self):
-        told = ("refused, as it must be (only by a limit of the prover, which gave no verdict, so this says less of "
-                "the contract): src/lib.rt:13:5: error")
-        self.assertIn("stopped at a limit", self.wrong(told, KEEPS))
-
-    def test_no_reason_named(self):
-        self.assertIn("names no reason", self.wrong(TOLD["goes_too_far"], TOO_FAR))
-
-    def test_an_edit_of_what_is_no_code(self):
-        self.assertIn("isn't code",
-            self.wrong(TOLD["goes_too_far"], "refused: lower ensures\nfile: specs/Low.antt\nold: 1\nnew: 2\n"))
-        told = SOURCE.replace("pub fn lower(", "#[tactic(auto, unfolding(a))]\npub fn lower(")
-        edit = "refused: lower ensures\nfile: src/lib.rt\nold: unfolding(a)\nnew: unfolding(b)\n"
-        self.assertIn("or its proof", self.wrong(TOLD["goes_too_far"], edit, told))
+class Limit(unittest.TestCase):
+    def test_it_ends_before_the_time_is_over(self):
+        with mock.patch.object(gate, "BEFORE_THE_END", 60):
+            printed, _, _ = ended(GOOD, [*PROVED, "rt: waits"], "$(sleep 30 2> /dev/null)",
+                                  words=["--edits", "--alone"], TEST_MINUTES="1.1")
+        self.assertTrue(any("of TEST_MINUTES left" in line for line in printed), printed)
+        self.assertEqual(["gate: the time is over (TEST_MINUTES=1.1); not done: other, edits of low",
+                          "0 passed, 1 failed"], printed[-2:])
 
 
 class List(unittest.TestCase):
-    def test_the_wrong_bodies_of_this_repository(self):
-        top = Path(gate.__file__).resolve().parent.parent
-        self.assertEqual([], list(gate.missing(top, gate.below(top, []))))
+    """The edits of this repository."""
 
-    def test_the_edits_of_this_repository_name_one_function_each_and_change_code(self):
-        top = Path(gate.__file__).resolve().parent.parent
-        wrong = [(edit.crate.name, edit.name, edit.misnames() or edit.changes_a_contract())
-            for edit in gate.edits(top, gate.below(top, []))]
-        self.assertEqual([], [it for it in wrong if it[2]])
+    def test_the_wrong_bodies_of_the_list_are_there(self):
+        self.assertEqual([], gate.missing(TOP))
+
+    def test_no_more_edits_name_no_clause_than_may(self):
+        texts = [edit for name in turns.with_edits(TOP)
+                 for edit in gate.texts_of(TOP / "crates" / name).values()]
+        unnamed = [edit for edit in texts if not any(line.startswith("refused: ") for line in edit)]
+        self.assertEqual(MAY_BE_UNNAMED, len(unnamed))
 
 
 if __name__ == "__main__":
