@@ -168,6 +168,25 @@ class Beside(unittest.TestCase):
         self.assertEqual("4 passed, 1 failed", self.ended("exit 0")[-1])
 
 
+class Programs(unittest.TestCase):
+    """The stored scenarios, by both builds of the proved program."""
+
+    def ended(self, status):
+        script = ("import os, sys\n"
+                  "print('Ran 3 tests in 1 s', os.environ['PIMLAB_BUILD'], *sys.argv[1:], file=sys.stderr)\n")
+        more = {"crates.txt": "# Words\nlow:\nother: low\npimlab: low\n",
+                "tools/try_tools": f"{script}sys.exit({status})\n"}
+        return ended(GOOD, lines(refused(*GOOD)), words=["--edits", "--alone"], more=more)[0]
+
+    def test_their_tests_count(self):
+        self.assertEqual("10 passed, 0 failed", self.ended("0")[-1])
+
+    def test_one_that_prints_something_else_is_told(self):
+        printed = self.ended("os.environ['PIMLAB_BUILD'] == 'by-rattle'")
+        self.assertIn("Ran 3 tests in 1 s by-rattle pimlab wires", printed)
+        self.assertEqual("7 passed, 1 failed", printed[-1])
+
+
 class Limit(unittest.TestCase):
     def test_it_ends_before_the_time_is_over(self):
         with mock.patch.object(gate, "BEFORE_THE_END", 60):
