@@ -15,7 +15,7 @@ INSTALLED = TOP / "out" / "quick" / "installed"
 # The tests that take longest, which begin first; and those that want neither the program nor the library.
 LONG = ("why", "lab", "pimlab", "unproved", "mroute", "usual_mistakes", "recorded", "play")
 ALONE = ("check_counts", "check_docs", "cited", "copies", "crates_table", "gate", "hostile", "lint", "packets", "rt",
-    "told", "try_all", "try_edits", "unused", "wrong_definitions")
+    "spoils", "told", "try_all", "try_edits", "unused", "wrong_definitions")
 
 
 @dataclass(frozen=True)

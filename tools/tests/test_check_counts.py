@@ -49,15 +49,15 @@ class Spoilt(unittest.TestCase):
     def test_a_meter_that_is_dropped_by_hand(self):
         self.spoil(
             "pim_meter/src/meter.rt",
-            "impl Visited {\n",
+            "impl Auditor {\n",
             "impl Drop for Meter {\n    fn drop(self) {\n        let Meter { count: _ } = self;\n    }\n}\n\n"
-            "impl Visited {\n",
+            "impl Auditor {\n",
         )
         self.refused("Meter is Drop")
 
     def test_a_further_type_of_meter(self):
-        self.spoil("pim_meter/src/meter.rt", "impl Visited {\n",
-            "/// Two counts.\npub struct Twice {\n    count: u64,\n}\n\nimpl Visited {\n")
+        self.spoil("pim_meter/src/meter.rt", "impl Auditor {\n",
+            "/// Two counts.\npub struct Twice {\n    count: u64,\n}\n\nimpl Auditor {\n")
         self.refused("Twice derives nothing")
 
     def test_a_further_way_to_make_a_meter(self):
@@ -167,7 +167,7 @@ class Spoilt(unittest.TestCase):
             "        offer(&self.core.world, &self.core.cache, name, &mut self.probes.meter);\n"
             "        let outcome = take_next(",
         )
-        self.refused("a row is offered in Router::step")
+        self.refused("a row is offered in Router::take_lent")
 
     def test_a_place_that_is_gone(self):
         self.spoil("pim_router/src/router.rt", "    core.cache.reset();\n", "")

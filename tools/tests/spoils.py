@@ -1,0 +1,129 @@
+"""Spoilt files, each with the part of `tools/try_all` that has to be red for it.
+
+    tools/tests/spoils.py [--in FOLDER] [NAME ..]
+
+Each spoil, or those that are named, is made in a copy of the files that git knows, and its part is run there. A line
+tells whether the part was red, and the exit status is 1 where one wasn't. With --in the copy is made in FOLDER, or used
+as it is where that exists, so that what was compiled there is taken again. `tools/try_tools spoils` tries those whose
+part takes a second.
+"""
+import argparse
+import os
+import shutil
+import subprocess
+import sys
+import tempfile
+from dataclasses import dataclass
+from pathlib import Path
+
+TOP = Path(__file__).resolve().parent.parent.parent
+
+
+@dataclass(frozen=True)
+class Spoil:
+    """A text of a file, which stands there once, and what is put in its place; and the part that sees it."""
+    file: str
+    old: str
+    new: str
+    part: str
+
+    @property
+    def name(self) -> str:
+        """Its folder and its part."""
+        return f"{self.file.partition('/')[0]}:{self.part}"
+
+    def text(self, top: Path) -> str:
+        """The spoilt file."""
+        text = (top / self.file).read_text(encoding="utf-8")
+        if text.count(self.old) != 1:
+            raise ValueError(f"{self.file} has {self.old!r} {text.count(self.old)} times")
+        return text.replace(self.old, self.new)
+
+
+SPOILS = [
+    # A link, the trusted definitions, the table of crates, and a command's output.
+    Spoil("docs/TUTORIAL.md", "(#write-your-own)", "(#write-your-owm)", "check_docs"),
+    Spoil("docs/PROVED.md", "of the folders `specs` of `pim_model`", "of the folders `specs` of `pim_models`", "cited"),
+    Spoil("docs/ARCHITECTURE.md", "| `law_history` | what led", "| `law_history` | what brought", "crates_table"),
+    # A scenario that stands in two places, what is stored of one, and programs that use the library.
+    Spoil("examples/one_join.toml", "[[router]]", "[[router]] ", "test_copies"),
+    Spoil("crates/test_scenarios/data/a_register_stop.out", "move 2 r done", "move 2 r ignored Own", "test_pimlab"),
+    Spoil("examples/library/join.c", "int main(", "int main_(", "lint"),
+    Spoil("examples/library/join.py", "import Answer, Router", "import Answers, Router", "library"),
+    # What the header says of the library, and the calls behind it.
+    Spoil("include/viqeshor/viqeshor.h", "VIQ_OWN = 101", "VIQ_OWN = 102", "test_header"),
+    Spoil("bindings/c/texts.c", 'case VIQ_DONE: return "done"', 'case VIQ_DONE: return "don"', "library"),
+    Spoil("bindings/rust/src/lib.rs", "Error::Memory => MEMORY", "Error::Memory => LOST", "library"),
+    Spoil("bindings/rust/src/lib.rs", "Error::Memory => MEMORY", "Error::Memory  => MEMORY", "rust_layout"),
+    Spoil("bindings/python/src/viqeshor/__init__.py", "return Answer.DONE < self < Answer.MEMORY",
+        "return Answer.DONE <= self < Answer.MEMORY", "library"),
+    # The daemon: a rule, a name that isn't used, the layout, an example, a script, a trial.
+    Spoil("linux/src/bfd.rs", "pub const TTL: u8 = 255", "pub const TTL: u8 = 254", "linux"),
+    Spoil("linux/src/bfd.rs", "const VERSION: u8 = 1;", "const VERSION: u8 = 1;\nconst OTHER: u8 = 2;", "linux_lint"),
+    Spoil("linux/src/bfd.rs", "const VERSION: u8 = 1;", "const VERSION : u8 = 1;", "linux_layout"),
+    Spoil("linux/examples/stream.rs", "fn main(", "fn mainn(", "linux_lint"),
+    Spoil("linux/viqeshord.toml", "[[rp]]", "[[rps]]", "linux"),
+    Spoil("linux/viqeshord.bash", "complete ", "fi; complete ", "lint"),
+    Spoil("linux/trials/network.py", "ROUTES = {", "ROADS = {", "lint"),
+    # The tools: one that others use, one with a program of its own, a measurement, a script.
+    Spoil("tools/pimtext/packets.py", "return total ^ 0xFFFF", "return total ^ 0xFFFE", "test_packets"),
+    Spoil("tools/library_calls.c", "viq_packets(NULL), 0)", "viq_packets(NULL), 1)", "library"),
+    Spoil("tools/bench/forwarder/plain.rs", "const FRAME_LIMIT: usize = 1500", "const FRAME_LIMIT: usize = 15",
+        "bench_forward"),
+    Spoil("tools/refuse_program", "WIRE = (3, ", "WIRE = (5, ", "refuse_program"),
+    Spoil(".ci/run", "exec ", "exec $(", "lint"),
+    # The crates: a rule, a type, a body that breaks a test, the layout, a definition that can't be read.
+    Spoil("crates/pim_register/src/source_timers.rt", "REGISTER_PROBE_TIME: u64 = 5_000",
+        "REGISTER_PROBE_TIME: u64 = 6_000", "test_pimlab"),
+    Spoil("crates/pim_register/src/source_timers.rt", "REGISTER_PROBE_TIME: u64 = 5_000",
+        "REGISTER_PROBE_TIME: u32 = 5_000", "build"),
+    Spoil("crates/pim_register/src/source_timers.rt", "REGISTER_PROBE_TIME: u64", "REGISTER_PROBE_TIME : u64", "front"),
+    Spoil("crates/pim_model/specs/Receivers.antt", "local_receiver_star s g i = is_exclude",
+        "local_receiver_star s g i = (is_exclude", "front"),
+]
+
+
+def copied(folder: Path) -> Path:
+    """A copy of the repository's files as they stand, with a history of its own."""
+    listed = subprocess.run(["git", "ls-files", "-z"], cwd=TOP, stdout=subprocess.PIPE, text=True, check=True)
+    for name in filter(None, listed.stdout.split("\0")):
+        if (TOP / name).is_file():
+            (folder / name).parent.mkdir(parents=True, exist_ok=True)
+            shutil.copy(TOP / name, folder / name)
+    for words in (["init", "-q"], ["add", "-A"]):
+        subprocess.run(["git", *words], cwd=folder, check=True)
+    return folder
+
+
+def is_red(spoil: Spoil, top: Path) -> bool:
+    """Whether the part of a spoil is red in a copy, which is as it was afterwards."""
+    file, was = top / spoil.file, (top / spoil.file).read_bytes()
+    file.write_text(spoil.text(top), encoding="utf-8")
+    try:
+        words = [sys.executable, "tools/try_all", spoil.part]
+        ran = subprocess.run(words, cwd=top, stdout=subprocess.PIPE, text=True, env=os.environ)
+    finally:
+        file.write_bytes(was)
+    return ran.returncode == 1 and f"RED {spoil.part}: " in ran.stdout
+
+
+def main() -> int:
+    parser = argparse.ArgumentParser(description=__doc__, formatter_class=argparse.RawDescriptionHelpFormatter)
+    parser.add_argument("--in", dest="folder", type=Path, metavar="FOLDER")
+    parser.add_argument("names", nargs="*", metavar="NAME", help=", ".join(spoil.name for spoil in SPOILS))
+    asked = parser.parse_args()
+    green = 0
+    with tempfile.TemporaryDirectory(prefix="spoils-") as room:
+        top = asked.folder or Path(room)
+        if not (top / "tools").exists():
+            copied(top)
+        for spoil in SPOILS:
+            if not asked.names or spoil.name in asked.names:
+                red = is_red(spoil, top)
+                green += not red
+                print(f"{'red' if red else 'STILL GREEN'}: {spoil.part}, with {spoil.file} spoilt", flush=True)
+    return bool(green)
+
+
+if __name__ == "__main__":
+    sys.exit(main())
