@@ -32,7 +32,7 @@ pub struct Place {
 }
 
 impl Place {
-    /// Gives the socket to its group, and opens it to those that may ask.
+    /// Gives the socket to its group, and opens it to those that may ask. Until that is done it is the router's alone.
     fn open_up(&self) -> io::Result<()> {
         if let Some(name) = &self.group {
             let missing = || io::Error::new(io::ErrorKind::NotFound, format!("there is no group {name}"));
@@ -59,7 +59,7 @@ fn bound(path: &Path) -> io::Result<Socket> {
 
 pub struct Control {
     server: Server,
-    path: PathBuf,
+    place: Place,
 }
 
 impl Control {
@@ -73,12 +73,16 @@ impl Control {
                 "the router before this one listened elsewhere",
             ));
         }
-        let control = Control { server: Server::new(listener, LINE)?, path: place.path.clone() };
-        place.open_up()?;
-        Ok(control)
+        Ok(Control { server: Server::new(listener, LINE)?, place: place.clone() })
     }
 
-    /// A socket that a router left behind, and that nobody listens on any more, is replaced.
+    /// Opens the socket to those that may ask.
+    pub fn open_up(&self) -> io::Result<()> {
+        self.place.open_up()
+    }
+
+    /// For the router's user alone. A socket that a router left behind, and that nobody listens on any more, is
+    /// replaced.
     pub fn open(place: &Place) -> io::Result<Control> {
         let path = &place.path;
         if UnixStream::connect(path).is_ok() {
@@ -91,9 +95,7 @@ impl Control {
             Err(error) if error.kind() != io::ErrorKind::NotFound => return Err(error),
             _ => {}
         }
-        let control = Control { server: Server::new(bound(path)?, LINE)?, path: path.clone() };
-        place.open_up()?;
-        Ok(control)
+        Ok(Control { server: Server::new(bound(path)?, LINE)?, place: place.clone() })
     }
 }
 
@@ -113,7 +115,7 @@ impl DerefMut for Control {
 
 impl Drop for Control {
     fn drop(&mut self) {
-        let _ = std::fs::remove_file(&self.path);
+        let _ = std::fs::remove_file(&self.place.path);
     }
 }
 
@@ -171,7 +173,7 @@ mod tests {
     }
 
     fn answered(control: &mut Control, line: &'static str, by: &mut Always) -> io::Result<String> {
-        let path = control.path.clone();
+        let path = control.place.path.clone();
         let asker = std::thread::spawn(move || ask(&path, line));
         while !asker.is_finished() {
             control.serve(by);
@@ -214,7 +216,7 @@ mod tests {
     #[test]
     fn silent_clients_lock_no_one_out() {
         let mut control = Control::open(&place("silent")).unwrap();
-        let silent: Vec<_> = (0..MOST_CLIENTS).map(|_| UnixStream::connect(&control.path).unwrap()).collect();
+        let silent: Vec<_> = (0..MOST_CLIENTS).map(|_| UnixStream::connect(&control.place.path).unwrap()).collect();
         let mut by = Always { text: "yes", ..Always::default() };
         control.serve(&mut by);
         assert_eq!(control.clients(), MOST_CLIENTS);
@@ -226,11 +228,17 @@ mod tests {
     fn the_socket_is_for_those_of_its_mode_and_group() {
         let group = Group::from_gid(nix::unistd::getgid()).unwrap().unwrap().name;
         let place = Place { group: Some(group), mode: 0o660, ..place("mode") };
+        let mode = || std::fs::metadata(&place.path).unwrap().permissions().mode() & 0o777;
         let control = Control::open(&place).unwrap();
-        assert_eq!(std::fs::metadata(&place.path).unwrap().permissions().mode() & 0o777, 0o660);
+        assert_eq!(mode(), 0o600);
+        control.open_up().unwrap();
+        assert_eq!(mode(), 0o660);
         drop(control);
-        let nobody = Place { group: Some("viqeshor-no-such-group".to_string()), ..place };
-        assert!(Control::open(&nobody).map(|_| ()).unwrap_err().to_string().contains("no group"));
-        assert!(!nobody.path.exists());
+        // Without its group it is the router's alone, and answers.
+        let nobody = Place { group: Some("viqeshor-no-such-group".to_string()), ..place.clone() };
+        let mut control = Control::open(&nobody).unwrap();
+        assert!(control.open_up().unwrap_err().to_string().contains("no group"));
+        assert_eq!(mode(), 0o600);
+        assert_eq!(asked(&mut control, "show rp", &mut Always::default()), "show rp: ");
     }
 }

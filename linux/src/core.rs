@@ -268,6 +268,11 @@ impl Core {
         self.router.next_moment()
     }
 
+    /// Whether no packet is to leave after the last event.
+    pub fn sends_nothing(&self) -> bool {
+        self.router.packet_count() == 0
+    }
+
     /// Hands on each packet that the last event sent, in the order in which they are to leave.
     pub fn each_packet(&mut self, take: impl FnMut(&Packet, &[u8])) {
         self.router.each_packet(&mut [0; MOST_BYTES], take);

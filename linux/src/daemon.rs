@@ -10,6 +10,7 @@ mod reconfigured;
 mod resumed;
 mod turns;
 mod upgrade;
+mod watched;
 
 use crate::bfd::Session;
 use crate::core::{Answer, Core, Event};
@@ -24,6 +25,7 @@ use crate::plane::{Placed, Plane, Row, Ways};
 use crate::policy::{Books, Gate, Policy};
 use crate::ports::{self, Machine, Port};
 use crate::routes::Counts;
+use crate::said::Said;
 use crate::settings::Settings;
 use crate::waiting::Waiting;
 use crate::{stand_in, words};
@@ -33,13 +35,14 @@ use std::net::Ipv4Addr;
 use std::path::{Path, PathBuf};
 use std::time::{Duration, Instant};
 use viqeshor::{Route, Table};
+use watched::Kind;
 
 /// The most bytes of Join/Prunes that leave together: the library of another router reads no more.
 const MOST_PACKED: usize = 1_500;
-/// A line of a kind that may come often, at most so often, in ms.
-const SAY_EVERY: u64 = 10_000;
-/// Time passes for the library for a part of the time, but it is behind by no more than so many ms.
+/// Time passes for the library for a part of the time, and not with each packet: it may be behind by so many ms, but
+/// by no more than these.
 const PART_OF_TIME: u64 = 10;
+const BEHIND: u64 = 10;
 const MOST_BEHIND: u64 = 50;
 
 /// A neighbour as its last Hello has it.
@@ -118,18 +121,6 @@ struct Stale {
     keys: BTreeSet<Key>,
 }
 
-/// Says a thing at a bounded rate.
-#[derive(Clone, Copy, Debug, Default)]
-struct Rate(Option<u64>);
-
-impl Rate {
-    fn is_due(&mut self, now: u64) -> bool {
-        let is_due = self.0.map_or(true, |at| at + SAY_EVERY <= now);
-        self.0 = if is_due { Some(now) } else { self.0 };
-        is_due
-    }
-}
-
 /// When time may pass for the library though no timer ends, in ms: the more groups older hosts have, the longer it
 /// takes, and packets may come faster than that.
 #[derive(Clone, Copy, Debug, Default, PartialEq, Eq)]
@@ -142,15 +133,8 @@ impl Pace {
 
     /// After it took so long.
     fn after(now: u64, took: Duration) -> Pace {
-        Pace(now + (took.as_micros() as u64 * PART_OF_TIME / 1_000).min(MOST_BEHIND))
+        Pace(now + (took.as_micros() as u64 * PART_OF_TIME / 1_000).clamp(BEHIND, MOST_BEHIND))
     }
-}
-
-#[derive(Default)]
-struct Rates {
-    unset: Rate,
-    hearing: Rate,
-    older_queries: Rate,
 }
 
 pub use resumed::Way;
@@ -175,7 +159,12 @@ pub struct Daemon {
     sessions: BTreeMap<Place, Session>,
     due: Due,
     stale: Stale,
-    rates: Rates,
+    /// How many lines were said lately, by their kinds and interfaces.
+    said: Said<(Kind, Option<u32>)>,
+    /// Interfaces with hosts of which a line said that these may speak PIM.
+    open: BTreeSet<u32>,
+    /// The designated router of each link.
+    designated: BTreeMap<u32, Ipv4Addr>,
     pace: Pace,
     /// The source of the data packet that the router has in hand, and where it came.
     in_hand: Option<(Key, Option<u32>)>,
@@ -188,6 +177,8 @@ pub struct Daemon {
 struct Ledger<'a> {
     core: &'a mut Core,
     kernel: &'a dyn Kernel,
+    machine: &'a Machine,
+    ports: &'a [Port],
 }
 
 impl Books for Ledger<'_> {
@@ -198,6 +189,15 @@ impl Books for Ledger<'_> {
 
     fn now(&self) -> u64 {
         self.kernel.now()
+    }
+
+    fn is_of_link(&self, iface: u32, address: Ipv4Addr) -> bool {
+        let port = match self.ports.get(iface as usize) {
+            Some(port) => port,
+            None => return false,
+        };
+        let there = port.index.map_or(&[][..], |index| self.machine.addresses(index));
+        there.iter().chain(&port.subnet).any(|subnet| subnet.contains(address.into()))
     }
 }
 
@@ -246,7 +246,9 @@ impl Daemon {
             sessions: BTreeMap::new(),
             due: Due::default(),
             stale: Stale::default(),
-            rates: Rates::default(),
+            said: Said::default(),
+            open: BTreeSet::new(),
+            designated: BTreeMap::new(),
             pace: Pace::default(),
             in_hand: None,
             keeping: upgrade::Keeping::default(),
@@ -326,6 +328,14 @@ impl Daemon {
         Ok(answer)
     }
 
+    /// Before a packet time passes, unless it did just now: what is due is seen to after the turn.
+    fn catch_up(&mut self) -> Result<(), Fatal> {
+        match self.pace.is_early(self.now()) {
+            true => Ok(()),
+            false => self.advance(),
+        }
+    }
+
     /// Time passes up to the present, or where no timer ends until then, to a little before it.
     fn advance(&mut self) -> Result<(), Fatal> {
         let now = self.now();
@@ -351,6 +361,9 @@ impl Daemon {
 
     /// Sends what the last event named, Join/Prunes to a neighbour together.
     fn leave(&mut self) {
+        if self.core.sends_nothing() {
+            return;
+        }
         let Daemon { core, kernel, ports, policy, counters, settings, machine, .. } = self;
         let mut packing = Packing::default();
         core.each_packet(|packet, bytes| {
@@ -437,7 +450,7 @@ impl Daemon {
         let now = self.now();
         self.counters.entries_refused += 1;
         self.due.unset.get_or_insert(now + forwarding::TRY_AGAIN);
-        if self.rates.unset.is_due(now) {
+        if self.may_say(Kind::Entries, None) {
             warn!("the kernel refuses an entry of its forwarding cache: {error}; it is tried again until it takes it");
         }
     }

@@ -1,6 +1,5 @@
 //! Why the router can't begin, or go on. What else goes wrong costs what it is about, and a line.
 use std::io;
-use std::net::SocketAddr;
 use std::path::PathBuf;
 use thiserror::Error;
 
@@ -20,8 +19,6 @@ pub enum Fatal {
     Wait(#[from] nix::errno::Errno),
     #[error("{}: {error}", .path.display())]
     Control { path: PathBuf, error: io::Error },
-    #[error("metrics at {at}: {error}")]
-    Metrics { at: SocketAddr, error: io::Error },
     #[error("the settings: {0}")]
     Settings(#[source] viqeshor::Error),
     /// Memory was refused to the library.

@@ -69,8 +69,10 @@ pub trait Kernel: Cache {
     fn stay(&mut self);
     /// The next of what waits at a place, or `None`.
     fn hear(&mut self, from: Source) -> io::Result<Option<Event>>;
+    /// Whether what waits at a place was read already, in part: it is to be heard in this turn.
+    fn has_read(&self, from: Source) -> bool;
     /// What becomes readable where something waits.
-    fn waits(&self) -> Vec<RawFd>;
+    fn waits(&self) -> Vec<(Source, RawFd)>;
 
     fn links(&mut self) -> io::Result<Vec<Link>>;
     /// Each with the kernel's number of its interface.
@@ -230,21 +232,23 @@ impl Kernel for Linux {
                 let heard = self.liveness.hear(room)?;
                 Ok(heard.map(|(index, from, packet)| Event::Bfd { index, from, packet }))
             }
-            Source::Frames => {
-                Ok(self.links.hear(room)?.map(|(index, packet)| Event::Frame { index, packet: packet.to_vec() }))
-            }
+            Source::Frames => Ok(self.links.hear()?.map(|(index, packet)| Event::Frame { index, packet })),
         }
     }
 
-    fn waits(&self) -> Vec<RawFd> {
+    fn has_read(&self, from: Source) -> bool {
+        from == Source::Frames && self.links.has_read()
+    }
+
+    fn waits(&self) -> Vec<(Source, RawFd)> {
         let own = [
-            self.netlink.as_raw_fd(),
-            self.mroute.as_raw_fd(),
-            self.unicasts.as_raw_fd(),
-            self.own_reports.as_raw_fd(),
-            self.links.as_raw_fd(),
+            (Source::Changes, self.netlink.as_raw_fd()),
+            (Source::Upcalls, self.mroute.as_raw_fd()),
+            (Source::Unicasts, self.unicasts.as_raw_fd()),
+            (Source::OwnReports, self.own_reports.as_raw_fd()),
+            (Source::Frames, self.links.as_raw_fd()),
         ];
-        own.into_iter().chain(self.liveness.waits()).collect()
+        own.into_iter().chain(self.liveness.waits().map(|fd| (Source::Bfd, fd))).collect()
     }
 
     fn links(&mut self) -> io::Result<Vec<Link>> {

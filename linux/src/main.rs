@@ -1,5 +1,6 @@
 //! A multicast router for Linux: PIM Sparse Mode and IGMPv3, with the kernel's forwarding cache as its data plane.
 mod bfd;
+mod check;
 mod client;
 mod control;
 mod core;
@@ -24,6 +25,7 @@ mod ports;
 mod program;
 mod recorder;
 mod routes;
+mod said;
 mod server;
 mod settings;
 mod show;
@@ -40,12 +42,15 @@ use daemon::Way;
 use error::Fatal;
 use inherited::Inherited;
 use left::Left;
+use netlink::Netlink;
 use settings::{usual_socket, Settings};
 use show::Topic;
-use std::io::Write;
+use std::io::{self, Write};
 use std::net::Ipv4Addr;
 use std::path::{Path, PathBuf};
 use std::process::ExitCode;
+use std::time::Duration;
+use tables::{Domain, Tables};
 
 const USUAL_FILE: &str = "/etc/viqeshord.toml";
 const FRR_FILE: &str = "/etc/frr/frr.conf";
@@ -142,28 +147,8 @@ fn check(file: &Path, settings: &Settings) -> ExitCode {
     let name = file.display();
     let (count, ranges) = (settings.interfaces.len(), settings.rps.len());
     println!("{name}: {count} interfaces, {ranges} RP ranges; nothing is wrong");
-    let (hosts, reserve) = settings.shares();
-    let limit = u64::from(settings.limit);
-    println!("{name}: of the limit of {limit} facts {reserve} are kept for neighbours; hosts may take {hosts}");
-    if hosts + reserve > limit {
-        println!(
-            "{name}: max_groups and max_streams of all interfaces together are more than what is left of the limit: \
-             neighbours find room all the same, but hosts of some interfaces may leave those of others without"
-        );
-    }
-    match absent(settings) {
-        Ok(names) if names.is_empty() => {}
-        Ok(names) => println!("{name}: this machine has no interface {} now", names.join(", ")),
-        Err(error) => println!("{name}: this machine's interfaces can't be read: {error}"),
-    }
+    check::notes(settings).iter().for_each(|note| println!("{name}: {note}"));
     ExitCode::SUCCESS
-}
-
-/// The interfaces of the settings that the machine doesn't have.
-fn absent(settings: &Settings) -> std::io::Result<Vec<&str>> {
-    let links = netlink::Netlink::open()?.links()?;
-    let is_absent = |name: &&str| !links.iter().any(|link| link.name == *name);
-    Ok(settings.interfaces.iter().map(|interface| interface.name.as_str()).filter(is_absent).collect())
 }
 
 /// What a router before this one left, and how; its sockets too.
@@ -195,7 +180,25 @@ fn left(settings: &Settings) -> (Option<(Left, Vec<u8>, Way)>, Inherited) {
     (None, inherited)
 }
 
+/// Waits until the machine has the VRF of the settings.
+fn wait_for(domain: &Domain) -> Result<(), Fatal> {
+    const EVERY: Duration = Duration::from_secs(1);
+    let tables = || Netlink::open().and_then(|mut netlink| Tables::of(domain, &mut netlink).map(drop));
+    let mut is_said = false;
+    loop {
+        match tables() {
+            Ok(()) => return Ok(()),
+            Err(error) if error.kind() != io::ErrorKind::NotFound => return Err(Fatal::Netlink(error)),
+            Err(error) if !is_said => ::log::warn!("{error}: the router waits for it"),
+            Err(_) => {}
+        }
+        is_said = true;
+        std::thread::sleep(EVERY);
+    }
+}
+
 fn route(file: &Path, settings: Settings) -> Result<(), Fatal> {
+    wait_for(&settings.domain)?;
     let (left, mut inherited) = left(&settings);
     let began = left.as_ref().map(|(left, ..)| left.began);
     let kernel = Box::new(kernel::Linux::open(&settings.domain, began, &mut inherited)?);
@@ -238,7 +241,7 @@ fn import(file: &Path, vrf: Option<&str>) -> ExitCode {
     imported.left.iter().for_each(|left| eprintln!("{name}: {left}"));
     let problems = settings::read(&imported.settings).err().unwrap_or_default();
     problems.iter().for_each(|problem| eprintln!("{name}: the settings that were made of it: {problem}"));
-    match std::io::stdout().write_all(imported.settings.as_bytes()) {
+    match io::stdout().write_all(imported.settings.as_bytes()) {
         Ok(()) if problems.is_empty() => ExitCode::SUCCESS,
         _ => ExitCode::FAILURE,
     }

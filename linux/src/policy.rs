@@ -6,17 +6,22 @@
 use crate::mroute::Key;
 use crate::older::{Older, Speech};
 use crate::packet::{address, is_pim, Packet, IGMP};
+use crate::said::Said;
+use crate::settings::Subnet;
 use crate::split;
 use log::warn;
+use std::borrow::Cow;
 use std::collections::{BTreeMap, HashMap, HashSet};
 use std::fmt;
 use std::net::Ipv4Addr;
-use viqeshor::{AssertRow, DownstreamRow, GroupRow, NeighbourRow, Row, SourceRow, Table, TableRow};
+use viqeshor::{Row, Table, TableRow};
 
+mod held;
 pub mod lists;
 mod refusals;
 pub use refusals::{Cause, Refusals};
 
+use held::Held;
 use lists::{InterfacePolicy, PolicySettings};
 
 /// What the router holds is read anew at most so often, in ms; where reading takes long, for a part of the time.
@@ -30,14 +35,27 @@ const ASSERTED_GROUP_AT: usize = 8;
 const ASSERTED_SOURCE_AT: usize = 14;
 const ASSERT_LENGTH: usize = 26;
 const REPORT: u8 = 0x22;
-/// So many older hosts that aren't served are told apart.
+/// So many older hosts that aren't served are told apart, and told of in a time.
 const MOST_OLDER_HOSTS: usize = 1_024;
+const MOST_LINES: u32 = 5;
 
 /// Where the policy reads what the router holds.
 pub trait Books {
     fn rows(&mut self, table: Table) -> Vec<Row>;
     /// In ms.
     fn now(&self) -> u64;
+    /// Whether an address is of a subnet of the interface's link.
+    fn is_of_link(&self, iface: u32, address: Ipv4Addr) -> bool;
+}
+
+/// Who pays for what a report asks for: its host; those without an address of the link do so together.
+fn payer(books: &dyn Books, iface: u32, report: Packet) -> Ipv4Addr {
+    let host = report.source();
+    if books.is_of_link(iface, host) {
+        host
+    } else {
+        Ipv4Addr::UNSPECIFIED
+    }
 }
 
 /// The rows of the table of one kind of row.
@@ -54,52 +72,6 @@ pub struct Gate {
     pub policy: InterfacePolicy,
 }
 
-/// What the router holds of an interface, or would hold after what was let through. What has ended may still stand
-/// here.
-#[derive(Clone, Debug, Default)]
-struct Held {
-    neighbours: HashSet<Ipv4Addr>,
-    /// The sources that hosts named, by their groups, and how many these are together.
-    groups: HashMap<Ipv4Addr, HashSet<Ipv4Addr>>,
-    sources: usize,
-    joins: HashSet<split::JoinKey>,
-    /// Groups and sources of asserts, 0.0.0.0 for all.
-    asserts: HashSet<(Ipv4Addr, Ipv4Addr)>,
-}
-
-impl Held {
-    fn of_hosts(&self) -> usize {
-        self.groups.len() + self.sources
-    }
-
-    fn of_neighbours(&self) -> usize {
-        self.joins.len() + self.asserts.len()
-    }
-
-    fn facts(&self) -> usize {
-        self.neighbours.len() + self.of_hosts() + self.of_neighbours()
-    }
-
-    fn add_source(&mut self, group: Ipv4Addr, source: Ipv4Addr) {
-        self.sources += usize::from(self.groups.entry(group).or_default().insert(source));
-    }
-
-    /// How many facts a record needs that aren't held.
-    fn needed(&self, record: &split::Record) -> usize {
-        let known = self.groups.get(&record.group);
-        let is_new = |source: &&Ipv4Addr| known.map_or(true, |known| !known.contains(source));
-        match record.asks_for_nothing() {
-            true => 0,
-            false => record.sources.iter().filter(is_new).count() + usize::from(known.is_none()),
-        }
-    }
-
-    fn add(&mut self, record: &split::Record) {
-        self.groups.entry(record.group).or_default();
-        record.sources.iter().for_each(|source| self.add_source(record.group, *source));
-    }
-}
-
 #[derive(Debug, Default)]
 pub struct Policy {
     settings: PolicySettings,
@@ -111,6 +83,7 @@ pub struct Policy {
     stream_counts: HashMap<Option<u32>, usize>,
     /// Those of IGMPv1 and IGMPv2 of which a line said that they aren't served, and why.
     older_hosts: HashSet<(u32, Ipv4Addr, Cause)>,
+    said: Said<(Cause, u32)>,
     read_due: u64,
     pub refusals: Refusals,
 }
@@ -149,7 +122,25 @@ impl Policy {
         self.refusals.note(now, cause, &name, what);
     }
 
+    /// Says how many lines were left out.
+    pub fn say_what_was_left_out(&mut self, now: u64) {
+        for ((cause, iface), count) in self.said.left_out(now) {
+            warn!("{count} more hosts on {} are left out: {cause}", self.name(iface));
+        }
+        self.refusals.say_rest(now);
+    }
+
     // ---- what is held
+
+    /// Whether hosts of an interface want a group, as far as is known.
+    pub fn has_hosts(&self, iface: u32) -> bool {
+        self.held.get(&iface).map_or(false, |held| !held.groups.is_empty())
+    }
+
+    /// Whether they want this one.
+    pub fn has_group(&self, iface: u32, group: Ipv4Addr) -> bool {
+        self.held.get(&iface).map_or(false, |held| held.groups.contains_key(&group))
+    }
 
     fn held(&mut self, iface: u32) -> &mut Held {
         self.held.entry(iface).or_default()
@@ -161,24 +152,10 @@ impl Policy {
         if began < self.read_due {
             return;
         }
-        let mut held: BTreeMap<u32, Held> = BTreeMap::new();
-        for row in rows_of::<NeighbourRow>(books) {
-            held.entry(row.iface).or_default().neighbours.insert(row.address);
+        let before = std::mem::replace(&mut self.held, held::read(books));
+        for (iface, before) in before {
+            self.held(iface).keep_payers(before);
         }
-        for row in rows_of::<GroupRow>(books) {
-            held.entry(row.iface).or_default().groups.entry(row.group).or_default();
-        }
-        for row in rows_of::<SourceRow>(books) {
-            held.entry(row.iface).or_default().add_source(row.group, row.source);
-        }
-        for row in rows_of::<DownstreamRow>(books) {
-            held.entry(row.iface).or_default().joins.insert(split::JoinKey::of_row(&row));
-        }
-        for row in rows_of::<AssertRow>(books) {
-            let source = row.source.unwrap_or(Ipv4Addr::UNSPECIFIED);
-            held.entry(row.iface).or_default().asserts.insert((row.group, source));
-        }
-        self.held = held;
         self.read_due = books.now() + READ_EVERY.max(PART_OF_TIME * books.now().saturating_sub(began));
     }
 
@@ -193,14 +170,14 @@ impl Policy {
     // ---- PIM and IGMP of a link
 
     /// What of a packet to a group goes to the router: all of it, a part, or `None`.
-    pub fn frame(&mut self, books: &mut dyn Books, iface: u32, bytes: &[u8]) -> Option<Vec<u8>> {
+    pub fn let_in<'a>(&mut self, books: &mut dyn Books, iface: u32, bytes: &'a [u8]) -> Option<Cow<'a, [u8]>> {
         let packet = match Packet::read(bytes) {
             Some(packet) => packet,
             // The library says what is wrong with it.
-            None => return Some(bytes.to_vec()),
+            None => return Some(bytes.into()),
         };
         if packet.is_pim_of_link() {
-            self.believed(books.now(), iface, packet)?;
+            self.believed(books, iface, packet)?;
         }
         if is_pim(packet, HELLO) {
             self.hello(books, iface, packet)?;
@@ -214,19 +191,23 @@ impl Policy {
         match (Older::read(packet), packet.content().first()) {
             (Some(older), _) => self.older(books, iface, packet, older),
             (None, Some(&REPORT)) if packet.protocol() == IGMP => self.report(books, iface, packet),
-            _ => Some(bytes.to_vec()),
+            _ => Some(bytes.into()),
         }
     }
 
-    fn believed(&mut self, now: u64, iface: u32, packet: Packet) -> Option<()> {
+    /// PIM between the routers of a link has a TTL of 1 (RFC 7761, 4.9), and an address of the link.
+    fn believed(&mut self, books: &mut dyn Books, iface: u32, packet: Packet) -> Option<()> {
         let policy = &self.gates.get(&iface)?.policy;
         let source = packet.source();
+        let is_named = |list: &Vec<Subnet>| list.iter().any(|subnet| subnet.contains(source.into()));
         let cause = match &policy.neighbours {
             _ if policy.is_passive => Cause::Passive,
-            Some(list) if !list.iter().any(|subnet| subnet.contains(source.into())) => Cause::NotBelieved,
+            _ if packet.ttl() != 1 => Cause::FarTtl,
+            _ if !policy.is_unnumbered && !books.is_of_link(iface, source) => Cause::OtherSubnet,
+            Some(list) if !is_named(list) => Cause::NotBelieved,
             _ => return Some(()),
         };
-        self.refuse(now, cause, iface, &source);
+        self.refuse(books.now(), cause, iface, &source);
         None
     }
 
@@ -245,7 +226,13 @@ impl Policy {
     }
 
     /// A report or a Leave of an older host passes as the record does that it becomes.
-    fn older(&mut self, books: &mut dyn Books, iface: u32, packet: Packet, older: Older) -> Option<Vec<u8>> {
+    fn older<'a>(
+        &mut self,
+        books: &mut dyn Books,
+        iface: u32,
+        packet: Packet<'a>,
+        older: Older,
+    ) -> Option<Cow<'a, [u8]>> {
         // Of these groups nothing is kept, as of records of them.
         if older.is_of_link() {
             return None;
@@ -257,19 +244,21 @@ impl Policy {
             _ => None,
         };
         if let Some(cause) = cause {
-            self.is_not_served(cause, iface, packet.source(), older);
+            self.is_not_served(books.now(), (cause, iface), packet.source(), older);
             return None;
         }
         let record = split::Record::of_older(older);
-        self.read_for_report(books, iface, std::slice::from_ref(&record));
-        self.passes(books, iface, packet, &record).then(|| packet.bytes().to_vec())
+        let payer = payer(books, iface, packet);
+        self.read_for_report(books, (iface, payer), std::slice::from_ref(&record));
+        self.passes(books, (iface, payer), packet, &record).then(|| packet.bytes().into())
     }
 
     /// Counts it, and says it once of a host.
-    fn is_not_served(&mut self, cause: Cause, iface: u32, host: Ipv4Addr, older: Older) {
+    fn is_not_served(&mut self, now: u64, (cause, iface): (Cause, u32), host: Ipv4Addr, older: Older) {
         let name = self.name(iface);
         self.refusals.count(cause, &name);
-        if self.older_hosts.len() >= MOST_OLDER_HOSTS || !self.older_hosts.insert((iface, host, cause)) {
+        let is_new = self.older_hosts.len() < MOST_OLDER_HOSTS && self.older_hosts.insert((iface, host, cause));
+        if !is_new || !self.said.may(now, (cause, iface), MOST_LINES) {
             return;
         }
         let (version, group) = (older.version, older.group);
@@ -282,60 +271,67 @@ impl Policy {
         }
     }
 
-    fn report(&mut self, books: &mut dyn Books, iface: u32, packet: Packet) -> Option<Vec<u8>> {
+    fn report<'a>(&mut self, books: &mut dyn Books, iface: u32, packet: Packet<'a>) -> Option<Cow<'a, [u8]>> {
         let records = match split::records(packet) {
             Some(records) => records,
-            None => return Some(packet.bytes().to_vec()),
+            None => return Some(packet.bytes().into()),
         };
-        self.read_for_report(books, iface, &records);
+        let payer = payer(books, iface, packet);
+        self.read_for_report(books, (iface, payer), &records);
         let count = records.len();
         let mut kept = Vec::new();
         for record in records {
-            if self.passes(books, iface, packet, &record) {
+            if self.passes(books, (iface, payer), packet, &record) {
                 kept.push(record);
             }
         }
         match kept.len() {
-            left if left == count => Some(packet.bytes().to_vec()),
+            left if left == count => Some(packet.bytes().into()),
             0 => None,
-            _ => Some(split::with_records(packet, &kept)),
+            _ => Some(split::with_records(packet, &kept).into()),
         }
     }
 
     /// Whether a record of a packet passes; one that doesn't is counted, and said.
-    fn passes(&mut self, books: &dyn Books, iface: u32, packet: Packet, record: &split::Record) -> bool {
-        let passes = self.record(iface, record);
+    fn passes(&mut self, books: &dyn Books, of: (u32, Ipv4Addr), packet: Packet, record: &split::Record) -> bool {
+        let passes = self.record(of, record);
         if let Err(cause) = passes {
-            self.refuse(books.now(), cause, iface, &format_args!("{} of {}", record.group, packet.source()));
+            self.refuse(books.now(), cause, of.0, &format_args!("{} of {}", record.group, packet.source()));
         }
         passes.is_ok()
     }
 
     /// Has what is held read anew, where not each of the records may pass by what the books say.
-    fn read_for_report(&mut self, books: &mut dyn Books, iface: u32, records: &[split::Record]) {
-        let room = self.room();
-        let (max_groups, max_sources) = match self.gates.get(&iface) {
-            Some(gate) => (gate.policy.max_groups as usize, gate.policy.max_sources as usize),
+    fn read_for_report(&mut self, books: &mut dyn Books, (iface, payer): (u32, Ipv4Addr), records: &[split::Record]) {
+        let policy = match self.gates.get(&iface) {
+            Some(gate) => &gate.policy,
             None => return,
         };
+        let (max_groups, of_host) = (policy.max_groups as usize, policy.max_host_groups as usize);
+        let max_sources = policy.max_sources as usize;
         let held = self.held(iface);
         let needed: usize = records.iter().map(|record| held.needed(record)).sum();
         let are_many = |record: &split::Record| {
             held.groups.get(&record.group).map_or(0, HashSet::len) + record.sources.len() > max_sources
         };
-        let is_tight = needed > room || held.of_hosts() + needed > max_groups;
-        if needed > 0 && (is_tight || records.iter().any(are_many)) {
+        if needed == 0 {
+            return;
+        }
+        let is_above = held.of_hosts() + needed > max_groups || held.paid(payer) + needed > of_host;
+        let is_tight = is_above || records.iter().any(are_many);
+        if is_tight || needed > self.room() {
             self.read(books);
         }
     }
 
-    fn record(&mut self, iface: u32, record: &split::Record) -> Result<(), Cause> {
-        let room = self.room();
+    /// A record of a host on an interface.
+    fn record(&mut self, (iface, payer): (u32, Ipv4Addr), record: &split::Record) -> Result<(), Cause> {
         let policy = match self.gates.get(&iface) {
             Some(gate) if !record.asks_for_nothing() => &gate.policy,
             _ => return Ok(()),
         };
         let (max_sources, max_groups) = (policy.max_sources as usize, policy.max_groups as usize);
+        let of_host = policy.max_host_groups as usize;
         let is_permitted = match record.included() {
             Some(sources) => sources.iter().all(|source| policy.join.permits(Some(*source), record.group)),
             None => policy.join.permits(None, record.group),
@@ -346,22 +342,27 @@ impl Policy {
         let held = self.held(iface);
         let known = held.groups.get(&record.group);
         let sources = held.needed(record) - usize::from(known.is_none());
-        match sources + usize::from(known.is_none()) {
+        let more = sources + usize::from(known.is_none());
+        match more {
             0 => return Ok(()),
             _ if sources > 0 && known.map_or(0, HashSet::len) + sources > max_sources => return Err(Cause::Sources),
-            more if held.of_hosts() + more > max_groups => return Err(Cause::Groups),
-            more if more > room => return Err(Cause::Reserve),
-            _ => held.add(record),
+            _ if held.of_hosts() + more > max_groups => return Err(Cause::Groups),
+            _ if held.paid(payer) + more > of_host => return Err(Cause::HostGroups),
+            _ => {}
         }
+        if more > self.room() {
+            return Err(Cause::Reserve);
+        }
+        self.held(iface).add(record, payer);
         Ok(())
     }
 
-    fn join_prune(&mut self, books: &mut dyn Books, iface: u32, packet: Packet) -> Option<Vec<u8>> {
+    fn join_prune<'a>(&mut self, books: &mut dyn Books, iface: u32, packet: Packet<'a>) -> Option<Cow<'a, [u8]>> {
         let own = self.gates.get(&iface).map(|gate| gate.address);
         let message = match split::join_prune(packet) {
             // What goes to another router, or ends at once, makes nothing here.
             Some(message) if Some(message.to) == own && message.holdtime > 0 => message,
-            _ => return Some(packet.bytes().to_vec()),
+            _ => return Some(packet.bytes().into()),
         };
         self.read_for_joins(books, iface, &message.entries);
         let count = message.entries.len();
@@ -375,25 +376,23 @@ impl Policy {
             }
         }
         match kept.len() {
-            left if left == count => Some(packet.bytes().to_vec()),
+            left if left == count => Some(packet.bytes().into()),
             0 => None,
-            _ => Some(split::with_entries(packet, &kept)),
+            _ => Some(split::with_entries(packet, &kept).into()),
         }
     }
 
     fn read_for_joins(&mut self, books: &mut dyn Books, iface: u32, entries: &[split::Entry]) {
-        let room = self.room();
         let max_joins = self.gates.get(&iface).map_or(usize::MAX, |gate| gate.policy.max_joins as usize);
         let held = self.held(iface);
         let is_new = |entry: &&split::Entry| entry.makes_state() && !held.joins.contains(&entry.key);
         let needed = entries.iter().filter(is_new).count();
-        if needed > room || (needed > 0 && held.of_neighbours() + needed > max_joins) {
+        if needed > 0 && (held.of_neighbours() + needed > max_joins || needed > self.room()) {
             self.read(books);
         }
     }
 
     fn join(&mut self, iface: u32, entry: &split::Entry) -> Result<(), Cause> {
-        let room = self.room();
         let policy = match self.gates.get(&iface) {
             Some(gate) => &gate.policy,
             None => return Ok(()),
@@ -406,9 +405,12 @@ impl Policy {
         match held.of_neighbours() {
             _ if !entry.makes_state() || held.joins.contains(&entry.key) => return Ok(()),
             count if count >= max_joins => return Err(Cause::Joins),
-            _ if room == 0 => return Err(Cause::Reserve),
-            _ => held.joins.insert(entry.key),
-        };
+            _ => {}
+        }
+        if self.room() == 0 {
+            return Err(Cause::Reserve);
+        }
+        self.held(iface).joins.insert(entry.key);
         Ok(())
     }
 

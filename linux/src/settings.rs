@@ -4,7 +4,8 @@ use crate::control::Place;
 use crate::log::LEVELS;
 use crate::older::Speech;
 use crate::policy::lists::{
-    reserve, InterfacePolicy, List, PolicySettings, Rule, UsualQuotas, MOST_NEIGHBOURS, USUAL_NEIGHBOURS, USUAL_SOURCES,
+    reserve, share_of_host, InterfacePolicy, List, PolicySettings, Rule, UsualQuotas, MOST_NEIGHBOURS,
+    USUAL_NEIGHBOURS, USUAL_SOURCES,
 };
 use crate::recorder;
 use crate::tables::Domain;
@@ -22,6 +23,10 @@ pub const MOST_INTERFACES: usize = 31;
 /// It takes no virtual interface.
 pub const LOOPBACK: &str = "lo";
 const MOST_RANGES: usize = 256;
+/// A neighbour, a group of a host, its source, and a Join.
+const LEAST_LIMIT: u32 = 4;
+/// Of a path in sun_path, with the byte behind it.
+const LONGEST_SOCKET: usize = 107;
 const ALL_GROUPS: Ipv4Addr = Ipv4Addr::new(224, 0, 0, 0);
 const OLDER_HOSTS: [(&str, OlderHosts); 3] =
     [("all", OlderHosts::All), ("v2", OlderHosts::VersionTwo), ("none", OlderHosts::Nobody)];
@@ -132,6 +137,16 @@ pub struct InterfaceSettings {
     pub line: usize,
 }
 
+impl InterfaceSettings {
+    /// The neighbours of the file that lie in none of these subnets, where their PIM isn't believed; where there is no
+    /// subnet none is known to.
+    pub fn strangers<'a>(&'a self, subnets: &'a [Subnet]) -> impl Iterator<Item = Subnet> + 'a {
+        let is_within = |one: Subnet| subnets.iter().any(|subnet| subnet.overlaps(one));
+        let named = self.policy.neighbours.iter().flatten().copied();
+        named.filter(move |one| !self.policy.is_unnumbered && !subnets.is_empty() && !is_within(*one))
+    }
+}
+
 #[derive(Clone, Debug, PartialEq, Eq)]
 pub struct RpSettings {
     pub groups: Subnet,
@@ -204,7 +219,7 @@ struct File {
     log: Text,
     table: Whole,
     vrf: Text,
-    socket: Option<PathBuf>,
+    socket: Option<Spanned<PathBuf>>,
     socket_group: Option<String>,
     socket_mode: Text,
     pack: Option<bool>,
@@ -275,6 +290,7 @@ struct PolicyTable {
     register: Option<Vec<RuleTable>>,
     max_neighbors: Whole,
     max_groups: Whole,
+    max_host_groups: Whole,
     max_sources: Whole,
     max_joins: Whole,
     max_streams: Whole,
@@ -307,11 +323,13 @@ struct InterfaceTable {
     older_hosts: Text,
     version: Whole,
     passive: Option<bool>,
+    unnumbered: Option<bool>,
     neighbors: Option<Vec<Spanned<String>>>,
     join: Option<Vec<RuleTable>>,
     send: Option<Vec<RuleTable>>,
     max_neighbors: Whole,
     max_groups: Whole,
+    max_host_groups: Whole,
     max_sources: Whole,
     max_joins: Whole,
     max_streams: Whole,
@@ -447,13 +465,23 @@ impl Check<'_> {
             subnets.flatten().collect()
         });
         const MOST: u32 = 1_000_000;
+        let max_groups = self.quota("max_groups", &own.max_groups, &of_all.max_groups, usual.max_groups, MOST);
+        let of_host = share_of_host(max_groups);
         InterfacePolicy {
             is_passive: own.passive.unwrap_or(false),
+            is_unnumbered: own.unnumbered.unwrap_or(false),
             neighbours,
             join: self.list(&own.join, &of_all.join),
             send: self.list(&own.send, &of_all.send),
             max_neighbours: self.max_neighbours(own, of_all),
-            max_groups: self.quota("max_groups", &own.max_groups, &of_all.max_groups, usual.max_groups, MOST),
+            max_groups,
+            max_host_groups: self.quota(
+                "max_host_groups",
+                &own.max_host_groups,
+                &of_all.max_host_groups,
+                of_host,
+                MOST,
+            ),
             max_sources: self.quota("max_sources", &own.max_sources, &of_all.max_sources, USUAL_SOURCES, MOST),
             max_joins: self.quota("max_joins", &own.max_joins, &of_all.max_joins, usual.max_joins, MOST),
             max_streams: self.quota("max_streams", &own.max_streams, &of_all.max_streams, usual.max_streams, MOST),
@@ -528,16 +556,13 @@ impl Check<'_> {
         usual: &UsualQuotas,
         older_hosts: OlderHosts,
     ) -> InterfaceSettings {
-        let address = table.address.as_ref().and_then(|given| {
-            let subnet = self.subnet(given, "the address")?;
-            if let Some(reason) = not_a_host(subnet) {
-                self.wrong(given.start(), format!("the address {subnet}: {reason}"));
-            }
-            Some(subnet)
-        });
-        InterfaceSettings {
-            name: table.name.get_ref().clone(),
-            address,
+        let name = table.name.get_ref().clone();
+        if let Some(reason) = not_a_name(&name) {
+            self.wrong(table.name.start(), format!("the name {name:?} {reason}"));
+        }
+        let settings = InterfaceSettings {
+            address: self.address(&table.address, &name),
+            name,
             priority: table.priority.unwrap_or(1),
             propagation: self.within("propagation", &table.propagation, 500, 0, 32767),
             override_interval: self.within("override", &table.override_interval, 2500, 0, 65535),
@@ -546,7 +571,25 @@ impl Check<'_> {
             speech: self.speech(table, older_hosts),
             policy: self.policy(table, of_all, usual),
             line: self.line(table.name.start()),
+        };
+        let stranger = settings.address.and_then(|subnet| settings.strangers(&[subnet]).next());
+        if let (Some(stranger), Some(first)) = (stranger, table.neighbors.as_ref().and_then(|list| list.first())) {
+            let reason = format!("the neighbor {stranger} isn't in the subnet of {}; see `unnumbered`", settings.name);
+            self.wrong(first.start(), reason);
         }
+        settings
+    }
+
+    fn address(&mut self, given: &Text, name: &str) -> Option<Subnet> {
+        let given = given.as_ref()?;
+        let subnet = self.subnet(given, "the address")?;
+        let is_elsewhere = subnet.address.is_loopback() && name != LOOPBACK;
+        let reason =
+            not_a_host(subnet).or_else(|| of_all_hosts(subnet)).or(is_elsewhere.then_some("it is of lo alone"));
+        if let Some(reason) = reason {
+            self.wrong(given.start(), format!("the address {subnet}: {reason}"));
+        }
+        Some(subnet)
     }
 
     fn interfaces(&mut self, file: &File, usual: &UsualQuotas) -> Vec<InterfaceSettings> {
@@ -589,10 +632,15 @@ impl Check<'_> {
         let groups = self.subnet(&table.groups, "the groups");
         let address = self.host(&table.address, "the RP");
         let (groups, address) = (groups?, address?);
-        if let Some(reason) = not_a_host(Subnet { address, length: 32 }) {
+        let of_loopback = address.is_loopback().then_some("no other router reaches it");
+        if let Some(reason) = not_a_host(Subnet { address, length: 32 }).or(of_loopback) {
             self.wrong(table.address.start(), format!("the RP {address}: {reason}"));
         }
-        self.are_groups(&table.groups, groups);
+        if self.are_groups(&table.groups, groups) {
+            if let Some(reason) = without_rp(groups) {
+                self.wrong(table.groups.start(), format!("the groups {groups} {reason}"));
+            }
+        }
         Some(RpSettings { groups, address })
     }
 
@@ -683,7 +731,13 @@ impl Check<'_> {
                 usual
             }),
         };
-        let path = file.socket.clone().unwrap_or_else(|| usual_socket(domain.name().as_deref()));
+        let given = file.socket.as_ref();
+        let path = given.map_or_else(|| usual_socket(domain.name().as_deref()), |path| path.get_ref().clone());
+        let length = path.as_os_str().len();
+        if let Some(given) = given.filter(|_| !(1..=LONGEST_SOCKET).contains(&length)) {
+            let reason = format!("socket has {length} bytes; a socket's path has 1 to {LONGEST_SOCKET}");
+            self.wrong(given.start(), reason);
+        }
         Place { path, group, mode }
     }
 
@@ -706,7 +760,7 @@ impl Check<'_> {
 
     fn listen(&mut self, given: &Text) -> Option<SocketAddr> {
         let given = given.as_ref()?;
-        let read = given.get_ref().parse().ok();
+        let read = given.get_ref().parse().ok().filter(|at: &SocketAddr| at.port() != 0);
         if read.is_none() {
             let text = given.get_ref();
             self.wrong(
@@ -731,7 +785,7 @@ impl Check<'_> {
         if let Some(version) = found.filter(|_| query_response > MOST_RESPONSE) {
             self.wrong(version.start(), "with version 2 query_response is to be at most 25.5".to_string());
         }
-        let limit = self.within("limit", &file.limit, 65536, 1, 1_000_000);
+        let limit = self.within("limit", &file.limit, 65536, LEAST_LIMIT, 1_000_000);
         let (usual, domain) = (self.usual_quotas(limit, file), self.domain(file));
         Settings {
             limit,
@@ -759,6 +813,39 @@ impl Check<'_> {
 pub fn usual_socket(instance: Option<&str>) -> PathBuf {
     let of = |name: &str| format!("/run/viqeshord-{name}/control");
     instance.map_or_else(|| USUAL_SOCKET.to_string(), of).into()
+}
+
+/// Why an interface can't have the name (dev_valid_name of the kernel).
+fn not_a_name(name: &str) -> Option<&'static str> {
+    const LONGEST: usize = 15;
+    let is_odd = |letter: char| letter == '/' || letter == ':' || letter.is_whitespace();
+    match name {
+        "" => Some("is empty"),
+        _ if name.len() > LONGEST => Some("is longer than 15 bytes, which no interface's is"),
+        "." | ".." => Some("is no interface's"),
+        _ => name.contains(is_odd).then_some("has a character that no interface's has"),
+    }
+}
+
+/// Why an address of a subnet is no single host's.
+fn of_all_hosts(subnet: Subnet) -> Option<&'static str> {
+    let host = u32::from(subnet.address) & !mask(subnet.length);
+    match subnet.length {
+        31 | 32 => None,
+        _ if host == 0 => Some("it is the network's own"),
+        length => (host == !mask(length)).then_some("it is the broadcast address of its subnet"),
+    }
+}
+
+/// Why groups have no RP.
+pub fn without_rp(groups: Subnet) -> Option<&'static str> {
+    let within = |address: [u8; 4], length: u8| {
+        groups.length >= length && Subnet { address: address.into(), length }.contains(groups.prefix())
+    };
+    match groups {
+        _ if within([232, 0, 0, 0], 8) => Some("are of SSM, and have no RP"),
+        _ => within([224, 0, 0, 0], 24).then_some("never leave their link"),
+    }
 }
 
 /// Why an interface of the router can't have the address.
@@ -958,7 +1045,7 @@ mod tests {
     fn a_problem_has_its_line() {
         assert_eq!(
             only(&format!("# none\nlimit = 0\n{SMALL}")),
-            (2, "limit is 0; it is to be 1 to 1000000".to_string())
+            (2, "limit is 0; it is to be 4 to 1000000".to_string())
         );
         assert_eq!(only(&format!("{SMALL}address = \"10.0.0.1\"\n")).0, 3);
         assert_eq!(only(&format!("{SMALL}propagation = 32768\n")).0, 3);
@@ -975,6 +1062,40 @@ mod tests {
         assert_eq!(only(&format!("{SMALL}[routes.preferences]\nospf = 1\nospv = 2\n")).0, 5);
         assert_eq!(only(&format!("socket_mode = \"0668\"\n{SMALL}")).0, 1);
         assert_eq!(only(&format!("{SMALL}[metrics]\nlisten = \"9791\"\n")).0, 4);
+    }
+
+    #[test]
+    fn odd_files_are_wrong() {
+        let rp =
+            |groups: &str, address: &str| format!("{SMALL}[[rp]]\ngroups = \"{groups}\"\naddress = \"{address}\"\n");
+        for groups in ["232.0.0.0/8", "232.1.0.0/16", "224.0.0.0/24", "224.0.0.13/32"] {
+            assert_eq!(only(&rp(groups, "10.0.0.1")).0, 4, "{groups}");
+        }
+        assert!(read(&rp("224.0.0.0/4", "10.0.0.1")).is_ok());
+        assert_eq!(only(&rp("239.0.0.0/8", "127.0.0.1")).0, 5);
+        let long = "x".repeat(16);
+        for name in ["", "a/b", "a\\nb", "a b", "a:b", ".", "..", &long] {
+            assert_eq!(only(&format!("[[interface]]\nname = \"{name}\"\n")).0, 2, "{name}");
+        }
+        assert!(read(&format!("[[interface]]\nname = \"{}\"\n", &long[1..])).is_ok());
+        for address in ["10.0.0.0/24", "10.0.0.255/24", "10.0.0.4/30", "127.0.0.1/8", "255.255.255.255/32"] {
+            assert_eq!(only(&format!("{SMALL}address = \"{address}\"\n")).0, 3, "{address}");
+        }
+        for address in ["10.0.0.0/31", "10.0.0.255/32", "10.0.0.255/23"] {
+            assert!(read(&format!("{SMALL}address = \"{address}\"\n")).is_ok(), "{address}");
+        }
+        assert_eq!(only(&format!("limit = 3\n{SMALL}")).0, 1);
+        assert_eq!(only(&format!("socket = \"/{}\"\n{SMALL}", "x".repeat(199))).0, 1);
+        assert!(read(&format!("socket = \"/{}\"\n{SMALL}", "x".repeat(106))).is_ok());
+        assert_eq!(only(&format!("{SMALL}[metrics]\nlisten = \"127.0.0.1:0\"\n")).0, 4);
+    }
+
+    #[test]
+    fn neighbours_are_within_the_subnet_or_the_link_is_unnumbered() {
+        let with = |lines: &str| format!("{SMALL}address = \"10.0.0.1/24\"\n{lines}");
+        assert!(read(&with("neighbors = [\"10.0.0.2\", \"10.0.0.8/29\", \"10.0.0.0/16\"]\n")).is_ok());
+        assert_eq!(only(&with("neighbors = [\"10.0.0.2\", \"10.0.1.2\"]\n")).0, 4);
+        assert!(read(&with("unnumbered = true\nneighbors = [\"10.0.1.2\"]\n")).is_ok());
     }
 
     #[test]
@@ -1031,6 +1152,10 @@ mod tests {
             (a.is_passive, a.max_groups, b.max_groups, b.max_neighbours, it.policy.max_registered),
             (true, 9, 3, 32, 5)
         );
+        assert_eq!((a.max_host_groups, b.max_host_groups), (9, 3));
+        let of_host = |lines: &str| read(&format!("{SMALL}{lines}")).unwrap().interfaces[0].policy.max_host_groups;
+        assert_eq!([of_host("max_groups = 1000\n"), of_host("max_groups = 100\n")], [250, 64]);
+        assert_eq!(of_host("max_groups = 1000\nmax_host_groups = 900\n"), 900);
         assert!(
             !permits(&a.join, [239, 1, 0, 1]) && permits(&a.join, [239, 2, 0, 1]) && !permits(&b.join, [239, 2, 0, 1])
         );

@@ -5,6 +5,7 @@ use crate::packet::{Packet, IGMP, PIM};
 use rand::Rng;
 use socket2::{Domain, Protocol, SockAddr, Socket, Type};
 use std::collections::hash_map::{Entry, HashMap};
+use std::collections::VecDeque;
 use std::io;
 use std::mem::{size_of, zeroed, MaybeUninit};
 use std::net::{Ipv4Addr, SocketAddrV4};
@@ -86,6 +87,55 @@ pub struct Links {
     socket: Socket,
     /// Sends what the machine's own programs are to hear too.
     shared: Socket,
+    batch: Batch,
+}
+
+/// Packets that are received together, by one call of the kernel.
+struct Batch {
+    /// For one packet after the other. The kernel writes into it, so what no long packet came to takes no memory.
+    room: Vec<u8>,
+    read: VecDeque<(u32, Vec<u8>)>,
+}
+
+impl Batch {
+    const MOST: usize = 32;
+    /// The most bytes of a packet.
+    const LONGEST: usize = 65_536;
+
+    fn new() -> Batch {
+        Batch { room: vec![0; Batch::MOST * Batch::LONGEST], read: VecDeque::new() }
+    }
+
+    /// Reads what waits at a packet socket, with the kernel's numbers of the interfaces.
+    fn fill(&mut self, socket: &Socket) -> io::Result<()> {
+        // SAFETY: all-zero bytes are values of both.
+        let mut from: [libc::sockaddr_ll; Batch::MOST] = unsafe { zeroed() };
+        let mut places: [libc::iovec; Batch::MOST] = unsafe { zeroed() };
+        let mut messages: [libc::mmsghdr; Batch::MOST] = unsafe { zeroed() };
+        let parts = self.room.chunks_mut(Batch::LONGEST).zip(&mut from).zip(&mut places).zip(&mut messages);
+        for (((part, from), place), message) in parts {
+            *place = libc::iovec { iov_base: part.as_mut_ptr().cast(), iov_len: part.len() };
+            let from: *mut libc::sockaddr_ll = from;
+            message.msg_hdr.msg_name = from.cast();
+            message.msg_hdr.msg_namelen = size_of::<libc::sockaddr_ll>() as libc::socklen_t;
+            message.msg_hdr.msg_iov = place;
+            message.msg_hdr.msg_iovlen = 1;
+        }
+        // SAFETY: each message has an address, and a part of the room, of its own, all of which live on.
+        let count = unsafe {
+            let most = Batch::MOST as libc::c_uint;
+            libc::recvmmsg(socket.as_raw_fd(), messages.as_mut_ptr(), most, libc::MSG_DONTWAIT, std::ptr::null_mut())
+        };
+        if count < 0 {
+            let error = io::Error::last_os_error();
+            return if error.kind() == io::ErrorKind::WouldBlock { Ok(()) } else { Err(error) };
+        }
+        let parts = self.room.chunks(Batch::LONGEST).zip(&from).zip(&messages).take(count as usize);
+        let found =
+            parts.map(|((part, from), message)| (from.sll_ifindex as u32, part[..message.msg_len as usize].to_vec()));
+        self.read.extend(found);
+        Ok(())
+    }
 }
 
 fn link_address(index: u32, hardware: [u8; 6]) -> SockAddr {
@@ -112,7 +162,7 @@ impl Links {
     pub fn open(inherited: &mut Inherited) -> io::Result<Links> {
         let socket = inherited.take("links").map_or_else(Links::hearing, Ok)?;
         let shared = inherited.take("links-shared").map_or_else(Links::shared, Ok)?;
-        Ok(Links { socket, shared })
+        Ok(Links { socket, shared, batch: Batch::new() })
     }
 
     /// What another router may go on with, by names.
@@ -151,16 +201,16 @@ impl Links {
     }
 
     /// The next packet, with the kernel's number of its interface.
-    pub fn hear<'a>(&self, room: &'a mut [MaybeUninit<u8>]) -> io::Result<Option<(u32, &'a [u8])>> {
-        let (received, index) = match self.socket.recv_from(room) {
-            Ok((length, from)) => {
-                // SAFETY: a packet socket answers with a link's address.
-                let link = unsafe { &*from.as_ptr().cast::<libc::sockaddr_ll>() };
-                (Ok(length), link.sll_ifindex as u32)
-            }
-            Err(error) => (Err(error), 0),
-        };
-        Ok(waiting(received, room)?.map(|packet| (index, packet)))
+    pub fn hear(&mut self) -> io::Result<Option<(u32, Vec<u8>)>> {
+        if self.batch.read.is_empty() {
+            self.batch.fill(&self.socket)?;
+        }
+        Ok(self.batch.read.pop_front())
+    }
+
+    /// Whether packets were received that nobody has heard.
+    pub fn has_read(&self) -> bool {
+        !self.batch.read.is_empty()
     }
 
     pub fn send(&self, index: u32, packet: &[u8]) -> io::Result<()> {

@@ -43,6 +43,36 @@ def no_address_at_start(net: Network) -> None:
     until("the router knows three neighbours", 40, lambda: net.neighbours() >= THREE)
 
 
+def without_services(net: Network) -> None:
+    """without the group of its control socket, and the address of its metrics, it works, and takes that as it comes"""
+    net.stop_router()
+    at = "10.98.0.1:9791"
+    net.start_router('socket_group = "vq-no-such-group"\n', f'[metrics]\nlisten = "{at}"\n')
+    until("the router knows three neighbours", 40, lambda: net.neighbours() >= THREE)
+    for wanted in ("no group vq-no-such-group", f"metrics can't be answered at {at}"):
+        if wanted not in net.log():
+            raise Failed(f"it isn't said: {wanted}")
+    ask = f"import urllib.request; urllib.request.urlopen('http://{at}/metrics').read()"
+    answers = lambda: subprocess.run(inside("router", sys.executable, "-c", ask), capture_output=True).returncode == 0
+    if answers():
+        raise Failed("the metrics are answered")
+    ip("router", "address", "add", "10.98.0.1/32", "dev", "lo")
+    until("the metrics are answered", 10, answers)
+    ip("router", "address", "delete", "10.98.0.1/32", "dev", "lo")
+    waiting = net.room / "waiting.toml"
+    waiting.write_text(f'vrf = "vq-none"\nsocket = "{net.room}/waiting"\n[[interface]]\nname = "to-first"\n')
+    words = inside("router", net.room / "viqeshord", "run", waiting)
+    router = subprocess.Popen(words, stderr=subprocess.PIPE, text=True)
+    line = router.stderr.readline()
+    time.sleep(2)
+    is_waiting = router.poll() is None
+    ended(router)
+    net.stop_router()
+    net.start_router()
+    if "no VRF vq-none: the router waits for it" not in line or not is_waiting:
+        raise Failed(f"without its VRF it says {line}")
+
+
 def late_address(net: Network) -> str:
     """an address that comes late is taken, and a stream of 100 packets a second through other interfaces loses none"""
     net.stop_router()
@@ -221,7 +251,7 @@ def vxlan_and_next_hop_objects(net: Network) -> None:
 def show_while_the_router_works(net: Network) -> str:
     """with 65,536 groups `show` keeps no join waiting, and 32 silent clients of the control socket lock no one out"""
     net.stop_router()
-    net.start_router("limit = 200000\n", "max_groups = 100000\n")
+    net.start_router("limit = 200000\n", "max_groups = 100000\nmax_host_groups = 100000\n")
     until("the router knows three neighbours", 40, lambda: net.neighbours() >= THREE)
     group = "239.2.12.1"
     sender = net.send("source", group, SOURCE, 6000, 100)
@@ -265,5 +295,5 @@ def show_while_the_router_works(net: Network) -> str:
     return f"{len(rows)} answers of {max(rows)} groups; joins had their first packets after {times} ms"
 
 
-TRIALS = [late_address, no_address_at_start, interface_that_comes, settings_under_a_stream, settings_at_the_rp,
-          interfaces_under_a_stream, kernel_without_memory, vxlan_and_next_hop_objects, show_while_the_router_works]
+TRIALS = [without_services, late_address, no_address_at_start, interface_that_comes, settings_under_a_stream,
+          settings_at_the_rp, interfaces_under_a_stream, kernel_without_memory, vxlan_and_next_hop_objects, show_while_the_router_works]

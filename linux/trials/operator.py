@@ -194,7 +194,7 @@ def shown_after(net: Network, topic: str, *about: str) -> tuple[float, int]:
 def show_of_many_groups(net: Network) -> str:
     """what `show` takes rises with the groups: 60,000 are shown whole, in at most 60 times the time of 4,000"""
     net.stop_router()
-    net.start_router("limit = 200000\n", "max_groups = 100000\n")
+    net.start_router("limit = 200000\n", "max_groups = 100000\nmax_host_groups = 100000\n")
     until("the router knows second", 40, lambda: "10.3.0.1" in net.neighbours())
     took, said = {}, []
     for count in (1_000, 4_000, 60_000):

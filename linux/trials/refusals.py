@@ -6,7 +6,7 @@ import sys
 import time
 from typing import TYPE_CHECKING
 
-from trials.network import HOST, SENDER, SOURCE, Failed, ended, goes_on, inside, received, until
+from trials.network import HOST, SENDER, SOURCE, Failed, ended, first_after, goes_on, inside, received, until
 
 if TYPE_CHECKING:
     from trials.network import Network
@@ -32,11 +32,26 @@ def is_refused(net: Network, cause: str, by: str) -> str:
     return f"{count} refused, {len(said)} lines"
 
 
+# A host that joins beside a flood has its first packet within so many ms.
+AT_ONCE = 50
+
+
 def flood_of_groups(net: Network) -> str:
-    """of 65,536 groups of a host the quota of its interface is held: elsewhere a host and a neighbour are served"""
-    send(net, "hosts", "to-router", HOST, "reports", 65_536)
-    until("the flood is refused", 15, lambda: net.refused("max_groups") > 0)
-    before = len(lines(net, "max_groups"))
+    """of 65,536 groups of a host its share is held: another one of its link is served at once, so is a neighbour"""
+    group = "239.2.7.8"
+    sender = net.send("source", group, SOURCE, 20_000, 200)
+    send(net, "hosts", "to-router", "10.5.0.50", "reports", 65_536)
+    until("the flood is refused", 15, lambda: net.refused("max_host_groups") > 0)
+    before = len(lines(net, "max_host_groups"))
+    flood = net.start("hosts", sys.executable, SENDER, "to-router", "10.5.0.50", "reports", 65_536, 0.02,
+                      stdout=subprocess.DEVNULL)
+    times = []
+    for _ in range(5):
+        times.append(first_after(net.receive("hosts", group, HOST, 1, 5)))
+        until("nobody asks", 15, lambda: "to-hosts" not in net.entry("*", group)["outgoing"])
+    is_over = flood.poll() is not None
+    ended(flood)
+    ended(sender)
     # A neighbour that comes anew, and a host on another link.
     send(net, "asker", "to-lan", "10.7.0.99", "hello", 1)
     until("the new neighbour is known", 5, lambda: "10.7.0.99" in net.neighbours())
@@ -45,16 +60,19 @@ def flood_of_groups(net: Network) -> str:
     groups = len([row for row in net.show("igmp") if row["interface"] == "to-hosts"])
     if before > FEW_LINES:
         raise Failed(f"{before} lines say it")
-    said = is_refused(net, "max_groups", "the flood")
+    said = is_refused(net, "max_host_groups", "the flood")
     net.stop_router()
     net.start_router()
-    return f"{groups} groups of the flood are held; {said}"
+    if any(it is None or it > AT_ONCE for it in times):
+        raise Failed(f"another host had its first packet after {times} ms")
+    return f"{groups} groups of the link are held; another host joins after {times} ms; {said}{', the flood was over' * is_over}"
 
 
 def flood_of_older_groups(net: Network) -> str:
     """of 65,536 groups that it reports by IGMPv2, too, while it reports what is held again and again"""
+    net.reload(net.with_policy("max_host_groups = 1000000\n"))
     send(net, "hosts", "to-router", HOST, "older-reports", 65_536, 1)
-    until("the flood is refused", 15, lambda: net.refused("max_groups") > 0)
+    until("the flood is refused", 15, lambda: net.refused("`max_groups`") > 0)
     groups = len([row for row in net.show("igmp") if row["version"] == "IGMPv2"])
     words = [sys.executable, SENDER, "to-router", HOST, "older-reports", 8_000, 20]
     flood = net.start("hosts", *words, stdout=subprocess.DEVNULL)
@@ -134,6 +152,77 @@ def hello_of_a_host(net: Network) -> str:
     said = is_refused(net, "PIM on a passive interface", "the Hellos")
     net.reload(net.settings)
     return said
+
+
+def pim_of_strangers(net: Network) -> str:
+    """a Hello of another subnet, and one with TTL 64, make no neighbour, and the stream goes on"""
+    group, before = "239.2.7.5", net.neighbours()
+    receiver = net.receive("hosts", group, HOST, 1000, 60)
+    sender = net.send("source", group, SOURCE, 400, 10)
+    until("the kernel forwards", 20, lambda: net.entry(SOURCE, group)["outgoing"] == ["to-hosts"])
+    send(net, "hosts", "to-router", "10.99.0.9", "hello", 2)
+    send(net, "hosts", "to-router", "10.5.0.250", "hello", 2, 64)
+    said = [is_refused(net, cause, "the Hellos") for cause in ("isn't `unnumbered`", "TTL isn't 1")]
+    if net.neighbours() - before:
+        raise Failed(f"neighbours are {net.neighbours()}")
+    goes_on(net, group, "after the Hellos")
+    net.reload_interface("to-hosts", "unnumbered = true\n")
+    send(net, "hosts", "to-router", "10.99.0.9", "hello", 1)
+    until("it is a neighbour of an unnumbered link", 5, lambda: "10.99.0.9" in net.neighbours())
+    ended(sender)
+    ended(receiver)
+    net.stop_router()
+    net.start_router()
+    return "; ".join(said)
+
+
+def ingress_rule(net: Network) -> None:
+    """a firewall's rule at the ingress of an interface keeps a Hello from the router, and one at `input` doesn't"""
+    forged = "10.5.0.250"
+    nft = lambda rules: subprocess.run(inside("router", "nft", "-f", "-"), input=rules, text=True, check=True)
+    nft('table netdev pim { chain hosts { type filter hook ingress device "to-hosts" priority 0;'
+        " ip protocol pim ip daddr 224.0.0.13 drop; }; }")
+    send(net, "hosts", "to-router", forged, "hello", 2)
+    if forged in net.neighbours():
+        raise Failed("it passes the ingress")
+    nft("delete table netdev pim\n"
+        "table inet pim { chain input { type filter hook input priority 0; ip protocol pim drop; }; }")
+    send(net, "hosts", "to-router", forged, "hello", 1)
+    until("it is a neighbour", 5, lambda: forged in net.neighbours())
+    nft("delete table inet pim")
+    net.stop_router()
+    net.start_router()
+
+
+def forwarders_are_said(net: Network) -> None:
+    """where a host may speak PIM a line says so, and one that it is the designated router, or won an Assert"""
+    group, forged = "239.2.7.6", "10.5.0.250"
+    receiver = net.receive("hosts", group, HOST, 1000, 60)
+    sender = net.send("source", group, SOURCE, 400, 10)
+    until("it is said that hosts are there", 10, lambda: lines(net, "hosts are on to-hosts, which has neither"))
+    until("the kernel forwards", 20, lambda: net.entry(SOURCE, group)["outgoing"] == ["to-hosts"])
+    send(net, "hosts", "to-router", forged, "assert", SOURCE, group)
+    until("the Assert is said", 5, lambda: lines(net, f"{forged} forwards ({SOURCE}, {group}) on to-hosts"))
+    send(net, "hosts", "to-router", forged, "hello", 1)
+    until("the designated router is said", 5, lambda: lines(net, f"{forged} is the designated router of to-hosts"))
+    ended(sender)
+    ended(receiver)
+    net.stop_router()
+    net.start_router()
+
+
+def lines_are_bounded(net: Network) -> str:
+    """of 20 neighbours that come and go for 15 s few lines are said, and one that counts the others"""
+    before = len(lines(net, "on to-hosts"))
+    words = inside("hosts", sys.executable, SENDER, "to-router", "10.5.0.100", "flaps", 20, 15)
+    sent = int(subprocess.run(words, check=True, capture_output=True, text=True).stdout)
+    until("it is said what was left out", 15, lambda: lines(net, "more lines of neighbours that come and go on to-hosts"))
+    count = len([line for line in lines(net, "on to-hosts")[before:] if "debug" not in line])
+    net.stop_router()
+    net.start_router()
+    if count > 100 or sent < 5_000:
+        raise Failed(f"{count} lines of {sent} Hellos")
+    return f"{count} lines of {sent} Hellos"
 
 
 def neighbours_that_are_believed(net: Network) -> str:
@@ -251,6 +340,6 @@ def check_says_quotas(net: Network) -> None:
 
 
 TRIALS = [check_says_quotas, older_hosts_that_are_not_heard, fragments_of_a_report, hello_of_a_host,
-          neighbours_that_are_believed, list_of_joins, list_of_senders, list_of_registers, flood_of_neighbours,
+          pim_of_strangers, ingress_rule, forwarders_are_said, lines_are_bounded, neighbours_that_are_believed, list_of_joins, list_of_senders, list_of_registers, flood_of_neighbours,
           flood_of_groups, flood_of_older_groups, flood_of_sources,
           flood_of_registers]

@@ -8,8 +8,13 @@
     sender.py INTERFACE ADDRESS older VERSION GROUP     a report of IGMPv1 or IGMPv2
     sender.py INTERFACE ADDRESS older-reports COUNT TIMES  a report of IGMPv2 for each of COUNT groups, so many times
     sender.py INTERFACE ADDRESS sources COUNT           a packet of data to each of COUNT groups
-    sender.py INTERFACE ADDRESS hello SECONDS           Hellos of a router with the highest priority
+    sender.py INTERFACE ADDRESS hello SECONDS [TTL]     Hellos of a router with the highest priority
     sender.py INTERFACE ADDRESS hellos COUNT            a Hello of each of COUNT routers, beginning with the address
+    sender.py INTERFACE ADDRESS flaps COUNT SECONDS     Hellos of COUNT routers, and their goodbyes, again and again; it
+                                                        prints how many
+    sender.py INTERFACE ADDRESS assert SOURCE GROUP     a Hello, and an Assert of metric 0
+    sender.py INTERFACE ADDRESS joins TO RP FROM COUNT TIMES  a Hello, and a Join(*,G) of each of COUNT groups, from
+                                                        239.2.64.0 and so many more on, so many times
     sender.py INTERFACE ADDRESS registers RP GROUP COUNT  a Register of each of COUNT sources
 """
 import socket
@@ -40,9 +45,29 @@ def report(groups: list[bytes]) -> bytes:
     return summed(struct.pack("!BBHHH", 0x22, 0, 0, 0, len(groups)) + records)
 
 
-def hello(generation: int) -> bytes:
-    holdtime, priority = struct.pack("!HHH", 1, 2, 105), struct.pack("!HHI", 19, 4, 0xFFFFFFFF)
-    return summed(bytes([0x20, 0, 0, 0]) + holdtime + struct.pack("!HHI", 20, 4, generation) + priority)
+def hello(generation: int, seconds: int = 105, priority: int = 0xFFFFFFFF) -> bytes:
+    holdtime, last = struct.pack("!HHH", 1, 2, seconds), struct.pack("!HHI", 19, 4, priority)
+    return summed(bytes([0x20, 0, 0, 0]) + holdtime + struct.pack("!HHI", 20, 4, generation) + last)
+
+
+def assertion(source: bytes, group: bytes) -> bytes:
+    return summed(bytes([0x25, 0, 0, 0, 1, 0, 0, 32]) + group + bytes([1, 0]) + source + bytes(8))
+
+
+def join(to: bytes, rp: bytes, group: bytes) -> bytes:
+    head = bytes([0x23, 0, 0, 0, 1, 0]) + to + bytes([0, 1, 0, 210, 1, 0, 0, 32]) + group
+    return summed(head + bytes([0, 1, 0, 0, 1, 0, 7, 32]) + rp)
+
+
+def flaps(link: "Link", routers: list[bytes], seconds: float) -> int:
+    end, count = time.monotonic() + seconds, 0
+    messages = [hello(9, priority=0), hello(9, 0, 0)]
+    while time.monotonic() < end:
+        for own in routers:
+            link.send(ip(own, ALL_PIM_ROUTERS, PIM, messages[count // len(routers) % 2]))
+            count += 1
+        time.sleep(0.005)
+    return count
 
 
 def register(source: bytes, group: bytes) -> bytes:
@@ -104,11 +129,28 @@ def main() -> None:
                 time.sleep(0.004)
     elif what == "hello":
         for number in range(int(rest[0])):
-            link.send(ip(own, ALL_PIM_ROUTERS, PIM, hello(9)))
+            link.send(ip(own, ALL_PIM_ROUTERS, PIM, hello(9), ttl=int(rest[1]) if len(rest) > 1 else 1))
             time.sleep(1)
     elif what == "hellos":
         for number in range(int(rest[0])):
             link.send(ip(numbered(address, number), ALL_PIM_ROUTERS, PIM, hello(number)))
+    elif what == "flaps":
+        print(flaps(link, [numbered(address, number) for number in range(int(rest[0]))], float(rest[1])))
+    elif what == "assert":
+        link.send(ip(own, ALL_PIM_ROUTERS, PIM, hello(9, priority=0)))
+        time.sleep(0.2)
+        link.send(ip(own, ALL_PIM_ROUTERS, PIM, assertion(*map(socket.inet_aton, rest))))
+    elif what == "joins":
+        to, rp = map(socket.inet_aton, rest[:2])
+        first, count, times = map(int, rest[2:])
+        link.send(ip(own, ALL_PIM_ROUTERS, PIM, hello(9, priority=0)))
+        time.sleep(0.2)
+        groups = [numbered("239.2.64.0", first + number) for number in range(count)]
+        packets = [ip(own, ALL_PIM_ROUTERS, PIM, join(to, rp, group)) for group in groups]
+        for number in range(count * times):
+            link.send(packets[number % count])
+            if number % 64 == 63:
+                time.sleep(0.004)
     elif what == "registers":
         rp, group = socket.inet_aton(rest[0]), socket.inet_aton(rest[1])
         out = socket.socket(socket.AF_INET, socket.SOCK_RAW, PIM)

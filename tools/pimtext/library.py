@@ -65,6 +65,8 @@ def sum_of_proved() -> str:
 def proved_router() -> Path:
     """The archive of the proved crate: as it is there, where the sources are the same, else it is built."""
     if not (PROVED.exists() and PROVED_OF.exists() and PROVED_OF.read_text() == sum_of_proved()):
+        print("library: it is proved first, which takes an hour where nothing is proved yet; --unproved uses one that "
+              "isn't proved", file=sys.stderr, flush=True)
         ran(["rt", "lib"], cwd=CRATE)
         PROVED_OF.write_text(sum_of_proved())
     return PROVED

@@ -1,5 +1,6 @@
 //! Sessions of BFD with the neighbours of interfaces whose settings have them (RFC 5881, 5882). A neighbour that is lost
 //! is told to the library by its goodbye.
+use super::watched::Kind;
 use super::{Daemon, Fatal, Place};
 use crate::bfd::{Change, Control, Session, State, Times};
 use crate::packet::goodbye_of;
@@ -120,11 +121,14 @@ impl Daemon {
         if let Some(packet) = &change.packet {
             self.send_bfd(place, packet);
         }
-        if change.is_up {
+        let is_told = (change.is_up || change.is_lost) && self.may_say(Kind::Sessions, Some(place.0));
+        if change.is_up && is_told {
             info!("BFD: the session with {} on {} is up", place.1, self.name(place.0));
         }
-        if change.is_lost {
+        if change.is_lost && is_told {
             info!("BFD: {} on {} is gone", place.1, self.name(place.0));
+        }
+        if change.is_lost {
             self.advance()?;
             self.take_part(place.0, &goodbye_of(place.1))?;
         }

@@ -1,4 +1,5 @@
 //! The kernel's forwarding cache, what it counts, and what the kernel hands up.
+use super::watched::Kind;
 use super::{Answer, Daemon, Event, Fatal, Ledger};
 use crate::mroute::{Key, Upcall, REGISTER_VIF};
 use crate::packet::fill_checksum;
@@ -73,11 +74,11 @@ impl Daemon {
     pub(super) fn set_again(&mut self) {
         self.due.unset = None;
         match self.plane.set_again(self.kernel.as_ref()) {
-            0 => info!("the kernel has taken each entry of its forwarding cache"),
+            0 if self.may_say(Kind::Taken, None) => info!("the kernel has taken each entry of its forwarding cache"),
+            0 => {}
             left => {
-                let now = self.now();
-                self.due.unset = Some(now + TRY_AGAIN);
-                if self.rates.unset.is_due(now) {
+                self.due.unset = Some(self.now() + TRY_AGAIN);
+                if self.may_say(Kind::Entries, None) {
                     warn!("the kernel still refuses {left} entries of its forwarding cache");
                 }
             }
@@ -88,8 +89,8 @@ impl Daemon {
 
     /// Whether the settings let packets of a source on an interface to the router.
     fn lets_in(&mut self, iface: u32, key: Key) -> bool {
-        let Daemon { policy, core, kernel, .. } = self;
-        policy.stream(&mut Ledger { core, kernel: kernel.as_ref() }, iface, key)
+        let Daemon { policy, core, kernel, machine, ports, .. } = self;
+        policy.stream(&mut Ledger { core, kernel: kernel.as_ref(), machine, ports }, iface, key)
     }
 
     /// The router hears of a packet that it isn't given.

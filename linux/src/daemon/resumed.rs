@@ -135,8 +135,8 @@ impl Daemon {
         }
         (self.due.learned, self.due.unlearned) = (left.learned, left.unlearned);
         self.follow_all();
-        let Daemon { policy, core, kernel, .. } = self;
-        policy.resume(&mut super::Ledger { core, kernel: kernel.as_ref() });
+        let Daemon { policy, core, kernel, machine, ports, .. } = self;
+        policy.resume(&mut super::Ledger { core, kernel: kernel.as_ref(), machine, ports });
         self.advance()?;
         let ranges = ranges_of(&self.settings.rps);
         self.take(Event::Ranges(&ranges))?;

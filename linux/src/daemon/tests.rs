@@ -86,7 +86,11 @@ impl Kernel for Handle {
         Ok(at.and_then(|at| waiting.remove(at)).map(|(_, event)| event))
     }
 
-    fn waits(&self) -> Vec<RawFd> {
+    fn has_read(&self, _: Source) -> bool {
+        false
+    }
+
+    fn waits(&self) -> Vec<(Source, RawFd)> {
         Vec::new()
     }
 
@@ -191,8 +195,9 @@ fn both() -> [(u32, [u8; 4]); 2] {
 }
 
 fn happens(daemon: &mut Daemon, fake: &Fake, event: (Source, kernel::Event)) {
+    let ready = [event.0];
     fake.waiting.borrow_mut().push_back(event);
-    daemon.turn().expect("it goes on");
+    daemon.turn(&ready).expect("it goes on");
     daemon.house_keeping().expect("it goes on");
 }
 
@@ -204,7 +209,8 @@ fn passes(daemon: &mut Daemon, fake: &Fake, milliseconds: u64) {
 }
 
 fn packet(protocol: u8, from: Ipv4Addr, to: Ipv4Addr, content: &[u8]) -> Vec<u8> {
-    let mut header = [0x45, 0, 0, 0, 0, 7, 0, 0, 16, protocol, 0, 0, 0, 0, 0, 0, 0, 0, 0, 0];
+    let ttl = if protocol == UDP { 16 } else { 1 };
+    let mut header = [0x45, 0, 0, 0, 0, 7, 0, 0, ttl, protocol, 0, 0, 0, 0, 0, 0, 0, 0, 0, 0];
     header[12..16].copy_from_slice(&from.octets());
     header[16..].copy_from_slice(&to.octets());
     with_content(&header, content)
@@ -424,6 +430,25 @@ fn a_passive_interface_neither_hears_nor_sends_pim() {
     let on: BTreeSet<u32> =
         fake.sent.borrow().iter().filter(|(_, bytes)| is_pim(bytes)).map(|(index, _)| *index).collect();
     assert_eq!(on, BTreeSet::from([ETH1]));
+}
+
+#[test]
+fn a_neighbour_has_an_address_of_its_link() {
+    let (mut daemon, fake) = begun(TWO, &both());
+    fake.addresses.borrow_mut().push((ETH0, subnet([10, 7, 0, 1])));
+    let hello_of = |from: [u8; 4]| {
+        let content = summed(&[0x20, 0, 0, 0, 0, 1, 0, 2, 0, 105]);
+        frame(ETH0, packet(PIM, from.into(), [224, 0, 0, 13].into(), &content))
+    };
+    let change = Change::Address { index: ETH0, subnet: subnet([10, 7, 0, 1]) };
+    // Of eth1's, and of a subnet that eth0 gets besides the router's own.
+    happens(&mut daemon, &fake, hello_of([10, 5, 0, 9]));
+    happens(&mut daemon, &fake, hello_of([10, 7, 0, 9]));
+    happens(&mut daemon, &fake, (Source::Changes, kernel::Event::Changes(vec![change])));
+    happens(&mut daemon, &fake, hello_of([10, 7, 0, 8]));
+    let known: Vec<_> = daemon.neighbours.known.keys().map(|(_, address)| address.octets()).collect();
+    assert_eq!(known, [[10, 1, 0, 2], [10, 7, 0, 8]]);
+    assert_eq!(daemon.policy.refusals.of(crate::policy::Cause::OtherSubnet), 2);
 }
 
 /// The holdtimes of the Hellos that left an interface, in seconds.

@@ -1,6 +1,7 @@
 //! The loop: what waits at the sockets, what is due by the clock, and what signals ask for.
 use super::cleared::Lines;
 use super::upgrade::Keeping;
+use super::watched::Kind;
 use super::{Answer, Daemon, Event, Fatal};
 use crate::bfd::Session;
 use crate::control::Control;
@@ -26,6 +27,8 @@ const PART_OF_TIME: u64 = 10;
 const MOST_ASKED_AGAIN: usize = 1_024;
 /// A source without a fact of which nothing comes for so long has no entry, in ms.
 const IDLE: u64 = 60_000;
+/// How long after a try what the sockets of clients want is tried again, in ms.
+const AGAIN: u64 = 5_000;
 /// So many messages of a socket are taken before the others have their turn.
 const TURN: usize = 256;
 
@@ -74,6 +77,10 @@ impl Asked {
 pub(super) struct Servers {
     control: Control,
     metrics: Option<(SocketAddr, Server)>,
+    /// Why the control socket, or that of metrics, isn't as the settings have it.
+    wanting: [Option<String>; 2],
+    /// When that is tried again, in ms.
+    due: Option<u64>,
 }
 
 const CONTROL: &str = "control";
@@ -88,14 +95,39 @@ impl Servers {
             Some(control) => control,
             None => Control::open(&settings.control).map_err(|error| Fatal::Control { path: path(), error })?,
         };
-        let mut before = inherited.take(METRICS);
-        let mut listen = |at| {
-            let resumed = before.take().and_then(|listener| metrics::resume(at, listener).ok());
-            let listened = resumed.map_or_else(|| metrics::listen(at), Ok);
-            listened.map(|server| (at, server)).map_err(|error| Fatal::Metrics { at, error })
+        let before = inherited.take(METRICS).zip(settings.metrics);
+        let metrics = before.and_then(|(listener, at)| Some((at, metrics::resume(at, listener).ok()?)));
+        let mut servers = Servers { control, metrics, wanting: Default::default(), due: None };
+        servers.try_again(settings, 0);
+        Ok(servers)
+    }
+
+    /// Tries what the settings want of the sockets and the machine didn't have. A line says what is wanting, and when it
+    /// is there.
+    fn try_again(&mut self, settings: &settings::Settings, now: u64) {
+        let control = self.control.open_up().err();
+        let control = control.map(|error| {
+            format!("the control socket {} is for the router's user alone: {error}", settings.control.path.display())
+        });
+        let wanted = settings.metrics.filter(|_| self.metrics.is_none());
+        let metrics = match wanted.map(|at| (at, metrics::listen(at))) {
+            Some((at, Err(error))) => Some(format!("metrics can't be answered at {at}: {error}")),
+            Some((at, Ok(server))) => {
+                self.metrics = Some((at, server));
+                None
+            }
+            None => None,
         };
-        let metrics = settings.metrics.map(&mut listen).transpose()?;
-        Ok(Servers { control, metrics })
+        let found = [control, metrics];
+        for (before, after) in self.wanting.iter().zip(&found).filter(|(before, after)| before != after) {
+            match (before, after) {
+                (_, Some(after)) => warn!("{after}; it is tried again"),
+                (Some(before), None) => info!("this is over: {before}"),
+                (None, None) => {}
+            }
+        }
+        self.due = found.iter().any(Option::is_some).then_some(now + AGAIN);
+        self.wanting = found;
     }
 
     /// What another router may go on with, by names.
@@ -109,17 +141,11 @@ impl Servers {
         self.each().flat_map(|server| server.answers().iter().copied()).collect()
     }
 
-    /// Listens for Prometheus where other settings say. Where it can't, nobody is answered.
-    fn take_settings(&mut self, settings: &settings::Settings) {
-        if self.metrics.as_ref().map(|(at, _)| *at) == settings.metrics {
-            return;
-        }
-        self.metrics = None;
-        if let Some(at) = settings.metrics {
-            match metrics::listen(at) {
-                Ok(server) => self.metrics = Some((at, server)),
-                Err(error) => error!("{}", Fatal::Metrics { at, error }),
-            }
+    /// Listens for Prometheus where other settings say.
+    fn take_settings(&mut self, settings: &settings::Settings, now: u64) {
+        if self.metrics.as_ref().map(|(at, _)| *at) != settings.metrics {
+            self.metrics = None;
+            self.try_again(settings, now);
         }
     }
 
@@ -207,7 +233,7 @@ impl Daemon {
         );
         self.begin()?;
         while !asked.is_over() {
-            self.wait(&asked, &servers)?;
+            let ready = self.wait(&asked, &servers)?;
             asked.forget_wakes();
             let [reload, upgrade] = [&asked.reload, &asked.upgrade].map(|flag| flag.swap(false, Ordering::Relaxed));
             let is_other = reload && program.has_changed();
@@ -216,11 +242,14 @@ impl Daemon {
             }
             if self.follow_successor(&program, &servers) || (reload && !is_other) {
                 self.reload()?;
-                servers.take_settings(&self.settings);
+                servers.take_settings(&self.settings, self.now());
             }
-            self.turn()?;
+            self.turn(&ready)?;
             self.house_keeping()?;
             servers.serve(self);
+            if servers.due.map_or(false, |due| due <= self.now()) {
+                servers.try_again(&self.settings, self.now());
+            }
             self.keep();
         }
         if asked.end.load(Ordering::Relaxed) || !self.keep_for_next() {
@@ -241,10 +270,12 @@ impl Daemon {
         Ok(())
     }
 
-    fn wait(&mut self, asked: &Asked, servers: &Servers) -> Result<(), Fatal> {
-        let own = self.kernel.waits().into_iter().chain([asked.wakes.as_raw_fd()]);
-        let mut waits: Vec<_> = own.map(|fd| PollFd::new(fd, PollFlags::POLLIN)).collect();
-        waits.extend(servers.each().flat_map(Server::waits).map(|fd| PollFd::new(fd, PollFlags::POLLIN)));
+    /// Where something waits, once something does or is due.
+    fn wait(&mut self, asked: &Asked, servers: &Servers) -> Result<Vec<Source>, Fatal> {
+        let own = self.kernel.waits();
+        let others = servers.each().flat_map(Server::waits).chain([asked.wakes.as_raw_fd()]);
+        let all = own.iter().map(|(_, fd)| *fd).chain(others);
+        let mut waits: Vec<_> = all.map(|fd| PollFd::new(fd, PollFlags::POLLIN)).collect();
         let due = &self.due;
         let times = [
             self.core.next_moment(),
@@ -258,18 +289,23 @@ impl Daemon {
             self.core.record_due(),
             Some(self.keeping.due(self.now())).filter(|_| self.settings.restart.saves),
             servers.each().filter_map(Server::due).min().map(|left| self.kernel.now() + left),
+            servers.due,
             self.ports.iter().filter_map(|port| port.hello_due).min(),
             self.sessions.values().map(Session::due).min(),
         ];
         let next = times.into_iter().flatten().fold(due.look, u64::min);
         match poll(&mut waits, next.saturating_sub(self.now()).min(LOOK_EVERY) as i32) {
-            Err(error) if error != nix::errno::Errno::EINTR => Err(error.into()),
-            _ => Ok(()),
+            Err(nix::errno::Errno::EINTR) | Ok(0) => return Ok(Vec::new()),
+            Err(error) => return Err(error.into()),
+            Ok(_) => {}
         }
+        let is_ready = |wait: &PollFd| wait.revents().map_or(true, |found| !found.is_empty());
+        let ready = own.iter().zip(&waits).filter(|(_, wait)| is_ready(wait));
+        Ok(ready.map(|((source, _), _)| *source).collect())
     }
 
-    /// What waits at each socket, in turn.
-    pub(super) fn turn(&mut self) -> Result<(), Fatal> {
+    /// What waits at the sockets that are ready, in turn.
+    pub(super) fn turn(&mut self, ready: &[Source]) -> Result<(), Fatal> {
         for (source, most) in [
             (Source::Changes, usize::MAX),
             (Source::Bfd, TURN),
@@ -278,14 +314,15 @@ impl Daemon {
             (Source::OwnReports, TURN),
             (Source::Frames, TURN),
         ] {
-            for _ in 0..most {
+            let mut left = if ready.contains(&source) { most } else { 0 };
+            while left > 0 || self.kernel.has_read(source) {
+                left = left.saturating_sub(1);
                 match self.kernel.hear(source) {
                     Ok(Some(event)) => self.happens(event)?,
                     Ok(None) => break,
                     // A link that went is told so once, and what didn't fit is lost.
                     Err(error) => {
-                        let now = self.now();
-                        if self.rates.hearing.is_due(now) {
+                        if self.may_say(Kind::Sockets, None) {
                             warn!("what waits at a socket ({source:?}) can't be read: {error}");
                         }
                         break;
@@ -330,6 +367,7 @@ impl Daemon {
         if self.due.look <= now {
             self.look()?;
             self.due.look = now + LOOK_EVERY.max(PART_OF_TIME * (self.now() - now));
+            self.say_what_was_left_out();
             self.plane.idle(IDLE).into_iter().for_each(|key| self.withdraw(key));
             // There may be room for it by now: its next packet asks again.
             self.plane.untold(MOST_ASKED_AGAIN).into_iter().for_each(|key| self.withdraw(key));

@@ -13,8 +13,18 @@ use std::io;
 use std::os::unix::io::{AsRawFd, RawFd};
 use std::path::Path;
 
-/// The state is saved for a part of the time where that takes long.
+/// The state is saved for a part of the time where that takes long, as long as it stays fresh; and then for no more than
+/// another part.
 const PART_OF_TIME: u64 = 50;
+const MOST_OF_TIME: u64 = 3;
+
+/// How long nothing is saved after a save that took so long, so that the last state is fresh until the next one is
+/// there; all in ms.
+fn pause(took: u64, fresh: u64) -> u64 {
+    const MARGIN: u64 = 1_000;
+    let stays_fresh = fresh.saturating_sub(2 * took + MARGIN);
+    (PART_OF_TIME * took).min(stays_fresh.max((MOST_OF_TIME - 1) * took))
+}
 
 /// So often it is looked whether a program has answered, in ms.
 const LOOK_FOR_ANSWER: u64 = 10;
@@ -160,7 +170,7 @@ impl Daemon {
         }
         self.keeping.saver = None;
         let now = self.now();
-        self.keeping.due = self.keeping.due.max(now + PART_OF_TIME * (now - began));
+        self.keeping.due = self.keeping.due.max(now + pause(now - began, self.settings.restart.fresh));
         if status != 0 {
             warn!("the state couldn't be saved in {}", self.settings.state_file().display());
         }
@@ -265,5 +275,20 @@ impl Daemon {
         }
         let _ = std::fs::remove_file(self.settings.state_file());
         self.kernel.end();
+    }
+}
+
+#[cfg(test)]
+mod tests {
+    use super::pause;
+
+    #[test]
+    fn a_state_stays_fresh_until_the_next_one_is_saved() {
+        assert_eq!([pause(0, 10_000), pause(20, 10_000), pause(100, 10_000)], [0, 1_000, 5_000]);
+        for took in [250, 1_000, 2_000] {
+            // From the begin of a save to the end of the next one.
+            assert!(took + pause(took, 10_000) + took <= 10_000, "{took}");
+        }
+        assert_eq!(pause(4_000, 10_000), 8_000);
     }
 }

@@ -2,7 +2,7 @@
 use super::lines::{Groups, Interface, Place, Reader};
 use super::lists::{groups_within, Entry};
 use super::Left;
-use crate::settings::Subnet;
+use crate::settings::{without_rp, Subnet};
 use std::fmt::Write;
 
 /// The distances that FRR has where its configuration says nothing of them: they are compared in asserts.
@@ -198,11 +198,13 @@ fn rps(reader: &mut Reader, text: &mut String) {
             Groups::List(name) => permitted(reader, &place, &name),
         };
         for (place, prefix) in prefixes {
-            match groups_within(prefix) {
-                Some(groups) => {
+            let groups = groups_within(prefix);
+            match (groups, groups.and_then(without_rp)) {
+                (Some(groups), None) => {
                     let _ = writeln!(text, "\n[[rp]]\ngroups = \"{groups}\"\naddress = \"{address}\"");
                 }
-                None => reader.leave(&place, "no group is within its prefix"),
+                (Some(_), Some(reason)) => reader.leave(&place, &format!("these groups {reason}")),
+                (None, _) => reader.leave(&place, "no group is within its prefix"),
             }
         }
     }

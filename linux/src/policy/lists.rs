@@ -38,6 +38,8 @@ impl List {
 pub struct InterfacePolicy {
     /// Only hosts are there: PIM is neither heard nor sent.
     pub is_passive: bool,
+    /// PIM of addresses that aren't of the link's subnets is believed too.
+    pub is_unnumbered: bool,
     /// Whose PIM is believed; `None` is everybody.
     pub neighbours: Option<Vec<Subnet>>,
     pub join: List,
@@ -45,6 +47,8 @@ pub struct InterfacePolicy {
     pub max_neighbours: u32,
     /// Groups of hosts, and the sources that hosts name, together.
     pub max_groups: u32,
+    /// Of these what one host was the first to ask for.
+    pub max_host_groups: u32,
     /// Sources that hosts name for one group.
     pub max_sources: u32,
     /// What neighbours join, (*,G), (S,G) and prunes of (S,G,rpt), and what their Asserts name.
@@ -57,11 +61,13 @@ impl Default for InterfacePolicy {
     fn default() -> InterfacePolicy {
         InterfacePolicy {
             is_passive: false,
+            is_unnumbered: false,
             neighbours: None,
             join: List::default(),
             send: List::default(),
             max_neighbours: USUAL_NEIGHBOURS,
             max_groups: u32::MAX,
+            max_host_groups: u32::MAX,
             max_sources: USUAL_SOURCES,
             max_joins: u32::MAX,
             max_streams: u32::MAX,
@@ -94,6 +100,13 @@ const RESERVED_PART: usize = 8;
 pub fn reserve<'a>(limit: usize, policies: impl Iterator<Item = &'a InterfacePolicy>) -> usize {
     let hoped_for = policies.filter(|policy| !policy.is_passive).map(|policy| policy.max_neighbours as usize).sum();
     (limit / RESERVED_PART).min(hoped_for)
+}
+
+/// What one host may take of an interface's groups where the file doesn't say: a quarter, but where that is next to
+/// nothing some.
+pub fn share_of_host(max_groups: u32) -> u32 {
+    const SOME: u32 = 64;
+    (max_groups / 4).max(SOME.min(max_groups))
 }
 
 /// Quotas where the file has none.

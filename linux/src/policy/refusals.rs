@@ -1,19 +1,20 @@
 //! What the policy refused, counted, and said at a bounded rate.
+use crate::said::WINDOW;
 use log::warn;
 use std::collections::BTreeMap;
 use std::fmt;
-
-/// A line of a kind at most so often, in ms.
-const SAY_EVERY: u64 = 10_000;
 
 /// Why something was refused.
 #[derive(Clone, Copy, Debug, PartialEq, Eq, PartialOrd, Ord, Hash)]
 pub enum Cause {
     Passive,
+    FarTtl,
+    OtherSubnet,
     NotBelieved,
     Neighbours,
     JoinList,
     Groups,
+    HostGroups,
     Sources,
     Joins,
     SendList,
@@ -30,10 +31,13 @@ impl Cause {
     pub fn name(self) -> &'static str {
         match self {
             Cause::Passive => "passive",
+            Cause::FarTtl => "ttl",
+            Cause::OtherSubnet => "unnumbered",
             Cause::NotBelieved => "neighbors",
             Cause::Neighbours => "max_neighbors",
             Cause::JoinList => "join",
             Cause::Groups => "max_groups",
+            Cause::HostGroups => "max_host_groups",
             Cause::Sources => "max_sources",
             Cause::Joins => "max_joins",
             Cause::SendList => "send",
@@ -51,10 +55,13 @@ impl fmt::Display for Cause {
     fn fmt(&self, to: &mut fmt::Formatter) -> fmt::Result {
         to.write_str(match self {
             Cause::Passive => "PIM on a passive interface",
+            Cause::FarTtl => "PIM whose TTL isn't 1",
+            Cause::OtherSubnet => "PIM of an address that isn't of the link, which isn't `unnumbered`",
             Cause::NotBelieved => "PIM of a router that isn't among `neighbors`",
             Cause::Neighbours => "a neighbour above `max_neighbors`",
             Cause::JoinList => "a group or source that `join` doesn't permit",
             Cause::Groups => "a group of hosts above `max_groups`",
+            Cause::HostGroups => "a group of one host above `max_host_groups`",
             Cause::Sources => "sources of a group above `max_sources`",
             Cause::Joins => "a join or an Assert of neighbours above `max_joins`",
             Cause::SendList => "a source or group that `send` doesn't permit",
@@ -86,11 +93,22 @@ impl Refusals {
         self.0.entry((cause, place.to_string())).or_default().count += 1;
     }
 
+    /// Says how many were refused since the last line of each kind, where that was some time ago.
+    pub fn say_rest(&mut self, now: u64) {
+        for ((cause, place), it) in &mut self.0 {
+            let is_due = it.said_at.map_or(false, |at| at + WINDOW <= now);
+            if is_due && it.count > it.said {
+                warn!("refused on {place}: {cause}: {} more since the last line", it.count - it.said);
+                *it = Refused { said: it.count, said_at: Some(now), ..*it };
+            }
+        }
+    }
+
     /// Counts one, and says it where no line was said of its kind for a time. It tells whether it did.
     pub fn note(&mut self, now: u64, cause: Cause, place: &str, what: &dyn fmt::Display) -> bool {
         self.count(cause, place);
         let it = self.0.entry((cause, place.to_string())).or_default();
-        let is_due = it.said_at.map_or(true, |at| at + SAY_EVERY <= now);
+        let is_due = it.said_at.map_or(true, |at| at + WINDOW <= now);
         if is_due {
             match it.count - it.said - 1 {
                 0 => warn!("refused on {place}: {cause}: {what}"),
@@ -134,5 +152,11 @@ mod tests {
         assert_eq!(said, [true, false, false, true, false]);
         assert!(it.note(10_002, Cause::Groups, "eth1", &"x"));
         assert_eq!(it.of(Cause::Groups), 6);
+        // The last of the first interface is told of when it is time, and then nothing is left.
+        let rest = |it: &Refusals| it.0.values().map(|it| it.count - it.said).collect::<Vec<_>>();
+        it.say_rest(19_999);
+        assert_eq!(rest(&it), [1, 0]);
+        it.say_rest(20_000);
+        assert_eq!(rest(&it), [0, 0]);
     }
 }

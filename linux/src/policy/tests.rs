@@ -3,7 +3,7 @@ use super::*;
 use crate::packet::{put_checksum, with_content, PIM};
 use crate::settings::Subnet;
 use std::cell::Cell;
-use viqeshor::{DownstreamState, OlderHosts};
+use viqeshor::{AssertRow, DownstreamRow, DownstreamState, GroupRow, NeighbourRow, OlderHosts, SourceRow};
 
 /// A router that holds some rows.
 #[derive(Default)]
@@ -19,6 +19,17 @@ impl Books for Holds {
 
     fn now(&self) -> u64 {
         self.now.get()
+    }
+
+    fn is_of_link(&self, _: u32, address: Ipv4Addr) -> bool {
+        address.octets().starts_with(&[10, 5, 0])
+    }
+}
+
+impl Policy {
+    /// What of a packet to a group goes to the router.
+    fn frame(&mut self, books: &mut dyn Books, iface: u32, bytes: &[u8]) -> Option<Vec<u8>> {
+        self.let_in(books, iface, bytes).map(Cow::into_owned)
     }
 }
 
@@ -118,6 +129,72 @@ fn asserted(source: [u8; 4], last: u8) -> Row {
         winner: [10, 5, 0, 2].into(),
         end: 9_000,
     })
+}
+
+/// The same with another address of its source, and another TTL.
+fn forged(bytes: &[u8], from: [u8; 4], ttl: u8) -> Vec<u8> {
+    let mut header = Packet::read(bytes).expect("it is a packet").header().to_vec();
+    header[12..16].copy_from_slice(&from);
+    header[8] = ttl;
+    with_content(&header, Packet::read(bytes).expect("it is a packet").content())
+}
+
+#[test]
+fn one_host_leaves_groups_to_others() {
+    let quota = InterfacePolicy { max_groups: 6, max_host_groups: 2, ..InterfacePolicy::default() };
+    let (mut it, mut books) = (policy(1_000, quota), Holds::default());
+    // What was let through stands.
+    it.read_due = u64::MAX;
+    let asks = |from: [u8; 4], last: u8, sources: &[u8]| forged(&report(&[([1, last], sources)]), from, 1);
+    let (one, other) = ([10, 5, 0, 77], [10, 5, 0, 78]);
+    let mut passes = |it: &mut Policy, packet: Vec<u8>| it.frame(&mut books, 0, &packet).is_some();
+    assert!(passes(&mut it, asks(one, 1, &[])) && passes(&mut it, asks(one, 2, &[])));
+    assert!(!passes(&mut it, asks(one, 3, &[])) && !passes(&mut it, asks(one, 1, &[9])));
+    // Another one has its share, also of the group of the first, which still refreshes its own.
+    assert!(passes(&mut it, asks(other, 1, &[])) && passes(&mut it, asks(other, 3, &[9])));
+    assert!(!passes(&mut it, asks(other, 4, &[])) && passes(&mut it, asks(one, 2, &[])));
+    // Those without an address, and of another subnet, have one share together.
+    assert!(passes(&mut it, asks([0; 4], 5, &[])) && passes(&mut it, asks([10, 9, 0, 1], 6, &[])));
+    assert!(!passes(&mut it, asks([10, 9, 0, 2], 7, &[])) && !passes(&mut it, asks([10, 5, 0, 79], 7, &[])));
+    assert_eq!((it.refusals.of(Cause::HostGroups), it.refusals.of(Cause::Groups)), (3, 2));
+}
+
+#[test]
+fn what_ends_is_given_back_to_its_host() {
+    let quota = InterfacePolicy { max_host_groups: 2, ..InterfacePolicy::default() };
+    let (mut it, mut books) = (policy(1_000, quota), Holds::default());
+    it.read_due = 5_000;
+    let asks = |last: u8| report(&[([1, last], &[])]);
+    assert!(it.frame(&mut books, 0, &asks(1)).is_some() && it.frame(&mut books, 0, &asks(2)).is_some());
+    // The router holds one of them, once it is read again.
+    books.rows = vec![group([1, 2])];
+    books.now.set(5_000);
+    assert!(it.frame(&mut books, 0, &asks(3)).is_some());
+    assert_eq!(it.frame(&mut books, 0, &asks(4)), None);
+}
+
+#[test]
+fn pim_is_believed_of_the_link_alone() {
+    let mut books = Holds::default();
+    let link = InterfacePolicy::default();
+    let listed = Some(vec![Subnet { address: [10, 9, 0, 9].into(), length: 32 }]);
+    let unnumbered = InterfacePolicy { is_unnumbered: true, ..link.clone() };
+    let named = InterfacePolicy { neighbours: listed, ..unnumbered.clone() };
+    for bytes in [hello(2), join(2, &[1])] {
+        let foreign = forged(&bytes, [10, 9, 0, 9], 1);
+        let mut it = policy(1_000, link.clone());
+        assert!(it.frame(&mut books, 0, &bytes).is_some());
+        assert_eq!(it.frame(&mut books, 0, &foreign), None);
+        assert_eq!(it.frame(&mut books, 0, &forged(&bytes, [10, 5, 0, 2], 64)), None);
+        assert_eq!((it.refusals.of(Cause::OtherSubnet), it.refusals.of(Cause::FarTtl)), (1, 1));
+        // Where the link is unnumbered another subnet's is believed, but none that was routed.
+        let mut it = policy(1_000, unnumbered.clone());
+        assert!(it.frame(&mut books, 0, &foreign).is_some());
+        assert_eq!(it.frame(&mut books, 0, &forged(&bytes, [10, 9, 0, 9], 64)), None);
+        let mut it = policy(1_000, named.clone());
+        assert!(it.frame(&mut books, 0, &foreign).is_some());
+        assert_eq!(it.frame(&mut books, 0, &bytes), None);
+    }
 }
 
 #[test]

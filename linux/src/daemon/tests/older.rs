@@ -150,8 +150,8 @@ fn metrics_count_groups_of_older_hosts() {
 #[test]
 fn time_passes_for_the_library_for_a_part_of_the_time() {
     let after = |microseconds| Pace::after(1_000, Duration::from_micros(microseconds));
-    assert!(!after(99).is_early(1_000));
-    assert!(after(700).is_early(1_006) && !after(700).is_early(1_007));
+    assert!(after(99).is_early(1_009) && !after(99).is_early(1_010));
+    assert!(after(3_000).is_early(1_029) && !after(3_000).is_early(1_030));
     assert!(after(60_000_000).is_early(1_049) && !after(60_000_000).is_early(1_050));
 }
 

@@ -338,6 +338,38 @@ fn metrics_tell_what_happened() {
     assert_eq!((of("mroute_entries"), of("facts_limit")), (3.0, 65_536.0));
 }
 
+/// A file of the repository.
+fn file(path: &str) -> String {
+    let path = format!("{}/../{path}", env!("CARGO_MANIFEST_DIR"));
+    std::fs::read_to_string(&path).expect(&path)
+}
+
+#[test]
+fn each_metric_is_documented_and_what_is_watched_is_one() {
+    let (mut daemon, _) = busy();
+    let told = text(&mut daemon).expect("it tells");
+    let families: BTreeSet<_> = told
+        .lines()
+        .filter_map(|line| line.strip_prefix("# TYPE viqeshor_"))
+        .map(|line| line.split(' ').next().unwrap_or_default())
+        .collect();
+    let guide = file("docs/LINUX.md");
+    for name in &families {
+        assert!(guide.contains(&format!("`{name}`")), "docs/LINUX.md doesn't name {name}");
+    }
+    for path in ["linux/monitoring/alerts.yml", "linux/monitoring/grafana.json"] {
+        let watched = file(path);
+        let names = watched.split("viqeshor_").skip(1).map(|rest| {
+            let name = rest.split(|letter: char| !letter.is_ascii_lowercase() && letter != '_').next().unwrap_or("");
+            name.strip_suffix("_bucket").unwrap_or(name)
+        });
+        let unknown: Vec<_> = names.filter(|name| !families.contains(name)).collect();
+        assert!(unknown.is_empty(), "{path} has {unknown:?}");
+    }
+    let panels: Value = serde_json::from_str(&file("linux/monitoring/grafana.json")).expect("it is JSON");
+    assert!(panels["panels"].as_array().map_or(0, Vec::len) >= 8);
+}
+
 #[test]
 fn http_is_answered() {
     let (mut daemon, _) = begun(TWO, &both());
