@@ -1,5 +1,5 @@
-"""What is done beside the kit's gate, in its own lanes: a clock round each of its tasks, and the edits of a crate once it
-is proved, many in one check (pimtext/together.py)."""
+"""What is done beside the kit's gate, in its own lanes: a clock round each of its tasks, and once a crate is proved its
+edits, many in one check (pimtext/together.py), and what is made of it."""
 from __future__ import annotations
 
 import hashlib
@@ -21,12 +21,17 @@ if TYPE_CHECKING:
     from types import ModuleType
 
 # In the environment: whose edits are tried, as names of crates or of edits (CRATE/EDIT). With the word `--anew` nothing
-# is taken that was tried before, with `--archive` the archive for C is built once all below it is proved.
+# is taken that was tried before, with `--whole` what is made of proved crates is tried too.
 ASKED = "VIQESHOR_EDITS"
 # What judges: where it changes, all is tried again.
 JUDGES = [Path(__file__).with_name(f"{it}.py") for it in ("beside", "checks", "edits", "functions", "together")]
-# The crate of the archive for C, and the word that has tools/library build it.
-ARCHIVE, AFTER = "pim_c", "--after-test"
+# What is run once a crate is proved: the archive for C is built over the libraries that the gate has proved just now,
+# and what both of the kit's compilers made of the program plays the stored scenarios, and is refused things by the
+# system.
+ONCE_PROVED = {
+    "pim_c": [({}, "tools/library --after-test")],
+    "pimlab": [({"PIMLAB_BUILD": it}, "tools/try_tools pimlab wires") for it in ("proved", "by-rattle")],
+}
 # How many sums the store holds, of which a crate has one for each state that it was tried in.
 MOST_KEPT = 400
 
@@ -83,7 +88,9 @@ class Store:
             old.unlink(missing_ok=True)
 
 
-def tried(top: Path, edits: list[Edit], before: Iterable[str] = (), anew: bool = False) -> Iterator[tuple[Edit, Answer]]:
+def tried(
+    top: Path, edits: list[Edit], before: Iterable[str] = (), anew: bool = False
+) -> Iterator[tuple[Edit, Answer]]:
     """What comes of these edits of a crate over the libraries that the gate has just built. Those that are refused as
     they say are kept."""
     crate = edits[0].crate
@@ -142,8 +149,7 @@ def task_of(words: Any, folder: Path) -> str:
     """For which task of a crate the kit runs a command in a folder."""
     if folder.parent.name != "crates":
         return "edits"
-    words = words if isinstance(words, list) else []
-    return "archive" if AFTER in words else "tests" if "--test" in words else "proof"
+    return "tests" if isinstance(words, list) and "--test" in words else "proof"
 
 
 def asked(top: Path) -> dict[str, list[Edit]]:
@@ -161,7 +167,7 @@ def timed(key: tuple[str, ...], call: Callable[[Any, Any], Any]) -> Callable[[An
     """A task with a line `seconds CRATE TASK WALL PROCESSOR` at its end."""
 
     def task(given: Any, jobs: Any) -> Any:
-        began, name = time.monotonic(), (key[0], key[-1] if key[-1] in ("proof", "tests", "archive") else "edits")
+        began, name = time.monotonic(), (key[0], key[-1] if key[-1] in ("proof", "tests", "made") else "edits")
         before = Counted.used.get(name, 0)
         try:
             return call(given, jobs)
@@ -172,11 +178,13 @@ def timed(key: tuple[str, ...], call: Callable[[Any, Any], Any]) -> Callable[[An
     return task
 
 
-def build_archive(top: Path, before: Iterable[str]) -> None:
-    """Builds the archive for C over the libraries that the gate has proved just now, and says whether it could."""
-    words = [*before, str(top / "tools" / "library"), AFTER]
-    status, lines = checks.ran(words, top / "crates" / ARCHIVE)
-    say(f"archive: {'NOT BUILT: ' + ' '.join(lines[-3:]) if status else 'built'}")
+def run_once_proved(top: Path, name: str, before: Iterable[str]) -> None:
+    """Runs what is to be run once a crate is proved: a line `once CRATE is proved, COMMAND: ok`, or what it printed."""
+    for more, command in ONCE_PROVED[name]:
+        settings = [f"{key}={value}" for key, value in more.items()]
+        status, lines = checks.ran([*before, "env", *settings, *command.split()], top)
+        came = ["ok"] if not status else ["RED", *lines[-20:]]
+        say(f"once {name} is proved, {' '.join([*settings, command])}: " + "\n".join(came))
 
 
 def more_tasks(made: ModuleType, tasks: dict[Any, Any], anew: bool) -> Iterator[tuple[Any, Any]]:
@@ -192,8 +200,10 @@ def more_tasks(made: ModuleType, tasks: dict[Any, Any], anew: bool) -> Iterator[
         if (name, "proof") in tasks:
             yield (name, "edits", "together"), task(name, lambda edits=edits: say(
                 *lines_on(top, edits, made.rtlib.guarded(), anew)))
-    if "--archive" in words and (ARCHIVE, "proof") in tasks:
-        yield (ARCHIVE, "edits", "archive"), task(ARCHIVE, lambda: build_archive(top, made.rtlib.guarded()))
+    for name in ONCE_PROVED if "--whole" in words else ():
+        if (name, "proof") in tasks:
+            yield (name, "edits", "made"), task(name, lambda name=name: run_once_proved(
+                top, name, made.rtlib.guarded()))
 
 
 def added(made: ModuleType, anew: bool) -> None:

@@ -1,5 +1,5 @@
-"""Whose edits are tried at a landing: those of each crate that changed since all were tried, and of the others a part in
-turn."""
+"""Whose edits are tried at a landing: those of each crate that changed since all were tried, and of the others a part
+in turn."""
 import hashlib
 import subprocess
 from pathlib import Path
@@ -10,8 +10,8 @@ from pimtext.edits import texts_of
 TURNS = 5
 # The sum of each crate's code and contracts when all edits were tried.
 TRIED = Path("tools") / "edits_tried.txt"
-HEAD = """# The code, contracts and edits of each crate when all edits were tried last, as sums (tools/pimtext/turns.py).
-# `./test --edits` writes this file where it is green.
+HEAD = """# The code, contracts and edits of each crate when all edits were tried last, as sums
+# (tools/pimtext/turns.py). `./test --edits` writes this file where it is green.
 """
 
 
@@ -22,7 +22,8 @@ def sum_of(top: Path, name: str) -> str:
     total = hashlib.sha256()
     for path in (*files, folder / "edits.txt"):
         comment = {".rt": "//", ".antt": "--"}.get(path.suffix, "#")
-        lines = [it for it in map(str.strip, path.read_text(encoding="utf-8").splitlines()) if not it.startswith(comment)]
+        text = path.read_text(encoding="utf-8").splitlines()
+        lines = [it for it in map(str.strip, text) if not it.startswith(comment)]
         total.update("\n".join([str(path.relative_to(folder)), *filter(None, lines), ""]).encode())
     return total.hexdigest()[:16]
 
@@ -55,8 +56,8 @@ def changed(top: Path) -> list[str]:
 
 def now(top: Path) -> int:
     """The number of the turn: the hour in which the last commit was made, which every clone knows."""
-    ran = subprocess.run(["git", "log", "-1", "--format=%ct"], cwd=top, stdout=subprocess.PIPE, stderr=subprocess.DEVNULL,
-        text=True)
+    ran = subprocess.run(["git", "log", "-1", "--format=%ct"], cwd=top, stdout=subprocess.PIPE,
+        stderr=subprocess.DEVNULL, text=True)
     return int(ran.stdout.strip() or 0) // 3600
 
 
@@ -69,7 +70,7 @@ def in_turn(top: Path, names: list[str], turn: int) -> list[str]:
 
 
 def chosen(top: Path) -> tuple[list[str], list[str]]:
-    """The crates whose edits are tried at a landing: those that changed, and of the others those whose turn it is. Where
-    no run of all is known, nothing is known to have changed since."""
+    """The crates whose edits are tried at a landing: those that changed, and of the others those whose turn it is.
+    Where no run of all is known, nothing is known to have changed since."""
     first = changed(top) if tried_at(top) else []
     return first, in_turn(top, [it for it in with_edits(top) if it not in first], now(top))

@@ -89,11 +89,13 @@ class Lanes(unittest.TestCase):
                 given[key] = call(given, 1)
             return given
 
-        made = types.SimpleNamespace(in_lanes=in_lanes, OVER=0.7, rtlib=types.SimpleNamespace(guarded=lambda: ["guard"]))
-        tasks = {("high", task): ([], 3, 4, lambda given, jobs, task=task: results[task]) for task in ("proof", "tests")}
+        library = types.SimpleNamespace(guarded=lambda: ["guard"])
+        made = types.SimpleNamespace(in_lanes=in_lanes, OVER=0.7, rtlib=library)
+        tasks = {("high", task): ([], 3, 4, lambda *_, task=task: results[task]) for task in ("proof", "tests")}
         with room_of() as room, mock.patch.dict(os.environ, {beside.ASKED: asked}), contextlib.chdir(room):
             with mock.patch.object(subprocess, "Popen"), contextlib.redirect_stdout(out):
-                with mock.patch.object(beside, "tried", lambda top, edits, *_: ((it, ("refused", "so")) for it in edits)):
+                came = mock.Mock(side_effect=lambda _, edits, *more: ((it, ("refused", "so")) for it in edits))
+                with mock.patch.object(beside, "tried", came):
                     beside.added(made, False)
                     made.in_lanes(tasks)
         return out.getvalue(), waited
@@ -101,15 +103,27 @@ class Lanes(unittest.TestCase):
     def test_edits_follow_the_proof_of_their_crate(self):
         printed, waited = self.ran("high", {"proof": True, "tests": True})
         self.assertEqual([("high", "proof"), ("high", "tests")], waited["high", "edits", "together"])
-        self.assertRegex(printed, r"(?s)seconds high proof \d+\.\d 0\.0\n.*edit high/a: refused: so\nedit high/b: refused: so"
-                                  r"\nseconds high edits \d+\.\d 0\.0\n$")
+        self.assertRegex(printed, r"(?s)seconds high proof \d+\.\d 0\.0\n.*edit high/a: refused: so\n"
+                                  r"edit high/b: refused: so\nseconds high edits \d+\.\d 0\.0\n$")
+
+    def test_what_is_run_once_a_crate_is_proved(self):
+        results = {"proof": True, "tests": True}
+        once = {"high": [({"SAID": "so"}, "sh -c exit"), ({}, "false now")]}
+        with mock.patch.dict(beside.ONCE_PROVED, once):
+            ran = mock.patch.object(beside.checks, "ran", side_effect=[(0, []), (1, ["it", "failed"])])
+            with ran as asked:
+                printed, _ = self.ran("--whole", results)
+            self.assertIn("once high is proved, SAID=so sh -c exit: ok\n", printed)
+            self.assertIn("once high is proved, false now: RED\nit\nfailed\n", printed)
+            self.assertEqual(["guard", "env", "SAID=so", "sh", "-c", "exit"], asked.call_args_list[0].args[0])
+            self.assertNotIn("once", self.ran("high", results)[0])
 
     def test_one_edit_alone(self):
         self.assertNotIn("high/a", self.ran("high/b", {"proof": True, "tests": True})[0])
 
     def test_none_is_tried_where_the_crate_is_not_proved_or_none_is_asked_for(self):
-        for asked, results in (("high", {"proof": False, "tests": True}), ("low other", {"proof": True, "tests": True})):
-            self.assertNotIn("edit ", self.ran(asked, results)[0])
+        for asked, is_proved in (("high", False), ("low other", True)):
+            self.assertNotIn("edit ", self.ran(asked, {"proof": is_proved, "tests": True})[0])
 
 
 class Clock(unittest.TestCase):

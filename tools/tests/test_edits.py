@@ -48,9 +48,10 @@ def edit_of(text, source=SOURCE, name="low"):
 
 class Read(unittest.TestCase):
     def test_edits_with_notes_and_empty_lines_between(self):
-        edit = edit_of(f"# it is known\n{KEEPS}\nedit: other\n{TOO_FAR}\n"[:-len(f'\nedit: other\n{TOO_FAR}\n')])
+        edit = edit_of(f"# it is known\n{KEEPS}\n\n")
         self.assertEqual(("one", [("Half::of", "here")]), (edit.name, edit.wanted))
-        with repository({"low/src/lib.rt": SOURCE, "low/edits.txt": f"edit: a\n{KEEPS}\n# so\nedit: b\n{TOO_FAR}"}) as room:
+        text = f"edit: a\n{KEEPS}\n# so\nedit: b\n{TOO_FAR}"
+        with repository({"low/src/lib.rt": SOURCE, "low/edits.txt": text}) as room:
             found = Crate(room / "low").edits()
         self.assertEqual([("a", 4), ("b", 3)], [(edit.name, len(edit.lines)) for edit in found])
 
@@ -62,8 +63,8 @@ class Read(unittest.TestCase):
 
     def test_two_lines_in_the_other_order(self):
         code = NUMBER.replace("    n\n", "    let half = n / 2;\n    let twice = half * 2;\n    n\n")
-        edit = edit_of("file: src/lib.rt\nold: let half = n / 2;\nnew: let all = half * 2;\nold: let twice = half * 2;\n"
-                       "new: let half = n / 2;\nold: let all\nnew: let twice\n", code)
+        edit = edit_of("file: src/lib.rt\nold: let half = n / 2;\nnew: let all = half * 2;\n"
+                       "old: let twice = half * 2;\nnew: let half = n / 2;\nold: let all\nnew: let twice\n", code)
         self.assertTrue(edit.applies())
         self.assertIn("let twice = half * 2;\n    let half = n / 2;", edit.edited("src/lib.rt"))
 
@@ -79,7 +80,8 @@ class Flaws(unittest.TestCase):
 
     def test_a_text_that_stands_there_twice_or_not_at_all(self):
         for old in ("value / 2", "value / 3"):
-            self.assertIn("stand there once", self.flaw(f"refused: lower ensures\nfile: src/lib.rt\nold: {old}\nnew: 1\n"))
+            text = f"refused: lower ensures\nfile: src/lib.rt\nold: {old}\nnew: 1\n"
+            self.assertIn("stand there once", self.flaw(text))
 
     def test_a_name_that_two_types_have(self):
         source = SOURCE.replace("/// The number, or",
@@ -142,7 +144,8 @@ class Reasons(unittest.TestCase):
         edit = edit_of("refused: number same\nfile: src/lib.rt\nold:     n\nnew:     n / 2\n",
                        NUMBER.replace("pub fn number", "pub fn same").replace("    n\n", "    n + 0\n") + NUMBER)
         line = "./proofs/lib/{}/Answers.antt:7:5: error: {}"
-        standing = "2 declarations that depend on `changed`, which was rejected, were not checked: returns-clause-{}, auto"
+        standing = ("2 declarations that depend on `changed`, which was rejected, were not checked: "
+                    "returns-clause-{}, auto")
         for name, told, meets in (
             ("number", "`returns-clause-same`: the two types differ", True), ("number", standing.format("same"), True),
             ("+number", standing.format("same"), True), ("same", standing.format("same"), False),

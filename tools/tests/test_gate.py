@@ -55,7 +55,7 @@ class Gate(unittest.TestCase):
 
     def test_edits_that_are_refused_count_as_passed(self):
         printed, asked, _ = ended(GOOD, lines(refused(*GOOD)), words=["--edits", "--alone"])
-        self.assertEqual(("4 passed, 0 failed", "ci; --archive low"), (printed[-1], asked))
+        self.assertEqual(("4 passed, 0 failed", "ci; --whole low"), (printed[-1], asked))
         self.assertTrue(any(line.startswith("low: 3 of 3 edits are refused as they say") for line in printed), printed)
 
     def test_those_that_are_not_count_as_failed(self):
@@ -89,6 +89,12 @@ class Gate(unittest.TestCase):
         listed = "# wrong bodies\nlow/keeps_the_whole  halves nothing\nlow/sends_nothing  nothing is sent\n"
         self.assert_red(ended(GOOD, lines(refused(*GOOD)), listed=listed, words=["low"])[0],
                         "low/sends_nothing: it isn't there, and is to be: nothing is sent")
+
+    def test_what_is_run_once_a_crate_is_proved(self):
+        once = ["once low is proved, A=b tools/c: ok", "once low is proved, tools/d: RED", "what it printed"]
+        printed, _, _ = ended(GOOD, [*once, *lines(refused(*GOOD))], words=["--edits", "--alone"])
+        self.assertEqual("5 passed, 1 failed", self.assert_red(printed, "gate: tools/d: it is red"))
+        self.assertIn("what it printed", printed)
 
     def test_of_crates_that_are_named(self):
         printed, asked, _ = ended(GOOD, lines(refused(*GOOD), "1 passed, 0 failed (low alone)"), words=["low"])
@@ -127,7 +133,7 @@ class Turns(unittest.TestCase):
             more = {str(turns.TRIED): text, "crates/low/edits.txt": f"edit: a\n{EDIT}"}
             with mock.patch.object(turns, "in_turn", return_value=[]):
                 printed, came, _ = ended(["a"], lines(refused("a") if asked else {}), more=more)
-            self.assertEqual((f"ci; --archive {asked}".rstrip(), "1 passed" if not asked else "2 passed"),
+            self.assertEqual((f"ci; --whole {asked}".rstrip(), "1 passed" if not asked else "2 passed"),
                              (came, printed[-1].partition(",")[0]))
 
     def test_where_no_run_of_all_is_known_it_says_so(self):
@@ -168,25 +174,6 @@ class Beside(unittest.TestCase):
         self.assertEqual("4 passed, 1 failed", self.ended("exit 0")[-1])
 
 
-class Programs(unittest.TestCase):
-    """The stored scenarios, by both builds of the proved program."""
-
-    def ended(self, status):
-        script = ("import os, sys\n"
-                  "print('Ran 3 tests in 1 s', os.environ['PIMLAB_BUILD'], *sys.argv[1:], file=sys.stderr)\n")
-        more = {"crates.txt": "# Words\nlow:\nother: low\npimlab: low\n",
-                "tools/try_tools": f"{script}sys.exit({status})\n"}
-        return ended(GOOD, lines(refused(*GOOD)), words=["--edits", "--alone"], more=more)[0]
-
-    def test_their_tests_count(self):
-        self.assertEqual("10 passed, 0 failed", self.ended("0")[-1])
-
-    def test_one_that_prints_something_else_is_told(self):
-        printed = self.ended("os.environ['PIMLAB_BUILD'] == 'by-rattle'")
-        self.assertIn("Ran 3 tests in 1 s by-rattle pimlab wires", printed)
-        self.assertEqual("7 passed, 1 failed", printed[-1])
-
-
 class Limit(unittest.TestCase):
     def test_it_ends_before_the_time_is_over(self):
         with mock.patch.object(gate, "BEFORE_THE_END", 60):
@@ -198,7 +185,15 @@ class Limit(unittest.TestCase):
 
 
 class List(unittest.TestCase):
-    """The edits of this repository."""
+    """The edits of this repository, and what stands in it twice."""
+
+    def test_a_scenario_that_stands_in_two_places_is_the_same(self):
+        """The kit takes no links."""
+        stored_too = TOP / "crates" / "test_scenarios" / "data"
+        found = [*TOP.glob("examples/*.toml"), *TOP.glob("examples/*.out"), *TOP.glob("crates/pimlab/data/*")]
+        self.assertGreater(len(found), 10)
+        for path in found:
+            self.assertEqual(path.read_bytes(), (stored_too / path.name).read_bytes(), path.name)
 
     def test_the_wrong_bodies_of_the_list_are_there(self):
         self.assertEqual([], gate.missing(TOP))

@@ -9,7 +9,8 @@ from pimtext.edits import Crate
 from tests.rooms import repository
 
 NUMBER = "/// The number.\npub fn {0}(n: u32) -> u32\n    ensures same {{ result ≡ n }}\n{{\n    n {1}\n}}\n"
-UNMET = "note: src/lib.rt:{}:1: it is not proved that what the function ensures holds when it returns (`returns-clause-{}`)"
+UNMET = ("note: src/lib.rt:{}:1: it is not proved that what the function ensures holds when it returns "
+         "(`returns-clause-{}`)")
 
 
 def edits_of(code, *texts, name="low"):
@@ -30,7 +31,8 @@ class Batches(unittest.TestCase):
         return [[edit.name for edit in batch.edits] for batch in together.batches(edits)]
 
     def test_edits_of_functions_of_their_own_are_in_one(self):
-        edits = edits_of(self.CODE, change("n + 0", "n"), change("n + 1", "n"), change("n + 1", "2"), change("n + 2", "n"))
+        changes = [change(f"n + {number}", to) for number, to in ((0, "n"), (1, "n"), (1, "2"), (2, "n"))]
+        edits = edits_of(self.CODE, *changes)
         self.assertEqual([["a", "b", "d"], ["c"]], self.names(edits))
 
     def test_functions_that_call_one_another_are_not(self):
@@ -155,7 +157,8 @@ class Tried(unittest.TestCase):
 
     def test_the_front_end_alone(self):
         error = "src/lib.rt:5:7: error[unknown-name]: cannot find value `m`"
-        edits = edits_of(self.CODE, change("n + 0", "m", "one same"), self.TWO, change("n + 1", "m", "error[unknown-name]"))
+        typed = change("n + 1", "m", "error[unknown-name]")
+        edits = edits_of(self.CODE, change("n + 0", "m", "one same"), self.TWO, typed)
         with self.prover([error, error, "only=0 proved=0"]) as (prover, codes, _):
             came = {edit.name: answer for edit, answer in together.read_by_front_end(edits, prover)}
         self.assertEqual({"c": ("refused", error), "a": ("NOT AS IT SAYS", error)}, came)
@@ -166,8 +169,8 @@ class Names(unittest.TestCase):
     def test_as_a_check_prints_them(self):
         code = NUMBER.format("one", "+ 0") + "impl Show for Half {\n" + "".join(
             f"    {line}\n" for line in NUMBER.format("shown", "+ 1").splitlines()) + "}\n"
-        found = {edit.name: together.changed(edit) for edit in edits_of(code, change("n + 0", "n"), change("n + 1", "n"))}
-        self.assertEqual(["one", "HalfShow::shown"], [together.path_of(it) for it in found.values()])
+        found = map(together.changed, edits_of(code, change("n + 0", "n"), change("n + 1", "n")))
+        self.assertEqual(["one", "HalfShow::shown"], [together.path_of(it) for it in found])
 
 
 if __name__ == "__main__":
