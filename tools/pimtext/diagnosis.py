@@ -12,6 +12,8 @@ from pimtext import asked, printed, reasons, served, words
 from pimtext.addresses import is_source_specific
 from pimtext.askers import Askers
 from pimtext.cause import Cause, Symptom, attached, grouped
+from pimtext.changes import Changes
+from pimtext.gaps import Gaps
 from pimtext.interfaces import Interfaces
 from pimtext.mistakes import Mistakes
 from pimtext.notes import Lines, Notes
@@ -50,7 +52,9 @@ class Symptoms:
             told = f"{stream.host} missed {loss.words()} of {stream.sent} of {whole}"
             if len(verdict.losses) == 1 and not stream.came:
                 told = f"{stream.host} got none of {times(stream.sent, 'packet')} of {whole}"
-            yield self.of_end(loss.end, stream, told, loss.packets[0].at)
+            # What a router lacked while the packet was on its way is that of the last step of it.
+            at = loss.packets[0].taken()[-1].at if loss.end.kind == "interface down" else loss.packets[0].at
+            yield self.of_end(loss.end, stream, told, at)
         if verdict.end is not None and not verdict.losses:
             yield self.of_end(verdict.end, stream, f"{stream.host} would get nothing of {whole}", len(self.run.steps))
         senders = {packet.source for packet in self.run.packets if packet.group == stream.group}
@@ -152,11 +156,14 @@ class Diagnosis:
     ) -> None:
         self.run = run = Run(played, lines, places or Lines(judge), unheard)
         notes, interfaces = Notes(judge, run), Interfaces(run)
-        self.causes = [*interfaces.causes(), *Mistakes(run).causes(), *Askers(run).causes()]
-        self.causes += [*interfaces.gaps(), *Outages(run).causes()]
+        changes = Changes(run)
+        self.causes = [*changes.relinked(), *interfaces.causes(), *Mistakes(run).causes(), *Askers(run).causes()]
+        self.causes += [*Gaps(run, interfaces).causes(), *Outages(run).causes()]
         odd = attached(self.causes, [*notes.odd(), *([] if places else notes.undelivered())])
         self.causes += [of_odd(run, symptom) for symptom in odd]
         left = attached(self.causes, list(Symptoms(run).all()))
+        changed = list(changes.causes(left))
+        left, self.causes = attached(changed, left), [*self.causes, *changed]
         self.causes = [cause for cause in self.causes if cause.symptoms or not cause.is_hint]
         self.left = grouped([symptom for symptom in left if symptom.kind not in QUIET])
 

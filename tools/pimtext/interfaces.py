@@ -7,7 +7,7 @@ from typing import TYPE_CHECKING
 from pimtext import packets, served, words
 from pimtext.addresses import ip_address, longest
 from pimtext.cause import Cause
-from pimtext.run import gathered
+from pimtext.run import gathered, some
 
 if TYPE_CHECKING:
     from pimtext.cause import Symptom
@@ -66,7 +66,7 @@ class Interfaces:
 
     def router_down(self, name: str, steps: list[Step]) -> Cause:
         router = self.known[name].router
-        since = words.seconds(max(step.moment for step in steps))
+        since, first = words.seconds(max(step.moment for step in steps)), min(steps, key=lambda step: step.move)
         own, links = {each.address for each in router.interfaces}, {each.link for each in router.interfaces}
         at = min(self.last(name, each.number)[0] for each in router.interfaces)
         kinds = ("dead dr", "no neighbour", "no route", "no owner", "lost", "down")
@@ -79,23 +79,32 @@ class Interfaces:
             is_lost_way = each.kind == "no route" and self.led_over(each.router, each.address, links)
             return is_lost_way or (each.kind in kinds and (each.address in own or each.router == name))
 
-        return Cause(*self.run.at_router(name, f" is down since {since}, with all its interfaces"), covers)
+        told = f"router {name} is down since {since}, by move {first.move}, with all its interfaces"
+        return Cause(self.run.lines.move(first.move), told, covers)
 
     def link_down(self, link: str, steps: dict[tuple[str, int], Step]) -> Cause:
-        names = [name for name, _ in steps]
+        names, first = some((name for name, _ in steps), 6), min(steps.values(), key=lambda step: step.move)
         since = words.seconds(max(step.moment for step in steps.values()))
-        told = f": the link {link} is down since {since}, at {' and '.join(names)}"
+        told = f"the link {link} is down since {since}, by move {first.move}, at {names}"
         parts = [self.of_interface(name, self.known[name].router.interfaces[number]) for name, number in steps]
 
         def covers(each: Symptom) -> bool:
             return any(part(each) for part in parts) or (each.kind == "no route" and self.is_cut_off(each, steps))
 
-        return Cause(*self.run.at_router(names[0], told), covers)
+        return Cause(self.run.lines.move(first.move), told, covers)
 
     def interface_down(self, name: str, number: int, step: Step) -> Cause:
         interface = self.known[name].router.interfaces[number]
-        told = f": interface {number} (link {interface.link}) is down since {words.seconds(step.moment)}"
-        return Cause(*self.run.at_router(name, told), self.of_interface(name, interface))
+        told = f"router {name}: interface {number} (link {interface.link}) is down since {words.seconds(step.moment)}"
+        told = f"{told}, by move {step.move}{self.rp_there(interface.address)}"
+        return Cause(self.run.lines.move(step.move), told, self.of_interface(name, interface))
+
+    def rp_there(self, address: str) -> str:
+        """Of which groups an interface's address is the RP's, in words."""
+        groups = [group for group in self.run.groups() if address in self.run.rps_of(group)]
+        if not groups:
+            return ""
+        return f"; its address {address} is that of the RP of {some(groups)}, which stays the RP while it is down"
 
     def never_up(self) -> Iterator[Cause]:
         every = [(name, interface) for ports in self.ports.values() for name, interface in ports]
@@ -103,23 +112,6 @@ class Interfaces:
             if (name, interface.number) not in self.turns:
                 told = f": interface {interface.number} (link {interface.link}) never goes up: it needs a move `up`"
                 yield Cause(*self.run.at_router(name, told), self.of_interface(name, interface))
-
-    # ---- what was down for a while
-
-    def gaps(self) -> Iterator[Cause]:
-        """Interfaces that were down for a while."""
-        pairs = [(key, one, other) for key, turns in self.turns.items() for one, other in zip(turns, turns[1:])]
-        for key, (began, step), (ended, _) in pairs:
-            if is_turn(step, "down"):
-                yield self.gap(*key, began, ended)
-
-    def gap(self, name: str, number: int, began: int, ended: int) -> Cause:
-        interface, steps = self.known[name].router.interfaces[number], self.run.steps
-        during = f"from {words.seconds(steps[began].moment)} to {words.seconds(steps[ended].moment)}"
-        told = f": interface {number} (link {interface.link}) was down {during}"
-        whole = self.of_interface(name, interface)
-        covers = lambda each: each.at is not None and began <= each.at <= ended and whole(each)
-        return Cause(*self.run.at_router(name, told), covers, is_hint=True)
 
     # ---- what follows where an interface is down
 

@@ -9,7 +9,7 @@ from collections.abc import Callable, Iterable, Iterator
 from difflib import SequenceMatcher
 from typing import TYPE_CHECKING, TypeVar
 
-from pimtext import asked, printed
+from pimtext import asked, printed, words
 from pimtext.addresses import ip_address
 from pimtext.cause import Cause
 from pimtext.printed import ANY
@@ -61,14 +61,15 @@ class Mistakes:
 
     def other_rp(self, name: str, rp: str | None, usual: str, groups: list[str]) -> Cause:
         peer = next(each for each, state in self.known.items() if asked.rp_of(state, groups[0]) == usual)
-        theirs = f"{usual} at router {peer} ({self.run.lines.words(self.run.lines.router(peer))})"
+        settings, one = self.run.settings, lambda each: each.rp(groups[0])
+        theirs = f"{usual} at {settings.place(peer, settings.since(peer, one))}"
         told = f": the RP of {some(groups)} is {rp} here, and {theirs}"
         kinds = ("rp disagrees", "no owner", "registers stopped")
 
         def covers(each: Symptom) -> bool:
             return each.kind in kinds and each.group in groups and (each.router == name or each.address == rp)
 
-        return Cause(*self.run.at_router(name, told), covers)
+        return Cause(*self.run.at_setting(name, told, one), covers)
 
     def unaware(self, name: str, rp: str | None, usual: str, groups: list[str]) -> Cause:
         own = f"takes {rp} for it" if rp else "has no RP for it itself"
@@ -78,7 +79,8 @@ class Mistakes:
             is_here = each.router == name and each.kind in ("rp disagrees", "no rp")
             return is_here or (each.kind == "registers stopped" and each.group in groups)
 
-        return Cause(*self.run.at_router(name, f"{told}: it drops their Joins and stops their Registers"), covers)
+        told = f"{told}: it drops their Joins and stops their Registers"
+        return Cause(*self.run.at_setting(name, told, lambda each: each.rp(groups[0])), covers)
 
     def without_rp(self) -> Iterator[Cause]:
         """A group that is asked for has an RP, at its hosts' routers, at its sources' and between."""
@@ -92,7 +94,8 @@ class Mistakes:
             groups = [group for group in missing if group not in nowhere]
             if groups:
                 told = f" has no RP for {some(groups)}, which other routers have"
-                yield Cause(*self.run.at_router(name, told), self.of_router(name, groups), is_hint=True)
+                one = lambda each, group=groups[0]: each.rp(group)
+                yield Cause(*self.run.at_setting(name, told, one), self.of_router(name, groups), is_hint=True)
 
     def is_used(self, group: str) -> bool:
         return any(asked == group and source == ANY for asked, source in self.run.wished())
@@ -207,17 +210,20 @@ class Mistakes:
 
     def loops(self) -> list[Cause]:
         """A route leads to where its address is."""
-        circles = {}
+        circles, addresses = {}, {}
         for address, name in ((address, name) for address in self.wanted_addresses() for name in self.known):
             circle = self.circle(name, address)
             if circle:
-                circles.setdefault((address, frozenset(circle)), circle)
-        return [self.loop(address, circle) for (address, _), circle in circles.items()]
+                circles.setdefault(frozenset(circle), circle)
+                addresses.setdefault(frozenset(circle), {})[address] = None
+        return [self.loop(list(addresses[key]), circle) for key, circle in circles.items()]
 
-    def loop(self, address: str, circle: list[str]) -> Cause:
-        told = f": the routes to {address} run in a circle, from {' to '.join([*circle, circle[0]])}"
-        covers = lambda each: each.kind == "circle" and each.address == address
-        return Cause(*self.run.at_router(circle[0], told), covers)
+    def loop(self, addresses: list[str], circle: list[str]) -> Cause:
+        settings, way = self.run.settings, lambda each: each.way(addresses[0])
+        told = f": the routes to {some(addresses)} run in a circle, from {' to '.join([*circle, circle[0]])}"
+        covers = lambda each: each.kind == "circle" and each.address in addresses
+        changed = next((name for name in circle if settings.since(name, way).began), circle[0])
+        return Cause(*self.run.at_setting(changed, told, way), covers)
 
     def wanted_addresses(self) -> list[str]:
         """The sources and RPs that are in use."""
@@ -240,14 +246,31 @@ class Mistakes:
     def next_hops(self) -> Iterator[Cause]:
         """A next hop is a router's address on the link of the route's interface."""
         joined = [(name, row) for name, state in self.known.items() for row in state.of(printed.Upstream)]
-        for name, row in joined:
-            state = self.known[name]
-            root = asked.root_of(state, row.group, row.source)
-            path = asked.route(state, root)
-            if path is not None and not path.is_connected and not self.is_there(state, path):
-                where = f"{path.next_hop} on {state.link(path.iface)}, and no router there has that address"
-                told = f": its route to {root} leads to {where}"
-                yield Cause(*self.run.at_router(name, told), self.of_next_hop(name, path.next_hop))
+        roots = [(name, asked.root_of(self.known[name], row.group, row.source)) for name, row in joined]
+        paths = [(name, root, asked.route(self.known[name], root)) for name, root in dict.fromkeys(roots)]
+        wrong = [((name, path.next_hop, path.iface), root) for name, root, path in paths
+                 if path is not None and not path.is_connected and not self.is_there(self.known[name], path)]
+        for (name, hop, iface), found in gathered(wrong).items():
+            yield self.absent_hop(name, hop, iface, found)
+
+    def absent_hop(self, name: str, hop: str, iface: int, roots: list[str]) -> Cause:
+        leads = f"its route to {roots[0]} leads" if len(roots) == 1 else f"its routes to {some(roots)} lead"
+        link = self.known[name].link(iface)
+        told = f": {leads} to {hop} on {link}, and no router there has that address{self.elsewhere(hop)}"
+        value = lambda each: each.way(roots[0])
+        return Cause(*self.run.at_setting(name, told, value), self.of_next_hop(name, hop))
+
+    def elsewhere(self, address: str) -> str:
+        """Who has an address on another link, or had it until a `reload`."""
+        ports = [(name, each.link) for each_link in self.ports.values() for name, each in each_link
+                 if each.address == address]
+        if ports:
+            return f" (it is that of {ports[0][0]} on {ports[0][1]})"
+        had = self.run.settings.had(address)
+        if had is None:
+            return ""
+        name, link, step = had
+        return f": {name} had it on {link} until {words.seconds(step.moment)}, {self.run.settings.move(step)}"
 
     @staticmethod
     def of_next_hop(name: str, hop: str) -> Callable[[Symptom], bool]:

@@ -1,12 +1,13 @@
 """A run with all that a diagnosis reads of it."""
 from __future__ import annotations
 
-from collections.abc import Iterable
-from typing import TYPE_CHECKING, TypeVar
+from collections.abc import Callable, Iterable
+from typing import TYPE_CHECKING, Any, TypeVar
 
 from pimtext import asked, printed, spoken, story
 from pimtext.addresses import ip_address, is_source_specific
 from pimtext.printed import ANY
+from pimtext.settings import Settings
 from pimtext.watched import Watch
 from pimtext.wire import Wire
 
@@ -14,6 +15,7 @@ if TYPE_CHECKING:
     from lab.lines import Line, Lines as LabLines
     from pimtext.notes import Lines
     from pimtext.scenario import Interface, Scenario
+    from pimtext.settings import Told
 
     K = TypeVar("K")
     V = TypeVar("V")
@@ -32,6 +34,7 @@ class Run:
     ) -> None:
         self.played, self.lines = played, lines
         self.steps, self.tables = story.played(played, printed_lines)
+        self.settings = Settings(played, self.steps, lines)
         self.watch, self.wire = Watch(played, self.steps, self.tables, unheard), Wire(played, self.steps)
         self.known, self.world, self.hosts = self.watch.known, self.watch.now, self.watch.hosts
         self.packets, self.past = self.watch.packets, self.watch.past
@@ -45,6 +48,12 @@ class Run:
 
     def at_router(self, name: str, text: str) -> tuple[int | Line, str]:
         return self.lines.router(name), f"router {name}{text}"
+
+    def at_setting(self, name: str, text: str, value: Callable[[Told], Any]) -> tuple[int | Line, str]:
+        """At the move or the router that set a fact last, with since when it is so."""
+        since = self.settings.since(name, value)
+        when = self.settings.words(since)
+        return self.settings.line(name, since), f"router {name}{text}" + (f": {when}" if when else "")
 
     def at_interface(self, router: str, number: int, text: str) -> tuple[int | Line, str]:
         return self.lines.interface(router, number), f"router {router}, interface {number}: {text}"

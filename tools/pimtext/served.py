@@ -68,6 +68,12 @@ class World:
         owner = self.owner(address)
         return address if owner is None else f"{owner.router.name} ({address})"
 
+    def on(self, address: str, link: str) -> str:
+        """The same where that router has the address on a link; else the address alone."""
+        here = (each for state in self.known.values() for each in state.configured() if each.link == link)
+        is_there = any(each.address == address for each in here)
+        return self.named(address) if is_there else address
+
     def every(self, address: str) -> str:
         """The same of a router that may have gone, or of several that have the address."""
         names = [state.router.name for state in self.known.values() if state.router.has(address)]
@@ -242,7 +248,8 @@ def next_up(world: World, state: Known, group: str, tree: str) -> tuple[Known, s
         return None, no_route(world, state, root, whom, tree == ANY)
     link = state.link(path.iface)
     if hop is None:
-        told = f"{world.named(path.next_hop)} on {link}, the next hop of {name} towards {whom}, is no neighbour of it"
+        where = f"{world.on(path.next_hop, link)} on {link}"
+        told = f"{where}, the next hop of {name} towards {whom}, is no neighbour of it"
         return None, End("no neighbour", told, name, link, path.next_hop)
     above = world.owner(hop.address)
     if above is None:
