@@ -15,7 +15,7 @@ if TYPE_CHECKING:
     from pimtext.streams import Arrival
     from pimtext.trace import Packet
     from pimtext.watched import Verdict
-    from pimtext.wishes import Wish
+    from pimtext.wishes import Key, Wish
 
 # What an event says of a stream: no longer wanted, waited for, came, came more than once, didn't come.
 LEFT, WAITS, CAME, TWICE, MISSED = range(5)
@@ -83,17 +83,19 @@ class Arrivals:
 
     def follow_wishes(self) -> None:
         """What hosts wait for, and what they no longer want."""
-        for (host, group), changes in self.watch.hosts.told.items():
+        for key, changes in self.watch.hosts.told.items():
+            host, group, _ = key
             if host not in self.hosts:
                 continue
             for at, wish in changes:
-                self.waits(host, group, at, wish)
+                self.waits(key, at, wish)
                 for number, (other, source) in enumerate(self.streams):
                     if other == group and source != ANY and not wish.has(source):
                         self.tell(host, at, number, LEFT, "")
 
-    def waits(self, host: str, group: str, at: int, wish: Wish) -> None:
-        was = self.watch.hosts.wish(host, group, at)
+    def waits(self, key: Key, at: int, wish: Wish) -> None:
+        host, group, _ = key
+        was = self.watch.hosts.wish(key, at)
         if wish == was:
             return
         if wish.is_exclude != was.is_exclude:

@@ -5,13 +5,14 @@ from __future__ import annotations
 from collections.abc import Callable, Container, Hashable, Iterator
 from typing import TYPE_CHECKING
 
-from pimtext import asked, packets, printed, wishes, words
+from pimtext import asked, packets, printed, streams, wishes, words
 from pimtext.addresses import ip_address, is_source_specific
 from pimtext.cause import Cause
 from pimtext.printed import ANY
 from pimtext.run import gathered, is_local, some, times
 
 if TYPE_CHECKING:
+    from ipaddress import IPv4Network
     from pimtext.cause import Symptom
     from pimtext.run import Run
     from pimtext.spoken import Said
@@ -19,6 +20,8 @@ if TYPE_CHECKING:
     from pimtext.wishes import Heard
 
 OLD_QUERY_SIZE = 8
+# A host that has no address yet reports with this one.
+NO_ADDRESS = "0.0.0.0"
 # Which versions of older hosts a router hears, by `older_hosts` of its table.
 HEARD = {"none": (), "v2": (2,), "all": (1, 2)}
 
@@ -68,7 +71,7 @@ class Askers:
 
     def sourceless(self) -> Iterator[Cause]:
         """A group of the SSM range is asked for with its source."""
-        for (host, group), told in self.hosts.told.items():
+        for (host, group, _), told in self.hosts.told.items():
             first = next((at for at, wish in told if wish.is_exclude), None)
             if is_source_specific(group) and first is not None:
                 why = "and an SSM group has no tree but those of its sources: name one, by ALLOW or TO_IN"
@@ -78,12 +81,13 @@ class Askers:
     def other_sources(self) -> Iterator[Cause]:
         """A source that is asked for by name is one that sends."""
         senders = gathered((packet.group, packet.source) for packet in self.run.packets)
-        named = [(*key, source) for key in self.hosts.told for source in self.hosts.named(*key)]
-        for host, group, source in named:
+        named = [(key, source) for key in self.hosts.told for source in self.hosts.named(key)]
+        for key, source in named:
+            host, group, _ = key
             if senders.get(group) and source not in senders[group]:
                 sent = some(dict.fromkeys(senders[group]))
                 told = f"{host} asks for {group} of {source}, which has sent nothing in this run: what was sent to it"
-                step = self.run.steps[self.hosts.joined(host, group, source)]
+                step = self.run.steps[self.hosts.joined(key, source)]
                 yield Cause(*self.run.at_move(step, f"{told} is of {sent}"), self.of_source(group, source))
 
     @staticmethod
@@ -93,7 +97,7 @@ class Askers:
 
     def local(self) -> Iterator[Cause]:
         """A group of 224.0.0.0/24 never leaves its link."""
-        for (host, group), told in self.hosts.told.items():
+        for (host, group, _), told in self.hosts.told.items():
             if is_local(group):
                 text = f"{host} asks for {group}, and no router forwards groups of 224.0.0.0/24"
                 yield Cause(*self.run.at_move(self.run.steps[told[0][0]], text), self.of_local(group))
@@ -101,6 +105,42 @@ class Askers:
     @staticmethod
     def of_local(group: str) -> Callable[[Symptom], bool]:
         return lambda each: each.group == group or (each.kind == "odd" and each.cause == "LinkLocal")
+
+    def excluding(self) -> Iterator[Cause]:
+        """A host that asks for all sources but some gets nothing of these."""
+        for key, told in self.hosts.told.items():
+            host, group, link = key
+            for source in sorted({source for _, wish in told if wish.is_exclude for source in wish.sources}):
+                missed = [packet for packet in self.run.packets if (packet.source, packet.group) == (source, group)
+                          and self.hosts.wish(key, packet.at).is_exclude
+                          and not self.hosts.wish(key, packet.at).has(source)]
+                if missed:
+                    at = next(at for at, wish in told if wish.is_exclude and source in wish.sources)
+                    text = f"{host} on {link} asks for all sources of {group} but {source}, and is sent none of the"
+                    text = f"{text} {times(len(missed), 'packet')} that this one sent since"
+                    yield Cause(*self.run.at_move(self.run.steps[at], text), self.of_source(group, source))
+
+    def outside(self) -> Iterator[Cause]:
+        """A host asks on the link of its subnet."""
+        for host, links in self.hosts.links.items():
+            for link in links:
+                networks = [each.own.network for _, each in self.run.ports().get(link, [])]
+                if networks and host != NO_ADDRESS and not any(ip_address(host) in each for each in networks):
+                    yield self.asked_outside(host, link, networks[0], [each for each in links if each != link])
+
+    def asked_outside(self, host: str, link: str, network: IPv4Network, others: list[str]) -> Cause:
+        first = next(each for each in self.hosts.heard if (each.host, each.link) == (host, link))
+        groups = some(dict.fromkeys(group for whose, group, where in self.hosts.told if (whose, where) == (host, link)))
+        told = f"{host} asks for {groups} on {link}, and isn't in {network}, the subnet of that link"
+        home = self.world.link_of(host)
+        told += f": its address is one of {home}" if home else ": its address is one of no link here"
+        if home in others:
+            still = any(self.hosts.wish(key, len(self.run.steps)) != wishes.NOTHING for key in self.hosts.keys(host)
+                        if key[2] == home)
+            last = max(each.step.moment for each in self.hosts.heard if (each.host, each.link) == (host, home))
+            told += f", where it asks too: does its report leak from there to {link}?" if still else \
+                f", where it asked until {words.seconds(last)}: has it moved?"
+        return Cause(*self.run.at_move(first.step, told))
 
     # ---- whom their reports reach
 
@@ -131,18 +171,18 @@ class Askers:
 
     def forgotten(self) -> Iterator[Cause]:
         """A host answers queries for as long as it wants something."""
-        for (host, group), told in self.hosts.told.items():
-            link = self.hosts.links[host]
-            report = self.last_report(host, group, self.dr_of(link))
+        for (host, group, link), told in self.hosts.told.items():
+            report = self.last_report(host, group, link)
             is_never_kept = is_local(group) or (is_source_specific(group) and told[-1][1].is_exclude)
             if report is None or is_never_kept or told[-1][1] == wishes.NOTHING:
                 continue
             if not self.is_known(report.step.router, link, group) and self.is_over(report):
                 yield from self.gone(group, report)
 
-    def last_report(self, host: str, group: str, dr: str | None) -> Heard | None:
-        """A host's last report of a group that came to a router, None where that refused it, or there is none."""
-        mine = [each for each in self.hosts.heard if each.host == host and each.step.router == dr]
+    def last_report(self, host: str, group: str, link: str) -> Heard | None:
+        """A host's last report of a group that came to a link's DR, None where that refused it, or there is none."""
+        here, dr = [each for each in self.hosts.heard if (each.host, each.link) == (host, link)], self.dr_of(link)
+        mine = [each for each in here if each.step.router == dr]
         taken = [each for each in mine if group in dict(each.wishes)]
         return taken[-1] if taken and taken[-1].step.verdict == "done" else None
 
@@ -169,9 +209,24 @@ class Askers:
         if asked and all(each.at <= asked[0] for each in answers):
             told = f"{host} asked for {group} at {words.seconds(report.step.moment)} for the last time, and answered no"
             told = f"{told} query since, though {dr} sent {len(asked)} on {link}: {dr} has forgotten its wish"
-            yield Cause(*self.run.at_move(report.step, told), self.of_host(host, {group}), is_hint=True)
+            whole = self.of_host(host, {group})
+            covers = lambda each: whole(each) and each.place in (None, link)
+            yield Cause(*self.run.at_move(report.step, told), covers, is_hint=True)
 
     # ---- what sources send
+
+    def cloned(self) -> Iterator[Cause]:
+        """A source's address is that of one sender."""
+        sent = gathered((packet.source, packet) for packet in self.run.packets)
+        for source, found in sent.items():
+            links = next((links for group in dict.fromkeys(packet.group for packet in found)
+                          if len(links := streams.origins(found, group, source)) > 1), [])
+            if links:
+                first = {packet.link: packet for packet in reversed(found)}
+                shown = some((f"{link} (since {words.seconds(first[link].moment)})" for link in links), 4)
+                told = f"several senders have the address {source}: packets of it come from {shown} by turns"
+                step = self.run.steps[max(first[link].at for link in links)]
+                yield Cause(*self.run.at_move(step, told), self.of_stranger(source))
 
     def strangers(self) -> Iterator[Cause]:
         """A source is on a link of its first router, or behind another router."""
@@ -218,8 +273,9 @@ class Askers:
         return list({key(each): each for each in reversed(data)}.values())[::-1]
 
     def causes(self) -> Iterator[Cause]:
-        parts = (self.older_hosts, self.older_leaves, self.old_queriers, self.sourceless, self.strangers)
-        for told in (*parts, self.other_sources, self.unheard, self.forgotten, self.local, self.unasked):
+        asking = (self.older_hosts, self.older_leaves, self.old_queriers, self.sourceless)
+        sending = (self.cloned, self.strangers, self.excluding, self.outside, self.other_sources)
+        for told in (*asking, *sending, self.unheard, self.forgotten, self.local, self.unasked):
             yield from told()
 
 

@@ -9,6 +9,9 @@ from typing import TYPE_CHECKING
 if TYPE_CHECKING:
     from lab.lines import Line
 
+# How many refusals are told below a cause.
+MOST_ODD = 4
+
 
 @dataclass(frozen=True)
 class Symptom:
@@ -28,6 +31,10 @@ class Symptom:
     # How it is told where no cause explains it, and the step of the first packet that it concerns.
     alone: str | None = None
     at: int | None = None
+    # The link on which the host asks.
+    place: str | None = None
+    # Where packets that came twice were sent twice: a link, and the two routers.
+    pairs: tuple = ()
 
 
 @dataclass(eq=False)
@@ -49,6 +56,9 @@ class Cause:
         counts = Counter(map(self.told, sorted(self.symptoms, key=lambda symptom: symptom.kind == "odd")))
         new = [(text, count) for text, count in counts.items() if text not in self.text]
         told = [f"    {text}" + (f" ({count} times)" if count > 1 else "") for text, count in new]
+        odd = len({symptom.text for symptom in self.symptoms if symptom.kind == "odd"} & {text for text, _ in new})
+        if odd > MOST_ODD:
+            told = [*told[:len(told) - odd + MOST_ODD], f"    and {odd - MOST_ODD} more like the last"]
         return [f"{self.line}: {self.text}", *told]
 
     def told(self, symptom: Symptom) -> str:

@@ -13,13 +13,17 @@ from pimtext.addresses import is_source_specific
 from pimtext.askers import Askers
 from pimtext.cause import Cause, Symptom, attached, grouped
 from pimtext.changes import Changes
+from pimtext.doubles import Doubles
 from pimtext.gaps import Gaps
 from pimtext.interfaces import Interfaces
+from pimtext.latencies import Latencies
+from pimtext.memberships import Memberships
 from pimtext.mistakes import Mistakes
 from pimtext.notes import Lines, Notes
 from pimtext.outages import Outages
 from pimtext.printed import ANY
 from pimtext.run import Run, times
+from pimtext.strangers import Strangers
 
 if TYPE_CHECKING:
     from lab.lines import Lines as LabLines
@@ -36,7 +40,7 @@ QUIET = ("silent",)
 
 class Symptoms:
     def __init__(self, run: Run) -> None:
-        self.run, self.known, self.world = run, run.known, run.world
+        self.run, self.known, self.world, self.doubles = run, run.known, run.world, Doubles(run)
 
     # ---- hosts
 
@@ -47,7 +51,7 @@ class Symptoms:
                 yield self.twice(verdict.stream)
 
     def missed(self, verdict: Verdict) -> Iterator[Symptom]:
-        stream, whole = verdict.stream, words.tree(verdict.stream.group, verdict.stream.source)
+        stream, whole = verdict.stream, self.named(verdict.stream)
         for loss in verdict.losses:
             told = f"{stream.host} missed {loss.words()} of {stream.sent} of {whole}"
             if len(verdict.losses) == 1 and not stream.came:
@@ -55,27 +59,39 @@ class Symptoms:
             # What a router lacked while the packet was on its way is that of the last step of it.
             at = loss.packets[0].taken()[-1].at if loss.end.kind == "interface down" else loss.packets[0].at
             yield self.of_end(loss.end, stream, told, at)
-        if verdict.end is not None and not verdict.losses:
+        if verdict.end is not None and not verdict.losses and verdict.end.kind != "silent":
             yield self.of_end(verdict.end, stream, f"{stream.host} would get nothing of {whole}", len(self.run.steps))
         senders = {packet.source for packet in self.run.packets if packet.group == stream.group}
         if not stream.packets and stream.source not in senders:
             told = f"{stream.host} asked for {whole}, and nobody has sent it"
             line = self.run.lines.router(next(iter(self.known)))
-            yield Symptom("silent", line, told, group=stream.group, source=stream.source)
+            whose = {"group": stream.group, "source": stream.source, "host": stream.host, "place": stream.link}
+            yield Symptom("silent", line, told, **whose)
+
+    def named(self, stream: Stream) -> str:
+        """A stream, with its sender's link where several have its address, and its host's where that asks on several.
+        """
+        sender = f" from {stream.origin}" if stream.origin else ""
+        is_alone = len(self.run.hosts.keys(stream.host, stream.group)) < 2
+        return words.tree(stream.group, stream.source) + sender + ("" if is_alone else f" on {stream.link}")
 
     def of_end(self, end: End, stream: Stream, told: str, at: int) -> Symptom:
         name = end.router or next(iter(self.known))
         line = self.run.on_link(name, end.link if end.router else None)
         where = {"router": end.router, "link": end.link, "address": end.address, "cause": end.cause}
-        whose = {"group": stream.group, "source": stream.source, "host": stream.host}
+        whose = {"group": stream.group, "source": stream.source, "host": stream.host, "place": stream.link}
         return Symptom(end.kind, line, told, **where, **whose, alone=end.text, at=at)
 
     def twice(self, stream: Stream) -> Symptom:
-        whole = words.tree(stream.group, stream.source)
+        whole = self.named(stream)
         told = f"{stream.host} got {times(stream.twice, 'packet')} of {whole} {stream.how_often()}"
-        line = self.run.on_link(stream.senders()[0], stream.link)
-        return Symptom("twice", line, f"{told}: {'; '.join(stream.doubled())}", stream.senders()[0], stream.link,
-                       group=stream.group, source=stream.source, host=stream.host)
+        senders, doubles = stream.senders(), self.doubles
+        line = self.run.on_link(senders[0], stream.link) if senders else self.run.lines.router(next(iter(self.known)))
+        told = f"{told}: {'; '.join(stream.doubled())}"
+        whose = {"group": stream.group, "source": stream.source, "host": stream.host, "place": stream.link}
+        where = {"at": doubles.packets(stream)[0].at, "pairs": tuple(doubles.pairs(stream))}
+        return Symptom("twice", line, f"{told}: {doubles.words(stream)}", next(iter(senders), None), stream.link,
+                       **whose, **where)
 
     # ---- trees
 
@@ -122,7 +138,7 @@ class Symptoms:
     def silent(self) -> Iterator[Symptom]:
         """Groups that hosts ask for and to which nobody sends."""
         sent = {packet.group for packet in self.run.packets}
-        for host, group in self.run.hosts.told:
+        for host, group in dict.fromkeys((host, group) for host, group, _ in self.run.hosts.told):
             if group not in sent:
                 told = f"{host} asked for {group}, to which nobody has sent"
                 yield Symptom("silent", self.run.lines.router(next(iter(self.known))), told, group=group, host=host)
@@ -157,12 +173,13 @@ class Diagnosis:
         self.run = run = Run(played, lines, places or Lines(judge), unheard)
         notes, interfaces = Notes(judge, run), Interfaces(run)
         changes = Changes(run)
-        self.causes = [*changes.relinked(), *interfaces.causes(), *Mistakes(run).causes(), *Askers(run).causes()]
+        self.causes = [*changes.relinked(), *interfaces.causes(), *Mistakes(run).causes(), *Askers(run).causes(),
+                       *Strangers(run).causes(), *Latencies(run).causes()]
         self.causes += [*Gaps(run, interfaces).causes(), *Outages(run).causes()]
         odd = attached(self.causes, [*notes.odd(), *([] if places else notes.undelivered())])
         self.causes += [of_odd(run, symptom) for symptom in odd]
         left = attached(self.causes, list(Symptoms(run).all()))
-        changed = list(changes.causes(left))
+        changed = [*changes.causes(left), *Memberships(run).causes(left)]
         left, self.causes = attached(changed, left), [*self.causes, *changed]
         self.causes = [cause for cause in self.causes if cause.symptoms or not cause.is_hint]
         self.left = grouped([symptom for symptom in left if symptom.kind not in QUIET])
@@ -177,6 +194,7 @@ class Diagnosis:
 
     def of(self, stream: Stream) -> list[Cause]:
         """The causes of what a stream misses."""
-        key = stream.host, stream.group, stream.source
-        whose = [(cause, [(each.host, each.group, each.source) for each in cause.symptoms]) for cause in self.causes]
+        key = stream.host, stream.group, stream.source, stream.link
+        whose = [(cause, [(each.host, each.group, each.source, each.place) for each in cause.symptoms])
+                 for cause in self.causes]
         return [cause for cause, keys in whose if key in keys]

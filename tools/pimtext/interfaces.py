@@ -137,7 +137,7 @@ class Interfaces:
         """Whether the packets that a host missed after step `at` would have come over one of these links before it."""
         if symptom.at is None or symptom.host is None or not at < symptom.at:
             return False
-        world, place = served.World(self.run.past.known(at)), self.run.hosts.links[symptom.host]
+        world, place = served.World(self.run.past.known(at)), symptom.place
         state, _ = served.serving(world, symptom.group, symptom.source, place)
         rungs = [] if state is None else served.climb(world, symptom.group, symptom.source, state, place)[0]
         return any(rung.link in links for rung in rungs[1:])

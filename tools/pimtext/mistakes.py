@@ -144,7 +144,8 @@ class Mistakes:
     def host_addresses(self) -> Iterator[Cause]:
         """A host's address is no router's."""
         sources = {packet.source: packet.link for packet in self.run.packets if packet.link}
-        for host, link in {**sources, **self.run.hosts.links}.items():
+        asking = {host: links[0] for host, links in self.run.hosts.links.items()}
+        for host, link in {**sources, **asking}.items():
             owner = self.world.owner(host)
             if owner is not None:
                 name = owner.router.name

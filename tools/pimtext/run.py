@@ -73,10 +73,10 @@ class Run:
     def wished(self) -> set[tuple[str, str]]:
         """Pairs of a group and a source that somebody asked for, ANY where it asked for every source."""
         found = set(spoken.joined(self.steps))
-        for (host, group), wishes in self.hosts.told.items():
+        for key, wishes in self.hosts.told.items():
             if any(wish.is_exclude for _, wish in wishes):
-                found.add((group, ANY))
-            found |= {(group, source) for source in self.hosts.named(host, group)}
+                found.add((key[1], ANY))
+            found |= {(key[1], source) for source in self.hosts.named(key)}
         return found
 
     def groups(self) -> list[str]:
@@ -120,6 +120,12 @@ def gathered(pairs: Iterable[tuple[K, V]]) -> dict[K, list[V]]:
 def some(names: Iterable[str], count: int = 3) -> str:
     names = list(names)
     return ", ".join(names[:count]) + (" .." if len(names) > count else "")
+
+
+def listed(names: Iterable[str]) -> str:
+    """All of them, as one says them."""
+    *first, last = names
+    return f"{', '.join(first)} and {last}" if first else last
 
 
 def times(count: int, word: str) -> str:

@@ -199,7 +199,8 @@ def absent_dr(world: World, here: list[tuple[Known, int]], link: str) -> End:
         return End("dead dr", told, name, link, address)
     until = state.of(printed.Neighbour, iface=number, address=address)[0].end
     where = f"which is gone from {link}" if world.owner(address) else "which no router here has"
-    gone = f"{world.every(address)}, {where}, and takes it for a neighbour until {words.seconds(until)}"
+    when = "for ever" if until == printed.NEVER else f"until {words.seconds(until)}"
+    gone = f"{world.every(address)}, {where}, and takes it for a neighbour {when}"
     name = state.router.name
     return End("dead dr", f"{name} isn't the DR of {link}: it takes that to be {gone}", name, link, address)
 

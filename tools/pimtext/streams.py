@@ -12,7 +12,7 @@ from pimtext.printed import ANY
 if TYPE_CHECKING:
     from pimtext.story import Step
     from pimtext.trace import Copy, Packet
-    from pimtext.wishes import Hosts
+    from pimtext.wishes import Hosts, Key
 
 
 @dataclass(frozen=True)
@@ -34,6 +34,8 @@ class Stream:
     source: str
     asked: int | None
     clock: Clocks
+    # The link that it comes from where others send by the same address; else None.
+    origin: str | None = None
     packets: list = field(default_factory=list)
     arrivals: dict = field(default_factory=dict)
 
@@ -57,9 +59,20 @@ class Stream:
 
     @property
     def longest_gap(self) -> float | None:
-        """The most seconds between two packets that came one after the other; None where fewer than two came."""
-        moments = sorted(each.moment for each in self.first_arrivals())
-        return max(((later - one) / 1000 for one, later in zip(moments, moments[1:])), default=None)
+        """The most seconds between two packets that came one after the other, without what the source was silent itself
+        more than it mostly is; None where fewer than two came."""
+        came = sorted(self.first_arrivals(), key=lambda each: each.moment)
+        sent = [packet.moment for packet in self.packets]
+        own = sorted(later - one for one, later in zip(sent, sent[1:]))
+        usual = own[len(own) // 2] if own else 0
+        gaps = [(later.moment - one.moment, self.silence(one.packet, later.packet, usual))
+                for one, later in zip(came, came[1:])]
+        return max(((gap - silence) / 1000 for gap, silence in gaps), default=None)
+
+    def silence(self, one: Packet, later: Packet, usual: int) -> int:
+        """How much longer than usual the source itself was silent between two packets."""
+        sent = [packet.moment for packet in self.packets if one.at <= packet.at <= later.at]
+        return sum(max(0, following - before - usual) for before, following in zip(sent, sent[1:]))
 
     @property
     def first_after(self) -> float | None:
@@ -117,33 +130,45 @@ def streams(
     """The stream of each host, group and source, in the order of the hosts. `unheard` has what a link lost on the way
     to a host: the host's address with the number of a copy, or with the bytes and the moment of a source's own
     packet."""
-    for host, group in hosts.told:
-        for source in sources_of(hosts, packets, host, group):
-            yield stream(hosts, packets, clock, (host, group, source), unheard)
+    for key in hosts.told:
+        for source in sources_of(hosts, packets, key):
+            yield from of_source(hosts, packets, clock, key, source, unheard)
 
 
-def sources_of(hosts: Hosts, packets: list[Packet], host: str, group: str) -> list[str]:
+def sources_of(hosts: Hosts, packets: list[Packet], key: Key) -> list[str]:
     """Who sent to a group while the host wanted it, and whom it named."""
+    host, group, _ = key
     sent = [each.source for each in packets if each.group == group and each.source != host]
-    return [source for source in dict.fromkeys([*sent, *hosts.named(host, group)])
-            if hosts.joined(host, group, source) is not None and source != ANY]
+    return [source for source in dict.fromkeys([*sent, *hosts.named(key)])
+            if hosts.joined(key, source) is not None and source != ANY]
 
 
-def stream(
+def origins(packets: list[Packet], group: str, source: str) -> list[str | None]:
+    """The links of several senders that have one address, else None alone; a host that moved is one sender."""
+    links = [packet.link for packet in packets if (packet.source, packet.group) == (source, group)]
+    runs = [link for link, _ in groupby(links)]
+    return sorted(set(runs), key=runs.index) if len(set(runs)) < len(runs) and None not in runs else [None]
+
+
+def of_source(
     hosts: Hosts,
     packets: list[Packet],
     clock: Clocks,
-    key: tuple[str, str, str],
+    key: Key,
+    source: str,
     unheard: frozenset[tuple[str, int] | tuple[str, bytes, int]] = frozenset(),
-) -> Stream:
-    """The stream of a host, a group and a source."""
-    host, group, source = key
-    made = Stream(host, hosts.links.get(host), group, source, hosts.joined(host, group, source), clock)
-    for packet in packets:
-        if (packet.source, packet.group) == (source, group) and hosts.wish(host, group, packet.at).has(source):
-            made.packets.append(packet)
-            made.arrivals[packet] = arrivals(packet, host, made.link, unheard)
-    return made
+) -> Iterator[Stream]:
+    """The streams of a source's address to a host that asks for a group on a link: one, but where several senders have
+    the address."""
+    host, group, link = key
+    for origin in origins(packets, group, source):
+        made = Stream(host, link, group, source, hosts.joined(key, source), clock, origin)
+        for packet in packets:
+            is_its = (packet.source, packet.group) == (source, group) and origin in (None, packet.link)
+            if is_its and hosts.wish(key, packet.at).has(source):
+                made.packets.append(packet)
+                made.arrivals[packet] = arrivals(packet, host, link, unheard)
+        yield made
 
 
 def arrivals(

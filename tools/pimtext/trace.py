@@ -8,7 +8,7 @@ from collections import defaultdict
 from dataclasses import dataclass, field
 from typing import TYPE_CHECKING
 
-from pimtext import packets, story
+from pimtext import packets, story, streams
 
 if TYPE_CHECKING:
     from pimtext.scenario import Scenario
@@ -195,4 +195,16 @@ def traced(played: Scenario, steps: list[story.Step]) -> list[Packet]:
     for at, step in enumerate(steps):
         if step.did is not None:
             tracer.follow(at, step)
+    renumber(tracer.packets)
     return tracer.packets
+
+
+def renumber(found: list[Packet]) -> None:
+    """Numbers the packets of each sender by themselves where several senders have one address."""
+    counts = defaultdict(int)
+    for source, group in {(packet.source, packet.group) for packet in found}:
+        if len(streams.origins(found, group, source)) > 1:
+            for packet in found:
+                if (packet.source, packet.group) == (source, group):
+                    counts[source, group, packet.link] += 1
+                    packet.number = counts[source, group, packet.link]

@@ -5,7 +5,7 @@ from collections.abc import Iterator
 from dataclasses import dataclass
 from typing import TYPE_CHECKING
 
-from pimtext import died, served, streams, trace, wishes
+from pimtext import died, served, streams, trace, wishes, words
 from pimtext.ends import End
 from pimtext.known import known_after
 from pimtext.past import Past
@@ -14,6 +14,7 @@ if TYPE_CHECKING:
     from pimtext.scenario import Scenario
     from pimtext.story import Step, Tables
     from pimtext.streams import Stream
+    from pimtext.wishes import Key
 
 
 @dataclass(frozen=True)
@@ -61,8 +62,11 @@ class Watch:
     def streams(self) -> list[Stream]:
         return list(streams.streams(self.hosts, self.packets, self.clock, self.unheard))
 
-    def stream(self, host: str, group: str, source: str) -> Stream:
-        return streams.stream(self.hosts, self.packets, self.clock, (host, group, source), self.unheard)
+    def stream(self, host: str, group: str, source: str, link: str | None = None) -> Stream:
+        """The stream of a host, on the first link on which it asked where none is given."""
+        keys = [key for key in self.hosts.keys(host, group) if link in (None, key[2])]
+        place = link or next(iter(self.hosts.links.get(host, [])), None)
+        return next(self.of_source(keys[0] if keys else (host, group, place), source))
 
     # ---- why packets didn't come
 
@@ -102,8 +106,23 @@ class Watch:
 
     def origin(self, stream: Stream) -> str | None:
         """The link of a source: where its last packet came from, else that of its subnet."""
+        if stream.origin:
+            return stream.origin
         sent = [packet.link for packet in self.packets if packet.source == stream.source and packet.link]
         return sent[-1] if sent else self.now.link_of(stream.source)
+
+    def whence(self, stream: Stream) -> str | None:
+        """The same in words: all links one after the other of a source that moved."""
+        links = list(dict.fromkeys(packet.link for packet in stream.packets if packet.link))
+        return ", then ".join(links) if len(links) > 1 else self.origin(stream)
+
+    def numbers(self, stream: Stream, wish: wishes.Wish) -> list[str]:
+        """What came; where a host excludes the source, what it sent meanwhile."""
+        key = self.key(stream)
+        kept = [packet for packet in self.packets if (packet.source, packet.group) == (stream.source, stream.group)
+                and stream.source in excluded(self.hosts.wish(key, packet.at))]
+        told = list(numbers(stream)) if stream.packets or not kept else []
+        return [*told, f"  {len(kept)} sent while it asked for all sources but this one"] if kept else told
 
     def expected(self, world: served.World, stream: Stream) -> tuple[list[str], End | None]:
         """By what the routers know: the lines of the way, and the end where packets wouldn't come."""
@@ -125,9 +144,14 @@ class Watch:
 
     def verdict(self, stream: Stream) -> Verdict:
         losses = self.losses(stream)
-        lines = [head(stream, self.origin(stream)), *numbers(stream), *(loss_line(loss) for loss in losses)]
-        if not self.hosts.wish(stream.host, stream.group, len(self.steps)).has(stream.source):
-            return Verdict(stream, losses, False, None, [*lines, unwanted_line(stream)])
+        wish = self.hosts.wish(self.key(stream), len(self.steps))
+        lines = [head(stream, self.whence(stream)), *self.numbers(stream, wish), *(loss_line(loss) for loss in losses)]
+        if not wish.has(stream.source):
+            return Verdict(stream, losses, False, None, [*lines, unwanted_line(stream, wish, self.who(stream))])
+        others = self.other_senders(stream)
+        if others:
+            end = End("silent", f"{stream.source} has sent nothing in this run, and {others} sent to {stream.group}")
+            return Verdict(stream, losses, False, end, [*lines, f"{self.who(stream)} isn't served: {end.text}"])
         way, end = self.expected(self.now, stream)
         if not stream.packets or not self.is_as_then(stream, end):
             return Verdict(stream, losses, end is None, end, lines + expected_lines(stream, way, end))
@@ -140,23 +164,47 @@ class Watch:
         """The way of the last packet, and what came of it."""
         lines = [f"  the last one, packet {last.number}:"] if last.number > 1 else []
         if last.link == stream.link:
-            return ["  they are on one link, and no router is between", f"{stream.host} is served"]
+            return ["  they are on one link, and no router is between", f"{self.who(stream)} is served"]
         lines += died.way_lines(served.World(self.past.known(last.at)), last, stream.link)
         if lost is None:
-            return [*lines, f"{stream.host} is served"]
+            return [*lines, f"{self.who(stream)} is served"]
         waiting = [served.waiting_line(rung, stream.group) for rung in lost.waiting]
-        return [*lines, *waiting, f"{stream.host} isn't served: {lost.end.text}"]
+        return [*lines, *waiting, f"{self.who(stream)} isn't served: {lost.end.text}{self.elsewhere(stream)}"]
+
+    @staticmethod
+    def key(stream: Stream) -> Key:
+        return stream.host, stream.group, stream.link
+
+    def who(self, stream: Stream) -> str:
+        """The host, with its link where it asks on several."""
+        is_alone = len(self.hosts.keys(stream.host, stream.group)) < 2
+        return stream.host if is_alone else f"{stream.host} on {stream.link}"
+
+    def elsewhere(self, stream: Stream) -> str:
+        """Where a host asks since it asked on a link for the last time."""
+        moved = self.hosts.moved(self.key(stream)) if stream.asked is not None else None
+        if moved is None:
+            return ""
+        return f"; since {words.seconds(self.steps[moved[1]].moment)} it asks on {moved[0]}, and here no more"
+
+    def other_senders(self, stream: Stream) -> str:
+        """Who sends to a group of which a source that a host named has sent nothing; "" where it has."""
+        sent = {packet.source for packet in self.packets if packet.group == stream.group}
+        return "" if stream.source in sent else ", ".join(sorted(sent))
 
     # ---- what is asked
 
     def asked(
         self, host: str, group: str | None = None, source: str | None = None
     ) -> Iterator[tuple[str, list[Stream]]]:
-        """The streams of a host: all that it asked for, or those of a group or a source."""
-        groups = [group] if group else self.hosts.groups(host)
-        for each in groups:
-            found = [source] if source else streams.sources_of(self.hosts, self.packets, host, each)
-            yield each, [self.stream(host, each, whom) for whom in found]
+        """The streams of a host: all that it asked for, or those of a group or a source, by group and link."""
+        keys = self.hosts.keys(host, group)
+        for key in keys or ([(host, group, next(iter(self.hosts.links.get(host, [])), None))] if group else []):
+            found = [source] if source else streams.sources_of(self.hosts, self.packets, key)
+            yield key[1], [each for whom in found for each in self.of_source(key, whom)]
+
+    def of_source(self, key: Key, source: str) -> Iterator[Stream]:
+        return streams.of_source(self.hosts, self.packets, self.clock, key, source, self.unheard)
 
     def answers(
         self, host: str, group: str | None = None, source: str | None = None
@@ -175,10 +223,13 @@ class Watch:
 
     def sourceless(self, host: str, group: str) -> str:
         """Why there is no stream of a group to a host."""
-        wished = self.hosts.told.get((host, group))
-        if not wished:
+        keys = self.hosts.keys(host, group)
+        if not keys:
             return f"{host} has not asked for {group} in this run"
         sent = sorted({packet.source for packet in self.packets if packet.group == group})
+        kept = sorted({source for key in keys for source in excluded(self.hosts.wish(key, len(self.steps)))} & {*sent})
+        if kept:
+            return f"{host} asks for all sources of {group} but {', '.join(kept)}, and nobody else has sent to it"
         if sent:
             return f"{host} has not asked for {group} of {', '.join(sent)}, and nobody else has sent to it in this run"
         return f"nobody has sent to {group} in this run: name a source"
@@ -219,10 +270,16 @@ def loss_line(loss: Loss) -> str:
     return f"  {loss.words()} didn't come: {loss.end.text}"
 
 
-def unwanted_line(stream: Stream) -> str:
+def excluded(wish: wishes.Wish) -> frozenset[str]:
+    return wish.sources if wish.is_exclude else frozenset()
+
+
+def unwanted_line(stream: Stream, wish: wishes.Wish, who: str) -> str:
+    if stream.source in excluded(wish):
+        return f"{who} isn't served: it asks for all sources of {stream.group} but {stream.source}"
     if stream.asked is None:
-        return f"{stream.host} isn't served: it has not asked for {stream.group} of {stream.source} in this run"
-    return f"{stream.host} isn't served: it asks for {stream.group} of {stream.source} no more"
+        return f"{who} isn't served: it has not asked for {stream.group} of {stream.source} in this run"
+    return f"{who} isn't served: it asks for {stream.group} of {stream.source} no more"
 
 
 def expected_lines(stream: Stream, way: list[str], end: End | None) -> list[str]:

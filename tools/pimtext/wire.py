@@ -12,11 +12,37 @@ from pimtext import packets, story
 if TYPE_CHECKING:
     from pimtext.scenario import Scenario
 
-HELLO, JOIN, DATA, REGISTER, OTHER = "Hello", "Join/Prune", "data", "Register", "other"
-KINDS = {packets.HELLO: HELLO, packets.JOIN_PRUNE: JOIN}
+HELLO, JOIN, ASSERT = "Hello", "Join/Prune", "Assert"
+DATA, REGISTER, OTHER = "data", "Register", "other"
+KINDS = {packets.HELLO: HELLO, packets.JOIN_PRUNE: JOIN, packets.ASSERT: ASSERT}
 PLURALS = {
-    HELLO: "Hellos", JOIN: "Joins and Prunes", DATA: "packets of data", REGISTER: "Registers", OTHER: "other packets",
+    HELLO: "Hellos", JOIN: "Joins and Prunes", ASSERT: "Asserts", DATA: "packets of data", REGISTER: "Registers",
+    OTHER: "other packets",
 }
+SINGULARS = {
+    HELLO: "Hello", JOIN: "Join or Prune", ASSERT: "Assert", DATA: "packet of data", REGISTER: "Register",
+    OTHER: "other packet",
+}
+# So many losses one after the other are a stretch, and so many stretches at most aren't chance.
+LEAST, MOST = 2, 4
+
+
+@dataclass(eq=False)
+class Stretch:
+    """Packets of one kind that were lost one after the other, and the next one that came, None where none did."""
+    kind: str
+    lost: list
+    until: story.Sent | None
+
+    @property
+    def began(self) -> story.Sent:
+        return self.lost[0]
+
+    def is_with(self, other: Stretch) -> bool:
+        """Whether two are at one time."""
+        ends = [each.until.move if each.until else each.lost[-1].move for each in (self, other)]
+        is_open = self.until is None and other.until is None
+        return is_open or (self.began.move <= ends[1] and other.began.move <= ends[0])
 
 
 @dataclass(eq=False)
@@ -31,6 +57,30 @@ class Way:
     def all_lost(self) -> list[str]:
         """The kinds of which nothing came."""
         return [kind for kind, sent in self.sent.items() if len(self.lost[kind]) == len(sent)]
+
+    def stretches(self) -> list[Stretch]:
+        """Where packets of a kind were lost for a while, of kinds of which others came before or after, and none was
+        lost but so."""
+        found = []
+        for kind, lost in self.lost.items():
+            here = self.runs(kind) if lost and len(lost) < len(self.sent[kind]) else []
+            if len(here) <= MOST and all(len(each.lost) >= LEAST or each.until is None for each in here):
+                found += here
+        return found
+
+    def runs(self, kind: str) -> list[Stretch]:
+        lost, found, is_open = set(map(id, self.lost[kind])), [], False
+        for sent in self.sent[kind]:
+            if id(sent) not in lost:
+                if is_open:
+                    found[-1].until = sent
+                is_open = False
+            elif is_open:
+                found[-1].lost.append(sent)
+            else:
+                found.append(Stretch(kind, [sent], None))
+                is_open = True
+        return found
 
     def is_dead(self) -> bool:
         return bool(self.sent) and len(self.all_lost()) == len(self.sent)

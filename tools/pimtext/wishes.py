@@ -70,12 +70,17 @@ def older_wish(message: bytes) -> tuple[str, Wish] | None:
     return packets.dotted(message[4:8]), NOTHING if message[0] == LEAVE else EVERYTHING
 
 
+# A host's address, a group and the link on which it asks: a host may ask on several links.
+Key = tuple[str, str, str]
+
+
 class Hosts:
-    """What each host wanted: `told` has by host and group the wish from each step on, `links` a host's link."""
+    """What each host wanted: `told` has by host, group and link the wish from each step on, `links` the links of each
+    host, in the order in which it asked there."""
 
     def __init__(self, played: Scenario, steps: list[Step]) -> None:
         self.played, self.steps = played, steps
-        self.told, self.links, self.heard = defaultdict(list), {}, []
+        self.told, self.links, self.heard = defaultdict(list), defaultdict(list), []
         for at, step in enumerate(steps):
             if step.did is not None and step.did["do"] == "frame":
                 self.hear(at, step)
@@ -89,27 +94,39 @@ class Hosts:
         wishes = [older] if older else [(record.group, record) for record in records_of(data)]
         if not wishes:
             return
-        changed = [(group, told if older else after(self.wish(host, group, at), told)) for group, told in wishes]
-        self.links.setdefault(host, link)
+        changed = [(group, told if older else after(self.wish((host, group, link), at), told))
+                   for group, told in wishes]
+        if link not in self.links[host]:
+            self.links[host].append(link)
         self.heard.append(Heard(at, step, host, link, tuple(changed), OLDER[message[0]] if older else 3))
         for group, wish in changed:
-            self.told[host, group].append((at, wish))
+            self.told[host, group, link].append((at, wish))
 
-    def wish(self, host: str, group: str, at: int) -> Wish:
-        """What a host wanted of a group before step `at`."""
-        return next((wish for before, wish in reversed(self.told.get((host, group), [])) if before < at), NOTHING)
+    def wish(self, key: Key, at: int) -> Wish:
+        """What a host wanted of a group on a link before step `at`."""
+        return next((wish for before, wish in reversed(self.told.get(key, [])) if before < at), NOTHING)
 
-    def groups(self, host: str) -> list[str]:
-        return list(dict.fromkeys(group for whose, group in self.told if whose == host))
+    def keys(self, host: str, group: str | None = None) -> list[Key]:
+        """What a host asked for, and where; of one group where it is given."""
+        return [key for key in self.told if key[0] == host and group in (None, key[1])]
 
-    def named(self, host: str, group: str) -> list[str]:
+    def named(self, key: Key) -> list[str]:
         """The sources that a host asked for by name."""
-        wishes = [wish for _, wish in self.told.get((host, group), []) if not wish.is_exclude]
+        wishes = [wish for _, wish in self.told.get(key, []) if not wish.is_exclude]
         return list(dict.fromkeys(source for wish in wishes for source in sorted(wish.sources)))
 
-    def joined(self, host: str, group: str, source: str) -> int | None:
+    def joined(self, key: Key, source: str) -> int | None:
         """The step with which a host first asked for a source, None where it never did."""
-        return next((at for at, wish in self.told.get((host, group), []) if wish.has(source)), None)
+        return next((at for at, wish in self.told.get(key, []) if wish.has(source)), None)
+
+    def moved(self, key: Key) -> tuple[str, int] | None:
+        """The link on which a host asked for the group after all its reports on this one, and the step; None where it
+        didn't."""
+        host, group, link = key
+        last = max(each.at for each in self.heard if (each.host, each.link) == (host, link))
+        later = [(told[0][0], other) for (whose, what, other), told in self.told.items()
+                 if (whose, what) == (host, group) and other != link and told[0][0] > last]
+        return None if not later else (later[0][1], later[0][0])
 
 
 def records_of(data: bytes) -> tuple[packets.Record, ...]:

@@ -149,7 +149,7 @@ class Changed(unittest.TestCase):
         if number:
             return []
         diagnosis = Diagnosis(judge, played, lines)
-        for host in {host for host, _ in diagnosis.run.hosts.told}:
+        for host in {host for host, *_ in diagnosis.run.hosts.told}:
             list(diagnosis.run.watch.answers(host))
         return diagnosis.lines()
 

@@ -192,7 +192,7 @@ class Played:
             self.diagnosis = Diagnosis(judge, played, self.lines)
             self.told = self.diagnosis.lines()
             watch = self.diagnosis.run.watch
-            answers = [answer for host in {host for host, _ in watch.hosts.told} for answer in watch.answers(host)]
+            answers = [answer for host in {host for host, *_ in watch.hosts.told} for answer in watch.answers(host)]
             streams = {(each[0].stream.host, each[0].stream.group): each for each in answers if each[0]}
             self.answers = streams
 

@@ -1,0 +1,165 @@
+"""Why a router doesn't know that a host wants a group: which record ended, when, and since what."""
+from __future__ import annotations
+
+from collections.abc import Iterable, Iterator
+from dataclasses import dataclass
+from typing import TYPE_CHECKING
+
+from pimtext import packets, printed, wishes, words
+from pimtext.cause import Cause
+from pimtext.run import gathered, listed, some, times
+
+if TYPE_CHECKING:
+    from pimtext.cause import Symptom
+    from pimtext.run import Run
+    from pimtext.story import Step
+    from pimtext.wishes import Heard
+
+
+@dataclass(frozen=True)
+class Ended:
+    """A record that ended: `last` is the host's last report that the router took before, `at` the step with which the
+    record was gone."""
+    last: Heard
+    at: int
+
+
+class Memberships:
+    def __init__(self, run: Run) -> None:
+        self.run, self.hosts, self.steps = run, run.hosts, run.steps
+
+    def causes(self, symptoms: Iterable[Symptom]) -> Iterator[Cause]:
+        """A cause for each host, group, link and router that doesn't know of the host."""
+        unwanted = [each for each in symptoms if each.kind == "unwanted" and each.host and each.router and each.place
+                    and each.place == each.link and each.at is not None]
+        keys = ((each.host, each.group, each.place, each.router) for each in unwanted)
+        for key, found in gathered(zip(keys, unwanted)).items():
+            yield from self.of(*key, found)
+
+    def of(self, host: str, group: str, link: str, router: str, found: list[Symptom]) -> Iterator[Cause]:
+        lasts = [(self.last(host, group, link, router, each.at), each) for each in found]
+        by_report = gathered((last.at, (last, each)) for last, each in lasts if last)
+        ends = [Ended(pairs[0][0], at) for pairs in by_report.values()
+                if (at := self.ended(pairs[0][0], group, pairs[0][1].at)) is not None]
+        early = [each for last, each in lasts if last is None]
+        if ends:
+            whose = {id(each) for last, each in lasts if last}
+            told, line = self.forgotten(host, group, link, router, ends)
+            yield Cause(line, told, lambda each: id(each) in whose)
+        if early:
+            others = {id(each) for each in early}
+            yield from self.never(host, group, link, router, early[0], lambda each: id(each) in others)
+
+    # ---- reports
+
+    def reports(self, host: str, group: str, link: str) -> list[Heard]:
+        """The reports of a host that ask for a group."""
+        return [each for each in self.hosts.heard if (each.host, each.link) == (host, link)
+                and dict(each.wishes).get(group, wishes.NOTHING) != wishes.NOTHING]
+
+    def last(self, host: str, group: str, link: str, router: str, at: int) -> Heard | None:
+        mine = [each for each in self.reports(host, group, link) if each.step.router == router and each.at < at]
+        return next((each for each in reversed(mine) if each.step.verdict == "done"), None)
+
+    def ended(self, last: Heard, group: str, at: int) -> int | None:
+        """The step with which the record of a report was gone, before a step; None where it wasn't there or is still
+        there."""
+        past, name, iface = self.run.past, last.step.router, last.step.iface
+        past.known(at)
+        was = False
+        for since, state in zip(past.times[name], past.states[name]):
+            if since <= last.at:
+                continue
+            is_there = bool(state.of(printed.GroupRecord, iface=iface, group=group))
+            if was and not is_there:
+                return since - 1 if since <= at else None
+            was = is_there
+        return None
+
+    # ---- a report that never counted
+
+    def never(
+        self, host: str, group: str, link: str, router: str, symptom: Symptom, covers: object
+    ) -> Iterator[Cause]:
+        """No report of the host was taken before: it came while the interface was down, or to others alone."""
+        early = [each for each in self.reports(host, group, link) if each.at < symptom.at]
+        mine = [each for each in early if each.step.router == router]
+        down = [each for each in mine if each.step.cause == "23"]
+        if down:
+            first = down[0]
+            told = f"the report of {host} for {group} of {words.seconds(first.step.moment)} came to {router} while its"
+            told = f"{told} interface on {link} was down, and none came {self.until(host, group, link, router, first)}"
+            yield Cause(*self.run.at_move(first.step, told), covers)
+        elif early and not mine:
+            names = some(dict.fromkeys(each.step.router for each in early))
+            told = f"the report of {host} for {group} of {words.seconds(early[0].step.moment)} came to {names} alone on"
+            told = f"{told} {link}, and not to {router}, which serves the link: {self.why_not(router, link, early[0])}"
+            yield Cause(*self.run.at_move(early[0].step, told), covers)
+
+    def until(self, host: str, group: str, link: str, router: str, first: Heard) -> str:
+        later = [each for each in self.reports(host, group, link) if each.step.router == router
+                 and each.at > first.at and each.step.verdict == "done"]
+        return f"until {words.seconds(later[0].step.moment)}" if later else "since"
+
+    def why_not(self, router: str, link: str, report: Heard) -> str:
+        up = self.run.past.known(report.at)[router].up
+        numbers = {each.number for each in self.run.known[router].router.on(link)}
+        return "it was lost before it" if numbers & up else "its interface there was down, or not yet up"
+
+    # ---- a record that ended
+
+    def forgotten(
+        self, host: str, group: str, link: str, router: str, ends: list[Ended]
+    ) -> tuple[str, object]:
+        """When, and since what: each reason once."""
+        reasons = gathered((self.why(host, group, link, each), each) for each in ends)
+        parts = [f"at {listed(words.seconds(self.steps[each.at].moment) for each in here)}: {reason}"
+                 for reason, here in reasons.items()]
+        told = f"{router} forgot that {host} on {link} wants {group} {'; '.join(parts)}"
+        return told + self.elsewhere(host, group, link), self.run.lines.move(ends[0].last.step.move)
+
+    def why(self, host: str, group: str, link: str, end: Ended) -> str:
+        between = range(end.last.at + 1, end.at + 1)
+        router, iface = end.last.step.router, end.last.step.iface
+        downs = [at for at in between if self.steps[at].router == router and self.steps[at].iface == iface
+                 and self.steps[at].did["do"] == "down" and self.steps[at].verdict == "done"]
+        if downs:
+            return f"its interface on {link} went down by move {self.steps[downs[0]].move}"
+        leave = self.leave(host, group, link, router, between)
+        if leave is not None:
+            told = f"{leave.host} left at {words.seconds(leave.step.moment)}, and of {host} no answer came to the"
+            return f"{told} queries of {group} that followed"
+        return self.unanswered(host, link, router, between, end)
+
+    def leave(self, host: str, group: str, link: str, router: str, between: range) -> Heard | None:
+        """The last Leave of a group on the link in these steps."""
+        mine = [each for each in self.hosts.heard if each.at in between and (each.step.router, each.link) == (
+            router, link)]
+        left = [each for each in mine if dict(each.wishes).get(group) == wishes.NOTHING and each.host != host]
+        return left[-1] if left else None
+
+    def unanswered(self, host: str, link: str, router: str, between: range, end: Ended) -> str:
+        """No answer came to the queries, and where answers came that this router didn't get."""
+        queries = sum(is_query_on(self.steps[at], link) for at in between)
+        others = {at: each for each in self.hosts.heard for at in [each.at] if each.at in between
+                  and (each.host, each.link) == (host, link) and each.step.router != router}
+        told = f"no report of it came to {times(queries, 'query').replace('querys', 'queries')} since that of"
+        told = f"{told} {words.seconds(end.last.step.moment)}"
+        if others:
+            names = some(dict.fromkeys(each.step.router for each in others.values()))
+            return f"{told}, though {times(len(others), 'report')} came to {names}: lost before {router}"
+        return f"{told}: it doesn't answer, or its reports are lost"
+
+    def elsewhere(self, host: str, group: str, link: str) -> str:
+        moved = self.hosts.moved((host, group, link))
+        if moved is None:
+            return ""
+        return f"; since {words.seconds(self.steps[moved[1]].moment)} it asks on {moved[0]}"
+
+
+def is_query_on(step: Step, link: str) -> bool:
+    """Whether an IGMP query left on a link with a step, or came from somebody else there."""
+    sent = any(each.kind == "frame" and each.where == link and each.data[9] == packets.IGMP for each in step.sent)
+    data = step.taken() if step.did["do"] == "frame" and step.link == link else None
+    message = wishes.igmp_of(data) if data else None
+    return sent or bool(message) and message[0] == wishes.QUERY
