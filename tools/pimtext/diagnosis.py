@@ -16,6 +16,7 @@ from pimtext.changes import Changes
 from pimtext.doubles import Doubles
 from pimtext.gaps import Gaps
 from pimtext.interfaces import Interfaces
+from pimtext.latencies import Latencies
 from pimtext.memberships import Memberships
 from pimtext.mistakes import Mistakes
 from pimtext.notes import Lines, Notes
@@ -64,7 +65,8 @@ class Symptoms:
         if not stream.packets and stream.source not in senders:
             told = f"{stream.host} asked for {whole}, and nobody has sent it"
             line = self.run.lines.router(next(iter(self.known)))
-            yield Symptom("silent", line, told, group=stream.group, source=stream.source)
+            whose = {"group": stream.group, "source": stream.source, "host": stream.host, "place": stream.link}
+            yield Symptom("silent", line, told, **whose)
 
     def named(self, stream: Stream) -> str:
         """A stream, with its sender's link where several have its address, and its host's where that asks on several.
@@ -172,7 +174,7 @@ class Diagnosis:
         notes, interfaces = Notes(judge, run), Interfaces(run)
         changes = Changes(run)
         self.causes = [*changes.relinked(), *interfaces.causes(), *Mistakes(run).causes(), *Askers(run).causes(),
-                       *Strangers(run).causes()]
+                       *Strangers(run).causes(), *Latencies(run).causes()]
         self.causes += [*Gaps(run, interfaces).causes(), *Outages(run).causes()]
         odd = attached(self.causes, [*notes.odd(), *([] if places else notes.undelivered())])
         self.causes += [of_odd(run, symptom) for symptom in odd]

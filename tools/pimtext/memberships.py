@@ -115,8 +115,8 @@ class Memberships:
         reasons = gathered((self.why(host, group, link, each), each) for each in ends)
         parts = [f"at {listed(words.seconds(self.steps[each.at].moment) for each in here)}: {reason}"
                  for reason, here in reasons.items()]
-        told = f"{router} forgot that {host} on {link} wants {group} {'; '.join(parts)}{self.elsewhere(host, group, link)}"
-        return told, self.run.lines.move(ends[0].last.step.move)
+        told = f"{router} forgot that {host} on {link} wants {group} {'; '.join(parts)}"
+        return told + self.elsewhere(host, group, link), self.run.lines.move(ends[0].last.step.move)
 
     def why(self, host: str, group: str, link: str, end: Ended) -> str:
         between = range(end.last.at + 1, end.at + 1)

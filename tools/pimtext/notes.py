@@ -42,7 +42,7 @@ MEANINGS = {
     "LinkLocal": "a group in 224.0.0.0/24, which never leaves its link",
     "NoNeighbour": "a Join/Prune, an Assert or a farewell from an address without a live Hello: the Hello is "
                    "missing, or is over",
-    "NotRp": "a Register-Stop from another address than the group's RP",
+    "NotRp": "a Register-Stop from another address than the group's RP: the router goes on registering",
     "Already": "`up` of an interface that is up, or `down` of one that is down",
 }
 

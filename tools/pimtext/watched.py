@@ -62,6 +62,12 @@ class Watch:
     def streams(self) -> list[Stream]:
         return list(streams.streams(self.hosts, self.packets, self.clock, self.unheard))
 
+    def stream(self, host: str, group: str, source: str, link: str | None = None) -> Stream:
+        """The stream of a host, on the first link on which it asked where none is given."""
+        keys = [key for key in self.hosts.keys(host, group) if link in (None, key[2])]
+        place = link or next(iter(self.hosts.links.get(host, [])), None)
+        return next(self.of_source(keys[0] if keys else (host, group, place), source))
+
     # ---- why packets didn't come
 
     def losses(self, stream: Stream) -> list[Loss]:
@@ -105,6 +111,19 @@ class Watch:
         sent = [packet.link for packet in self.packets if packet.source == stream.source and packet.link]
         return sent[-1] if sent else self.now.link_of(stream.source)
 
+    def whence(self, stream: Stream) -> str | None:
+        """The same in words: all links one after the other of a source that moved."""
+        links = list(dict.fromkeys(packet.link for packet in stream.packets if packet.link))
+        return ", then ".join(links) if len(links) > 1 else self.origin(stream)
+
+    def numbers(self, stream: Stream, wish: wishes.Wish) -> list[str]:
+        """What came; where a host excludes the source, what it sent meanwhile."""
+        key = self.key(stream)
+        kept = [packet for packet in self.packets if (packet.source, packet.group) == (stream.source, stream.group)
+                and stream.source in excluded(self.hosts.wish(key, packet.at))]
+        told = list(numbers(stream)) if stream.packets or not kept else []
+        return [*told, f"  {len(kept)} sent while it asked for all sources but this one"] if kept else told
+
     def expected(self, world: served.World, stream: Stream) -> tuple[list[str], End | None]:
         """By what the routers know: the lines of the way, and the end where packets wouldn't come."""
         origin = self.origin(stream)
@@ -125,10 +144,10 @@ class Watch:
 
     def verdict(self, stream: Stream) -> Verdict:
         losses = self.losses(stream)
-        lines = [head(stream, self.origin(stream)), *numbers(stream), *(loss_line(loss) for loss in losses)]
         wish = self.hosts.wish(self.key(stream), len(self.steps))
+        lines = [head(stream, self.whence(stream)), *self.numbers(stream, wish), *(loss_line(loss) for loss in losses)]
         if not wish.has(stream.source):
-            return Verdict(stream, losses, False, None, [*lines, unwanted_line(stream, wish)])
+            return Verdict(stream, losses, False, None, [*lines, unwanted_line(stream, wish, self.who(stream))])
         others = self.other_senders(stream)
         if others:
             end = End("silent", f"{stream.source} has sent nothing in this run, and {others} sent to {stream.group}")
@@ -255,12 +274,12 @@ def excluded(wish: wishes.Wish) -> frozenset[str]:
     return wish.sources if wish.is_exclude else frozenset()
 
 
-def unwanted_line(stream: Stream, wish: wishes.Wish) -> str:
+def unwanted_line(stream: Stream, wish: wishes.Wish, who: str) -> str:
     if stream.source in excluded(wish):
-        return f"{stream.host} isn't served: it asks for all sources of {stream.group} but {stream.source}"
+        return f"{who} isn't served: it asks for all sources of {stream.group} but {stream.source}"
     if stream.asked is None:
-        return f"{stream.host} isn't served: it has not asked for {stream.group} of {stream.source} in this run"
-    return f"{stream.host} isn't served: it asks for {stream.group} of {stream.source} no more"
+        return f"{who} isn't served: it has not asked for {stream.group} of {stream.source} in this run"
+    return f"{who} isn't served: it asks for {stream.group} of {stream.source} no more"
 
 
 def expected_lines(stream: Stream, way: list[str], end: End | None) -> list[str]:

@@ -71,7 +71,7 @@ class Served(unittest.TestCase):
 
     def test_the_source_is_blocked(self):
         network = Network(report(TO_EX, GROUP, SOURCE), data())
-        self.ends(network, f"it has not asked for {GROUP} of {SOURCE} in this run")
+        self.ends(network, f"it asks for all sources of {GROUP} but {SOURCE}")
 
     def test_no_rp_at_the_hosts_router(self):
         network = Network()

@@ -369,7 +369,7 @@ class Network:
         not."""
         diagnosis, address = self.diagnosis(), source_given(source)
         watch = diagnosis.run.watch
-        stream = watch.stream(host.address, group_given(group), address)
+        stream = watch.stream(host.address, group_given(group), address, host.link.name)
         if watch.origin(stream) is None:
             raise Mistake(f"the source {address} is in the subnet of no link that is up")
         verdict = watch.verdict(stream)
