@@ -1,12 +1,14 @@
 -- What holds of each station, event and frame of a network, from what is computed of one: for whoever shows the
 -- premises of the laws for a network of their own.
-use Rattle.std.{proofs.{Common.{◌≡◌, ◌∙◌, ℕ, zero, suc, ◌+◌, ◌-◌, ◌*◌, ◌/◌, ◌<◌, ◌≤◌, ◌==◌, Bool, true, false, List, [], ◌∷◌, ◌++◌, drop, length, map, Option, Some, None, is_some, refl, sym, ap, subst, arith, length-append}, lemmas.List.length-map}, specs.{List.{flat_map, list_any}, Prelude.{slice_get, unwrap_or}, Option.option_map_or}}
+use Rattle.std.{proofs.{Common.{◌≡◌, ◌∙◌, ℕ, zero, suc, ◌+◌, ◌-◌, ◌*◌, ◌/◌, ◌<◌, ◌≤◌, ◌==◌, Bool, true, false, List, [], ◌∷◌, ◌++◌, drop, length, map, Option, Some, None, is_some, refl, sym, ap, subst, arith, length-append}, lemmas.List.length-map}, specs.{List.flat_map, Prelude.{slice_get, unwrap_or}, Option.option_map_or}}
 use Rattle.pim_types.{specs.declared.{event.{Event.Event, EventKind.EventKind}, fact.JoinTimerRow.JoinTimerRow}}
 use Rattle.pim_wire.{specs.{Encoded.{group_text, pim_text, unicast_text}, JoinPrunes.{entry_text, join_prune_holdtime, join_prune_text}, declared.join_prune.{Entry.Entry, EntryKind.EntryKind}}}
 use Rattle.pim_ip.{specs.{Checksum.with_checksum, Ipv4.{header_text, pim_packet_text}}, proofs.WritingLemmas.length-with_checksum}
 use Rattle.byteorder.{specs.Endian.big_bytes}
-use Rattle.pim_model.{specs.{Messages.entry, Network.{Move, Network, Sent, Station, event_of, frame_at, station_at}}}
-use Rattle.law_served.{specs.Joins.join_packet}
+use Rattle.pim_model.{specs.{Cause.done_as, Messages.entry, Network.{Move, Network, Sent, Station, event_of, frame_at, station_at}, State.State, Tables.row_at}}
+use Rattle.law_promises.{specs.Copies.happens}
+use Rattle.law_served.{specs.Joins.{IsWritable, join_packet}}
+use Rattle.law_in_time.{specs.Joins.{ComesBy, ComesToBoth, IsBy, Join, Pair, entry_of, frame_of, is_suppressed, join_key, prunes_it, prunes_of, time_at}}
 
 -- ---- stations and events
 
@@ -52,27 +54,6 @@ at_another n m r off e is =
 
 -- ---- frames that are new
 
-any_got : (test : Sent → Bool) (xs : List Sent) (k : ℕ) (f : Sent) → slice_get xs k ≡ Some f → test f ≡ true
-    → list_any test xs ≡ true
-any_got test [] k f got is = cc
-any_got test (x ∷ xs) zero f got is =
-    let same : x ≡ f = cc in rw (ap test same ∙ is) refl
-any_got test (x ∷ xs) (suc k) f got is = grind (arith, any_got test xs k f got is)
-
-any_new : (test : Sent → Bool) (n : ℕ) (xs : List Sent) (k : ℕ) (f : Sent) → n ≤ k → slice_get xs k ≡ Some f → test f ≡ true
-    → list_any test (drop n xs) ≡ true
-any_new test zero xs k f le got is = any_got test xs k f got is
-any_new test (suc n) [] k f le got is = cc
-any_new test (suc n) (x ∷ xs) zero f le got is = absurd (omega (arith, le))
-any_new test (suc n) (x ∷ xs) (suc k) f le got is = any_new test n xs k f (omega (arith, le)) got is
-
-pub none_new : (test : Sent → Bool) (n n' : Network) (number : ℕ) (f : Sent) → length n.frames < number
-    → frame_at n' number ≡ Some f → test f ≡ true → list_any test (drop (length n.frames) n'.frames) ≡ false → ⊥
-unfolding frame_at
-none_new test n n' zero f later got is none = absurd (omega (arith, later))
-none_new test n n' (suc k) f later got is none =
-    let b : true ≡ false = sym (any_new test (length n.frames) n'.frames k f (omega (arith, later)) got is) ∙ none in cc
-
 pub record IsFirst (k n : ℕ) (f y : Sent) : Type 0 where
   pub number : k ≡ n
   pub frame : f ≡ y
@@ -98,15 +79,19 @@ only_new n n' y f (suc k) is later got =
     let first : IsFirst k (length n.frames) f y = one_new (length n.frames) n'.frames y f k is (omega (arith, later)) got in
     record { number = ap suc first.number; frame = first.frame }
 
+no_more : (n : ℕ) (xs : List Sent) (k : ℕ) (f : Sent) → drop n xs ≡ [] → n ≤ k → slice_get xs k ≡ Some f → ⊥
+no_more zero xs k f is le got = let no : None ≡ Some f = sym (ap (λ (l : List Sent). slice_get l k) is) ∙ got in cc
+no_more (suc n) [] k f is le got = cc
+no_more (suc n) (x ∷ xs) zero f is le got = absurd (omega (arith, le))
+no_more (suc n) (x ∷ xs) (suc k) f is le got = no_more n xs k f is (omega (arith, le)) got
+
+pub none_new : (n n' : Network) (f : Sent) (number : ℕ) → drop (length n.frames) n'.frames ≡ []
+    → length n.frames < number → frame_at n' number ≡ Some f → ⊥
+unfolding frame_at
+none_new n n' f zero is later got = absurd (omega (arith, later))
+none_new n n' f (suc k) is later got = no_more (length n.frames) n'.frames k f is (omega (arith, later)) got
+
 -- ---- the bytes of a Join
-
--- the type of the PIM message behind a header of 20 bytes
-abbrev pub type_byte : List ℕ → ℕ
-type_byte bytes = unwrap_or (slice_get bytes 20) 0
-
-pub join_type : (from to g : ℕ) (joined : Entry) (prunes : List Entry) → type_byte (join_packet from to g joined prunes) ≡ 0x23
-unfolding join_packet pim_packet_text header_text with_checksum join_prune_text pim_text
-join_type from to g joined prunes = refl
 
 length-entries : (entries : List Entry) → length (flat_map entry_text entries) ≡ 8 * length entries
 length-entries [] = refl
@@ -160,3 +145,89 @@ prunes_nothing from to g joined pruned e =
       length-packet from to g joined (map (entry EntryKind.SourceRpt) pruned),
       length-map pruned (entry EntryKind.SourceRpt),
     ))
+
+-- ---- what is asked of each move
+
+module _ (nowhere : Station) (x : Join) (g d : ℕ) (started : ℕ → ℕ) (c : Pair) where
+  abbrev no_timer : JoinTimerRow
+  no_timer = record { end = 0 }
+
+  -- the lower router's Join timer, and the states of both routers
+  abbrev pub timer_in : Network → JoinTimerRow
+  timer_in n = unwrap_or (row_at (stand nowhere n c.lower).state.join_timers (join_key x 0 g)) no_timer
+
+  abbrev pub lower_in : Network → State
+  lower_in n = (stand nowhere n c.lower).state
+
+  abbrev pub upper_in : Network → State
+  upper_in n = (stand nowhere n c.upper).state
+
+  pub with_timer : (n : Network) (P : JoinTimerRow → Type 0) → P (timer_in n) → (row : JoinTimerRow)
+      → row_at (lower_in n).join_timers (join_key x 0 g) ≡ Some row → P row
+  with_timer n P f row is = subst P (ap (λ (o : Option JoinTimerRow). unwrap_or o no_timer) is) f
+
+  pub timely : (n n' : Network)
+      → time_at started c.lower (stand nowhere n' c.lower) ≤ (timer_in n).end + started c.lower + d
+      → time_at started c.upper (stand nowhere n' c.upper) ≤ (timer_in n).end + started c.lower + d
+      → (st : Station) (row : JoinTimerRow) → station_at n c.lower ≡ Some st
+      → row_at (st.state).join_timers (join_key x 0 g) ≡ Some row
+      → IsBy started c.lower (row.end + started c.lower + d) n' × IsBy started c.upper (row.end + started c.lower + d) n'
+  timely n n' low up st row at is =
+      with_station nowhere n c.lower
+      (λ st. row_at (st.state).join_timers (join_key x 0 g) ≡ Some row
+      → IsBy started c.lower (row.end + started c.lower + d) n' × IsBy started c.upper (row.end + started c.lower + d) n')
+      (with_timer n
+      (λ (r : JoinTimerRow). IsBy started c.lower (r.end + started c.lower + d) n' × IsBy started c.upper (r.end + started c.lower + d) n') (
+        with_station nowhere n' c.lower (λ st. time_at started c.lower st ≤ (timer_in n).end + started c.lower + d) low,
+        with_station nowhere n' c.upper (λ st. time_at started c.upper st ≤ (timer_in n).end + started c.lower + d) up,
+      ) row)
+      st at is
+
+  -- the lower router sees no Join of another
+  pub none_shared : (n : Network) (m : Move) (ms : List Move)
+      → is_suppressed x (lower_in n) g c.hop (done_as (happens (lower_in n) (event_in n m))) ≡ false
+      → (e : Event) (st : Station) → event_of n m ≡ Some (c.lower, e) → station_at n c.lower ≡ Some st
+      → is_suppressed x st.state g c.hop (done_as (happens st.state e)) ≡ true → ComesToBoth x g d started c n m ms
+  none_shared n m ms f e st ev at is =
+      let off : is_suppressed x st.state g c.hop (done_as (happens st.state e)) ≡ false =
+      with_station nowhere n c.lower (λ st. is_suppressed x st.state g c.hop (done_as (happens st.state e)) ≡ false)
+      (with_event n m c.lower (λ e. is_suppressed x (lower_in n) g c.hop (done_as (happens (lower_in n) e)) ≡ false) f e ev) st at in
+      let no : false ≡ true = sym off ∙ is in cc
+
+  -- nobody prunes it at the upper router
+  pub none_pruned : (n : Network) (m : Move) → prunes_it x g c.down (done_as (happens (upper_in n) (event_in n m))) ≡ false
+      → (e : Event) (st : Station) → event_of n m ≡ Some (c.upper, e) → station_at n c.upper ≡ Some st
+      → prunes_it x g c.down (done_as (happens st.state e)) ≡ false
+  none_pruned n m f e st ev at =
+      with_station nowhere n c.upper (λ st. prunes_it x g c.down (done_as (happens st.state e)) ≡ false)
+      (with_event n m c.upper (λ e. prunes_it x g c.down (done_as (happens (upper_in n) e)) ≡ false) f e ev) st at
+
+  -- the one frame that leaves is the Join, which prunes nothing
+  pub join_alone : (n n' : Network) (number : ℕ) (pruned : List ℕ) → drop (length n.frames) n'.frames ≡ frame_of x g c [] ∷ []
+      → length n.frames < number → frame_at n' number ≡ Some (frame_of x g c pruned)
+      → (number ≡ suc (length n.frames)) × (pruned ≡ [])
+  join_alone n n' number pruned told later got =
+      let first : IsFirst number (suc (length n.frames)) (frame_of x g c pruned) (frame_of x g c []) =
+      only_new n n' (frame_of x g c []) (frame_of x g c pruned) number told later got in
+      let whole : length (frame_of x g c []).bytes ≡ 54 = length-packet c.from (c.hop).address.bits g (entry_of x) [] in (
+        first.number,
+        prunes_nothing c.from (c.hop).address.bits g (entry_of x) pruned (ap (λ (f : Sent). length f.bytes) first.frame ∙ whole),
+      )
+
+  -- so it comes in time, whichever of the frames with its bytes is meant
+  pub joins_told : (n n' : Network) (ms : List Move) → drop (length n.frames) n'.frames ≡ frame_of x g c [] ∷ []
+      → IsWritable c.from (c.hop).address.bits g (entry_of x) (prunes_of [])
+      → ComesBy x g d started c [] (suc (length n.frames)) (time_at started c.lower (stand nowhere n' c.lower)) n' ms
+      → (st : Station) (number : ℕ) (pruned : List ℕ) → station_at n' c.lower ≡ Some st → length n.frames < number
+      → frame_at n' number ≡ Some (frame_of x g c pruned)
+      → IsWritable c.from (c.hop).address.bits g (entry_of x) (prunes_of pruned)
+      × ComesBy x g d started c pruned number (time_at started c.lower st) n' ms
+  joins_told n n' ms told writable comes st number pruned at later got =
+      let same : (number ≡ suc (length n.frames)) × (pruned ≡ []) = join_alone n n' number pruned told later got in
+      subst (λ (ps : List ℕ). IsWritable c.from (c.hop).address.bits g (entry_of x) (prunes_of ps)
+      × ComesBy x g d started c ps number (time_at started c.lower st) n' ms) (sym same.1) (
+        writable,
+        subst (λ (k : ℕ). ComesBy x g d started c [] k (time_at started c.lower st) n' ms) (sym same.0)
+            (with_station nowhere n' c.lower
+            (λ st. ComesBy x g d started c [] (suc (length n.frames)) (time_at started c.lower st) n' ms) comes st at),
+      )

@@ -33,15 +33,6 @@ module _ (i address : ℕ) where
     unfolding holdtime_end_from
     long_end p n e = grind (arith, nat_tests, e)
 
-    -- the row that it leaves
-    new_row : (s : State) (h : HelloValue) → NeighbourRow
-    new_row s h = record {
-      end = holdtime_end_from s.present (hello_holdtime_of h);
-      lan_delay = h.lan_delay;
-      priority = h.priority;
-      generation = h.generation;
-    }
-
     own_hello : (s : State) (h : HelloValue) (t : State) → t.neighbours ≡ neighbours_replaced s.present i address h s.neighbours
         → (hello_holdtime_of h == 0) ≡ false → nat_lt (s.present + 1000 * hello_holdtime_of h) end ≡ false → Held t
     unfolding neighbours_replaced set_row

@@ -3,11 +3,13 @@ use Rattle.std.{proofs.{Common.{◌≡◌, ◌∙◌, ℕ, suc, ◌+◌, ◌*◌
 use Rattle.pim_types.{specs.declared.{event.Event.Event, fact.JoinTimerRow.JoinTimerRow}}
 use Rattle.pim_wire.{specs.declared.join_prune.{Entry.Entry, EntryKind.EntryKind}}
 use Rattle.law_promises.{specs.Copies.happens}
-use Rattle.pim_model.{specs.{declared.accepted.Accepted.Accepted, Cause.done_as, Full.is_full, Limits.config_test, Messages.entry, Network.{At, Deliver, Move, Network, Sent, Station, event_of, frame_at, moved, network_ran, station_at}, State.{State, opening}, Step.state_after, Tables.row_at}}
+use Rattle.pim_model.{specs.{declared.accepted.Accepted.Accepted, Cause.done_as, Full.is_full, Limits.config_test, Messages.entry, Network.{At, Deliver, Move, Network, Sent, Station, event_of, frame_at, moved, network_ran, station_at}, Sets.prunes, State.{State, opening}, Step.state_after, Tables.row_at}}
 use Rattle.law_scope.{specs.Rest.IsAtRest, proofs.Rest.{opening_is_at_rest, run_is_at_rest}}
 use Rattle.law_served.{specs.{Joins.{IsWritable, join_packet, join_value}, Timed.AreTimed}, proofs.Timed.run_is_timed}
-use Rattle.law_in_time.{specs.Joins.{Always, AreInTime, AreThere, ComesBy, ComesToBoth, IsBy, IsCovered, IsInTime, IsJoin, IsReady, Join, Wants, entry_of, frame_of, is_suppressed, join_key, most_late, prunes_it, prunes_of, time_at}, proofs.{Computed.{IsFirst, at_another, event_in, only_new, prunes_nothing, stand, stands_there, with_event, with_station}, Pairs.joins_are_shared}}
-use Rattle.pim_runs.{proofs.OnLiterals.machine_on_literals, specs.{Words.advance, ServedChain.{asked_group, first, root, second, station}, InTime.{JoinStaysHeld, JoinsAreInTime, both, first_events, joined, late, pair, repeats, second_events, started}}}
+use Rattle.law_settled.{specs.Ready.IsSettled, proofs.Steps.run_is_settled}
+use Rattle.law_stream.{specs.Passing.{Passes, Receiver, Tree, has_moved, is_lost, takes_effect}}
+use Rattle.law_in_time.{specs.{Joins.{Always, AreInTime, AreThere, ComesBy, ComesToBoth, IsBy, IsCovered, IsInTime, IsJoin, IsReady, Join, Wants, entry_of, frame_of, is_suppressed, join_key, most_late, prunes_it, prunes_of, time_at}, Streams.{IsPassing, NoneEndsOtherwise, ends_otherwise}}, proofs.{Computed.{at_another, event_in, joins_told, none_pruned, none_shared, stand, stands_there, timely, with_event, with_station, with_timer}, Pairs.joins_are_shared, Streams.joins_keep_stream}}
+use Rattle.pim_runs.{proofs.OnLiterals.machine_on_literals, specs.{Words.advance, ServedChain.{asked_group, first, root, second, sender, station}, InTime.{JoinStaysHeld, JoinsAreInTime, StreamGoesOn, both, first_events, joined, late, pair, repeats, second_events, started}}}
 
 abbrev nowhere : Station
 nowhere = record { links = []; state = opening first }
@@ -69,16 +71,6 @@ second_ready = record {
 
 -- ---- to begin with
 
-abbrev no_row : JoinTimerRow
-no_row = record { end = 0 }
-
-abbrev row_in : Network → JoinTimerRow
-row_in n = unwrap_or (row_at (stand nowhere n 0).state.join_timers (join_key joined 0 asked_group)) no_row
-
-with_row : (n : Network) (P : JoinTimerRow → Type 0) → P (row_in n) → (row : JoinTimerRow)
-    → row_at (stand nowhere n 0).state.join_timers (join_key joined 0 asked_group) ≡ Some row → P row
-with_row n P f row is = subst P (ap (λ (o : Option JoinTimerRow). unwrap_or o no_row) is) f
-
 covered : IsCovered joined asked_group late started pair n0
 unfolding machine_on_literals join_packet
 covered = record {
@@ -89,7 +81,7 @@ covered = record {
   end = 211000;
   later = lit< tt;
   holds = record { row = record { expiry = Some 211000; pending = None }; found = refl; unpruned = refl; lasts = refl };
-  lasts = λ row is. with_row n0 (λ (r : JoinTimerRow). r.end + started 0 + 2 * late < 211000 + started 1) (lit< tt) row is;
+  lasts = λ row is. with_timer nowhere joined asked_group late started pair n0 (λ (r : JoinTimerRow). r.end + started 0 + 2 * late < 211000 + started 1) (lit< tt) row is;
 }
 
 -- ---- all the while
@@ -138,23 +130,6 @@ there_3 = record {
   listens = record { rp_known = refl; hears = record { configured = lit≤ tt; up = refl; neighbour = refl; other = refl }; own = refl; linked = refl };
 }
 
--- ---- the timer is never late
-
-timely : (n n' : Network) → time_at started 0 (stand nowhere n' 0) ≤ (row_in n).end + started 0 + late
-    → time_at started 1 (stand nowhere n' 1) ≤ (row_in n).end + started 0 + late
-    → (st : Station) (row : JoinTimerRow) → station_at n 0 ≡ Some st
-    → row_at (st.state).join_timers (join_key joined 0 asked_group) ≡ Some row
-    → IsBy started 0 (row.end + started 0 + late) n' × IsBy started 1 (row.end + started 0 + late) n'
-timely n n' low up st row at is =
-    with_station nowhere n 0
-    (λ st. row_at (st.state).join_timers (join_key joined 0 asked_group) ≡ Some row
-    → IsBy started 0 (row.end + started 0 + late) n' × IsBy started 1 (row.end + started 0 + late) n')
-    (with_row n (λ (r : JoinTimerRow). IsBy started 0 (r.end + started 0 + late) n' × IsBy started 1 (r.end + started 0 + late) n') (
-      with_station nowhere n' 0 (λ st. time_at started 0 st ≤ (row_in n).end + started 0 + late) low,
-      with_station nowhere n' 1 (λ st. time_at started 1 st ≤ (row_in n).end + started 0 + late) up,
-    ) row)
-    st at is
-
 -- ---- the Join that leaves
 
 writable : IsWritable (pair.from) (pair.hop).address.bits asked_group (entry_of joined) (prunes_of [])
@@ -168,25 +143,18 @@ writable = record {
   few = lit≤ tt;
 }
 
-the_join : Sent
-the_join = frame_of joined asked_group pair []
-
-one_told : drop (length n0.frames) n1.frames ≡ the_join ∷ []
-unfolding machine_on_literals join_packet the_join
+one_told : drop (length n0.frames) n1.frames ≡ frame_of joined asked_group pair [] ∷ []
+unfolding machine_on_literals join_packet
 one_told = refl
 
-join_length : length (the_join.bytes) ≡ 54
-unfolding machine_on_literals join_packet the_join
-join_length = refl
-
-taken : ComesBy joined asked_group late started pair [] (suc (length n0.frames)) 61000 n1 (m2 ∷ m3 ∷ [])
+comes : ComesBy joined asked_group late started pair [] (suc (length n0.frames)) (time_at started 0 (stand nowhere n1 0)) n1 (m2 ∷ m3 ∷ [])
 unfolding machine_on_literals join_packet
-taken = inr (
-  with_station nowhere n2 1 (λ st. time_at started 1 st ≤ 61000 + late) (lit≤ tt),
+comes = inr (
+  with_station nowhere n2 1 (λ st. time_at started 1 st ≤ time_at started 0 (stand nowhere n1 0) + late) (lit≤ tt),
   inl (record {
     draw = 7;
     is = refl;
-    after = with_station nowhere n2 1 (λ st. 61000 ≤ time_at started 1 st) (lit≤ tt);
+    after = with_station nowhere n2 1 (λ st. time_at started 0 (stand nowhere n1 0) ≤ time_at started 1 st) (lit≤ tt);
     room = with_station nowhere n2 1 (λ st. is_full st.state (Accepted.JoinPruneToMe (record { number = 0 })
         (join_value (pair.hop).address.bits asked_group (entry_of joined) (prunes_of []))) ≡ false) refl;
   }),
@@ -194,76 +162,31 @@ taken = inr (
 
 -- ---- each move
 
--- the first router sees no Join of another
-none_shared : (n : Network) (m : Move) (ms : List Move)
-    → is_suppressed joined (stand nowhere n 0).state asked_group pair.hop (done_as (happens (stand nowhere n 0).state (event_in n m))) ≡ false
-    → (e : Event) (st : Station) → event_of n m ≡ Some (0, e) → station_at n 0 ≡ Some st
-    → is_suppressed joined st.state asked_group pair.hop (done_as (happens st.state e)) ≡ true
-    → ComesToBoth joined asked_group late started pair n m ms
-none_shared n m ms f e st ev at is =
-    let off : is_suppressed joined st.state asked_group pair.hop (done_as (happens st.state e)) ≡ false =
-    with_station nowhere n 0 (λ st. is_suppressed joined st.state asked_group pair.hop (done_as (happens st.state e)) ≡ false)
-    (with_event n m 0
-    (λ e. is_suppressed joined (stand nowhere n 0).state asked_group pair.hop (done_as (happens (stand nowhere n 0).state e)) ≡ false) f e ev)
-    st at in
-    let no : false ≡ true = sym off ∙ is in cc
-
-unpruned_by : (n : Network) (m : Move)
-    → prunes_it joined asked_group 0 (done_as (happens (stand nowhere n 1).state (event_in n m))) ≡ false
-    → (e : Event) (st : Station) → event_of n m ≡ Some (1, e) → station_at n 1 ≡ Some st
-    → prunes_it joined asked_group 0 (done_as (happens st.state e)) ≡ false
-unpruned_by n m f e st ev at =
-    with_station nowhere n 1 (λ st. prunes_it joined asked_group 0 (done_as (happens st.state e)) ≡ false)
-    (with_event n m 1 (λ e. prunes_it joined asked_group 0 (done_as (happens (stand nowhere n 1).state e)) ≡ false) f e ev) st at
-
--- the one frame that leaves is the Join, which prunes nothing
-its_frame : (number : ℕ) (pruned : List ℕ) → IsFirst number (suc (length n0.frames)) (frame_of joined asked_group pair pruned) the_join
-    → (number ≡ suc (length n0.frames)) × (pruned ≡ [])
-its_frame number pruned f =
-    (f.number, prunes_nothing _ _ _ _ pruned (ap (λ (x : Sent). length x.bytes) f.frame ∙ join_length))
-
-comes_by : (number sent : ℕ) (pruned : List ℕ) → (number ≡ suc (length n0.frames)) × (pruned ≡ []) → sent ≡ 61000
-    → IsWritable (pair.from) (pair.hop).address.bits asked_group (entry_of joined) (prunes_of pruned)
-    × ComesBy joined asked_group late started pair pruned number sent n1 (m2 ∷ m3 ∷ [])
-comes_by number sent pruned both at =
-    subst (λ (ps : List ℕ). IsWritable (pair.from) (pair.hop).address.bits asked_group (entry_of joined) (prunes_of ps)
-    × ComesBy joined asked_group late started pair ps number sent n1 (m2 ∷ m3 ∷ [])) (sym both.1) (
-      writable,
-      subst (λ (k : ℕ). ComesBy joined asked_group late started pair [] k sent n1 (m2 ∷ m3 ∷ [])) (sym both.0)
-          (subst (λ (k : ℕ). ComesBy joined asked_group late started pair [] (suc (length n0.frames)) k n1 (m2 ∷ m3 ∷ [])) (sym at) taken),
-    )
-
-time_told : time_at started 0 (stand nowhere n1 0) ≡ 61000
-unfolding machine_on_literals join_packet
-time_told = refl
-
 first_in_time : IsInTime joined asked_group late started pair n0 m1 (m2 ∷ m3 ∷ [])
 unfolding machine_on_literals join_packet
 first_in_time = record {
-  timer = timely n0 n1 (lit≤ tt) (lit≤ tt);
+  timer = timely nowhere joined asked_group late started pair n0 n1 (lit≤ tt) (lit≤ tt);
   joins = λ e st number pruned ev at later got.
-      comes_by number (time_at started 0 st) pruned
-      (its_frame number pruned (only_new n0 n1 the_join (frame_of joined asked_group pair pruned) number one_told later got))
-      (with_station nowhere n1 0 (λ st. time_at started 0 st ≡ 61000) time_told st at);
+      joins_told nowhere joined asked_group late started pair n0 n1 (m2 ∷ m3 ∷ []) one_told writable comes st number pruned at later got;
   unpruned = λ e st ev at. absurd (at_another n0 m1 1 refl e ev);
-  shared = none_shared n0 m1 (m2 ∷ m3 ∷ []) refl;
+  shared = none_shared nowhere joined asked_group late started pair n0 m1 (m2 ∷ m3 ∷ []) refl;
 }
 
 second_in_time : IsInTime joined asked_group late started pair n1 m2 (m3 ∷ [])
 unfolding machine_on_literals join_packet
 second_in_time = record {
-  timer = timely n1 n2 (lit≤ tt) (lit≤ tt);
+  timer = timely nowhere joined asked_group late started pair n1 n2 (lit≤ tt) (lit≤ tt);
   joins = λ e st number pruned ev at later got. absurd (at_another n1 m2 0 refl e ev);
-  unpruned = unpruned_by n1 m2 refl;
+  unpruned = none_pruned nowhere joined asked_group late started pair n1 m2 refl;
   shared = λ e st ev at is. absurd (at_another n1 m2 0 refl e ev);
 }
 
 third_in_time : IsInTime joined asked_group late started pair n2 m3 []
 unfolding machine_on_literals join_packet
 third_in_time = record {
-  timer = timely n2 n3 (lit≤ tt) (lit≤ tt);
+  timer = timely nowhere joined asked_group late started pair n2 n3 (lit≤ tt) (lit≤ tt);
   joins = λ e st number pruned ev at later got. absurd (at_another n2 m3 0 refl e ev);
-  unpruned = unpruned_by n2 m3 refl;
+  unpruned = none_pruned nowhere joined asked_group late started pair n2 m3 refl;
   shared = λ e st ev at is. absurd (at_another n2 m3 0 refl e ev);
 }
 
@@ -299,3 +222,48 @@ its_group = record { multicast = refl; goes_far = refl; rp_host = refl }
 pub join_stays_held : JoinStaysHeld
 join_stays_held =
     joins_are_shared joined asked_group late started pair both repeats its_group (lit< tt) joins_are_in_time wants
+
+-- ---- the stream
+
+second_settled : IsSettled second_now.state
+second_settled = run_is_settled second second_events accepted_second
+
+passes_now : Passes Tree.Shared Receiver.Router second_now.state asked_group sender 1 0
+unfolding machine_on_literals join_packet
+passes_now = record {
+  settled = second_settled;
+  matched = tt;
+  comes_in = record { configured = lit≤ tt; is_up = refl; foreign = refl; on = record { on_tree = refl; source_too = refl } };
+  goes_out = record {
+    configured = lit≤ tt;
+    group = refl;
+    source = refl;
+    wanted = record { row = record { expiry = Some 211000; pending = None }; found = refl; none_prunes = refl };
+  };
+  room = refl;
+  on = refl;
+}
+
+passing : IsPassing joined Tree.Shared asked_group sender 1 pair n0
+unfolding station_at
+passing = record { station = second_now; there = refl; passes = passes_now }
+
+none_by : (n : Network) (m : Move)
+    → ends_otherwise joined Tree.Shared (stand nowhere n 1).state (event_in n m) asked_group sender 1 0 ≡ false
+    → (e : Event) (st : Station) → event_of n m ≡ Some (1, e) → station_at n 1 ≡ Some st
+    → ends_otherwise joined Tree.Shared st.state e asked_group sender 1 0 ≡ false
+none_by n m f e st ev at =
+    with_station nowhere n 1 (λ st. ends_otherwise joined Tree.Shared st.state e asked_group sender 1 0 ≡ false)
+    (with_event n m 1 (λ e. ends_otherwise joined Tree.Shared (stand nowhere n 1).state e asked_group sender 1 0 ≡ false) f e ev) st at
+
+none_ends : NoneEndsOtherwise joined Tree.Shared asked_group sender 1 pair both repeats
+unfolding machine_on_literals join_packet ends_otherwise has_moved is_lost takes_effect prunes
+none_ends = (
+  λ e st ev at. absurd (at_another n0 m1 1 refl e ev),
+  (none_by n1 m2 refl, (none_by n2 m3 refl, tt)),
+)
+
+pub stream_goes_on : StreamGoesOn
+stream_goes_on =
+    joins_keep_stream joined Tree.Shared asked_group late sender 1 started pair both repeats its_group tt (lit< tt) joins_are_in_time wants
+    passing none_ends

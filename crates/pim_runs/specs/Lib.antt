@@ -24,3 +24,5 @@ pub mod LastHop
 pub mod InTime
 pub mod History
 pub mod Plane
+pub mod Registered
+pub mod WayInTime

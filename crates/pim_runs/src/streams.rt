@@ -2,6 +2,7 @@
 ghost use Rattle.pim_runs.specs.StreamChain.{NextIsServed, NoneEnds, SecondBegins, WayStreams};
 ghost use Rattle.pim_runs.specs.Switch.{Switches};
 ghost use Rattle.pim_runs.specs.LastHop.{LastHopCanChange, LastHopChanges};
+ghost use Rattle.pim_runs.specs.Registered.{SourceIsRegistered};
 
 /// Two routers below the RP pass the stream, the first to a host and the second to a router.
 pub fn way_streams()
@@ -36,4 +37,9 @@ pub fn last_hop_can_change()
 /// So it changes, and goes on passing the stream to its host.
 pub fn last_hop_changes()
     ensures { LastHopChanges }
+{}
+
+/// A packet of the source comes in its DR's Register to the RP, and down to the host, with a TTL that is just enough.
+pub fn source_is_registered()
+    ensures { SourceIsRegistered }
 {}
