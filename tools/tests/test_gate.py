@@ -185,15 +185,7 @@ class Limit(unittest.TestCase):
 
 
 class List(unittest.TestCase):
-    """The edits of this repository, and what stands in it twice."""
-
-    def test_a_scenario_that_stands_in_two_places_is_the_same(self):
-        """The kit takes no links."""
-        stored_too = TOP / "crates" / "test_scenarios" / "data"
-        found = [*TOP.glob("examples/*.toml"), *TOP.glob("examples/*.out"), *TOP.glob("crates/pimlab/data/*")]
-        self.assertGreater(len(found), 10)
-        for path in found:
-            self.assertEqual(path.read_bytes(), (stored_too / path.name).read_bytes(), path.name)
+    """The edits of this repository."""
 
     def test_the_wrong_bodies_of_the_list_are_there(self):
         self.assertEqual([], gate.missing(TOP))
