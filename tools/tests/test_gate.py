@@ -156,10 +156,13 @@ class Beside(unittest.TestCase):
 
     def ended(self, script):
         more = {"tools/try_all": f"#!/bin/sh\n{script}\n"}
-        chmod = mock.patch.object(gate.subprocess, "Popen", wraps=gate.subprocess.Popen)
-        with chmod as begun:
-            begun.side_effect = lambda words, *_, **how: (
-                Path(words[-1]).chmod(0o755) if str(words[-1]).endswith("try_all") else None) or mock.DEFAULT
+
+        def executable(words, *_, **how):
+            for path in (Path(it) for it in words if str(it).endswith("/try_all")):
+                path.chmod(0o755)
+            return mock.DEFAULT
+
+        with mock.patch.object(gate.subprocess, "Popen", wraps=gate.subprocess.Popen, side_effect=executable):
             return ended(GOOD, lines(refused(*GOOD)), words=["--edits"], more=more)[0]
 
     def test_its_checks_count(self):
