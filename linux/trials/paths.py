@@ -88,7 +88,7 @@ def route_flaps(net: Network) -> str:
 
 
 def link_with_another_path(net: Network) -> str:
-    """where the tree's link goes down, on either side, and comes back, the route of the next metric costs few packets"""
+    """where the tree's link goes down, on either side, and comes back, the next metric's route costs few packets"""
     ip("router", "route", "add", TO_SOURCE, *BY_LAN, "metric", "20")
 
     def change(place: str, port: str, state: str) -> Callable[[], None]:
@@ -117,7 +117,7 @@ def link_with_another_path(net: Network) -> str:
 
 
 def next_hop_before_its_hello(net: Network) -> str:
-    """a route that moves to a next hop that is no neighbour yet moves once that one's Hello has come: few are missing"""
+    """a route that moves to a next hop that is no neighbour yet moves once its Hello has come: few are missing"""
     configure = lambda line: liveness.configure(net, "first", "interface to-router", line)
     ip("router", "route", "replace", TO_SOURCE, *BY_LAN)
     configure("no ip pim")

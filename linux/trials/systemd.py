@@ -1,4 +1,4 @@
-"""The router as a service of a systemd of its own: what restarts, upgrades, a crash, a stop and a reboot cost a stream."""
+"""The router as a service of a systemd of its own: what restarts, upgrades, a crash, a stop and a reboot cost."""
 from __future__ import annotations
 
 import shutil
