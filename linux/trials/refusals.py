@@ -43,14 +43,17 @@ def flood_of_groups(net: Network) -> str:
     send(net, "hosts", "to-router", "10.5.0.50", "reports", 65_536)
     until("the flood is refused", 15, lambda: net.refused("max_host_groups") > 0)
     before = len(lines(net, "max_host_groups"))
-    flood = net.start("hosts", sys.executable, SENDER, "to-router", "10.5.0.50", "reports", 65_536, 0.02,
-                      stdout=subprocess.DEVNULL)
     times = []
     for _ in range(5):
-        times.append(first_after(net.receive("hosts", group, HOST, 1, 5)))
+        flood = net.start("hosts", sys.executable, SENDER, "to-router", "10.5.0.50", "reports", 65_536, 0.02,
+                          stdout=subprocess.PIPE)
+        flood.stdout.readline()
+        time.sleep(1)
+        times.append(first_after(net.receive("hosts", group, HOST, 1, 4)))
+        if flood.poll() is not None:
+            raise Failed("the flood was over")
+        ended(flood)
         until("nobody asks", 15, lambda: "to-hosts" not in net.entry("*", group)["outgoing"])
-    is_over = flood.poll() is not None
-    ended(flood)
     ended(sender)
     # A neighbour that comes anew, and a host on another link.
     send(net, "asker", "to-lan", "10.7.0.99", "hello", 1)
