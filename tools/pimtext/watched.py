@@ -17,6 +17,10 @@ if TYPE_CHECKING:
     from pimtext.wishes import Key
 
 
+# Reasons that a packet didn't come for which are none of what the routers know.
+BY_THE_WAY = ("lost", "refused", "ttl")
+
+
 @dataclass(frozen=True)
 class Loss:
     """Packets one after the other that didn't come to a host, all for one reason; `waiting` are the rungs that waited
@@ -157,6 +161,9 @@ class Watch:
             return Verdict(stream, losses, end is None, end, lines + expected_lines(stream, way, end))
         last = stream.packets[-1]
         lost = losses[-1] if losses and not stream.arrivals[last] else None
+        if lost and end is None and last.link is not None and lost.end.kind not in BY_THE_WAY:
+            # What kept this packet off is over: the packet itself changed what the routers know.
+            return Verdict(stream, losses, True, None, lines + expected_lines(stream, way, end))
         lines += self.last_lines(stream, last, lost)
         return Verdict(stream, losses, lost is None, lost and lost.end, lines)
 

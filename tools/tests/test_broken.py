@@ -55,8 +55,8 @@ BROKEN = {
         came={(VIEWER, ONE): (5, 0, 0)}),
     "04_group_outside_ranges": Broken((note("no router has an RP for 225.1.1.1"),)),
     "05_rp_moved_e1_late": Broken(
-        (note("5: router e1: the RP of 239.1.1.1 is 10.255.6.1 here", "10.255.7.1 at router fhr (since 21.000 s, by move "
-              "115 (rps), line 124; before it was 10.255.6.1)"),), came={(VIEWER, ONE): (25, 25, 0)}),
+        (note("5: router e1: the RP of 239.1.1.1 is 10.255.6.1 here", "10.255.7.1 at router fhr (since 21.000 s, by"
+              " move 115 (rps), line 124; before it was 10.255.6.1)"),), came={(VIEWER, ONE): (25, 25, 0)}),
     "06_registers_filtered": Broken((), came={(VIEWER, ONE): (5, 5, 0)}),
     "07_register_stop_from_nat": Broken(
         (note("move 65 (unicast), router fhr", "NotRp", "the router goes on registering"),),
@@ -68,7 +68,7 @@ BROKEN = {
     "10_fhr_restart_mid_register": Broken((), came={(VIEWER, ONE): (10, 10, 0)}),
     # Routes
     "11_static_route_flaps": Broken(
-        (note("98: router e1: its route to 10.0.9.101 leads to 10.0.3.77 on rp1-e1: since 20.000 s, by move 89 (routes)",
+        (note("98: router e1: its route to 10.0.9.101 leads to 10.0.3.77 on rp1-e1: since 20.000 s, by move 89",
               "until 30.000 s, by move 113 (routes)", "and again since 40.000 s, by move 185 (routes)",
               "until 50.000 s, by move 213 (routes)", "packets 7 to 16 (10)", "packets 27 to 36 (10)"),),
         came={(WATCHER, SSM): (40, 20, 0)}),
@@ -128,11 +128,12 @@ BROKEN = {
         {(VIEWER, ONE, "lan"): True}, {(VIEWER, ONE): (5, 5, 0)}),
     "53_asked_on_two_links_one_broken": Broken(
         (note("router e1 has no RP for 239.1.1.1"), note("10.0.6.101 asks for 239.2.2.2 on camera")),
-        {(VIEWER, TWO, "camera"): True}, {(VIEWER, TWO): (5, 5, 0)}, never=("none of 5 packets of (10.0.9.101, 239.2",)),
+        {(VIEWER, TWO, "camera"): True}, {(VIEWER, TWO): (5, 5, 0)},
+        never=("none of 5 packets of (10.0.9.101, 239.2",)),
     # Neighbours that nobody here is, and messages in another's name
     "18_goodbye_in_anothers_name": Broken(
-        (note("a farewell (a Hello with holdtime 0) in the name of rp1 (10.0.3.1) came on rp1-e1 at 19.000 s, which rp1 "
-              "didn't send: e1 takes rp1 to be gone, until its Hello of 35.000 s"),
+        (note("a farewell (a Hello with holdtime 0) in the name of rp1 (10.0.3.1) came on rp1-e1 at 19.000 s, which"
+              " rp1 didn't send: e1 takes rp1 to be gone, until its Hello of 35.000 s"),
          note("move 183", "at 29.000 s", "it was ignored")), came={(VIEWER, ONE): (17, 17, 0)}),
     "19_phantom_dr": Broken((note(*STRANGER, "DR priority 100", "10.0.6.102 got none of 5"),),
                             came={(VIEWER, ONE): (5, 0, 0)}),
@@ -173,8 +174,9 @@ BROKEN = {
         (note("since 26.000 s nothing that u2 sent came to u1, d1 and d2 on transit", "packets 12 to 95 (84) of 220"),
          TWICE, TWICE)),
     "41_renumbered_next_hop": Broken(
-        (note("its routes to 10.0.9.101, 10.255.6.1, 10.255.7.1 lead to 10.0.3.1 on rp1-e1", "rp1 had it on rp1-e1 until "
-              "20.000 s, by move 106 (reload), line 115", "would get nothing"),), came={(VIEWER, ONE): (200, 200, 0)}),
+        (note("its routes to 10.0.9.101, 10.255.6.1, 10.255.7.1 lead to 10.0.3.1 on rp1-e1",
+              "rp1 had it on rp1-e1 until 20.000 s, by move 106 (reload), line 115", "would get nothing"),),
+        came={(VIEWER, ONE): (200, 200, 0)}),
     "42_link_flaps": Broken(
         (note("the link rp1-e1 was down 4 times: from 15.000 s to 18.000 s", "from 45.000 s to 48.000 s",
               "missed packet 1 of 40", "missed packets 35 to 39"),), came={(VIEWER, ONE): (40, 26, 0)}),

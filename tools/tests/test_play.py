@@ -189,6 +189,7 @@ class Browsed(unittest.TestCase):
             self.assertGreater(page.value("shown.move"), 0)
             page.press("End")
             self.assertIn("Where the runs differ", page.value("byId('side').textContent"))
+            self.assertIn("0 came, 1 missed1 came", page.value("byId('side').textContent"))
             self.assertEqual(page.troubles, [])
 
     def test_a_note_leads_to_its_move(self):

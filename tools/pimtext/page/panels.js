@@ -140,12 +140,23 @@ function differ(router) {
   };
   return other < 0 || trees(one, router) !== trees(two, other);
 }
+// What came so far of each stream to each host of a run, and what was missed, by the host's name and the stream's.
+function numbersOf(run) {
+  const all = run.hosts.flatMap(host => run.streamsOf(host, position(run)).map(each => [host, each]));
+  const heard = all.filter(([, each]) => each.came + each.missed);
+  return new Map(heard.map(([host, each]) => [`${host.name} ${treeName(run.streams[each.stream])}`, each]));
+}
+function numbersWords(each) {
+  if (!each) return "nothing was sent";
+  const more = [each.missed ? `${each.missed} missed` : "", each.twice ? `${each.twice} again` : ""].filter(Boolean);
+  return [`${each.came} came`, ...more].join(", ");
+}
 function hostsThatDiffer([one, two]) {
-  const nothing = { state: LEFT, text: "" }, told = each => cell(each.text || "nothing", STATES[each.state]);
-  return one.hosts.flatMap(host => {
-    const other = two.hosts.find(each => each.address === host.address);
-    const [here, there] = [one.stateOf(host, position(one)), other ? two.stateOf(other, position(two)) : nothing];
-    return here.state === there.state ? [] : [`<tr>${bold(host.name)}${told(here)}${told(there)}`];
+  const [here, there] = [numbersOf(one), numbersOf(two)];
+  return [...new Set([...here.keys(), ...there.keys()])].flatMap(name => {
+    const both = [here.get(name), there.get(name)], texts = both.map(numbersWords);
+    const told = both.map((each, n) => cell(texts[n], each ? STATES[each.state] : "soft")).join("");
+    return texts[0] === texts[1] ? [] : [`<tr>${bold(name)}${told}`];
   });
 }
 function differencesPanel() {
