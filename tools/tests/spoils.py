@@ -61,10 +61,11 @@ SPOILS = [
     Spoil("include/viqeshor/viqeshor.h", "\nsize_t viq_packets(", "\nuint32_t viq_none(void);\nsize_t viq_packets(",
         "test_header", "viq_none"),
     Spoil("bindings/c/texts.c", 'case VIQ_DONE: return "done"', 'case VIQ_DONE: return "don"', "library", "don"),
-    Spoil("bindings/rust/src/lib.rs", "Error::Memory => MEMORY", "Error::Memory => LOST", "library", "panicked"),
+    Spoil("bindings/rust/src/lib.rs", "Error::Memory => MEMORY", "Error::Memory => LOST", "library",
+        "errors_have_their_numbers"),
     Spoil("bindings/rust/src/lib.rs", "Error::Memory => MEMORY", "Error::Memory  => MEMORY", "rust_layout", "MEMORY"),
     Spoil("bindings/python/src/viqeshor/__init__.py", "return Answer.DONE < self < Answer.MEMORY",
-        "return Answer.DONE <= self < Answer.MEMORY", "library", "is_refused"),
+        "return Answer.DONE <= self < Answer.MEMORY", "library", "test_kinds_of_answers"),
     # The daemon: a rule, a name that isn't used, the layout, an example, its settings, a script, a trial.
     Spoil("linux/src/bfd.rs", "pub const TTL: u8 = 255", "pub const TTL: u8 = 254", "linux", "bfd"),
     Spoil("linux/src/bfd.rs", "const VERSION: u8 = 1;", "const VERSION: u8 = 1;\nconst OTHER: u8 = 2;", "linux_lint",
