@@ -258,12 +258,7 @@ impl Daemon {
             }
             self.turn(&ready.sources)?;
             self.house_keeping()?;
-            if ready.is_asked || servers.each().any(|server| server.due().is_some()) {
-                servers.serve(self);
-            }
-            if servers.due.map_or(false, |due| due <= self.now()) {
-                servers.try_again(&self.settings, self.now());
-            }
+            self.serve(&mut servers, ready.is_asked);
             self.keep();
         }
         if asked.end.load(Ordering::Relaxed) || !self.keep_for_next() {
@@ -271,6 +266,16 @@ impl Daemon {
             self.keep_no_more();
         }
         Ok(())
+    }
+
+    /// Clients are answered, and what their sockets lack is tried again.
+    fn serve(&mut self, servers: &mut Servers, is_asked: bool) {
+        if is_asked || servers.each().any(|server| server.due().is_some()) {
+            servers.serve(self);
+        }
+        if servers.due.map_or(false, |due| due <= self.now()) {
+            servers.try_again(&self.settings, self.now());
+        }
     }
 
     pub(super) fn begin(&mut self) -> Result<(), Fatal> {
