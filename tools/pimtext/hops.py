@@ -17,6 +17,7 @@ from pimtext.printed import ANY
 
 if TYPE_CHECKING:
     from pimtext.served import World
+    from pimtext.wishes import Key
 
 HEADS = ["Hop", "Router", "From", "RPF'", "To", "Tree", "Flags", "Packets", "State"]
 # No way is longer.
@@ -53,9 +54,10 @@ def table(hops: list[Hop]) -> Iterator[str]:
 
 
 def of_scenario(
-    world: World, group: str, source: str, origin: str, link: str, packets: Callable[[str], int]
+    world: World, key: Key, source: str, origin: str, packets: Callable[[str], int]
 ) -> tuple[list[Hop], str]:
-    """The hops from the source to a host's link, and where they end; "" where they reach it."""
+    """The hops from the link of a source to a host's link, and where they end; "" where they reach it."""
+    _, group, link = key
     state, end = served.serving(world, group, source, link)
     if state is None:
         return [], end.text

@@ -58,13 +58,14 @@ class Watch:
         tables: dict[str, Tables],
         unheard: frozenset[tuple[str, int] | tuple[str, bytes, int]] = frozenset(),
     ) -> None:
-        self.played, self.steps, self.unheard = played, steps, unheard
+        self.played, self.steps = played, steps
         self.known = known_after(played, steps, tables)
         self.packets, self.hosts = trace.traced(played, steps), wishes.Hosts(played, steps)
-        self.clock, self.past, self.now = streams.Clocks(steps), Past(played, steps), served.World(self.known)
+        self.past, self.now = Past(played, steps), served.World(self.known)
+        self.ran = streams.Ran(self.hosts, self.packets, streams.Clocks(steps), unheard)
 
     def streams(self) -> list[Stream]:
-        return list(streams.streams(self.hosts, self.packets, self.clock, self.unheard))
+        return list(streams.streams(self.ran))
 
     def stream(self, host: str, group: str, source: str, link: str | None = None) -> Stream:
         """The stream of a host, on the first link on which it asked where none is given."""
@@ -211,7 +212,7 @@ class Watch:
             yield key[1], [each for whom in found for each in self.of_source(key, whom)]
 
     def of_source(self, key: Key, source: str) -> Iterator[Stream]:
-        return streams.of_source(self.hosts, self.packets, self.clock, key, source, self.unheard)
+        return streams.of_source(self.ran, key, source)
 
     def answers(
         self, host: str, group: str | None = None, source: str | None = None
