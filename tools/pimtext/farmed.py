@@ -5,6 +5,7 @@ a worker that ended to another one, and what came is what was asked for.
 """
 from __future__ import annotations
 
+import importlib.util
 import os
 import subprocess
 import sys
@@ -16,9 +17,7 @@ SYSTEMS = "/usr/bin/python3"
 
 def with_distributed() -> None:
     """Goes on in a Python that has Dask's `distributed`; the end of the program where there is none."""
-    try:
-        import distributed  # noqa: F401
-    except ImportError:
+    if importlib.util.find_spec("distributed") is None:
         if os.path.realpath(sys.executable) != os.path.realpath(SYSTEMS) and os.path.exists(SYSTEMS):
             os.execv(SYSTEMS, [SYSTEMS, *sys.argv])
         sys.exit("--dask wants Python's `distributed`: Debian's package is python3-distributed")
