@@ -82,7 +82,7 @@ SPOILS = [
         "packets without a router"),
     Spoil("tools/bench/forwarder/plain.rs", "const FRAME_LIMIT: usize = 1500", "const FRAME_LIMIT: usize = 15",
         "bench_forward", "returned non-zero"),
-    Spoil("tools/refuse_program", "WIRE = (3, ", "WIRE = (5, ", "refuse_program", "1 other"),
+    Spoil("tools/refuse_program", "if status == 3 and kind", "if status == 5 and kind", "refuse_program", " 1 other"),
     Spoil(".ci/run", "exec ", "exec $(", "lint", ".ci/run"),
     # The crates: a rule, a type, the layout, a definition that can't be read.
     Spoil("crates/pim_register/src/source_timers.rt", "REGISTER_PROBE_TIME: u64 = 5_000",
