@@ -117,7 +117,8 @@ def upgrade(net: Network) -> str:
 def program_that_hangs(net: Network) -> str:
     """while a program that hangs is asked whether it can take over the router goes on: a join has its first packet"""
     group, program = "239.2.20.60", net.room / "viqeshord"
-    shutil.copy(program, net.room / "viqeshord.good")
+    # It comes back as the same file, so that nothing has changed then.
+    os.rename(program, net.room / "viqeshord.good")
     other = net.room / "viqeshord.new"
     other.write_text("#!/bin/sh\nexec sleep 60\n")
     other.chmod(0o755)
