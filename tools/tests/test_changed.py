@@ -10,9 +10,10 @@ import tempfile
 import unittest
 from pathlib import Path
 
-from pimtext import playpage, scenario, story, view_text, views
+from pimtext import playpage, scenario, story, toml_lines, view_text, views
 from pimtext.diagnosis import Diagnosis
 from pimtext.faults import faults_of
+from pimtext.notes import Notes
 from tests import stored
 
 SEED, ROUNDS = int(os.environ.get("SEED", 1)), int(os.environ.get("ROUNDS", 1))
@@ -166,12 +167,19 @@ class Changed(unittest.TestCase):
 
     def test_packets_that_wait_while_interfaces_shift(self):
         told = self.through(SHIFTED, 3, True)
-        refused = [note for note in told if "27 (BadMove)" in note]
-        self.assertEqual(len(refused), 2)
-        self.assertIn("packet 3 left interface 0 of a on the link ab, and a `reload` put that interface on ac",
-                      refused[0])
+        refused, = (note for note in told if "27 (BadMove)" in note)
+        self.assertIn("moves interface 0 from ab to ac: interfaces are known by their numbers", refused)
         # What a sends on ab before it moves away reaches b no more; nothing else is lost.
         self.assertFalse([note for note in told if "came to c" in note])
+
+    def test_why_a_settle_could_not_bring_a_packet(self):
+        judge, _ = faults_of(SHIFTED)
+        played = scenario.scenario_of(toml_lines.plain(toml_lines.read(SHIFTED)))
+        notes = Notes(judge, Diagnosis(judge, played, scenario.run_text(SHIFTED)).run)
+        whys = [each.alone for each in notes.odd() if each.cause == "27"]
+        for number, why in zip((3, 4), whys, strict=True):
+            self.assertIn(f"packet {number} left interface 0 of a on the link ab, and a `reload` put that interface on "
+                          "ac before the settle: it reaches nobody on ab", why)
 
 
 if __name__ == "__main__":
