@@ -230,13 +230,29 @@ class Askers:
 
     def strangers(self) -> Iterator[Cause]:
         """A source is on a link of its first router, or behind another router."""
-        for each in self.first(lambda each: (each.router, each.iface, each.packet.source)):
-            state, source = self.known[each.router], each.packet.source
-            own = state.router.interfaces[each.iface]
-            if ip_address(source) not in own.own.network and asked.rpf_interface(state, source) != each.iface:
-                where = f"isn't in {own.own.network}, the subnet of {own.link}, and no route leads to it there"
-                told = f"the source {source} {where}: it counts as no source of this link"
-                yield Cause(*self.run.at_move(each.step, told), self.of_stranger(source))
+        places = {id(step): at for at, step in enumerate(self.run.steps)}
+        data = (each for each in self.run.said if each.is_data())
+        keyed = (((each.router, each.iface, each.packet.source), each) for each in data)
+        for (_, _, source), said in gathered(keyed).items():
+            outside = next((each for each in said if self.is_outside(each, places[id(each.step)])), None)
+            if outside is not None:
+                yield self.stranger(outside, source, places[id(outside.step)])
+
+    def is_outside(self, each: Said, at: int) -> bool:
+        """Whether a packet came from a source that was then on no link of its router."""
+        source = each.packet.source
+        own = self.run.settings.at(each.router, at).router.interfaces[each.iface].own
+        return ip_address(source) not in own.network and \
+            asked.rpf_interface(self.run.past.known(at)[each.router], source) != each.iface
+
+    def stranger(self, each: Said, source: str, at: int) -> Cause:
+        settings, value = self.run.settings, lambda told: told.interface(each.iface)
+        own, since = settings.at(each.router, at).router.interfaces[each.iface], settings.since(each.router, value, at)
+        where = f"isn't in {own.own.network}, the subnet of {own.link}, and no route leads to it there"
+        line, told = self.run.at_move(each.step, f"the source {source} {where}: it counts as no source of this link")
+        if since.began:
+            line, told = settings.line(each.router, since), f"{told}: {settings.words(since)}"
+        return Cause(line, told, self.of_stranger(source))
 
     @staticmethod
     def of_stranger(source: str) -> Callable[[Symptom], bool]:

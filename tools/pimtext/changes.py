@@ -9,7 +9,7 @@ from typing import TYPE_CHECKING, Any
 from pimtext import words
 from pimtext.addresses import is_source_specific
 from pimtext.cause import Cause
-from pimtext.run import gathered
+from pimtext.run import gathered, some
 from pimtext.settings import spans, way_words
 
 if TYPE_CHECKING:
@@ -24,19 +24,20 @@ BY_RP, BY_ROUTE = ("no rp", "rp disagrees"), ("no route", "no neighbour", "inter
 
 @dataclass(frozen=True)
 class Fact:
-    """What a router was told of a group's RP, or of the route to an address."""
+    """What a router was told of the RP of groups, or of the route to addresses, by the moves of these numbers."""
     router: str
     is_rp: bool
-    key: str
     value: Any
+    moves: tuple[int, ...]
 
-    def words(self) -> str:
+    def words(self, keys: list[str]) -> str:
+        what = some(keys)
         if self.is_rp:
-            return f"router {self.router} has " + (f"{self.value} as the RP of" if self.value else "no RP for") + (
-                f" {self.key}")
-        where = f"leads to {way_words(self.value)}" if self.value else ""
-        return f"router {self.router}: its route to {self.key} {where}" if where else \
-            f"router {self.router} has no route to {self.key}"
+            return f"router {self.router} has {f'{self.value} as the RP of' if self.value else 'no RP for'} {what}"
+        if self.value is None:
+            return f"router {self.router} has no route to {what}"
+        leads = "its route" if len(keys) == 1 else "its routes"
+        return f"router {self.router}: {leads} to {what} lead{'s' * (len(keys) == 1)} to {way_words(self.value)}"
 
 
 class Changes:
@@ -71,20 +72,26 @@ class Changes:
     # ---- facts that a move set
 
     def causes(self, symptoms: Iterable[Symptom]) -> Iterator[Cause]:
-        """A cause for each fact that a move set and that symptoms follow from, with all times at which it was so."""
-        found = gathered(pair for symptom in symptoms for pair in self.facts(symptom))
-        for fact, pairs in found.items():
-            whose = {id(symptom) for _, symptom in pairs}
-            yield self.cause(fact, spans(since for since, _ in pairs), lambda each, whose=whose: id(each) in whose)
+        """A cause for each fact that moves set and that symptoms follow from, with all times at which it was so."""
+        pairs = gathered(pair for symptom in symptoms for pair in self.facts(symptom))
+        facts = {}
+        for (router, is_rp, key, value), found in pairs.items():
+            whole = spans(since for since, _ in found)
+            fact = Fact(router, is_rp, value, tuple(since.began.move for since in whole))
+            keys, _, whose = facts.setdefault(fact, ([], whole, set()))
+            keys.append(key)
+            whose |= {id(symptom) for _, symptom in found}
+        for fact, (keys, whole, whose) in facts.items():
+            yield self.cause(fact, keys, whole, lambda each, whose=whose: id(each) in whose)
 
-    def facts(self, symptom: Symptom) -> Iterator[tuple[Fact, tuple[Since, Symptom]]]:
+    def facts(self, symptom: Symptom) -> Iterator[tuple[tuple[str, bool, str, Any], tuple[Since, Symptom]]]:
         if symptom.router not in self.settings.told or symptom.at is None or symptom.group is None:
             return
         for is_rp, key in self.keys(symptom):
             value = (lambda each: each.rp(key)) if is_rp else (lambda each: each.way(key))
             since = self.settings.since(symptom.router, value, symptom.at)
             if since.began is not None:
-                yield Fact(symptom.router, is_rp, key, since.now), (since, symptom)
+                yield (symptom.router, is_rp, key, since.now), (since, symptom)
                 return
 
     def keys(self, symptom: Symptom) -> list[tuple[bool, str]]:
@@ -102,6 +109,32 @@ class Changes:
         """Whether a symptom is of this route."""
         return symptom.address == (way[0] if way and symptom.kind == "no neighbour" else root)
 
-    def cause(self, fact: Fact, whole: list[Since], covers: Callable[[Symptom], bool]) -> Cause:
+    def cause(
+        self, fact: Fact, keys: list[str], whole: list[Since], covers: Callable[[Symptom], bool]
+    ) -> Cause:
         told = "; and again ".join(self.settings.words(since, str if fact.is_rp else way_words) for since in whole)
-        return Cause(self.settings.line(fact.router, whole[0]), f"{fact.words()}: {told}", covers)
+        return Cause(self.settings.line(fact.router, whole[0]), f"{fact.words(keys)}: {told}", covers)
+
+    # ---- who is elected
+
+    def elected(self) -> Iterator[Cause]:
+        """A `reload` that changes a DR priority, or an address, changes who is the DR."""
+        for name, told in self.settings.told.items():
+            for one, other in zip(told, told[1:]):
+                pairs = zip(one.router.interfaces, other.router.interfaces)
+                changed = [(was, now) for was, now in pairs if was.link == now.link
+                           and (was.priority, was.address) != (now.priority, now.address)]
+                yield from (self.stands(name, other, *pair) for pair in changed)
+
+    def stands(self, name: str, told: Told, was: Interface, now: Interface) -> Cause:
+        what = f"its DR priority is {now.priority} since {words.seconds(told.step.moment)}, and was {was.priority}"
+        if was.address != now.address:
+            what = f"its address is {now.address} since {words.seconds(told.step.moment)}, and was {was.address}"
+        text = f"on interface {now.number} ({now.link}) {what}: the link's DR is elected anew"
+
+        def covers(each: Symptom) -> bool:
+            is_dr = each.kind in ("not the source's dr", "dead dr") or (
+                each.kind == "unwanted" and "the DR, which is" in (each.alone or ""))
+            return is_dr and each.link == now.link and each.at is not None and each.at > told.at
+
+        return Cause(*self.run.at_move(told.step, text), covers, is_hint=True)

@@ -173,7 +173,8 @@ class Diagnosis:
         self.run = run = Run(played, lines, places or Lines(judge), unheard)
         notes, interfaces = Notes(judge, run), Interfaces(run)
         changes = Changes(run)
-        self.causes = [*changes.relinked(), *interfaces.causes(), *Mistakes(run).causes(), *Askers(run).causes(),
+        self.causes = [*changes.relinked(), *changes.elected(), *interfaces.causes(),
+                       *Mistakes(run).causes(), *Askers(run).causes(),
                        *Strangers(run).causes(), *Latencies(run).causes()]
         self.causes += [*Gaps(run, interfaces).causes(), *Outages(run).causes()]
         odd = attached(self.causes, [*notes.odd(), *([] if places else notes.undelivered())])

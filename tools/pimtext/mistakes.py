@@ -16,6 +16,8 @@ from pimtext.printed import ANY
 from pimtext.run import gathered, some
 
 if TYPE_CHECKING:
+    from ipaddress import IPv4Network
+    from lab.lines import Line
     from pimtext.cause import Symptom
     from pimtext.known import Known
     from pimtext.run import Run
@@ -88,7 +90,7 @@ class Mistakes:
         if nowhere:
             told = f"no router has an RP for {some(nowhere)}"
             covers = lambda each: each.kind == "no rp" and each.group in nowhere
-            yield Cause(self.run.lines.router(next(iter(self.known))), told, covers)
+            yield Cause(*self.since_none(nowhere[0], told), covers)
         for name, state in self.known.items():
             missing = [group for group in self.run.groups() if asked.rp_of(state, group) is None]
             groups = [group for group in missing if group not in nowhere]
@@ -96,6 +98,15 @@ class Mistakes:
                 told = f" has no RP for {some(groups)}, which other routers have"
                 one = lambda each, group=groups[0]: each.rp(group)
                 yield Cause(*self.run.at_setting(name, told, one), self.of_router(name, groups), is_hint=True)
+
+    def since_none(self, group: str, told: str) -> tuple[int | Line, str]:
+        """Where and since when the last router has no RP for a group."""
+        settings, value = self.run.settings, lambda each: each.rp(group)
+        began = [(name, since) for name in self.known if (since := settings.since(name, value)).began]
+        if not began:
+            return self.run.lines.router(next(iter(self.known))), told
+        name, since = max(began, key=lambda pair: pair[1].began.move)
+        return settings.line(name, since), f"{told}; router {name} has none {settings.words(since)}"
 
     def is_used(self, group: str) -> bool:
         return any(asked == group and source == ANY for asked, source in self.run.wished())
@@ -163,12 +174,18 @@ class Mistakes:
 
     def subnets(self) -> Iterator[Cause]:
         """The routers of a link have one subnet there."""
-        usual = {link: most([each.own.network for _, each in ports]) for link, ports in self.ports.items()}
+        usual = {link: self.usual(ports) for link, ports in self.ports.items()}
         every = [(link, name, each) for link, ports in self.ports.items() for name, each in ports]
         for link, name, interface in every:
             if interface.own.network != usual[link]:
                 there = next(port for port in self.ports[link] if port[1].own.network == usual[link])
                 yield self.other_subnet(link, name, interface, *there)
+
+    def usual(self, ports: list[tuple[str, Interface]]) -> IPv4Network:
+        """The subnet that most interfaces of a link have, of equal ones one that no move set."""
+        since = lambda name, each: self.run.settings.since(name, lambda told: told.interface(each.number)).began
+        first = {each.own.network for name, each in ports if since(name, each) is None}
+        return most([each.own.network for _, each in ports], lambda network: network in first)
 
     def other_subnet(self, link: str, other: str, interface: Interface, router: str, there: Interface) -> Cause:
         line = self.run.lines.words(self.run.lines.interface(router, there.number))
