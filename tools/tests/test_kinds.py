@@ -54,7 +54,8 @@ class Words(unittest.TestCase):
         self.assertEqual(written.packet_of("igmp v1 239.1.1.1 join")[20], 0x12)
 
     def test_wrong_words_are_told_with_their_line(self):
-        wrong = {"igmp v4 239.1.1.1 join": "`v4` isn't one of v1, v2, v3", "igmp v3 10.0.0.1 join": "`10.0.0.1` is no group",
+        wrong = {"igmp v4 239.1.1.1 join": "`v4` isn't one of v1, v2, v3",
+                 "igmp v3 10.0.0.1 join": "`10.0.0.1` is no group",
                  "igmp v3 239.1.1.1 jion": "is join meant?", "igmp v3 239.1.1.1 join 10.0.0.5": "has no sources",
                  "igmp v1 239.1.1.1 leave": "isn't one of join", "data 239.1.1.1 hello": "who sends it is missing",
                  "data 239.1.1.1 from 10.7.0.50 ttl 256": "`256` is no ttl", "igmp v3": "it is written as: igmp v3",
@@ -86,8 +87,8 @@ class Words(unittest.TestCase):
 
 class Kinds(unittest.TestCase):
     def test_what_a_file_is(self):
-        self.assertEqual([kinds.kind_of(path) for path in (LINE, THREE, LINE / "r3.pcapng", stored.EXAMPLES / "one_join.toml")],
-                         ["folder", "lab", "capture", "scenario"])
+        paths = LINE, THREE, LINE / "r3.pcapng", stored.EXAMPLES / "one_join.toml"
+        self.assertEqual(list(map(kinds.kind_of, paths)), ["folder", "lab", "capture", "scenario"])
 
     def test_a_lab_file_and_a_folder_are_scenarios(self):
         for path, router in ((THREE, "r2"), (LINE, "r2")):
@@ -102,8 +103,8 @@ class Kinds(unittest.TestCase):
             self.assertEqual(ran.returncode, 1)
             self.assertIn("is a capture: `tools/from_pcap", ran.stderr)
 
-    TOOLS = {"show": (), "why": (), "mroute": (), "pcap": ("/dev/null",), "play": (), "draw": (), "whatif": (), "lab": (),
-             "from_frr": (), "from_pcap": (), "recorded": (), "saved": (), "plain": ()}
+    TOOLS = {"show": (), "why": (), "mroute": (), "pcap": ("/dev/null",), "play": (), "draw": (), "whatif": (),
+             "lab": (), "from_frr": (), "from_pcap": (), "recorded": (), "saved": (), "plain": ()}
 
     def test_no_traceback_for_a_file_of_another_kind(self):
         picture = stored.TOOLS.parent / "docs" / "play.png"
@@ -189,7 +190,8 @@ class Hints(unittest.TestCase):
     def test_a_command_line(self):
         status, out, told = self.told("rum", "x.toml")
         self.assertEqual((status, out), (2, b""))
-        self.assertTrue(told.startswith("pimlab: command line refused\n`rum` is no word of it; is `run` meant?\nusage: "))
+        wanted = "pimlab: command line refused\n`rum` is no word of it; is `run` meant?\nusage: "
+        self.assertEqual(told[:len(wanted)], wanted)
 
     def test_an_option(self):
         self.assertIn("`--table` is no word of it; is `--tables` meant?", self.told("run", "x.toml", "--table")[2])
