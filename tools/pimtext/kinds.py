@@ -6,8 +6,12 @@ import sys
 from contextlib import redirect_stdout
 from io import StringIO
 from pathlib import Path
+from typing import TYPE_CHECKING
 
 from pimtext import written
+
+if TYPE_CHECKING:
+    from lab.network import Network
 
 # How files of pcap and pcapng begin.
 CAPTURES = [bytes.fromhex(each) for each in ("d4c3b2a1", "a1b2c3d4", "4d3cb2a1", "a1b23c4d", "0a0d0d0a")]
@@ -42,7 +46,7 @@ def text_of(name: str | Path) -> str:
         sys.exit(f"{path} is a capture: `tools/from_pcap {path} --scenario OUT.toml` makes a scenario of it")
     if str(LABS) not in sys.path:
         sys.path.insert(1, str(LABS))
-    return of_folder(path) if kind == "folder" else of_lab(path)
+    return network_of_folder(path).scenario() if kind == "folder" else of_lab(path)
 
 
 def of_lab(path: Path) -> str:
@@ -56,8 +60,21 @@ def of_lab(path: Path) -> str:
         sys.argv[:] = words
 
 
-def of_folder(path: Path) -> str:
-    """What the network of FRR's configurations plays, with the hosts that these have."""
+def network_of(path: Path) -> Network:
+    """The network of a file of tools/lab or of a folder, for what has to go on from it; ends the program with a line
+    where it is of another kind."""
+    from pimtext import labfile
+    try:
+        kind = kind_of(path)
+    except OSError as reason:
+        sys.exit(f"{path} can't be read: {reason.strerror}")
+    if kind in ("capture", "scenario"):
+        sys.exit(f"{path} is no file of tools/lab (FILE.py), and no folder of FRR's configurations")
+    return network_of_folder(path) if kind == "folder" else labfile.network(path)
+
+
+def network_of_folder(path: Path) -> Network:
+    """The network of FRR's configurations, with the hosts that these have, once it has run."""
     from lab import Mistake
     from pimtext import frr, frr_lab
     names = {}
@@ -67,4 +84,4 @@ def of_folder(path: Path) -> str:
             exec(compile(frr_lab.text_of(plan, path), "from_frr", "exec"), names)
     except (frr.Unreadable, Mistake) as reason:
         sys.exit(f"{path} is a folder, and no network is made of it: {reason}")
-    return names["net"].scenario()
+    return names["net"]

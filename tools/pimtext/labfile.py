@@ -24,6 +24,8 @@ def network(path: str | Path) -> Network:
         kept = runpy.run_path(str(path), run_name="__main__")
         nets = [net for net in made() if kept and net.player]
     except OSError as error:
+        if error.filename is None:
+            raise
         sys.exit(f"{path} can't be read: {error.strerror}")
     except (SyntaxError, UnicodeDecodeError) as error:
         sys.exit(f"{path} is no file of tools/lab, which is in Python: {error}")

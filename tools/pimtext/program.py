@@ -122,4 +122,7 @@ def run(words: list[str]) -> None:
     path = chosen()
     if path is None:
         sys.exit(run_once(words))
+    if sys.stderr.isatty():
+        from pimtext import hints
+        sys.exit(hints.run(path, words))
     os.execv(path, [path, *words])

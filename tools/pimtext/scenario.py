@@ -6,6 +6,7 @@ from __future__ import annotations
 
 import functools
 import json
+import re
 import subprocess
 import sys
 from collections.abc import Iterable
@@ -192,6 +193,20 @@ def text_of_rows(routers: Iterable[dict[str, Any]], texts: Iterable[str]) -> str
 
 def text_of(routers: Iterable[dict[str, Any]], moves: Iterable[dict[str, Any]]) -> str:
     return text_of_rows(routers, map(line_of, moves))
+
+
+# ---- names of hosts, in comments, since the format has no key for them
+
+HOST = re.compile(r"^# host (\d+\.\d+\.\d+\.\d+) (\S.*?)\s*$", re.MULTILINE)
+
+
+def hosts_in(text: str) -> dict[str, str]:
+    """The names of hosts by address, of lines `# host ADDRESS NAME`."""
+    return dict(HOST.findall(text))
+
+
+def hosts_text(hosts: dict[str, str]) -> str:
+    return "".join(f"# host {address} {name}\n" for address, name in hosts.items())
 
 
 # ---- played

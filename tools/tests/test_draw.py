@@ -59,7 +59,10 @@ class Drawn(unittest.TestCase):
     def test_a_large_network_is_laid_out_by_distance(self):
         self.assertNotIn("layout=neato", self.drawn(FIRST_SCENARIO.read_text()))
         routers = [networks.router(f"r{number}", [("a", f"10.0.0.{number + 1}/24")]) for number in range(30)]
-        self.assertIn("layout=neato", self.drawn(scenario.text_of(routers, [])))
+        routers[0]["rps"] = ["239.0.0.0/8 10.0.0.1"]
+        text = self.drawn(scenario.text_of(routers, []))
+        self.assertIn("layout=neato", text)
+        self.assertIn('label="r0\\nRP"', text)
 
 
 @unittest.skipUnless(shutil.which("neato"), "Graphviz isn't installed")

@@ -24,7 +24,7 @@ from pimtext.addresses import address_in, is_host, prefix_in
 from pimtext.diagnosis import Diagnosis
 from pimtext.faults import ROUTER_KEYS, LateJudge, faults_of
 from pimtext.printed import ANY
-from pimtext.scenario import scenario_of, text_of
+from pimtext.scenario import hosts_text, scenario_of, text_of
 
 if TYPE_CHECKING:
     from lab.playing import Batch
@@ -419,7 +419,8 @@ class Network:
     def scenario(self) -> str:
         """The text of the scenario that was played, for `pimlab` and the other tools."""
         played = self.played()[0]
-        return text_of((router.table for router in played.routers), played.moves)
+        names = hosts_text({host.address: host.name for host in self.hosts.values()})
+        return names + text_of((router.table for router in played.routers), played.moves)
 
     def save(self, path: str | Path) -> None:
         """Writes it to a file."""
