@@ -120,6 +120,20 @@ mod tests {
     }
 
     #[test]
+    fn the_hardened_configuration_of_the_guide_leaves_nothing_open() {
+        let path = concat!(env!("CARGO_MANIFEST_DIR"), "/../docs/LINUX.md");
+        let guide = std::fs::read_to_string(path).expect(path);
+        let part = guide.split("### A hardened configuration").nth(1).expect("it is there");
+        let code = part.lines().skip_while(|line| !line.starts_with("    "));
+        let code = code.take_while(|line| line.is_empty() || line.starts_with("    "));
+        let text: String = code.map(|line| format!("{}\n", line.trim())).collect();
+        let settings = read(&text).expect("nothing is wrong");
+        assert_eq!((settings.interfaces.len(), settings.rps.len()), (2, 1));
+        assert!(!settings.interfaces.iter().any(is_open) && settings.policy.register.0.is_some());
+        assert!(of_the_file(&settings).is_empty());
+    }
+
+    #[test]
     fn what_the_machine_lacks_is_noted() {
         let group = |name: &str| format!("socket_group = \"{name}\"\n{TWO}");
         let own = Group::from_gid(nix::unistd::getgid()).expect("it is read").expect("it is there").name;

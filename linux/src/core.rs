@@ -69,6 +69,8 @@ pub struct Core {
     /// How often memory was refused for a table that was to be read.
     pub refused_memory: u64,
     recorder: Option<Recorder>,
+    /// The next moment, where nothing happened since it was asked for.
+    next: Option<Option<u64>>,
 }
 
 /// As far as the library is told when its router is made, or goes on with another configuration.
@@ -116,6 +118,7 @@ impl Core {
             speech: BTreeMap::new(),
             refused_memory: 0,
             recorder: None,
+            next: None,
         })
     }
 
@@ -176,6 +179,7 @@ impl Core {
     /// How an interface speaks IGMP from here on. Where it is to hear other older hosts, those are forgotten that were
     /// heard there. One that the router doesn't have, since it refused another configuration, is left out.
     pub fn speak(&mut self, iface: u32, wanted: Speech) -> Result<(), Fatal> {
+        self.next = None;
         let told = self.speech.entry(iface).or_insert(Speech::NEW);
         let mut answer = Ok(());
         let mut set = Vec::new();
@@ -209,6 +213,7 @@ impl Core {
         interfaces: &[viqeshor::Interface],
         routes: &[Route],
     ) -> Result<Answer, Fatal> {
+        self.next = None;
         let draw = self.draws.next_u32();
         let (given, ranges) = (settings_of(settings), ranges_of(&settings.rps));
         let done = self.router.reload(&given, interfaces, routes, &ranges, draw);
@@ -239,6 +244,7 @@ impl Core {
 
     /// An event, by a number of its own.
     pub fn take(&mut self, event: Event) -> Result<Answer, Fatal> {
+        self.next = None;
         let draw = self.draw(&event);
         let router = &mut self.router;
         let verdict = match event {
@@ -265,7 +271,8 @@ impl Core {
 
     /// In ms; `None` where no timer runs.
     pub fn next_moment(&mut self) -> Option<u64> {
-        self.router.next_moment()
+        let router = &self.router;
+        *self.next.get_or_insert_with(|| router.next_moment())
     }
 
     /// Whether no packet is to leave after the last event.
@@ -301,6 +308,7 @@ impl Core {
     /// The kernel forwarded a packet of a source at a moment, in ms. It tells whether the source's keepalive timer
     /// runs.
     pub fn keep(&mut self, key: Key, moment: u64) -> Result<bool, Fatal> {
+        self.next = None;
         let runs = self.router.keep(key.source, key.group, moment)?;
         if let Some(recorder) = &mut self.recorder {
             let written = recorder.kept(key, moment, runs);

@@ -364,6 +364,9 @@ impl Policy {
             Some(message) if Some(message.to) == own && message.holdtime > 0 => message,
             _ => return Some(packet.bytes().into()),
         };
+        if self.is_known(iface, &message.entries) {
+            return Some(packet.bytes().into());
+        }
         self.read_for_joins(books, iface, &message.entries);
         let count = message.entries.len();
         let mut kept = Vec::new();
@@ -380,6 +383,14 @@ impl Policy {
             0 => None,
             _ => Some(split::with_entries(packet, &kept).into()),
         }
+    }
+
+    /// Whether no list is to be asked, and all that makes state is held: a refresh.
+    fn is_known(&self, iface: u32, entries: &[split::Entry]) -> bool {
+        let has_list = self.gates.get(&iface).map_or(true, |gate| gate.policy.join.0.is_some());
+        let joins = self.held.get(&iface).map(|held| &held.joins);
+        let is_held = |entry: &split::Entry| joins.map_or(false, |joins| joins.contains(&entry.key));
+        !has_list && entries.iter().all(|entry| !entry.makes_state() || is_held(entry))
     }
 
     fn read_for_joins(&mut self, books: &mut dyn Books, iface: u32, entries: &[split::Entry]) {

@@ -941,6 +941,11 @@ mod tests {
     }
 
     #[test]
+    fn the_file_of_the_package_is_read() {
+        assert!(read(include_str!("../viqeshord.toml")).is_ok());
+    }
+
+    #[test]
     fn what_is_left_out_is_usual() {
         let it = read(SMALL).unwrap();
         assert_eq!(

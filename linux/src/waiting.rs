@@ -115,9 +115,9 @@ mod tests {
         let prefix: Ipv4Addr = prefix.parse().unwrap();
         let next_hop = Ipv4Addr::new(10, 0, next_hop / 10, next_hop % 10);
         Route {
-            prefix: prefix.into(),
+            prefix,
             length: length.parse().unwrap(),
-            next_hop: next_hop.into(),
+            next_hop,
             iface: u32::from(next_hop.octets()[2]),
             preference: 1,
             metric: 2,

@@ -94,7 +94,13 @@ pub struct Links {
 struct Batch {
     /// For one packet after the other. The kernel writes into it, so what no long packet came to takes no memory.
     room: Vec<u8>,
+    from: Vec<libc::sockaddr_ll>,
+    /// Of which each names its part of the room, and its address; neither moves.
+    _places: Vec<libc::iovec>,
+    messages: Vec<libc::mmsghdr>,
     read: VecDeque<(u32, Vec<u8>)>,
+    /// Nothing else waited when it was read last.
+    is_drained: bool,
 }
 
 impl Batch {
@@ -103,37 +109,51 @@ impl Batch {
     const LONGEST: usize = 65_536;
 
     fn new() -> Batch {
-        Batch { room: vec![0; Batch::MOST * Batch::LONGEST], read: VecDeque::new() }
-    }
-
-    /// Reads what waits at a packet socket, with the kernel's numbers of the interfaces.
-    fn fill(&mut self, socket: &Socket) -> io::Result<()> {
+        let mut room = vec![0; Batch::MOST * Batch::LONGEST];
         // SAFETY: all-zero bytes are values of both.
-        let mut from: [libc::sockaddr_ll; Batch::MOST] = unsafe { zeroed() };
-        let mut places: [libc::iovec; Batch::MOST] = unsafe { zeroed() };
-        let mut messages: [libc::mmsghdr; Batch::MOST] = unsafe { zeroed() };
-        let parts = self.room.chunks_mut(Batch::LONGEST).zip(&mut from).zip(&mut places).zip(&mut messages);
-        for (((part, from), place), message) in parts {
-            *place = libc::iovec { iov_base: part.as_mut_ptr().cast(), iov_len: part.len() };
+        let mut from: Vec<libc::sockaddr_ll> = vec![unsafe { zeroed() }; Batch::MOST];
+        let mut messages: Vec<libc::mmsghdr> = vec![unsafe { zeroed() }; Batch::MOST];
+        let parts = room.chunks_mut(Batch::LONGEST);
+        let place = |part: &mut [u8]| libc::iovec { iov_base: part.as_mut_ptr().cast(), iov_len: part.len() };
+        let mut places: Vec<_> = parts.map(place).collect();
+        for ((message, place), from) in messages.iter_mut().zip(&mut places).zip(&mut from) {
             let from: *mut libc::sockaddr_ll = from;
             message.msg_hdr.msg_name = from.cast();
             message.msg_hdr.msg_namelen = size_of::<libc::sockaddr_ll>() as libc::socklen_t;
             message.msg_hdr.msg_iov = place;
             message.msg_hdr.msg_iovlen = 1;
         }
-        // SAFETY: each message has an address, and a part of the room, of its own, all of which live on.
+        Batch { room, from, _places: places, messages, read: VecDeque::new(), is_drained: false }
+    }
+
+    /// The next packet that waits at a packet socket, with the kernel's number of its interface. After the last one that
+    /// waited there is none, once.
+    fn next(&mut self, socket: &Socket) -> io::Result<Option<(u32, Vec<u8>)>> {
+        if self.read.is_empty() && !std::mem::take(&mut self.is_drained) {
+            self.fill(socket)?;
+        }
+        Ok(self.read.pop_front())
+    }
+
+    fn fill(&mut self, socket: &Socket) -> io::Result<()> {
+        // SAFETY: each message names an address, a place and a part of the room of its own, all of which are there.
         let count = unsafe {
-            let most = Batch::MOST as libc::c_uint;
-            libc::recvmmsg(socket.as_raw_fd(), messages.as_mut_ptr(), most, libc::MSG_DONTWAIT, std::ptr::null_mut())
+            let (messages, most) = (self.messages.as_mut_ptr(), Batch::MOST as libc::c_uint);
+            libc::recvmmsg(socket.as_raw_fd(), messages, most, libc::MSG_DONTWAIT, std::ptr::null_mut())
         };
         if count < 0 {
             let error = io::Error::last_os_error();
             return if error.kind() == io::ErrorKind::WouldBlock { Ok(()) } else { Err(error) };
         }
-        let parts = self.room.chunks(Batch::LONGEST).zip(&from).zip(&messages).take(count as usize);
-        let found =
-            parts.map(|((part, from), message)| (from.sll_ifindex as u32, part[..message.msg_len as usize].to_vec()));
-        self.read.extend(found);
+        let count = count as usize;
+        self.is_drained = count < Batch::MOST;
+        for number in 0..count {
+            let message = &mut self.messages[number];
+            message.msg_hdr.msg_namelen = size_of::<libc::sockaddr_ll>() as libc::socklen_t;
+            let at = number * Batch::LONGEST;
+            let packet = self.room[at..at + message.msg_len as usize].to_vec();
+            self.read.push_back((self.from[number].sll_ifindex as u32, packet));
+        }
         Ok(())
     }
 }
@@ -202,10 +222,7 @@ impl Links {
 
     /// The next packet, with the kernel's number of its interface.
     pub fn hear(&mut self) -> io::Result<Option<(u32, Vec<u8>)>> {
-        if self.batch.read.is_empty() {
-            self.batch.fill(&self.socket)?;
-        }
-        Ok(self.batch.read.pop_front())
+        self.batch.next(&self.socket)
     }
 
     /// Whether packets were received that nobody has heard.

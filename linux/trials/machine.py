@@ -296,4 +296,5 @@ def show_while_the_router_works(net: Network) -> str:
 
 
 TRIALS = [without_services, late_address, no_address_at_start, interface_that_comes, settings_under_a_stream,
-          settings_at_the_rp, interfaces_under_a_stream, kernel_without_memory, vxlan_and_next_hop_objects, show_while_the_router_works]
+          settings_at_the_rp, interfaces_under_a_stream, kernel_without_memory, vxlan_and_next_hop_objects,
+          show_while_the_router_works]

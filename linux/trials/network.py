@@ -107,6 +107,8 @@ class Network:
     def __init__(self, built: Path, room: Path, is_logged: bool) -> None:
         self.built, self.room, self.is_logged = built, room, is_logged
         self.running, self.router, self.pimd = [], None, {}
+        # The router's socket for those that ask.
+        self.control = room / "router" / "control"
 
     # ---- namespaces
 
@@ -221,8 +223,7 @@ class Network:
 
     def show(self, topic: str, *about: str) -> list[dict[str, Any]]:
         """What `viqeshord show` prints, as rows; none where the router doesn't answer."""
-        socket = self.room / "router" / "control"
-        words = [self.built / "viqeshord", "show", topic, *about, "--json", "--socket", socket]
+        words = [self.built / "viqeshord", "show", topic, *about, "--json", "--socket", self.control]
         said = subprocess.run(list(map(str, words)), capture_output=True, text=True)
         return json.loads(said.stdout)[topic] if said.returncode == 0 else []
 

@@ -181,6 +181,22 @@ def imported(net: Network) -> str:
     return f"{came} of {of} came, {twice} twice"
 
 
+def priorities(net: Network) -> str:
+    """where standard error is the journal, which JOURNAL_STREAM names, each line begins with its priority"""
+    net.stop_router()
+    before, log = len(net.log().splitlines()), os.stat(net.room / "router.log")
+    net.start_router('socket_group = "vq-no-such-group"\n', environment=[f"JOURNAL_STREAM={log.st_dev}:{log.st_ino}"])
+    net.stop_router()
+    said = net.log().splitlines()[before:]
+    numbers = {"error": "<3>", "warn": "<4>", "info": "<6>", "debug": "<7>"}
+    wrong = [line for line in said if not line.startswith(numbers.get(line.split()[1], "none"))]
+    warnings = [line for line in said if line.startswith("<4>")]
+    net.start_router()
+    if wrong or not warnings:
+        raise Failed(f"{len(warnings)} warnings, and lines without a priority: {wrong[:3]}")
+    return f"{len(said)} lines, {len(warnings)} of them warnings"
+
+
 TOPICS = ("why", "mroute", "igmp", "upstream")
 
 
@@ -217,4 +233,5 @@ def show_of_many_groups(net: Network) -> str:
     return f"{'; '.join(said)}; one group of 60,000 " + ", ".join(f"{after:.2f}" for after, _ in of_one) + " s"
 
 
-TRIALS = [metrics, shown_beside_frr, watch, clear, socket_of_a_group, imported, show_of_many_groups]
+TRIALS = [metrics, shown_beside_frr, watch, clear, socket_of_a_group, imported, priorities,
+          show_of_many_groups]

@@ -261,7 +261,7 @@ def killed(net: Network) -> str:
 
 
 def restarted(net: Network) -> str:
-    """a restart (SIGUSR1, as `systemctl restart` sends it): no packet is lost, none comes twice, no neighbour notices"""
+    """a restart (SIGUSR1, as `systemctl restart` sends it): no packet is lost or comes twice, no neighbour notices"""
     before, times = generation(net), []
     told = net.room / "manager.log"
     starts = len(told.read_text().splitlines())

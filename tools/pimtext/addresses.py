@@ -8,7 +8,7 @@ from __future__ import annotations
 import functools
 import ipaddress
 import re
-from collections.abc import Iterable
+from collections.abc import Iterable, Iterator, Sequence
 from dataclasses import dataclass
 from ipaddress import IPv4Address, IPv4Network
 from typing import TypeVar
@@ -95,9 +95,37 @@ class Route:
     metric: int = 0
 
 
-def routes_of(texts: Iterable[str]) -> list[Route]:
+class Routes(Sequence):
+    """Routes that are read once somebody looks at them: a network of 1,000 routers has a million."""
+
+    def __init__(self, texts: Sequence[str]) -> None:
+        self.texts = texts
+
+    @functools.cached_property
+    def all(self) -> list[Route]:
+        return [Route(network_of(prefix), *rest) for prefix, *rest in map(route_words, self.texts)]
+
+    def __len__(self) -> int:
+        return len(self.texts)
+
+    def __getitem__(self, place: int) -> Route:
+        return self.all[place]
+
+    def __iter__(self) -> Iterator[Route]:
+        return iter(self.all)
+
+    def __eq__(self, other: object) -> bool:
+        return isinstance(other, Sequence) and self.all == list(other)
+
+    __hash__ = None
+
+
+network_of = functools.lru_cache(maxsize=65536)(IPv4Network)
+
+
+def routes_of(texts: Sequence[str]) -> Routes:
     """Routes that the program has taken."""
-    return [Route(IPv4Network(prefix), *rest) for prefix, *rest in map(route_words, texts)]
+    return Routes(texts)
 
 
 def ranges_of(texts: Iterable[str]) -> list[tuple[IPv4Network, str]]:

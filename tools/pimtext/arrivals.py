@@ -48,6 +48,8 @@ class Arrivals:
         self.follow_wishes()
         for host in self.hosts.values():
             host.events.sort(key=lambda event: event[0])
+        events = (event for host in self.hosts.values() for event in host.events)
+        self.missed = sorted(at for at, _, state, _ in events if state == MISSED)
 
     # ---- who is there
 

@@ -6,7 +6,9 @@ tried in a process of its own, which begins where the file ended.
 """
 from __future__ import annotations
 
+import json
 import multiprocessing
+import signal
 from collections import Counter
 from collections.abc import Iterable, Iterator
 from dataclasses import dataclass, field
@@ -212,16 +214,18 @@ class Trial:
 CURRENT = None
 
 
-def alone(method: str, failure: Failure | None) -> Any:
-    return getattr(CURRENT, method)(failure)
-
-
-def each_alone(trial: Trial, method: str, chosen: Iterable[Failure | None], jobs: int) -> Iterator[Any]:
-    """What a method of a trial answers to each failure, in their order, each in a process of its own."""
+def each_alone(trial: Trial, method: str, chosen: Iterable[Failure | None], jobs: int) -> Iterator[tuple[int, Any]]:
+    """What a method of a trial answers to each failure, with the failure's place, as soon as it is there: each in a
+    process of its own."""
     global CURRENT
     CURRENT = trial
-    with multiprocessing.get_context("fork").Pool(jobs, maxtasksperchild=1) as pool:
-        yield from pool.imap(Task(method), chosen, chunksize=1)
+    with multiprocessing.get_context("fork").Pool(jobs, undisturbed, maxtasksperchild=1) as pool:
+        yield from pool.imap_unordered(Task(method), enumerate(chosen), chunksize=1)
+
+
+def undisturbed() -> None:
+    """Ctrl-c is for whoever handed out the work."""
+    signal.signal(signal.SIGINT, signal.SIG_IGN)
 
 
 @dataclass(frozen=True)
@@ -229,5 +233,19 @@ class Task:
     """A call that a process is handed."""
     method: str
 
-    def __call__(self, failure: Failure | None) -> Any:
-        return alone(self.method, failure)
+    def __call__(self, placed: tuple[int, Failure | None]) -> tuple[int, Any]:
+        place, failure = placed
+        return place, getattr(CURRENT, self.method)(failure)
+
+
+# ---- outages as text, for a run of a process elsewhere
+
+
+def text_of(effect: Effect) -> str:
+    return json.dumps([[each.host, each.stream.source, each.stream.group, each.sent, each.came, each.is_cut_off]
+                       for each in effect.outages])
+
+
+def effect_of(failure: Failure | None, text: str) -> Effect:
+    return Effect(failure, [Outage(host, Stream(source, group), *rest) for host, source, group, *rest
+                            in json.loads(text)])

@@ -1,5 +1,5 @@
-"""How long the gate takes by what its tasks take: its longest chain, and its time on some processors, as the kit's lanes
-run tasks (a processor a task, first those with the longest chain behind them; edits fill what proofs leave free)."""
+"""How long the gate takes by what its tasks take: its longest chain, and its time on some processors, as the kit's
+lanes run tasks (a processor a task, first those with the longest chain behind them; edits fill what proofs leave)."""
 from __future__ import annotations
 
 import heapq

@@ -103,9 +103,12 @@ class Gaps:
             return False
         links = {self.link(port) for port in gap.ports}
         if each.kind == "no neighbour":
-            return self.is_port(each, gap, links) and (each.at <= gap.ended or self.is_unmet(each, gap))
+            return self.is_port(each, gap, links) and (
+                each.at <= gap.ended or self.is_unmet(each, gap, each.address))
         if each.kind == "no join":
             return self.interfaces.is_used(each, links, gap.began) and self.is_unjoined(each, gap)
+        if each.kind == "odd" and each.cause == "NoNeighbour":
+            return each.link in links and self.is_unmet(each, gap, each.host)
         if each.at > gap.ended:
             return False
         if each.kind == "no route":
@@ -123,11 +126,11 @@ class Gaps:
         """Whether the address of a symptom is that of an interface that was down."""
         return any(self.known[name].router.address(number) == each.address for name, number in gap.ports)
 
-    def is_unmet(self, each: Symptom, gap: Gap) -> bool:
+    def is_unmet(self, each: Symptom, gap: Gap, address: str | None) -> bool:
         """Whether a neighbour that was known before a gap isn't known since."""
         def knows(at: int) -> bool:
             state = self.run.past.known(at)[each.router]
-            return any(state.link(row.iface) == each.link for row in state.of(printed.Neighbour, address=each.address))
+            return any(state.link(row.iface) == each.link for row in state.of(printed.Neighbour, address=address))
         return knows(gap.began) and not knows(each.at)
 
     def is_unjoined(self, each: Symptom, gap: Gap) -> bool:
@@ -136,4 +139,4 @@ class Gaps:
         joins = [sent for sent, body in said if names_group(body, each.group, True)]
         came = [self.run.wire.answer(sent, each.router) for sent in joins]
         later = {id(step) for step in self.run.steps[gap.ended:each.at]}
-        return not any(step is not None and id(step) in later for step in came)
+        return not any(step is not None and id(step) in later and step.verdict == "done" for step in came)

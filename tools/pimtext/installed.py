@@ -1,5 +1,7 @@
-"""Says which Debian packages of tools/packages.txt aren't there, by what they give."""
+"""Says which Debian packages of tools/packages.txt aren't there, by what they give, and whether Rust is too old."""
+import re
 import shutil
+import subprocess
 import sys
 from pathlib import Path
 
@@ -11,6 +13,10 @@ GIVES = {
     "pkg-config": "pkg-config", "pyflakes3": "pyflakes3", "rust-clippy": "cargo-clippy", "rustc": "rustc",
     "rustfmt": "rustfmt", "tshark": "tshark", "valgrind": "valgrind",
 }
+
+
+# The daemon and the Rust crate are compiled by Rust 1.63 too, which Debian 12 has, and tools/bench by this one.
+RUST = (1, 85)
 
 
 def packages() -> list[str]:
@@ -25,11 +31,22 @@ def is_there(package: str) -> bool:
     return any(Path("/").glob(CRATE.format(crate)))
 
 
+def is_old(said: str) -> bool:
+    """Whether `rustc --version` says an older version than is wanted."""
+    found = re.search(r"rustc (\d+)\.(\d+)", said)
+    return found is not None and (int(found[1]), int(found[2])) < RUST
+
+
 def main() -> int:
     missing = [package for package in packages() if not is_there(package)]
     if missing:
         print(f"these packages aren't installed: apt-get install {' '.join(missing)}")
-    return bool(missing)
+        return 1
+    said = subprocess.run(["rustc", "--version"], stdout=subprocess.PIPE, text=True).stdout
+    if is_old(said):
+        print(f"{said.strip()} is older than {'.'.join(map(str, RUST))}, which tools/bench wants: https://rustup.rs")
+        return 1
+    return 0
 
 
 if __name__ == "__main__":

@@ -111,7 +111,8 @@ class Interfaces:
         for name, interface in every:
             if (name, interface.number) not in self.turns:
                 told = f": interface {interface.number} (link {interface.link}) never goes up: it needs a move `up`"
-                yield Cause(*self.run.at_router(name, told), self.of_interface(name, interface))
+                value = lambda each, number=interface.number: each.interface(number)
+                yield Cause(*self.run.at_setting(name, told, value), self.of_interface(name, interface))
 
     # ---- what follows where an interface is down
 

@@ -25,6 +25,8 @@ def network(path: str | Path) -> Network:
         nets = [net for net in made() if kept and net.player]
     except OSError as error:
         sys.exit(f"{path} can't be read: {error.strerror}")
+    except (SyntaxError, UnicodeDecodeError) as error:
+        sys.exit(f"{path} is no file of tools/lab, which is in Python: {error}")
     except lab.Mistake as error:
         sys.exit(f"{path}: {error}")
     except AssertionError:

@@ -109,8 +109,10 @@ class Mistakes:
         pairs = ((rp, group) for group in self.run.groups() for rp in sorted(self.run.rps_of(group)))
         for rp, groups in gathered(pair for pair in pairs if self.world.owner(pair[0]) is None).items():
             name = next(name for name, state in self.known.items() if asked.rp_of(state, groups[0]) == rp)
-            told = f": no router has the address {rp}, the RP of {some(groups)}"
-            yield Cause(*self.run.at_router(name, told), self.of_address(rp), is_hint=True)
+            told, one = f": no router has the address {rp}, the RP of {some(groups)}", groups[0]
+            told = f"{told}{self.elsewhere(rp)}"
+            where = self.run.at_setting(name, told, lambda each, group=one: each.rp(group))
+            yield Cause(*where, self.of_address(rp), is_hint=True)
 
     @staticmethod
     def of_address(address: str) -> Callable[[Symptom], bool]:
@@ -139,7 +141,8 @@ class Mistakes:
             return is_own or is_there or (is_rp and (each.router in names or each.address == address))
 
         text = f": {address} is the address of two interfaces, {where}: {what}"
-        return Cause(*self.run.at_router(names[-1], text), covers)
+        value = lambda each: each.interface(ports[-1][1].number)
+        return Cause(*self.run.at_setting(names[-1], text, value), covers)
 
     def host_addresses(self) -> Iterator[Cause]:
         """A host's address is no router's."""

@@ -326,12 +326,14 @@ class Outages:
         return Cause(*self.run.at_router(name, told), covers)
 
     def full(self, name: str, found: list[tuple[int, Step]]) -> Cause:
-        most = self.known[name].router.table.get("limit", 65536)
+        settings, value = self.run.settings, lambda each: each.router.table.get("limit", 65536)
+        most, since = value(settings.at(name, found[0][0])), settings.since(name, value, found[0][0])
         held = self.run.held(found[0][0], name)
         what = ", ".join(times(count, COUNTED[table]) for table, count in held.items()) or "none"
         first = f"when it first refused a message that needs more than there is room for, in move {found[0][1].move}"
         count = f"{times(len(found), 'message')} {'was' if len(found) == 1 else 'were'} refused 24 (Full)"
-        told = f": its limit is {most}, and it held {sum(held.values())} facts ({what}) {first}; {count}"
+        when = f" ({settings.words(since)})" if since.began else ""
+        told = f": its limit is {most}{when}, and it held {sum(held.values())} facts ({what}) {first}; {count}"
         groups = {group for _, step in found for group in groups_of(step)}
         greeted = {packets.dotted(step.taken()[12:16]) for _,
             step in found if packets.is_pim(step.taken(), packets.HELLO)}
@@ -342,7 +344,7 @@ class Outages:
             is_stranger = each.kind == "no neighbour" and each.address in greeted
             return each.router == name and (is_refused or is_unknown or is_stranger)
 
-        return Cause(*self.run.at_router(name, told + self.taken_along(found)), covers)
+        return Cause(settings.line(name, since), f"router {name}{told}{self.taken_along(found)}", covers)
 
     def taken_along(self, found: list[tuple[int, Step]]) -> str:
         """What the refused messages said again of the router's facts."""

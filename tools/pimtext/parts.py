@@ -13,9 +13,10 @@ STRICT = ("--all-targets", "--", "-D", "warnings")
 BUILD = "build"
 INSTALLED = TOP / "out" / "quick" / "installed"
 # The tests that take longest, which begin first; and those that want neither the program nor the library.
-LONG = ("why", "lab", "pimlab", "unproved", "mroute", "usual_mistakes", "recorded", "play")
-ALONE = ("check_counts", "check_docs", "cited", "copies", "crates_table", "gate", "hostile", "lint", "packets", "rt",
-    "spoils", "told", "try_all", "try_edits", "unused", "wrong_definitions")
+LONG = ("embed", "check_counts", "why", "lab", "pimlab", "unproved", "mroute", "usual_mistakes", "recorded", "play")
+ALONE = ("beside", "check_counts", "check_docs", "cited", "copies", "crates_table", "edits", "embed", "gate",
+    "gate_times", "hostile", "lint", "packets", "rt", "spoils", "together", "told", "try_all", "try_edits", "unused",
+    "wrong_definitions")
 
 
 @dataclass(frozen=True)
@@ -46,8 +47,8 @@ def alone_first() -> Iterator[Part]:
     yield tool("front", alone=True)
     for name in ("test_bytes", "igmp_older_runs"):
         yield Part(name, ("rt", "try", "--test"), f"crates/{name}", alone=True)
-    yield Part("embed", ("rt", "try"), "crates/embed", alone=True)
-    for words in ("unused", "cited --check", "check_counts", "crates_table --check", "lint"):
+    for words in ("unused", "cited --check", "check_counts", "crates_table --check", "bundle_definitions --check",
+                  "lint", "try_edits --front --changed"):
         yield tool(words, alone=True)
     yield Part("linux_layout", ("cargo", "fmt", "--check"), "linux", alone=True)
     yield Part("rust_layout", ("cargo", "fmt", "--check"), "bindings/rust", alone=True)
@@ -88,7 +89,7 @@ def parts() -> list[Part]:
         tool("restarted --unproved --runs 10 --spoilt 20 --facts 1000"),
         tool("plane --unproved --runs 100"),
         tool("refuse_memory --unproved --seconds 20"),
-        tool("refuse_program --every 100"),
+        tool("refuse_program --every 10"),
         *benches(),
         Part("rust_lint", ("cargo", "clippy", "--offline", *STRICT), "bindings/rust"),
     ]

@@ -23,19 +23,21 @@ FOLDER = Path(__file__).resolve().parent / "page"
 SCRIPTS = ["run.js", "map.js", "panels.js", "play.js"]
 # A map is so many times as wide as it is high; two share the height.
 WIDE = 1.7
+# A run of more moves is shown by time, where nothing else is asked for.
+MANY_MOVES = 500
 
 
 @dataclass
 class Told:
     """A run to be shown: its name, the text of its scenario, and of a network of tools/lab the names of hosts by
     address, the lines of its file, what hosts didn't hear, and what was played. Where it is by time, a stop of the
-    slider is all moves of one time."""
+    slider is all moves of one time; where that is None, in a run of many moves."""
     name: str
     text: str
     hosts: dict = field(default_factory=dict)
     places: Lines | None = None
     unheard: frozenset = frozenset()
-    is_by_time: bool = False
+    is_by_time: bool | None = None
     played: tuple[scenario.Scenario, story.Story] | None = None
 
     def read(self) -> tuple[faults.Judge | faults.LateJudge, scenario.Scenario, story.Story]:
@@ -64,7 +66,8 @@ def run_of(told: Told) -> dict[str, Any]:
     """What the page has of a run. Raises scenario.Refused where the program doesn't play it."""
     judge, played, run = told.read()
     found = diagnosis.Diagnosis(judge, played, run, told.places, told.unheard)
-    recording = recorded.Recording(played, told.hosts, told.is_by_time).record(run.steps)
+    is_by_time = len(played.moves) > MANY_MOVES if told.is_by_time is None else told.is_by_time
+    recording = recorded.Recording(played, told.hosts, is_by_time).record(run.steps)
     shown = recording.told(found)
     return {"name": told.name, "notes": list(notes_of(found, shown.pop("numbers"), recording.named)), **shown}
 

@@ -8,6 +8,8 @@ real ones, MARK seconds and its place.
 from __future__ import annotations
 
 import re
+from bisect import bisect_right
+from collections import Counter
 from collections.abc import Iterable, Iterator
 from dataclasses import dataclass, field, replace
 from functools import cache, lru_cache
@@ -302,21 +304,40 @@ class Recording:
         return [self.text(title), first, count, moment, said]
 
     def summary(self, numbers: list[int], said: list[list[int]]) -> str:
-        """What happened at one time."""
-        hosts, dids = list(self.arrivals.hosts.values()), [self.played.moves[number] for number in numbers]
-        told = [f"{hosts[host].name} {self.verb(self.steps[at])}" for host, at in said]
-        told += [f"{did['router']}: {words.place(self.played.router(did['router']), did['iface'])} {did['do']}"
-                 for did in dids if did["do"] in ("up", "down")]
+        """What happened at one time: first what fails and what changes, then how many hosts speak."""
+        dids = [self.played.moves[number] for number in numbers]
+        told = list(self.missed(numbers))
+        turned = {verb: [f"{did['router']} {words.place(self.played.router(did['router']), did['iface'])}"
+                         for did in dids if did["do"] == verb] for verb in ("down", "up")}
+        told += [f"{named(whose, 'interfaces', 2)} {verb}" for verb, whose in turned.items() if whose]
+        for do, what in (("restart", "restarts"), ("reload", "gets another configuration")):
+            told += [f"{did['router']} {what}" for did in dids if did["do"] == do]
         changed = sorted({did["router"] for did in dids if did["do"] in ("routes", "rps")})
-        told += [f"new routes or RPs at {', '.join(changed[:3])}{' ..' * (len(changed) > 3)}"] * bool(changed)
+        told += [f"new routes or RPs at {named(changed, 'routers')}"] * bool(changed)
+        told += self.spoken(said)
         brought = sum(self.moves[number][1] for number in numbers
                       if self.played.moves[number]["do"] in ("settle", "deliver", "carry"))
         told += [deliveries(brought)] * bool(brought)
-        told = list(dict.fromkeys(told))
         return words.seconds(self.moves[numbers[-1]][2]).replace(".000", "") + (": " + "; ".join(told) if told else "")
 
-    def verb(self, step: list[Any]) -> str:
-        return "sends" if ": data" in self.text.all[step[9]] else "reports"
+    def missed(self, numbers: list[int]) -> Iterator[str]:
+        """How many packets hosts missed, and what routers refused or ignored."""
+        first = self.moves[numbers[0]][0]
+        end = first + sum(self.moves[number][1] for number in numbers)
+        count = bisect_right(self.arrivals.missed, end) - bisect_right(self.arrivals.missed, first)
+        if count:
+            yield f"{count} packet{'s' * (count > 1)} missed"
+        odd = Counter(self.text.all[step[8] - 1] for step in self.steps[first:end] if step[8])
+        yield from (f"{text} {count} times" if count > 1 else text for text, count in odd.items())
+
+    def spoken(self, said: list[list[int]]) -> list[str]:
+        """Which hosts sent and reported, or how many."""
+        hosts, found = list(self.arrivals.hosts.values()), {True: {}, False: {}}
+        for host, at in said:
+            found[": data" in self.text.all[self.steps[at][9]]].setdefault(hosts[host].name)
+        verbs = {True: ("sends", "sources send"), False: ("reports", "hosts report")}
+        return [f"{len(names)} {verbs[is_data][1]}" if len(names) > 2 else f"{name} {verbs[is_data][0]}"
+                for is_data, names in found.items() for name in (list(names)[:1] if len(names) > 2 else names)]
 
     def told(self, diagnosis: Diagnosis) -> dict[str, Any]:
         """All of it with the diagnosis of the run, ready for JSON."""
@@ -331,6 +352,11 @@ class Recording:
             "shapes": [shape.all for shape in self.shapes], "trees": [list(tree) for tree in self.trees],
             "streams": self.arrivals.streams, "texts": self.text.all, "numbers": numbers, "byTime": self.is_by_time,
         }
+
+
+def named(names: list[str], what: str, most: int = 3) -> str:
+    """Some names, or how many they are."""
+    return ", ".join(names) if len(names) <= most else f"{len(names)} {what}"
 
 
 def deliveries(count: int) -> str:

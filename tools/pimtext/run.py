@@ -56,7 +56,10 @@ class Run:
         return self.settings.line(name, since), f"router {name}{text}" + (f": {when}" if when else "")
 
     def at_interface(self, router: str, number: int, text: str) -> tuple[int | Line, str]:
-        return self.lines.interface(router, number), f"router {router}, interface {number}: {text}"
+        since = self.settings.since(router, lambda each: each.interface(number))
+        when = self.settings.words(since)
+        line = self.lines.interface(router, number) if since.began is None else self.settings.line(router, since)
+        return line, f"router {router}, interface {number}: {text}" + (f": {when}" if when else "")
 
     def on_link(self, name: str, link: str | None) -> int | Line:
         """The line of a router's interface on a link, else of the router."""

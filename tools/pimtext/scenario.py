@@ -154,12 +154,11 @@ def scenario_of(tables: dict[str, Any]) -> Scenario:
 
 
 def read(path: str | Path) -> Scenario:
-    """The scenario of a file; ends the program with a line where it isn't there or isn't TOML."""
+    """The scenario of a file of any kind (pimtext.kinds); ends the program with a line where it makes none."""
+    from pimtext import kinds
     try:
-        return scenario_of(toml_lines.plain(toml_lines.read(Path(path).read_text("utf-8"))))
-    except OSError as reason:
-        sys.exit(f"{path} can't be read: {reason.strerror}")
-    except (toml_lines.Unreadable, UnicodeDecodeError) as reason:
+        return scenario_of(toml_lines.plain(toml_lines.read(kinds.text_of(path))))
+    except toml_lines.Unreadable as reason:
         sys.exit(f"{path} isn't TOML: {reason}")
     except (KeyError, ValueError, TypeError) as reason:
         sys.exit(f"{path} is no scenario ({reason}); tools/why {path} says what is wrong")
@@ -222,8 +221,11 @@ def run_each(text: str) -> list[str]:
 
 
 def run_file(path: str | Path) -> list[str]:
-    """The same of a file. What the program says on standard error stands there; its status ends this program."""
-    ran = subprocess.run([playing(), "run", path, "--tables"], stdout=subprocess.PIPE, text=True)
+    """The same of a file of any kind. What the program says on standard error stands there; its status ends this
+    program."""
+    from pimtext import kinds
+    words = [playing(), "run", "-", "--tables"]
+    ran = subprocess.run(words, input=kinds.text_of(path), stdout=subprocess.PIPE, text=True)
     if ran.returncode:
         sys.exit(ran.returncode)
     return ran.stdout.splitlines()

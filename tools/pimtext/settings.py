@@ -35,6 +35,13 @@ class Told:
     def route(self, address: str) -> Route | None:
         return longest([(each.prefix, each) for each in self.routes], ip_address(address))
 
+    def interface(self, number: int) -> str | None:
+        """An interface's address and link; None where the router has none of this number."""
+        if number >= len(self.router.interfaces):
+            return None
+        each = self.router.interfaces[number]
+        return f"{each.own} on {each.link}"
+
     def way(self, address: str) -> tuple[str, str | None] | None:
         """Where the route to an address leads: the next hop and the link."""
         found = self.route(address)

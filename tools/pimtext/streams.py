@@ -121,18 +121,21 @@ class Clocks:
         return max((moment for before, whose, moment in self.ticks if whose == router and before < at), default=0)
 
 
-def streams(
-    hosts: Hosts,
-    packets: list[Packet],
-    clock: Clocks,
-    unheard: frozenset[tuple[str, int] | tuple[str, bytes, int]] = frozenset(),
-) -> Iterator[Stream]:
-    """The stream of each host, group and source, in the order of the hosts. `unheard` has what a link lost on the way
-    to a host: the host's address with the number of a copy, or with the bytes and the moment of a source's own
-    packet."""
-    for key in hosts.told:
-        for source in sources_of(hosts, packets, key):
-            yield from of_source(hosts, packets, clock, key, source, unheard)
+@dataclass(frozen=True)
+class Ran:
+    """What streams are made of. `unheard` has what a link lost on the way to a host: the host's address with the number
+    of a copy, or with the bytes and the moment of a source's own packet."""
+    hosts: Hosts
+    packets: list[Packet]
+    clock: Clocks
+    unheard: frozenset[tuple[str, int] | tuple[str, bytes, int]] = frozenset()
+
+
+def streams(ran: Ran) -> Iterator[Stream]:
+    """The streams of each host, group and source, in the order of the hosts."""
+    for key in ran.hosts.told:
+        for source in sources_of(ran.hosts, ran.packets, key):
+            yield from of_source(ran, key, source)
 
 
 def sources_of(hosts: Hosts, packets: list[Packet], key: Key) -> list[str]:
@@ -150,24 +153,17 @@ def origins(packets: list[Packet], group: str, source: str) -> list[str | None]:
     return sorted(set(runs), key=runs.index) if len(set(runs)) < len(runs) and None not in runs else [None]
 
 
-def of_source(
-    hosts: Hosts,
-    packets: list[Packet],
-    clock: Clocks,
-    key: Key,
-    source: str,
-    unheard: frozenset[tuple[str, int] | tuple[str, bytes, int]] = frozenset(),
-) -> Iterator[Stream]:
+def of_source(ran: Ran, key: Key, source: str) -> Iterator[Stream]:
     """The streams of a source's address to a host that asks for a group on a link: one, but where several senders have
     the address."""
     host, group, link = key
-    for origin in origins(packets, group, source):
-        made = Stream(host, link, group, source, hosts.joined(key, source), clock, origin)
-        for packet in packets:
+    for origin in origins(ran.packets, group, source):
+        made = Stream(host, link, group, source, ran.hosts.joined(key, source), ran.clock, origin)
+        for packet in ran.packets:
             is_its = (packet.source, packet.group) == (source, group) and origin in (None, packet.link)
-            if is_its and hosts.wish(key, packet.at).has(source):
+            if is_its and ran.hosts.wish(key, packet.at).has(source):
                 made.packets.append(packet)
-                made.arrivals[packet] = arrivals(packet, host, link, unheard)
+                made.arrivals[packet] = arrivals(packet, host, link, ran.unheard)
         yield made
 
 

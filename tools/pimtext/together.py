@@ -28,7 +28,7 @@ Answer = tuple[str, str]
 BY_FRONT_END = re.compile(r"(src/\S+?):(\d+):\d+: error\[[\w-]+\]")
 # What the prover says of a function, and of one that it doesn't try.
 PROVED = re.compile(r"fn (\S+): proved")
-WAITS = re.compile(r"fn (\S+): not proved; it calls `")
+WAITS = re.compile(r"fn (\S+): (?:not proved|no proof)[;:] it calls `")
 # The last line of a check of some functions.
 ENDED = re.compile(r"only=\d+ ")
 CONSTANT = re.compile(r"\s*(?:pub(?:\([a-z]+\))? )?const (\w+):")
@@ -152,7 +152,8 @@ def by_front_end(batch: Batch, lines: list[str]) -> Told:
     """The front end's line on each edit that it refuses."""
     found: Told = {}
     for line in lines:
-        if told := BY_FRONT_END.match(line.removeprefix("note: ")):
+        told = BY_FRONT_END.match(line.removeprefix("note: "))
+        if told and told[1] in batch.crate.files:
             one: Found | None = batch.function_at(told[1], int(told[2]))
             if one and one.function in batch.of:
                 found.setdefault(batch.of[one.function], [(line, None)])
@@ -197,15 +198,18 @@ def in_state(batch: Batch, lines: list[str], state: re.Pattern[str]) -> set[Edit
 
 def put_together(batch: Batch, prover: Prover, anew: bool = False) -> Iterator[tuple[Edit, Answer]]:
     """What comes of each edit of a batch. Where the front end refuses some, the others are checked again without these;
-    so are those that the prover hasn't tried, since another edit of the batch was refused."""
+    so are those that the prover hasn't tried, since another edit of the batch was refused. Where the check doesn't come
+    to its end each is checked by itself."""
     while True:
         lines = prover.says(batch, sorted(map(path_of, batch.of)), anew)
         told, left = by_front_end(batch, lines), []
         if told:
             left = [edit for edit in batch.edits if edit not in told]
         elif not any(map(ENDED.match, lines)):
-            told = {edit: [] for edit in batch.edits}
-            yield from ((edit, ("not tried", (lines or ["it said nothing"])[-1])) for edit in told)
+            if len(batch.edits) == 1:
+                yield batch.edits[0], ("not tried", front_line(lines))
+            for edit in batch.edits if len(batch.edits) > 1 else ():
+                yield from put_together(Batch([edit]), prover, anew)
             return
         else:
             told = by_prover(batch, lines)
@@ -213,7 +217,8 @@ def put_together(batch: Batch, prover: Prover, anew: bool = False) -> Iterator[t
         proved = in_state(batch, lines, PROVED)
         for edit in batch.edits:
             if edit not in left or len(left) == len(batch.edits):
-                yield edit, ("STILL PROVED", "") if edit in proved else answer(edit, told.get(edit, []))
+                lines_on = told.get(edit, [])
+                yield edit, ("STILL PROVED", "") if edit in proved and not lines_on else answer(edit, lines_on)
         if not left or len(left) == len(batch.edits):
             return
         batch = Batch(left)
@@ -223,7 +228,7 @@ def answer(edit: Edit, told: list[tuple[str, Reason | None]]) -> Answer:
     """What came of an edit that isn't proved, by the lines on its function and the reasons that they tell."""
     if not told:
         return "NOT AS IT SAYS", "the prover tells no goal that isn't met"
-    if not edit.wanted:
+    if not edit.wanted and told[0][1]:
         return "NAMES NO CLAUSE", told[0][0]
     met = (line for line, reason in told for name, clause in edit.wanted
         if reason and reason.found.function.is_named(name) and reason.is_of(clause))

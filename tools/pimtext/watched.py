@@ -17,6 +17,10 @@ if TYPE_CHECKING:
     from pimtext.wishes import Key
 
 
+# Reasons that a packet didn't come for which are none of what the routers know.
+BY_THE_WAY = ("lost", "refused", "ttl")
+
+
 @dataclass(frozen=True)
 class Loss:
     """Packets one after the other that didn't come to a host, all for one reason; `waiting` are the rungs that waited
@@ -54,13 +58,14 @@ class Watch:
         tables: dict[str, Tables],
         unheard: frozenset[tuple[str, int] | tuple[str, bytes, int]] = frozenset(),
     ) -> None:
-        self.played, self.steps, self.unheard = played, steps, unheard
+        self.played, self.steps = played, steps
         self.known = known_after(played, steps, tables)
         self.packets, self.hosts = trace.traced(played, steps), wishes.Hosts(played, steps)
-        self.clock, self.past, self.now = streams.Clocks(steps), Past(played, steps), served.World(self.known)
+        self.past, self.now = Past(played, steps), served.World(self.known)
+        self.ran = streams.Ran(self.hosts, self.packets, streams.Clocks(steps), unheard)
 
     def streams(self) -> list[Stream]:
-        return list(streams.streams(self.hosts, self.packets, self.clock, self.unheard))
+        return list(streams.streams(self.ran))
 
     def stream(self, host: str, group: str, source: str, link: str | None = None) -> Stream:
         """The stream of a host, on the first link on which it asked where none is given."""
@@ -157,6 +162,9 @@ class Watch:
             return Verdict(stream, losses, end is None, end, lines + expected_lines(stream, way, end))
         last = stream.packets[-1]
         lost = losses[-1] if losses and not stream.arrivals[last] else None
+        if lost and end is None and last.link is not None and lost.end.kind not in BY_THE_WAY:
+            # What kept this packet off is over: the packet itself changed what the routers know.
+            return Verdict(stream, losses, True, None, lines + expected_lines(stream, way, end))
         lines += self.last_lines(stream, last, lost)
         return Verdict(stream, losses, lost is None, lost and lost.end, lines)
 
@@ -204,7 +212,7 @@ class Watch:
             yield key[1], [each for whom in found for each in self.of_source(key, whom)]
 
     def of_source(self, key: Key, source: str) -> Iterator[Stream]:
-        return streams.of_source(self.hosts, self.packets, self.clock, key, source, self.unheard)
+        return streams.of_source(self.ran, key, source)
 
     def answers(
         self, host: str, group: str | None = None, source: str | None = None

@@ -76,7 +76,7 @@ class Forecast(unittest.TestCase):
         self.assertEqual([42, 37, 37], [gate.takes(it) for it in (1, 2, 4)])
 
     def test_edits_fill_what_proofs_leave_free(self):
-        """a until 10; b until 30 beside c and then a's edits from 15 to 27; d until 37, beside b's edits from 30 to 34."""
+        """a until 10; b until 30 beside c and then a's edits from 15 to 27; d until 37 beside b's edits until 34."""
         gate = Gate(self.BELOW, {**self.SECONDS, ("a", "edits"): 12.0, ("b", "edits"): 4.0})
         self.assertEqual([58, 37], [gate.takes(it) for it in (1, 2)])
 

@@ -196,6 +196,31 @@ class Calls(unittest.TestCase):
         self.assertEqual({table.moment for table in net.tables().values()}, {16_000})
 
 
+class Large(unittest.TestCase):
+    def test_more_routers_than_the_program_takes(self):
+        net, names = Network(), [f"r{number}" for number in range(80)]
+        net.ring(*names)
+        net.rp("r3")
+        camera, viewer = net.host("camera", "r0"), net.host("viewer", "r5")
+        net.run(10)
+        viewer.join(GROUP)
+        net.run(5)
+        camera.stream(GROUP, times=3)
+        net.run(5)
+        self.assertEqual(set(viewer.payloads()), {b"1", b"2", b"3"})
+        self.assertTrue(viewer.served(GROUP, camera))
+        self.assertFalse([note for note in net.notes() if "missed" in note])
+        with self.assertRaisesRegex(scenario.Refused, "39"):
+            scenario.run_text(net.scenario())
+
+    def test_a_thousand_and_no_more(self):
+        net = Network()
+        for number in range(1000):
+            net.router(f"r{number}")
+        with self.assertRaisesRegex(ValueError, "at most 1000 routers"):
+            net.router("one more")
+
+
 class Odd(unittest.TestCase):
     """What is odd in a network's run, with the line of this file that made it so."""
 
@@ -377,6 +402,38 @@ class Broken(unittest.TestCase):
         payloads, net = broken(lambda net: net.links["b-c"].lose(1.0, sender="c"))
         self.assertEqual((payloads, net.routers["b"].neighbours(), net.routers["c"].neighbours()), ([], {"a"}, {"b"}))
         self.assertIn("nothing that c sent on b-c came to b", net.notes()[0])
+
+    def test_registers_are_lost_on_any_link_of_their_way(self):
+        """The source is at a, the RP is c: until a Register-Stop comes all data go in Registers, by way of b."""
+        sent = {}
+        for link in (None, "a-b", "b-c", "c-d"):
+            net = Network()
+            net.line("a", "b", "c", "d")
+            net.rp("c")
+            camera, viewer = net.host("camera", "a"), net.host("viewer", "d")
+            net.run(10)
+            viewer.join(GROUP)
+            net.run(5)
+            if link:
+                net.links[link].lose(1, packets.Register)
+            camera.send(GROUP, b"one")
+            net.run(5)
+            sent[link] = viewer.payloads()
+        self.assertEqual(sent, {None: [b"one"], "a-b": [], "b-c": [], "c-d": [b"one"]})
+
+    def test_unicasts_are_lost_one_way(self):
+        for sender, wanted in (("a", []), ("b", [b"one"])):
+            net = Network()
+            net.line("a", "b")
+            net.rp("b")
+            camera, viewer = net.host("camera", "a"), net.host("viewer", "b")
+            net.run(10)
+            viewer.join(GROUP)
+            net.run(5)
+            net.links["a-b"].lose(1, packets.Register, sender=sender)
+            camera.send(GROUP, b"one")
+            net.run(5)
+            self.assertEqual(viewer.payloads(), wanted)
 
     def test_loss_that_ends(self):
         net, camera, viewer = small()

@@ -6,7 +6,8 @@ import tempfile
 import unittest
 from pathlib import Path
 
-from pimtext import colours, playpage, printed, recorded, scenario, story
+from lab import Network
+from pimtext import colours, labfile, playpage, printed, recorded, scenario, story
 from tests import browser, networks, stored
 
 EXAMPLE = stored.EXAMPLES / "shared_to_source_tree.toml"
@@ -22,6 +23,25 @@ def last_state(told, host):
     events = next(each for each in told["hosts"] if each["address"] == host)["events"]
     _, _, state, text = events[-1]
     return state, told["texts"][text]
+
+
+def large_network():
+    """A ring of 30 routers with three sources and six viewers; after 15 s a link fails for good."""
+    net = Network()
+    names = [f"r{number}" for number in range(30)]
+    net.ring(*names)
+    net.rp("r15")
+    cameras = [net.host(f"camera{number}", f"r{number}") for number in range(3)]
+    viewers = [net.host(f"viewer{number}", f"r{5 * number + 4}") for number in range(6)]
+    net.run(10)
+    for number, viewer in enumerate(viewers):
+        viewer.join(f"239.1.1.{number % 3}")
+    net.run(5)
+    for number, camera in enumerate(cameras):
+        camera.stream(f"239.1.1.{number}", times=5)
+    net.links["r0-r1"].down()
+    net.run(5)
+    return net
 
 
 class TablesOfEachAnswer(unittest.TestCase):
@@ -69,7 +89,8 @@ class Recorded(unittest.TestCase):
             rows = [told["texts"][row] for row in told["shapes"][router][now[router][0]]["rows"]]
             self.assertEqual(rows, list(dict.fromkeys(recorded.row_words(read.routers[router], row)
                                                       for row in table.rows)))
-            self.assertEqual(now[router][1], [end for row in table.rows for end in recorded.parted(row)[1].values()])
+            wanted = [end for row in table.rows for end in recorded.parted(row)[1].values()]
+            self.assertEqual(now[router][1], wanted)
 
     def test_what_came_to_a_host(self):
         told = run(networks.Network().text())
@@ -168,6 +189,7 @@ class Browsed(unittest.TestCase):
             self.assertGreater(page.value("shown.move"), 0)
             page.press("End")
             self.assertIn("Where the runs differ", page.value("byId('side').textContent"))
+            self.assertIn("0 came, 1 missed1 came", page.value("byId('side').textContent"))
             self.assertEqual(page.troubles, [])
 
     def test_a_note_leads_to_its_move(self):
@@ -178,6 +200,57 @@ class Browsed(unittest.TestCase):
             self.assertEqual(page.value("shown.move"), number)
             self.assertTrue(page.value("document.querySelector('#moves .odd.now') !== null"))
             self.assertEqual(page.troubles, [])
+
+    SIZES = [(1280, 800), (1600, 900)]
+    # The least height in pixels of the letters on the map, and whether no map goes beyond its figure or its pane.
+    LETTERS = """Math.min(...[...document.querySelectorAll('#maps svg text')].map(each =>
+        parseFloat(getComputedStyle(each).fontSize) * each.getScreenCTM().a))"""
+    INSIDE = """[...document.querySelectorAll('#maps svg')].every(each => {
+        const [own, pane] = [each, byId('packets')].map(one => one.getBoundingClientRect());
+        return own.bottom <= pane.top && own.height > 100 })"""
+
+    def test_thirty_routers(self):
+        told = labfile.told(large_network(), "large")
+        for paths in ([told], [told, told]):
+            path = self.page_of(*paths)
+            for wide, high in self.SIZES:
+                with self.subTest(runs=len(paths), size=wide), browser.opened(path, f"{wide},{high}") as page:
+                    page.value("go(runs[0].moves.length)")
+                    self.assertGreaterEqual(page.value(self.LETTERS), 10.99)
+                    self.assertTrue(page.value(self.INSIDE))
+                    page.value("KEYS[0][2]()")
+                    self.assertGreaterEqual(page.value(self.LETTERS), 10.99)
+                    self.assertEqual(page.troubles, [])
+
+    def test_a_large_map_is_zoomed_moved_and_filtered(self):
+        path = self.page_of(labfile.told(large_network(), "large"))
+        with browser.opened(path, "1280,800") as page:
+            page.value("go(runs[0].moves.length)")
+            page.press("+")
+            wide = page.value("view.box[2]")
+            self.assertLess(wide, page.value("DATA.box[2]"))
+            x = page.value("view.box[0]")
+            page.drag("#maps svg", 60, 0)
+            self.assertLess(page.value("view.box[0]"), x)
+            page.value("byId('filter').value = 'viewer3'; filter()")
+            self.assertEqual(page.value("document.querySelector('#side td b').textContent"), "viewer3")
+            self.assertGreater(page.value("document.querySelectorAll('#maps .pick.faded').length"), 0)
+            page.value("byId('filter').value = ''; filter()")
+            self.assertEqual(page.value("document.querySelectorAll('#maps .faded').length"), 0)
+            width = page.value("byId('side').clientWidth")
+            page.drag("#right", -80, 0)
+            self.assertAlmostEqual(page.value("byId('side').clientWidth"), width + 80, delta=5)
+            self.assertEqual(page.troubles, [])
+
+    def test_failures_come_first_and_hellos_are_folded(self):
+        path = self.page_of(labfile.told(large_network(), "large"))
+        with browser.opened(path, "1280,800") as page:
+            titles = page.value("runs[0].moves.map((_, n) => runs[0].title(n + 1))")
+            (failed,) = [title for title in titles if " down" in title]
+            self.assertRegex(failed, r"^15 s: r0 \S+ r0-r1, r1 \S+ r0-r1 down; .*3 sources send")
+            page.value("go(runs[0].moves.findIndex((_, n) => runs[0].title(n + 1).startsWith('5 s')) + 1)")
+            self.assertIn("Hellos and queries", page.value("document.querySelector('#packets summary').textContent"))
+            self.assertEqual(page.value("document.querySelectorAll('#packets details[open]').length"), 0)
 
     def test_the_page_stands_alone(self):
         text = playpage.page([playpage.Told("x", EXAMPLE.read_text())])

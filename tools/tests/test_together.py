@@ -123,6 +123,8 @@ class Tried(unittest.TestCase):
                                     change("n + 0", "m", "one same"), self.TWO)
         self.assertEqual((("NOT AS IT SAYS", error), ("refused", self.GOAL_TWO)), (came["a"], came["b"]))
         self.assertEqual(self.CODE.replace("+ 1", "/ 3"), codes[1])
+        came, _, _ = self.tried([error], change("n + 0", "m"))
+        self.assertEqual(("NOT AS IT SAYS", error), came["a"])
 
     def test_one_that_no_type_allows_is_read_by_itself(self):
         error = "src/lib.rt:5:7: error[unknown-name]: cannot find value `m`"
@@ -148,6 +150,13 @@ class Tried(unittest.TestCase):
     def test_a_prover_that_says_nothing(self):
         came, _, _ = self.tried(["rattle: killed"], self.ONE)
         self.assertEqual(("not tried", "rattle: killed"), came["a"])
+
+    def test_a_check_that_does_not_come_to_its_end_spoils_one_edit(self):
+        broken = "src/lib.rt:2:1: error[mismatched-types]: here"
+        came, codes, _ = self.tried(["src/other.rt:2:1: error[mismatched-types]: there", broken,
+                                     f"{self.GOAL_TWO}\n{self.END}"], self.ONE, self.TWO)
+        self.assertEqual((("NOT AS IT SAYS", broken), ("refused", self.GOAL_TWO)), (came["a"], came["b"]))
+        self.assertEqual(3, len(codes))
 
     def test_the_clause_is_told_first_that_tells_most(self):
         goals = ("requires-same", "invariant_of-self", "returns-clause-same", "slice_bounds-all")

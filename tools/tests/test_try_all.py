@@ -105,6 +105,10 @@ class Table(unittest.TestCase):
         with mock.patch.dict(installed.GIVES, {"none": "no_such_program"}):
             self.assertFalse(installed.is_there("none"))
 
+    def test_an_old_rust(self):
+        self.assertTrue(installed.is_old("rustc 1.63.0"))
+        self.assertFalse(installed.is_old("rustc 1.85.0 (4d91de4e4 2025-02-17)"))
+
 
 if __name__ == "__main__":
     unittest.main()

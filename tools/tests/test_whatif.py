@@ -1,8 +1,13 @@
 """Failures of a network, one after the other, and the lab's prompt."""
 import io
+import json
+import os
+import shutil
+import signal
 import subprocess
 import sys
 import tempfile
+import time
 import unittest
 from pathlib import Path
 
@@ -80,6 +85,71 @@ class WhatIf(unittest.TestCase):
             ran = whatif(LAN, "--kind", "router", "--for", "30", "-o", out)
             self.assertIn("has the worst: router east", ran.stdout)
             self.assertIn("<title>router east beside no failure</title>", out.read_text())
+
+
+    def test_each_is_told_as_it_ends_and_what_is_left(self):
+        lines = whatif(LAN, "--kind", "router").stdout.splitlines()
+        self.assertEqual([line[:8] for line in lines[:3]], ["1 of 3: ", "2 of 3: ", "3 of 3: "])
+        self.assertRegex(lines[0], r"; 2 left, about [0-9]+ s$")
+        self.assertTrue(lines[2].endswith("; none left"), lines[2])
+
+    def test_ctrl_c_tells_the_worst_so_far(self):
+        with tempfile.TemporaryDirectory(prefix="whatif-") as folder:
+            path = Path(folder) / "net.py"
+            path.write_text(LAN)
+            words = [stored.TOOLS / "whatif", path, "--jobs", "1", "--for", "600"]
+            with subprocess.Popen(words, stdout=subprocess.PIPE, text=True, start_new_session=True) as running:
+                first = running.stdout.readline()
+                os.killpg(running.pid, signal.SIGINT)
+                lines = [first, *running.stdout]
+        self.assertRegex(first, r"^1 of ([0-9]+): ")
+        (ended,) = [line for line in lines if line.startswith("ended after ")]
+        count = int(ended.split()[2])
+        self.assertLess(count, int(first.split()[2].rstrip(":")))
+        self.assertIn(f"{count} failures; 1 streams to hosts come without one\n", lines)
+
+
+@unittest.skipUnless(shutil.which("dask-scheduler"), "python3-distributed isn't installed")
+class Dask(unittest.TestCase):
+    """A scheduler and two workers on this machine."""
+
+    def started(self, *words):
+        running = subprocess.Popen(words, stdout=subprocess.DEVNULL, stderr=subprocess.DEVNULL)
+        self.addCleanup(running.wait)
+        self.addCleanup(running.terminate)
+        return running
+
+    def address(self, told):
+        """Where the scheduler is, once it has told it."""
+        end = time.monotonic() + 60
+        while time.monotonic() < end:
+            if told.exists() and told.read_text().strip():
+                return json.loads(told.read_text())["address"]
+            time.sleep(0.1)
+        self.fail("the scheduler doesn't start")
+
+    def test_a_worker_that_ends_in_the_middle_changes_nothing(self):
+        folder = tempfile.TemporaryDirectory(prefix="whatif-")
+        self.addCleanup(folder.cleanup)
+        path, told = Path(folder.name) / "net.py", Path(folder.name) / "scheduler.json"
+        path.write_text(LAN)
+        host = ["--host", "127.0.0.1", "--no-dashboard"]
+        self.started("dask-scheduler", *host, "--port", "0", "--scheduler-file", told)
+        worker = ["dask-worker", self.address(told), *host, "--nthreads", "1", "--no-nanny"]
+        workers = [self.started(*worker, "--local-directory", folder.name) for _ in range(2)]
+        words = [stored.TOOLS / "whatif", path, "--dask", self.address(told)]
+        with subprocess.Popen(words, stdout=subprocess.PIPE, stderr=subprocess.PIPE, text=True) as running:
+            lines = [running.stdout.readline()]
+            workers[0].kill()
+            lines += running.stdout
+            self.assertEqual(running.wait(), 0, running.stderr.read())
+        own = whatif(LAN).stdout.splitlines()
+        count = int(own[0].split()[2].rstrip(":"))
+        each = [[line.split(": ")[1] for line in all_of[:count]] for all_of in (lines, own)]
+        self.assertEqual(len(set(each[0])), count)
+        self.assertEqual(sorted(each[0]), sorted(each[1]))
+        here, there = ([line.strip() for line in all_of[count:] if line[:6] != "nobody"] for all_of in (lines, own))
+        self.assertEqual(sorted(here), sorted(there))
 
 
 class Prompt(unittest.TestCase):

@@ -72,6 +72,11 @@ class Routers(unittest.TestCase):
         self.assertEqual((router.link(1), [row.table for row in router.rows("D")]), (None, []))
         self.assertEqual(router.up(1), Answer.BAD_INTERFACE)
 
+    def test_kinds_of_answers(self):
+        """As `include/viqeshor/viqeshor.h` tells them by their numbers."""
+        for answer in Answer:
+            self.assertEqual((answer.is_refused, answer.is_ignored), (1 <= answer <= 39, answer > 100), answer)
+
     def test_another_configuration_that_is_refused(self):
         router = self.joined()
         before, sent = router.save(), router.packets()

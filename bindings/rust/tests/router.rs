@@ -66,6 +66,14 @@ fn configurations_that_are_refused() {
     assert_eq!(error.to_string(), "the limit isn't 1 to 1,000,000 (34)");
 }
 
+/// As `include/viqeshor/viqeshor.h` has them.
+#[test]
+fn errors_have_their_numbers() {
+    let errors = [Error::Memory, Error::Failed, Error::Lost, Error::OtherAbi, Error::NoSetting];
+    assert_eq!(errors.map(Error::number), [40, 41, 43, 53, 54]);
+    assert_eq!((Error::Refused(Refusal::Short).number(), Error::Unknown(99).number()), (1, 99));
+}
+
 #[test]
 fn events_that_are_refused_or_ignored() {
     let mut router = router();

@@ -1,10 +1,10 @@
 -- The premises, computed.
-use Rattle.std.{proofs.Common.{◌≡◌, ℕ, true, false, List, [], ◌∷◌, Option, Some, Ok, refl, sym, subst}, specs.Prelude.unwrap_or}
+use Rattle.std.{proofs.Common.{◌≡◌, Ok, refl}}
 use Rattle.igmp_wire.{specs.declared.report.RecordType.RecordType}
-use Rattle.pim_model.{specs.{Limits.config_test, State.{State, opening}, Step.state_after}}
+use Rattle.pim_model.{specs.{Limits.config_test}}
 use Rattle.law_settled.{specs.Ready.IsSettled, proofs.Steps.{run_is_settled, step_is_settled}}
-use Rattle.igmp_older.{specs.{Joined.{Both, bytes_given, event_given, joined, joined_step, kind_given, known_after, known_if, present_end, rows_of}, Modes.{mode_of, row_by}, Naming.{groups_named, groups_of_packet}, Older.{kind_of, older_reading}, Presence.{doubted, forgotten, hosts_on, left, live_rows, looked, mode_at, report_noted, row_after, timers_at}, Translation.{Translation, are_left_whole, kept_of, message_translated, older_translated, packet_given, packet_translated, records_left, report_translated, translation}, declared.older.Older.Older}}
-use Rattle.law_older_hosts.{specs.Held.{AllMayHold, IsHeld}, proofs.{Begins.older_begins, Held.run_holds}}
+use Rattle.igmp_older.{specs.{Joined.{bytes_given, event_given, joined, joined_step, kind_given, known_after, known_if}, Modes.{mode_of, row_by}, Naming.{groups_named, groups_of_packet}, Older.{kind_of, older_reading}, Presence.{doubted, forgotten, hosts_on, left, live_rows, looked, mode_at, report_noted, row_after, timers_at}, Translation.{are_left_whole, kept_of, message_translated, older_translated, packet_given, packet_translated, records_left, report_translated, translation}}}
+use Rattle.law_older_hosts.{specs.Held.{AllMayHold}, proofs.{Begins.older_begins, Held.run_holds}}
 use Rattle.pim_runs.{proofs.OnLiterals.machine_on_literals, specs.ServedChain.{asked_group, first, first_meets}}
 use Rattle.igmp_older_runs.{specs.Held.{OlderHostBegins, OlderHostIsHeld, before, known, meanwhile, report_two, reports}}
 

@@ -5,7 +5,7 @@ use Rattle.pim_types.{specs.declared.{event.{Event.Event, EventKind.EventKind}, 
 use Rattle.pim_wire.{specs.{Encoded.{group_text, pim_text, unicast_text}, JoinPrunes.{entry_text, join_prune_holdtime, join_prune_text}, declared.join_prune.{Entry.Entry, EntryKind.EntryKind}}}
 use Rattle.pim_ip.{specs.{Checksum.with_checksum, Ipv4.{header_text, pim_packet_text}}, proofs.WritingLemmas.length-with_checksum}
 use Rattle.byteorder.{specs.Endian.big_bytes}
-use Rattle.pim_model.{specs.{Cause.done_as, Messages.entry, Network.{Move, Network, Sent, Station, event_of, frame_at, station_at}, State.State, Tables.row_at}}
+use Rattle.pim_model.{specs.{Cause.done_as, Messages.entry, Network.{Deliver, Move, Network, Sent, Station, event_of, frame_at, moved, station_at}, State.State, Tables.row_at}}
 use Rattle.law_promises.{specs.Copies.happens}
 use Rattle.law_served.{specs.Joins.{IsWritable, join_packet}}
 use Rattle.law_in_time.{specs.Joins.{ComesBy, ComesToBoth, IsBy, Join, Pair, entry_of, frame_of, is_suppressed, join_key, prunes_it, prunes_of, time_at}}
@@ -51,6 +51,14 @@ pub at_another : (n : Network) (m : Move) (r : ℕ) → is_event_at r (event_of 
     → event_of n m ≡ Some (r, e) → ⊥
 at_another n m r off e is =
     let b : false ≡ true = sym off ∙ ap (is_event_at r) is ∙ same_itself r in cc
+
+-- ---- a frame by its number
+
+-- a delivery is the same by any number of the same frame
+pub alike_delivered : (n : Network) (r i draw k j : ℕ) → frame_at n k ≡ frame_at n j
+    → (moved n (Deliver r i k draw)).1 ≡ (moved n (Deliver r i j draw)).1
+unfolding moved event_of
+alike_delivered n r i draw k j same = rw same refl
 
 -- ---- frames that are new
 

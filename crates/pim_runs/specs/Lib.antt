@@ -26,3 +26,4 @@ pub mod History
 pub mod Plane
 pub mod Registered
 pub mod WayInTime
+pub mod SourceChain

@@ -1,5 +1,5 @@
 -- A router with a host, to which the RP's tree comes on one interface and the source's on another.
-use Rattle.std.{specs.Prelude.{List, [], ℕ, ◌∷◌, ◌≡◌, true}}
+use Rattle.std.{specs.Prelude.{List, [], ◌∷◌, ◌≡◌, true}}
 use Rattle.pim_types.{specs.declared.{config.Config.Config, event.Event.Event}}
 use Rattle.pim_model.{specs.{State.{State, opening}, Step.{state_after, step}}}
 use Rattle.pim_runs.{specs.{Base.{all_groups, base, interface, prefix, route_by, rp_for}, Words.{address, advance, frame, up}, ServedChain.{asked_group, hello_from, report, root, sender, sent_packet}}}

@@ -1,4 +1,5 @@
 //! Networks that meet the premises of the laws of streams, computed by the kernel.
+ghost use Rattle.pim_runs.specs.SourceChain.{SourceIsJoined, TreeBegins};
 ghost use Rattle.pim_runs.specs.StreamChain.{NextIsServed, NoneEnds, SecondBegins, WayStreams};
 ghost use Rattle.pim_runs.specs.Switch.{Switches};
 ghost use Rattle.pim_runs.specs.LastHop.{LastHopCanChange, LastHopChanges};
@@ -42,4 +43,14 @@ pub fn last_hop_changes()
 /// A packet of the source comes in its DR's Register to the RP, and down to the host, with a TTL that is just enough.
 pub fn source_is_registered()
     ensures { SourceIsRegistered }
+{}
+
+/// A Join(S,G) climbs to the router that has the source on a link, with two seconds between the deliveries.
+pub fn source_is_joined()
+    ensures { SourceIsJoined }
+{}
+
+/// The first packet of the source comes down, and sets SPTbit at each router below.
+pub fn tree_begins()
+    ensures { TreeBegins }
 {}

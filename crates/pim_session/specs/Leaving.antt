@@ -1,8 +1,10 @@
--- What leaves by a call of a session is asked for, behind a front for older hosts too.
+-- What leaves by a call of a session is asked for, behind a front for older hosts too, and what led to its state goes on.
 use Rattle.std.{specs.Prelude.{List, Option, Result, ℕ, ◌≡◌}}
 use Rattle.pim_ip.{specs.declared.refusal.Refusal.Refusal}
-use Rattle.pim_types.{specs.declared.{event.Event.Event, outcome.{Emission.Emission, Verdict.Verdict}}}
+use Rattle.pim_types.{specs.declared.{config.Config.Config, event.Event.Event, outcome.{Emission.Emission, Verdict.Verdict}}}
 use Rattle.pim_model.{specs.State.State}
+use Rattle.pim_saved.{specs.{Fits.FitsState, Text.text}}
+use Rattle.law_history.{specs.History.{Given, IsLedTo}}
 use Rattle.pim_router.{specs.Asked.SentIsAsked}
 use Rattle.pim_session.{specs.Front.{Front, emissions_left}}
 
@@ -13,3 +15,8 @@ pub record LeftIsAsked (front : Option Front) (s : State) (e : Event) (answer : 
   pub sent : List Emission
   pub leaves : left ≡ emissions_left front sent
   pub asked : SentIsAsked s e answer sent copies
+
+-- Where the bytes are those of a saved state, whatever led to that state led to this one.
+abbrev pub GoesOnFrom : List ℕ → State → Type 0
+GoesOnFrom bytes t = (c : Config) (before : List Given) (s : State) → IsLedTo c before s → FitsState s → bytes ≡ text s
+    → IsLedTo c before t

@@ -27,8 +27,8 @@ ghost use Rattle.pim_event.specs.Listing.{ListsSame};
 ghost use Rattle.pim_event.specs.Staying.{OffersStay};
 ghost use Rattle.pim_rested.specs.Resuming.{IsResumable, restore_test};
 ghost use Rattle.law_history.specs.History.{Given};
-ghost use Rattle.pim_router.specs.Asked.{LeadsOn};
-ghost use Rattle.pim_session.specs.Leaving.{LeftIsAsked};
+ghost use Rattle.pim_router.specs.Asked.{LeadsOn, SentIsAsked};
+ghost use Rattle.pim_session.specs.Leaving.{GoesOnFrom, LeftIsAsked};
 ghost use Rattle.pim_router.specs.Standing.{begun, nothing_shown, standing, with_state};
 ghost use Rattle.pim_saved.specs.Fits.{FitsState};
 ghost use Rattle.pim_saved.specs.Reading.{reading};
@@ -117,6 +117,7 @@ impl Session {
     pub fn restore(alloc: Global, bytes: &[u8]) -> Result<Result<Session, RestoreRefusal>, Fault>
         ensures restored { IfOk result (λ made. IfOk made (λ s. (state : State) → reading bytes.now ≡ Ok state
             → s.router ≡ begun state)) }
+        ensures led { IfOk result (λ made. IfOk made (λ s. IfSome s.router.standing (λ r. GoesOnFrom bytes.now r.state))) }
         ensures tested { IfOk result (λ made. IfOk made (λ s. restore_test bytes.now ≡ Ok tt)) }
         ensures rest { IfOk result (λ made. IfOk made (λ s. (s.front ≡ None) × (s.sent ≡ []) × (s.rows ≡ [])
             × (s.older_rows ≡ []))) }
@@ -231,6 +232,7 @@ impl Session {
     /// A data plane saw a packet of (S,G) on the interface, as `Router::seen` says. What leaves is kept in place of the
     /// packets kept before. After a fault the kept packets are unchanged, and the session answers `Failed` from then
     /// on.
+    #[tactic(auto, using(crate::proofs::Leaving::sent_by))]
     pub fn seen(
         &mut self,
         alloc: Global,
@@ -245,6 +247,10 @@ impl Session {
             ≡ Some (standing (step r.state (seen_event draw iface group.bits source.bits))))) }
         ensures sent { IfSome self.old.router.standing (λ r. OnOk result
             (self.new.sent ≡ (step r.state (seen_event draw iface group.bits source.bits)).emissions)) }
+        ensures asked { IfSome self.old.router.standing (λ r. IfOk result (λ answer. IfSome self.new.router.standing (λ after.
+            SentIsAsked r.state (seen_event draw iface group.bits source.bits) answer self.new.sent after.copies))) }
+        ensures led { IfSome self.old.router.standing (λ r. OnOk result (IfSome self.new.router.standing (λ after.
+            LeadsOn r.state (Given.Happening (seen_event draw iface group.bits source.bits)) after.state))) }
         ensures cheap { IfSome self.old.router.standing (λ r. OnOk result (IsCheap r.state
             (seen_event draw iface group.bits source.bits) self.new.router.probes self.new.router.touched)) }
         ensures changed { IfSome self.old.router.standing (λ r. OnOk result (ListsSame self.new.router.changed
@@ -283,6 +289,8 @@ impl Session {
             runs ≡ is_kept_alive r.state group.bits source.bits)) }
         ensures state { IfSome self.old.router.standing (λ r. OnOk result (self.new.router
             ≡ with_state self.old.router r (keep r.state group.bits source.bits (min moment last_moment)))) }
+        ensures led { IfSome self.old.router.standing (λ r. OnOk result (IfSome self.new.router.standing (λ after.
+            LeadsOn r.state (Given.Kept group.bits source.bits (min moment last_moment)) after.state))) }
         ensures failing { OnErr result ((self.new.router ≡ nothing_shown) × (self.new.front ≡ None)) }
         ensures front { OnOk result (self.new.front ≡ self.old.front) }
         ensures failed { (result ≡ Err Fault.Failed) ↔ (self.old.router.standing ≡ None) }

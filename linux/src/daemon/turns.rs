@@ -73,6 +73,16 @@ impl Asked {
     }
 }
 
+/// Where something waits.
+#[derive(Default)]
+struct Ready {
+    sources: Vec<Source>,
+    /// A signal came.
+    is_woken: bool,
+    /// A client came, or asks.
+    is_asked: bool,
+}
+
 /// Where clients ask.
 pub(super) struct Servers {
     control: Control,
@@ -234,7 +244,9 @@ impl Daemon {
         self.begin()?;
         while !asked.is_over() {
             let ready = self.wait(&asked, &servers)?;
-            asked.forget_wakes();
+            if ready.is_woken {
+                asked.forget_wakes();
+            }
             let [reload, upgrade] = [&asked.reload, &asked.upgrade].map(|flag| flag.swap(false, Ordering::Relaxed));
             let is_other = reload && program.has_changed();
             if upgrade || is_other {
@@ -244,12 +256,9 @@ impl Daemon {
                 self.reload()?;
                 servers.take_settings(&self.settings, self.now());
             }
-            self.turn(&ready)?;
+            self.turn(&ready.sources)?;
             self.house_keeping()?;
-            servers.serve(self);
-            if servers.due.map_or(false, |due| due <= self.now()) {
-                servers.try_again(&self.settings, self.now());
-            }
+            self.serve(&mut servers, ready.is_asked);
             self.keep();
         }
         if asked.end.load(Ordering::Relaxed) || !self.keep_for_next() {
@@ -257,6 +266,16 @@ impl Daemon {
             self.keep_no_more();
         }
         Ok(())
+    }
+
+    /// Clients are answered, and what their sockets lack is tried again.
+    fn serve(&mut self, servers: &mut Servers, is_asked: bool) {
+        if is_asked || servers.each().any(|server| server.due().is_some()) {
+            servers.serve(self);
+        }
+        if servers.due.map_or(false, |due| due <= self.now()) {
+            servers.try_again(&self.settings, self.now());
+        }
     }
 
     pub(super) fn begin(&mut self) -> Result<(), Fatal> {
@@ -271,9 +290,9 @@ impl Daemon {
     }
 
     /// Where something waits, once something does or is due.
-    fn wait(&mut self, asked: &Asked, servers: &Servers) -> Result<Vec<Source>, Fatal> {
+    fn wait(&mut self, asked: &Asked, servers: &Servers) -> Result<Ready, Fatal> {
         let own = self.kernel.waits();
-        let others = servers.each().flat_map(Server::waits).chain([asked.wakes.as_raw_fd()]);
+        let others = [asked.wakes.as_raw_fd()].into_iter().chain(servers.each().flat_map(Server::waits));
         let all = own.iter().map(|(_, fd)| *fd).chain(others);
         let mut waits: Vec<_> = all.map(|fd| PollFd::new(fd, PollFlags::POLLIN)).collect();
         let due = &self.due;
@@ -295,13 +314,19 @@ impl Daemon {
         ];
         let next = times.into_iter().flatten().fold(due.look, u64::min);
         match poll(&mut waits, next.saturating_sub(self.now()).min(LOOK_EVERY) as i32) {
-            Err(nix::errno::Errno::EINTR) | Ok(0) => return Ok(Vec::new()),
+            Err(nix::errno::Errno::EINTR) | Ok(0) => return Ok(Ready::default()),
             Err(error) => return Err(error.into()),
             Ok(_) => {}
         }
         let is_ready = |wait: &PollFd| wait.revents().map_or(true, |found| !found.is_empty());
-        let ready = own.iter().zip(&waits).filter(|(_, wait)| is_ready(wait));
-        Ok(ready.map(|((source, _), _)| *source).collect())
+        let (at_kernel, others) = waits.split_at(own.len());
+        let sources = own.iter().zip(at_kernel).filter(|(_, wait)| is_ready(wait)).map(|((source, _), _)| *source);
+        let (wakes, clients) = others.split_at(1);
+        Ok(Ready {
+            sources: sources.collect(),
+            is_woken: wakes.iter().any(is_ready),
+            is_asked: clients.iter().any(is_ready),
+        })
     }
 
     /// What waits at the sockets that are ready, in turn.

@@ -3,7 +3,8 @@ use super::{Daemon, Fatal, Neighbour};
 use crate::check::is_open;
 use crate::mroute::Key;
 use crate::older::{self, Older, Version};
-use crate::packet::{address, is_of_host, is_pim, Packet};
+use crate::packet::{address, is_pim, Packet};
+use crate::split;
 use log::{info, warn};
 use std::collections::HashSet;
 use std::net::Ipv4Addr;
@@ -72,13 +73,18 @@ impl Daemon {
 
     // ---- IGMP
 
-    /// Says where hosts are that may speak PIM too.
+    /// Says where hosts are that may speak PIM too. Routers report groups of the link (224.0.0.0/24) as well.
     pub(super) fn watch_hosts(&mut self, number: u32, bytes: &[u8]) {
-        let is_host = |packet: Packet| is_of_host(packet) && !packet.source().is_unspecified();
-        if !Packet::read(bytes).map_or(false, is_host) || !is_open(&self.ports[number as usize].settings) {
+        if self.open.contains(&number) || !is_open(&self.ports[number as usize].settings) {
             return;
         }
-        if self.open.insert(number) {
+        let asks = |packet: Packet| match Older::read(packet) {
+            Some(older) => !older.is_leave && !older.is_of_link(),
+            None => split::records(packet).map_or(false, |all| all.iter().any(|record| !record.asks_for_nothing())),
+        };
+        let is_host = |packet: Packet| !packet.source().is_unspecified() && asks(packet);
+        if Packet::read(bytes).map_or(false, is_host) {
+            self.open.insert(number);
             warn!(
                 "hosts are on {}, which has neither `passive` nor `neighbors`: one that sends PIM may stop the streams \
                  of the link",

@@ -122,12 +122,14 @@ class Player:
     def take(self, step: story.Step) -> None:
         """A router takes what a step brings it."""
         core, name = self.cores[step.router], step.router
+        step.link = self.played.router(name).link(step.iface)
         answer = twin.take(core, fed.event(step), self.played.router(name).table)
         step.verdict, step.cause = words_of(answer)
         for kind, where, data in core.packets():
             place = where if kind == "unicast" else self.played.router(name).interfaces[where].link
             number = len(self.teller.sent) + 1
-            step.sent.append(story.Sent(kind, number, place, data, name, step.move, step.moment))
+            left = None if kind == "unicast" else where
+            step.sent.append(story.Sent(kind, number, place, data, name, step.move, step.moment, left))
             self.teller.sent.append(step.sent[-1])
         self.wake(name, core)
 

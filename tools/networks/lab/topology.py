@@ -4,6 +4,7 @@ from __future__ import annotations
 import heapq
 from collections.abc import Iterator
 from dataclasses import dataclass, field
+from functools import cached_property
 from ipaddress import IPv4Network
 from itertools import count
 from typing import TYPE_CHECKING, Any, TypeVar
@@ -114,6 +115,15 @@ class Link:
     is_up: bool = True
     losses: list = field(default_factory=list, repr=False)
 
+    @cached_property
+    def prefix(self) -> str:
+        return str(self.subnet)
+
+    @cached_property
+    def order(self) -> tuple[int, int]:
+        """Where its subnet stands among others."""
+        return int(self.subnet.network_address), self.subnet.prefixlen
+
     def lose(
         self,
         share: float,
@@ -121,9 +131,9 @@ class Link:
         sender: Router | str | None = None,
         receiver: Router | str | None = None,
     ) -> None:
-        """From the present on it loses this share of the packets between routers: of one kind, a class of
-        pimtext.packets, as `Hello`, `JoinPrune` or `Data`, and from one router or to one, by their names. Another call
-        of the same kind and way replaces it."""
+        """From the present on it loses this share of the packets between routers, Registers and Register-Stops that
+        pass it too: of one kind, a class of pimtext.packets, as `Hello`, `JoinPrune` or `Data`, and from one router of
+        it or to one, by their names. Another call of the same kind and way replaces it."""
         kind_given(kind)
         names = [router and self.net.known_router(router).name for router in (sender, receiver)]
         for router in (sender, receiver):
@@ -174,9 +184,11 @@ class Link:
 
 @dataclass(frozen=True)
 class Way:
-    """How a router comes to another one: the distance, the links on the way, and the first hop with the port to it."""
+    """How a router comes to another one: the distance, the links on the way with the routers behind them, and the first
+    hop with the port to it."""
     distance: int
     links: tuple
+    routers: tuple
     hop: str | None = None
     port: Port | None = None
 
@@ -185,7 +197,7 @@ def ways(origin: Router) -> dict[Router, Way]:
     """The shortest way to each router that can be reached; of equal ones the one found first, by ports in their
     order."""
     found, order = {}, count()
-    waiting = [(0, next(order), origin, Way(0, ()))]
+    waiting = [(0, next(order), origin, Way(0, (), ()))]
     while waiting:
         _, _, router, way = heapq.heappop(waiting)
         if router in found:
@@ -202,7 +214,8 @@ def onwards(router: Router, way: Way) -> Iterator[tuple[Router, Way]]:
         for other in port.link.ports:
             if other is not port and port.is_up() and other.is_up():
                 hop, first = (way.hop, way.port) if way.links else (other.address, port)
-                yield other.router, Way(way.distance + port.link.cost, (*way.links, port.link), hop, first)
+                links, routers = (*way.links, port.link), (*way.routers, other.router)
+                yield other.router, Way(way.distance + port.link.cost, links, routers, hop, first)
 
 
 def routes(origin: Router) -> list[str]:
@@ -216,7 +229,7 @@ def routes(origin: Router) -> list[str]:
                 best[port.link] = way, metric
     own, addresses = {port.link for port in origin.ports}, {port.address for port in origin.ports}
     return [
-        f"{link.subnet} {way.hop} {way.port.number} {PREFERENCE} {metric}"
-        for link, (way, metric) in sorted(best.items(), key=lambda pair: pair[0].subnet)
+        f"{link.prefix} {way.hop} {way.port.number} {PREFERENCE} {metric}"
+        for link, (way, metric) in sorted(best.items(), key=lambda pair: pair[0].order)
         if link not in own and way.hop not in addresses
     ]

@@ -79,11 +79,11 @@ class Traffic:
 
     def bring(self, sent: story.Sent, router: Router, iface: int | None, moment: int) -> None:
         chance = self.chances.of(sent.number, router.name, iface)
-        links = self.links_to(sent, router)
-        arrives = self.share(sent, links, router) if links is not None and router.is_up else 0
+        hops = self.hops_to(sent, router)
+        arrives = self.share(sent, hops) if hops is not None and router.is_up else 0
         if chance.random() >= arrives:
             return
-        moment += sum(chance.randint(*self.chances.delay) for _ in links)
+        moment += sum(chance.randint(*self.chances.delay) for _ in hops)
         way, order = (sent.router, sent.where, router.name, iface), DELIVERIES
         if chance.random() < self.chances.reorder:
             moment, order = moment + self.chances.delay[1], OVERTAKEN
@@ -93,17 +93,18 @@ class Traffic:
         self.schedule(Action([move]), moment, (order, sent.number, router.name, -1 if iface is None else iface))
 
     @staticmethod
-    def share(sent: story.Sent, links: Sequence[Link], router: Router) -> float:
-        """The share of packets like this one that come to a router over links."""
+    def share(sent: story.Sent, hops: Sequence[tuple[Link, str, str]]) -> float:
+        """The share of packets like this one that come over some hops."""
         packet = sent.packet()
-        if sent.is_unicast():
-            return math.prod(1 - link.loss for link in links)
-        return math.prod(1 - link.share_lost(packet, sent.router, router.name) for link in links)
+        return math.prod(1 - link.share_lost(packet, sender, receiver) for link, sender, receiver in hops)
 
-    def links_to(self, sent: story.Sent, router: Router) -> tuple[Link, ...] | None:
-        """The links on which a packet comes to a router, None where it can't."""
-        if sent.is_unicast():
-            way = ways(self.net.routers[sent.router]).get(router)
-            return None if way is None else way.links
-        link = self.net.links[sent.where]
-        return (link,) if link.is_up else None
+    def hops_to(self, sent: story.Sent, router: Router) -> list[tuple[Link, str, str]] | None:
+        """The links on which a packet comes to a router, each with the routers at its ends; None where it can't."""
+        if not sent.is_unicast():
+            link = self.net.links[sent.where]
+            return [(link, sent.router, router.name)] if link.is_up else None
+        way = ways(self.net.routers[sent.router]).get(router)
+        if way is None:
+            return None
+        names = [sent.router, *(each.name for each in way.routers)]
+        return list(zip(way.links, names, names[1:]))

@@ -13,11 +13,44 @@ function aside(from, to, shift) {
   const [x, y] = [-(to[1] - from[1]) / length * shift, (to[0] - from[0]) / length * shift];
   return [[from[0] + x, from[1] + y], [to[0] + x, to[1] + y]];
 }
+
+// ---- what part of the map is seen
+
+// Letters have so many pixels at least, on whatever scale.
+const LEAST = 11, NEAREST = 12;
+// A network of which a pixel would be more units than this is shown in part at first, so that names stand apart.
+const MOST_AT_FIRST = 2.1;
+// The part of the map that all pictures show, and how many of its units a pixel is. Where these are many, a box holds a
+// name alone.
+const view = { box: [...DATA.box], unit: 1, isCompact: false };
+function measure(svg) {
+  const { width, height } = svg.getBoundingClientRect(), [, , wide, high] = view.box;
+  if (!width || !height) return;
+  view.unit = Math.max(wide / width, high / height);
+  view.isCompact = view.unit > (RUNS[0].routers.length < MANY_ROUTERS ? 1.5 : 1.1);
+}
+// A larger or smaller part, about a point that stays where it is.
+function zoom(factor, [x, y] = [view.box[0] + view.box[2] / 2, view.box[1] + view.box[3] / 2]) {
+  const [left, top, wide, high] = view.box, share = Math.min(1, Math.max(1 / NEAREST, wide / DATA.box[2] * factor)) *
+      DATA.box[2] / wide;
+  view.box = [x - (x - left) * share, y - (y - top) * share, wide * share, high * share];
+  if (view.box[2] >= DATA.box[2]) view.box = [...DATA.box];
+}
+function pan(x, y) { view.box = [view.box[0] + x, view.box[1] + y, view.box[2], view.box[3]] }
+
+// ---- nodes
+
 // Half the size of the box of a node of each kind.
 const HALF = { r: [47, 21], l: [42, 16], h: [46, 13] };
+const HOSTS = new Map(DATA.hosts.map(host => [host.address, host.name]));
+const labelOf = (kind, name) => kind === "h" ? "✓ " + cut(HOSTS.get(name) || name, 13) : cut(name, kind === "r" ? 12 : 13);
+function halfOf(kind, name) {
+  if (!view.isCompact) return HALF[kind];
+  return [(labelOf(kind, name).length * 3.2 + 5) * view.unit, 9.5 * view.unit];
+}
 // A point on a line from the middle of a box, where it leaves the box.
-function edgeOf(kind, from, to, gap = 2) {
-  const [wide, high] = HALF[kind], [x, y] = [to[0] - from[0], to[1] - from[1]], length = Math.hypot(x, y) || 1;
+function edgeOf(kind, name, from, to, gap = 2) {
+  const [wide, high] = halfOf(kind, name), [x, y] = [to[0] - from[0], to[1] - from[1]], length = Math.hypot(x, y) || 1;
   const reach = Math.min(wide / Math.max(Math.abs(x) / length, 1e-6), high / Math.max(Math.abs(y) / length, 1e-6)) +
       gap;
   return along(from, to, Math.min(.48, reach / length));
@@ -33,19 +66,44 @@ function farEnds(run, router, iface) {
 }
 function wayOf(run, router, [kind, name]) {
   const from = placeOf("r", run.routers[router].name), to = placeOf(kind, name);
-  return [edgeOf("r", from, to), edgeOf(kind, to, from)];
+  return [edgeOf("r", run.routers[router].name, from, to), edgeOf(kind, name, to, from)];
 }
 
 class Picture {
   constructor(run, figure) {
     this.run = run;
-    this.svg = figure.appendChild(node("svg",
-        { viewBox: `${DATA.box[0]} ${DATA.box[1]} ${DATA.box[2]} ${DATA.box[3]}` }));
+    this.svg = figure.appendChild(node("svg", {}));
     this.isSmall = run.routers.length < MANY_ROUTERS;
+    this.svg.onwheel = event => {
+      event.preventDefault();
+      zoom(event.deltaY < 0 ? .8 : 1.25, this.pointOf(event));
+      drawMaps();
+    };
+    this.svg.onpointerdown = event => this.drag(event);
+  }
+  // A point of the map, by where the mouse is.
+  pointOf(event) {
+    const point = new DOMPoint(event.clientX, event.clientY).matrixTransform(this.svg.getScreenCTM().inverse());
+    return [point.x, point.y];
+  }
+  drag(event) {
+    const from = this.pointOf(event);
+    this.svg.onpointermove = moved => {
+      const [x, y] = this.pointOf(moved);
+      pan(from[0] - x, from[1] - y);
+      for (const map of maps) map.look();
+    };
+    this.svg.onpointerup = this.svg.onpointerleave = () => { this.svg.onpointermove = null };
+  }
+  look() {
+    this.svg.setAttribute("viewBox", view.box.join(" "));
+    this.svg.style.setProperty("--font", `${Math.max(12, LEAST * view.unit)}px`);
+    this.svg.style.setProperty("--small", `${Math.max(LEAST, LEAST * view.unit)}px`);
   }
   draw() {
     const at = position(this.run), start = startOf(this.run);
     this.at = at;
+    this.look();
     this.shapes = this.run.routers.map((_, n) => this.run.shape(n, at));
     this.sortTrees();
     this.svg.replaceChildren(this.heads());
@@ -77,7 +135,7 @@ class Picture {
       const look = up.has(iface) ? { stroke: "#b9c3cd" } : { stroke: "#d9837a", "stroke-dasharray": "4 4" };
       this.svg.append(node("line", { x1: from[0], y1: from[1], x2: middle[0], y2: middle[1], "stroke-width": 1.4,
           ...look }));
-      if (n) return;
+      if (n || view.isCompact) return;
       const isDr = this.shapes[router].dr.includes(iface), [x, y, anchor] = this.besideLine(router, from, to);
       const text = (this.isSmall ? `${iface}: ${address}` : `${iface}`) +
           (up.has(iface) ? isDr && end[0] !== "r" ? " DR" : "" : " down");
@@ -95,8 +153,12 @@ class Picture {
     }
     return [from[0] + (isRight ? 9 : -9), from[1] + (to[1] < from[1] - 2 ? 15 : -8), isRight ? "start" : "end"];
   }
-  isShown(tree) { return shown.kinds[tree.startsWith("(*") ? "shared" : "source"] &&
+  isShown(tree) { return shown.kinds[tree.startsWith("(*") ? "shared" : "source"] && isWantedTree(tree) &&
       (shown.alone === null || shown.alone === tree) }
+  // Whether a router has a tree that is shown, or everything is.
+  isOnShown(router) {
+    return !shown.filter || this.shapes[router].arrows.some(([tree]) => this.isShown(treeName(this.run.trees[tree])));
+  }
   // The trees on each line between a router and a node, by their names, and who sends each tree on a link.
   sortTrees() {
     this.onLines = new Map();
@@ -169,7 +231,8 @@ class Picture {
       if (owner == null || !this.isShown(treeName(pair))) continue;
       const from = placeOf("r", this.run.routers[router].name), to = placeOf("r", this.run.routers[owner].name);
       const bend = along(...aside(from, to, Math.hypot(to[0] - from[0], to[1] - from[1]) * .22), .5);
-      const [start, end] = [edgeOf("r", from, bend), edgeOf("r", to, bend, 5)];
+      const [start, end] = [edgeOf("r", this.run.routers[router].name, from, bend),
+          edgeOf("r", this.run.routers[owner].name, to, bend, 5)];
       const line = this.svg.appendChild(node("path",
           { d: `M${start} Q${bend} ${end}`, fill: "none", stroke: colourOf(pair), "stroke-width": 2,
         "stroke-dasharray": "2 4", "marker-end": `url(#head${colourOf(pair).slice(1)})` }));
@@ -182,14 +245,22 @@ class Picture {
       if (DATA.kinds[link] === "pair") this.nameLink(link, net);
       return;
     }
-    const [x, y] = placeOf("l", link);
-    this.svg.append(node("rect", { x: x - 42, y: y - 16, width: 84, height: 32, rx: 16, fill: "#fff",
-        stroke: "#9aa5b0" }),
-      node("text", { x, y: y - 1, "text-anchor": "middle", style: "font-size:11px" }, cut(link, 13)),
-      node("text", { x, y: y + 11, "text-anchor": "middle", class: "small" }, net));
+    const place = placeOf("l", link), [x, y] = place, group = this.box("l", link, place, { fill: "#fff", stroke: "#9aa5b0" });
+    group.append(node("text", { x, y: this.base(y, -1), "text-anchor": "middle" }, labelOf("l", link)),
+        node("title", {}, `${link} ${net}`));
+    if (!view.isCompact) group.append(node("text", { x, y: y + 11, "text-anchor": "middle", class: "small" }, net));
   }
+  // The box of a node, in a group of its own.
+  box(kind, name, [x, y], look) {
+    const [wide, high] = halfOf(kind, name), group = this.svg.appendChild(node("g", {}));
+    group.append(node("rect", { x: x - wide, y: y - high, width: 2 * wide, height: 2 * high, "stroke-width": 1.5,
+        rx: kind === "r" ? 7 : high, ...look }));
+    return group;
+  }
+  // Where the first line of a box stands: in its middle where it is alone.
+  base(y, shift) { return view.isCompact ? y + 4 * view.unit : y + shift }
   nameLink(link, net) {
-    if (!this.isSmall) return;
+    if (!this.isSmall || view.isCompact) return;
     const ends = this.run.ports.get(link).map(([router]) => placeOf("r", this.run.routers[router].name));
     const [x, y] = along(ends[0], ends[1], .5);
     const label = node("text", { x, y: y - 13, "text-anchor": "middle", class: "small halo" }, link);
@@ -197,26 +268,28 @@ class Picture {
     this.svg.append(label);
   }
   drawRouter(router, start) {
-    const { name } = this.run.routers[router], [x, y] = placeOf("r", name),
-        group = this.svg.appendChild(node("g", { class: "pick" }));
+    const { name } = this.run.routers[router], place = placeOf("r", name), [x, y] = place, [wide, high] = halfOf("r", name);
     const isChanged = this.run.change(router, start).shape !== this.run.change(router, this.at).shape;
     const isOdd = this.run.steps.slice(start, this.at).some(step => step[0] === router && step[8]);
     const isChosen = this.run === current() && shown.router === router, { up, rp } = this.shapes[router];
     const fill = isChosen ? "#cfe3f8" : up.length ? "#e9eef3" : "#f6dedb";
-    group.append(node("rect", { x: x - 47, y: y - 21, width: 94, height: 42, rx: 7, fill, stroke: isChanged ? "#e08a00"
-        : "#33414f",
-      "stroke-width": isChanged ? 3 : 1.5 }),
-      node("text", { x, y: y - 2, "text-anchor": "middle", "font-weight": 700 }, cut(name, 12)),
-      node("text", { x, y: y + 13, "text-anchor": "middle", class: "small" }, seconds(this.momentOf(router))));
-    if (rp.length) this.badge(group, x + 38, y - 21, "RP", "#33414f",
+    const group = this.box("r", name, place, { fill, stroke: isChanged ? "#e08a00" : "#33414f",
+        "stroke-width": isChanged ? 3 : 1.5 });
+    group.classList.add("pick");
+    group.classList.toggle("faded", !this.isOnShown(router));
+    group.append(node("text", { x, y: this.base(y, -2), "text-anchor": "middle", "font-weight": 700 }, labelOf("r", name)),
+        node("title", {}, `${name}, ${seconds(this.momentOf(router))}`));
+    if (!view.isCompact) group.append(node("text", { x, y: y + 14, "text-anchor": "middle", class: "small" },
+        seconds(this.momentOf(router))));
+    if (rp.length) this.badge(group, x + wide - 9, y - high, "RP", "#33414f",
         `RP of ${rp.map(text => this.run.texts[text]).join(", ")}`);
-    if (isOdd) this.badge(group, x - 38, y - 21, "!", "#c0392b", "it refused or ignored something in this move");
+    if (isOdd) this.badge(group, x - wide + 9, y - high, "!", "#c0392b", "it refused or ignored something in this move");
     group.onclick = () => { shown.router = router; shown.run = runs.indexOf(this.run); show() };
   }
   badge(group, x, y, text, fill, title) {
-    const made = group.appendChild(node("g", {}));
-    made.append(node("rect", { x: x - 12, y: y - 8, width: 24, height: 16, rx: 8, fill }),
-      node("text", { x, y: y + 4, "text-anchor": "middle", style: "font-size:10px;fill:#fff;font-weight:700" }, text),
+    const made = group.appendChild(node("g", {})), unit = Math.max(1, view.unit);
+    made.append(node("rect", { x: x - 12 * unit, y: y - 8 * unit, width: 24 * unit, height: 16 * unit, rx: 8 * unit, fill }),
+      node("text", { x, y: y + 4 * unit, "text-anchor": "middle", class: "tag", "font-weight": 700 }, text),
           node("title", {}, title));
   }
   momentOf(router) { return Run.last(this.run.ticks[router], this.at).moment }
@@ -227,19 +300,19 @@ class Picture {
         ["#d8f0dd", "#1e7e34", "✓ "],
       ["#fdeccb", "#c77700", "×2 "], ["#fbdcd8", "#c0392b", "✗ "]][state];
     if (DATA.kinds[host.link] === "lan") {
-      const link = placeOf("l", host.link), from = edgeOf("h", place, link), to = edgeOf("l", link, place);
+      const link = placeOf("l", host.link), from = edgeOf("h", host.address, place, link),
+          to = edgeOf("l", host.link, link, place);
       this.svg.append(node("line", { x1: from[0], y1: from[1], x2: to[0], y2: to[1], stroke: "#b9c3cd" }));
     }
-    const group = this.svg.appendChild(node("g", {}));
-    group.append(node("rect", { x: x - 46, y: y - 13, width: 92, height: 26, rx: 13, fill, stroke,
-        "stroke-width": 1.5 }),
-      node("text", { x, y: y + 4, "text-anchor": "middle" }, mark + cut(host.name, 13)),
+    const group = this.box("h", host.address, place, { fill, stroke });
+    group.classList.toggle("faded", !isWantedHost(this.run, host.address));
+    group.append(node("text", { x, y: this.base(y, 4), "text-anchor": "middle" }, mark + cut(host.name, 13)),
           node("title", {}, `${host.name} ${host.address}: ${text || "asks for nothing"}`));
     if (state === MISSED || state === TWICE) this.why(x, y + 25, text, state);
   }
   // Why a host got nothing, in a few short lines; in a large network the panel has it.
   why(x, y, text, state) {
-    if (!this.isSmall) return;
+    if (!this.isSmall || view.isCompact) return;
     const lines = wrapped(text.replace(/^packet \d+ (didn't come: )?/, ""), 30).slice(0, 4);
     lines.forEach((line, n) => this.svg.append(node("text",
         { x, y: y + n * 12, "text-anchor": "middle", class: "why halo",
@@ -285,17 +358,17 @@ class Picture {
     if (tree >= 0 && !this.isShown(treeName(this.run.trees[tree]))) return;
     if (!shown.hellos && (kind === "Hello" || kind === "query")) return;
     const colour = tree >= 0 ? colourOf(this.run.trees[tree]) : kind === "data" ? "#333" : "#4a5763";
-    const [start, end] = [edgeOf(from[0], placeOf(...from), placeOf(...to)),
-        edgeOf(to[0], placeOf(...to), placeOf(...from))];
+    const [start, end] = [edgeOf(...from, placeOf(...from), placeOf(...to)),
+        edgeOf(...to, placeOf(...to), placeOf(...from))];
     const made = this.svg.appendChild(node("g", {})), text = kind + (count > 1 ? ` ×${count}` : "");
-    const wide = text.length * 5.6 + 12, isCopy = kind === "data" && tree >= 0;
+    const unit = Math.max(1, view.unit), wide = (text.length * 6.2 + 12) * unit, isCopy = kind === "data" && tree >= 0;
     const stop = along(start, end, isCopy ? .5 + ((lane % 2 ? 1 : -1) * Math.ceil(lane / 2) * .11) % .4 : .5);
-    if (isCopy) made.append(node("circle", { r: 6.5, fill: colour, stroke: "#fff", "stroke-width": 2 }));
-    else made.append(node("rect", { x: -wide / 2, y: -8, width: wide, height: 16, rx: 8, fill: colour,
+    if (isCopy) made.append(node("circle", { r: 6.5 * unit, fill: colour, stroke: "#fff", "stroke-width": 2 }));
+    else made.append(node("rect", { x: -wide / 2, y: -8 * unit, width: wide, height: 16 * unit, rx: 8 * unit, fill: colour,
         stroke: "#fff" }),
-      node("text", { y: 3.5, "text-anchor": "middle", style: "font-size:10px;fill:#fff" }, text));
+      node("text", { y: 4 * unit, "text-anchor": "middle", class: "tag" }, text));
     made.append(node("title", {}, `${text}: ${from[1]} to ${to[1]}`));
-    const drop = isCopy ? 0 : lane * 17;
+    const drop = isCopy ? 0 : lane * 17 * unit;
     made.setAttribute("transform", `translate(${stop[0]},${stop[1] + drop})`);
     if (shown.moving) made.animate([{ transform: `translate(${start[0]}px,${start[1]}px)`, opacity: 0 },
         { opacity: 1, offset: .15 },

@@ -47,16 +47,21 @@ function packetRow(run, packet) {
     `${cell(isUnicast ? "unicast" : run.links[where][0], "soft")}${cell(run.texts[kind])}<td>${text}`;
 }
 function packetsPanel(run, start, at) {
-  const packets = run.packetsOf(start, at), more = packets.length - MOST_PACKETS;
+  const packets = run.packetsOf(start, at).filter(packet => isWantedPacket(run, packet));
+  const more = packets.length - MOST_PACKETS;
   const odd = run.steps.slice(start, at).map((step, n) => [step, start + n]).filter(([step]) => step[8]);
   const told = odd.slice(0, MOST_ODD).map(([step, n]) => {
     const name = run.routers[step[0]].name, what = run.answer(n).replace(/^\S+ /, "");
     return `<div class=bad>${escaped(`${name} ${what} answers: ${run.texts[step[8] - 1]}`)}</div>`;
   });
-  const rows = rowsIn(packets.slice(0, MOST_PACKETS).map(packet => packetRow(run, packet)));
+  const isUsual = packet => ["Hello", "query"].includes(run.texts[packet[3]]), usual = packets.filter(isUsual);
+  const rows = each => rowsIn(each.slice(0, MOST_PACKETS).map(packet => packetRow(run, packet)));
   const rest = more > 0 ? `<div class=soft>and ${more} more</div>` : "";
-  byId("packets").innerHTML = titled(`Sent by this ${shown.single ? "delivery" : "move"}`, told.join("") + rows + rest,
-      "nothing");
+  const hellos = usual.length ? folded(`<span class=soft>${usual.length} Hellos and queries</span>`, rows(usual), shown.usual,
+      "usual") : "";
+  byId("packets").innerHTML = titled(`Sent by this ${shown.single ? "delivery" : "move"}`,
+      told.join("") + rows(packets.filter(packet => !isUsual(packet))) + hellos + rest, "nothing");
+  if (byId("usual")) byId("usual").ontoggle = event => { shown.usual = event.target.open };
 }
 
 // ---- hosts
@@ -72,12 +77,14 @@ function streamRow(run, host, each) {
   const name = treeName(run.streams[each.stream]), look = STATES[each.state];
   const stream = `<td class=stream style="color:${COLOURS[name]}">${escaped(name)}`;
   return `<tr>${cell(MARKS[each.state], look)}${bold(host.name)}${stream}` +
-    `${cell(total ? `${each.came}/${total}${again}` : "", "soft")}${cell(each.text, look)}`;
+    `${cell(total ? `${each.came}/${total}${again}` : "", "soft")}` +
+        `<tr><td colspan=4 class="why ${look}">${escaped(each.text)}`;
 }
 function hostsPanel(run, at) {
-  const streams = run.hosts.flatMap(host => {
+  const streams = run.hosts.filter(host => isWantedHost(run, host.address)).flatMap(host => {
     const all = run.streamsOf(host, at);
-    return all.filter(each => !isOnlyWish(run, each, all)).map(each => [each.state, streamRow(run, host, each)]);
+    return all.filter(each => !isOnlyWish(run, each, all) && isWantedTree(treeName(run.streams[each.stream])))
+        .map(each => [each.state, streamRow(run, host, each)]);
   });
   streams.sort((one, other) => other[0] - one[0]);
   const rows = wanted => rowsIn(streams.filter(([state]) => wanted(state)).map(([, row]) => row));
@@ -105,12 +112,15 @@ const notesPanel = run => run.notes.length ? titled("What went wrong in this run
 const withEnds = (text, ends) => text.replace(/1\d{9}\.000 s/g, mark => seconds(ends[parseInt(mark, 10) - 1e9] || 0));
 function viewTable(run, [title, heads, rows], old, ends) {
   const before = new Set((old.view.find(([other]) => other === title) || ["", [], []])[2].map(String));
+  const own = heads.indexOf("Outgoing"), isOwn = place => place === own, isNew = row => before.has(String(row)) ? "" : "new";
   const made = rows.map(row => {
-    const cells = row.map(number => cell(withEnds(run.texts[number], ends), run.texts[number].length > 24 ? "long"
-        : ""));
-    return `<tr class="${before.has(String(row)) ? "" : "new"}">${cells.join("")}`;
+    const texts = row.map(number => withEnds(run.texts[number], ends));
+    const cells = texts.filter((_, place) => !isOwn(place)).map(text => cell(text, text.length > 24 ? "long" : ""));
+    const under = own < 0 ? "" : `<tr class="${isNew(row)}"><td class=own colspan=${heads.length}>to ${escaped(texts[own])}`;
+    return `<tr class="${isNew(row)}">${cells.join("")}${under}`;
   });
-  return `<h4>${title}</h4><table><tr>${heads.map(head => `<th>${escaped(head)}`).join("")}${made.join("")}</table>`;
+  const shownHeads = heads.filter((_, place) => !isOwn(place)).map(head => `<th>${escaped(head)}`);
+  return `<h4>${title}</h4><table><tr>${shownHeads.join("")}${made.join("")}</table>`;
 }
 function routerPanel(run, start, at) {
   const n = Math.min(shown.router, run.routers.length - 1), ends = run.ends(n, at), old = run.shape(n, start);
@@ -130,12 +140,23 @@ function differ(router) {
   };
   return other < 0 || trees(one, router) !== trees(two, other);
 }
+// What came so far of each stream to each host of a run, and what was missed, by the host's name and the stream's.
+function numbersOf(run) {
+  const all = run.hosts.flatMap(host => run.streamsOf(host, position(run)).map(each => [host, each]));
+  const heard = all.filter(([, each]) => each.came + each.missed);
+  return new Map(heard.map(([host, each]) => [`${host.name} ${treeName(run.streams[each.stream])}`, each]));
+}
+function numbersWords(each) {
+  if (!each) return "nothing was sent";
+  const more = [each.missed ? `${each.missed} missed` : "", each.twice ? `${each.twice} again` : ""].filter(Boolean);
+  return [`${each.came} came`, ...more].join(", ");
+}
 function hostsThatDiffer([one, two]) {
-  const nothing = { state: LEFT, text: "" }, told = each => cell(each.text || "nothing", STATES[each.state]);
-  return one.hosts.flatMap(host => {
-    const other = two.hosts.find(each => each.address === host.address);
-    const [here, there] = [one.stateOf(host, position(one)), other ? two.stateOf(other, position(two)) : nothing];
-    return here.state === there.state ? [] : [`<tr>${bold(host.name)}${told(here)}${told(there)}`];
+  const [here, there] = [numbersOf(one), numbersOf(two)];
+  return [...new Set([...here.keys(), ...there.keys()])].flatMap(name => {
+    const both = [here.get(name), there.get(name)], texts = both.map(numbersWords);
+    const told = both.map((each, n) => cell(texts[n], each ? STATES[each.state] : "soft")).join("");
+    return texts[0] === texts[1] ? [] : [`<tr>${bold(name)}${told}`];
   });
 }
 function differencesPanel() {
@@ -161,7 +182,7 @@ const SIGNS = [
 function treesShown() {
   const names = runs.flatMap(run => run.routers.flatMap((_, n) =>
       run.shape(n, position(run)).arrows.map(([tree]) => treeName(run.trees[tree]))));
-  return [...new Set(names)].sort();
+  return [...new Set(names)].filter(isWantedTree).sort();
 }
 function legend() {
   const trees = treesShown().map(name => {

@@ -48,9 +48,37 @@ function makeMaps() {
     maps.push(new Picture(run, figure));
   }
 }
+function begin() {
+  measure(maps[0].svg);
+  if (view.unit > MOST_AT_FIRST) zoom(MOST_AT_FIRST / view.unit);
+}
+function drawMaps() {
+  measure(maps[0].svg);
+  for (const map of maps) map.draw();
+}
+function zoomBy(factor) {
+  if (factor) zoom(factor);
+  else view.box = [...DATA.box];
+  drawMaps();
+}
+// A pane has another size while its border is dragged.
+const PANES = { left: event => event.clientX, right: event => innerWidth - event.clientX,
+  low: event => innerHeight - event.clientY };
+function listenPanes() {
+  for (const id in PANES) byId(id).onpointerdown = event => {
+    const border = byId(id), most = (id === "low" ? innerHeight : innerWidth) * .6;
+    border.setPointerCapture(event.pointerId);
+    border.classList.add("on");
+    border.onpointermove = moved => {
+      document.body.style.setProperty(`--${id}`, `${Math.min(most, Math.max(60, PANES[id](moved)))}px`);
+      drawMaps();
+    };
+    border.onpointerup = () => { border.onpointermove = null; border.classList.remove("on") };
+  };
+  window.onresize = drawMaps;
+}
 function show() {
   const run = current(), at = position(run), start = startOf(run);
-  for (const map of maps) map.draw();
   [...byId("maps").children].forEach((figure, n) => figure.classList.toggle("chosen", n === shown.run));
   legend();
   packetsPanel(run, start, at);
@@ -60,6 +88,7 @@ function show() {
   for (const each of byId("side").querySelectorAll("[data-move]")) each.onclick = () => go(+each.dataset.move);
   const move = moveOf(run), single = shown.single && run === runs[0] ? ` · ${run.answer(at - 1) || ""}` : "";
   byId("caption").textContent = (move ? `Move ${move}. ` : "") + run.title(move) + single;
+  drawMaps();
   byId("count").textContent = `${shown.move} of ${runs[0].moves.length} · ${seconds(runs[0].moment(shown.move))}`;
   byId("slider").value = shown.move;
   byId("single").classList.toggle("on", shown.single);
@@ -103,7 +132,9 @@ function play() {
       : play(), 1400);
   byId("play").textContent = timer ? "⏸" : "▶";
 }
-function textOfMove(move) {
+const textsOfMoves = [];
+function textOfMove(move) { return textsOfMoves[move] ??= textOfMoveFound(move) }
+function textOfMoveFound(move) {
   const run = runs[0], [from, to] = [run.before(move), run.after(move)], packets = run.packetsOf(from, to);
   return [run.title(move), ...run.steps.slice(from, to).map(step => run.texts[step[9]] || ""),
       ...packets.map(packet => run.texts[packet[4]])].join("\n").toLowerCase();
@@ -117,6 +148,14 @@ function search(isNext) {
   });
   byId("search").title = wanted ? `${hits.length} moves; Enter goes to the next` : "";
   if (isNext && hits.length) go(hits.find(move => move > shown.move) ?? hits[0]);
+}
+function filter() {
+  setFilter(byId("filter").value);
+  byId("filter").classList.toggle("on", shown.filter !== "");
+  shown.alone = null;
+  rowsOfMoves.forEach((row, move) => row.classList.toggle("other", shown.filter !== "" && move > 0 &&
+      !textOfMove(move).includes(shown.filter)));
+  show();
 }
 function nextTree() {
   const names = [...byId("legend").querySelectorAll("[data-tree]")].map(each => each.dataset.tree);
@@ -137,13 +176,16 @@ const KEYS = {
       x: ["x", "the first difference of two runs", () => runs.length > 1 && toDifference()],
   r: ["r", "the next router", () => { shown.router = (shown.router + 1) % current().routers.length; show() }],
   Home: ["Home", "before the first move", () => go(0)], End: ["End", "the last move", () => go(runs[0].moves.length)],
+  f: ["f", "a host or a group alone", () => byId("filter").focus()],
+  "+": ["+", "a larger map", () => zoomBy(.8)], "-": ["−", "a smaller one", () => zoomBy(1.25)],
+  0: ["0", "the whole network", () => zoomBy(0)],
   "/": ["/", "search; Enter goes to the next hit", () => byId("search").focus()],
       "?": ["?", "these keys", () => { byId("keys").hidden = !byId("keys").hidden }],
 };
 function listen() {
   const clicks = { first: () => go(0), back: () => step(-1), forward: () => step(1), play, change: () => toChange(1),
       single: toggleSingle,
-    differs: toDifference, help: KEYS["?"][2] };
+    differs: toDifference, help: KEYS["?"][2], in: KEYS["+"][2], out: KEYS["-"][2], whole: KEYS[0][2] };
   for (const id in clicks) byId(id).onclick = clicks[id];
   byId("slider").max = runs[0].moves.length;
   byId("slider").oninput = event => go(+event.target.value);
@@ -151,6 +193,11 @@ function listen() {
   byId("moves").classList.add("few");
   byId("hellos").checked = shown.hellos = !runs[0].byTime && runs[0].routers.length < MANY_ROUTERS;
   byId("hellos").onchange = event => { shown.hellos = event.target.checked; show() };
+  byId("filter").oninput = filter;
+  byId("filter").onkeydown = event => { event.stopPropagation(); if (event.key === "Escape") byId("filter").blur() };
+  const names = runs.flatMap(run => [...run.streams.map(([group]) => group), ...run.hosts.map(host => host.name)]);
+  byId("names").innerHTML = [...new Set(names)].map(name => `<option value="${escaped(name)}">`).join("");
+  listenPanes();
   byId("search").oninput = () => search(false);
   byId("search").onkeydown = event => { event.stopPropagation(); if (event.key === "Enter") search(true);
       if (event.key === "Escape") byId("search").blur() };
@@ -164,6 +211,7 @@ function listen() {
   byId("differs").hidden = runs.length < 2;
 }
 makeMaps();
+begin();
 listMoves();
 listen();
 const asked = new URLSearchParams(location.hash.slice(1).replace(/^\d+/, ""));

@@ -8,7 +8,7 @@ const [LEFT, WAITS, CAME, TWICE, MISSED] = [0, 1, 2, 3, 4];
 const MANY_ROUTERS = 9;
 // What is shown: a move of the first run, the answers up to which it is shown, a router and a run.
 const shown = { move: 0, at: 0, router: 0, run: 0, single: false, kinds: { source: true, shared: true },
-  hellos: true, alone: null, moving: false };
+  hellos: true, alone: null, moving: false, filter: "" };
 const escaped = text => String(text).replace(/[&<>"]/g,
     sign => ({ "&": "&amp;", "<": "&lt;", ">": "&gt;", '"': "&quot;" }[sign]));
 const seconds = ms => `${(ms / 1000).toFixed(ms % 1000 ? 3 : 0)} s`;
@@ -108,3 +108,32 @@ function position(run) {
 }
 const moveOf = run => run.moveBeside(runs[0], shown.move);
 const startOf = run => run === runs[0] && shown.single ? Math.max(shown.at - 1, 0) : run.before(moveOf(run));
+
+// ---- a host or a group alone
+
+const isNamed = (address, names) => [address, names.get(address) || ""].some(text => text.toLowerCase().includes(shown.filter));
+// The groups that a filter means in a run, and its hosts: those that it names, and what these want or send.
+function wantedOf(run) {
+  const names = new Map(run.hosts.map(host => [host.address, host.name])), groups = new Set(), hosts = new Set();
+  const all = [...run.trees, ...run.streams];
+  for (const [group, source] of all) if (group.includes(shown.filter) || isNamed(source, names)) groups.add(group);
+  const groupsOf = host => host.events.map(event => run.streams[event[1]][0]);
+  for (const host of run.hosts) if (groupsOf(host).some(group => groups.has(group))) hosts.add(host.address);
+  for (const host of run.hosts) if (isNamed(host.address, names)) {
+    hosts.add(host.address);
+    groupsOf(host).forEach(group => groups.add(group));
+  }
+  for (const [group, source] of all) if (groups.has(group) && source !== "*") hosts.add(source);
+  return { groups, hosts };
+}
+const wanted = new Map();
+function setFilter(text) {
+  shown.filter = text.trim().toLowerCase();
+  wanted.clear();
+  if (shown.filter) for (const run of runs) wanted.set(run, wantedOf(run));
+}
+const isWantedTree = name => !shown.filter || [...wanted.values()].some(({ groups }) =>
+    groups.has(name.slice(1, -1).split(", ")[1]));
+const isWantedPacket = (run, [, , , , words, , , tree]) => !shown.filter || run.texts[words].includes(shown.filter) ||
+    tree >= 0 && isWantedTree(treeName(run.trees[tree]));
+const isWantedHost = (run, address) => !shown.filter || wanted.get(run).hosts.has(address);

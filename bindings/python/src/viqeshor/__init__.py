@@ -26,7 +26,7 @@ import threading
 import weakref
 from collections.abc import Callable, Iterable, Iterator
 from ctypes import POINTER, Structure, byref, c_bool, c_char_p, c_size_t, c_uint8, c_uint32, c_uint64, c_void_p
-from functools import cache
+from functools import cache, lru_cache
 from ipaddress import IPv4Address
 from typing import Any, NamedTuple, Self, SupportsIndex, TypeAlias
 
@@ -416,10 +416,12 @@ def all_numbers(kind: Any, values: Iterable[SupportsIndex]) -> Any:
     return kind(*(number(value, 32, name) for name, value in zip(names, given)))
 
 
+@lru_cache(maxsize=65536)
 def address(text: str) -> int:
     return int(IPv4Address(text))
 
 
+@lru_cache(maxsize=65536)
 def prefix(text: str) -> tuple[int, int]:
     """Its address and length; host bits are left as they are, for the router to refuse."""
     net, length = text.split("/")

@@ -5,6 +5,8 @@ ghost use Rattle.pim_ip.specs.declared.fault.Fault.{Fault};
 ghost use Rattle.pim_model.specs.Limits.{config_test};
 ghost use Rattle.law_reloaded.specs.Reloading.{reload};
 ghost use Rattle.pim_reloader.specs.Listing.{ListsFacts};
+ghost use Rattle.law_history.specs.History.{Given};
+ghost use Rattle.pim_router.specs.Asked.{LeadsOn};
 ghost use Rattle.pim_router.specs.Standing.{beginning, nothing_shown};
 ghost use Rattle.pim_session.specs.Front.{emissions_left};
 ghost use Rattle.pim_session.specs.Reloaded.{front_reloaded};
@@ -36,6 +38,8 @@ impl Session {
             (self.new.router.standing ≡ Some (beginning (reload r.state config.now draw).0)))) }
         ensures sent { IfSome self.old.router.standing (λ r. IfOk result (λ answer. OnOk answer
             (self.new.sent ≡ emissions_left self.old.front (reload r.state config.now draw).1))) }
+        ensures led { IfSome self.old.router.standing (λ r. IfOk result (λ answer. OnOk answer (IfSome self.new.router.standing (λ after.
+            LeadsOn r.state (Given.Reload config.now draw) after.state)))) }
         ensures front { IfSome self.old.router.standing (λ r. IfOk result (λ answer. OnOk answer
             (self.new.front ≡ front_reloaded (reload r.state config.now draw).0 self.old.front))) }
         ensures changed { IfSome self.old.router.standing (λ r. IfOk result (λ answer. OnOk answer
@@ -103,6 +107,8 @@ fn reload(
         (router.new.standing ≡ Some (beginning (reload r.state config.now draw).0)))) }
     ensures sent { IfSome router.old.standing (λ r. IfOk result (λ answer. IfOk answer (λ sent.
         sent.items ≡ emissions_left front.old (reload r.state config.now draw).1))) }
+    ensures led { IfSome router.old.standing (λ r. IfOk result (λ answer. OnOk answer (IfSome router.new.standing (λ after.
+        LeadsOn r.state (Given.Reload config.now draw) after.state)))) }
     ensures front { IfSome router.old.standing (λ r. IfOk result (λ answer. OnOk answer
         (front.new ≡ front_reloaded (reload r.state config.now draw).0 front.old))) }
     ensures changed { IfSome router.old.standing (λ r. IfOk result (λ answer. OnOk answer
