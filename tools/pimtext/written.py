@@ -1,5 +1,5 @@
-"""Packets of hosts that a scenario has as words in place of hexadecimal, for all tools; `tools/plain` writes them out for
-`pimlab`.
+"""Packets of hosts that a scenario has as words in place of hexadecimal, for all tools; `tools/plain` writes them out
+for `pimlab`.
 
     hex = "igmp v3 239.1.1.1 join from 10.8.0.77"       also leave; include, exclude, allow or block and sources
     hex = "igmp v2 239.1.1.1 join from 10.8.0.77"       also leave; v1 has join alone
