@@ -104,7 +104,8 @@ def unproved_router(folder: Path | None) -> Path:
 
 # ---- one archive
 
-HEAP = "heap.pic.o"
+# The kit's object of the allocator, and the object that the archive consists of.
+HEAP, WHOLE = "heap.pic.o", "viqeshor.o"
 
 
 def written_in_c(how: str, room: Path) -> Iterator[Path]:
@@ -123,16 +124,30 @@ def archiver() -> Path | str:
 
 def archive(router: Path, how: str, room: Path) -> Path:
     """The archive, of a router's, that says how it was built, in a folder. The kit's few lines of C around malloc are
-    in it, or are put there."""
+    in it, or are put there. One that was made before is taken as it is."""
     made, tool = room / "libviqeshor.a", archiver()
+    if ran([tool, "t", router]).decode().split() == [WHOLE]:
+        put_other(made, router.read_bytes())
+        return made
     with tempfile.TemporaryDirectory(dir=room) as folder:
-        whole = Path(folder) / made.name
-        shutil.copyfile(router, whole)
-        if HEAP not in ran([tool, "t", whole]).decode().split():
+        parts, whole = Path(folder) / "parts.a", Path(folder) / made.name
+        shutil.copyfile(router, parts)
+        if HEAP not in ran([tool, "t", parts]).decode().split():
             ran([tool, "x", kit.kit() / "c" / "liblibc_c.a", HEAP], cwd=folder)
-            ran([tool, "r", whole, Path(folder) / HEAP])
-        ran([tool, "rs", whole, *written_in_c(how, Path(folder))])
+            ran([tool, "r", parts, Path(folder) / HEAP])
+        ran([tool, "rs", parts, *written_in_c(how, Path(folder))])
+        ran([tool, "rcs", whole, with_calls_alone(parts, Path(folder))])
         put_other(made, whole.read_bytes())
+    return made
+
+
+def with_calls_alone(parts: Path, folder: Path) -> Path:
+    """An archive's parts as one object, in which the library's calls are the only names that others are linked with. So
+    a program may have another archive of the kit's beside it."""
+    made, names = folder / WHOLE, folder / "names"
+    names.write_text("".join(f"{name}\n" for name in names_of_calls()))
+    ran([CC, "-r", "-nostdlib", "-o", made, "-Wl,--whole-archive", parts, "-Wl,--no-whole-archive"])
+    ran([os.environ.get("OBJCOPY", "objcopy"), f"--keep-global-symbols={names}", made])
     return made
 
 
@@ -141,6 +156,12 @@ def names_of_calls() -> list[str]:
     headers = "".join((INCLUDE / "viqeshor" / name).read_text() for name in HEADERS)
     code = re.sub(r"/\*.*?\*/|^static inline.*?$", "", headers, flags=re.S | re.M)
     return sorted(set(re.findall(r"^[a-z].*?\b(viq_\w+)\(", code, re.M)))
+
+
+def global_names(archive: Path) -> list[str]:
+    """The names of an archive that others may be linked with."""
+    told = ran([os.environ.get("NM", "nm"), "-P", "-g", "--defined-only", archive]).decode()
+    return sorted(line.split()[0] for line in told.splitlines() if line and not line.endswith(":"))
 
 
 class Library:

@@ -17,7 +17,11 @@ class Given(unittest.TestCase):
         library.ran([library.archiver(), "rs", own, heap])
         made = library.Library(own).archive
         parts = library.ran([library.archiver(), "t", made]).decode().split()
-        self.assertEqual((made, parts), (own, [library.HEAP, "texts.o", "calls.o"]))
+        self.assertEqual((made, parts), (own, [library.WHOLE]))
+        first = made.read_bytes()
+        self.assertEqual(library.Library(made).archive.read_bytes(), first)
+        self.assertNotIn("heap", library.global_names(made))
+        self.assertIn("viq_version", library.global_names(made))
 
 
 if __name__ == "__main__":

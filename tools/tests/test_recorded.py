@@ -49,6 +49,22 @@ class Recorded(unittest.TestCase):
     def test_all_of_it(self):
         self.assertEqual(self.run_tool(self.room / "router.0"), (0, "7 records, each as it was recorded\n"))
 
+    def test_what_is_no_whole_record(self):
+        file = self.room / "router.0"
+        file.write_bytes(file.read_bytes()[:-5])
+        told = "6 records, each as it was recorded\n16 bytes are no whole record\n"
+        self.assertEqual(self.run_tool(file), (1, told))
+        status, listed = self.run_tool(file, "--list", "--from", "6")
+        self.assertEqual((status, listed.splitlines()[1:]), (1, ["16 bytes are no whole record"]))
+
+    def test_a_state_that_is_damaged(self):
+        file = self.room / "router.0"
+        data = bytearray(file.read_bytes())
+        data[40] ^= 1
+        file.write_bytes(data)
+        status, told = self.run_tool(file)
+        self.assertEqual((status, told.startswith("recorded: "), len(told.splitlines())), (1, True, 1))
+
     def test_a_part(self):
         part = self.room / "part"
         told = self.run_tool(self.room / "router.0", "--from", "4", "--to", "6", "--write", part)

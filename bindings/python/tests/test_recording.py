@@ -1,6 +1,8 @@
 """What a recorder keeps of a router, and that it plays once more."""
+import errno
 import ipaddress
 import os
+import random
 import struct
 import tempfile
 import unittest
@@ -186,10 +188,135 @@ class Recordings(unittest.TestCase):
         path = Path(f"{self.path}.0")
         whole, data = recording.read(path).records, path.read_bytes()
         path.write_bytes(data[:-1])
-        self.assertEqual(recording.read(path).records, whole[:-1])
+        cut = recording.read(path)
+        self.assertEqual((cut.records, recording.read(path).rest), (whole[:-1], len(self.text_of(whole[-1])) - 1))
         for given in (b"", data[:10], b"other" + data, data[:4] + struct.pack(">H", 3) + data[6:], data + b"?"):
             path.write_bytes(given)
             self.assertRaises(recording.Unreadable, recording.read, path)
+
+    def test_a_length_that_is_damaged(self):
+        with Recorder(self.router, self.path):
+            self.use()
+        path = Path(f"{self.path}.0")
+        told, data = recording.read(path), bytearray(path.read_bytes())
+        first = next(number for number, record in enumerate(told.records) if record.name == "frame")
+        begun = len(data) - sum(len(self.text_of(record)) for record in told.records[first:])
+        data[begun + 9] ^= 0x80  # behind a letter, the draw and the interface: the length's most significant bit
+        path.write_bytes(data)
+        damaged = recording.read(path)
+        self.assertEqual((damaged.records, damaged.rest), (told.records[:first], len(data) - begun))
+
+    def test_each_flip_is_read_or_refused(self):
+        with Recorder(self.router, self.path):
+            self.router.set_older_hosts(1, "all")
+            self.use(2)
+        path, chance = Path(f"{self.path}.0"), random.Random(7)
+        whole, kinds = path.read_bytes(), set()
+        for _ in range(400):
+            data = bytearray(whole)
+            data[chance.randrange(len(data))] ^= 1 << chance.randrange(8)
+            path.write_bytes(data)
+            kinds.add(self.outcome(path))
+        self.assertLessEqual({"played", "Unreadable", "Refused", "cut short"}, kinds)
+
+    def outcome(self, path):
+        """What became of a file; what is neither played nor refused is raised."""
+        try:
+            told = recording.read(path)
+            if any(record.name == "advance" and record.numbers[0] > 10_000_000 for record in told.records):
+                return "too long to play"
+            differ, told = self.played(path)
+            return "cut short" if told.rest else "differs" if differ else "played"
+        except (recording.Unreadable, Refused) as error:
+            return type(error).__name__
+
+    def test_version_1_has_reloads(self):
+        state, links, first = self.router.save(), [(*LINKS[0], 7, 400, 2400)], (65536, 2, 125, 100, 10, 0)
+        self.router.reload(links, draw=7)
+        interface = int(ipaddress.ip_address(LINKS[0][0])), 24, 7, 400, 2400
+        data = struct.pack(">11I", *first, *interface)
+        record = b"c" + struct.pack(">5I", 7, 1, 0, 0, len(data)) + data
+        record += struct.pack(">II", 0, recording.sum_of(self.router, 1))
+        head = b"VQRC" + struct.pack(">HIQ", 1, 0, len(state)) + state
+        self.path.write_bytes(head + record)
+        self.assertEqual([each.name for each in self.played_as(1)], [])
+        self.path.write_bytes(head + record.replace(struct.pack(">I", len(data)), struct.pack(">I", len(data) - 4), 1))
+        self.assertRaises(recording.Unreadable, recording.read, self.path)
+
+    def played_as(self, version):
+        told = recording.read(self.path)
+        with Router.restore(told.state) as router:
+            return [
+                record
+                for record in told.records
+                if recording.take(router, record, version) != (record.answer, record.total)
+            ]
+
+
+class Part:
+    """A file that takes a few bytes at a time, and none once it has so many."""
+
+    def __init__(self, file, most):
+        self.file, self.left = file, most
+
+    def write(self, data):
+        count = min(3, len(data), self.left)
+        if not count:
+            raise OSError(errno.ENOSPC, "no space left")
+        self.left -= count
+        return self.file.write(data[:count])
+
+    def __getattr__(self, name):
+        return getattr(self.file, name)
+
+
+class Disks(unittest.TestCase):
+    """A disk that fails ends the recording, and harms no call of the router."""
+
+    def setUp(self):
+        room = tempfile.TemporaryDirectory()
+        self.addCleanup(room.cleanup)
+        self.path = Path(room.name) / "router"
+        self.router = Router(LINKS)
+        self.addCleanup(self.router.end)
+
+    def advance(self, count, first=1):
+        for moment in range(first, first + count):
+            self.assertEqual(self.router.advance(moment), Answer.DONE)
+
+    def test_writes_that_take_a_part(self):
+        with Recorder(self.router, self.path) as recorder:
+            recorder._file = Part(recorder._file, 10_000)
+            self.advance(20)
+        told = recording.read(f"{self.path}.0")
+        self.assertEqual((recorder.error, len(told.records), told.rest), (None, 20, 0))
+
+    def test_a_disk_that_is_full_amid_a_record(self):
+        with Recorder(self.router, self.path) as recorder:
+            self.advance(3)
+            recorder._file = Part(recorder._file, 50)
+            self.advance(20, first=4)
+            self.assertEqual(recorder.error.errno, errno.ENOSPC)
+            self.assertIsNone(self.router._took)
+        told = recording.read(f"{self.path}.0")
+        self.assertEqual((len(told.records), told.rest), (3 + 50 // 21, 0))
+        with Recorder(self.router, self.path) as recorder:
+            self.advance(1, first=50)
+        self.assertIsNone(recorder.error)
+
+    @unittest.skipUnless(os.path.exists("/dev/full"), "there is no /dev/full")
+    def test_dev_full(self):
+        os.symlink("/dev/full", f"{self.path}.new")
+        self.assertRaises(OSError, Recorder, self.router, self.path)
+        self.assertFalse(os.path.lexists(f"{self.path}.new"))
+        with Recorder(self.router, self.path, most=1) as recorder:
+            self.assertIsNone(recorder.error)
+            os.symlink("/dev/full", f"{self.path}.new")
+            self.advance(5)
+            self.assertEqual(recorder.error.errno, errno.ENOSPC)
+        told = recording.read(f"{self.path}.0")
+        self.assertEqual((len(told.records), told.rest), (1, 0))
+        self.assertEqual(os.listdir(self.path.parent), ["router.0"])
 
 
 if __name__ == "__main__":

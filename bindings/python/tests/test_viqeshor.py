@@ -1,10 +1,16 @@
 """Each call of the package once, and what it answers: a Join of 10.0.1.2 comes and a packet of its source, as in
 examples/library."""
 import gc
+import ipaddress
+import os
+import shutil
+import subprocess
+import tempfile
 import threading
 import unittest
 import weakref
 import zlib
+from unittest import mock
 
 import viqeshor
 from viqeshor import Answer, Closed, DownstreamRow, NeighbourRow, Refused, Router, hosts
@@ -39,6 +45,17 @@ class Routers(unittest.TestCase):
         self.assertEqual(caught.exception.answer, Answer.INTERFACE_COUNT)
         with self.assertRaisesRegex(Refused, r"the limit isn't 1 to 1,000,000 \(34\)"):
             Router(INTERFACES, limit=0)
+
+    def test_an_address_with_its_length(self):
+        ways = ["10.0.0.2/24", ("10.0.0.2/24",), ("10.0.0.2", 24), ("10.0.0.2/24", 1, 500, 2500)]
+        told = {bytes(viqeshor.interface_of(way)) for way in [*ways, ipaddress.ip_interface("10.0.0.2/24")]}
+        self.assertEqual(len(told), 1)
+        with Router(["10.0.0.2/24", ("10.0.1.1/24", 7, 400, 2400)]) as router:
+            self.assertEqual([router.up(0), router.up(1)], [Answer.DONE] * 2)
+            self.assertEqual([router.link(iface).dr for iface in range(2)], ["10.0.0.2", "10.0.1.1"])
+        for wrong in ("10.0.0.2/", "10.0.0.2/24/1", "10.0.0.2", ("10.0.0.2/24", 24)):
+            self.assertRaises(ValueError, Router, [wrong])
+        self.assertRaisesRegex(ValueError, "10.0.0.0$", Router, INTERFACES, [("10.0.0.0", "10.0.0.2")])
 
     def test_events_that_are_refused_or_ignored(self):
         router = self.router()
@@ -379,6 +396,25 @@ class Routers(unittest.TestCase):
         self.assertRegex(viqeshor.version(), r"^0\.1\.0 (not )?proved$")
         self.assertEqual(viqeshor.answer_text(0), "done")
         self.assertEqual(len({viqeshor.answer_text(answer) for answer in Answer}), len(Answer))
+
+
+class Libraries(unittest.TestCase):
+    def test_looking_for_it_starts_no_process(self):
+        with mock.patch.dict(os.environ), mock.patch("subprocess.Popen", side_effect=AssertionError):
+            os.environ.pop("VIQESHOR_LIBRARY", None)
+            self.assertEqual(viqeshor.found(), "libviqeshor.so.0.1")
+
+    def test_its_version_is_the_package_s(self):
+        self.assertEqual(viqeshor.version().split()[0], viqeshor.__version__)
+
+    @unittest.skipUnless(shutil.which("cc"), "there is no C compiler")
+    def test_other_libraries_are_told_as_such(self):
+        older = 'unsigned viq_abi(void) { return 4; } const char *viq_version(void) { return "0.0.9 proved"; }'
+        for text, told in ((older, "0.0.9 proved, of ABI 4"), ("int other;", "doesn't say which version")):
+            with tempfile.TemporaryDirectory() as room:
+                made = f"{room}/libviqeshor.so"
+                subprocess.run(["cc", "-shared", "-fPIC", "-xc", "-", "-o", made], input=text, text=True, check=True)
+                self.assertRaisesRegex(viqeshor.OtherVersion, told, Router, INTERFACES, library=made)
 
 
 if __name__ == "__main__":

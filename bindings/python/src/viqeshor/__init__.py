@@ -13,11 +13,10 @@ describes, by ctypes.
                 send(router.packets())                          # each a kind, an interface or an address, and bytes
 
 A moment is a timestamp, in milliseconds from any beginning, at most 2**62. The shared library is the one that `library`
-names, or VIQESHOR_LIBRARY in the environment, or the one that the system finds as `viqeshor`. `viqeshor.hosts` writes
-packets of hosts.
+names, or VIQESHOR_LIBRARY in the environment, or the one in the package's folder, or the one that the system loads as
+`libviqeshor.so.0.1`. `viqeshor.hosts` writes packets of hosts.
 """
 import ctypes
-import ctypes.util
 import enum
 import operator
 import os
@@ -27,8 +26,9 @@ import weakref
 from collections.abc import Callable, Iterable, Iterator
 from ctypes import POINTER, Structure, byref, c_bool, c_char_p, c_size_t, c_uint8, c_uint32, c_uint64, c_void_p
 from functools import cache, lru_cache
-from ipaddress import IPv4Address
-from typing import Any, NamedTuple, Self, SupportsIndex, TypeAlias
+from ipaddress import IPv4Address, IPv4Interface
+from pathlib import Path
+from typing import Any, Literal, NamedTuple, Self, SupportsIndex, TypeAlias, overload
 
 from viqeshor import trees
 from viqeshor.rows import (
@@ -75,12 +75,19 @@ __all__ = [
     "TABLES",
     "Tree",
     "UpstreamRow",
+    "__version__",
     "answer_text",
     "version",
 ]
 
+__version__ = "0.1.0"
+# The library's name for the system, as the linker has it (its soname).
+SHARED = "libviqeshor.so.0.1"
+
 # What a packet may be given as.
 Buffer: TypeAlias = bytes | bytearray | memoryview
+# What an interface may be given as.
+Interface: TypeAlias = str | IPv4Interface | tuple[Any, ...]
 
 # What this package and the library have to agree on: VIQ_ABI of viqeshor.h.
 ABI = 5
@@ -311,8 +318,10 @@ def there(number: int, none: int) -> int | None:
 
 
 def found() -> str:
-    """The library that is meant where none is named."""
-    return os.environ.get("VIQESHOR_LIBRARY") or ctypes.util.find_library("viqeshor") or "libviqeshor.so.0.1"
+    """The library that is meant where none is named. One that is neither named nor in the package's folder is for the
+    system's loader to look for."""
+    beside = Path(__file__).with_name(SHARED)
+    return os.environ.get("VIQESHOR_LIBRARY") or (str(beside) if beside.exists() else SHARED)
 
 
 LIST: list[Any] = [c_void_p, c_size_t]
@@ -369,6 +378,7 @@ RECORDS: dict[str, list[Any]] = {
 def load(path: str) -> ctypes.CDLL:
     """The library, with what its calls take and answer. Others of the program's threads go on while it works."""
     library = ctypes.CDLL(path)
+    check_version(library, path)
     for name, (takes, answers) in CALLS.items():
         call = getattr(library, f"viq_{name}")
         call.argtypes, call.restype = [c_void_p, *takes], answers
@@ -379,12 +389,21 @@ def load(path: str) -> ctypes.CDLL:
     library.viq_new.argtypes = [POINTER(c_void_p), c_uint32, POINTER(Settings), *LIST, *LIST, *LIST]
     library.viq_restore.argtypes = [POINTER(c_void_p), c_uint32, c_char_p, c_size_t]
     library.viq_answer_text.argtypes = [c_uint32]
-    for names, answers in ((("new", "restore", "abi"), c_uint32), (("version", "answer_text"), c_char_p)):
-        for name in names:
-            getattr(library, f"viq_{name}").restype = answers
-    if library.viq_abi() != ABI:
-        raise OtherVersion(Answer.OTHER_ABI, f"{path} is {library.viq_version().decode()}, of another ABI than {ABI}")
+    library.viq_answer_text.restype = c_char_p
+    for name in ("new", "restore"):
+        getattr(library, f"viq_{name}").restype = c_uint32
     return library
+
+
+def check_version(library: ctypes.CDLL, path: str) -> None:
+    """Asks the library what it is, before any other of its calls is looked for: an older one may lack those."""
+    try:
+        library.viq_abi.restype, library.viq_version.restype = c_uint32, c_char_p
+    except AttributeError:
+        raise OtherVersion(Answer.OTHER_ABI, f"{path} doesn't say which version of the library it is") from None
+    if (abi := library.viq_abi()) != ABI:
+        said = f"{path} is {library.viq_version().decode()}, of ABI {abi}, and this package is for ABI {ABI}"
+        raise OtherVersion(Answer.OTHER_ABI, said)
 
 
 def version(library: str | os.PathLike[str] | None = None) -> str:
@@ -424,7 +443,9 @@ def address(text: str) -> int:
 @lru_cache(maxsize=65536)
 def prefix(text: str) -> tuple[int, int]:
     """Its address and length; host bits are left as they are, for the router to refuse."""
-    net, length = text.split("/")
+    net, _, length = str(text).partition("/")
+    if not length.isdecimal():
+        raise ValueError(f"no address and length, as in 10.0.0.0/24: {text}")
     return address(net), int(length)
 
 
@@ -433,9 +454,10 @@ def array(kind: Any, items: list[Any]) -> tuple[Any, int]:
     return (kind * len(items))(*items) if items else None, len(items)
 
 
-def interface_of(row: tuple[Any, ...]) -> ToldInterface:
-    own, length, *rest = row
-    return all_numbers(ToldInterface, [address(own), length, *(rest or (1, 500, 2500))])
+def interface_of(row: Interface) -> ToldInterface:
+    first, *rest = row if isinstance(row, tuple | list) else [row]
+    own, length, *more = [*prefix(first), *rest] if "/" in str(first) else [address(first), *rest]
+    return all_numbers(ToldInterface, [own, length, *(more or (1, 500, 2500))])
 
 
 def routes_of(routes: Iterable[tuple[Any, ...]]) -> tuple[Any, int]:
@@ -447,7 +469,7 @@ def ranges_of(ranges: Iterable[tuple[str, str]]) -> tuple[Any, int]:
 
 
 def configuration(
-    interfaces: Iterable[tuple[Any, ...]],
+    interfaces: Iterable[Interface],
     ranges: Iterable[tuple[str, str]] = (),
     routes: Iterable[tuple[Any, ...]] = (),
     *,
@@ -470,9 +492,10 @@ def bytes_of(packet: Buffer) -> bytes:
 
 
 class Router:
-    """A router. Addresses are texts. An interface is `("10.0.0.1", 24)`, or has a priority and two delays besides; a
-    route is `("10.1.0.0/24", next hop, interface, preference, metric)`, a range `("239.0.0.0/8", RP)`. A call that
-    takes an event returns its answer; its draw is random unless one is given.
+    """A router. Addresses are texts. An interface is `"10.0.0.1/24"` or `("10.0.0.1", 24)`, or has a priority and two
+    delays besides, as `("10.0.0.1/24", 1, 500, 2500)`. A route is `("10.1.0.0/24", next hop, interface, preference,
+    metric)`, a range `("239.0.0.0/8", RP)`. A call that takes an event returns its answer; its draw is random unless
+    one is given.
 
     Threads may share a router: each call waits for the others. A thread that wants what its own event sent holds `lock`
     from the event on: `with router.lock: answer, sent = router.frame(0, packet), router.packets()`. A router is freed
@@ -480,7 +503,7 @@ class Router:
 
     def __init__(
         self,
-        interfaces: Iterable[tuple[Any, ...]],
+        interfaces: Iterable[Interface],
         ranges: Iterable[tuple[str, str]] = (),
         routes: Iterable[tuple[Any, ...]] = (),
         *,
@@ -496,7 +519,7 @@ class Router:
 
     def reload(
         self,
-        interfaces: Iterable[tuple[Any, ...]],
+        interfaces: Iterable[Interface],
         ranges: Iterable[tuple[str, str]] = (),
         routes: Iterable[tuple[Any, ...]] = (),
         *,
@@ -644,7 +667,34 @@ class Router:
         """The timestamp at which the next timer expires, in ms."""
         return there(self._call("next_moment"), NEVER)
 
-    def rows(self, letter: str) -> list[Row]:
+    @overload
+    def rows(self, letter: Literal["N"]) -> list[NeighbourRow]: ...
+
+    @overload
+    def rows(self, letter: Literal["G"]) -> list[GroupRow]: ...
+
+    @overload
+    def rows(self, letter: Literal["S"]) -> list[SourceRow]: ...
+
+    @overload
+    def rows(self, letter: Literal["D"]) -> list[DownstreamRow]: ...
+
+    @overload
+    def rows(self, letter: Literal["A"]) -> list[AssertRow]: ...
+
+    @overload
+    def rows(self, letter: Literal["U"]) -> list[UpstreamRow]: ...
+
+    @overload
+    def rows(self, letter: Literal["R"]) -> list[RptRow]: ...
+
+    @overload
+    def rows(self, letter: Literal["F"]) -> list[ActiveRow]: ...
+
+    @overload
+    def rows(self, letter: str) -> list[Row]: ...
+
+    def rows(self, letter: str) -> list[Any]:
         """The rows of a table, ascending by their keys: `NeighbourRow` of N, `GroupRow` of G, `SourceRow` of S,
         `DownstreamRow` of D, `AssertRow` of A, `UpstreamRow` of U, `RptRow` of R, `ActiveRow` of F."""
         told, rows = ToldRow(), []

@@ -12,8 +12,11 @@ written anew. `docs/LIBRARY.md` has what is in a file ("A recording").
 import os
 import struct
 import zlib
+from contextlib import suppress
 from ctypes import CDLL, byref, c_size_t, create_string_buffer
+from io import FileIO
 from itertools import accumulate
+from operator import mul
 from pathlib import Path
 from typing import Any, BinaryIO, NamedTuple, Self
 
@@ -49,6 +52,10 @@ class Unreadable(ValueError):
     """The file is no recording, or a record of it is none."""
 
 
+class _CutShort(Unreadable):
+    """There are fewer bytes than are wanted."""
+
+
 class Record(NamedTuple):
     """What a router took: the name of its call, the draw, the numbers, and the packet or the lists as bytes; then the
     number that it answered, and the sum of what it sent. A reload, which is no event, has the lengths of its lists as
@@ -62,12 +69,13 @@ class Record(NamedTuple):
 
 
 class Recording(NamedTuple):
-    """The state, the settings of older versions and the older groups at its beginning, and what came then; and the
-    version of its format."""
+    """The state and the older groups at its beginning, and what came then; the version of its format, and how many
+    bytes at its end are no whole record."""
     state: bytes
     older_groups: int
     records: list[Record]
     version: int = VERSION
+    rest: int = 0
 
 
 def sum_of(router: Router, version: int = VERSION) -> int:
@@ -114,11 +122,16 @@ def bytes_of(library: CDLL, record: Record) -> bytes:
 
 class Recorder:
     """Records what a router takes, from now on until `end`, into two files in turn: PATH.0 and PATH.1. Where one has
-    `most` bytes, the other one is written anew, with the state that the router has then."""
+    `most` bytes, the other one is written anew, with the state that the router has then.
+
+    Once it has begun, it harms no call of the router: where it can't write it ends, and `error` is why. What was
+    written until then is whole."""
 
     def __init__(self, router: Router, path: str | os.PathLike[str], most: int = 1 << 26) -> None:
         self.router, self.path, self.most = router, os.fspath(path), most
-        self._number, self._file = 1, None
+        self.error: Exception | None = None
+        self._number, self._size = 1, 0
+        self._file: FileIO | None = None
         self._settings: dict[tuple[str, int], int] = {}
         with router.lock:
             self._next_file()
@@ -134,37 +147,78 @@ class Recorder:
         """Ends the recording; its files stay."""
         with self.router.lock:
             self.router._took = None
-            if self._file:
-                self._file.close()
-                self._file = None
+            file, self._file = self._file, None
+            try:
+                if file:
+                    file.close()
+            except OSError as error:
+                self.error = self.error or error
 
     def _next_file(self) -> None:
-        """Begins the other file, under another name until its state is whole."""
-        if self._file:
-            self._file.close()
-        self._number ^= 1
-        made, path = f"{self.path}.new", f"{self.path}.{self._number}"
+        """Begins the other file, under another name until its state is whole. The one before stays open until then."""
+        number = self._number ^ 1
+        made, path = f"{self.path}.new", f"{self.path}.{number}"
+        head = self._head()
+        file = open(made, "wb", buffering=0)
+        try:
+            write_all(file, head)
+            os.replace(made, path)
+        except BaseException:
+            with suppress(OSError):
+                file.close()
+            with suppress(OSError):
+                os.unlink(made)
+            raise
+        before, self._file, self._number, self._size = self._file, file, number, len(head)
+        if before:
+            before.close()
+
+    def _head(self) -> bytes:
+        """What a file begins with: the state that the router has, and the settings of older versions."""
         state, older = self.router.save(), len(self.router.older_rows())
-        self._file = open(made, "wb", buffering=0)
-        head = MAGIC + struct.pack(">HIQ", VERSION, older, len(state)) + state
         library, kept = self.router._library, self._settings.items()
         settings = (record_of(library, name, 0, (iface, value), 0, 0) for (name, iface), value in kept)
-        self._size = self._file.write(head + b"".join(settings))
-        os.replace(made, path)
+        return MAGIC + struct.pack(">HIQ", VERSION, older, len(state)) + state + b"".join(settings)
 
     def took(self, name: str, draw: int, values: tuple[Any, ...], answer: int) -> None:
         """Is called after each call that changes the router, and after each event."""
+        try:
+            self._keep(name, draw, values, answer)
+        except Exception as error:  # The event has happened: whatever fails here is none of its caller's.
+            self.error = error
+            self._cut()
+            self.end()
+
+    def _keep(self, name: str, draw: int, values: tuple[Any, ...], answer: int) -> None:
         if name in ("older", "query_version") and answer == Answer.DONE:
             self._settings[name, values[0]] = values[1]
         if name == "reload" and answer == Answer.DONE:
             count = values[2]
             self._settings = {key: value for key, value in self._settings.items() if key[1] < count}
         total = sum_of(self.router) if answer == Answer.DONE and name not in QUIET else 0
-        self._size += self._file.write(record_of(self.router._library, name, draw, values, answer, total))
+        record = record_of(self.router._library, name, draw, values, answer, total)
+        write_all(self._file, record)
+        self._size += len(record)
         if answer in (Answer.LOST, Answer.FAILED):
             self.end()
         elif self._size >= self.most and (self._size >= 2 * self.most or not self.router.older_rows()):
             self._next_file()
+
+    def _cut(self) -> None:
+        """Leaves no part of a record behind the last whole one."""
+        with suppress(OSError):
+            if self._file:
+                self._file.truncate(self._size)
+
+
+def write_all(file: Any, data: bytes) -> None:
+    """Writes all of it, though a write may take a part."""
+    left = memoryview(data)
+    while left:
+        count = file.write(left)
+        if not count:
+            raise OSError("nothing more is written")
+        left = left[count:]
 
 
 # ---- read
@@ -174,30 +228,34 @@ class _Reader:
     version = VERSION
 
     def __init__(self, file: BinaryIO) -> None:
-        self.file = file
+        self.file, self.size = file, os.fstat(file.fileno()).st_size
 
     def bytes(self, count: int) -> bytes:
-        found = self.file.read(count)
-        if len(found) < count:
-            raise Unreadable("the recording is cut short")
-        return found
+        if count > self.size - self.file.tell():
+            raise _CutShort("the recording is cut short")
+        return self.file.read(count)
 
     def numbers(self, form: str) -> tuple[int, ...]:
         return struct.unpack(f">{form}", self.bytes(struct.calcsize(f">{form}")))
 
-    def record(self) -> Record | None:
-        """The next record; None at the end, and where the last one was cut off as it was written."""
-        letter = self.file.read(1)
-        if not letter:
-            return None
+    def records(self) -> tuple[list[Record], int]:
+        """The records, and how many bytes behind them are no whole record: the last one was cut off as it was written,
+        or a length isn't as it was written."""
+        records = []
+        while (begun := self.file.tell()) < self.size:
+            try:
+                records.append(self.record(begun))
+            except _CutShort:
+                return records, self.size - begun
+        return records, 0
+
+    def record(self, begun: int) -> Record:
+        letter = self.bytes(1)
         name = NAMES.get(letter.decode("latin1"))
         if name is None:
-            raise Unreadable(f"no kind of record has the letter {letter!r}")
-        try:
-            draw, *rest = self.given(name) if self.version == VERSION else self.given_version_1(name)
-            return Record(name, draw, *rest, *self.numbers("II"))
-        except Unreadable:
-            return None
+            raise Unreadable(f"byte {begun}: no kind of record has the letter {letter!r}")
+        draw, *rest = self.given(name) if self.version == VERSION else self.given_version_1(name)
+        return Record(name, draw, *rest, *self.numbers("II"))
 
     def given(self, name: str) -> tuple[int, tuple[int, ...], bytes]:
         draw = 0 if name in QUIET else self.numbers("I")[0]
@@ -208,6 +266,8 @@ class _Reader:
             return draw, numbers, self.list(LISTS[name])[1]
         if name == "reload":
             limit, stays, *times = self.numbers("IBIIII")
+            if stays > 1:
+                raise Unreadable(f"no setting of the shared tree is {stays}")
             counts, lists = zip(*map(self.list, PARTS))
             return draw, counts, struct.pack(">6I", limit, *times, stays) + b"".join(lists)
         return draw, numbers, b""
@@ -218,7 +278,12 @@ class _Reader:
         return count, self.bytes(count * 4 * len(kind._fields_))
 
     def given_version_1(self, name: str) -> tuple[int, tuple[int, ...], bytes]:
-        draw, *numbers, length = self.numbers(f"I{form_of(name)}I")
+        draw, *numbers, length = self.numbers(f"I{'III' if name == 'reload' else form_of(name)}I")
+        widths = [4 * len(kind._fields_) for kind in PARTS]
+        if name in LISTS and length % (4 * len(LISTS[name]._fields_)):
+            raise Unreadable("a list isn't whole")
+        if name == "reload" and length != 4 * len(SETTINGS) + sum(map(mul, numbers, widths)):
+            raise Unreadable("a configuration isn't whole")
         return draw, tuple(numbers), self.bytes(length)
 
 
@@ -227,7 +292,8 @@ def form_of(name: str) -> str:
 
 
 def read(path: str | os.PathLike[str]) -> Recording:
-    """A recording's file; raises `Unreadable` where it is none. A last record that is cut off is left out."""
+    """A recording's file; raises `Unreadable` where it is none. What is no whole record at its end is left out, and
+    counted."""
     with open(path, "rb") as file:
         reader = _Reader(file)
         if reader.bytes(4) != MAGIC:
@@ -235,7 +301,9 @@ def read(path: str | os.PathLike[str]) -> Recording:
         reader.version, older, length = reader.numbers("HIQ")
         if reader.version not in (1, VERSION):
             raise Unreadable(f"a recording of version {reader.version}, where this library reads 1 and {VERSION}")
-        return Recording(reader.bytes(length), older, list(iter(reader.record, None)), reader.version)
+        state = reader.bytes(length)
+        records, rest = reader.records()
+        return Recording(state, older, records, reader.version, rest)
 
 
 def newest(path: str | os.PathLike[str]) -> list[Path]:
