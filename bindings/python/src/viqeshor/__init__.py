@@ -312,7 +312,7 @@ def there(number: int, none: int) -> int | None:
 
 def found() -> str:
     """The library that is meant where none is named."""
-    return os.environ.get("VIQESHOR_LIBRARY") or ctypes.util.find_library("viqeshor") or "libviqeshor.so.0.1"
+    return os.environ.get("VIQESHOR_LIBRARY") or ctypes.util.find_library("viqeshor") or "libviqeshor.so.0.9"
 
 
 LIST: list[Any] = [c_void_p, c_size_t]
