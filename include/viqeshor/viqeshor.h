@@ -57,9 +57,9 @@ extern "C" {
 
 /* The version of this header. While the first number is 0, each second one is another library, for which a program has
  * to be compiled again. */
-#define VIQ_VERSION "0.1.0"
+#define VIQ_VERSION "0.9.0"
 #define VIQ_VERSION_MAJOR 0
-#define VIQ_VERSION_MINOR 1
+#define VIQ_VERSION_MINOR 9
 #define VIQ_VERSION_PATCH 0
 
 /* The number of what a compiled program and a library have to agree on: the values, the calls and the numbers of this

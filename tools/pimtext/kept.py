@@ -70,6 +70,16 @@ def cache() -> Path:
     return Path(given if os.path.isabs(given) else os.path.expanduser("~/.cache")) / "viqeshor"
 
 
+# A release has this file and its builds beside the tools. Its first line says how they were built: "proved" or "not
+# proved", and more behind a colon.
+RELEASE = TOP / "RELEASE"
+
+
+def released() -> str | None:
+    """How the builds of a release were built; None where this is no release."""
+    return RELEASE.read_text().partition(":")[0] if RELEASE.exists() else None
+
+
 # The folder with builds that were brought along, from the environment.
 BROUGHT = "VIQESHOR_BUILDS"
 

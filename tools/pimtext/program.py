@@ -1,5 +1,5 @@
-"""Which build of the program is run: the proved binary where it is newer than its sources, else an unproved one that
-was brought along or is kept."""
+"""Which build of the program is run: that of a release, the proved binary where it is newer than its sources, else an
+unproved one that was brought along or is kept."""
 from __future__ import annotations
 
 import os
@@ -7,7 +7,7 @@ import sys
 from pathlib import Path
 from typing import TYPE_CHECKING
 
-from pimtext.kept import TOP, brought, kept_program
+from pimtext.kept import TOP, brought, kept_program, released
 
 if TYPE_CHECKING:
     from pimtext.builds import Progress
@@ -85,6 +85,8 @@ def wanted() -> str:
 def chosen() -> str | None:
     """Where the program is that is to be run, built where it isn't there; None where none can be kept."""
     build = wanted()
+    if released():
+        return str(TOP / "bin" / "pimlab")
     if build == "by-rattle":
         return str(BY_RATTLE) if is_proved(BY_RATTLE) else sys.exit(f"pimlab: there is no {BY_RATTLE}: ./test makes it")
     return str(PROVED) if build == "proved" and is_proved() else unproved_program(build == "sanitized")
@@ -114,10 +116,18 @@ def version() -> str:
     )
 
 
+def how() -> str:
+    """How what would be run is built: proved, or not proved."""
+    if said := released():
+        return said
+    proved = {"proved": PROVED, "by-rattle": BY_RATTLE}.get(wanted())
+    return "proved" if proved and is_proved(proved) else "not proved"
+
+
 def run(words: list[str]) -> None:
     """Becomes the program with these words, or says the version."""
     if words == ["--version"]:
-        print(f"pimlab {version()}, {'proved' if is_proved() else 'not proved'}")
+        print(f"pimlab {version()}, {how()}")
         return
     path = chosen()
     if path is None:

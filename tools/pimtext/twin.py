@@ -12,7 +12,7 @@ from typing import TYPE_CHECKING, Any
 
 from pimtext import fed, library, printed, program
 from pimtext.builds import keep
-from pimtext.kept import cache
+from pimtext.kept import TOP, cache, released
 
 PACKAGE = library.BINDINGS / "python" / "src"
 if str(PACKAGE) not in sys.path:
@@ -34,11 +34,13 @@ APART = 256
 
 @functools.cache
 def shared() -> Path:
-    """The shared library that is asked. It is the one that VIQESHOR_LIBRARY in the environment names; else it is put
-    together once, and kept, of the same build as the program: of the proved archive where that is newer than its
-    sources, else of an unproved one. This process ends with a line where there can be none."""
+    """The shared library that is asked. It is the one that VIQESHOR_LIBRARY in the environment names, or that of a
+    release; else it is put together once, and kept, of the same build as the program: of the proved archive where that
+    is newer than its sources, else of an unproved one. This process ends with a line where there can be none."""
     if given := os.environ.get("VIQESHOR_LIBRARY"):
         return usable(Path(given))
+    if released():
+        return TOP / "lib" / "libviqeshor.so"
     is_proved = program.wanted() == "proved" and library.PROVED.exists() and program.is_newer(library.PROVED)
     try:
         router = library.PROVED if is_proved else library.unproved_router(None)

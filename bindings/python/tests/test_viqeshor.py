@@ -402,7 +402,7 @@ class Libraries(unittest.TestCase):
     def test_looking_for_it_starts_no_process(self):
         with mock.patch.dict(os.environ), mock.patch("subprocess.Popen", side_effect=AssertionError):
             os.environ.pop("VIQESHOR_LIBRARY", None)
-            self.assertEqual(viqeshor.found(), "libviqeshor.so.0.1")
+            self.assertEqual(viqeshor.found(), "libviqeshor.so.0.9")
 
     def test_its_version_is_the_package_s(self):
         self.assertEqual(viqeshor.version().split()[0], viqeshor.__version__)

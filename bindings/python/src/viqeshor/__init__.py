@@ -14,7 +14,7 @@ describes, by ctypes.
 
 A moment is a timestamp, in milliseconds from any beginning, at most 2**62. The shared library is the one that `library`
 names, or VIQESHOR_LIBRARY in the environment, or the one in the package's folder, or the one that the system loads as
-`libviqeshor.so.0.1`. `viqeshor.hosts` writes packets of hosts.
+`libviqeshor.so.0.9`. `viqeshor.hosts` writes packets of hosts.
 """
 import ctypes
 import enum
@@ -80,9 +80,9 @@ __all__ = [
     "version",
 ]
 
-__version__ = "0.1.0"
+__version__ = "0.9.0"
 # The library's name for the system, as the linker has it (its soname).
-SHARED = "libviqeshor.so.0.1"
+SHARED = "libviqeshor.so.0.9"
 
 # What a packet may be given as.
 Buffer: TypeAlias = bytes | bytearray | memoryview
