@@ -285,18 +285,19 @@ def named_docs() -> list[str]:
     return sorted(set(re.findall(r"\b[A-Z]+\.md\b", named)))
 
 
-PKG_CONFIG = """prefix={prefix}
-includedir=${{prefix}}/include
-libdir=${{prefix}}/lib
+# Both say where the rest lies from where they lie themselves, so that what is installed may be moved.
+PKG_CONFIG = """prefix=${pcfiledir}/@UP_FROM_PC@
+includedir=${prefix}/include
+libdir=${prefix}/@LIBDIR@
 
 Name: viqeshor
 Description: A multicast router core: PIM Sparse Mode and IGMPv3
-Version: {version}
-Cflags: -I${{includedir}}
-Libs: -L${{libdir}} -lviqeshor
+Version: @VERSION@
+Cflags: -I${includedir}
+Libs: -L${libdir} -lviqeshor
 """
 
-CMAKE = """get_filename_component(VIQ_PREFIX "${CMAKE_CURRENT_LIST_DIR}/../../.." ABSOLUTE)
+CMAKE = """get_filename_component(VIQ_PREFIX "${CMAKE_CURRENT_LIST_DIR}/@UP_FROM_CMAKE@" ABSOLUTE)
 foreach(kind STATIC SHARED)
   string(TOLOWER ${kind} name)
   if(NOT TARGET viqeshor::${name})
@@ -304,9 +305,9 @@ foreach(kind STATIC SHARED)
     set_target_properties(viqeshor::${name} PROPERTIES INTERFACE_INCLUDE_DIRECTORIES "${VIQ_PREFIX}/include")
   endif()
 endforeach()
-set_target_properties(viqeshor::static PROPERTIES IMPORTED_LOCATION "${VIQ_PREFIX}/lib/libviqeshor.a")
+set_target_properties(viqeshor::static PROPERTIES IMPORTED_LOCATION "${VIQ_PREFIX}/@LIBDIR@/libviqeshor.a")
 set_target_properties(viqeshor::shared PROPERTIES
-    IMPORTED_LOCATION "${VIQ_PREFIX}/lib/libviqeshor.so" IMPORTED_SONAME "@SONAME@")
+    IMPORTED_LOCATION "${VIQ_PREFIX}/@LIBDIR@/libviqeshor.so" IMPORTED_SONAME "@SONAME@")
 """
 
 # A newer version takes the place of an older one with the same first number, and second one while the first is 0.
@@ -326,15 +327,16 @@ endif()
 """
 
 
-def filled(text: str) -> str:
-    values = {"SONAME": SONAME, "VERSION": VERSION, "SERIES": SERIES}
-    return re.sub(r"@(\w+)@", lambda found: values[found[1]], text)
+def filled(text: str, **more: str) -> bytes:
+    values = {"SONAME": SONAME, "VERSION": VERSION, "SERIES": SERIES} | more
+    return re.sub(r"@(\w+)@", lambda found: values[found[1]], text).encode()
 
 
-def install(library: Library, prefix: Path) -> None:
-    """The header, the archive, the shared library, and what pkg-config and CMake find them by."""
-    prefix = prefix.resolve()
-    lib, named = prefix / "lib", f"libviqeshor.so.{VERSION}"
+def install(library: Library, prefix: Path, libdir: str = "lib", root: str = "") -> None:
+    """The header, the archive, the shared library, and what pkg-config and CMake find them by: below a prefix, of which
+    the libraries have a folder. With a root all is put below that, as it is to lie below the prefix."""
+    prefix = Path(root + str(Path(os.path.abspath(prefix)))) if root else prefix.resolve()
+    lib, named = prefix / libdir, f"libviqeshor.so.{VERSION}"
     headers, docs = prefix / "include" / "viqeshor", prefix / "share" / "doc" / "viqeshor"
     pkg_config, cmake = lib / "pkgconfig", lib / "cmake" / "viqeshor"
     for folder in (headers, docs, pkg_config, cmake):
@@ -347,6 +349,7 @@ def install(library: Library, prefix: Path) -> None:
     put(lib / named, library.shared().read_bytes(), 0o755)
     link(named, lib / SONAME)
     link(SONAME, lib / "libviqeshor.so")
-    put(pkg_config / "viqeshor.pc", PKG_CONFIG.format(prefix=prefix, version=VERSION).encode())
-    put(cmake / "viqeshor-config.cmake", filled(CMAKE).encode())
-    put(cmake / "viqeshor-config-version.cmake", filled(CMAKE_VERSION).encode())
+    ways = {"LIBDIR": libdir, "UP_FROM_PC": os.path.relpath(prefix, pkg_config)}
+    put(pkg_config / "viqeshor.pc", filled(PKG_CONFIG, **ways))
+    put(cmake / "viqeshor-config.cmake", filled(CMAKE, LIBDIR=libdir, UP_FROM_CMAKE=os.path.relpath(prefix, cmake)))
+    put(cmake / "viqeshor-config-version.cmake", filled(CMAKE_VERSION))
