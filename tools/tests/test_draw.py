@@ -76,9 +76,9 @@ class Pictures(unittest.TestCase):
         self.assertEqual("\n".join(draw.animated(frames)).count("<animate "), 3)
 
     def test_the_pictures_in_docs_are_those_of_the_examples(self):
-        for name in draw.PICTURES:
+        for name, of in draw.PICTURES.items():
             kept = (draw.ROOT / "docs" / f"{name}.svg").read_text()
-            drawn = draw.svg(draw.end_of(stored.EXAMPLES / f"{name}.toml"))
+            drawn = draw.svg(draw.end_of(draw.ROOT / of))
             texts = [re.findall(r">([^<>]+)</text>", picture) for picture in (kept, drawn)]
             self.assertEqual(texts[0], texts[1])
 
