@@ -97,7 +97,7 @@ class WhatIf(unittest.TestCase):
         with tempfile.TemporaryDirectory(prefix="whatif-") as folder:
             path = Path(folder) / "net.py"
             path.write_text(LAN)
-            words = [stored.TOOLS / "whatif", path, "--jobs", "1", "--for", "600"]
+            words = [stored.TOOLS / "whatif", path, "--jobs", "1", "--for", "2000"]
             with subprocess.Popen(words, stdout=subprocess.PIPE, text=True, start_new_session=True) as running:
                 first = running.stdout.readline()
                 os.killpg(running.pid, signal.SIGINT)
