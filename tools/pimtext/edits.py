@@ -21,7 +21,7 @@ if TYPE_CHECKING:
 ERROR = re.compile(r"error\[[\w-]+\]")
 LINE = re.compile(r"(?:edit: \w+|(?:refused|file|old): .+|new:(?: .*)?|#.*|)")
 # So many edits may name no clause yet. The number may only fall.
-MAY_BE_UNNAMED = 189
+MAY_BE_UNNAMED = 179
 UNNAMED = "it names no reason in a line `refused: FUNCTION CLAUSE`"
 # What the prover says that is no refusal by a clause: a limit of its own, and a proof by hand that names what an edit
 # takes away.
