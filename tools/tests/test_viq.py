@@ -9,6 +9,7 @@ import unittest
 from pathlib import Path
 
 from pimtext import library, scenario
+from pimtext.called import CUT_OFF
 from tests import stored
 
 TOP = Path(__file__).resolve().parent.parent.parent
@@ -81,10 +82,12 @@ class Runs(unittest.TestCase):
         self.assertEqual((str(status), told), (wanted, ""))
         self.assertEqual(said, f"{line}\nviq: `viq check {path}` says what is wrong with the scenario\n")
 
-    def test_a_reader_that_ends_early_is_no_failure(self):
+    def test_a_reader_that_ends_early_is_told_nothing(self):
+        """The status is that of a closed pipe, unless all was written before."""
         script = f'"{sys.executable}" "{VIQ}" run "{EXAMPLE}" | head -1; echo "${{PIPESTATUS[0]}}"'
         ran = subprocess.run(["bash", "-c", script], capture_output=True, text=True)
-        self.assertEqual((ran.stdout.splitlines()[1:], ran.stderr), (["0"], ""))
+        self.assertEqual(ran.stderr, "")
+        self.assertIn(ran.stdout.splitlines()[1:], (["0"], [str(CUT_OFF)]))
 
 
 class Release(unittest.TestCase):
