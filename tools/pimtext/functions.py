@@ -14,12 +14,14 @@ NOTES = re.compile(r"\s*(?:#!?\[tactic|ghost\b)")
 @dataclass(frozen=True)
 class Function:
     """A function of a crate: where it stands, and what it is called. `owner` is its type, or its trait where it
-    declares one; `trait` the trait whose impl it stands in."""
+    declares one; `trait` the trait whose impl it stands in, and `types` those that the trait is given there, as the kit
+    writes them behind it."""
 
     module: tuple
     owner: str
     trait: str
     name: str
+    types: str = ""
 
     def __str__(self) -> str:
         return "::".join([*self.module, *([self.owner] if self.owner else []), self.name])
@@ -61,6 +63,16 @@ def block_of(line: str) -> tuple[str, str] | None:
     return "".join(last(owner)), "".join(last(trait))
 
 
+def types_of(line: str) -> str:
+    """The types that a line gives the trait of its impl, but for those that are the impl's own parameters."""
+    found = re.match(r"(?:unsafe )?impl(?:<(.*?)>)? [\w:]+<(.*)> for ", line)
+    if not found:
+        return ""
+    own = set(re.findall(r"\w+", found[1] or ""))
+    given = [it.strip() for it in without_bounds(found[2]).split(",")]
+    return "".join(part[:1].upper() + part[1:] for it in given if it not in own for part in re.findall(r"\w+", it))
+
+
 def module_of(path: str) -> tuple[str, ...]:
     """The modules of a file of src/, from its path in the crate."""
     return tuple(path.removeprefix("src/").removesuffix(".rt").split("/"))
@@ -80,12 +92,13 @@ def braced(lines: list[str], at: int) -> str:
 
 def functions(path: str, text: str) -> list[Found]:
     """The functions of a file of src/, each with its clauses and the notes for the prover above it."""
-    found, block, notes, lines = [], ("", ""), [], text.splitlines()
+    found, block, types, notes, lines = [], ("", ""), "", [], text.splitlines()
     for at, line in enumerate(lines):
         if line[:1].strip():
             block = block_of(line) or (("", "") if line.startswith("}") or HEAD.match(line) else block)
+            types = types_of(line) if block_of(line) else types
         if head := HEAD.match(line):
-            found.append(Found(Function(module_of(path), *block, head[1]), at + 1, notes))
+            found.append(Found(Function(module_of(path), *block, head[1], types * bool(block[1])), at + 1, notes))
             notes = []
         elif line.lstrip().startswith("#[tactic"):
             notes = [*notes, line.strip()]

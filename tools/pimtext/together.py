@@ -185,7 +185,8 @@ def rank(batch: Batch, reason: Reason) -> int:
 def path_of(function: Function) -> str:
     """A function's path below its crate as a check prints it, of a method without the modules."""
     modules = [it for it in function.module if it not in ("lib", "main", "mod")]
-    return "::".join([*([function.owner + function.trait] if function.owner else modules), function.name])
+    owner = function.owner + function.trait + function.types
+    return "::".join([*([owner] if function.owner else modules), function.name])
 
 
 def in_state(batch: Batch, lines: list[str], state: re.Pattern[str]) -> set[Edit]:
