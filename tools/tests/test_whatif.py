@@ -98,7 +98,10 @@ class WhatIf(unittest.TestCase):
             path = Path(folder) / "net.py"
             path.write_text(LAN)
             words = [stored.TOOLS / "whatif", path, "--jobs", "1", "--for", "2000"]
-            with subprocess.Popen(words, stdout=subprocess.PIPE, text=True, start_new_session=True) as running:
+            # What a shell runs beside itself ignores ctrl-c, and so would what it starts.
+            heeds = lambda: signal.signal(signal.SIGINT, signal.SIG_DFL)
+            with subprocess.Popen(words, stdout=subprocess.PIPE, text=True, start_new_session=True,
+                                  preexec_fn=heeds) as running:
                 first = running.stdout.readline()
                 os.killpg(running.pid, signal.SIGINT)
                 lines = [first, *running.stdout]
