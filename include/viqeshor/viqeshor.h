@@ -123,12 +123,12 @@ enum {
     VIQ_CONFIGURED_ROUTES = 37,
     VIQ_CONFIGURED_RANGES = 38,
 
-    VIQ_MEMORY = 40,    /* memory was refused, and nothing has changed: the call may be made again */
-    VIQ_FAILED = 41,    /* the router was lost before: free it, and make another */
-    VIQ_LOST = 43,      /* memory was refused amid a change: the router is lost, and later events answer VIQ_FAILED */
+    VIQ_MEMORY = 40, /* memory was refused, and nothing has changed: the call may be made again */
+    VIQ_FAILED = 41, /* the router was lost before: free it, and make another */
+    VIQ_LOST = 43, /* memory was refused amid a change: the router is lost, and later events answer VIQ_FAILED */
     VIQ_NO_ROUTER = 50, /* the router is NULL */
-    VIQ_NO_TABLE = 51,  /* no table has this letter */
-    VIQ_NO_TIMER = 52,  /* no keepalive timer of the source runs, and none was started */
+    VIQ_NO_TABLE = 51, /* no table has this letter */
+    VIQ_NO_TIMER = 52, /* no keepalive timer of the source runs, and none was started */
     VIQ_OTHER_ABI = 53, /* the program was compiled for another library than this one */
     VIQ_NO_SETTING = 54, /* no setting has this number */
 

@@ -13,6 +13,7 @@ from typing import Any
 
 from pimtext import toml_lines
 from pimtext.addresses import BELOW, address_in, dotted, is_group, is_host, mask, number_in, prefix_in, words_in
+from pimtext.facts import DELAYS, SETTINGS, USUAL
 
 MOST_ROUTERS, MOST_IFACES, MOST_ROUTES, MOST_RPS = 64, 120, 100_000, 256
 
@@ -70,7 +71,7 @@ class Iface:
     address: int | None = None
     length: int | None = None
     # The propagation delay and the override interval, each with its line.
-    delays: tuple = ((500, 0), (2500, 0))
+    delays: tuple = tuple((USUAL[key], 0) for key in DELAYS)
 
 
 @dataclass
@@ -223,8 +224,8 @@ class Judge:
     def configuration(self, table: toml_lines.Value, where: str) -> dict[str, Any]:
         """What a router's table says but its name."""
         made = {"ifaces": self.ifaces(table, where)}
-        for key, default in (("limit", 65536), ("rv", 2), ("qi", 125), ("qri", 100), ("lmqi", 10)):
-            made[key] = self.number(table, key, default, where)
+        for key in SETTINGS:
+            made[key] = self.number(table, key, USUAL[key], where)
         self.word(table, "spt", ("always", "never"), where)
         self.word(table, "older_hosts", ("none", "v2", "all"), where)
         made["routes"] = self.texts(table, "routes", where, self.route, FORMS["list of routes"], False)
@@ -261,9 +262,8 @@ class Judge:
                     made.line, where, f'`address` is "{text}": {why_no_prefix(text)}; wanted is {FORMS["address"]}'
                 )
             made.address, made.length = prefix_in(text) or (None, None)
-        self.number(table, "priority", 1, where)
-        delays = (("propagation", 500), ("override", 2500))
-        made.delays = [(self.number(table, key, default, where), table.key_lines.get(key)) for key, default in delays]
+        self.number(table, "priority", USUAL["priority"], where)
+        made.delays = [(self.number(table, key, USUAL[key], where), table.key_lines.get(key)) for key in DELAYS]
         return made
 
     def texts(
@@ -463,7 +463,7 @@ def iface_faults(router: dict[str, Any]) -> Iterator[tuple[int, int, str, str]]:
             if 1 <= iface.length <= 31 and 1 <= other.length <= 31 and overlaps(iface, other):
                 theirs = f"interface {before}, {dotted(other.address)}/{other.length}, in line {other.line}"
                 yield 33, iface.line, place, f"its subnet {shown} overlaps that of {theirs}"
-        for key, (value, line), most in zip(("propagation", "override"), iface.delays, (32767, 65535)):
+        for key, (value, line), most in zip(DELAYS, iface.delays, (32767, 65535)):
             if value > most:
                 yield 36, line, place, f"`{key}` is {value} ms, and at most {most} is allowed"
 

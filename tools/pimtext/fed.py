@@ -6,18 +6,10 @@ from dataclasses import dataclass
 from typing import TYPE_CHECKING, Any
 
 from pimtext.addresses import dotted, prefix_in, range_words, route_words
+from pimtext.facts import DELAYS, SETTINGS, USUAL
 
 if TYPE_CHECKING:
     from pimtext.story import Step
-
-# The keys of a router's table, with the names and usual values of the library's settings.
-SETTINGS = {
-    "limit": ("limit", 65536),
-    "rv": ("robustness", 2),
-    "qi": ("query_interval", 125),
-    "qri": ("query_response_interval", 100),
-    "lmqi": ("last_member_query_interval", 10),
-}
 
 
 @dataclass(frozen=True)
@@ -34,11 +26,12 @@ def interfaces(table: dict[str, Any]) -> Iterator[tuple[str, int, int, int, int]
     """Each interface: its address, its prefix length, its DR priority and its two delays."""
     for row in table.get("iface", []):
         address, length = prefix_in(row["address"])
-        yield dotted(address), length, row.get("priority", 1), row.get("propagation", 500), row.get("override", 2500)
+        usual = (row.get(key, USUAL[key]) for key in ("priority", *DELAYS))
+        yield dotted(address), length, *usual
 
 
 def settings(table: dict[str, Any]) -> dict[str, Any]:
-    given = {name: table.get(key, usual) for key, (name, usual) in SETTINGS.items()}
+    given = {name: table.get(key, USUAL[key]) for key, name in SETTINGS.items()}
     return given | {"stays_on_shared_tree": table.get("spt") == "never"}
 
 

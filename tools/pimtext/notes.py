@@ -8,6 +8,7 @@ from typing import TYPE_CHECKING, Any
 
 from pimtext import packets, story, trace, wishes, words
 from pimtext.cause import Symptom
+from pimtext.facts import MEANINGS
 from pimtext.faults import MOST_ROUTES, MOST_RPS, Judge, configuration_faults, list_faults, route_fault, rp_fault
 
 if TYPE_CHECKING:
@@ -15,36 +16,6 @@ if TYPE_CHECKING:
     from pimtext.run import Run
 
 ETHERNET = {b"\x08\x00": 14, b"\x81\x00": 18}
-
-# What the refusals of moves, and the reasons to ignore them, mean.
-MEANINGS = {
-    "1": "the packet is shorter than its lengths and counts say: is it cut, or is an Ethernet header before it?",
-    "2": "the IP version isn't 4, or PIM's isn't 2",
-    "3": "a checksum is wrong: the IP header's, PIM's or IGMP's",
-    "4": "a wrong IP length; more than 1,500 bytes, 1,528 as a unicast; a Hello option of a wrong length; a query of "
-         "9 to 11 bytes",
-    "5": "an IP source that no host has, an encoded address of another family, or a wrong source in an Assert",
-    "6": "a group field, or the destination of a registered packet, isn't in 224.0.0.0/4",
-    "7": "IGMPv1 or IGMPv2 that the router doesn't hear: by its `older_hosts`, of a group of 224.0.0.0/24 or SSM, or a "
-         "Leave while a host of IGMPv1 wants the group",
-    "8": "an IGMP type other than query and report",
-    "9": "the packet is a fragment",
-    "20": "the moment is before the router's present",
-    "21": "the moment is above 2^62",
-    "22": "the router has no interface of this number; they are counted from 0",
-    "23": "the interface is down when the packet comes: an `up` is missing before, or the packet is lost on purpose",
-    "24": "it needs more new facts than `limit` leaves room for, or is the Hello of a 65th neighbour on the interface",
-    "Own": "the packet's source is an address of the router, which hears itself",
-    "NotForMe": "on a link: IGMP or data to no group, a Register or Register-Stop; as a unicast: for another router, "
-                "or not one of these two",
-    "OtherType": "a PIM message of a type that the router doesn't know, as Bootstrap",
-    "Mask": "an Assert or Register-Stop for a range of groups",
-    "LinkLocal": "a group in 224.0.0.0/24, which never leaves its link",
-    "NoNeighbour": "a Join/Prune, an Assert or a farewell from an address without a live Hello: the Hello is "
-                   "missing, or is over",
-    "NotRp": "a Register-Stop from another address than the group's RP: the router goes on registering",
-    "Already": "`up` of an interface that is up, or `down` of one that is down",
-}
 
 
 def ethernet_bytes(data: bytes) -> int:

@@ -8,6 +8,7 @@ from typing import TYPE_CHECKING
 
 from pimtext import asked, limit, packets, printed, words
 from pimtext.cause import Cause
+from pimtext.facts import DELAYS, USUAL
 from pimtext.run import COUNTED, gathered, listed, some, times
 from pimtext.wire import ASSERT, DATA, HELLO, JOIN, PLURALS, SINGULARS, names_group
 
@@ -293,7 +294,7 @@ class Outages:
         configured."""
         ports = [(self.known[name].router, interface.number) for name, interface in self.run.ports()[link]]
         tables = [router.table["iface"][number] for router, number in ports]
-        return max(each.get("propagation", 500) for each in tables) + max(each.get("override", 2500) for each in tables)
+        return sum(max(each.get(key, USUAL[key]) for each in tables) for key in DELAYS)
 
     # ---- the limit
 
@@ -326,7 +327,7 @@ class Outages:
         return Cause(*self.run.at_router(name, told), covers)
 
     def full(self, name: str, found: list[tuple[int, Step]]) -> Cause:
-        settings, value = self.run.settings, lambda each: each.router.table.get("limit", 65536)
+        settings, value = self.run.settings, lambda each: each.router.table.get("limit", USUAL["limit"])
         most, since = value(settings.at(name, found[0][0])), settings.since(name, value, found[0][0])
         held = self.run.held(found[0][0], name)
         what = ", ".join(times(count, COUNTED[table]) for table, count in held.items()) or "none"

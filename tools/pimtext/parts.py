@@ -15,8 +15,8 @@ INSTALLED = TOP / "out" / "quick" / "installed"
 # The tests that take longest, which begin first; and those that want neither the program nor the library.
 LONG = ("embed", "check_counts", "why", "lab", "pimlab", "unproved", "mroute", "usual_mistakes", "recorded", "play")
 ALONE = ("beside", "check_counts", "check_docs", "cited", "copies", "crates_table", "edits", "embed", "gate",
-    "gate_times", "hostile", "lint", "packets", "rt", "spoils", "together", "told", "try_all", "try_edits", "unused",
-    "wrong_definitions")
+    "gate_times", "hostile", "lint", "packets", "rt", "spoils", "tables", "together", "told", "try_all", "try_edits",
+    "unused", "wrong_definitions")
 
 
 @dataclass(frozen=True)
@@ -48,7 +48,7 @@ def alone_first() -> Iterator[Part]:
     for name in ("test_bytes", "igmp_older_runs"):
         yield Part(name, ("rt", "try", "--test"), f"crates/{name}", alone=True)
     for words in ("unused", "cited --check", "check_counts", "crates_table --check", "bundle_definitions --check",
-                  "lint", "try_edits --front --changed"):
+                  "tables", "lint", "try_edits --front --changed"):
         yield tool(words, alone=True)
     yield Part("linux_layout", ("cargo", "fmt", "--check"), "linux", alone=True)
     yield Part("rust_layout", ("cargo", "fmt", "--check"), "bindings/rust", alone=True)

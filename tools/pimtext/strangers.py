@@ -11,6 +11,7 @@ from typing import TYPE_CHECKING
 
 from pimtext import asked, packets, printed, reasons, served, words
 from pimtext.cause import Cause, Symptom
+from pimtext.facts import DELAYS, USUAL
 from pimtext.run import gathered, some, times
 
 if TYPE_CHECKING:
@@ -23,7 +24,7 @@ FOR_EVER = 0xFFFF
 # How often a neighbour's generation ID has to change for it to be told.
 RESTARTS = 3
 # The override interval and the propagation delay of a link where a neighbour says none, in ms (RFC 7761, 4.3.3).
-USUAL_DELAY = 3000
+USUAL_DELAY = sum(USUAL[key] for key in DELAYS)
 SPOOFED = (packets.Hello, packets.JoinPrune, packets.Assert)
 
 
@@ -109,7 +110,7 @@ class Strangers:
             own = [each for _, each in self.run.ports().get(link, [])]
             tables = [self.known[name].router.table["iface"][each.number]
                       for name, each in self.run.ports().get(link, [])]
-            delays = [each.get("propagation", 500) + each.get("override", 2500) for each in tables]
+            delays = [sum(each.get(key, USUAL[key]) for key in DELAYS) for each in tables]
             if own and last.body.override is None and any(delay != USUAL_DELAY for delay in delays):
                 told = f"the Hello of {address} on {link} {self.when(last)} says no LAN delay, so all routers there use"
                 told = f"{told} {USUAL_DELAY / 1000:g} s and not the {max(delays) / 1000:g} s that are configured: so"

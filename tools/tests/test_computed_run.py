@@ -104,7 +104,7 @@ class Read(unittest.TestCase):
     def test_a_refused_configuration(self):
         for path in stored.DATA.glob("*.err"):
             number = int(re.search(r"refused: (\d+)", path.read_text() + " refused: 0")[1])
-            if number in run.REFUSALS:
+            if number in run.OF_CONFIGURATIONS:
                 case, refusal = run.read_case(path.with_suffix(".toml"))
                 self.assertEqual((refusal, case.lines), (run.REFUSALS[number], []))
         with repository({"a.toml": "", "a.out": "", "a.err": "2\npimlab: scenario refused: 31\n"}) as room:

@@ -416,6 +416,11 @@ class Libraries(unittest.TestCase):
                 subprocess.run(["cc", "-shared", "-fPIC", "-xc", "-", "-o", made], input=text, text=True, check=True)
                 self.assertRaisesRegex(viqeshor.OtherVersion, told, Router, INTERFACES, library=made)
 
+    def test_an_answer_of_a_later_library_is_one(self):
+        later = viqeshor.Answer(99)
+        self.assertEqual((later, str(later.name), later.is_refused, later.is_ignored), (99, "UNKNOWN_99", False, False))
+        self.assertRaises(ValueError, viqeshor.Answer, "99")
+
 
 if __name__ == "__main__":
     unittest.main()

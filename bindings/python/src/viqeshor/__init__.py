@@ -155,6 +155,15 @@ class Answer(enum.IntEnum):
     NOT_RP = 107
     ALREADY = 108
 
+    @classmethod
+    def _missing_(cls, value: object) -> Self | None:
+        """An answer of a later library: it has no name, and is no reason to fail once the router has taken an event."""
+        if not isinstance(value, int):
+            return None
+        answer = int.__new__(cls, value)
+        answer._name_, answer._value_ = f"UNKNOWN_{value}", value
+        return answer
+
     @property
     def is_ignored(self) -> bool:
         return self >= Answer.OWN

@@ -1,0 +1,95 @@
+"""The answers of the core and what holds where nothing is said, for the tools: `tools/tables` writes all of it."""
+
+# ---- answers
+# The names of refusals, by their numbers.
+REFUSALS = {
+    1: "Short",
+    2: "BadVersion",
+    3: "BadChecksum",
+    4: "BadLength",
+    5: "BadAddress",
+    6: "NotMulticast",
+    7: "OldVersion",
+    8: "UnknownType",
+    9: "Fragment",
+    20: "MomentBack",
+    21: "MomentFar",
+    22: "NoInterface",
+    23: "InterfaceDown",
+    24: "Full",
+    25: "BadRoutes",
+    26: "BadRps",
+    27: "BadMove",
+    30: "InterfaceCount",
+    31: "InterfaceAddress",
+    32: "InterfaceLength",
+    33: "Overlap",
+    34: "BadLimit",
+    35: "BadQuerier",
+    36: "BadDelay",
+    37: "ConfiguredRoutes",
+    38: "ConfiguredRps",
+    39: "BadScenario",
+}
+# The numbers of reasons to ignore.
+IGNORED = {
+    "Own": 101,
+    "NotForMe": 102,
+    "OtherType": 103,
+    "Mask": 104,
+    "LinkLocal": 105,
+    "NoNeighbour": 106,
+    "NotRp": 107,
+    "Already": 108,
+}
+# What the refusals of moves, by their numbers as texts, and the reasons to ignore them mean.
+MEANINGS = {
+    "1": "the packet is shorter than its lengths and counts say: is it cut, or is an Ethernet header before it?",
+    "2": "the IP version isn't 4, or PIM's isn't 2",
+    "3": "a checksum is wrong: the IP header's, PIM's or IGMP's",
+    "4": "a wrong IP length; more than 1,500 bytes, 1,528 as a unicast; a Hello option of a wrong length; a query of "
+         "9 to 11 bytes",
+    "5": "an IP source that no host has, an encoded address of another family, or a wrong source in an Assert",
+    "6": "a group field, or the destination of a registered packet, isn't in 224.0.0.0/4",
+    "7": "IGMPv1 or IGMPv2 that the router doesn't hear: by its `older_hosts`, of a group of 224.0.0.0/24 or SSM, or "
+         "a Leave while a host of IGMPv1 wants the group",
+    "8": "an IGMP type other than query and report",
+    "9": "the packet is a fragment",
+    "20": "the moment is before the router's present",
+    "21": "the moment is above 2^62",
+    "22": "the router has no interface of this number; they are counted from 0",
+    "23": "the interface is down when the packet comes: an `up` is missing before, or the packet is lost on purpose",
+    "24": "it needs more new facts than `limit` leaves room for, or is the Hello of a 65th neighbour on the interface",
+    "Own": "the packet's source is an address of the router, which hears itself",
+    "NotForMe": "on a link: IGMP or data to no group, a Register or Register-Stop; as a unicast: for another router, "
+                "or not one of these two",
+    "OtherType": "a PIM message of a type that the router doesn't know, as Bootstrap",
+    "Mask": "an Assert or Register-Stop for a range of groups",
+    "LinkLocal": "a group in 224.0.0.0/24, which never leaves its link",
+    "NoNeighbour": "a Join/Prune, an Assert or a farewell from an address without a live Hello: the Hello is missing, "
+                   "or is over",
+    "NotRp": "a Register-Stop from another address than the group's RP: the router goes on registering",
+    "Already": "`up` of an interface that is up, or `down` of one that is down",
+}
+# ---- defaults
+# What holds where a scenario says nothing, by its keys; the first are a router's.
+USUAL = {
+    "limit": 65536,
+    "rv": 2,
+    "qi": 125,
+    "qri": 100,
+    "lmqi": 10,
+    "priority": 1,
+    "propagation": 500,
+    "override": 2500,
+}
+# The keys of an interface's delays.
+DELAYS = ("propagation", "override")
+# The library's names of a router's keys.
+SETTINGS = {
+    "limit": "limit",
+    "rv": "robustness",
+    "qi": "query_interval",
+    "qri": "query_response_interval",
+    "lmqi": "last_member_query_interval",
+}
