@@ -16,7 +16,16 @@ FILES = {
     *(part.path for part in tables.PARTS), "tables/answers.toml", "tables/defaults.toml",
     *re.findall(r'^"(.+)" = \[$', (TOP / "tables" / "defaults.toml").read_text(encoding="utf-8"), re.M),
 }
-ANSWER = '\n[[answer]]\nnumber = {}\nname = "BadOption"\nabout = "{}"\ncore = "{}"\nsays = "{}"\nwhen = "{}"\nhint = "{}"\n'
+ANSWER = """
+[[answer]]
+number = {}
+name = "BadOption"
+about = "{}"
+core = "{}"
+says = "{}"
+when = "{}"
+hint = "{}"
+"""
 
 
 class Tables(unittest.TestCase):
@@ -73,7 +82,8 @@ class Tables(unittest.TestCase):
 
     def test_so_is_a_reason_to_ignore(self):
         path = self.top / "tables" / "answers.toml"
-        path.write_text(path.read_text(encoding="utf-8") + ANSWER.format(109, "a", "b", "c", "d", "e"), encoding="utf-8")
+        more = ANSWER.format(109, "a", "b", "c", "d", "e")
+        path.write_text(path.read_text(encoding="utf-8") + more, encoding="utf-8")
         self.assertEqual(self.ran("--write")[0], 0)
         self.assertEqual(self.holders("Ignored.BadOption = 109"), {
             "crates/pim_c/specs/Told.antt", "crates/pim_runs/specs/Transcript.antt"})
