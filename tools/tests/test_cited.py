@@ -98,9 +98,9 @@ impl Router {
 """,
     "crates/pim_router/specs/Standing.antt": "unfoldable pub standing : ℕ\nstanding = 1\n",
     "crates/pim_router/specs/Own.antt": "unfoldable pub own : ℕ\nown = 1\n",
-    "docs/PROVED.md": "# Proved\n\n## What it means for a network\n\n| `NeverFar` | never |\n\n## Other\n\n| `Lemma` "
-                      "| so |\n\n<!-- trusted definitions -->\nx\n<!-- end -->\n\n<!-- what calls ask -->\nx\n<!-- "
-                      "end -->\n",
+    "docs/PROVED.md": "# Proved\n\n## In short\n\n| `NeverFar` | never |\n\n## Other\n\n| `Lemma` | so |\n",
+    "docs/CALLS.md": "# Calls\n\n<!-- trusted definitions -->\nx\n<!-- end -->\n\n<!-- what calls ask -->\nx\n"
+                     "<!-- end -->\n\n<!-- calls -->\nx\n<!-- end -->\n",
     "docs/LIBRARY.md": "# The library\n\n## What one event can bring\n\nNothing.\n",
 }
 
@@ -139,6 +139,23 @@ class Walk(unittest.TestCase):
         with repository({**FILES, "crates/low/specs/Deep.antt": deep, "crates/low/specs/Other.antt": other}) as room:
             self.assertLessEqual({("low/specs/Other", "Way"), ("low/specs/Other", "◌∪◌")}, cited.trusted(room))
 
+    def test_each_law_of_networks(self):
+        law = "ghost use Rattle.low.specs.Laws.{Lemma};\n\n/// It is so.\npub fn lemma()\n    ensures { Lemma }\n{}\n"
+        with repository({**FILES, "crates/law_causes/src/lib.rt": law}) as room:
+            self.assertIn(("low/specs/Laws", "Lemma"), cited.trusted(room))
+
+    def test_what_is_said_of_each_call(self):
+        laws = ("//! Laws.\n\n/// It is so, of\n/// (*,G). Always.\n#[tactic(auto)]\npub fn lemma()\n"
+                "    ensures { Lemma }\n{}\n")
+        bits = FILES["crates/low/src/bits.rt"].replace("So many.", "So many. And no more.")
+        bits = bits.replace("    requires { least <", "    requires few { least <")
+        files = {**FILES, "crates/low/src/bits.rt": bits, "crates/law_low/src/lib.rt": laws,
+                 "crates.txt": FILES["crates.txt"].replace("low:\n", "low:\n# laws\nlaw_low: low\n")}
+        with repository(files) as room:
+            self.assertEqual(["### low", "- `Bits::most`: So many. (asks `few`; `below`; by `IsBelow`)",
+                "### law_low", "- `Lemma`: It is so, of (\\*,G). Always.",
+                "### pim_router", "- `Router::bits`: Its bits. (by `standing`)"], list(cited.call_items(room)))
+
     def test_what_calls_ask(self):
         with repository(FILES) as room:
             self.assertEqual(["1 public calls below the router have a `requires` (`tools/cited --requires`)",
@@ -151,7 +168,7 @@ class Check(unittest.TestCase):
         with repository(FILES) as room:
             ran(room, "--write")
             self.assertEqual((0, ""), ran(room, "--check"))
-            self.assertIn("7 definitions", (room / "docs" / "PROVED.md").read_text())
+            self.assertIn("7 definitions", (room / "docs" / "CALLS.md").read_text())
 
     def spoilt(self, file, old, new):
         with repository(FILES) as room:
@@ -167,7 +184,7 @@ class Check(unittest.TestCase):
         status, printed = self.spoilt("crates/pim_router/src/router.rt", "specs.Standing.{standing};",
             "specs.Own.{own as standing};")
         self.assertEqual(1, status)
-        self.assertIn("docs/PROVED.md: this is missing: of `pim_router` in `Own`", printed)
+        self.assertIn("docs/CALLS.md: this is missing: of `pim_router` in `Own`", printed)
 
     def test_a_definition_that_cites_more(self):
         status, printed = self.spoilt("crates/low/specs/Deep.antt", "holds n = passed n",
@@ -178,32 +195,41 @@ class Check(unittest.TestCase):
         self.assertIn("8 definitions", printed)
 
     def test_a_file_that_the_list_leaves_out(self):
-        status, printed = self.spoilt("docs/PROVED.md", "; of `pim_router` in `Standing`", "")
-        self.assertEqual((1, "docs/PROVED.md: this is missing: of `pim_router` in `Standing`\n"), (status, printed))
+        status, printed = self.spoilt("docs/CALLS.md", "; of `pim_router` in `Standing`", "")
+        self.assertEqual((1, "docs/CALLS.md: this is missing: of `pim_router` in `Standing`\n"), (status, printed))
 
     def test_a_law_of_the_table_that_is_another(self):
         status, printed = self.spoilt("docs/PROVED.md", "| `NeverFar`", "| `Never`")
         self.assertEqual(1, status)
-        self.assertIn("docs/PROVED.md: this isn't so: 7 definitions", printed)
+        self.assertIn("docs/CALLS.md: this isn't so: 7 definitions", printed)
 
     def test_laws_of_each_section(self):
         for file, old, new in (
-                ("docs/PROVED.md", "# Proved\n", "# Proved\n\n## In short\n\nBy `IsBelow`.\n"),
+                ("docs/PROVED.md", "| so |\n", "| so |\n\n## Also\n\nBy `Lemma`.\n"),
                 ("docs/PROVED.md", "| `NeverFar` | never |", "| `NeverFar` | never |\n| `Lemma` | so |"),
                 ("docs/LIBRARY.md", "Nothing.", "| data | nothing | `Lemma` |")):
             status, printed = self.spoilt(file, old, new)
-            self.assertEqual("Lemma" in new, status == 1, printed)
-            self.assertEqual("Lemma" in new, "8 definitions" in printed, printed)
+            self.assertEqual("Also" not in new, status == 1, printed)
+            self.assertEqual("Also" not in new, "8 definitions" in printed, printed)
+
+    def test_a_call_that_is_said_otherwise(self):
+        for old, new, said in (
+                ("/// So many.", "/// Some.", "- `Bits::most`: Some. (asks; `below`; by `IsBelow`)"),
+                ("ensures below", "ensures least", "- `Bits::most`: So many. (asks; `least`; by `IsBelow`)")):
+            status, printed = self.spoilt("crates/low/src/bits.rt", old, new)
+            self.assertEqual(1, status)
+            self.assertEqual(["docs/CALLS.md: this isn't so: - `Bits::most`: So many. (asks; `below`; by `IsBelow`)",
+                f"docs/CALLS.md: this is missing: {said}"], printed.splitlines())
 
     def test_a_call_that_asks_more(self):
         status, printed = self.spoilt("crates/low/src/bits.rt", "    fn more", "    pub fn more")
         self.assertEqual(1, status)
-        self.assertIn("docs/PROVED.md: this is missing: of `low` `Bits::most`, `Bits::more`", printed)
+        self.assertIn("docs/CALLS.md: this is missing: of `low` `Bits::most`, `Bits::more`", printed)
 
     def test_no_list_at_all(self):
-        status, printed = self.spoilt("docs/PROVED.md", "<!-- trusted definitions -->", "")
+        status, printed = self.spoilt("docs/CALLS.md", "<!-- trusted definitions -->", "")
         self.assertEqual(1, status)
-        self.assertIn("docs/PROVED.md: it has no list", printed)
+        self.assertIn("docs/CALLS.md: it has no list", printed)
 
     def test_this_repository(self):
         self.assertEqual((0, ""), ran(Path(cited.__file__).resolve().parent.parent, "--check"))

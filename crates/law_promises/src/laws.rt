@@ -49,35 +49,42 @@ pub fn each_emission_is_of_a_kind()
     ensures { EachEmissionIsOfAKind }
 {}
 
-/// From router to router, in any states, a packet makes fewer hops than its TTL, as copies on links and in Registers.
+/// From router to router, in any states, a packet makes fewer hops than its TTL, as copies on links and in Registers,
+/// whatever is lost, repeated or reordered. Nothing is said of a copy on a link that is handed to a router as a
+/// unicast.
 pub fn hops_end()
     ensures { HopsEnd }
 {}
 
-/// In a network whose frames are delivered any number of times and in any order, a packet makes fewer hops than its
-/// TTL.
+/// In a network whose frames are delivered any number of times and in any order, and whose routers have a link for each
+/// interface, a packet makes fewer hops than its TTL. Nothing is said of a copy on a link that is handed to a router as
+/// a unicast.
 pub fn net_hops_end()
     ensures { NetHopsEnd }
 {}
 
-/// A data packet on its tree leaves on every other interface of the tree's list.
+/// A data packet with a TTL above 1 that comes on its tree, on the shortest path tree with SPTbit or on the shared tree
+/// without it, leaves on every other interface of that tree's list. SPTbit and the list are those after the packet has
+/// renewed its source's facts (`renewed`).
 pub fn list_is_served()
     ensures { ListIsServed }
 {}
 
-/// A data packet on its tree leaves where the group was joined, the source isn't pruned, and no assert was lost.
+/// A data packet that comes on its tree, as `ListIsServed` says, leaves where a router joined the group, the source
+/// isn't pruned, and this router lost no assert.
 pub fn served_here()
     ensures { ServedHere }
 {}
 
-/// A data packet on its tree leaves where a host requested the group and didn't exclude the source, the router serves
-/// the link, and no assert was lost.
+/// A data packet that comes on its tree, as `ListIsServed` says, leaves where a host requested the group and didn't
+/// exclude the source, and this router is the DR of the link or won the group's assert, and lost none.
 pub fn member_is_served()
     ensures { MemberIsServed }
 {}
 
-/// A data packet on the shortest path tree leaves where a router joined its source, or a host requested it, and no
-/// assert was lost.
+/// A data packet with a TTL above 1 that comes on the shortest path tree with SPTbit leaves where a router joined its
+/// source, or a host requested it and this router is the DR of the link or won the source's assert; and where this
+/// router lost no assert of the source.
 pub fn source_is_served()
     ensures { SourceIsServed }
 {}
@@ -114,7 +121,8 @@ pub fn asserts_stay_bounded()
     ensures { AssertsStayBounded }
 {}
 
-/// All facts that count are at most the limit, once for each interface and once more.
+/// All facts that count, asserts among them, are at most limit x (interfaces + 1), after any events from the opening
+/// with an accepted configuration.
 pub fn counted_stay_bounded()
     ensures { CountedStayBounded }
 {}
@@ -146,7 +154,8 @@ pub fn join_timers_stay_bounded()
     ensures { JoinTimersStayBounded }
 {}
 
-/// All facts but the override timers are bounded by the limit and the number of interfaces.
+/// All facts but the override timers are at most limit x (interfaces + 4) + 2 x interfaces, after any events from the
+/// opening with an accepted configuration.
 pub fn all_stay_bounded()
     ensures { AllStayBounded }
 {}
@@ -182,8 +191,9 @@ pub fn record_asks_few()
     ensures { RecordAsksFew }
 {}
 
-/// All that an event of some keys sends: what it sends itself, what is cancelled and sent upstream for those keys, and
-/// a Hello before each message whose interface owes one.
+/// From a quiet state, all that an event of known keys (`touched_by_event`) sends: what it sends itself; an
+/// AssertCancel for each assert of these keys that the router won; a message upstream for each of their groups, and two
+/// for each of their sources with a fact; and a Hello before each message whose interface owes one.
 pub fn answers_are_bounded()
     ensures { AnswersAreBounded }
 {}
@@ -203,12 +213,14 @@ pub fn hello_again_is_silent()
     ensures { HelloAgainIsSilent }
 {}
 
-/// An event that names one group leaves all answers of the macros about sources of other groups unchanged.
+/// From a quiet state an event that is answered Done and names one group leaves all answers of the macros about sources
+/// of other groups unchanged.
 pub fn other_groups_keep()
     ensures { OtherGroupsKeep }
 {}
 
-/// The expiry of a timer of one group leaves all answers of the macros about sources of other groups unchanged.
+/// From a quiet state the expiry of a timer of one group, any but a neighbour's, leaves all answers of the macros about
+/// sources of other groups unchanged.
 pub fn other_groups_outlast()
     ensures { OtherGroupsOutlast }
 {}

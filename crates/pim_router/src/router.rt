@@ -248,12 +248,12 @@ impl Router {
     }
 
     /// Whether the answer of `offload` for (S,G) may differ from its answer before the last event, whether the source
-    /// has a fact or not. If this is false, the answer is the same. It is true exactly for the sources that the event's
-    /// change, or the expiry of one of its timers, touched, and for all sources of a group that it touched whole; after
-    /// new routes or RP ranges, for the sources for which RP(G), the route to it or the route to S has changed; for all
-    /// sources after an interface went up or down; after a Hello, or the expiry of a neighbour, that changes whether the
-    /// router is the DR or touches more than 256 keys; after an event that took the last room for a fact or made room
-    /// again; and where the router has failed. Takes no memory.
+    /// has a fact or not. If this is false, the answer decides the same of each packet. It is true exactly for the
+    /// sources that the event's change, or the expiry of one of its timers, touched, and for all sources of a group
+    /// that it touched whole; after new routes or RP ranges, for the sources for which RP(G), the route to it or the
+    /// route to S has changed; for all sources after an interface went up or down; after a Hello, or the expiry of a
+    /// neighbour, that changes whether the router is the DR or touches more than 256 keys; after an event that took the
+    /// last room for a fact or made room again; and where the router has failed. Takes no memory.
     pub fn may_differ(&self, source: Addr, group: Addr) -> bool
         ensures { result ≡ option_map_or (λ r. may_differ self.now.disturbed r.state group.bits source.bits)
             self.now.standing true }
@@ -488,11 +488,12 @@ impl Router {
 
     /// Takes events one after the other, and returns the outcome of each. After a fault the router answers `Failed`
     /// from then on, and the outcomes of the events before the fault are lost: who is to send what these sent calls
-    /// `step` for each event. Without events no memory is taken, so there is no fault. Where earlier events and reloads,
-    /// or none, led from the opening of an accepted configuration to the router's state, nothing flows unasked: each copy
-    /// of a packet has its cause in an earlier event, of this run or before it. After such a run the facts that count,
-    /// without the asserts, are within the greatest limit of the configurations so far; and where no reload was among
-    /// what came before, with the asserts they are at most the limit once for each interface and once more.
+    /// `step` for each event. Without events no memory is taken, so there is no fault. Where earlier events, reloads
+    /// and reports of a plane, or none, led from the opening of an accepted configuration to the router's state,
+    /// nothing flows unasked: each copy of a packet has its cause in an earlier event, of this run or before it. After
+    /// such a run the facts that count, without the asserts, are within the greatest limit of the configurations so
+    /// far; and where events alone came before, with the asserts they are at most the limit once for each interface and
+    /// once more.
     pub fn run(&mut self, events: &[Event]) -> Result<Vec<Outcome>, Fault>
         ensures outcomes { IfSome self.old.standing (λ r. IfOk result (λ outcomes. outcomes.items ≡ run r.state events.now)) }
         ensures state { IfSome self.old.standing (λ r. OnOk result (self.new.standing ≡ Some (standing_after r events.now))) }
