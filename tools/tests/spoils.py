@@ -47,7 +47,7 @@ SPOILS = [
     Spoil("docs/TUTORIAL.md", "(#write-your-own)", "(#write-your-owm)", "check_docs", "#write-your-owm"),
     Spoil("docs/CALLS.md", "of the folders `specs` of `pim_model`", "of the folders `specs` of `pim_models`", "cited",
         "docs/CALLS.md: this isn't so"),
-    Spoil("docs/ARCHITECTURE.md", "| `law_history` | what led", "| `law_history` | what brought", "crates_table",
+    Spoil("docs/CALLS.md", "| `law_history` | what led", "| `law_history` | what brought", "crates_table",
         "law_history"),
     # A scenario that stands in two places, what is stored of one, and programs that use the library.
     Spoil("examples/one_join.toml", "[[router]]", "[[router]] ", "test_copies", "one_join.toml"),

@@ -1,4 +1,4 @@
-"""`tools/crates_table`: the table that crates.txt says, and the one that docs/ARCHITECTURE.md has."""
+"""`tools/crates_table`: the table that crates.txt says, and the one that docs/CALLS.md has."""
 import unittest
 
 from tests import stored
@@ -53,11 +53,11 @@ class Compared(unittest.TestCase):
     def test_another_line_one_that_is_missing_and_one_too_many(self):
         another = [*TABLE[:4], "| `lists` | chains |"]
         for document in (["# Name", *another], ["# Name", *TABLE[:4], ""], ["# Name", *TABLE[:4]]):
-            self.assertIn("docs/ARCHITECTURE.md:6: ", crates_table.unlike(TABLE, document))
-        self.assertIn("docs/ARCHITECTURE.md:8: ", crates_table.unlike(TABLE, [*TABLE, "| `more` | one more |"]))
+            self.assertIn("docs/CALLS.md:6: ", crates_table.unlike(TABLE, document))
+        self.assertIn("docs/CALLS.md:8: ", crates_table.unlike(TABLE, [*TABLE, "| `more` | one more |"]))
 
     def test_no_table(self):
-        self.assertEqual(crates_table.unlike(TABLE, ["# Name"]), "docs/ARCHITECTURE.md has no table of crates")
+        self.assertEqual(crates_table.unlike(TABLE, ["# Name"]), "docs/CALLS.md has no table of crates")
 
 
 if __name__ == "__main__":
