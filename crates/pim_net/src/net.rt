@@ -86,8 +86,8 @@ impl<W: Wire> Net<W> {
     /// receives; there is no other call of the wire. Without moves no memory is taken, so there is no fault. A fault is
     /// `Memory`, after which the net answers `Failed` from then on; or `Wire`, where the wire failed: then the moves
     /// before it are done, and the net goes on working. After either the outcomes of the moves before it are lost. In
-    /// the first run of a net nothing flows unasked: each copy of a packet has its cause among what came to its router
-    /// before.
+    /// the first run of a net over a wire that gives what was sent nothing flows unasked: each copy of a packet has its
+    /// cause among what came to its router before.
     pub fn run(&mut self, moves: &[Move]) -> Result<NetLog, Fault>
         ensures outcomes { W.is_faithful ≡ true → IfSome self.old.network (λ n. IfOk result (λ log.
             log.items ≡ (network_ran n (map move_of moves.now)).0)) }

@@ -232,9 +232,9 @@ impl Router {
     }
 
     /// What a data plane, which forwards by rows that it was given, may do with the packets of (S,G). For a source with
-    /// a fact this is unchanged until `changed` lists the source; for any other source, until `may_differ` answers yes.
-    /// `None` where the source has no fact and there is no room for one (the router takes all its packets), and where
-    /// the router has failed. Takes no memory.
+    /// a fact this decides the same until `changed` lists the source; for any other source, until `may_differ` answers
+    /// yes. `None` where the source has no fact and there is no room for one (the router takes all its packets), and
+    /// where the router has failed. Takes no memory.
     pub fn offload(&self, source: Addr, group: Addr) -> Option<Offered>
         ensures told { IfSome self.now.standing (λ r. TellsOffload result (offered r.state group.bits source.bits)) }
         ensures failed { self.now.standing ≡ None → result ≡ None }
