@@ -1,9 +1,11 @@
-"""`tools/man`: each page has what its documents have, and groff takes it without a warning."""
+"""`tools/man`: each page has what its documents have, each call of the library has one, and groff takes it without a
+warning."""
 import re
 import shutil
 import subprocess
 import unittest
 
+from pimtext import library
 from tests import stored
 
 man = stored.tool("man")
@@ -74,15 +76,30 @@ class Pages(unittest.TestCase):
         self.assertRaises(SystemExit, man.part, MARKDOWN.splitlines(), "The third part")
 
     def test_each_page(self):
-        for name in man.PAGES:
+        for name, made in man.every().items():
+            text = made()
+            if text.startswith(".so "):
+                continue
             with self.subTest(name):
-                text = man.page(name)
                 self.assertIn("\n.SH NAME\n", text)
                 # No markup is left.
                 self.assertNotRegex(re.sub(r"(?s)\.nf.*?\.fi", "", text), r"\]\([\w./#-]+\)|\*\*|`")
                 if shutil.which("groff"):
                     ran = subprocess.run(["groff", "-man", "-ww", "-Tutf8"], input=text, text=True, capture_output=True)
                     self.assertEqual(ran.stderr, "")
+
+    def test_each_call_has_a_page_with_its_declaration_and_its_comment(self):
+        pages = man.every()
+        for name in library.names_of_calls():
+            with self.subTest(name):
+                text = pages[f"{name}.3"]()
+                if text.startswith(".so "):
+                    text = pages[text.removeprefix(".so man3/").strip()]()
+                self.assertRegex(text, rf"(?m)^\.SH NAME\n.*\b{name}\b.* \\- \w")
+                self.assertRegex(text, rf"(?m)^[a-z].* \*?{name}\(")
+        self.assertIn("\nFrees the router and its memory. With NULL it does nothing.\n.RS 4\n.nf\nvoid viq_end(",
+                      pages["viq_new.3"]())
+        self.assertNotIn("VIQ_NOT_NULL", pages["viq_new.3"]())
 
 
 if __name__ == "__main__":
