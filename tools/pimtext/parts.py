@@ -13,7 +13,8 @@ STRICT = ("--all-targets", "--", "-D", "warnings")
 BUILD = "build"
 INSTALLED = TOP / "out" / "quick" / "installed"
 # The tests that take longest, which begin first; and those that want neither the program nor the library.
-LONG = ("embed", "check_counts", "why", "lab", "pimlab", "unproved", "mroute", "usual_mistakes", "recorded", "play")
+LONG = ("embed", "check_counts", "why", "lab", "pimlab", "unproved", "mend", "mroute", "usual_mistakes", "recorded",
+    "play")
 ALONE = ("beside", "check_counts", "check_docs", "cited", "copies", "crates_table", "edits", "embed", "gate",
     "gate_times", "hostile", "lint", "packets", "rt", "spoils", "tables", "together", "told", "try_all", "try_edits",
     "unused", "wrong_definitions")

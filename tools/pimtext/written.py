@@ -1,5 +1,5 @@
 """Packets of hosts that a scenario has as words in place of hexadecimal, for all tools; `tools/plain` writes them out
-for `pimlab`.
+for `pimlab`, and `worded` goes the other way.
 
     hex = "igmp v3 239.1.1.1 join from 10.8.0.77"       also leave; include, exclude, allow or block and sources
     hex = "igmp v2 239.1.1.1 join from 10.8.0.77"       also leave; v1 has join alone
@@ -16,6 +16,7 @@ from pimtext.addresses import address_in, is_group, is_host
 
 # A key `hex` with a text that begins with a word, by which packets are told from hexadecimal.
 KEY = re.compile(r"""(\bhex\s*=\s*)(["'])((?:igmp|data)\b[^"'\n]*)\2""")
+HEX = re.compile(r'(\bhex\s*=\s*")([0-9a-f]+)(?=")')
 # What a host says by IGMPv3: the kind of its record, and whether sources are named.
 SAID = {"join": (4, False), "leave": (3, False), "include": (3, True), "exclude": (4, True), "allow": (5, True),
         "block": (6, True)}
@@ -105,3 +106,28 @@ def plain(text: str) -> str:
             wrong.line = text.count("\n", 0, found.start()) + 1
             raise
     return KEY.sub(hexed, text)
+
+
+def words_of(packet: bytes) -> str | None:
+    """The words that say a packet; None where none say all of it."""
+    try:
+        read = packets.read(packet)
+        said = said_by(read.source, read.destination, read.ttl, read.body)
+        is_whole = KEY.fullmatch(f'hex = "{said}"') and packet_of(said) == packet
+    except (packets.Refused, Wrong, ValueError):
+        return None
+    return said if is_whole else None
+
+
+def said_by(source: str, destination: str, ttl: int, body: object) -> str:
+    if isinstance(body, packets.Data):
+        told = body.payload.decode()
+        return f"data {destination} from {source} port {body.destination_port} ttl {ttl} {told}".rstrip()
+    (record,) = body.records if isinstance(body, packets.Report) else ()
+    names = [name for name, means in SAID.items() if means == (record.kind, bool(record.sources))]
+    return " ".join(["igmp v3", record.group, *names, *record.sources, "from", source])
+
+
+def worded(text: str) -> str:
+    """A scenario with the packets of hosts as words, where words say them."""
+    return HEX.sub(lambda found: found[1] + (words_of(bytes.fromhex(found[2])) or found[2]), text)

@@ -8,7 +8,7 @@ import tempfile
 import unittest
 from pathlib import Path
 
-from pimtext import library, scenario
+from pimtext import library, scenario, written
 from pimtext.called import CUT_OFF
 from tests import stored
 
@@ -74,6 +74,17 @@ class Runs(unittest.TestCase):
         for words, text, read in (([EXAMPLE], "", scenario.read(EXAMPLE)), (["-"], EXAMPLE.read_text(), None)):
             wanted = "".join(f"{line}\n" for line in show.shown(lines, read))
             self.assertEqual(called("run", *words, "--tables", text=text), (0, wanted, ""))
+
+    def test_a_run_of_words_or_of_a_network_is_that_of_the_scenario_that_they_make(self):
+        words = Path(self.enterContext(tempfile.TemporaryDirectory(prefix="viq-"))) / "words.toml"
+        words.write_text(written.worded(EXAMPLE.read_text()))
+        self.assertRegex(words.read_text(), written.KEY)
+        lines = EXAMPLE.with_suffix(".out").read_text()
+        self.assertEqual(called("run", words, "--lines", "--tables"), (0, lines, ""))
+        self.assertEqual(called("run", words, "--tables"), called("run", EXAMPLE, "--tables"))
+        network = TOP / "tools" / "networks" / "examples" / "three_in_a_line.py"
+        lines = "".join(f"{line}\n" for line in scenario.run_file(network))
+        self.assertEqual(called("run", network, "--lines", "--tables"), (0, lines, ""))
 
     def test_a_run_that_is_refused_has_the_programs_status_and_line(self):
         path = stored.DATA / "config_2.toml"
