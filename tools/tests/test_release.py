@@ -1,7 +1,9 @@
 """`tools/release`: what is unpacked plays without the kit and without a compiler, says that it isn't proved where it
-isn't, and is the same bytes each time. The router in it is a stand-in: building it takes cargo minutes."""
-import hashlib
+isn't, and is the same bytes each time; and each command of README.md runs there, or isn't run for a reason that stands
+here. The router in it is a stand-in: building it takes cargo minutes."""
+import argparse
 import os
+import re
 import shutil
 import subprocess
 import sys
@@ -17,11 +19,35 @@ TOP = library.TOP
 WANTED = ("dpkg-deb", "zstd", "tar", "strip", library.CC)
 ROUTER = f'#include <stdio.h>\nint main(void) {{ puts("viqeshord {library.VERSION} (library x not proved)"); }}\n'
 EXAMPLE = "examples/shared_to_source_tree"
+NAME = f"viqeshor-{library.VERSION}-unproved-linux-x86_64"
+# Programs that a user of a release has.
+USERS = ("tar", "zstd", "neato", "dot")
+LAB = "tools/networks/examples/change_to_the_source_tree.py"
+# The commands of README.md's text: what is run for one where the release is unpacked, or why nothing is.
+RUN = {
+    "viq whatif": f"bin/viq whatif {LAB} --kind link",
+    "viq why": f"bin/viq why {EXAMPLE}.toml --run",
+    "viq play": f"bin/viq play {EXAMPLE}.toml -o run.html",
+    "viq play --live": "echo 'line r1 r2 / run 1' | bin/viq play --live",
+    "viq mend": "bin/viq mend 1",
+}
+NOT_RUN = {
+    "./test": "it runs all tests, these too",
+    "./test --quick": "it runs these",
+    "./pimlab": "it wants the kit; test_pimlab runs it",
+    "./pimlab run FILE": "it wants the kit; test_pimlab runs it",
+    "tools/release": "it wants a ./test that passed; with --unproved it made what is tried here",
+    "apt-get install $(cat tools/packages.txt)": "it changes the machine; the part `packages` says what is missing",
+    "systemctl restart": "it wants systemd; linux/trials/by_systemd runs it",
+}
+SPAN = re.compile(r"`((?:\./|tools/|linux/|bin/|viq |apt-get |systemctl )[^`]*)`")
 release = stored.tool("release")
 
 
-def sums(folder):
-    return {file.name: hashlib.sha256(file.read_bytes()).hexdigest() for file in folder.iterdir()}
+def blocks(text):
+    """The lines of the blocks by indent that begin with a command, each block as one text."""
+    found = re.findall(r"(?:^    \S.*\n)+", text, re.M)
+    return [re.sub(r"^    ", "", block, flags=re.M) for block in found]
 
 
 @unittest.skipUnless(all(map(shutil.which, WANTED)), f"it wants {', '.join(WANTED)}")
@@ -31,32 +57,73 @@ class Unproved(unittest.TestCase):
         cls.room = Path(cls.enterClassContext(tempfile.TemporaryDirectory(prefix="release-")))
         (cls.room / "router.c").write_text(ROUTER)
         subprocess.run([library.CC, "-o", cls.room / "viqeshord", cls.room / "router.c"], check=True)
-        cls.said = [cls.made(cls.room / out) for out in ("one", "other")]
-        cls.archive = cls.room / "one" / f"viqeshor-{library.VERSION}-unproved-linux-x86_64.tar.zst"
-        subprocess.run(["tar", "--zstd", "-xf", cls.archive, "-C", cls.room], check=True)
-        cls.top = cls.room / cls.archive.name.removesuffix(".tar.zst")
+        words = ["--unproved", "--twice", "--built", cls.room, cls.room / "made"]
+        command = [sys.executable, TOP / "tools" / "release", *words]
+        cls.said = subprocess.run(command, stdout=subprocess.PIPE, text=True, check=True).stdout
+        subprocess.run(["tar", "--zstd", "-xf", cls.room / "made" / f"{NAME}.tar.zst", "-C", cls.room], check=True)
+        cls.top = cls.room / NAME
         (cls.room / "python").mkdir()
-        (cls.room / "python" / "python3").symlink_to(sys.executable)
+        for name, path in [("python3", sys.executable), *((name, shutil.which(name)) for name in USERS)]:
+            if path:
+                (cls.room / "python" / name).symlink_to(path)
 
-    @classmethod
-    def made(cls, out):
-        words = [sys.executable, TOP / "tools" / "release", "--unproved", "--built", cls.room, out]
-        return subprocess.run(words, capture_output=True, text=True, check=True).stdout
+    def user(self):
+        """The environment where there is neither a kit nor a compiler nor a folder for builds."""
+        return {"PATH": str(self.room / "python"), "HOME": str(self.room / "nobody"), "CC": "none"}
+
+    def shell(self, command, folder):
+        ran = subprocess.run([shutil.which("bash"), "-o", "pipefail", "-ec", command], cwd=folder, capture_output=True,
+                             text=True, env=self.user())
+        self.assertEqual(ran.returncode, 0, ran.stderr)
+        return ran.stdout
 
     def viq(self, *words):
-        """What the release's command prints where there is neither a kit nor a compiler nor a folder for builds."""
+        """What the release's command prints for a user."""
         ran = subprocess.run([self.top / "bin" / "viq", *words], cwd=self.top, capture_output=True, text=True,
-                             env={"PATH": str(self.room / "python"), "HOME": str(self.room / "nobody"), "CC": "none"})
+                             env=self.user())
         self.assertEqual((ran.returncode, ran.stderr), (0, ""))
         self.assertFalse((self.room / "nobody").exists())
         return ran.stdout
 
     def test_twice_it_is_the_same_bytes(self):
-        self.assertEqual(sums(self.room / "one"), sums(self.room / "other"))
-        self.assertEqual(len(sums(self.room / "one")), 4)
+        self.assertIn("made twice: the same bytes of 6 files\n", self.said)
+        self.assertEqual(len(list((self.room / "made").iterdir())), 6)
+
+    def test_other_bytes_are_no_release(self):
+        def make(_, out, how):
+            (out / "a.deb").write_text("other")
+            return [out / "a.deb"]
+        with unittest.mock.patch.object(release, "make", make), self.assertRaises(SystemExit) as end:
+            release.compare(argparse.Namespace(), {"a.deb": "0", "b.whl": "1"}, "")
+        self.assertIn("other bytes: a.deb, b.whl", str(end.exception))
+
+    @unittest.skipUnless(shutil.which("lintian"), "lintian isn't installed")
+    def test_lintian_finds_no_error(self):
+        packages = sorted((self.room / "made").glob("*.deb"))
+        ran = subprocess.run(["lintian", "--allow-root", "--fail-on", "error", *packages], stdout=subprocess.PIPE,
+                             stderr=subprocess.STDOUT, text=True)
+        self.assertEqual(ran.returncode, 0, ran.stdout)
+
+    def test_the_blocks_of_the_readme_run_where_the_archive_is(self):
+        for block in blocks((TOP / "README.md").read_text()):
+            with self.subTest(block):
+                folder = self.enterContext(tempfile.TemporaryDirectory(prefix="readme-"))
+                (Path(folder) / f"{NAME}.tar.zst").symlink_to(self.room / "made" / f"{NAME}.tar.zst")
+                command = block.replace(f"viqeshor-{library.VERSION}-linux-x86_64", NAME)
+                self.assertIn("move 1 ", self.shell(command, folder))
+
+    @unittest.skipUnless(shutil.which("neato"), "Graphviz isn't installed")
+    def test_each_command_of_the_readme_runs_or_has_a_reason(self):
+        shown = {" ".join(command.split()) for command in SPAN.findall((TOP / "README.md").read_text())}
+        self.assertEqual(shown, RUN.keys() | NOT_RUN.keys())
+        folder = Path(self.enterContext(tempfile.TemporaryDirectory(prefix="readme-"))) / "own"
+        shutil.copytree(self.top, folder, symlinks=True)
+        for command, ran in RUN.items():
+            with self.subTest(command):
+                self.assertTrue(self.shell(ran, folder))
 
     def test_it_says_that_it_is_not_proved(self):
-        self.assertIn("NOT a proved release", self.said[0])
+        self.assertIn("NOT a proved release", self.said)
         self.assertTrue((self.top / "RELEASE").read_text().startswith("not proved: "))
         self.assertEqual(self.viq("--version"), f"viq {library.VERSION}: the router that plays is not proved\n")
 
