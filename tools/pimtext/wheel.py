@@ -2,6 +2,7 @@
 from __future__ import annotations
 
 import base64
+import ctypes
 import hashlib
 import platform
 import re
@@ -19,7 +20,7 @@ INFO = f"viqeshor-{VERSION}.dist-info"
 METADATA = f"""Metadata-Version: 2.1
 Name: viqeshor
 Version: {VERSION}
-Summary: A multicast router core: PIM Sparse Mode and IGMPv3
+Summary: A multicast router core: PIM Sparse Mode and IGMPv3; the library in it is {{}}
 Requires-Python: >=3.11
 """
 # What a library may need of the system by the rule of the tag (PEP 600), of what ours could.
@@ -40,12 +41,19 @@ def platform_tag(shared: Path) -> str:
     return f"manylinux_{major}_{minor}_{platform.machine()}"
 
 
+def how(shared: Path) -> str:
+    """How a shared library says that it was built: proved, or not proved."""
+    told = ctypes.CDLL(str(shared.resolve())).viq_version
+    told.restype = ctypes.c_char_p
+    return told().decode().partition(" ")[2]
+
+
 def parts(shared: Path, tag: str) -> Iterator[tuple[str, bytes]]:
     """The names of the wheel's files, and what is in them."""
     for file in [*sorted(PACKAGE.glob("*.py")), PACKAGE / "py.typed"]:
         yield f"viqeshor/{file.name}", file.read_bytes()
     yield f"viqeshor/{SONAME}", shared.read_bytes()
-    yield f"{INFO}/METADATA", METADATA.encode()
+    yield f"{INFO}/METADATA", METADATA.format(how(shared)).encode()
     yield f"{INFO}/WHEEL", f"Wheel-Version: 1.0\nGenerator: viqeshor\nRoot-Is-Purelib: false\nTag: {tag}\n".encode()
 
 

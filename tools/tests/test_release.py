@@ -10,6 +10,7 @@ import sys
 import tempfile
 import unittest
 import unittest.mock
+import zipfile
 from pathlib import Path
 
 from pimtext import library
@@ -125,6 +126,9 @@ class Unproved(unittest.TestCase):
     def test_it_says_that_it_is_not_proved(self):
         self.assertIn("NOT a proved release", self.said)
         self.assertTrue((self.top / "RELEASE").read_text().startswith("not proved: "))
+        wheel = zipfile.ZipFile(next((self.room / "made").glob("*.whl")))
+        summary = wheel.read(f"viqeshor-{library.VERSION}.dist-info/METADATA").decode()
+        self.assertIn("; the library in it is not proved\n", summary)
         self.assertEqual(self.viq("--version"), f"viq {library.VERSION}: the router that plays is not proved\n")
 
     def test_its_sums_are_of_all_its_files(self):
