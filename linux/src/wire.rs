@@ -10,6 +10,7 @@ use std::io;
 use std::mem::{size_of, zeroed, MaybeUninit};
 use std::net::{Ipv4Addr, SocketAddrV4};
 use std::os::unix::io::{AsRawFd, RawFd};
+use std::time::{Duration, Instant};
 
 const ROOM: usize = 16 << 20;
 // linux/if_packet.h
@@ -101,12 +102,18 @@ struct Batch {
     read: VecDeque<(u32, Vec<u8>)>,
     /// Nothing else waited when it was read last.
     is_drained: bool,
+    /// When it was read last, unless more may have waited then.
+    drained: Option<Instant>,
 }
 
 impl Batch {
     const MOST: usize = 32;
     /// The most bytes of a packet.
     const LONGEST: usize = 65_536;
+    /// One that comes so soon after others is of a burst, and waits so long for those behind it: a wait for the kernel
+    /// and a call of it cost more of a processor than a packet does.
+    const BURST: Duration = Duration::from_millis(1);
+    const BEHIND_IT: Duration = Duration::from_micros(200);
 
     fn new() -> Batch {
         let mut room = vec![0; Batch::MOST * Batch::LONGEST];
@@ -123,13 +130,16 @@ impl Batch {
             message.msg_hdr.msg_iov = place;
             message.msg_hdr.msg_iovlen = 1;
         }
-        Batch { room, from, _places: places, messages, read: VecDeque::new(), is_drained: false }
+        Batch { room, from, _places: places, messages, read: VecDeque::new(), is_drained: false, drained: None }
     }
 
     /// The next packet that waits at a packet socket, with the kernel's number of its interface. After the last one that
     /// waited there is none, once.
     fn next(&mut self, socket: &Socket) -> io::Result<Option<(u32, Vec<u8>)>> {
         if self.read.is_empty() && !std::mem::take(&mut self.is_drained) {
+            if self.drained.map_or(false, |at| at.elapsed() < Batch::BURST) {
+                std::thread::sleep(Batch::BEHIND_IT);
+            }
             self.fill(socket)?;
         }
         Ok(self.read.pop_front())
@@ -147,6 +157,7 @@ impl Batch {
         }
         let count = count as usize;
         self.is_drained = count < Batch::MOST;
+        self.drained = self.is_drained.then(Instant::now);
         for number in 0..count {
             let message = &mut self.messages[number];
             message.msg_hdr.msg_namelen = size_of::<libc::sockaddr_ll>() as libc::socklen_t;
