@@ -61,6 +61,8 @@ query_response = 2.0
     f'[[rp]]\ngroups = "{groups}"\naddress = "{address}"\n\n' for groups, address in RPS)
 PRIORITY = -15
 SOURCE, HOST = "10.1.0.50", "10.5.0.77"
+# What FRR logs where logs are kept.
+DEBUGS = ("debug pim packets", "debug pim events", "debug mroute", "debug pim trace")
 # With the rights of the unit file alone.
 NOBODY, RIGHTS = 65534, "-all,+net_raw,+net_admin"
 AS_SERVICE = ["setpriv", f"--reuid={NOBODY}", f"--regid={NOBODY}", "--clear-groups", "--no-new-privs",
@@ -99,6 +101,24 @@ def until(what: str, seconds: float, holds: Callable[[], object]) -> None:
         if time.monotonic() > end:
             raise Failed(f"{what}, after {seconds} s not yet")
         time.sleep(0.2)
+
+
+def used(process: int) -> float:
+    """Seconds of a processor, of all threads of a process."""
+    tasks = Path(f"/proc/{process}/task").iterdir()
+    return sum(int((task / "schedstat").read_text().split()[0]) for task in tasks) / 1e9
+
+
+def used_for(process: int, act: Callable[[], object]) -> float:
+    """The same for something, once the process is done with it."""
+    before = used(process)
+    act()
+    last, end = before, time.monotonic() + 60
+    # Less than a tenth of a processor is what it does besides.
+    while (now := used(process)) > last + 0.1 and time.monotonic() < end:
+        last = now
+        time.sleep(1)
+    return now - before
 
 
 class Network:
@@ -160,7 +180,7 @@ class Network:
         room = self.room / place
         room.mkdir(exist_ok=True)
         rps = "".join(f"ip pim rp {address} {groups}\n" for groups, address in RPS)
-        logs = f"log file {room / 'pimd.log'}\ndebug pim packets\ndebug pim events\ndebug mroute\ndebug pim trace\n"
+        logs = "".join(f"{line}\n" for line in (f"log file {room / 'pimd.log'}", *DEBUGS))
         (room / "pimd.conf").write_text(PIMD[place] + rps + (logs if self.is_logged else ""))
         (room / "zebra.conf").write_text("")
         # FRR's daemons give up root for their own user.

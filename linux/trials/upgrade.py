@@ -11,7 +11,7 @@ import time
 from typing import TYPE_CHECKING
 
 from trials import liveness
-from trials.network import (AS_SERVICE, HERE, HOST, NOBODY, SOURCE, Failed, ended, first_after, goes_on, inside,
+from trials.network import (AS_SERVICE, HERE, HOST, NOBODY, SENDER, SOURCE, Failed, ended, first_after, goes_on, inside,
                             received, run, until)
 from trials.streams import SOON
 from trials.with_frr import FEWER_BYTES
@@ -306,6 +306,29 @@ def join_while_dead(net: Network) -> str:
     return f"the first packets came after {times} ms"
 
 
+def killed_with_many_groups(net: Network) -> str:
+    """with 59,000 groups the last state is fresh at each of three odd times of death, and no packet is lost"""
+    groups, ages = 59_000, []
+    (net.room / "router.toml").write_text(
+        "limit = 200000\n" + net.with_policy("max_groups = 100000\nmax_host_groups = 100000\n"))
+    managed(net, 0.5)
+    words = [sys.executable, SENDER, "to-router", "10.5.0.50", "reports", groups, 0.002]
+    report = lambda: run(*inside("hosts", *words), stdout=subprocess.DEVNULL)
+    report()
+    until("the groups are known", 60, lambda: len(net.show("igmp")) >= groups)
+    streams = Streams(net, 51, 1_000, 60)
+    for number in range(3):
+        # They stay for twice the query interval alone.
+        report()
+        time.sleep(3 + 0.7 * number)
+        count = net.log().count(GOES_ON)
+        os.kill(the_router(net), signal.SIGKILL)
+        until("the next one goes on", 30, lambda: net.log().count(GOES_ON) > count)
+        ages.append(net.log().rsplit(GOES_ON, 1)[1].split(" ms later")[0].split()[-1])
+        until("it has the groups", 20, lambda: len(net.show("igmp")) >= groups)
+    return f"{streams.came()}; it went on with states {', '.join(ages)} ms old"
+
+
 def killed_long_ago(net: Network) -> None:
     """a state that isn't fresh isn't taken: the router says so, begins anew, and gets its neighbours and its stream"""
     (net.room / "router.toml").write_text(net.settings + "[restart]\nfresh = 0.1\n")
@@ -376,4 +399,4 @@ def recorded(net: Network) -> str:
 
 
 TRIALS = [upgrade, program_that_hangs, upgrade_by_reload, session_goes_on, another_limit, recorded, killed, restarted,
-          restarted_session, join_while_dead, killed_long_ago, ends_in_order]
+          restarted_session, join_while_dead, killed_with_many_groups, killed_long_ago, ends_in_order]

@@ -8,7 +8,8 @@ import sys
 import time
 from typing import TYPE_CHECKING, Any
 
-from trials.network import ASKER, HOST, RPS, SENDER, SOURCE, Failed, ended, goes_on, inside, ip, received, until
+from trials.network import (ASKER, DEBUGS, HOST, RPS, SENDER, SOURCE, Failed, ended, goes_on, inside, ip, received, run,
+                            until, used_for)
 
 if TYPE_CHECKING:
     from trials.network import Network
@@ -425,6 +426,32 @@ def limit(net: Network) -> str:
     return f"the new one was refused {refused} times"
 
 
+def repeated_joins(net: Network) -> str:
+    """a Join that repeats, of 1,000 groups, costs no more of a processor than it costs FRR"""
+    groups, times = 1_000, 20
+    log_each = lambda word: [net.frr("first", f"{word}{line}") for line in DEBUGS if net.is_logged]
+    # Neither writes a line for a packet.
+    net.reload(net.settings.replace('log = "debug"', 'log = "info"'))
+    log_each("no ")
+    took = {}
+    # Each as the RP of its groups: 239.2.64.0 and more, 239.4.64.0 and more.
+    for name, process, to, rp, first in (("the router", net.router.pid, "10.7.0.3", "10.5.0.1", 0),
+                                         ("FRR", net.pimd["first"].pid, "10.7.0.2", "10.4.0.1", 0x20000)):
+        words = inside("asker", sys.executable, SENDER, "to-lan", "10.7.0.77", "joins", to, rp, first, groups)
+        run(*words, 1)
+        took[name] = used_for(process, lambda: run(*words, times)) / (groups * times) * 1e6
+    log_each("")
+    joined = (len([row for row in net.show("joins") if row["interface"] == "to-lan"]),
+              net.frr("first", "show ip pim join").count("to-lan "))
+    net.stop_router()
+    net.start_router()
+    said = ", ".join(f"{name} {each:.1f} µs" for name, each in took.items())
+    if min(joined) < groups or took["the router"] > took["FRR"]:
+        raise Failed(f"{said}; {joined} groups were joined")
+    return said
+
+
 TRIALS = [neighbours, joins_to_frr, joins_from_frr, register_to_frr, checksum, register_from_frr, change_to_source_tree,
           stream_as_last_hop, stream_as_dr, stream_as_rp, assert_lost, assert_won, prunes, link_down, link_deleted,
-          another_address, restart_of_router, restart_of_frr, hello_times, packed_joins, reload, routes, reroute, limit]
+          another_address, restart_of_router, restart_of_frr, hello_times, packed_joins, reload, routes, reroute, limit,
+          repeated_joins]
