@@ -1,3 +1,4 @@
+pub mod Queriers
 pub mod Ground
 pub mod Rest
 pub mod Settings

@@ -5,7 +5,7 @@ use Rattle.pim_model.{specs.{declared.accepted.Accepted.Accepted, Firing.settled
 use Rattle.law_settled.{specs.Ready.IsSettled, proofs.{Changes.change_fine, FineStates.Anyhow, SettledStates.{fine_is_settled, settled_is_fine}, Steps.later_is_late}}
 use Rattle.law_scope.{specs.Rest.IsAtRest, proofs.Rest.run_is_at_rest}
 use Rattle.law_restored.{proofs.{Settings.settled_under, Reloads.{follows_at_rest, accepted_setting}}}
-use Rattle.law_reloaded.{specs.{Laws.ReloadLeavesRest, Reloading.{hellos_anew, reload, removals, replaced, under}}}
+use Rattle.law_reloaded.{specs.{Laws.ReloadLeavesRest, Reloading.{hellos_anew, queriers_under, reload, removals, replaced, under}}, proofs.Queriers.queriers_settled}
 
 -- other RP ranges leave a settled state settled
 ranges_settled : (s : State) (c : Config) → IsSettled s → IsSettled (rps_replaced s c.rps)
@@ -19,8 +19,10 @@ ranges_settled s c f =
 pub under_settled : (s : State) (c : Config) → config_test c ≡ Ok tt → IsSettled s → IsSettled (under s c)
 unfolding under
 under_settled s c e f =
-    ranges_settled (record s { settings = settings_of c; configured = c.interfaces; routes = c.routes }) c
-    (settled_under s (settings_of c) c.interfaces c.routes s.ranges (accepted_setting c e) f)
+    let anew : State = record s { queriers = queriers_under s (settings_of c) } in
+    ranges_settled (record anew { settings = settings_of c; configured = c.interfaces; routes = c.routes }) c
+    (settled_under anew (settings_of c) c.interfaces c.routes s.ranges (accepted_setting c e)
+    (queriers_settled s (settings_of c) (accepted_setting c e) f))
 
 pub replaced_is_at_rest : (s : State) (c : Config) (w : ℕ) → config_test c ≡ Ok tt → IsAtRest s
     → IsAtRest (replaced s c w).0

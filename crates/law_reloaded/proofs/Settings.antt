@@ -4,7 +4,7 @@ use Rattle.pim_types.{specs.{declared.{config.{InterfaceConfig.InterfaceConfig, 
 use Rattle.pim_model.{specs.{AssertMacros.{could_assert, could_assert_star, forwarding_set, is_tracking_desired, is_tracking_desired_star, my_metric, my_metric_star}, Clearing.{assert_must_go, assert_to_clear, clear, clear_all, to_clear}, Desires.{is_immediate_empty, is_inherited_empty, join_desired, join_desired_star, prune_desired, rpf_rpt, rpf_source, rpf_star, tree_state}, Firing.settled, Messages.Message, Neighbours.{is_dr, nbr}, Querier.each_in_turn, Receivers.{is_exclude, local_receiver_exclude, local_receiver_include}, Registers.{could_register, has_other_rp, registers_after_rps}, Sets.{immediate_olist, immediate_olist_star, inherited_olist, inherited_olist_rpt, is_beaten, is_empty, is_kept_alive, joins, joins_star, lost_assert, lost_assert_rpt, lost_assert_star, pim_exclude, pim_include, pim_include_star, prunes, rpt_metric, serves, serves_star, spt_bit, spt_metric, tunnel}, State.{State, iface_config, iface_count, is_up, settings_of}, Step.{ran, rps_replaced}, Tables.{below, same_option}, Unicast.{is_connected, route, rp_of, rp_route, rpf_interface, rpf_interface_rp}, Upstream.{fact_keys, group_upstream, source_upstream, source_view, star_view, upstream}, Writing.{all_written, write_all}}}
 use Rattle.law_scope.{specs.{Locality.IsQuiet, Rest.IsAtRest}, proofs.Differing.{none_left, nothing_follows}}
 use Rattle.law_restored.{specs.Reload.config_of}
-use Rattle.law_reloaded.{specs.{Laws.{SameReloadChangesNothing, SettingsMoveNothing, with_settings}, Reloading.{down_event, hellos_anew, reload, removals, replaced, says_other, says_same, sent_by, tells_anew, under}}}
+use Rattle.law_reloaded.{specs.{Laws.{SameReloadChangesNothing, SettingsMoveNothing, with_settings}, Reloading.{down_event, hellos_anew, queriers_under, reload, removals, replaced, says_other, says_same, sent_by, tells_anew, under}}, proofs.Queriers.same_queriers}
 
 -- ---- no Hello
 
@@ -70,7 +70,7 @@ none_removed s w = ap (λ (m : ℕ). map (down_event w) (range_with_len (iface_c
 
 module _ (s : State) (t : Settings) where
   abbrev other : State
-  other = record s { settings = t }
+  other = record s { settings = t; queriers = queriers_under s t }
 
   -- no macro of what must go reads the settings
   quiet_other : IsQuiet s → IsQuiet other
@@ -112,4 +112,6 @@ settings_move_nothing s t w h = none_moved s t w h
 
 pub same_reload_changes_nothing : SameReloadChangesNothing
 unfolding config_of
-same_reload_changes_nothing s w h = none_moved s s.settings w h
+same_reload_changes_nothing s w h near =
+    none_moved s s.settings w h
+    ∙ (λ i. (let u : State = record s { queriers = same_queriers s near i } in u, []))

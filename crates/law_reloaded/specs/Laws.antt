@@ -1,16 +1,35 @@
 -- What a user expects of a reload.
-use Rattle.std.{specs.{List.{list_all, list_any}, Prelude.{Bool, List, Ok, Some, [], false, filter, length, map, nat_lt, not, slice_get, take, true, ℕ, ◌++◌, ◌≡◌}}}
-use Rattle.pim_types.{specs.{declared.{config.{Config.Config, InterfaceConfig.InterfaceConfig, Settings.Settings}, fact.{AssertRow.AssertRow, DownstreamRow.DownstreamRow, GroupRecordRow.GroupRecordRow, GroupRepeatRow.GroupRepeatRow, Key.Key, NeighbourRow.NeighbourRow, QuerierRow.QuerierRow, SendingRow.SendingRow, SourceRecordRow.SourceRecordRow, SourceRepeatRow.SourceRepeatRow}}, Keys.{iface_in, source_in}}}
+use Rattle.std.{specs.{List.{list_all, list_any}, Prelude.{Bool, List, Ok, Some, [], false, filter, length, map, nat_le, nat_lt, not, slice_get, take, true, ℕ, ◌&&◌, ◌*◌, ◌++◌, ◌+◌, ◌==◌, ◌≡◌}}}
+use Rattle.pim_types.{specs.{declared.{config.{Config.Config, InterfaceConfig.InterfaceConfig, Settings.Settings}, fact.{AssertRow.AssertRow, DownstreamRow.DownstreamRow, GroupRecordRow.GroupRecordRow, GroupRepeatRow.GroupRepeatRow, Key.Key, NeighbourRow.NeighbourRow, QuerierRole.QuerierRole, QuerierRow.QuerierRow, SendingRow.SendingRow, SourceRecordRow.SourceRecordRow, SourceRepeatRow.SourceRepeatRow}}, Keys.{iface_in, source_in}}}
 use Rattle.pim_model.{specs.{Clearing.clear, Limits.config_test, Messages.Message, State.{State, iface_config, iface_count, interfaces_of, is_own_among, is_up}, Tables.below, Unicast.rp_of, Upstream.{fact_keys, upstream}, Writing.{hello_emission, write_all}}}
 use Rattle.law_scope.{specs.Rest.IsAtRest}
 use Rattle.law_restored.{specs.Reload.config_of}
-use Rattle.law_reloaded.{specs.Reloading.{hellos_anew, reload, replaced, tells_anew, under}}
+use Rattle.law_reloaded.{specs.Reloading.{hellos_anew, queriers_under, reload, replaced, tells_anew, under}}
+
+-- ---- queriers
+
+-- Where the router is the querier, the configured robustness and query interval are in force, the next general query
+-- leaves within the query interval, and no more startup queries are left than the robustness.
+abbrev pub is_near_by : ℕ → Settings → QuerierRow → QuerierRole → Bool
+is_near_by present t q (QuerierRole.Querier next left) =
+    (q.robustness == t.robustness)
+    && ((q.query_interval == t.query_interval)
+    && (nat_le next (present + 1000 * q.query_interval) && nat_le left q.robustness))
+is_near_by present t q (QuerierRole.NonQuerier end) = true
+
+unfoldable pub next_query_is_near : State → Bool
+next_query_is_near s = list_all (λ (e : Key × QuerierRow). is_near_by s.present s.settings e.1 (e.1).role) s.queriers
+
+-- It is so after each reload, with any configuration.
+abbrev pub NextQueryIsNearAnew : Type 0
+NextQueryIsNearAnew = (s : State) (c : Config) (w : ℕ) → next_query_is_near (reload s c w).0 ≡ true
 
 -- ---- nothing moves
 
 -- A reload with the configuration that there is changes nothing, and sends nothing.
 abbrev pub SameReloadChangesNothing : Type 0
-SameReloadChangesNothing = (s : State) (w : ℕ) → IsAtRest s → reload s (config_of s) w ≡ (s, [])
+SameReloadChangesNothing = (s : State) (w : ℕ) → IsAtRest s → next_query_is_near s ≡ true
+    → reload s (config_of s) w ≡ (s, [])
 
 -- the configuration of a state with other settings: another limit, another switch to the SPT, other robustness and
 -- intervals of IGMP
@@ -27,10 +46,11 @@ with_settings s t = record {
   rps = s.ranges;
 }
 
--- Other settings move no fact, and send nothing, whatever the limit and however many facts there are.
+-- Other settings move no fact but what queriers go by, and send nothing, whatever the limit and however many facts there
+-- are.
 abbrev pub SettingsMoveNothing : Type 0
-SettingsMoveNothing =
-    (s : State) (t : Settings) (w : ℕ) → IsAtRest s → reload s (with_settings s t) w ≡ (record s { settings = t }, [])
+SettingsMoveNothing = (s : State) (t : Settings) (w : ℕ) → IsAtRest s
+    → reload s (with_settings s t) w ≡ (record s { settings = t; queriers = queriers_under s t }, [])
 
 -- ---- what a reload leaves
 
@@ -119,8 +139,8 @@ with_more s more = with_interfaces s (s.configured ++ more)
 
 -- Interfaces that are appended move no fact, and nothing is sent: they are down.
 abbrev pub AppendedMoveNothing : Type 0
-AppendedMoveNothing = (s : State) (more : List InterfaceConfig) (w : ℕ) → IsAtRest s → AreConfigured s → AreNew s more
-    → reload s (with_more s more) w ≡ (record s { configured = s.configured ++ more }, [])
+AppendedMoveNothing = (s : State) (more : List InterfaceConfig) (w : ℕ) → IsAtRest s → next_query_is_near s ≡ true
+    → AreConfigured s → AreNew s more → reload s (with_more s more) w ≡ (record s { configured = s.configured ++ more }, [])
 
 -- ---- a configuration with other delays
 
@@ -130,5 +150,6 @@ without_delays c = record c { propagation_delay = 0; override_interval = 0 }
 -- Other delays alone move no fact, and nothing is sent but their Hellos.
 abbrev pub DelaysMoveNothing : Type 0
 DelaysMoveNothing = (s : State) (configured : List InterfaceConfig) (w : ℕ)
-    → map without_delays configured ≡ map without_delays s.configured → IsAtRest s → AreConfigured s
+    → map without_delays configured ≡ map without_delays s.configured → IsAtRest s → next_query_is_near s ≡ true
+    → AreConfigured s
     → reload s (with_interfaces s configured) w ≡ write_all (record s { configured = configured }) (hellos_anew s configured)

@@ -1,8 +1,8 @@
 -- A running router under another configuration: interfaces that are removed go down, then the configuration is replaced,
 -- and what follows of that is done. Sections are those of RFC 7761.
-use Rattle.std.{specs.{List.{flat_map, range_with_len}, Prelude.{Bool, List, Option, Some, false, filter, length, map, not, slice_get, ℕ, ◌&&◌, ◌++◌, ◌-◌, ◌==◌}}}
-use Rattle.pim_types.{specs.declared.{config.{Config.Config, InterfaceConfig.InterfaceConfig}, event.{Event.Event, EventKind.EventKind}, outcome.{Emission.Emission, Outcome.Outcome}}}
-use Rattle.pim_model.{specs.{Firing.settled, Messages.Message, State.{State, iface_config, iface_count, is_up, settings_of}, Step.{ran, rps_replaced}, Tables.below}}
+use Rattle.std.{specs.{List.{flat_map, range_with_len}, Prelude.{Bool, List, Option, Some, false, filter, length, map, min, not, slice_get, ℕ, ◌&&◌, ◌*◌, ◌++◌, ◌+◌, ◌-◌, ◌==◌}}}
+use Rattle.pim_types.{specs.declared.{config.{Config.Config, InterfaceConfig.InterfaceConfig, Settings.Settings}, fact.{Key.Key, QuerierRole.QuerierRole, QuerierRow.QuerierRow}, event.{Event.Event, EventKind.EventKind}, outcome.{Emission.Emission, Outcome.Outcome}}}
+use Rattle.pim_model.{specs.{Firing.settled, Messages.Message, State.{State, iface_config, iface_count, is_up, settings_of}, Step.{ran, rps_replaced}, Tables.{Table, below}}}
 
 -- ---- what is removed
 
@@ -15,12 +15,36 @@ down_event w i = record { draw = w; kind = EventKind.Down (record { number = i }
 unfoldable pub removals : State → Config → ℕ → List Event
 removals s c w = map (down_event w) (range_with_len (length c.interfaces) (iface_count s - length c.interfaces))
 
+-- ---- queriers
+
+-- The row of a querier under other settings. Where the router is the querier, its robustness and query interval come into
+-- force (RFC 3376, sections 8.1 and 8.2), and the next general query leaves within the new query interval, so that each
+-- report is asked for again before it is over. Where another router is, its values stay.
+abbrev pub row_under : ℕ → Settings → QuerierRow → QuerierRole → QuerierRow
+row_under present t q (QuerierRole.Querier next left) = record {
+  role = QuerierRole.Querier (min next (present + 1000 * t.query_interval)) (min left t.robustness);
+  robustness = t.robustness;
+  query_interval = t.query_interval;
+}
+row_under present t q (QuerierRole.NonQuerier end) = q
+
+unfoldable pub queriers_under : State → Settings → Table QuerierRow
+queriers_under s t = map (λ (e : Key × QuerierRow). (e.0, row_under s.present t e.1 (e.1).role)) s.queriers
+
 -- ---- what is replaced
 
 -- All facts under another configuration. Where RP(G) is another one, the registers of G change as RP changed (4.4.1).
 -- here: facts stay, whatever the new limit; where they are more, an event that needs new ones is refused
 unfoldable pub under : State → Config → State
-under s c = rps_replaced (record s { settings = settings_of c; configured = c.interfaces; routes = c.routes }) c.rps
+under s c =
+    rps_replaced
+    (record s {
+      settings = settings_of c;
+      configured = c.interfaces;
+      routes = c.routes;
+      queriers = queriers_under s (settings_of c);
+    })
+    c.rps
 
 -- ---- Hellos
 

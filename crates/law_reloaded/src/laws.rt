@@ -1,12 +1,17 @@
 //! The laws.
-ghost use Rattle.law_reloaded.specs.Laws.{AppendedMoveNothing, DelaysMoveNothing, HellosLeaveFirst, KeptStayUp, NoneOfRemoved, NoOtherHello, ReloadIsUnder, ReloadLeavesRest, RemovedAreDown, SameReloadChangesNothing, SettingsMoveNothing, UntoldSaysSame};
+ghost use Rattle.law_reloaded.specs.Laws.{AppendedMoveNothing, DelaysMoveNothing, HellosLeaveFirst, KeptStayUp, NextQueryIsNearAnew, NoneOfRemoved, NoOtherHello, ReloadIsUnder, ReloadLeavesRest, RemovedAreDown, SameReloadChangesNothing, SettingsMoveNothing, UntoldSaysSame};
 
 /// A reload with the configuration that there is changes nothing, and sends nothing.
 pub fn same_reload_changes_nothing()
     ensures { SameReloadChangesNothing }
 {}
 
-/// Other settings move no fact, and send nothing.
+/// After a reload the next general query is within the query interval, by the values in force.
+pub fn next_query_is_near_anew()
+    ensures { NextQueryIsNearAnew }
+{}
+
+/// Other settings move no fact but those of queriers, and send nothing.
 pub fn settings_move_nothing()
     ensures { SettingsMoveNothing }
 {}

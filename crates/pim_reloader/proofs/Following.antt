@@ -10,7 +10,7 @@ use Rattle.pim_views.{specs.{Covers.IsWithin, Openings.opening_of, declared.open
 use Rattle.pim_settling.{specs.Settling.settled_by, proofs.Settling.settled_as_opened}
 use Rattle.pim_plan.{proofs.Tunnelled.rps_leave_facts}
 use Rattle.law_restored.{specs.Reload.config_of}
-use Rattle.law_reloaded.{specs.Reloading.{hellos_anew, replaced, under}}
+use Rattle.law_reloaded.{specs.Reloading.{hellos_anew, queriers_under, replaced, under}}
 
 within_so : (s t : State) → IsFewer s t → IsWithin s t
 within_so s t fewer = record {
@@ -20,7 +20,12 @@ within_so s t fewer = record {
 
 module _ (o : State) (c : Config) where
   abbrev moved : State
-  moved = record o { settings = settings_of c; configured = c.interfaces; routes = c.routes }
+  moved = record o {
+    settings = settings_of c;
+    configured = c.interfaces;
+    routes = c.routes;
+    queriers = queriers_under o (settings_of c);
+  }
 
   moved_leaves_facts : IsFewer o moved
   unfolding fact_keys

@@ -1,3 +1,4 @@
+pub mod Asked
 pub mod Below
 pub mod Changing
 pub mod Following

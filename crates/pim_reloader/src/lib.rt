@@ -2,6 +2,7 @@
 #![tactic(auto)]
 
 mod hellos;
+mod queriers;
 mod remove;
 mod replace;
 mod whole;

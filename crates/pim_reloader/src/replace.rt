@@ -15,6 +15,7 @@ ghost use Rattle.pim_state.specs.Turns.{saying};
 ghost use Rattle.pim_state.specs.declared.touched.Touched.{Touched as TouchedValue};
 
 use crate::hellos::tell;
+use crate::queriers;
 use pim_event::Core;
 use pim_fanout::Gathered;
 use pim_settling::settle::settle;
@@ -24,7 +25,8 @@ use pim_types::fact::SourceRow;
 use pim_types::{Emission, Fault, Series, SourceGroup};
 use std::alloc::AllocError;
 
-// Puts the world under the configuration of the next one, and says the Hellos that leave at once. All facts stay.
+// Puts the world under the configuration of the next one, and says the Hellos that leave at once. All facts stay but what
+// queriers go by.
 #[tactic(auto, unfolding(law_reloaded::specs::Reloading::under, law_restored::specs::Reload::config_of, pim_model::specs::State::settings_of))]
 fn reconfigure(
     world: &mut World,
@@ -38,6 +40,7 @@ fn reconfigure(
 {
     tell(world, &mut turn.out, &next)?;
     let ranges = world.reconfigure(next);
+    queriers::put_all_under(world, turn.alloc)?;
     pim_register::rps_replaced(world, turn, meter, ranges)?;
     Ok(())
 }

@@ -3,5 +3,6 @@ use Rattle.pim_reloader.proofs.replace.reconfigure.Goals as goal
 
 pub returns-clause-state : goal.returns-clause-state
 returns-clause-state c =
-    under_is c.args.world.now c.args.next c.reconfigure-ranges.new.self c.rps_replaced.new.world c.reconfigure-ranges.result.ranges
-    c.reconfigure-ranges.ensures.new c.reconfigure-ranges.ensures.back c.in_ok-rps_replaced.ensures.state
+    under_is c.args.world.now c.args.next c.reconfigure-ranges.new.self c.put_all_under.new.world c.rps_replaced.new.world
+    c.reconfigure-ranges.result.ranges c.reconfigure-ranges.ensures.new c.in_ok-put_all_under.ensures
+    c.reconfigure-ranges.ensures.back c.in_ok-rps_replaced.ensures.state

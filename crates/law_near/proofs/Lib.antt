@@ -1,0 +1,4 @@
+pub mod AssertEnds
+pub mod HelloEnds
+pub mod NextQueries
+pub mod Steps

@@ -1,0 +1,27 @@
+-- How far ahead timers expire at most: tests of a state, which every event and every reload keeps.
+use Rattle.std.{specs.{List.list_all, Prelude.{Bool, List, nat_le, true, ℕ, ◌+◌, ◌≡◌}}}
+use Rattle.pim_types.{specs.declared.{config.Config.Config, event.Event.Event, fact.{AssertRow.AssertRow, InterfaceRow.InterfaceRow, Key.Key}}}
+use Rattle.pim_model.{specs.{Asserts.loser_time, Hellos.hello_period, State.{State, opening}, Step.step}}
+use Rattle.law_reloaded.{specs.Reloading.reload}
+use Rattle.law_history.{specs.History.{Given, state_given}}
+
+-- each next Hello leaves within Hello_Period
+unfoldable pub hellos_are_near : State → Bool
+hellos_are_near s = list_all (λ (e : Key × InterfaceRow). nat_le (e.1).hello_end (s.present + hello_period)) s.interfaces
+
+-- each Assert Timer expires within Assert_Time
+unfoldable pub asserts_are_near : State → Bool
+asserts_are_near s = list_all (λ (e : Key × AssertRow). nat_le (e.1).end (s.present + loser_time)) s.asserts
+
+-- A test that holds at the opening, and that each event and each reload keeps, of any state.
+pub record IsKept (test : State → Bool) : Type 0 where
+  pub opening : (c : Config) → test (opening c) ≡ true
+  pub step : (s : State) (e : Event) → test s ≡ true → test (step s e).state ≡ true
+  pub reload : (s : State) (c : Config) (w : ℕ) → test s ≡ true → test (reload s c w).0 ≡ true
+  pub given : (s : State) (before : List Given) → test s ≡ true → test (state_given s before) ≡ true
+
+abbrev pub HellosStayNear : Type 0
+HellosStayNear = IsKept hellos_are_near
+
+abbrev pub AssertsStayNear : Type 0
+AssertsStayNear = IsKept asserts_are_near
