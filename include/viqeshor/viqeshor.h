@@ -222,7 +222,8 @@ uint32_t viq_new(struct viq_router **router, uint32_t abi, const struct viq_sett
 /* Puts a router that works under another configuration. Interfaces are numbered in the order in which they are given, as
  * in viq_new: those past the last one go down first, those that are added are down until viq_up, and the others stay up
  * or down. Then settings, routes and ranges are those of the configuration, and what follows is done as after an event;
- * the present stays. A Hello leaves at once on an interface that is up and whose address, priority or delays differ.
+ * the present stays. A Hello leaves at once on an interface that is up and whose address, priority or delays differ;
+ * before it, where the address differs, one with holdtime 0 leaves from the old address.
  * Where the limit is below the number of facts they all stay, and an event that needs a new one is refused until there is
  * room. The interfaces that stay keep what viq_older and viq_query_version set, and the groups in an older mode; one that
  * is added is as in a new router.

@@ -20,7 +20,7 @@ use crate::kernel::Kernel;
 use crate::mroute::Key;
 use crate::older::Version;
 use crate::packed::Packing;
-use crate::packet::{is_pim, message_of, with_holdtime, Packet, HELLO};
+use crate::packet::{is_pim, message_of, says_goodbye, with_holdtime, Packet, HELLO};
 use crate::plane::{Placed, Plane, Row, Ways};
 use crate::policy::{Books, Gate, Policy};
 use crate::ports::{self, Machine, Port};
@@ -493,8 +493,9 @@ fn send_on(kernel: &mut dyn Kernel, port: Option<&mut Port>, is_passive: bool, b
     if is_passive && packet.map_or(false, Packet::is_pim_of_link) {
         return;
     }
-    let hello =
-        packet.filter(|packet| is_pim(*packet, HELLO)).and_then(|_| with_holdtime(bytes, port.settings.hello.holdtime));
+    let hello = packet
+        .filter(|packet| is_pim(*packet, HELLO) && !says_goodbye(*packet))
+        .and_then(|_| with_holdtime(bytes, port.settings.hello.holdtime));
     let bytes = hello.as_deref().unwrap_or(bytes);
     debug!("sends on {}: {}", port.settings.name, words::of(bytes));
     if hello.is_some() {

@@ -223,6 +223,12 @@ pub fn priority_of(hello: Packet) -> Option<u32> {
     found.map(|(_, value)| address(message, value.start).into())
 }
 
+/// Whether a Hello holds for no time.
+pub fn says_goodbye(hello: Packet) -> bool {
+    let message = hello.content();
+    options(message).into_iter().any(|(kind, value)| kind == HOLDTIME && message[value] == [0, 0])
+}
+
 /// The same Hello with another holdtime, in seconds; 0 says goodbye. `None` where the packet is no Hello.
 pub fn with_holdtime(hello: &[u8], holdtime: u16) -> Option<Vec<u8>> {
     let packet = Packet::read(hello).filter(|packet| is_pim(*packet, HELLO))?;
@@ -308,6 +314,9 @@ mod tests {
         let content = Packet::read(&said).unwrap().content();
         assert_eq!(&content[4..], [0, 1, 0, 2, 0, 0, 0, 20, 0, 4, 1, 2, 3, 4]);
         assert_eq!(sum(&[content]), 0xffff);
+        assert!(says_goodbye(Packet::read(&said).unwrap()));
+        assert!(says_goodbye(Packet::read(&goodbye_of(Ipv4Addr::new(10, 0, 0, 1))).unwrap()));
+        assert!(!says_goodbye(Packet::read(&packet(PIM, [224, 0, 0, 13], &hello)).unwrap()));
         assert_eq!(with_holdtime(&udp(0), 0), None);
     }
 

@@ -1,10 +1,10 @@
 -- The next Hello of each interface leaves within Hello_Period.
-use Rattle.std.{proofs.{Common.{◌≡◌, ◌∙◌, ℕ, ◌+◌, ◌-◌, ◌%◌, ◌≤◌, not, min, nat_le, Bool, true, false, cond, List, [], ◌∷◌, Option, option_map, Some, None, refl, sym, ap, subst, arith}, lemmas.{Bool.Decides.nat_tests, Nat.mod_below}}, specs.{List.{AllByRecursion, list_all}, Option.option_map_or}}
+use Rattle.std.{proofs.{Common.{◌≡◌, ℕ, ◌+◌, ◌-◌, ◌≤◌, not, min, nat_le, Bool, true, false, cond, List, option_map, Some, refl, sym, subst, arith}, lemmas.{Bool.Decides.nat_tests, Nat.mod_below}}, specs.{List.{AllByRecursion}}}
 use Rattle.pim_types.{specs.{Keys.{iface_key, is_on, same_key}, declared.{config.Config.Config, fact.{InterfaceRow.InterfaceRow, Key.Key}, timer.TimerKind.TimerKind}}}
 use Rattle.pim_wire.{specs.{declared.hello.Hello.Hello as HelloValue, Values.{Encapsulated, Null}}}
-use Rattle.pim_model.{specs.{declared.accepted.Accepted.Accepted, Asserts.{assert_forgotten, without_spt_bit}, Clearing.clear, Downstream.downstream_expired, Firing.{fire_row, fired, keepalive_due, settled}, Forwarding.source_here, Hellos.{hello_due, hello_period, hello_received, hello_triggered, hellos_triggered, neighbour_due, neighbour_replaced, neighbour_restarted, triggered_hello_delay}, Messages.Message, Querier.{general_query_due, group_record_due, group_repeat_due, other_querier_gone, querier_up, querying, querying_on, source_record_due, source_repeat_due, sources_sent}, Records.{with_members, with_repeats_of_rows}, Registers.{register_due, register_stop_seen, settle_register, settle_registers, with_keepalive}, State.{State, interfaces_of, opening}, Step.{change, iface_down, iface_up, rps_replaced}, Tables.{Table, change_row, changed_entry, delay_in, drop_where, put, row_at}, Upstream.{join_timer_due, moved_join_timer, moved_override_timer, override_timer_due, upstream}, Writing.{hellos_paid, write_all}}}
+use Rattle.pim_model.{specs.{declared.accepted.Accepted.Accepted, Asserts.{assert_forgotten, without_spt_bit}, Clearing.clear, Downstream.downstream_expired, Firing.{fire_row, fired, keepalive_due, settled}, Forwarding.source_here, Hellos.{hello_due, hello_period, hello_received, hello_triggered, hellos_triggered, neighbour_due, neighbour_replaced, neighbour_restarted, triggered_hello_delay}, Messages.Message, Querier.{general_query_due, group_record_due, group_repeat_due, other_querier_gone, querier_up, querying, querying_on, source_record_due, source_repeat_due, sources_sent}, Records.{with_members, with_repeats_of_rows}, Registers.{register_due, register_stop_seen, settle_register, settle_registers, with_keepalive}, State.{State, interfaces_of, opening}, Step.{change, iface_down, iface_up, rps_replaced}, Tables.{Table, change_row, changed_entry, delay_in, drop_where, row_at}, Upstream.{join_timer_due, moved_join_timer, moved_override_timer, override_timer_due, upstream}, Writing.{hellos_paid, write_all}}}
 use Rattle.law_settled.{proofs.{ListLaws.{by_cond, each_filter, each_filter_map, each_map, each_more, each_of_list, list_of_each}, RowLaws.each_put, SettlingLaws.{kept_by_clearing, kept_by_telling, kept_by_writing}}}
-use Rattle.law_promises.{proofs.{LiesUnder.row_fires, EndSoon.no_later, Lasting.{Beside, Lasting, Still, Whole, assert_lasting, assert_whole, data_whole, pending_lasting, query_lasting, register_whole, report_lasting, seen_beside, still, to_me_whole}}}
+use Rattle.law_promises.{proofs.{LiesUnder.row_fires, EndSoon.no_later, Lasting.{Beside, Lasting, Still, Whole, assert_lasting, assert_whole, data_whole, pending_lasting, query_lasting, register_whole, report_lasting, seen_beside, to_me_whole}}}
 use Rattle.law_reloaded.{specs.Reloading.under}
 use Rattle.law_plane.{specs.Keeping.kept_until}
 use Rattle.law_near.{specs.Ends.{HellosStayNear, hellos_are_near}, proofs.Steps.{given_now, reload_now, step_now}}

@@ -2,3 +2,4 @@ pub mod AssertEnds
 pub mod HelloEnds
 pub mod NextQueries
 pub mod Steps
+pub mod WonAddresses

@@ -1,5 +1,6 @@
 //! The laws.
 ghost use Rattle.law_near.specs.Ends.{AssertsStayNear, HellosStayNear};
+ghost use Rattle.law_near.specs.Own.{WonStayOwn};
 ghost use Rattle.law_near.specs.Queries.{LedQueriesAreNear, NextQueryStaysNear};
 
 /// Every event leaves the next general query within the query interval.
@@ -20,4 +21,9 @@ pub fn hellos_stay_near()
 /// Each Assert Timer expires within Assert_Time, after any events and reloads.
 pub fn asserts_stay_near()
     ensures { AssertsStayNear }
+{}
+
+/// Each assert that the router won names the address of its interface, after any events and reloads.
+pub fn won_stay_own()
+    ensures { WonStayOwn }
 {}

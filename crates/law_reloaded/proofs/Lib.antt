@@ -1,4 +1,6 @@
+pub mod Goodbyes
 pub mod Queriers
+pub mod WonAsserts
 pub mod Ground
 pub mod Rest
 pub mod Settings

@@ -2,7 +2,7 @@
 use Rattle.std.{proofs.{Common.{◌≡◌, ◌==◌, ◌&&◌, ◌∙◌, ℕ, ◌+◌, ◌*◌, ◌<◌, ◌≤◌, min, nat_le, nat_lt, Bool, true, false, List, [], ◌∷◌, map, refl, sym, ap, subst, arith, eqb-true, eq-eqb, lt-ltb, ltb-true}, lemmas.Bool.Decides.nat_tests}, specs.{Cmp.{first_so, second_so}, List.list_all}}
 use Rattle.pim_types.{specs.{declared.{config.{Config.Config, Settings.Settings}, fact.{Key.Key, QuerierRole.QuerierRole, QuerierRow.QuerierRow}}, Keys.{iface_in, iface_key, same_key}}}
 use Rattle.pim_model.{specs.{Asserts.{assert_forgotten, without_spt_bit}, Clearing.clear, Firing.settled, Messages.Message, Registers.settle_registers, State.{State, is_up, settings_of}, Step.{ran, rps_replaced}, Tables.Table, Timers.next_query, Upstream.{moved_join_timer, moved_override_timer}, Writing.write_all}}
-use Rattle.law_settled.{specs.{Laws.is_querier_entry, Ready.IsSettled}, proofs.{FineStates.{Good, GoodQuerier, Runs, rows_fine}, FineTables.{Fine, fine_map}, Parts.Queriers, SettledStates.{fine_is_settled, settled_is_fine}, SettlingLaws.{kept_by_clearing, kept_by_telling}}}
+use Rattle.law_settled.{specs.{Laws.is_querier_entry, Ready.IsSettled}, proofs.{FineStates.{Good, GoodQuerier, Runs, rows_fine}, FineTables.{fine_map}, Parts.Queriers, SettledStates.{fine_is_settled, settled_is_fine}, SettlingLaws.{kept_by_clearing, kept_by_telling}}}
 use Rattle.law_restored.{specs.Reload.IsSetting}
 use Rattle.law_reloaded.{specs.{Laws.{NextQueryIsNearAnew, is_near_by, next_query_is_near}, Reloading.{hellos_anew, queriers_under, reload, removals, replaced, row_under, under}}}
 

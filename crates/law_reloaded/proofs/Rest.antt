@@ -1,11 +1,11 @@
 -- What a reload leaves is at rest.
 use Rattle.std.{proofs.Common.{◌≡◌, ℕ, Ok, nat_lt}}
 use Rattle.pim_types.{specs.declared.config.Config.Config}
-use Rattle.pim_model.{specs.{declared.accepted.Accepted.Accepted, Firing.settled, Limits.config_test, State.{State, is_up, settings_of}, Step.{change, ran, rps_replaced, state_after}}}
+use Rattle.pim_model.{specs.{declared.accepted.Accepted.Accepted, Limits.config_test, State.{State, is_up, settings_of}, Step.{change, ran, rps_replaced, state_after}}}
 use Rattle.law_settled.{specs.Ready.IsSettled, proofs.{Changes.change_fine, FineStates.Anyhow, SettledStates.{fine_is_settled, settled_is_fine}, Steps.later_is_late}}
 use Rattle.law_scope.{specs.Rest.IsAtRest, proofs.Rest.run_is_at_rest}
 use Rattle.law_restored.{proofs.{Settings.settled_under, Reloads.{follows_at_rest, accepted_setting}}}
-use Rattle.law_reloaded.{specs.{Laws.ReloadLeavesRest, Reloading.{hellos_anew, queriers_under, reload, removals, replaced, under}}, proofs.Queriers.queriers_settled}
+use Rattle.law_reloaded.{specs.{Laws.ReloadLeavesRest, Reloading.{asserts_under, hellos_anew, is_won_before, queriers_under, reload, removals, replaced, under}}, proofs.{Queriers.queriers_settled, WonAsserts.asserts_settled}}
 
 -- other RP ranges leave a settled state settled
 ranges_settled : (s : State) (c : Config) → IsSettled s → IsSettled (rps_replaced s c.rps)
@@ -17,12 +17,13 @@ ranges_settled s c f =
     fine_is_settled s.present after.ups (rps_replaced s c.rps) after.fine
 
 pub under_settled : (s : State) (c : Config) → config_test c ≡ Ok tt → IsSettled s → IsSettled (under s c)
-unfolding under
+unfolding under asserts_under is_won_before
 under_settled s c e f =
-    let anew : State = record s { queriers = queriers_under s (settings_of c) } in
+    let asking : State = record s { queriers = queriers_under s (settings_of c) } in
+    let anew : State = record asking { asserts = asserts_under s c.interfaces } in
     ranges_settled (record anew { settings = settings_of c; configured = c.interfaces; routes = c.routes }) c
     (settled_under anew (settings_of c) c.interfaces c.routes s.ranges (accepted_setting c e)
-    (queriers_settled s (settings_of c) (accepted_setting c e) f))
+    (asserts_settled asking c.interfaces (queriers_settled s (settings_of c) (accepted_setting c e) f)))
 
 pub replaced_is_at_rest : (s : State) (c : Config) (w : ℕ) → config_test c ≡ Ok tt → IsAtRest s
     → IsAtRest (replaced s c w).0

@@ -4,7 +4,7 @@ use Rattle.pim_types.{specs.{declared.{config.{InterfaceConfig.InterfaceConfig, 
 use Rattle.pim_model.{specs.{AssertMacros.{could_assert, could_assert_star, forwarding_set, is_tracking_desired, is_tracking_desired_star, my_metric, my_metric_star}, Clearing.{assert_must_go, assert_to_clear, clear, clear_all, to_clear}, Desires.{is_immediate_empty, is_inherited_empty, join_desired, join_desired_star, prune_desired, rpf_rpt, rpf_source, rpf_star, tree_state}, Firing.settled, Messages.Message, Neighbours.{is_dr, nbr}, Querier.each_in_turn, Receivers.{is_exclude, local_receiver_exclude, local_receiver_include}, Registers.{could_register, has_other_rp, registers_after_rps}, Sets.{immediate_olist, immediate_olist_star, inherited_olist, inherited_olist_rpt, is_beaten, is_empty, is_kept_alive, joins, joins_star, lost_assert, lost_assert_rpt, lost_assert_star, pim_exclude, pim_include, pim_include_star, prunes, rpt_metric, serves, serves_star, spt_bit, spt_metric, tunnel}, State.{State, iface_config, iface_count, is_up, settings_of}, Step.{ran, rps_replaced}, Tables.{below, same_option}, Unicast.{is_connected, route, rp_of, rp_route, rpf_interface, rpf_interface_rp}, Upstream.{fact_keys, group_upstream, source_upstream, source_view, star_view, upstream}, Writing.{all_written, write_all}}}
 use Rattle.law_scope.{specs.{Locality.IsQuiet, Rest.IsAtRest}, proofs.Differing.{none_left, nothing_follows}}
 use Rattle.law_restored.{specs.Reload.config_of}
-use Rattle.law_reloaded.{specs.{Laws.{SameReloadChangesNothing, SettingsMoveNothing, with_settings}, Reloading.{down_event, hellos_anew, queriers_under, reload, removals, replaced, says_other, says_same, sent_by, tells_anew, under}}, proofs.Queriers.same_queriers}
+use Rattle.law_reloaded.{specs.{Laws.{SameReloadChangesNothing, SettingsMoveNothing, with_settings}, Reloading.{down_event, goodbyes, hellos_anew, queriers_under, reload, removals, replaced, says_other, says_same, sent_by, tells_anew, under}}, proofs.{Goodbyes.none_say, Queriers.same_queriers, WonAsserts.own_asserts}}
 
 -- ---- no Hello
 
@@ -92,7 +92,9 @@ module _ (s : State) (t : Settings) where
 
   is_other : under s (with_settings s t) ≡ other
   unfolding under settings_of
-  is_other = same_ranges other
+  is_other =
+      (λ i. rps_replaced (record s { settings = t; queriers = queriers_under s t; asserts = own_asserts s i }) s.ranges)
+      ∙ same_ranges other
 
   none_replaced : (w : ℕ) → IsAtRest s → replaced s (with_settings s t) w ≡ (other, [])
   unfolding replaced
@@ -104,8 +106,9 @@ module _ (s : State) (t : Settings) where
   none_moved w h =
       (λ j. (let gone : List Outcome × State = ran s (none_removed s w j) in
       let after : State × List Emission = replaced gone.1 (with_settings s t) w in
-      (after.0, sent_by gone.0 ++ after.1)))
-      ∙ ap (λ (p : State × List Emission). (p.0, p.1)) (none_replaced w h)
+      (after.0, sent_by gone.0 ++ (goodbyes gone.1 s.configured ++ after.1))))
+      ∙ (λ j. (let after : State × List Emission = none_replaced w h j in
+      (after.0, none_say s s.configured (λ i up. refl) j ++ after.1)))
 
 pub settings_move_nothing : SettingsMoveNothing
 settings_move_nothing s t w h = none_moved s t w h

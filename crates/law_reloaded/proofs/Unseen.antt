@@ -1,12 +1,12 @@
 -- Interfaces that are appended are down, so that no macro sees them; and none but the timers' spans sees delays.
 use Rattle.std.{proofs.{Common.{◌≡◌, ◌==◌, ℕ, zero, suc, ◌<◌, ◌≤◌, ◌+◌, ◌-◌, ⊎_elim, ◌&&◌, ◌||◌, not, cond, Bool, true, false, List, [], ◌∷◌, ◌++◌, Option, Some, None, option_map, is_some, append-nil, length, length-append, map, filter, refl, sym, ap, ◌∙◌, arith, eqb-true, ltb-true}, lemmas.{Bool.cases_lt, List.Folds.list_any-append}}, specs.{List.{AllByRecursion, find, list_all, list_any, range_with_len}, Option.{option_map_or, option_or}, Prelude.{if◌then◌else◌, option_and_then, slice_get}}}
 use Rattle.pim_types.{specs.{declared.{config.InterfaceConfig.InterfaceConfig, fact.{AssertRow.AssertRow, Key.Key, NeighbourRow.NeighbourRow, RegisterRow.RegisterRow, SourceRow.SourceRow, GroupRecordRow.GroupRecordRow}, path.Path.Path, outcome.{Emission.Emission, Outcome.Outcome}, upstream.{SourceView.SourceView, TreeState.TreeState}}, Keys.{group_in, iface_in, is_of_group, is_on, is_star, rpt_key, source_in, source_key, star_key}}}
-use Rattle.pim_model.{specs.{Asserts.{could_assert_at, is_tracking_at, my_metric_at}, Clearing.{assert_must_go, assert_to_clear, clear, clear_all, clearable_count, cleared, first_by, is_rpf_at, spt_must_go, spt_to_clear, to_clear}, Firing.settled, Messages.Message, Querier.each_in_turn, Registers.{could_register, has_other_rp, settle_registers}, Step.{ran, rps_replaced}, Writing.{all_written, write_all}, AssertMacros.{could_assert, could_assert_star, forwarding_set, infinite, is_tracking_desired, is_tracking_desired_star, my_metric, my_metric_star}, Desires.{is_immediate_empty, is_inherited_empty, join_desired, join_desired_star, prune_desired, rpf_rpt, rpf_source, rpf_star, tree_state, winner_hop}, Neighbours.{is_dr, is_dr_among, is_neighbour, nbr, nbr_among, neighbours_on}, Receivers.{is_exclude, is_exclude_among, local_receiver_exclude, local_receiver_include, local_receiver_include_among, source_record_among}, Sets.{assert_source, assert_star, immediate_olist, immediate_olist_star, inherited_olist, inherited_olist_rpt, is_beaten, is_better, is_empty, is_kept_alive, is_loser, is_winner, joins, joins_star, lost_assert, lost_assert_rpt, lost_assert_star, pim_exclude, pim_include, pim_include_star, prunes, route_metric, rpt_metric, serves, serves_star, spt_bit, spt_metric, tunnel}, State.{State, iface_config, iface_count, is_own, is_own_among, is_up, my_address, my_priority, settings_of}, Tables.{Table, below, has_row, keys_in, row_at, rows_on, same_bool, same_hop, same_option}, Unicast.{is_on_link_among, link_among, route, route_among, routed_among, rp_of, rp_route, rpf_interface, rpf_interface_rp, link_path, subnet}, Upstream.{Told, fact_keys, group_upstream, groups_of, nothing_told, rpt_told, source_told, source_upstream, source_view, sources_of, star_told, star_view, upstream, with_join_timer, with_override_timer}}}
+use Rattle.pim_model.{specs.{Asserts.{could_assert_at, is_tracking_at, my_metric_at}, Clearing.{assert_must_go, assert_to_clear, clear, clear_all, clearable_count, cleared, first_by, is_rpf_at, spt_must_go, spt_to_clear, to_clear}, Firing.settled, Messages.Message, Querier.each_in_turn, Registers.{could_register, has_other_rp, settle_registers}, Step.{ran, rps_replaced}, Writing.{all_written, write_all}, AssertMacros.{could_assert, could_assert_star, forwarding_set, infinite, is_tracking_desired, is_tracking_desired_star, my_metric, my_metric_star}, Desires.{is_immediate_empty, is_inherited_empty, join_desired, join_desired_star, prune_desired, rpf_rpt, rpf_source, rpf_star, tree_state, winner_hop}, Neighbours.{is_dr, is_dr_among, is_neighbour, nbr, nbr_among, neighbours_on}, Receivers.{is_exclude, is_exclude_among, local_receiver_exclude, local_receiver_include, local_receiver_include_among, source_record_among}, Sets.{assert_source, assert_star, immediate_olist, immediate_olist_star, inherited_olist, inherited_olist_rpt, is_beaten, is_better, is_empty, is_kept_alive, is_loser, is_winner, joins, joins_star, lost_assert, lost_assert_rpt, lost_assert_star, pim_exclude, pim_include, pim_include_star, prunes, route_metric, rpt_metric, serves, serves_star, spt_bit, spt_metric, tunnel}, State.{State, address_among, iface_config, iface_count, is_own, is_own_among, is_up, my_address, my_priority, settings_of}, Tables.{Table, below, has_row, keys_in, row_at, rows_on, same_bool, same_hop, same_option}, Unicast.{is_on_link_among, link_among, route, route_among, routed_among, rp_of, rp_route, rpf_interface, rpf_interface_rp, link_path, subnet}, Upstream.{Told, fact_keys, group_upstream, groups_of, nothing_told, rpt_told, source_told, source_upstream, source_view, sources_of, star_told, star_view, upstream, with_join_timer, with_override_timer}}}
 use Rattle.pim_ip.{specs.{Addr.addr, Prefixes.contains}}
 use Rattle.law_settled.{proofs.{ListLaws.{any_among_all, any_of_filter, each_both, each_more, each_of_list, list_of_each}, Numbers.any_ascending, TableLaws.{any_of_map, row_is_there}, TurnLaws.same_when_none}, specs.Ready.IsTidy}
 use Rattle.law_scope.{specs.{Locality.{IsQuiet, is_register_settled, touched_registers, touching}, Rest.IsAtRest}, proofs.{Differing.none_left, Registers.registers_of_touched, Touches.touching_is_closed, Turns.turns_filtered, UntoldKeys.{source_untold_where_agreed, star_untold_where_agreed}}}
 use Rattle.law_restored.{specs.Reload.config_of}
-use Rattle.law_reloaded.{specs.{Laws.{AppendedMoveNothing, AreConfigured, AreNew, DelaysMoveNothing, next_query_is_near, with_interfaces, with_more, without_delays}, Reloading.{down_event, hellos_anew, reload, removals, replaced, says_other, sent_by, tells_anew, under}}, proofs.{Queriers.same_queriers, Settings.{and_false, same_is_not_other, same_ranges}}}
+use Rattle.law_reloaded.{specs.{Laws.{AppendedMoveNothing, AreConfigured, AreNew, DelaysMoveNothing, next_query_is_near, with_interfaces, with_more, without_delays}, Reloading.{down_event, goodbyes, hellos_anew, reload, removals, replaced, says_other, sent_by, tells_anew, under}}, proofs.{Goodbyes.none_say, Queriers.same_queriers, WonAsserts.{SameAt, same_asserts}, Settings.{and_false, same_is_not_other, same_ranges}}}
 
 -- ---- lists with more behind
 
@@ -770,20 +770,34 @@ module _ (s : State) (more : List InterfaceConfig) (w : ℕ) where
   unfolding hellos_anew
   no_hello = ap (map Message.Hello) (none_left (tells_anew s all) none_tells (below (length all)))
 
-  is_longer : next_query_is_near s ≡ true → under s (with_more s more) ≡ record s { configured = all }
+  is_longer : next_query_is_near s ≡ true → AllByRecursion (SameAt s all) s.asserts → under s (with_more s more) ≡ record s { configured = all }
   unfolding under settings_of config_of
-  is_longer near =
-      (λ i. rps_replaced (record s { configured = all; queriers = same_queriers s near i }) s.ranges)
+  is_longer near kept =
+      (λ i. rps_replaced (record s { configured = all; queriers = same_queriers s near i; asserts = same_asserts s all kept i }) s.ranges)
       ∙ same_ranges (record s { configured = all })
+
+-- more interfaces leave the address of each that is up
+front_address : (s : State) (more : List InterfaceConfig) → AreConfigured s → (i : ℕ) → is_up s i ≡ true
+    → address_among s.configured i ≡ address_among (s.configured ++ more) i
+front_address s more are i up =
+    ap (λ (o : Option InterfaceConfig). option_map_or (λ (c : InterfaceConfig). c.address.bits) o 0)
+    (sym (slice_front s.configured more i (ltb-true i (iface_count s) (are i up))))
+
+kept_addresses : (s : State) (more : List InterfaceConfig) → IsTidy s → AreConfigured s
+    → AllByRecursion (SameAt s (s.configured ++ more)) s.asserts
+kept_addresses s more tidy are =
+    each_more (λ (e : Key × AssertRow). is_up s (iface_in e.0) ≡ true) (SameAt s (s.configured ++ more))
+    (λ e up. front_address s more are (iface_in e.0) up)
+    s.asserts (each_of_list (λ (e : Key × AssertRow). is_up s (iface_in e.0)) s.asserts tidy.asserts)
 
 pub appended_move_nothing : AppendedMoveNothing
 unfolding reload replaced ran sent_by write_all all_written each_in_turn
 appended_move_nothing s more w h near are new =
     (λ j. (let gone : List Outcome × State = ran s (none_removed s more w j) in
     let after : State × List Emission = replaced gone.1 (with_more s more) w in
-    (after.0, sent_by gone.0 ++ after.1)))
-    ∙ ((λ j. (let after : State × List Emission = settled s (is_longer s more w near j, no_hello s more w j) w in
-    (after.0, after.1)))
+    (after.0, sent_by gone.0 ++ (goodbyes gone.1 (s.configured ++ more) ++ after.1))))
+    ∙ ((λ j. (let after : State × List Emission = settled s (is_longer s more w near (kept_addresses s more h.settled.tidy are) j, no_hello s more w j) w in
+    (after.0, none_say s (s.configured ++ more) (front_address s more are) j ++ after.1)))
     ∙ none_follows s (s.configured ++ more) h.settled.tidy are (appended_alike s more new) h.quiet w [])
 
 -- ---- other delays
@@ -852,10 +866,14 @@ module _ (s : State) (cs : List InterfaceConfig) (same : map without_delays cs �
     unfolding removals
     no_removal = ap (λ (m : ℕ). map (down_event w) (range_with_len (length cs) m)) no_fewer
 
+    each_address : (rows : Table AssertRow) → AllByRecursion (SameAt s cs) rows
+    each_address [] = tt
+    each_address (e ∷ rows) = (sym (value_same (λ c. c.address.bits) 0 (λ c. refl) (iface_in e.0)), each_address rows)
+
     is_delayed : next_query_is_near s ≡ true → under s (with_interfaces s cs) ≡ record s { configured = cs }
     unfolding under settings_of config_of
     is_delayed near =
-        (λ i. rps_replaced (record s { configured = cs; queriers = same_queriers s near i }) s.ranges)
+        (λ i. rps_replaced (record s { configured = cs; queriers = same_queriers s near i; asserts = same_asserts s cs (each_address s.asserts) i }) s.ranges)
         ∙ same_ranges (record s { configured = cs })
 
     pub delays_written : IsAtRest s → next_query_is_near s ≡ true → AreConfigured s
@@ -864,9 +882,9 @@ module _ (s : State) (cs : List InterfaceConfig) (same : map without_delays cs �
     delays_written h near are =
         (λ j. (let gone : List Outcome × State = ran s (no_removal j) in
         let after : State × List Emission = replaced gone.1 (with_interfaces s cs) w in
-        (after.0, sent_by gone.0 ++ after.1)))
+        (after.0, sent_by gone.0 ++ (goodbyes gone.1 cs ++ after.1))))
         ∙ ((λ j. (let after : State × List Emission = settled s (is_delayed near j, hellos_anew s cs) w in
-        (after.0, after.1)))
+        (after.0, none_say s cs (λ i up. sym (value_same (λ c. c.address.bits) 0 (λ c. refl) i)) j ++ after.1)))
         ∙ none_follows s cs h.settled.tidy are delays_alike h.quiet w (hellos_anew s cs))
 
 pub delays_move_nothing : DelaysMoveNothing

@@ -1,10 +1,11 @@
 -- What a user expects of a reload.
-use Rattle.std.{specs.{List.{list_all, list_any}, Prelude.{Bool, List, Ok, Some, [], false, filter, length, map, nat_le, nat_lt, not, slice_get, take, true, ℕ, ◌&&◌, ◌*◌, ◌++◌, ◌+◌, ◌==◌, ◌≡◌}}}
+use Rattle.std.{specs.{List.{list_all, list_any}, Prelude.{Bool, List, None, Ok, Some, [], false, filter, length, map, nat_le, nat_lt, not, slice_get, take, true, ℕ, ◌&&◌, ◌*◌, ◌++◌, ◌+◌, ◌==◌, ◌≡◌}}}
 use Rattle.pim_types.{specs.{declared.{config.{Config.Config, InterfaceConfig.InterfaceConfig, Settings.Settings}, fact.{AssertRow.AssertRow, DownstreamRow.DownstreamRow, GroupRecordRow.GroupRecordRow, GroupRepeatRow.GroupRepeatRow, Key.Key, NeighbourRow.NeighbourRow, QuerierRole.QuerierRole, QuerierRow.QuerierRow, SendingRow.SendingRow, SourceRecordRow.SourceRecordRow, SourceRepeatRow.SourceRepeatRow}}, Keys.{iface_in, source_in}}}
+use Rattle.pim_wire.{specs.{Messages.pim_reading, declared.view.PimView.PimView}}
 use Rattle.pim_model.{specs.{Clearing.clear, Limits.config_test, Messages.Message, State.{State, iface_config, iface_count, interfaces_of, is_own_among, is_up}, Tables.below, Unicast.rp_of, Upstream.{fact_keys, upstream}, Writing.{hello_emission, write_all}}}
 use Rattle.law_scope.{specs.Rest.IsAtRest}
 use Rattle.law_restored.{specs.Reload.config_of}
-use Rattle.law_reloaded.{specs.Reloading.{hellos_anew, queriers_under, reload, replaced, tells_anew, under}}
+use Rattle.law_reloaded.{specs.Reloading.{goodbye_text, hellos_anew, queriers_under, reload, replaced, tells_anew, under}}
 
 -- ---- queriers
 
@@ -122,6 +123,11 @@ UntoldSaysSame = (s : State) (configured : List InterfaceConfig) (i : ℕ) (a b 
     → iface_config s i ≡ Some a → slice_get configured i ≡ Some b → is_up s i ≡ true
     → tells_anew s configured i ≡ false
     → hello_emission (record { configured = configured; rows = s.interfaces }) i ≡ hello_emission (interfaces_of s) i
+
+-- A goodbye reads as a Hello that holds for no time.
+abbrev pub GoodbyeReads : Type 0
+GoodbyeReads = pim_reading goodbye_text
+    ≡ Ok (PimView.Hello (record { holdtime = Some 0; lan_delay = None; priority = None; generation = None }))
 
 -- ---- appended interfaces
 

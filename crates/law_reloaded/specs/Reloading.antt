@@ -1,8 +1,9 @@
 -- A running router under another configuration: interfaces that are removed go down, then the configuration is replaced,
 -- and what follows of that is done. Sections are those of RFC 7761.
-use Rattle.std.{specs.{List.{flat_map, range_with_len}, Prelude.{Bool, List, Option, Some, false, filter, length, map, min, not, slice_get, ℕ, ◌&&◌, ◌*◌, ◌++◌, ◌+◌, ◌-◌, ◌==◌}}}
-use Rattle.pim_types.{specs.declared.{config.{Config.Config, InterfaceConfig.InterfaceConfig, Settings.Settings}, fact.{Key.Key, QuerierRole.QuerierRole, QuerierRow.QuerierRow}, event.{Event.Event, EventKind.EventKind}, outcome.{Emission.Emission, Outcome.Outcome}}}
-use Rattle.pim_model.{specs.{Firing.settled, Messages.Message, State.{State, iface_config, iface_count, is_up, settings_of}, Step.{ran, rps_replaced}, Tables.{Table, below}}}
+use Rattle.std.{specs.{List.{flat_map, range_with_len}, Prelude.{Bool, List, Option, Some, [], false, filter, length, map, min, not, slice_get, ℕ, ◌&&◌, ◌*◌, ◌++◌, ◌+◌, ◌-◌, ◌==◌, ◌∷◌}}}
+use Rattle.pim_types.{specs.{Keys.iface_in, declared.{config.{Config.Config, InterfaceConfig.InterfaceConfig, Settings.Settings}, fact.{AssertRow.AssertRow, Key.Key, QuerierRole.QuerierRole, QuerierRow.QuerierRow}, event.{Event.Event, EventKind.EventKind}, outcome.{Emission.Emission, Outcome.Outcome}}}}
+use Rattle.pim_wire.{specs.{Encoded.pim_text, Hellos.{holdtime_option, option_text}}}
+use Rattle.pim_model.{specs.{Firing.settled, Messages.Message, Sets.is_winner, State.{State, address_among, iface_config, iface_count, interfaces_of, is_up, settings_of}, Step.{ran, rps_replaced}, Tables.{Table, below}, Writing.pim_on_link}}
 
 -- ---- what is removed
 
@@ -31,6 +32,21 @@ row_under present t q (QuerierRole.NonQuerier end) = q
 unfoldable pub queriers_under : State → Settings → Table QuerierRow
 queriers_under s t = map (λ (e : Key × QuerierRow). (e.0, row_under s.present t e.1 (e.1).role)) s.queriers
 
+-- ---- asserts
+
+-- The interface has another address by the other configuration.
+abbrev pub is_readdressed : State → List InterfaceConfig → ℕ → Bool
+is_readdressed s configured i = not (address_among s.configured i == address_among configured i)
+
+-- An assert that the router won on such an interface. Its metric names the address of before.
+unfoldable pub is_won_before : State → List InterfaceConfig → Key × AssertRow → Bool
+is_won_before s configured e = is_winner (Some e.1) && is_readdressed s configured (iface_in e.0)
+
+-- It is forgotten, as where an interface goes down: the next packet that comes there, or the next Assert, makes another one
+-- from the new address (4.6.1, 4.6.2). Nothing is sent for it: the others forget it at the goodbye.
+unfoldable pub asserts_under : State → List InterfaceConfig → Table AssertRow
+asserts_under s configured = filter (λ e. not (is_won_before s configured e)) s.asserts
+
 -- ---- what is replaced
 
 -- All facts under another configuration. Where RP(G) is another one, the registers of G change as RP changed (4.4.1).
@@ -43,8 +59,30 @@ under s c =
       configured = c.interfaces;
       routes = c.routes;
       queriers = queriers_under s (settings_of c);
+      asserts = asserts_under s c.interfaces;
     })
     c.rps
+
+-- ---- goodbyes
+
+-- A Hello that holds for no time, with no other option.
+abbrev pub goodbye_text : List ℕ
+goodbye_text = pim_text 0 (option_text holdtime_option (0 ∷ 0 ∷ []))
+
+-- it leaves on an interface from the address that this one has in the state
+unfoldable pub goodbye : State → ℕ → Emission
+goodbye s i = pim_on_link (interfaces_of s) i goodbye_text
+
+-- The interface is up, and has another address by the other configuration.
+unfoldable pub leaves_address : State → List InterfaceConfig → ℕ → Bool
+leaves_address s configured i = is_up s i && is_readdressed s configured i
+
+-- "Before an interface goes down or changes primary IP address, a Hello message with a zero HoldTime should be sent
+-- immediately (with the old IP address if the IP address changed)" (4.3.1): the others forget the neighbour of that
+-- address, and what they lost to it.
+-- here: not where the interface is removed
+unfoldable pub goodbyes : State → List InterfaceConfig → List Emission
+goodbyes s configured = map (goodbye s) (filter (leaves_address s configured) (below (length configured)))
 
 -- ---- Hellos
 
@@ -67,7 +105,6 @@ tells_anew s configured i = is_up s i && says_other (iface_config s i) (slice_ge
 -- Hello leaves at once. "The Hello Timer should not be reset except when it expires" (4.3.1): it isn't.
 -- here: the same for another priority or delay, so that the neighbours elect the DR (4.3.2) and take the delays (4.3.3)
 -- by what the router goes by
--- here: no Hello with holdtime 0 leaves from an address that changes
 unfoldable pub hellos_anew : State → List InterfaceConfig → List Message
 hellos_anew s configured = map Message.Hello (filter (tells_anew s configured) (below (length configured)))
 
@@ -81,10 +118,10 @@ replaced s c w = settled s (under s c, hellos_anew s c.interfaces) w
 unfoldable pub sent_by : List Outcome → List Emission
 sent_by outcomes = flat_map (λ (o : Outcome). o.emissions) outcomes
 
--- The state after a reload with another configuration, and what leaves by it. The draw is that of each event and of
--- what follows.
+-- The state after a reload with another configuration, and what leaves by it: what follows of the removals, goodbyes from
+-- the addresses of before, and what follows of the new configuration. The draw is that of each event and of what follows.
 unfoldable pub reload : State → Config → ℕ → State × List Emission
 reload s c w =
     let gone : List Outcome × State = ran s (removals s c w) in
     let after : State × List Emission = replaced gone.1 c w in
-    (after.0, sent_by gone.0 ++ after.1)
+    (after.0, sent_by gone.0 ++ (goodbyes gone.1 c.interfaces ++ after.1))

@@ -1,9 +1,14 @@
 //! The laws.
-ghost use Rattle.law_reloaded.specs.Laws.{AppendedMoveNothing, DelaysMoveNothing, HellosLeaveFirst, KeptStayUp, NextQueryIsNearAnew, NoneOfRemoved, NoOtherHello, ReloadIsUnder, ReloadLeavesRest, RemovedAreDown, SameReloadChangesNothing, SettingsMoveNothing, UntoldSaysSame};
+ghost use Rattle.law_reloaded.specs.Laws.{AppendedMoveNothing, DelaysMoveNothing, GoodbyeReads, HellosLeaveFirst, KeptStayUp, NextQueryIsNearAnew, NoneOfRemoved, NoOtherHello, ReloadIsUnder, ReloadLeavesRest, RemovedAreDown, SameReloadChangesNothing, SettingsMoveNothing, UntoldSaysSame};
 
 /// A reload with the configuration that there is changes nothing, and sends nothing.
 pub fn same_reload_changes_nothing()
     ensures { SameReloadChangesNothing }
+{}
+
+/// A goodbye reads as a Hello that holds for no time.
+pub fn goodbye_reads()
+    ensures { GoodbyeReads }
 {}
 
 /// After a reload the next general query is within the query interval, by the values in force.

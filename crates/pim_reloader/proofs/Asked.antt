@@ -1,9 +1,9 @@
 -- Queriers under other settings, one after the other and all at once.
-use Rattle.std.{proofs.{Common.{◌≡◌, ◌==◌, ◌&&◌, ◌+◌, ◌*◌, ◌<◌, ◌≤◌, ℕ, min, nat_le, not, Bool, true, false, List, [], ◌∷◌, filter, get_or, length, map, Ok, Err, OnOk, Result, Option, Some, None, refl, sym, ap, ◌∙◌, eqb-true, arith}, lemmas.List.Folds.list_all_at}, specs.{Cmp.{first_so, second_so}, List.{Sorted.IsStrictlySortedBy, list_all}, Option.IfSome, Prelude.is_none}}
+use Rattle.std.{proofs.{Common.{◌≡◌, ◌&&◌, ◌+◌, ◌*◌, ◌<◌, ℕ, min, not, Bool, true, false, List, [], ◌∷◌, filter, get_or, length, Ok, Err, OnOk, Result, Option, Some, None, refl, sym, ap, ◌∙◌, eqb-true, arith}, lemmas.List.Folds.list_all_at}, specs.{Cmp.{first_so, second_so}, List.{Sorted.IsStrictlySortedBy, list_all}, Option.IfSome, Prelude.is_none}}
 use Rattle.pim_ip.{specs.declared.addr.Addr.Addr}
 use Rattle.pim_types.{specs.{declared.{config.Settings.Settings, fact.{Key.Key, QuerierRole.QuerierRole, QuerierRow.QuerierRow}}, Keys.{group_in, iface_in, iface_key, key_cmp}}}
 use Rattle.pim_model.{specs.{State.State, Tables.{Table, change_row, keys_in, row_at}}}
-use Rattle.law_settled.{specs.Rows.all_changed, proofs.ChosenRows.{chosen_changed, keys_of_passing}}
+use Rattle.law_settled.{specs.Rows.all_changed, proofs.ChosenRows.{chosen_changed}}
 use Rattle.igmp_membership.{specs.MembershipTables.{MembershipTables, are_of_kind, is_held_querier, is_querier_key, is_star_kind}}
 use Rattle.pim_tables.{proofs.Rows.{absent_is_unchanged, always, written_is_changed}}
 use Rattle.pim_state.{specs.Lending.{membership_tables, with_membership}}

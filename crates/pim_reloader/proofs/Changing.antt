@@ -1,17 +1,33 @@
 -- The parts of another configuration, one after the other, are the state under it.
-use Rattle.std.{proofs.Common.{◌≡◌, List, ap, ◌∙◌}}
-use Rattle.pim_types.{specs.declared.config.RpRange.RpRange}
-use Rattle.pim_model.{specs.{State.{State, settings_of}, Step.rps_replaced}}
+use Rattle.std.{proofs.Common.{◌≡◌, List, ap, filter, fold, ◌∙◌}, specs.List.Sorted.IsStrictlySortedBy}
+use Rattle.pim_types.{specs.{Keys.key_cmp, declared.{config.RpRange.RpRange, fact.{AssertRow.AssertRow, Key.Key}}}}
+use Rattle.pim_model.{specs.{State.{State, settings_of}, Step.rps_replaced, Tables.{Table, drop_at, keys_in}}}
 use Rattle.law_restored.{specs.Reload.config_of}
-use Rattle.law_reloaded.{specs.Reloading.{queriers_under, under}}
+use Rattle.law_reloaded.{specs.Reloading.{asserts_under, is_won_before, queriers_under, under}}
+use Rattle.pim_reloader.{proofs.Dropped.passing_dropped}
 
 abbrev moved : State → State → State
 moved s next = record s { settings = next.settings; configured = next.configured; routes = next.routes }
 
-pub under_is : (s next first asked last : State) (ranges : List RpRange) → first ≡ moved s next
+abbrev forgotten : State → Table AssertRow → State
+forgotten s t = record s { asserts = t }
+
+pub forgotten_is : (s next gone : State) (keys : List Key) → gone ≡ forgotten s (fold drop_at s.asserts keys)
+    → keys ≡ keys_in (filter (is_won_before s next.configured) s.asserts) → IsStrictlySortedBy key_cmp (keys_in s.asserts)
+    → gone ≡ forgotten s (asserts_under s next.configured)
+unfolding asserts_under
+forgotten_is s next gone keys goes gathered rises =
+    goes
+    ∙ ap (λ (ks : List Key). forgotten s (fold drop_at s.asserts ks)) gathered
+    ∙ ap (forgotten s) (passing_dropped (is_won_before s next.configured) s.asserts rises)
+
+pub under_is : (s next gone first asked last : State) (ranges : List RpRange)
+    → gone ≡ forgotten s (asserts_under s next.configured) → first ≡ moved gone next
     → asked ≡ record first { queriers = queriers_under first first.settings }
     → ranges ≡ next.ranges → last ≡ rps_replaced asked ranges → last ≡ under s (config_of next)
 unfolding under config_of settings_of queriers_under
-under_is s next first asked last ranges moves asks same is =
+under_is s next gone first asked last ranges goes moves asks same is =
+    let first_is : first ≡ moved (forgotten s (asserts_under s next.configured)) next =
+    moves ∙ ap (λ (x : State). moved x next) goes in
     is ∙ ap (λ (x : State). rps_replaced x ranges) asks
-    ∙ (λ j. rps_replaced (record (moves j) { queriers = queriers_under (moves j) (moves j).settings }) (same j))
+    ∙ (λ j. rps_replaced (record (first_is j) { queriers = queriers_under (first_is j) (first_is j).settings }) (same j))

@@ -1,8 +1,8 @@
 -- What follows of another configuration, by what was opened.
-use Rattle.std.{proofs.Common.{◌≡◌, ◌++◌, List, [], inl, refl, sym, subst, ap, ◌∙◌}}
+use Rattle.std.{proofs.Common.{◌≡◌, ◌++◌, List, [], inl, not, refl, sym, subst, ap, ◌∙◌}}
 use Rattle.pim_types.{specs.{declared.config.Config.Config, Keys.{is_of_group, names_source}}}
 use Rattle.pim_model.{specs.{Messages.Message, State.{State, settings_of}, Upstream.fact_keys}}
-use Rattle.law_settled.{proofs.FewerFacts.{IsFewer, fewer_both, no_other}}
+use Rattle.law_settled.{proofs.{FewerFacts.{IsFewer, fewer_both, no_other, rows_left, table_fewer}, Parts.Asserts}}
 use Rattle.law_scope.{specs.Rest.IsAtRest}
 use Rattle.pim_store.{specs.PimTables.{AreKeyed, pim_tables}}
 use Rattle.pim_state.{specs.{Turns.{Taking, saying}, declared.touched.Touched.Touched}}
@@ -10,7 +10,7 @@ use Rattle.pim_views.{specs.{Covers.IsWithin, Openings.opening_of, declared.open
 use Rattle.pim_settling.{specs.Settling.settled_by, proofs.Settling.settled_as_opened}
 use Rattle.pim_plan.{proofs.Tunnelled.rps_leave_facts}
 use Rattle.law_restored.{specs.Reload.config_of}
-use Rattle.law_reloaded.{specs.Reloading.{hellos_anew, queriers_under, replaced, under}}
+use Rattle.law_reloaded.{specs.Reloading.{asserts_under, hellos_anew, is_won_before, queriers_under, replaced, under}}
 
 within_so : (s t : State) → IsFewer s t → IsWithin s t
 within_so s t fewer = record {
@@ -25,11 +25,21 @@ module _ (o : State) (c : Config) where
     configured = c.interfaces;
     routes = c.routes;
     queriers = queriers_under o (settings_of c);
+    asserts = asserts_under o c.interfaces;
   }
 
+  forgetful : State
+  forgetful = record o { asserts = asserts_under o c.interfaces }
+
+  forgetful_leaves_facts : IsFewer o forgetful
+  unfolding forgetful asserts_under
+  forgetful_leaves_facts =
+      table_fewer Asserts o (asserts_under o c.interfaces)
+      (rows_left (λ e. not (is_won_before o c.interfaces e)) o.asserts)
+
   moved_leaves_facts : IsFewer o moved
-  unfolding fact_keys
-  moved_leaves_facts = no_other o moved refl
+  unfolding fact_keys forgetful
+  moved_leaves_facts = fewer_both o forgetful moved forgetful_leaves_facts (no_other forgetful moved refl)
 
   pub under_within : IsWithin o (under o c)
   unfolding under

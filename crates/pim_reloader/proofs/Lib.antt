@@ -1,7 +1,9 @@
 pub mod Asked
 pub mod Below
 pub mod Changing
+pub mod Dropped
 pub mod Following
+pub mod Leaving
 pub mod Removing
 pub mod Renewed
 pub mod Together

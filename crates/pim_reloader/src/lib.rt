@@ -1,6 +1,7 @@
 //! Another configuration in a router that works, as the specification (law_reloaded) says.
 #![tactic(auto)]
 
+mod addresses;
 mod hellos;
 mod queriers;
 mod remove;

@@ -14,6 +14,7 @@ ghost use Rattle.pim_types.specs.Keys.{group_in, iface_in, key_cmp, source_in, s
 ghost use Rattle.pim_state.specs.Turns.{saying};
 ghost use Rattle.pim_state.specs.declared.touched.Touched.{Touched as TouchedValue};
 
+use crate::addresses::{forget_asserts, won_before};
 use crate::hellos::tell;
 use crate::queriers;
 use pim_event::Core;
@@ -26,7 +27,7 @@ use pim_types::{Emission, Fault, Series, SourceGroup};
 use std::alloc::AllocError;
 
 // Puts the world under the configuration of the next one, and says the Hellos that leave at once. All facts stay but what
-// queriers go by.
+// queriers go by, and asserts that were won from addresses of before.
 #[tactic(auto, unfolding(law_reloaded::specs::Reloading::under, law_restored::specs::Reload::config_of, pim_model::specs::State::settings_of))]
 fn reconfigure(
     world: &mut World,
@@ -39,6 +40,10 @@ fn reconfigure(
     ensures messages { OnOk result (turn.new ≡ saying turn.old (hellos_anew world.old next.configured)) }
 {
     tell(world, &mut turn.out, &next)?;
+    // For the proof: each assert is listed once.
+    world.proof_keyed();
+    let won = won_before(world, turn.alloc, &next)?;
+    forget_asserts(world, meter, &won);
     let ranges = world.reconfigure(next);
     queriers::put_all_under(world, turn.alloc)?;
     pim_register::rps_replaced(world, turn, meter, ranges)?;

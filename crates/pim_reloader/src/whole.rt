@@ -3,6 +3,7 @@ ghost use Rattle.pim_event.specs.Stepping.{Rests};
 ghost use Rattle.law_restored.specs.Reload.{config_of};
 ghost use Rattle.pim_reloader.specs.Reloads.{Reloads};
 
+use crate::addresses::say_goodbye;
 use crate::remove::remove;
 use crate::replace::{add_sources, replace};
 use pim_event::Core;
@@ -26,6 +27,7 @@ pub fn reload(
     let mut names = Vec::new(core.room.alloc);
     add_sources(&mut names, &core.world)?;
     let mut sent = remove(core, meter, draw, &next)?;
+    say_goodbye(&core.world, core.room.alloc, &next, &mut sent)?;
     core.cache.reset();
     core.replaced.clear();
     let mut turn = Turn::new(core.room.taken(), draw);

@@ -2,7 +2,7 @@
 use Rattle.std.{proofs.Common.{◌≡◌, ◌∷◌, [], Ok, refl}}
 use Rattle.pim_model.{specs.Limits.config_test}
 use Rattle.law_plane.{specs.Keeping.{keep, keepalive_end, kept_until}}
-use Rattle.law_reloaded.{specs.Reloading.{hellos_anew, queriers_under, reload, removals, replaced, says_same, tells_anew, under}}
+use Rattle.law_reloaded.{specs.Reloading.{asserts_under, goodbyes, hellos_anew, is_won_before, leaves_address, queriers_under, reload, removals, replaced, says_same, tells_anew, under}}
 use Rattle.law_history.{specs.History.{AreAccepted, IsLedTo, past_given, state_given}, proofs.Asked.call_is_asked}
 use Rattle.pim_runs.{proofs.OnLiterals.machine_on_literals, specs.{Words.frame, ServedChain.sent_packet, Switch.switching}}
 use Rattle.pim_runs.{specs.History.{CopyIsMade, HistoryAsks, HistoryLeads, before, smaller, then}}
@@ -19,11 +19,11 @@ led : IsLedTo switching before then
 led = record { accepted = accepted; reloads = (accepted_smaller, tt); led = refl }
 
 pub history_leads : HistoryLeads
-unfolding machine_on_literals state_given keep keepalive_end kept_until reload replaced removals under queriers_under hellos_anew says_same tells_anew
+unfolding machine_on_literals state_given keep keepalive_end kept_until reload replaced removals under queriers_under asserts_under is_won_before goodbyes leaves_address hellos_anew says_same tells_anew
 history_leads = record { led = led; kept = refl }
 
 pub copy_is_made : CopyIsMade
-unfolding machine_on_literals state_given keep keepalive_end kept_until reload replaced removals under queriers_under hellos_anew says_same tells_anew
+unfolding machine_on_literals state_given keep keepalive_end kept_until reload replaced removals under queriers_under asserts_under is_won_before goodbyes leaves_address hellos_anew says_same tells_anew
 copy_is_made = refl
 
 pub history_asks : HistoryAsks

@@ -62,7 +62,6 @@ impl Daemon {
         info!("the router goes on with other settings ({why})");
         self.counters.reloaded += 1;
         self.set_policy();
-        moved.iter().for_each(|number| self.say_goodbye_on(*number));
         self.leave();
         self.follow();
         self.all_unknown_may_differ();

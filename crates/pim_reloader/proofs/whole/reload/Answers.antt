@@ -17,6 +17,7 @@ pub replace-requires-clause-begun : goal.replace-requires-clause-begun
 replace-requires-clause-begun c = ap (λ (t : Taking). t.messages) c.new-turn.ensures
 
 pub returns : goal.returns
+unfolding config_of
 returns c =
     let draws = ap (λ (t : Taking). t.draw) c.new-turn.ensures in
     let removed = c.in_ok-sent.ensures.removes in
@@ -24,8 +25,8 @@ returns c =
       state = whole_state c.args.core.now.world c.remove.new.core.world c.replace.new.core.world (config_of c.args.next) c.args.draw
           c.new-turn.result.draw removed.state draws c.in_ok-later.ensures.state;
       sent = whole_sent c.args.core.now.world c.remove.new.core.world c.replace.new.core.world (config_of c.args.next) c.args.draw
-          c.new-turn.result.draw removed.state draws c.in_ok-sent.sent.items c.in_ok-later.later.items
-          c.append.new.self.items removed.sent c.in_ok-later.ensures.sent c.in_ok-append.ensures.items;
+          c.new-turn.result.draw removed.state draws c.in_ok-sent.sent.items c.say_goodbye.new.sent.items
+          c.in_ok-later.later.items c.append.new.self.items removed.sent c.in_ok-say_goodbye.ensures c.in_ok-later.ensures.sent c.in_ok-append.ensures.items;
       shown = c.in_ok-later.ensures.shown;
       listed = lists_facts c.args.core.now.world c.remove.new.core.world c.replace.new.core.world
           (keys_of c.add_sources.new.names.items) c.reset.new.self.changed c.replace.new.core.cache.changed
