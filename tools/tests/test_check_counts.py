@@ -98,7 +98,7 @@ class Spoilt(unittest.TestCase):
             "    take_in(core, event, &mut probes.meter)\n",
             "    let outcome = take_in(core, event, &mut probes.meter);\n    probes.begin();\n    outcome\n",
         )
-        self.refused("a count begins anew in take_next")
+        self.refused("a count begins anew in take_next", "take_next calls")
 
     def test_an_event_with_a_meter_of_its_own(self):
         self.spoil(
@@ -107,7 +107,7 @@ class Spoilt(unittest.TestCase):
             "    let mut outside = probes.outside();\n"
             "    take_in(core, event, &mut outside.meter)\n",
         )
-        self.refused("a meter is made beside that of events in take_next")
+        self.refused("a meter is made beside that of events in take_next", "take_next calls")
 
     def test_an_event_with_an_auditor_of_its_own(self):
         self.spoil(
@@ -115,7 +115,7 @@ class Spoilt(unittest.TestCase):
             "    take_in(core, event, &mut probes.meter)\n",
             "    take_in(core, event, &mut Probes::new().meter)\n",
         )
-        self.refused("a meter is made beside that of events in take_next")
+        self.refused("a meter is made beside that of events in take_next", "take_next calls")
 
     def test_all_rows_evaluated_with_a_count_that_is_thrown_away(self):
         self.spoil(
@@ -156,7 +156,7 @@ class Spoilt(unittest.TestCase):
         self.refused(
             "a count of rows is made in Router::cached",
             "`row` is brought in in Router::cached",
-            "Router::cached calls outside, none, row, Some, of, answers",
+            "Router::cached calls outside none row Some of answers",
         )
 
     def test_an_event_that_asks_what_a_plane_does(self):
@@ -167,11 +167,49 @@ class Spoilt(unittest.TestCase):
             "        offer(&self.core.world, &self.core.cache, name, &mut self.probes.meter);\n"
             "        let outcome = take_next(",
         )
-        self.refused("a row is offered in Router::take_lent")
+        self.refused("a row is offered in Router::take_lent", "Router::take_lent calls")
+
+    def test_an_event_that_saves_the_whole_state(self):
+        self.spoil(
+            "pim_router/src/router.rt",
+            "        let outcome = take_next(",
+            "        let mut bytes = Vec::new(self.core.room.alloc);\n"
+            "        let _ = self.save(&mut bytes);\n"
+            "        let outcome = take_next(",
+        )
+        self.refused("an event asks for what a user asks for", "Router::take_lent calls")
+
+    def test_a_plain_packet_that_reads_all_rows(self):
+        self.spoil(
+            "pim_event/src/plain.rt",
+            "    let olist = ",
+            "    for (_, _) in world.store().downstream_rows() "
+            "{\n        for (_, _) in world.store().assert_rows() {}\n    }\n"
+            "    let olist = ",
+        )
+        self.refused("take_plain calls for store downstream_rows for store assert_rows")
+
+    def test_a_test_of_a_packet_that_reads_all_rows(self):
+        self.spoil(
+            "pim_intake/src/frame.rt",
+            "    judge_packet(world, iface, packet)\n",
+            "    for (_, _) in world.store().downstream_rows() {}\n    judge_packet(world, iface, packet)\n",
+        )
+        self.refused("a test of an event reads")
+
+    def test_a_refresh_that_evaluates_the_lists_of_all_sources(self):
+        self.spoil(
+            "pim_fanout/src/cache.rt",
+            "        let made = row_by_sight(",
+            "        for (key, _) in world.store().source_rows() "
+            "{\n            let _ = SourceSight::with_star(world, key.name(), meter).inherited_olist();\n        }\n"
+            "        let made = row_by_sight(",
+        )
+        self.refused("the cache gathers a sight")
 
     def test_a_place_that_is_gone(self):
         self.spoil("pim_router/src/router.rt", "    core.cache.reset();\n", "")
-        self.refused("a count begins anew in take_next 1 times, and not 2")
+        self.refused("a count begins anew in take_next 1 times, and not 2", "take_next calls")
 
 
 if __name__ == "__main__":
