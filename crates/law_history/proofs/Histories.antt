@@ -6,8 +6,8 @@ use Rattle.law_scope.{specs.Rest.IsAtRest, proofs.Rest.{opening_is_at_rest, step
 use Rattle.pim_model.{specs.{Cause.{Past, past_after}, declared.accepted.Accepted.Accepted, Full.is_full, Judging.{down_judged, ignore_if, judged, refuse_if, ◌>>◌}, State.{State, iface_count, is_up, opening}, Step.{change, concluded, done, outcome_of, ran, run, state_after, step, taken, taken_unless_full}}}
 use Rattle.law_reloaded.{specs.Reloading.{down_event, reload, removals}, proofs.Rest.reload_leaves_rest}
 use Rattle.law_plane.{specs.Keeping.keep, proofs.Keeps.keep_is_at_rest}
-use Rattle.pim_saved.{specs.{Fits.FitsState, Reading.reading, Text.text}, proofs.SpelledStates.text_is_read}
-use Rattle.law_history.{specs.{History.{AreAccepted, Given, past_given, state_given}, Laws.{CallLeadsOn, EventsAloneAreARun, EventsAloneAreThePast, LedStatesRest, ReadStateIsLedTo, RemovalsCopyNothing}}}
+use Rattle.pim_saved.{specs.{Reading.reading, Text.text}, proofs.SpelledStates.text_is_read}
+use Rattle.law_history.{specs.{History.{AreAccepted, Given, past_given, state_given}, Laws.{CallsLeadOn, EventsAloneAreARun, EventsAloneAreThePast, LedStatesRest, ReadStateIsLedTo, RemovalsCopyNothing}}}
 
 -- ---- without reloads
 
@@ -68,7 +68,7 @@ pub removals_copy_nothing : RemovalsCopyNothing
 unfolding removals
 removals_copy_nothing s c w = downs_copy w _ s
 
--- ---- one call more
+-- ---- more calls
 
 state_appended : (before later : List Given) (s : State)
     → state_given s (before ++ later) ≡ state_given (state_given s before) later
@@ -84,11 +84,11 @@ accepted_appended (Given.Happening e ∷ before) later f g = accepted_appended b
 accepted_appended (Given.Reload c w ∷ before) later f g = (f.0, accepted_appended before later f.1 g)
 accepted_appended (Given.Kept g' src m ∷ before) later f g = accepted_appended before later f g
 
-pub call_leads_on : CallLeadsOn
-call_leads_on c before s one led accepted = record {
+pub calls_lead_on : CallsLeadOn
+calls_lead_on c before later s led accepted = record {
   accepted = led.accepted;
-  reloads = accepted_appended before (one ∷ []) led.reloads accepted;
-  led = ap (λ t. state_given t (one ∷ [])) led.led ∙ sym (state_appended before (one ∷ []) (opening c));
+  reloads = accepted_appended before later led.reloads accepted;
+  led = ap (λ t. state_given t later) led.led ∙ sym (state_appended before later (opening c));
 }
 
 same_ok : {E : Type 0} (r : Result State E) (t s : State) → r ≡ Ok t → r ≡ Ok s → t ≡ s

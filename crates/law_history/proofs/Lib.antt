@@ -1,3 +1,4 @@
 pub mod Asked
 pub mod Limits
 pub mod Histories
+pub mod Counts

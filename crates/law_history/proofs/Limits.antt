@@ -1,5 +1,5 @@
 -- Facts stay within the greatest limit, whatever reloads came.
-use Rattle.std.{proofs.Common.{◌≡◌, ⊎_elim, ◌+◌, ◌≤◌, ℕ, max, Bool, true, false, List, [], ◌∷◌, length, Option, Some, Ok, Err, refl, sym, ap, subst, ◌∙◌, arith}}
+use Rattle.std.{proofs.Common.{◌≡◌, ⊎_elim, ◌+◌, ◌≤◌, ℕ, max, Bool, true, false, List, [], ◌∷◌, length, Some, Ok, Err, refl, sym, ap, subst, ◌∙◌, arith}}
 use Rattle.pim_types.{specs.{Keys.source_key, declared.{config.{Config.Config, Settings.Settings}, event.Event.Event, outcome.Stop.Stop}}}
 use Rattle.law_scope.{specs.Rest.IsAtRest, proofs.Rest.{opening_is_at_rest, step_is_at_rest}}
 use Rattle.law_settled.{proofs.{RisingKeys.up_of_sorted, UnchangedLaws.full_or_taken}}

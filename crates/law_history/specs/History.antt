@@ -1,5 +1,5 @@
 -- What led a router to its state: events, reloads with other configurations, and what a plane reported by `keep`.
-use Rattle.std.{specs.Prelude.{List, Ok, [], max, ℕ, ◌≡◌, ◌∷◌}}
+use Rattle.std.{specs.Prelude.{List, Ok, [], length, max, ℕ, ◌≡◌, ◌∷◌}}
 use Rattle.pim_types.{specs.declared.{config.Config.Config, event.Event.Event}}
 use Rattle.pim_model.{specs.{Cause.{Past, past_after}, Limits.config_test, State.{State, opening}, Step.step}}
 use Rattle.law_reloaded.{specs.Reloading.{reload, removals}}
@@ -40,6 +40,13 @@ greatest_limit limit [] = limit
 greatest_limit limit (Given.Happening e ∷ later) = greatest_limit limit later
 greatest_limit limit (Given.Reload c w ∷ later) = greatest_limit (max limit c.limit) later
 greatest_limit limit (Given.Kept g src m ∷ later) = greatest_limit limit later
+
+-- The greatest of a number of interfaces and those of the reloads.
+unfoldable pub greatest_count : ℕ → List Given → ℕ
+greatest_count count [] = count
+greatest_count count (Given.Happening e ∷ later) = greatest_count count later
+greatest_count count (Given.Reload c w ∷ later) = greatest_count (max count (length c.interfaces)) later
+greatest_count count (Given.Kept g src m ∷ later) = greatest_count count later
 
 -- Events and reloads led a new router of the configuration to the state; all configurations are accepted.
 pub record IsLedTo (c : Config) (before : List Given) (s : State) : Type 0 where

@@ -1,12 +1,12 @@
 -- What holds of a router after any events and reloads.
-use Rattle.std.{specs.{List.All, Prelude.{List, Ok, [], map, ℕ, ◌++◌, ◌∷◌, ◌≡◌, ◌≤◌}}}
+use Rattle.std.{specs.{List.All, Prelude.{List, Ok, [], length, map, ℕ, ◌*◌, ◌+◌, ◌++◌, ◌≡◌, ◌≤◌}}}
 use Rattle.pim_types.{specs.declared.{config.Config.Config, event.Event.Event, outcome.Outcome.Outcome}}
 use Rattle.law_scope.{specs.Rest.IsAtRest}
-use Rattle.pim_model.{specs.{Cause.{CopiesAreAsked, OutcomesAreAsked, past_after}, State.{State, opening}, Step.{outcome_of, run, state_after, step}}}
+use Rattle.pim_model.{specs.{Cause.{CopiesAreAsked, OutcomesAreAsked, past_after}, Full.counted, State.{State, opening}, Step.{outcome_of, run, state_after, step}}}
 use Rattle.law_promises.{specs.Bounded.counted_beside_asserts}
 use Rattle.law_reloaded.{specs.Reloading.removals}
 use Rattle.pim_saved.{specs.{Fits.FitsState, Reading.reading, Text.text}}
-use Rattle.law_history.{specs.History.{AreAccepted, Given, IsLedTo, greatest_limit, past_given, state_given}}
+use Rattle.law_history.{specs.History.{AreAccepted, Given, IsLedTo, greatest_count, greatest_limit, past_given, state_given}}
 
 -- Without a reload the state and the past are those of the events.
 abbrev pub EventsAloneAreARun : Type 0
@@ -34,21 +34,27 @@ abbrev pub FactsStayWithinTheGreatest : Type 0
 FactsStayWithinTheGreatest = (c : Config) (before : List Given) (s : State) (events : List Event) → IsLedTo c before s
     → counted_beside_asserts (state_after s events) ≤ greatest_limit c.limit before
 
+-- All facts that count stay within the greatest limit so far, once for each interface of the configuration that had the
+-- most, and once more.
+abbrev pub CountedStayWithinTheGreatest : Type 0
+CountedStayWithinTheGreatest = (c : Config) (before : List Given) (s : State) (events : List Event) → IsLedTo c before s
+    → counted (state_after s events) ≤ greatest_limit c.limit before * (greatest_count (length c.interfaces) before + 1)
+
 -- A router is at rest after any events and reloads.
 abbrev pub LedStatesRest : Type 0
 LedStatesRest = (c : Config) (before : List Given) (s : State) → IsLedTo c before s → IsAtRest s
 
--- ---- one call
+-- ---- calls
 
 -- What one event sends is asked for by what led the router to its state.
 abbrev pub CallIsAsked : Type 0
 CallIsAsked = (c : Config) (before : List Given) (s : State) (e : Event) → IsLedTo c before s
     → CopiesAreAsked (past_given [] (opening c) before) (record { before = s; event = e }) (outcome_of (step s e))
 
--- Each call goes on with what led the router to its state.
-abbrev pub CallLeadsOn : Type 0
-CallLeadsOn = (c : Config) (before : List Given) (s : State) (one : Given) → IsLedTo c before s → AreAccepted (one ∷ [])
-    → IsLedTo c (before ++ one ∷ []) (state_given s (one ∷ []))
+-- Calls go on with what led the router to its state.
+abbrev pub CallsLeadOn : Type 0
+CallsLeadOn = (c : Config) (before later : List Given) (s : State) → IsLedTo c before s → AreAccepted later
+    → IsLedTo c (before ++ later) (state_given s later)
 
 -- What is read of the bytes of a state that was saved was led to by what led to that state.
 abbrev pub ReadStateIsLedTo : Type 0

@@ -1,5 +1,5 @@
 //! The laws.
-ghost use Rattle.law_history.specs.Laws.{CallIsAsked, CallLeadsOn, EventsAloneAreARun, EventsAloneAreThePast, FactsStayWithinTheGreatest, LedStatesRest, NothingFlowsUnaskedOverReloads, ReadStateIsLedTo, RemovalsCopyNothing};
+ghost use Rattle.law_history.specs.Laws.{CallIsAsked, CallsLeadOn, CountedStayWithinTheGreatest, EventsAloneAreARun, EventsAloneAreThePast, FactsStayWithinTheGreatest, LedStatesRest, NothingFlowsUnaskedOverReloads, ReadStateIsLedTo, RemovalsCopyNothing};
 
 /// Without a reload the state is that of a run.
 pub fn events_alone_are_a_run()
@@ -26,6 +26,11 @@ pub fn facts_stay_within_the_greatest()
     ensures { FactsStayWithinTheGreatest }
 {}
 
+/// All facts that count stay within the greatest limit so far, once for each interface and once more.
+pub fn counted_stay_within_the_greatest()
+    ensures { CountedStayWithinTheGreatest }
+{}
+
 /// A router is at rest after any events and reloads.
 pub fn led_states_rest()
     ensures { LedStatesRest }
@@ -36,9 +41,9 @@ pub fn call_is_asked()
     ensures { CallIsAsked }
 {}
 
-/// Each call goes on with what led the router to its state.
-pub fn call_leads_on()
-    ensures { CallLeadsOn }
+/// Calls go on with what led the router to its state.
+pub fn calls_lead_on()
+    ensures { CallsLeadOn }
 {}
 
 /// What is read of saved bytes was led to by what led to the state that was saved.

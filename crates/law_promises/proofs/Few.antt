@@ -1,5 +1,5 @@
 -- There are at most as many asserts as the limit on each interface.
-use Rattle.std.{proofs.{Common.{◌≡◌, ◌∙◌, ℕ, ◌+◌, ◌*◌, ◌<◌, ◌≤◌, ◌==◌, not, ◌&&◌, ⊎_elim, nat_le, Bool, true, false, cond, List, [], ◌∷◌, ◌++◌, length, Result, Ok, refl, sym, ap, subst, arith, length-append}, Math.Nat.{mul-add, mul-le-mul_left, mul-one, mul_comm, one-mul}, lemmas.{Nat.mul-le, Bool.{or_left, or_right, Decides.nat_tests}, List.Folds.list_any-append}}}
+use Rattle.std.{proofs.{Common.{◌≡◌, ℕ, ◌+◌, ◌*◌, ◌<◌, ◌≤◌, ◌==◌, not, ◌&&◌, ⊎_elim, nat_le, Bool, true, false, cond, List, [], ◌∷◌, ◌++◌, length, Result, Ok, ap, subst, arith, length-append}, Math.Nat.{mul-add, mul-le-mul_left, mul-one, mul_comm, one-mul}, lemmas.{Nat.mul-le, Bool.{or_left, or_right, Decides.nat_tests}, List.Folds.list_any-append}}}
 use Rattle.pim_ip.{specs.{declared.refusal.Refusal.Refusal, Tests.{expect, ◌>>◌}}}
 use Rattle.pim_types.{specs.{Keys.{group_in, same_key, source_in, source_key, star_key}, declared.{config.{Config.Config, InterfaceConfig.InterfaceConfig, Settings.Settings}, event.Event.Event, fact.Key.Key}}, proofs.Keys.same_key_same}
 use Rattle.pim_wire.{specs.{RegisterParts.{registered_group, registered_source}, declared.assert.Assert.Assert as AssertMessage}}
@@ -66,10 +66,10 @@ module _ (P Q : Key → Type 0) (n : ℕ) (spread : (g src : ℕ) → Q (source_
 -- ---- an event with room: the keys are taken anew
 
 module _ (n : ℕ) where
-  abbrev Named : List Key → Key → Type 0
+  abbrev pub Named : List Key → Key → Type 0
   Named ks k = is_named ks k ≡ true
 
-  abbrev Spread : List Key → Key → Type 0
+  abbrev pub Spread : List Key → Key → Type 0
   Spread ks k = (i : ℕ) → i < n → is_named ks (source_key i (group_in k) (source_in k)) ≡ true
 
   abbrev spreads_over : (ks : List Key) → (g src : ℕ) → Spread ks (source_key 0 g src) → (i : ℕ) → i < n → Named ks (source_key i g src)
@@ -206,10 +206,10 @@ module _ (n : ℕ) (s : State) where
 
 -- ---- the keys stay few
 
-record Covered (n limit : ℕ) (s : State) : Type 0 where
-  keys : List Key
-  short : length keys ≤ n * limit
-  kept : Kept (Named n keys) (Spread n keys) s
+pub record Covered (n limit : ℕ) (s : State) : Type 0 where
+  pub keys : List Key
+  pub short : length keys ≤ n * limit
+  pub kept : Kept (Named n keys) (Spread n keys) s
 
 module _ (n limit : ℕ) (positive : 1 ≤ n) where
   -- rows that count once, and sources that count on each interface
@@ -237,7 +237,7 @@ module _ (n limit : ℕ) (positive : 1 ≤ n) where
       added_up (length s.asserts + length s.downstream + length s.group_records) (length s.sources) (needed_by s a) (omega (arith, le)) in
       omega (arith, x, y, z, u, v, w, r, q, m, all)
 
-  module _ (s : State) (settled : IsSettled s) (bound : s.settings.limit ≡ limit) (w : ℕ) (f : Covered n limit s) where
+  module _ (s : State) (settled : IsSettled s) (bound : s.settings.limit ≤ limit) (w : ℕ) (f : Covered n limit s) where
     taken_covered : (a : Accepted) → IsIn n a → is_full s a ≡ false → Covered n limit (taken s w a).state
     taken_covered a here e =
         ⊎_elim
@@ -251,7 +251,7 @@ module _ (n limit : ℕ) (positive : 1 ≤ n) where
         (λ (le : counted s + needed_by s a ≤ s.settings.limit).
         let c : Covered n limit (taken s w a).state = record {
           keys = anew n s a;
-          short = anew_short s a (subst (λ (m : ℕ). counted s + needed_by s a ≤ m) bound le);
+          short = anew_short s a (omega (arith, le, bound));
           kept = taken_kept (Named n (anew n s a)) (Spread n (anew n s a)) n (spreads_over n (anew n s a)) s settled w a
               (names_room n s a here) (kept_anew n s a);
         } in c)
@@ -264,25 +264,26 @@ module _ (n limit : ℕ) (positive : 1 ≤ n) where
     unfolding taken_unless_full
     concluded_covered j placed = grind (arith, full_covered)
 
-  record Holds (s : State) : Type 0 where
-    settled : IsSettled s
-    bound : s.settings.limit ≡ limit
-    links : iface_count s ≡ n
-    covered : Covered n limit s
+  -- the limit and the interfaces may be fewer, as before a reload
+  pub record Holds (s : State) : Type 0 where
+    pub settled : IsSettled s
+    pub bound : s.settings.limit ≤ limit
+    pub links : iface_count s ≤ n
+    pub covered : Covered n limit s
 
-  holds_on : (s : State) (e : Event) → Holds s → Holds (step s e).state
+  pub holds_on : (s : State) (e : Event) → Holds s → Holds (step s e).state
   unfolding step
   holds_on s e f =
       let same : IsConfigured s (step s e).state = step_configured s e in
       record {
         settled = step_is_settled s e f.settled;
-        bound = ap (λ (x : Settings). x.limit) (sym same.settings) ∙ f.bound;
-        links = ap (λ (cs : List InterfaceConfig). length cs) (sym same.configured) ∙ f.links;
+        bound = subst (λ (x : Settings). x.limit ≤ limit) same.settings f.bound;
+        links = subst (λ (cs : List InterfaceConfig). length cs ≤ n) same.configured f.links;
         covered = concluded_covered s f.settled f.bound e.draw f.covered (judged s e.kind)
-            (subst (λ (m : ℕ). IsPlaced m (judged s e.kind)) f.links (kind_is_placed s e.kind));
+            (kind_is_placed s n f.links e.kind);
       }
 
-  asserts_few : (s : State) → Holds s → length s.asserts ≤ n * limit
+  pub asserts_few : (s : State) → Holds s → length s.asserts ≤ n * limit
   unfolding keys_in
   asserts_few s f =
       let le : length (keys_in s.asserts) ≤ length f.covered.keys =
@@ -301,17 +302,17 @@ some_interface b refusal next e = grind arith
 at_least_one : (n : ℕ) → (nat_le 1 n && nat_le n most_ifaces) ≡ true → 1 ≤ n
 at_least_one n e = grind (arith, nat_tests, e)
 
-configured_some : (c : Config) → config_test c ≡ Ok tt → 1 ≤ length c.interfaces
+pub configured_some : (c : Config) → config_test c ≡ Ok tt → 1 ≤ length c.interfaces
 unfolding config_test
 configured_some c e = at_least_one (length c.interfaces) (some_interface _ _ _ e)
 
-opening_holds : (c : Config) (some : 1 ≤ length c.interfaces) → IsSettled (opening c)
-    → Holds (length c.interfaces) c.limit some (opening c)
+pub opening_holds : (c : Config) (n limit : ℕ) (some : 1 ≤ n) → c.limit ≤ limit → length c.interfaces ≤ n → IsSettled (opening c)
+    → Holds n limit some (opening c)
 unfolding opening settings_of
-opening_holds c some settled = record {
+opening_holds c n limit some within among settled = record {
   settled = settled;
-  bound = refl;
-  links = refl;
+  bound = within;
+  links = among;
   covered = record { keys = []; short = omega arith; kept = record { asserts = tt; downstream = tt; groups = tt; sources = tt } };
 }
 
@@ -320,7 +321,7 @@ asserts_stay_bounded c events e =
     let some : 1 ≤ length c.interfaces = configured_some c e in
     let f : Holds (length c.interfaces) c.limit some (state_after (opening c) events) =
     kept_by_run (Holds (length c.interfaces) c.limit some) (holds_on (length c.interfaces) c.limit some) (opening c) events
-    (opening_holds c some (opening_is_settled c e)) in
+    (opening_holds c (length c.interfaces) c.limit some (omega arith) (omega arith) (opening_is_settled c e)) in
     let le : length (state_after (opening c) events).asserts ≤ length c.interfaces * c.limit =
     asserts_few (length c.interfaces) c.limit some (state_after (opening c) events) f in
     let swap : length c.interfaces * c.limit ≡ c.limit * length c.interfaces = mul_comm (length c.interfaces) c.limit in

@@ -206,7 +206,7 @@ module _ (n : ℕ) where
     where
       placed : (a : Accepted) → judged s e.kind ≡ Ok a → IsIn n a
       placed a is =
-          (subst (IsPlaced n) is (subst (λ (m : ℕ). IsPlaced m (judged s e.kind)) f.links (kind_is_placed s e.kind))).accepts
+          (subst (IsPlaced n) is (subst (λ (m : ℕ). IsPlaced m (judged s e.kind)) f.links (kind_is_placed s (iface_count s) (omega arith) e.kind))).accepts
 
 opening_holds : (c : Config) → IsSettled (opening c) → Holds (length c.interfaces) (opening c)
 unfolding opening

@@ -47,12 +47,6 @@ abbrev pub CountedStayBounded : Type 0
 CountedStayBounded = (c : Config) (events : List Event) → config_test c ≡ Ok tt
     → counted (state_after (opening c) events) ≤ c.limit * (length c.interfaces + 1)
 
--- What the limit bounds in a state of a router with this configuration: the facts without the asserts, and all that
--- count.
-pub record IsBounded (c : Config) (s : State) : Type 0 where
-  pub beside_asserts : counted_beside_asserts s ≤ c.limit
-  pub counted_facts : counted s ≤ c.limit * (length c.interfaces + 1)
-
 -- ---- what an event may add
 
 -- How many of the keys that an event names have no row yet, of those under which it may make one.

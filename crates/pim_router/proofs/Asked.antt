@@ -5,7 +5,7 @@ use Rattle.pim_types.{specs.declared.{config.Config.Config, event.Event.Event, o
 use Rattle.pim_model.{specs.{Cause.CopiesAreAsked, Limits.config_test, State.{State, opening}, Step.{Answered, outcome_of, step}}}
 use Rattle.law_plane.{specs.Keeping.keep}
 use Rattle.law_reloaded.{specs.Reloading.reload}
-use Rattle.law_history.{specs.History.{Given, past_given, state_given}, proofs.{Asked.call_is_asked, Histories.call_leads_on}}
+use Rattle.law_history.{specs.History.{Given, past_given, state_given}, proofs.{Asked.call_is_asked, Histories.calls_lead_on}}
 use Rattle.pim_router.{specs.{Asked.{LeadsOn, SentIsAsked}, Standing.{Shown, Standing, beginning, standing, with_state}}}
 
 pub step_asked : (s : State) (e : Event) (answer : Result Verdict Refusal) (sent : List Emission)
@@ -34,15 +34,15 @@ asked_by (Some r') now (Ok answer) old new e answered stands sent =
 
 pub step_leads : (s : State) (e : Event) → LeadsOn s (Given.Happening e) (step s e).state
 unfolding state_given
-step_leads s e c before led = call_leads_on c before s (Given.Happening e) led tt
+step_leads s e c before led = calls_lead_on c before (Given.Happening e ∷ []) s led tt
 
 keep_leads : (s : State) (g src m : ℕ) → LeadsOn s (Given.Kept g src m) (keep s g src m)
 unfolding state_given
-keep_leads s g src m c before led = call_leads_on c before s (Given.Kept g src m) led tt
+keep_leads s g src m c before led = calls_lead_on c before (Given.Kept g src m ∷ []) s led tt
 
 reload_leads : (s : State) (d : Config) (w : ℕ) → config_test d ≡ Ok tt → LeadsOn s (Given.Reload d w) (reload s d w).0
 unfolding state_given
-reload_leads s d w accepted c before led = call_leads_on c before s (Given.Reload d w) led (accepted, tt)
+reload_leads s d w accepted c before led = calls_lead_on c before (Given.Reload d w ∷ []) s led (accepted, tt)
 
 pub leads_now : (s : State) (one : Given) (now : Option Standing) (t : Standing) → now ≡ Some t → LeadsOn s one t.state
     → IfSome now (λ after. LeadsOn s one after.state)

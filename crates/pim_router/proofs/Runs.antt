@@ -1,12 +1,11 @@
 -- Runs, event after event.
-use Rattle.std.{proofs.{Common.{◌≡◌, ℕ, Bool, false, Some, suc, ◌+◌, ◌<◌, ◌≤◌, List, [], ◌∷◌, ◌++◌, length, drop, map, get_or, refl, ap, sym, subst, ◌∙◌, append_assoc, append-nil, add-one}, Math.{ListN.drop_of_length-le, Seq.drop-cons}}, specs.Prelude.{IfSome, if◌then◌else◌}}
+use Rattle.std.{proofs.{Common.{◌≡◌, ℕ, Bool, false, Some, suc, ◌+◌, ◌*◌, ◌<◌, ◌≤◌, List, [], ◌∷◌, ◌++◌, length, drop, get_or, refl, ap, sym, subst, ◌∙◌, append_assoc, append-nil, add-one}, Math.{ListN.drop_of_length-le, Seq.drop-cons}}, specs.Prelude.{IfSome, if◌then◌else◌}}
 use Rattle.pim_types.{specs.declared.{event.Event.Event, fact.Key.Key, outcome.Outcome.Outcome, config.Config.Config}}
 use Rattle.law_scope.{specs.Rest.IsAtRest}
-use Rattle.law_promises.{proofs.{Bounded.run_stays_within, Few.counted_stay_bounded}, specs.Bounded.{IsBounded, counted_beside_asserts}}
+use Rattle.law_promises.{specs.Bounded.counted_beside_asserts}
 use Rattle.pim_event.{specs.Replacing.Disturbance}
-use Rattle.pim_model.{specs.{Cause.OutcomesAreAsked, State.{State, opening}, Step.{outcome_of, ran, run, state_after, step}}}
-use Rattle.law_history.{specs.History.{Given, IsLedTo, greatest_limit, past_given}, proofs.{Asked.nothing_flows_unasked_over_reloads, Histories.events_alone_are_a_run, Limits.facts_stay_within_the_greatest}}
-use Rattle.law_restored.{proofs.Restarts.later_state_is_reached}
+use Rattle.pim_model.{specs.{Cause.OutcomesAreAsked, Full.counted, State.{State, opening}, Step.{outcome_of, ran, run, state_after, step}}}
+use Rattle.law_history.{specs.History.{Given, IsLedTo, greatest_count, greatest_limit, past_given}, proofs.{Asked.nothing_flows_unasked_over_reloads, Counts.counted_stay_within_the_greatest, Limits.facts_stay_within_the_greatest}}
 use Rattle.pim_router.{specs.Standing.{Shown, Standing, nothing_shown}, proofs.Shown.stands}
 
 -- what was told with what is left is all of it, and the router is at rest
@@ -89,21 +88,17 @@ is_within shown failed r probes touched changed disturbed events after shows wor
     (λ c before led. subst (λ (s : State). counted_beside_asserts s ≤ greatest_limit c.limit before) (sym are)
     (facts_stay_within_the_greatest c before r.state events led))
 
--- after a run the limit bounds all facts that count, whatever events came before it
+-- after a run the greatest limit bounds all facts that count, by the most interfaces that were configured
 pub is_bounded : (shown : Shown) (failed : Bool) (r : Standing) (probes touched : ℕ) (changed : List Key) (disturbed : Disturbance)
     (events : List Event) (after : State)
     → (if failed then nothing_shown
     else record { standing = Some r; probes = probes; touched = touched; changed = changed; disturbed = disturbed }) ≡ shown
     → failed ≡ false → after ≡ state_after r.state events
-    → IfSome shown.standing (λ x. (c : Config) (before : List Event) → IsLedTo c (map Given.Happening before) x.state
-    → IsBounded c after)
+    → IfSome shown.standing (λ x. (c : Config) (before : List Given) → IsLedTo c before x.state
+    → counted after ≤ greatest_limit c.limit before * (greatest_count (length c.interfaces) before + 1))
 is_bounded shown failed r probes touched changed disturbed events after shows works are =
     stands shown failed r probes touched changed disturbed shows works
-    (λ (s : State). (c : Config) (before : List Event) → IsLedTo c (map Given.Happening before) s → IsBounded c after)
-    (λ c before is. subst (λ (s : State). IsBounded c s)
-    (sym (are ∙ ap (λ (s : State). state_after s events) (is.led ∙ events_alone_are_a_run (opening c) before)
-    ∙ later_state_is_reached (opening c) before events))
-    (record {
-      beside_asserts = run_stays_within c (before ++ events) is.accepted;
-      counted_facts = counted_stay_bounded c (before ++ events) is.accepted;
-    }))
+    (λ (s : State). (c : Config) (before : List Given) → IsLedTo c before s
+    → counted after ≤ greatest_limit c.limit before * (greatest_count (length c.interfaces) before + 1))
+    (λ c before led. subst (λ (s : State). counted s ≤ greatest_limit c.limit before * (greatest_count (length c.interfaces) before + 1))
+    (sym are) (counted_stay_within_the_greatest c before r.state events led))

@@ -1,7 +1,7 @@
 //! The router, as its users call it.
 ghost use Rattle.std.specs.List.Sorted.{IsStrictlySortedBy};
 ghost use Rattle.std.specs.Option.{option_map_or};
-ghost use Rattle.std.specs.Prelude.{◌≡◌, ◌+◌, ◌<◌, ◌≤◌, ◌++◌, ◌↔◌, [], Err, IfErr, IfOk, IfSome, IsOk, IsOkUnless, IsTrue, List, None, Ok, OnErr, OnOk, Some, map, min, option_and_then, true};
+ghost use Rattle.std.specs.Prelude.{◌≡◌, ◌*◌, ◌+◌, ◌<◌, ◌≤◌, ◌++◌, ◌↔◌, [], Err, IfErr, IfOk, IfSome, IsOk, IsOkUnless, IsTrue, List, None, Ok, OnErr, OnOk, Some, length, min, option_and_then, true};
 ghost use Rattle.std.specs.Vec.{vec_capacity, vec_len};
 ghost use Rattle.pim_fanout.specs.Refreshing.{touches};
 ghost use Rattle.pim_mfc.specs.Laws.{ShowsRows, TellsRow};
@@ -18,11 +18,12 @@ ghost use Rattle.pim_event.specs.Listing.{IsLastListed, ListsSame};
 ghost use Rattle.pim_event.specs.Replacing.{may_differ};
 ghost use Rattle.pim_event.specs.Staying.{LastOffersStay, OffersStay};
 ghost use Rattle.pim_fanout.specs.Named.{keys_of};
-ghost use Rattle.law_history.specs.History.{Given, IsLedTo, greatest_limit, past_given};
+ghost use Rattle.law_history.specs.History.{Given, IsLedTo, greatest_count, greatest_limit, past_given};
 ghost use Rattle.pim_router.specs.Asked.{LeadsOn, SentIsAsked};
 ghost use Rattle.law_named.specs.Named.{event_named};
 ghost use Rattle.pim_ip.specs.declared.fault.Fault.{Fault};
 ghost use Rattle.pim_model.specs.Step.{run, step};
+ghost use Rattle.pim_model.specs.Full.{counted};
 ghost use Rattle.pim_model.specs.Limits.{config_test};
 ghost use Rattle.pim_model.specs.State.{opening};
 ghost use Rattle.pim_model.specs.Cause.{OutcomesAreAsked};
@@ -36,11 +37,10 @@ ghost use Rattle.pim_event.specs.Stepping.{Steps};
 ghost use Rattle.pim_router.specs.Standing.{begun, nothing_shown, last_copies, standing, standing_after, with_state};
 ghost use Rattle.pim_types.specs.Keys.{key_cmp};
 ghost use Rattle.pim_types.specs.declared.config.Config.{Config as ConfigValue};
-ghost use Rattle.pim_types.specs.declared.event.Event.{Event as EventValue};
 ghost use Rattle.pim_types.specs.declared.outcome.Emission.{Emission as EmissionValue};
 ghost use Rattle.pim_model.specs.Sure.{needs_no_memory};
 ghost use Rattle.law_scope.specs.Rest.{IsAtRest};
-ghost use Rattle.law_promises.specs.Bounded.{IsBounded, counted_beside_asserts};
+ghost use Rattle.law_promises.specs.Bounded.{counted_beside_asserts};
 
 mod hosts;
 mod reload;
@@ -83,6 +83,7 @@ impl Model for Router {
     ghost use Rattle.law_scope.specs.Rest.{IsAtRest};
     ghost use Rattle.pim_mfc.specs.Laws.{ShowsRows};
     ghost use Rattle.pim_model.specs.Cache.{cached};
+    ghost use Rattle.pim_model.specs.Full.{counted};
     ghost use Rattle.pim_model.specs.Limits.{config_test};
     ghost use Rattle.law_restored.specs.Reload.{config_of};
     ghost use Rattle.pim_router.specs.Standing.{Shown, nothing_shown};
@@ -492,8 +493,8 @@ impl Router {
     /// and reports of a plane, or none, led from the opening of an accepted configuration to the router's state,
     /// nothing flows unasked: each copy of a packet has its cause in an earlier event, of this run or before it. After
     /// such a run the facts that count, without the asserts, are within the greatest limit of the configurations so
-    /// far; and where events alone came before, with the asserts they are at most the limit once for each interface and
-    /// once more.
+    /// far; with the asserts they are at most that limit once for each interface of the configuration that had the
+    /// most, and once more.
     pub fn run(&mut self, events: &[Event]) -> Result<Vec<Outcome>, Fault>
         ensures outcomes { IfSome self.old.standing (λ r. IfOk result (λ outcomes. outcomes.items ≡ run r.state events.now)) }
         ensures state { IfSome self.old.standing (λ r. OnOk result (self.new.standing ≡ Some (standing_after r events.now))) }
@@ -502,8 +503,9 @@ impl Router {
         ensures within { IfSome self.old.standing (λ r. (c : ConfigValue) (before : List Given)
             → IsLedTo c before r.state → IfSome self.new.standing (λ after.
             counted_beside_asserts after.state ≤ greatest_limit c.limit before)) }
-        ensures bounded { IfSome self.old.standing (λ r. (c : ConfigValue) (before : List EventValue)
-            → IsLedTo c (map Given.Happening before) r.state → IfSome self.new.standing (λ after. IsBounded c after.state)) }
+        ensures bounded { IfSome self.old.standing (λ r. (c : ConfigValue) (before : List Given)
+            → IsLedTo c before r.state → IfSome self.new.standing (λ after. counted after.state
+            ≤ greatest_limit c.limit before * (greatest_count (length c.interfaces) before + 1))) }
         ensures cheap { IfSome self.old.standing (λ r. OnOk result
             (IsLastCheap r.state events.now self.new.probes self.new.touched)) }
         ensures changed { IfSome self.old.standing (λ r. OnOk result
