@@ -1,3 +1,4 @@
+pub mod Asked
 pub mod Carried
 pub mod Ports
 pub mod Reloading

@@ -1,8 +1,8 @@
 //! A network over a wire: moves in, outcomes out.
-ghost use Rattle.std.specs.Prelude.{Err, IfErr, IfNone, IfOk, IfSome, IsOk, IsOkUnless, IsSome, List, None, Ok, OnErr, OnOk, Some, [], get_or, is_some, map, option_map, true, ℕ, ◌↔◌, ◌≡◌};
+ghost use Rattle.std.specs.Prelude.{Err, IfErr, IfNone, IfOk, IfSome, IsOk, IsOkUnless, IsSome, None, Ok, OnErr, OnOk, Some, [], get_or, is_some, map, option_map, true, ◌↔◌, ◌≡◌};
 ghost use Rattle.pim_ip.specs.declared.fault.Fault.{Fault};
-ghost use Rattle.law_causes.specs.Networks.{MovesAreAsked};
 ghost use Rattle.pim_model.specs.Network.{network, network_ran, nodes_test};
+ghost use Rattle.pim_net.specs.Asked.{AreAsked, LeadOn};
 ghost use Rattle.pim_net.specs.Carried.{HasMoved, IsPartWay, MovesTo, carried_packet};
 ghost use Rattle.pim_net.specs.Ports.{first_ports};
 ghost use Rattle.pim_net.specs.Reloading.{reloaded_at};
@@ -14,7 +14,6 @@ ghost use Rattle.pim_net.specs.Showing.{move_of, node_of, shown_state, with_stat
 ghost use Rattle.pim_net.specs.declared.unrestored.Unrestored.{Unrestored};
 ghost use Rattle.lab_wires.specs.Wires.{IsFaultOver, failures_after};
 ghost use Rattle.pim_net.specs.declared.moves.Move.{Move};
-ghost use Rattle.pim_types.specs.declared.config.Config.{Config as ConfigValue};
 
 use crate::moves::Move;
 use crate::network::{Network, bad_move};
@@ -85,9 +84,10 @@ impl<W: Wire> Net<W> {
     /// sends the frame's bytes to the receiver's port, and what the wire returns there is the packet that the router
     /// receives; there is no other call of the wire. Without moves no memory is taken, so there is no fault. A fault is
     /// `Memory`, after which the net answers `Failed` from then on; or `Wire`, where the wire failed: then the moves
-    /// before it are done, and the net goes on working. After either the outcomes of the moves before it are lost. In
-    /// the first run of a net over a wire that gives what was sent nothing flows unasked: each copy of a packet has its
-    /// cause among what came to its router before.
+    /// before it are done, and the net goes on working. After either the outcomes of the moves before it are lost. Over
+    /// a wire that gives what was sent nothing flows unasked: whatever events, reloads and restored bytes led a router
+    /// to its state, each copy of a packet has its cause among these and what came to the router in these moves before.
+    /// With what came in these moves they lead to the state after it.
     pub fn run(&mut self, moves: &[Move]) -> Result<NetLog, Fault>
         ensures outcomes { W.is_faithful ≡ true → IfSome self.old.network (λ n. IfOk result (λ log.
             log.items ≡ (network_ran n (map move_of moves.now)).0)) }
@@ -95,9 +95,10 @@ impl<W: Wire> Net<W> {
             (self.new.network ≡ Some (network_ran n (map move_of moves.now)).1)) }
         ensures moves { IfSome self.old.network (λ n. IfOk result (λ log. HasMoved W.is_faithful W.sends W.gives
             self.old.ports n self.old.wire moves.now log.items self.new.network self.new.wire)) }
-        ensures asked { W.is_faithful ≡ true → (nodes : List (ConfigValue × List ℕ)) → nodes_test nodes ≡ Ok tt
-            → self.old.network ≡ Some (network nodes)
-            → IfOk result (λ log. MovesAreAsked nodes (map move_of moves.now) log.items) }
+        ensures asked { W.is_faithful ≡ true → IfSome self.old.network (λ n. IfOk result (λ log.
+            AreAsked n (map move_of moves.now) log.items)) }
+        ensures led { W.is_faithful ≡ true → IfSome self.old.network (λ n. OnOk result (IfSome self.new.network (λ after.
+            LeadOn n (map move_of moves.now) after))) }
         ensures part_way { IfSome self.old.network (λ n. result ≡ Err Fault.Wire → IsPartWay W.is_faithful W.sends W.gives
             self.old.ports n self.old.wire moves.now self.new.network) }
         ensures ports { self.new.ports ≡ self.old.ports }
