@@ -1,17 +1,18 @@
 -- What a call does to a handle and answers, by what the handle had: nothing, a router that has failed, or one that
 -- works.
-use Rattle.std.{specs.{Option.option_map_or, Prelude.{[], Bool, Err, List, None, Ok, Option, Result, Some, drop, false, filter, length, min, nat_lt, true, unwrap_or, ℕ, ◌+◌, ◌≡◌, ◌⊎◌}}}
+use Rattle.std.{specs.{Option.option_map_or, Prelude.{[], Bool, Err, IfSome, List, None, Ok, Option, Result, Some, drop, false, filter, length, min, nat_lt, true, unwrap_or, ℕ, ◌+◌, ◌≡◌, ◌⊎◌}}}
 use Rattle.pim_ip.{specs.{Refusal.refusal_number, declared.refusal.Refusal.Refusal}}
 use Rattle.pim_ifset.{specs.Members.mask_of}
 use Rattle.pim_model.{specs.{Cache.{Answers, cached}, Cause.is_on_link, Judging.last_moment, Limits.config_test, Sets.{Set, is_kept_alive}, State.{State, opening}, Step.step, Unicast.rpf_interface_rp}}
 use Rattle.pim_rows.{specs.{Printed.rows, declared.table.{Row.Row, Table.Table}}}
 use Rattle.law_plane.{specs.{Keeping.keep, Offered.{Offered, offered}}}
+use Rattle.law_history.{specs.History.Given}
 use Rattle.law_named.{specs.Named.event_named}
 use Rattle.pim_event.{specs.{Costs.IsCheap, Disturbing.event_disturbed, Listing.ListsSame, Replacing.may_differ, Staying.OffersStay}}
 use Rattle.pim_rested.{specs.{Refused.restore_refusal_number, Resuming.{IsResumable, restore_test}, declared.refusal.RestoreRefusal.RestoreRefusal}}
 use Rattle.pim_saved.{specs.{Fits.FitsState, Reading.reading, Text.text}}
-use Rattle.pim_router.{specs.Standing.{Standing, begun, nothing_shown, standing, with_state}}
-use Rattle.pim_session.{specs.{Front.{emissions_left, front_after, given, hosts_set, interface_test, is_sure, older_rows, version_set}, Session.ShownSession}}
+use Rattle.pim_router.{specs.{Asked.{LeadsOn, SentIsAsked}, Standing.{Standing, begun, nothing_shown, standing, with_state}}}
+use Rattle.pim_session.{specs.{Front.{emissions_left, front_after, given, hosts_set, interface_test, is_sure, older_rows, version_set}, Leaving.{GoesOnFrom, LeftIsAsked}, Session.ShownSession}}
 use Rattle.igmp_older.{specs.declared.{mode.OlderRow.OlderRow, setting.{OlderHosts.OlderHosts, QueryVersion.QueryVersion}}}
 use Rattle.pim_types.{specs.declared.{config.Config.Config, event.Event.Event, fact.Key.Key, outcome.Emission.Emission}}
 use Rattle.pim_c.{specs.{Told.{answer_number, bytes_in, kept_number, name_of, no_interface_number, older_group_of, set_number, told_packet, written_into}, declared.told.{Forwarding.Forwarding, Interfaces.Interfaces, NamedSource.NamedSource, OlderGroup.OlderGroup, Packet.Packet, PlaneRow.PlaneRow}}}
@@ -29,23 +30,28 @@ abbrev pub lost : ShownSession → ShownSession
 lost s = record s { router = nothing_shown; front = None }
 
 -- What a session shows after an event that had no fault, whether it was done, ignored or refused: by the event as the
--- router was given it.
+-- router was given it. What led to the router's state goes on with that event.
 abbrev pub Went : ShownSession → Standing → Event → ShownSession → Type 0
 Went s r e left = (left.router.standing ≡ Some (standing (step r.state e)))
+    × IfSome left.router.standing (λ after. LeadsOn r.state (Given.Happening e) after.state)
     × IsCheap r.state e left.router.probes left.router.touched
     × ListsSame left.router.changed (event_named r.state e)
     × (left.router.disturbed ≡ event_disturbed r.state e)
     × OffersStay left.router.disturbed r.state (step r.state e).state
     × (left.rows ≡ s.rows) × (left.older_rows ≡ s.older_rows)
 
--- An event goes to the router as it came: no front for older hosts stands before the router.
+-- An event goes to the router as it came: no front for older hosts stands before the router. Each copy that leaves has
+-- its cause in what led to the router's state.
 abbrev pub Taken : ShownSession → Standing → Event → ShownSession → Type 0
 Taken s r e left = Went s r e left × (left.front ≡ s.front) × (left.sent ≡ (step r.state e).emissions)
+    × IfSome left.router.standing (λ after. SentIsAsked r.state e (step r.state e).answer left.sent after.copies)
 
--- An event comes to the router through its front for older hosts, which gives it the event `behind`.
+-- An event comes to the router through its front for older hosts, which gives it the event `behind`. Each copy that
+-- leaves has its cause in what led to the router's state.
 abbrev pub TakenBehind : ShownSession → Standing → Event → Event → ShownSession → Type 0
 TakenBehind s r e behind left = Went s r behind left × (left.front ≡ front_after s.front r.state e)
     × (left.sent ≡ emissions_left s.front (step r.state behind).emissions)
+    × IfSome left.router.standing (λ after. LeftIsAsked s.front r.state behind (step r.state behind).answer left.sent after.copies)
 
 abbrev pub SteppedFrom : ShownSession → Option Standing → Event → ℕ → ShownSession → Type 0
 SteppedFrom s None e answer left = (answer ≡ 41) × (left ≡ lost s)
@@ -88,10 +94,12 @@ Seen (Some s) e answer None = ⊥
 abbrev pub SourceKeptFrom : ShownSession → Option Standing → ℕ → ℕ → ℕ → ℕ → ShownSession → Type 0
 SourceKeptFrom s None source group moment answer left = (answer ≡ 41) × (left ≡ lost s)
 SourceKeptFrom s (Some r) source group moment answer left =
-    ((answer ≡ kept_number (is_kept_alive r.state group source)) × (left ≡ record s { router = with_state s.router r (keep r.state group source (min moment last_moment)) }))
+    ((answer ≡ kept_number (is_kept_alive r.state group source))
+    × (left ≡ record s { router = with_state s.router r (keep r.state group source (min moment last_moment)) })
+    × IfSome left.router.standing (λ after. LeadsOn r.state (Given.Kept group source (min moment last_moment)) after.state))
     ⊎ ((answer ≡ 43) × (left ≡ lost s))
 
--- The source's keepalive timer was moved if it runs, or an allocation failed.
+-- The source's keepalive timer was moved if it runs, with which what led to the router's state goes on, or an allocation failed.
 abbrev pub SourceKept : Option ShownSession → ℕ → ℕ → ℕ → ℕ → Option ShownSession → Type 0
 SourceKept None source group moment answer left = (answer ≡ 50) × (left ≡ None)
 SourceKept (Some s) source group moment answer (Some left) =
@@ -282,9 +290,11 @@ Made old config answer left = MadeBy (config_test config) old config answer left
 
 abbrev pub RestoredBy : Result (Unit {0}) RestoreRefusal → List ℕ → Option ShownSession → ℕ → Option ShownSession → Type 0
 RestoredBy (Ok _) bytes old answer left = (answer ≡ 0) × ((s : State) → reading bytes ≡ Ok s → left ≡ Some (restored_shown s))
+    × IfSome (standing_in left) (λ r. GoesOnFrom bytes r.state)
 RestoredBy (Err refusal) bytes old answer left = (answer ≡ restore_refusal_number refusal) × (left ≡ old)
 
--- A router was made that is in the state that the bytes say, or the bytes were refused, or an allocation failed.
+-- A router was made that is in the state that the bytes say, to which led what led to the state of which they were
+-- saved, or the bytes were refused, or an allocation failed.
 abbrev pub Restored : Option ShownSession → List ℕ → ℕ → Option ShownSession → Type 0
 Restored old bytes answer left = RestoredBy (restore_test bytes) bytes old answer left ⊎ ((answer ≡ 40) × (left ≡ old))
 

@@ -1,20 +1,23 @@
 -- What a reload does to a handle and answers.
-use Rattle.std.{specs.Prelude.{[], Err, None, Ok, Option, Result, Some, ℕ, ◌≡◌, ◌⊎◌}}
+use Rattle.std.{specs.Prelude.{[], Err, IfSome, None, Ok, Option, Result, Some, ℕ, ◌≡◌, ◌⊎◌}}
 use Rattle.pim_event.{specs.Replacing.NoneReplaced}
 use Rattle.pim_ip.{specs.{Refusal.refusal_number, declared.refusal.Refusal.Refusal}}
 use Rattle.pim_model.{specs.Limits.config_test}
+use Rattle.law_history.{specs.History.Given}
 use Rattle.law_reloaded.{specs.Reloading.reload}
 use Rattle.pim_reloader.{specs.Listing.ListsFacts}
-use Rattle.pim_router.{specs.Standing.{Standing, beginning}}
+use Rattle.pim_router.{specs.{Asked.LeadsOn, Standing.{Standing, beginning}}}
 use Rattle.pim_session.{specs.{Front.emissions_left, Reloaded.front_reloaded, Session.ShownSession}}
 use Rattle.pim_types.{specs.declared.config.Config.Config}
 use Rattle.pim_state.{specs.declared.touched.Touched.Touched}
 use Rattle.pim_c.{specs.Called.{Refused, lost}}
 
 -- What a session shows after its router was put under another configuration: what is to be sent is what that sends, all
--- sources with a fact before or after it are listed, all count as disturbed, and no rows are kept.
+-- sources with a fact before or after it are listed, all count as disturbed, and no rows are kept. What led to the
+-- router's state goes on with the reload.
 abbrev pub PutUnder : ShownSession → Standing → Config → ℕ → ShownSession → Type 0
 PutUnder s r config draw left = (left.router.standing ≡ Some (beginning (reload r.state config draw).0))
+    × IfSome left.router.standing (λ after. LeadsOn r.state (Given.Reload config draw) after.state)
     × ListsFacts r.state (reload r.state config draw).0 left.router.changed
     × (left.router.disturbed ≡ record { touched = Touched.All; replaced = NoneReplaced })
     × (left.front ≡ front_reloaded (reload r.state config draw).0 s.front)

@@ -1,7 +1,7 @@
 //! A handle of a router.
 ghost use Rattle.std.specs.List.{slice_get};
 ghost use Rattle.std.specs.Option.{option_map_or};
-ghost use Rattle.std.specs.Prelude.{◌≡◌, ◌<◌, [], Err, IfErr, IfOk, MatchOption, None, Ok, OnErr, Option, Some, false, filter, is_some, length, option_and_then, unwrap_or};
+ghost use Rattle.std.specs.Prelude.{◌≡◌, ◌<◌, [], Err, IfErr, IfOk, IfSome, MatchOption, None, Ok, OnErr, Option, Some, false, filter, is_some, length, option_and_then, unwrap_or};
 ghost use Rattle.pim_fanout.specs.Named.{keys_of};
 ghost use Rattle.pim_ip.specs.declared.fault.Fault.{Fault};
 ghost use Rattle.pim_model.specs.Limits.{config_test};
@@ -16,6 +16,7 @@ ghost use Rattle.law_plane.specs.Seen.{seen_event};
 ghost use Rattle.pim_mfc.specs.Shown.{TellsOffload};
 ghost use Rattle.pim_rested.specs.Resuming.{restore_test};
 ghost use Rattle.pim_saved.specs.Reading.{reading};
+ghost use Rattle.pim_session.specs.Leaving.{GoesOnFrom};
 ghost use Rattle.pim_c.specs.Told.{never};
 ghost use Rattle.pim_c.specs.Rows.{RowTold};
 ghost use Rattle.pim_c.specs.Called.{AnswersTold, CachedTold, HostsSet, HostsSetFrom, SourceKept, SourceKeptFrom, Made, NameTold, OfferTold, OffloadTold, OlderRead, OlderReadFrom, OlderTold, PacketTold, Read, ReadFrom, Refused, Restored, Saved, SavedFrom, Seen, SeenFrom, Stepped, SteppedFrom, VersionSet, VersionSetFrom, changed_in, copies_in, is_copy, lost, may_differ_in, new_shown, older_rows_in, packets_in, probes_in, refused_number, restored_shown, rows_in, standing_in, to_send, touched_in};
@@ -463,6 +464,7 @@ fn boxed(alloc: Global, config: Config) -> Result<Result<Box<Session>, Refusal>,
 fn restored(alloc: Global, bytes: &[u8]) -> Result<Result<Box<Session>, RestoreRefusal>, Fault>
     ensures restored { IfOk result (λ made. IfOk made (λ held. (s : State) → reading bytes.now ≡ Ok s
         → held.value ≡ restored_shown s)) }
+    ensures led { IfOk result (λ made. IfOk made (λ held. IfSome held.value.router.standing (λ r. GoesOnFrom bytes.now r.state))) }
     ensures tested { IfOk result (λ made. IfOk made (λ held. restore_test bytes.now ≡ Ok tt)) }
     ensures refused { IfOk result (λ made. IfErr made (λ refusal. restore_test bytes.now ≡ Err refusal)) }
     ensures memory { IfErr result (λ fault. fault ≡ Fault.Memory) }
