@@ -572,8 +572,8 @@ struct viq_querier {
 /* An interface that is configured. */
 struct viq_link {
     bool is_up;
-    bool is_dr;  /* I_am_DR(I): the router itself is the DR */
-    uint32_t dr; /* DR(I), an address */
+    bool is_dr;  /* I_am_DR(I): the interface is up, and the router itself is the DR */
+    uint32_t dr; /* DR(I), an address; 0 where the interface is down */
     struct viq_querier querier;
 };
 

@@ -248,7 +248,7 @@ fn neighbours(daemon: &mut Daemon) -> Result<Rows, Fatal> {
 
 /// DR(I) of an interface that is up.
 pub fn designated(daemon: &Daemon, port: &Port) -> Option<Ipv4Addr> {
-    Some(daemon.core.link(port.number).filter(|link| link.is_up)?.dr)
+    daemon.core.link(port.number)?.dr
 }
 
 fn interfaces(daemon: &mut Daemon) -> Result<Rows, Fatal> {

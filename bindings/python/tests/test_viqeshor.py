@@ -175,6 +175,8 @@ class Routers(unittest.TestCase):
         self.assertIsNone(router.link(9))
         self.assertIsNotNone(router.neighbour(1, "10.0.1.2"))
         self.assertIsNone(router.neighbour(1, "10.0.1.3"))
+        router.down(1)
+        self.assertEqual(router.link(1)[:3], (False, False, None))
 
     def test_what_a_data_plane_is_told(self):
         router, name = self.joined(), ("10.0.3.5", "225.1.1.1")

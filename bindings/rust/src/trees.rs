@@ -161,10 +161,10 @@ pub struct Querying {
 #[non_exhaustive]
 pub struct Link {
     pub is_up: bool,
-    /// I_am_DR(I): the router itself is the DR.
+    /// I_am_DR(I): the interface is up, and the router itself is the DR.
     pub is_dr: bool,
-    /// DR(I).
-    pub dr: Ipv4Addr,
+    /// DR(I); `None` where the interface is down.
+    pub dr: Option<Ipv4Addr>,
     /// `None` where the interface is down.
     pub querying: Option<Querying>,
 }
@@ -399,7 +399,8 @@ fn querying(of: raw::Querier) -> Option<Querying> {
 
 impl Link {
     pub(crate) fn told(of: raw::Link) -> Link {
-        Link { is_up: of.is_up, is_dr: of.is_dr, dr: of.dr.into(), querying: querying(of.querier) }
+        let dr = of.is_up.then(|| of.dr.into());
+        Link { is_up: of.is_up, is_dr: of.is_dr, dr, querying: querying(of.querier) }
     }
 }
 

@@ -191,15 +191,18 @@ fn what_the_trees_are() {
 
 #[test]
 fn what_the_links_are() {
-    let router = joined();
+    let mut router = joined();
     let link = router.link(1).unwrap();
-    assert_eq!((link.is_up, link.is_dr, link.dr), (true, false, address([10, 0, 1, 2])));
+    assert_eq!((link.is_up, link.is_dr, link.dr), (true, false, Some(address([10, 0, 1, 2]))));
     let querying = link.querying.unwrap();
     assert!(matches!(querying.querier, Querier::Own { .. }));
     assert_eq!((querying.robustness, querying.query_interval), (2, 125));
     assert_eq!(router.link(9), None);
     assert!(router.neighbour(1, address([10, 0, 1, 2])).is_some());
     assert_eq!(router.neighbour(1, address([10, 0, 1, 3])), None);
+    assert_eq!(router.down(1, 0), DONE);
+    let link = router.link(1).unwrap();
+    assert_eq!((link.is_up, link.is_dr, link.dr), (false, false, None));
 }
 
 #[test]

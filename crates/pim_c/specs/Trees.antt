@@ -1,5 +1,5 @@
 -- What C reads of the router's trees and links.
-use Rattle.std.{specs.Prelude.{Bool, None, Option, Some, false, option_and_then, option_map, true, unwrap_or, ℕ, ◌≡◌}}
+use Rattle.std.{specs.{Option.option_map_or, Prelude.{Bool, None, Option, Some, false, option_and_then, option_map, true, unwrap_or, ℕ, ◌≡◌}}}
 use Rattle.pim_ip.{specs.declared.{addr.Addr.Addr, lan.LanDelay.LanDelay}}
 use Rattle.pim_ifset.{specs.Members.has}
 use Rattle.pim_types.{specs.declared.{fact.{QuerierRole.QuerierRole, QuerierRow.QuerierRow}, path.{Hop.Hop, Path.Path}, upstream.TreeState.TreeState}}
@@ -99,7 +99,7 @@ querier_of None = record { role = 0; end = never; startup_left = 0; robustness =
 querier_of (Some r) = querier_in r.robustness r.query_interval r.role
 
 abbrev pub link_of : Link → ToldLink
-link_of l = record { is_up = l.is_up; is_dr = l.is_dr; dr = (l.dr).bits; querier = querier_of l.querier }
+link_of l = record { is_up = l.is_up; is_dr = l.is_dr; dr = option_map_or (λ (a : Addr). a.bits) l.dr 0; querier = querier_of l.querier }
 
 abbrev pub lan_delay_of : Option LanDelay → ToldLanDelay
 lan_delay_of None = record { is_there = false; can_track = false; propagation_delay = 0; override_interval = 0 }

@@ -106,6 +106,7 @@ pub struct ToldQuerier {
 pub struct ToldLink {
     pub is_up: bool,
     pub is_dr: bool,
+    /// 0 where the interface is down.
     pub dr: u32,
     pub querier: ToldQuerier,
 }
@@ -322,7 +323,7 @@ fn link(link: Link) -> ToldLink
     ToldLink {
         is_up: link.is_up,
         is_dr: link.is_dr,
-        dr: link.dr.bits,
+        dr: link.dr.map_or(0, |dr| dr.bits),
         querier: querier(link.querier),
     }
 }

@@ -1,5 +1,5 @@
 -- What the router tells of an interface: its DR, its querier, and its neighbours. Sections are those of RFC 7761.
-use Rattle.std.{specs.Prelude.{Bool, Option, fold, if◌then◌else◌, option_map, unwrap_or, ℕ}}
+use Rattle.std.{specs.Prelude.{Bool, None, Option, Some, fold, ◌&&◌, if◌then◌else◌, option_map, unwrap_or, ℕ}}
 use Rattle.pim_ip.{specs.Addr.addr}
 use Rattle.pim_types.{specs.{Keys.{iface_key, neighbour_key, source_in}, declared.{config.InterfaceConfig.InterfaceConfig, fact.{Key.Key, NeighbourRow.NeighbourRow}}}}
 use Rattle.pim_model.{specs.{Neighbours.{all_have_priority, is_better_dr, is_dr, neighbours_on}, State.{State, iface_config, is_up, my_address, my_priority}, Tables.{Table, row_at}}}
@@ -21,13 +21,13 @@ unfoldable pub dr : State → ℕ → ℕ
 dr s i =
     (dr_among (record { priority = my_priority s i; address = addr (my_address s i) }) (neighbours_on s i)).address.bits
 
--- what is told of an interface that is configured
+-- What is told of an interface that is configured. On one that is down nobody is the DR, as nobody queries there.
 unfoldable pub link : State → ℕ → Option Link
 link s i =
     option_map (λ (c : InterfaceConfig). record {
       is_up = is_up s i;
-      dr = addr (dr s i);
-      is_dr = is_dr s i;
+      dr = if is_up s i then Some (addr (dr s i)) else None;
+      is_dr = is_up s i && is_dr s i;
       querier = row_at s.queriers (iface_key i);
     }) (iface_config s i)
 

@@ -15,9 +15,9 @@ pub struct Link {
     /// Whether the interface is up.
     pub is_up: bool,
     /// DR(I): the address of the designated router (RFC 7761, section 4.3.2). Where no neighbour is better, it is the
-    /// router's own.
-    pub dr: Addr,
-    /// I_am_DR(I): the router itself is the DR.
+    /// router's own. `None` where the interface is down, on which nobody is elected.
+    pub dr: Option<Addr>,
+    /// I_am_DR(I) of an interface that is up: the router itself is the DR.
     pub is_dr: bool,
     /// Who queries on the interface, with the values in force (RFC 3376, section 6.6.2); `None` where it is down.
     pub querier: Option<QuerierRow>,
@@ -108,10 +108,16 @@ impl Link {
             priority: own.priority,
             address: own.address,
         };
+        let is_up = world.interfaces().is_up(iface);
+        let dr = if is_up {
+            Some(dr_among(world.neighbours(), iface, me).address)
+        } else {
+            None
+        };
         Some(Link {
-            is_up: world.interfaces().is_up(iface),
-            dr: dr_among(world.neighbours(), iface, me).address,
-            is_dr: world.is_dr(iface),
+            is_up,
+            dr,
+            is_dr: is_up && world.is_dr(iface),
             querier: world.membership().querier(iface),
         })
     }

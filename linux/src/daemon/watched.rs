@@ -166,7 +166,7 @@ impl Daemon {
     /// Says where another router serves the hosts of a link.
     fn watch_designated(&mut self) {
         for number in 0..self.ports.len() as u32 {
-            let dr = self.core.link(number).filter(|link| link.is_up).map(|link| link.dr);
+            let dr = self.core.link(number).and_then(|link| link.dr);
             let before = match dr {
                 Some(dr) => self.designated.insert(number, dr),
                 None => self.designated.remove(&number),

@@ -216,10 +216,10 @@ class Querier(NamedTuple):
 
 
 class Link(NamedTuple):
-    """An interface that is configured: whether it is up, I_am_DR(I), DR(I), and who queries."""
+    """An interface that is configured: whether it is up, I_am_DR(I), DR(I) if it is up, and who queries."""
     is_up: bool
     is_dr: bool
-    dr: str
+    dr: str | None
     querier: Querier
 
 
@@ -261,7 +261,7 @@ def link_of(told: ToldLink) -> Link:
     it = told.querier
     end = None if it.end == NEVER else it.end
     querier = Querier(QUERIERS[it.role], end, it.startup_left, it.robustness, it.query_interval)
-    return Link(told.is_up, told.is_dr, dotted(told.dr), querier)
+    return Link(told.is_up, told.is_dr, dotted(told.dr) if told.is_up else None, querier)
 
 
 def neighbour_of(told: ToldNeighbour) -> Neighbour:
