@@ -7,7 +7,8 @@ from collections.abc import Sequence
 from difflib import get_close_matches
 
 USAGE = """\
-usage: pimlab run FILE [--wire memory|udp] [--tables] [--tables-each] [--from ROUTER=IN] [--save ROUTER=OUT]
+usage: pimlab run FILE [--wire memory|udp] [--tables] [--tables-each] [--from ROUTER=IN ..]
+                       [--save ROUTER=OUT ..]
        pimlab check FILE"""
 WORDS = ["run", "check", "--wire", "--tables", "--tables-each", "--from", "--save", "--help", "--version"]
 

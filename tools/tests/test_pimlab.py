@@ -91,8 +91,12 @@ class Called(unittest.TestCase):
 
     def test_saved_states_that_are_refused(self):
         run = ("run", stored.DATA / "to_the_shortest_path_tree.toml")
-        for words in (("--from", "r"), ("--save", "nobody=/dev/null"), ("--from", "nobody=/dev/null")):
-            self.assertEqual(called(*run, *words), (2, b"", b"pimlab: command line refused\n"))
+        self.assertEqual(called(*run, "--from", "r"), (2, b"", b"pimlab: command line refused\n"))
+        for words in (("--save", "nobody=/dev/null"), ("--from", "nobody=/dev/null"),
+                      ("--save", "r=/dev/null", "--save", "nobody=/dev/null")):
+            self.assertEqual(called(*run, *words), (2, b"", b"pimlab: no router nobody\n"))
+        status, _, said = called(*run, "--save", "r=/nowhere/r")
+        self.assertEqual((status, said), (3, b"pimlab: cannot write /nowhere/r\n"))
         self.assertEqual(called(*run, "--from", "r=/dev/null"), (2, b"", b"pimlab: saved state refused: 62\n"))
         self.assertEqual(called(*run, "--from", "r=not there"), (2, b"", b"pimlab: cannot read not there\n"))
         with tempfile.TemporaryDirectory() as room:

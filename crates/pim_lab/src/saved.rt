@@ -1,4 +1,4 @@
-//! Scenarios in which a router begins in a saved state, or in which one's state is saved at the end.
+//! Scenarios in which routers begin in saved states, or in which the states of some are saved at the end.
 ghost use Rattle.std.specs.Prelude.{◌≡◌, ◌⊎◌};
 ghost use Rattle.pim_lab.specs.Statuses.{IsAccepted};
 
@@ -18,27 +18,31 @@ pub struct Begin<'a> {
     pub bytes: &'a [u8],
 }
 
-/// Which router begins in a saved state, and the state of which is saved at the end.
+/// Which routers begin in saved states, and whose states are saved at the end.
 #[derive(Clone, Copy)]
 pub struct States<'a> {
-    pub from: Option<Begin<'a>>,
-    pub save: Option<&'a str>,
+    pub from: &'a [Begin<'a>],
+    pub save: &'a [&'a str],
 }
 
 /// What ends a run from saved states, or to one, before its end.
 #[derive(Clone, Copy)]
-enum Stop {
+enum Stop<'a> {
     Trouble(Trouble),
+    /// The scenario has no router of this name.
+    NoRouter(&'a str),
     Unrestored(Unrestored),
 }
 
-impl Stop {
+impl Stop<'_> {
     // Writes the message, and returns the status of the program.
     fn tell<E: Write>(self, err: &mut E) -> u8
         ensures { (result ≡ 2) ⊎ (result ≡ 3) ⊎ (result ≡ 4) }
     {
         match self {
             Stop::Trouble(trouble) => trouble.tell(err),
+            Stop::NoRouter(name) => Complaint::Router(name).tell(err),
+            // Each name was looked up before.
             Stop::Unrestored(Unrestored::NoRouter) => Complaint::CommandLine.tell(err),
             Stop::Unrestored(Unrestored::OtherInterfaces) => {
                 told(err.writeln("pimlab: saved state has other interfaces"))
@@ -61,50 +65,51 @@ fn told(written: io::Result<()>) -> u8
     }
 }
 
-impl From<Trouble> for Stop {
+impl From<Trouble> for Stop<'_> {
     ghost use Rattle.std.specs.Prelude.{◌≡◌};
     ghost use Rattle.pim_lab.specs.declared.saved.Stop.{Stop};
 
     ghost from_gives = { λ trouble stop. stop ≡ Stop.Trouble trouble };
 
-    fn from(trouble: Trouble) -> Stop {
+    fn from(trouble: Trouble) -> Self {
         Stop::Trouble(trouble)
     }
 }
 
-impl From<Fault> for Stop {
+impl From<Fault> for Stop<'_> {
     ghost use Rattle.std.specs.Prelude.{◌≡◌};
     ghost use Rattle.pim_lab.specs.declared.saved.Stop.{Stop};
     ghost use Rattle.lab_stations.specs.declared.trouble.Trouble.{Trouble};
 
     ghost from_gives = { λ fault stop. stop ≡ Stop.Trouble (Trouble.Fault fault) };
 
-    fn from(fault: Fault) -> Stop {
+    fn from(fault: Fault) -> Self {
         Stop::Trouble(Trouble::Fault(fault))
     }
 }
 
-impl From<Unrestored> for Stop {
+impl From<Unrestored> for Stop<'_> {
     ghost use Rattle.std.specs.Prelude.{◌≡◌};
     ghost use Rattle.pim_lab.specs.declared.saved.Stop.{Stop};
 
     ghost from_gives = { λ why stop. stop ≡ Stop.Unrestored why };
 
-    fn from(why: Unrestored) -> Stop {
+    fn from(why: Unrestored) -> Self {
         Stop::Unrestored(why)
     }
 }
 
-/// As [`play_with`](crate::playing::play_with), but a router may begin in a saved state, and the state of one may be added
-/// to `saved` at the end. A router by a name that the scenario doesn't have, and a saved state that isn't taken, are
-/// refused before the first move, with status 2.
+/// As [`play_with`](crate::playing::play_with), but routers may begin in saved states, and the states of some may be added
+/// to `saved` at the end, in the order in which they are asked for. A router by a name that the scenario doesn't have, and
+/// a saved state that isn't taken, are refused before the first move, with status 2. A router that is named twice begins
+/// in the last state that is given for it.
 pub fn play_saved<W: Wire, O: Write, E: Write>(
     alloc: Global,
     text: &str,
     wire: W,
     tables: Tables,
     states: States<'_>,
-    saved: &mut Vec<u8>,
+    saved: &mut Vec<Vec<u8>>,
     out: &mut O,
     err: &mut E,
 ) -> u8
@@ -122,49 +127,57 @@ pub fn play_saved<W: Wire, O: Write, E: Write>(
 }
 
 // Does the moves between the two states. What can fail borrows the lab, so the lab is dropped in one place.
-fn run_saved<W: Wire, O: Write>(
+fn run_saved<'a, W: Wire, O: Write>(
     alloc: Global,
     lab: Lab<W>,
     moves: Series<ScenarioMove>,
     tables: bool,
-    states: States<'_>,
-    saved: &mut Vec<u8>,
+    states: States<'a>,
+    saved: &mut Vec<Vec<u8>>,
     out: &mut O,
-) -> Result<(), Stop> {
+) -> Result<(), Stop<'a>> {
     let mut lab = lab;
     let mut lines = Lines::new(alloc);
-    run_between(&mut lab, moves, tables, states, saved, &mut lines, out)
+    start(&mut lab, states)?;
+    make_moves(&mut lab, moves, &mut lines, out)?;
+    if tables {
+        print_tables(&lab, &mut lines, out)?;
+    }
+    save(alloc, &lab, states.save, saved)?;
+    Ok(())
 }
 
-fn run_between<W: Wire, O: Write>(
-    lab: &mut Lab<W>,
-    moves: Series<ScenarioMove>,
-    tables: bool,
-    states: States<'_>,
-    saved: &mut Vec<u8>,
-    lines: &mut Lines,
-    out: &mut O,
-) -> Result<(), Stop> {
-    start(lab, states)?;
-    make_moves(lab, moves, lines, out)?;
-    if tables {
-        print_tables(lab, lines, out)?;
-    }
-    if let Some(router) = states.save {
-        lab.save(router, saved)?;
+// Puts routers into their saved states. A name that no router has is refused, also of a router to be saved.
+fn start<'a, W: Wire>(lab: &mut Lab<W>, states: States<'a>) -> Result<(), Stop<'a>> {
+    find(lab, states.save)?;
+    for begin in states.from {
+        find(lab, &[begin.router])?;
+        lab.restore(begin.router, begin.bytes)??;
     }
     Ok(())
 }
 
-// Puts a router into its saved state. A name that no router has is refused, also of the router to be saved.
-fn start<W: Wire>(lab: &mut Lab<W>, states: States<'_>) -> Result<(), Stop> {
-    if let Some(router) = states.save {
-        if lab.place_of(router).is_none() {
-            return Err(Stop::Unrestored(Unrestored::NoRouter));
+// Refuses a name that no router has.
+fn find<'a, W: Wire>(lab: &Lab<W>, names: &[&'a str]) -> Result<(), Stop<'a>> {
+    for name in names {
+        if lab.place_of(name).is_none() {
+            return Err(Stop::NoRouter(name));
         }
     }
-    if let Some(from) = states.from {
-        lab.restore(from.router, from.bytes)??;
+    Ok(())
+}
+
+// Adds the states of routers to those that are saved.
+fn save<W: Wire>(
+    alloc: Global,
+    lab: &Lab<W>,
+    names: &[&str],
+    saved: &mut Vec<Vec<u8>>,
+) -> Result<(), Fault> {
+    for name in names {
+        let mut bytes = Vec::new(alloc);
+        lab.save(name, &mut bytes)?;
+        saved.push(bytes)?;
     }
     Ok(())
 }

@@ -1,5 +1,5 @@
 -- What the parse of a command line gives, in the words of its meaning.
-use Rattle.std.{proofs.{Common.{◌≡◌, ◌≢◌, ◌∙◌, sym, ap, subst, refl, true, List, [], ◌∷◌, Option, None, Result, IfOk}, lemmas.Result.IfOk-weaker}}
+use Rattle.std.{proofs.{Common.{◌≡◌, ◌≢◌, ◌∙◌, sym, ap, subst, refl, true, Bor, List, [], ◌∷◌, map, Option, None, Some, option_map, unwrap_or, Result, IfOk}, lemmas.Result.IfOk-weaker}}
 use Rattle.clap.{specs.{Words.{App, Text, Kinds, HasKind, HasMatchesOf, is_simple, is_simple_and_free, fault_of, subcommand_of, subcommand_rows_of}, declared.{parser.matches.ArgMatches.ArgMatches, error.Error.Error}}, proofs.{OnLiterals.clap_on_literals, WalkLemmas.IfOk-both}}
 use Rattle.pim_ip.{specs.declared.fault.Fault.Fault}
 use Rattle.pim_scenario.{specs.{declared.command_line.Answer.Answer, CommandLine.{Meaning, pimlab_app, meaning_of, meaning_unless, meant_by, words_in, CanAnswer}}}
@@ -57,3 +57,16 @@ pub untaken_answer : (r : Result Answer Fault) (a : App) (words : List Text) (x 
     → IfOk r (λ y. CanAnswer y (fault_of pimlab_app words))
 untaken_answer r a words x e kinds answers =
     IfOk-weaker r _ _ (λ y all. (all _ (has_kind a words x e kinds)).1) answers
+
+-- ---- all values of an option
+
+-- what is read of an option with values, and of one without
+pub some_values : (o : Option (Bor (List (Bor Text)))) (given : Bor (List (Bor Text))) (t : Option (List Text)) → o ≡ Some given
+    → option_map (λ s. map (λ v. v.now) s.now) o ≡ t → map (λ v. v.now) given.now ≡ unwrap_or t []
+some_values o given t is e =
+    ap (λ (x : Option (List Text)). unwrap_or x []) (sym (ap (option_map (λ s. map (λ v. v.now) s.now)) is) ∙ e)
+
+pub no_values : (o : Option (Bor (List (Bor Text)))) (t : Option (List Text)) → o ≡ None
+    → option_map (λ s. map (λ v. v.now) s.now) o ≡ t → [] ≡ unwrap_or t []
+no_values o t is e =
+    ap (λ (x : Option (List Text)). unwrap_or x []) (sym (ap (option_map (λ s. map (λ v. v.now) s.now)) is) ∙ e)

@@ -1,6 +1,6 @@
 -- What the words of the command line mean, by clap's rules for a simple command.
-use Rattle.std.{specs.{Prelude.{◌≡◌, ◌≢◌, Bool, true, false, List, [], ◌∷◌, codes, Option, Some, None, option_map, option_and_then, if◌then◌else◌}, Option.option_map_or, Str.bytes_eq}}
-use Rattle.clap.{specs.{Words.{App, Row, Rule, Text, Kinds, IsAmong, first_of, new_app, new_rule, with_rule, with_subcommand, fault_of, subcommand_of}, declared.{builder.action.ArgAction.TheVariants.SetTrue, error.kind.ErrorKind.TheVariants.DisplayHelp}}}
+use Rattle.std.{specs.{Prelude.{◌≡◌, ◌≢◌, Bool, true, false, List, [], ◌∷◌, codes, Option, Some, None, option_map, option_and_then, map, unwrap_or, if◌then◌else◌}, Option.option_map_or, Str.bytes_eq}}
+use Rattle.clap.{specs.{Words.{App, Row, Rule, Text, Kinds, IsAmong, all_of, first_of, new_app, new_rule, with_rule, with_subcommand, fault_of, subcommand_of}, declared.{builder.action.ArgAction.TheVariants.{Append, SetTrue}, error.kind.ErrorKind.TheVariants.DisplayHelp}}}
 use Rattle.pim_scenario.{specs.declared.command_line.{Answer.{Answer, TheVariants.{Accepted, Refused, Help}}, Command.{Command, TheVariants.{Run, Check}}, Tables.Tables, Words.Words, WireKind.{WireKind, TheVariants.{Memory, Udp}}}}
 
 -- ---- the commands, as clap sees them
@@ -31,12 +31,14 @@ abbrev pub from_rule : Rule
 from_rule = record (new_rule (codes "from")) {
   long = Some (codes "from");
   value_names = 1;
+  action = Some Append;
 }
 
 abbrev pub save_rule : Rule
 save_rule = record (new_rule (codes "save")) {
   long = Some (codes "save");
   value_names = 1;
+  action = Some Append;
 }
 
 abbrev pub shown_app : App
@@ -55,7 +57,7 @@ top_app =
     let a = new_app (codes "pimlab") in
     record a { top = record a.top { subcommand_required = true } }
 
--- `pimlab run FILE [--wire memory|udp] [--tables] [--tables-each] [--from ROUTER=FILE] [--save ROUTER=FILE]` and
+-- `pimlab run FILE [--wire memory|udp] [--tables] [--tables-each] [--from ROUTER=FILE ..] [--save ROUTER=FILE ..]` and
 -- `pimlab check FILE`
 abbrev pub pimlab_app : App
 pimlab_app = with_subcommand (with_subcommand top_app run_app.top) check_app.top
@@ -68,8 +70,8 @@ pub record Meaning : Type 0 where
   pub file : Text
   pub wire : WireKind
   pub tables : Tables
-  pub from : Option Text
-  pub save : Option Text
+  pub from : List Text
+  pub save : List Text
 
 abbrev pub command_named : Text → Option Command
 command_named name =
@@ -87,6 +89,10 @@ wire_named (Some name) =
 abbrev pub is_set : Text → List Row → Bool
 is_set id rows = option_map_or (λ t. bytes_eq t (codes "true")) (first_of id rows) false
 
+-- the values of an option, of all its uses
+abbrev pub all_values : Text → List Row → List Text
+all_values id rows = unwrap_or (all_of id rows) []
+
 -- The meaning of the rows of a subcommand.
 abbrev pub meant_in : Text → List Row → Option Meaning
 meant_in name rows =
@@ -100,8 +106,8 @@ meant_in name rows =
         after_each = is_set (codes "tables-each") rows;
         at_end = is_set (codes "tables") rows;
       };
-      from = first_of (codes "from") rows;
-      save = first_of (codes "save") rows;
+      from = all_values (codes "from") rows;
+      save = all_values (codes "save") rows;
     }) (first_of (codes "FILE") rows))
     (wire_named (first_of (codes "wire") rows)))
     (command_named name)
@@ -127,8 +133,8 @@ meaning_in w = record {
   file = w.file.now;
   wire = w.wire;
   tables = w.tables;
-  from = option_map (λ t. t.now) w.from;
-  save = option_map (λ t. t.now) w.save;
+  from = map (λ t. t.now) w.from.items;
+  save = map (λ t. t.now) w.save.items;
 }
 
 -- The words of an answer.

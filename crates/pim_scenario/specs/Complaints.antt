@@ -14,6 +14,8 @@ fault_status Wire = 3
 abbrev pub status_of : Complaint → ℕ
 status_of complaint.CommandLine = 2
 status_of (complaint.File name) = 2
+status_of (complaint.Unwritten name) = 3
+status_of (complaint.Router name) = 2
 status_of (complaint.Scenario refusal) = 2
 status_of (complaint.Fault fault) = fault_status fault
 
@@ -27,6 +29,8 @@ fault_text Wire = codes "pimlab: wire fault"
 abbrev pub complaint_text : Complaint → List ℕ
 complaint_text complaint.CommandLine = codes "pimlab: command line refused"
 complaint_text (complaint.File name) = codes "pimlab: cannot read " ++ name.now
+complaint_text (complaint.Unwritten name) = codes "pimlab: cannot write " ++ name.now
+complaint_text (complaint.Router name) = codes "pimlab: no router " ++ name.now
 complaint_text (complaint.Scenario refusal) =
     codes "pimlab: scenario refused: " ++ decimal (refusal_number refusal)
 complaint_text (complaint.Fault fault) = fault_text fault

@@ -1,12 +1,12 @@
-//! The command line: `pimlab run FILE [--wire memory|udp] [--tables] [--tables-each] [--from ROUTER=FILE]
-//! [--save ROUTER=FILE]` and `pimlab check FILE`.
+//! The command line: `pimlab run FILE [--wire memory|udp] [--tables] [--tables-each] [--from ROUTER=FILE ..]
+//! [--save ROUTER=FILE ..]` and `pimlab check FILE`.
 ghost use Rattle.std.specs.Prelude.{◌≡◌, ◌≢◌, [], map, option_map, None, IfOk, IfErr, false};
 ghost use Rattle.clap.specs.Words.{app_of, fault_of, rule_of, subcommand_rows_of, HasKind, Kinds};
 ghost use Rattle.clap.specs.Words.{first_of, found_of, new_app, rows_of, with_rule, with_subcommand};
 ghost use Rattle.clap.specs.declared.builder.command.Command.TheViews.{out-Command};
 ghost use Rattle.pim_scenario.specs.CommandLine.{pimlab_app, top_app, run_app, check_app, file_rule, from_rule, save_rule, shown_app, wire_rule, tables_rule, tables_each_rule};
 ghost use Rattle.pim_scenario.specs.CommandLine.{words_in, meaning_in, meaning_of, meant_by, meant_in, CanAnswer};
-ghost use Rattle.pim_scenario.specs.CommandLine.{command_named, wire_named, is_set};
+ghost use Rattle.pim_scenario.specs.CommandLine.{all_values, command_named, wire_named, is_set};
 
 use clap::error::ErrorKind;
 use clap::{Arg, ArgAction, ArgMatches};
@@ -40,17 +40,17 @@ pub struct Tables {
 }
 
 /// The words of a command line that was accepted.
-#[derive(Clone, Copy)]
+#[derive(Drop)]
 pub struct Words<'a> {
     pub command: Command,
     /// The scenario's file; `-` is standard input.
     pub file: &'a str,
     pub wire: WireKind,
     pub tables: Tables,
-    /// The router that begins in a saved state, and the state's file: `ROUTER=FILE`.
-    pub from: Option<&'a str>,
-    /// The router whose state is saved at the end, and the state's file: `ROUTER=FILE`.
-    pub save: Option<&'a str>,
+    /// The routers that begin in a saved state, each with the state's file: `ROUTER=FILE`.
+    pub from: Vec<&'a str>,
+    /// The routers whose states are saved at the end, each with the state's file: `ROUTER=FILE`.
+    pub save: Vec<&'a str>,
 }
 
 /// What a command line means.
@@ -73,7 +73,7 @@ pub fn read_words<'a>(alloc: Global, words: &'a [&'a str]) -> Result<Answer<'a>,
 {
     let command = pimlab_command(alloc)?;
     match command.try_get_matches_from(words) {
-        Ok(matches) => Ok(accepted(&matches)),
+        Ok(matches) => accepted(alloc, &matches),
         Err(error) => unaccepted(alloc, &error),
     }
 }
@@ -189,6 +189,7 @@ fn from_argument<'a>(alloc: Global) -> Arg<'a>
     Arg::new(alloc, "from")
         .long("from")
         .value_name("ROUTER=FILE")
+        .action(ArgAction::Append)
         .help("The router begins in the state saved in FILE")
 }
 
@@ -199,41 +200,53 @@ fn save_argument<'a>(alloc: Global) -> Arg<'a>
     Arg::new(alloc, "save")
         .long("save")
         .value_name("ROUTER=FILE")
+        .action(ArgAction::Append)
         .help("Saves the router's state in FILE at the end")
 }
 
-/// What the matches say. An option's value that clap doesn't judge is refused here.
-fn accepted<'a>(matches: &ArgMatches<'a>) -> Answer<'a>
-    ensures meant { words_in result ≡ meant_by (subcommand_rows_of matches.now) }
-    ensures no_help { CanAnswer result [] }
+/// What the matches say. An option's value that clap doesn't judge is refused here. The only fault is want of memory.
+fn accepted<'a>(alloc: Global, matches: &ArgMatches<'a>) -> Result<Answer<'a>, Fault>
+    ensures meant { IfOk result (λ a. words_in a ≡ meant_by (subcommand_rows_of matches.now)) }
+    ensures no_help { IfOk result (λ a. CanAnswer a []) }
+    ensures memory { IfErr result (λ e. e ≡ Fault.Memory) }
 {
-    match matches.subcommand() {
-        Some((name, inner)) => match words_of(name, inner) {
-            Some(words) => Answer::Accepted(words),
-            None => Answer::Refused,
-        },
-        None => Answer::Refused,
+    let Some((name, inner)) = matches.subcommand() else {
+        return Ok(Answer::Refused);
+    };
+    match words_of(alloc, name, inner)? {
+        Some(words) => Ok(Answer::Accepted(words)),
+        None => Ok(Answer::Refused),
     }
 }
 
-fn words_of<'a>(name: &str, matches: &ArgMatches<'a>) -> Option<Words<'a>>
-    ensures { option_map meaning_in result ≡ meant_in name.now (rows_of (found_of matches.now)) }
+fn words_of<'a>(
+    alloc: Global,
+    name: &str,
+    matches: &ArgMatches<'a>,
+) -> Result<Option<Words<'a>>, AllocError>
+    ensures words { IfOk result (λ words. option_map meaning_in words ≡ meant_in name.now (rows_of (found_of matches.now))) }
 {
-    let command = command_named(name)?;
-    let wire = wire_named(value_of(matches, "wire"))?;
-    let file = value_of(matches, "FILE")?;
+    let Some(command) = command_named(name) else {
+        return Ok(None);
+    };
+    let Some(wire) = wire_named(value_of(matches, "wire")) else {
+        return Ok(None);
+    };
+    let Some(file) = value_of(matches, "FILE") else {
+        return Ok(None);
+    };
     let tables = Tables {
         after_each: is_set(matches, "tables-each"),
         at_end: is_set(matches, "tables"),
     };
-    Some(Words {
+    Ok(Some(Words {
         command,
         file,
         wire,
         tables,
-        from: value_of(matches, "from"),
-        save: value_of(matches, "save"),
-    })
+        from: values_of(alloc, matches, "from")?,
+        save: values_of(alloc, matches, "save")?,
+    }))
 }
 
 /// Whether an option that takes no value is given.
@@ -248,6 +261,23 @@ fn value_of<'a>(matches: &ArgMatches<'a>, id: &str) -> Option<&'a str>
     ensures { option_map (λ v. v.now) result ≡ first_of id.now (rows_of (found_of matches.now)) }
 {
     matches.get_str(id)
+}
+
+/// All values of an argument, in the order in which they are given.
+fn values_of<'a>(
+    alloc: Global,
+    matches: &ArgMatches<'a>,
+    id: &str,
+) -> Result<Vec<&'a str>, AllocError>
+    ensures { IfOk result (λ values. map (λ v. v.now) values.items
+        ≡ all_values id.now (rows_of (found_of matches.now))) }
+{
+    let mut values = Vec::new(alloc);
+    let Some(given) = matches.get_strs(id) else {
+        return Ok(values);
+    };
+    values.extend_from_slice(given)?;
+    Ok(values)
 }
 
 fn command_named(name: &str) -> Option<Command>

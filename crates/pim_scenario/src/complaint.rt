@@ -15,6 +15,10 @@ pub enum Complaint<'a> {
     CommandLine,
     /// The file of this name can't be read, or is no text.
     File(&'a str),
+    /// The file of this name can't be written.
+    Unwritten(&'a str),
+    /// The scenario has no router of this name.
+    Router(&'a str),
     /// The scenario is refused.
     Scenario(Refusal),
     Fault(Fault),
@@ -22,14 +26,17 @@ pub enum Complaint<'a> {
 
 impl Complaint<'_> {
     /// The status with which the program ends: 2 where its input is refused, 3 after a fault of the
-    /// wire, 4 for want of memory.
+    /// wire and where a file can't be written, 4 for want of memory.
     pub fn status(self) -> u8
         ensures { result ≡ status_of self.entry }
     {
         match self {
-            Complaint::Fault(Fault::Wire) => 3,
+            Complaint::Fault(Fault::Wire) | Complaint::Unwritten(_) => 3,
             Complaint::Fault(Fault::Memory | Fault::Failed) => 4,
-            Complaint::CommandLine | Complaint::File(_) | Complaint::Scenario(_) => 2,
+            Complaint::CommandLine
+            | Complaint::File(_)
+            | Complaint::Router(_)
+            | Complaint::Scenario(_) => 2,
         }
     }
 
@@ -61,6 +68,8 @@ impl fmt::Display for Complaint<'_> {
         match self {
             Complaint::CommandLine => write!(f, "pimlab: command line refused"),
             Complaint::File(name) => write!(f, "pimlab: cannot read {name}"),
+            Complaint::Unwritten(name) => write!(f, "pimlab: cannot write {name}"),
+            Complaint::Router(name) => write!(f, "pimlab: no router {name}"),
             Complaint::Scenario(refusal) => {
                 let number = refusal.number();
                 write!(f, "pimlab: scenario refused: {number}")

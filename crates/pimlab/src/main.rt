@@ -7,6 +7,7 @@ use pim_lab::{
     check_text, load, play_saved, play_with, read_words,
 };
 use pim_types::Fault;
+use std::alloc::{AllocError, AllocFailed};
 use std::env;
 use std::fs::{self, File};
 use std::io::{self, ErrorKind, Write};
@@ -41,7 +42,7 @@ fn status(rt: &HostRuntime) -> io::Result<u8> {
         Err(fault) => return Ok(pim_lab::fault(&mut rt.stderr(), fault)),
     };
     Ok(match answer {
-        Answer::Accepted(words) => obey(rt, words),
+        Answer::Accepted(words) => obey(rt, &words),
         Answer::Refused => Complaint::CommandLine.tell(&mut rt.stderr()),
         Answer::Help(text) => match rt.stdout().write_all(text.as_bytes()) {
             Ok(()) => 0,
@@ -59,7 +60,7 @@ fn unread(error: &io::Error) -> Complaint<'static> {
 }
 
 // Does what the command line asks.
-fn obey(rt: &HostRuntime, words: Words<'_>) -> u8 {
+fn obey(rt: &HostRuntime, words: &Words<'_>) -> u8 {
     let mut err = rt.stderr();
     let read = if words.file == "-" {
         load(rt.alloc(), words.file, Some(rt.reader()), &mut err)
@@ -76,7 +77,7 @@ fn obey(rt: &HostRuntime, words: Words<'_>) -> u8 {
         (Ok(text), Command::Check) => {
             check_text(rt.alloc(), text.as_str(), &mut rt.stdout(), &mut err)
         }
-        (Ok(text), Command::Run) => run(rt, &words, text.as_str()),
+        (Ok(text), Command::Run) => run(rt, words, text.as_str()),
     }
 }
 
@@ -92,7 +93,7 @@ fn run(rt: &HostRuntime, words: &Words<'_>, text: &str) -> u8 {
 }
 
 fn run_over<W: Wire>(rt: &HostRuntime, wire: W, words: &Words<'_>, text: &str) -> u8 {
-    if words.from.is_some() || words.save.is_some() {
+    if !words.from.is_empty() || !words.save.is_empty() {
         return run_saved(rt, wire, words, text);
     }
     play_with(
@@ -118,53 +119,80 @@ fn kept_in(word: &str) -> Option<Kept<'_>> {
     Some(Kept { router, file })
 }
 
-// Does the moves of a scenario in which a router begins in a saved state, or in which one's state is saved.
+// What stops a run with saved states before its first move, or after its last.
+#[derive(Clone, Copy)]
+enum Stop<'a> {
+    Complaint(Complaint<'a>),
+    NoMemory,
+}
+
+impl From<AllocError> for Stop<'_> {
+    fn from(_refused: AllocError) -> Self {
+        Stop::NoMemory
+    }
+}
+
+impl<T: Drop> From<AllocFailed<T>> for Stop<'_> {
+    fn from(_refused: AllocFailed<T>) -> Self {
+        Stop::NoMemory
+    }
+}
+
+// What the words of an option say.
+fn all_kept<'a>(rt: &HostRuntime, words: &[&'a str]) -> Result<Vec<Kept<'a>>, Stop<'a>> {
+    let mut all = Vec::new(rt.alloc());
+    for word in words {
+        let kept = kept_in(word).ok_or(Stop::Complaint(Complaint::CommandLine))?;
+        all.push(kept)?;
+    }
+    Ok(all)
+}
+
+// The bytes of the files in which states are saved.
+fn all_bytes<'a>(rt: &HostRuntime, from: &[Kept<'a>]) -> Result<Vec<Vec<u8>>, Stop<'a>> {
+    let mut all = Vec::new(rt.alloc());
+    for kept in from {
+        let unread = Stop::Complaint(Complaint::File(kept.file));
+        all.push(fs::read(rt, kept.file).map_err(|_| unread)?)?;
+    }
+    Ok(all)
+}
+
+// Does the moves of a scenario in which routers begin in saved states, or in which those of some are saved.
 fn run_saved<W: Wire>(rt: &HostRuntime, wire: W, words: &Words<'_>, text: &str) -> u8 {
-    let mut err = rt.stderr();
-    let (from, save) = match (kept_of(words.from), kept_of(words.save)) {
-        (Some(from), Some(save)) => (from, save),
-        _ => return Complaint::CommandLine.tell(&mut err),
-    };
-    let bytes = match bytes_of(rt, from) {
-        Ok(bytes) => bytes,
-        Err(_) => return Complaint::File(from.map_or("", |kept| kept.file)).tell(&mut err),
-    };
-    run_between(rt, wire, words, text, from, &bytes, save)
-}
-
-// What a word of an option says; none where it says nothing.
-fn kept_of(word: Option<&str>) -> Option<Option<Kept<'_>>> {
-    match word {
-        Some(word) => kept_in(word).map(Some),
-        None => Some(None),
+    match run_between(rt, wire, words, text) {
+        Ok(status) => status,
+        Err(Stop::Complaint(complaint)) => complaint.tell(&mut rt.stderr()),
+        Err(Stop::NoMemory) => Complaint::Fault(Fault::Memory).tell(&mut rt.stderr()),
     }
 }
 
-// The bytes of the file in which a state is saved; none without a file.
-fn bytes_of(rt: &HostRuntime, from: Option<Kept<'_>>) -> io::Result<Vec<u8>> {
-    match from {
-        Some(kept) => fs::read(rt, kept.file),
-        None => Ok(Vec::new(rt.alloc())),
-    }
-}
-
-fn run_between<W: Wire>(
+// The same; the answer is the status.
+fn run_between<'a, W: Wire>(
     rt: &HostRuntime,
     wire: W,
-    words: &Words<'_>,
+    words: &Words<'a>,
     text: &str,
-    from: Option<Kept<'_>>,
-    bytes: &[u8],
-    save: Option<Kept<'_>>,
-) -> u8 {
-    let mut saved = Vec::new(rt.alloc());
-    let states = States {
-        from: from.map(|kept| Begin {
+) -> Result<u8, Stop<'a>> {
+    let from = all_kept(rt, &words.from)?;
+    let save = all_kept(rt, &words.save)?;
+    let read = all_bytes(rt, &from)?;
+    let mut begins = Vec::new(rt.alloc());
+    for (kept, bytes) in from.iter().zip(read.iter()) {
+        begins.push(Begin {
             router: kept.router,
             bytes,
-        }),
-        save: save.map(|kept| kept.router),
+        })?;
+    }
+    let mut names = Vec::new(rt.alloc());
+    for kept in save.iter() {
+        names.push(kept.router)?;
+    }
+    let states = States {
+        from: &begins,
+        save: &names,
     };
+    let mut saved = Vec::new(rt.alloc());
     let status = play_saved(
         rt.alloc(),
         text,
@@ -175,16 +203,17 @@ fn run_between<W: Wire>(
         &mut rt.stdout(),
         &mut rt.stderr(),
     );
-    match save {
-        Some(kept) if status == 0 => keep(rt, kept.file, &saved),
-        _ => status,
+    if status == 0 {
+        keep(rt, &save, &saved)?;
     }
+    Ok(status)
 }
 
-// Writes a state into its file. A file that can't be written counts as a fault of the wire.
-fn keep(rt: &HostRuntime, file: &str, saved: &[u8]) -> u8 {
-    match fs::write(rt, file, saved) {
-        Ok(()) => 0,
-        Err(_) => Complaint::Fault(Fault::Wire).tell(&mut rt.stderr()),
+// Writes states into their files.
+fn keep<'a>(rt: &HostRuntime, save: &[Kept<'a>], saved: &[Vec<u8>]) -> Result<(), Stop<'a>> {
+    for (kept, bytes) in save.iter().zip(saved.iter()) {
+        let unwritten = Stop::Complaint(Complaint::Unwritten(kept.file));
+        fs::write(rt, kept.file, bytes).map_err(|_| unwritten)?;
     }
+    Ok(())
 }
