@@ -92,9 +92,11 @@ def new_router(table: dict[str, Any], path: Path) -> viqeshor.Router:
         library=path,
         **fed.settings(table)
     )
-    if "older_hosts" in table:
-        for iface, _ in enumerate(table["iface"]):
+    for iface, _ in enumerate(table["iface"]):
+        if "older_hosts" in table:
             router.set_older_hosts(iface, table["older_hosts"])
+        if "query_version" in table:
+            router.set_query_version(iface, table["query_version"])
     return router
 
 
@@ -126,6 +128,8 @@ def reload(router: viqeshor.Router, event: fed.Event, before: dict[str, Any]) ->
     was, hosts = (table.get("older_hosts", "none") for table in (before, config))
     for iface in range(0 if hosts != was else len(before["iface"]), len(config["iface"])):
         router.set_older_hosts(iface, hosts)
+    for iface, _ in enumerate(config["iface"]):
+        router.set_query_version(iface, config.get("query_version", 3))
     return viqeshor.Answer.DONE
 
 

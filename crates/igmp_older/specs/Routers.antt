@@ -3,10 +3,10 @@
 use Rattle.std.{specs.Prelude.{◌≡◌, ℕ, Bool, true, false, ◌&&◌, ◌||◌, ◌==◌, min, nat_le, if◌then◌else◌, List, [], ◌∷◌, ◌++◌, length, slice_index, Option, Some, None, option_map, Result, Ok, Err}}
 use Rattle.byteorder.{specs.Endian.{big_bytes, big_from}}
 use Rattle.pim_ip.{specs.{Addr.addr, Checksum.{sum16, with_checksum}, Ipv4.{Packet, frame_limit, igmp_packet_text, ipv4_reading, is_multicast, protocol_igmp}, declared.refusal.Refusal.Refusal}}
-use Rattle.igmp_wire.{specs.{Codes.code_value, Messages.igmp_reading, Queries.query_text, Values.Query, declared.view.IgmpView.IgmpView}}
+use Rattle.igmp_wire.{specs.{Messages.igmp_reading, Queries.query_text, Values.Query, declared.view.IgmpView.IgmpView}}
 use Rattle.pim_types.{specs.declared.{config.IfaceId.IfaceId, fact.QuerierRow.QuerierRow}}
 use Rattle.pim_model.{specs.{Judging.frame_judged, Querier.{is_lower_querier, querier_on, query_seen}, State.{State, iface_count, is_own, is_up}, declared.accepted.Accepted.Accepted}}
-use Rattle.igmp_older.{specs.declared.router.OlderQuery.OlderQuery}
+use Rattle.igmp_older.{specs.declared.router.{OlderQuery.OlderQuery, ResponseTimes.ResponseTimes}}
 
 -- a packet was written behind what stood there, where one is to be
 abbrev pub Wrote : Bool → Option (List ℕ) → List ℕ → List ℕ → Type 0
@@ -69,28 +69,34 @@ queried b = if nat_le (length b) frame_limit then reading_queried (ipv4_reading 
 unfoldable pub older_query_text : ℕ → ℕ → List ℕ
 older_query_text max_response group = with_checksum (0x11 ∷ max_response ∷ []) (big_bytes 4 group)
 
--- a query of version 3 cut behind its group, with the time that its code stands for as a plain number, at most 255
-abbrev pub cut_text : Query → List ℕ
-cut_text q = older_query_text (min (code_value q.max_response_code) 255) q.group
+-- the time in which hosts answer a query of a group, or of all groups (RFC 3376, 8.3 and 8.8), in tenths of a second
+abbrev pub response_to : ResponseTimes → ℕ → ℕ
+response_to times group = if group == 0 then times.general else times.specific
+
+-- A query of version 3 cut behind its group. It says the configured time as a plain number, at most 255: what its code
+-- stands for may be less, since a code has steps of 8 and more above 127.
+abbrev pub cut_text : ResponseTimes → Query → List ℕ
+cut_text times q = older_query_text (min (response_to times q.group) 255) q.group
 
 -- the packet of version 2 that leaves for a query of version 3
-abbrev pub message_cut : Packet → Result IgmpView Refusal → Option (List ℕ)
-message_cut p (Ok (IgmpView.Query q)) = Some (igmp_packet_text p.source p.destination (cut_text q))
-message_cut p (Ok (IgmpView.Report records)) = None
-message_cut p (Err refusal) = None
+abbrev pub message_cut : ResponseTimes → Packet → Result IgmpView Refusal → Option (List ℕ)
+message_cut times p (Ok (IgmpView.Query q)) = Some (igmp_packet_text p.source p.destination (cut_text times q))
+message_cut times p (Ok (IgmpView.Report records)) = None
+message_cut times p (Err refusal) = None
 
 -- the packet of version 2 that leaves for a packet of IGMP; none where it is no query
-unfoldable pub packet_cut : Packet → Option (List ℕ)
-packet_cut p = if p.protocol == protocol_igmp then message_cut p (igmp_reading p.payload) else None
+unfoldable pub packet_cut : ResponseTimes → Packet → Option (List ℕ)
+packet_cut times p = if p.protocol == protocol_igmp then message_cut times p (igmp_reading p.payload) else None
 
 -- the packet of version 2 that leaves for a read packet
-abbrev pub reading_cut : Result Packet Refusal → Option (List ℕ)
-reading_cut (Ok p) = packet_cut p
-reading_cut (Err refusal) = None
+abbrev pub reading_cut : ResponseTimes → Result Packet Refusal → Option (List ℕ)
+reading_cut times (Ok p) = packet_cut times p
+reading_cut times (Err refusal) = None
 
--- what leaves in the place of a packet on an interface that acts in version 2; any other packet leaves as it is
-unfoldable pub cut : List ℕ → Option (List ℕ)
-cut b = reading_cut (ipv4_reading b)
+-- What leaves in the place of a packet on an interface that acts in version 2, by the configured times; any other packet
+-- leaves as it is.
+unfoldable pub cut : ResponseTimes → List ℕ → Option (List ℕ)
+cut times b = reading_cut times (ipv4_reading b)
 
 -- ---- queries of older routers as the router takes them
 

@@ -1,13 +1,12 @@
 //! Routers of IGMP version 2 on a link (RFC 3376, section 7.3.1).
 ghost use Rattle.std.specs.Prelude.{◌≡◌, ◌≤◌, ◌++◌, [], min, option_map, IfOk, IsOk, None, OnErr, OnOk};
 ghost use Rattle.pim_ip.specs.Ipv4.{igmp_packet_text};
-ghost use Rattle.igmp_wire.specs.Codes.{code_value};
 ghost use Rattle.igmp_wire.specs.Queries.{query_text};
-ghost use Rattle.igmp_older.specs.Routers.{Wrote, cut, cut_text, message_cut, older_query_reading, older_query_text, packet_cut, packet_queried, queried, query_as_three, query_packet};
+ghost use Rattle.igmp_older.specs.Routers.{Wrote, cut, cut_text, message_cut, older_query_reading, older_query_text, packet_cut, packet_queried, queried, query_as_three, query_packet, response_to};
 
 use crate::front::PROTOCOL_PLACE;
 use crate::older::group_of;
-use igmp_wire::{IgmpView, QueryHeader, QueryView, code_value, read_igmp, write_query};
+use igmp_wire::{IgmpView, QueryHeader, QueryView, read_igmp, write_query};
 use pim_ip::{
     Addr, FRAME_LIMIT, Ipv4View, PROTOCOL_IGMP, read_ipv4, set_checksum, sum16, write_igmp_packet,
 };
@@ -32,6 +31,15 @@ pub struct OlderQuery {
     pub max_response: u8,
     /// The group that is asked for, or 0.0.0.0 for all groups.
     pub group: Addr,
+}
+
+/// The times in which hosts answer a router's queries, as they are configured, in tenths of a second.
+#[derive(Clone, Copy)]
+pub struct ResponseTimes {
+    /// [Query Response Interval], for a query of all groups.
+    pub general: u32,
+    /// [Last Member Query Interval], for a query of one group.
+    pub specific: u32,
 }
 
 /// Reads a query of exactly eight bytes.
@@ -118,11 +126,16 @@ pub fn give_query(alloc: Global, bytes: &[u8], out: &mut Vec<u8>) -> Result<bool
     }
 }
 
-/// The Max Response Time that a code stands for, in tenths of a second, as far as version 2 can say it.
-fn plain_response(code: u8) -> u8
-    ensures { result ≡ min (code_value code) 255 }
+/// The Max Response Time of a query of a group, or of all groups, in tenths of a second, as far as version 2 can say it.
+/// The code of version 3 would say less: above 12.7 s it has steps of 0.8 s and more.
+fn plain_response(times: ResponseTimes, group: Addr) -> u8
+    ensures { result ≡ min (response_to times group.bits) 255 }
 {
-    let tenths = code_value(code);
+    let tenths = if group == Addr::NONE {
+        times.general
+    } else {
+        times.specific
+    };
     if tenths <= LONGEST_RESPONSE {
         tenths as u8
     } else {
@@ -146,24 +159,30 @@ fn write_older_query(message: &mut Vec<u8>, max_response: u8, group: Addr) -> Re
 #[tactic(auto, using(crate::proofs::RouterLaws::query_lengths))]
 fn write_cut(
     alloc: Global,
+    times: ResponseTimes,
     packet: &Ipv4View<'_>,
     query: &QueryView<'_>,
     out: &mut Vec<u8>,
 ) -> Result<(), AllocError>
     ensures ok { OnOk result (out.new.items
-        ≡ out.old.items ++ igmp_packet_text packet.now.source packet.now.destination (cut_text query.now)) }
+        ≡ out.old.items ++ igmp_packet_text packet.now.source packet.now.destination (cut_text times query.now)) }
     ensures err { OnErr result (out.new.items ≡ out.old.items) }
 {
     let mut message = Vec::new(alloc);
-    let max_response = plain_response(query.max_response_code());
-    write_older_query(&mut message, max_response, query.group())?;
+    let group = query.group();
+    write_older_query(&mut message, plain_response(times, group), group)?;
     write_igmp_packet(packet.source(), packet.destination(), &message, out)
 }
 
 /// A packet that was read.
 #[tactic(auto, unfolding(crate::specs::Routers::packet_cut))]
-fn cut_packet(alloc: Global, packet: &Ipv4View<'_>, out: &mut Vec<u8>) -> Result<bool, AllocError>
-    ensures ok { IfOk result (λ written. Wrote written (packet_cut packet.now) out.old.items out.new.items) }
+fn cut_packet(
+    alloc: Global,
+    times: ResponseTimes,
+    packet: &Ipv4View<'_>,
+    out: &mut Vec<u8>,
+) -> Result<bool, AllocError>
+    ensures ok { IfOk result (λ written. Wrote written (packet_cut times packet.now) out.old.items out.new.items) }
     ensures err { OnErr result (out.new.items ≡ out.old.items) }
 {
     if packet.protocol() != PROTOCOL_IGMP {
@@ -171,7 +190,7 @@ fn cut_packet(alloc: Global, packet: &Ipv4View<'_>, out: &mut Vec<u8>) -> Result
     }
     match read_igmp(packet.payload()) {
         Ok(IgmpView::Query(query)) => {
-            write_cut(alloc, packet, &query, out)?;
+            write_cut(alloc, times, packet, &query, out)?;
             Ok(true)
         }
         _ => Ok(false),
@@ -179,14 +198,20 @@ fn cut_packet(alloc: Global, packet: &Ipv4View<'_>, out: &mut Vec<u8>) -> Result
 }
 
 /// Whether a packet that is to leave is a query: then the query of version 2 that is to leave in its place, on an interface
-/// that acts in version 2, is written behind what stands in `out`. An `Err` changes nothing.
+/// that acts in version 2, is written behind what stands in `out`. It says the times that are configured. An `Err` changes
+/// nothing.
 #[tactic(auto, unfolding(crate::specs::Routers::cut))]
-pub fn cut_query(alloc: Global, bytes: &[u8], out: &mut Vec<u8>) -> Result<bool, AllocError>
-    ensures ok { IfOk result (λ written. Wrote written (cut bytes.now) out.old.items out.new.items) }
+pub fn cut_query(
+    alloc: Global,
+    times: ResponseTimes,
+    bytes: &[u8],
+    out: &mut Vec<u8>,
+) -> Result<bool, AllocError>
+    ensures ok { IfOk result (λ written. Wrote written (cut times bytes.now) out.old.items out.new.items) }
     ensures err { OnErr result (out.new.items ≡ out.old.items) }
 {
     match read_ipv4(bytes) {
-        Ok(packet) => cut_packet(alloc, &packet, out),
+        Ok(packet) => cut_packet(alloc, times, &packet, out),
         Err(_) => Ok(false),
     }
 }

@@ -1,7 +1,7 @@
 //! Which hosts of older versions are heard (RFC 3376, section 9.2), and the version of an interface's queries (section
 //! 7.3.1).
 ghost use Rattle.std.specs.Prelude.{◌≡◌};
-ghost use Rattle.igmp_older.specs.Modes.{hears};
+ghost use Rattle.igmp_older.specs.Modes.{hears, queries_heard};
 
 use crate::older::OlderKind;
 
@@ -38,4 +38,16 @@ pub enum QueryVersion {
     Two,
     /// IGMPv3.
     Three,
+}
+
+impl QueryVersion {
+    /// Whether older queries are heard on an interface that queries in this version and hears these hosts.
+    pub fn hears_queries(self, hosts: OlderHosts) -> bool
+        ensures { result ≡ queries_heard hosts self }
+    {
+        match (hosts, self) {
+            (OlderHosts::Nobody, QueryVersion::Three) => false,
+            _ => true,
+        }
+    }
 }

@@ -2,7 +2,8 @@
 ghost use Rattle.std.specs.Prelude.{◌≡◌};
 
 use igmp_older::{
-    Given, Mode, OlderHosts, Presence, Querier, cut_query, give_query, note_answered, translate,
+    Given, Mode, OlderHosts, Presence, Querier, ResponseTimes, cut_query, give_query,
+    note_answered, translate,
 };
 use pim_ip::{Addr, Refusal};
 use pim_tables::Facts;
@@ -51,6 +52,18 @@ const QUERY_CUT: &[u8] = &[
     0x46, 0xC0, 0x00, 0x20, 0x00, 0x00, 0x00, 0x00, 0x01, 0x02, 0x3A, 0x0D, 0x0A, 0x08, 0x00, 0x02,
     0xE0, 0x00, 0x00, 0x01, 0x94, 0x04, 0x00, 0x00, 0x11, 0x64, 0xEE, 0x9B, 0x00, 0x00, 0x00, 0x00,
 ];
+
+// The query cut where hosts answer within 19.9 s.
+const QUERY_CUT_LATE: &[u8] = &[
+    0x46, 0xC0, 0x00, 0x20, 0x00, 0x00, 0x00, 0x00, 0x01, 0x02, 0x3A, 0x0D, 0x0A, 0x08, 0x00, 0x02,
+    0xE0, 0x00, 0x00, 0x01, 0x94, 0x04, 0x00, 0x00, 0x11, 0xC7, 0xEE, 0x38, 0x00, 0x00, 0x00, 0x00,
+];
+
+// The usual times.
+const TIMES: ResponseTimes = ResponseTimes {
+    general: 100,
+    specific: 10,
+};
 
 // A querier that has the group records that a test gives it.
 #[derive(Drop)]
@@ -213,7 +226,20 @@ fn a_query_changes_its_version(rt: HostRuntime) -> Result<(), Fail> {
     answers(&rt, give_query(alloc, QUERY_TWO, &mut given)?);
     has_written(&rt, &given, QUERY_THREE);
     let mut cut = Vec::new(alloc);
-    answers(&rt, cut_query(alloc, &given, &mut cut)?);
+    answers(&rt, cut_query(alloc, TIMES, &given, &mut cut)?);
     has_written(&rt, &cut, QUERY_CUT);
+    Ok(())
+}
+
+#[test]
+fn a_cut_query_says_what_eight_bits_hold(rt: HostRuntime) -> Result<(), Fail> {
+    let alloc = rt.alloc();
+    let times = ResponseTimes {
+        general: 199,
+        specific: 10,
+    };
+    let mut cut = Vec::new(alloc);
+    answers(&rt, cut_query(alloc, times, QUERY_THREE, &mut cut)?);
+    has_written(&rt, &cut, QUERY_CUT_LATE);
     Ok(())
 }

@@ -1,3 +1,4 @@
+pub mod Queries
 pub mod Settling
 pub mod Stations
 pub mod Troubles

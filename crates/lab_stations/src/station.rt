@@ -1,11 +1,12 @@
 //! The routers of a scenario, as they are printed and found.
 ghost use Rattle.std.specs.Prelude.{◌≡◌, IfOk, map};
+ghost use Rattle.lab_stations.specs.Queries.{hears_queries, kind_heard};
 ghost use Rattle.lab_stations.specs.Stations.{nobody_behind};
 
 use crate::line::{MoveLine, PacketLine, Way};
-use igmp_older::{OlderHosts, Presence};
-use pim_scenario::Link;
-use pim_types::{Addr, Config, Emission, IfaceId, Refusal, Series, Verdict};
+use igmp_older::{OlderHosts, Presence, QueryVersion, ResponseTimes, cut_query, give_query};
+use pim_scenario::{FrontText, Link};
+use pim_types::{Addr, Config, Emission, Event, EventKind, IfaceId, Refusal, Series, Verdict};
 use std::alloc::{AllocError, Global};
 
 /// What the lab knows of another configuration.
@@ -14,7 +15,8 @@ pub struct Reloaded {
     links: Series<Link>,
     addresses: Series<Addr>,
     limit: u32,
-    older_hosts: OlderHosts,
+    front: FrontText,
+    times: ResponseTimes,
 }
 
 impl Reloaded {
@@ -23,14 +25,15 @@ impl Reloaded {
         alloc: Global,
         config: &Config,
         links: Series<Link>,
-        older_hosts: OlderHosts,
+        front: FrontText,
     ) -> Result<Reloaded, AllocError> {
         let addresses = addresses_of(alloc, config)?;
         Ok(Reloaded {
             links,
             addresses,
             limit: config.limit,
-            older_hosts,
+            front,
+            times: times_of(config),
         })
     }
 }
@@ -45,6 +48,9 @@ pub struct Station {
     pub addresses: Series<Addr>,
     /// What the router's front knows of older hosts. Where none are heard the front changes nothing.
     pub presence: Presence,
+    /// The version in which the router queries.
+    pub version: QueryVersion,
+    times: ResponseTimes,
 }
 
 impl Station {
@@ -54,19 +60,21 @@ impl Station {
         name: String,
         config: &Config,
         links: Series<Link>,
-        older_hosts: OlderHosts,
+        front: FrontText,
     ) -> Result<Station, AllocError>
         ensures links { IfOk result (λ station. station.links ≡ links) }
         ensures addresses { IfOk result (λ station. station.addresses ≡ map (λ i. i.address) config.now.interfaces) }
-        ensures presence { IfOk result (λ station. station.presence ≡ nobody_behind config.now older_hosts) }
+        ensures presence { IfOk result (λ station. station.presence ≡ nobody_behind config.now front.older_hosts) }
     {
         let addresses = addresses_of(alloc, config)?;
-        let presence = presence_of(alloc, config, older_hosts)?;
+        let presence = presence_of(alloc, config, front.older_hosts)?;
         Ok(Station {
             name,
             links,
             addresses,
             presence,
+            version: front.query_version,
+            times: times_of(config),
         })
     }
 
@@ -77,14 +85,59 @@ impl Station {
             links,
             addresses,
             limit,
-            older_hosts,
+            front,
+            times,
         } = reloaded;
         let count = u32::try_from(links.len()).map_err(|_| AllocError)?;
         self.presence.resize(limit as usize, count)?;
-        set_hosts(&mut self.presence, count, older_hosts);
+        set_hosts(&mut self.presence, count, front.older_hosts);
+        self.version = front.query_version;
+        self.times = times;
         self.links = links;
         self.addresses = addresses;
         Ok(())
+    }
+
+    // Whether older queries are heard on an interface.
+    fn hears_queries(&self, iface: IfaceId) -> bool
+        ensures { result ≡ hears_queries self.now iface.number }
+    {
+        self.version.hears_queries(self.presence.hosts(iface))
+    }
+
+    /// An event in which an older query that the router hears is one of version 3. An `Err` is want of memory.
+    pub fn hear(&self, alloc: Global, event: Event) -> Result<Event, AllocError>
+        ensures { IfOk result (λ heard. heard ≡ record event { kind = kind_heard self.now event.kind }) }
+    {
+        let Event { draw, kind } = event;
+        let EventKind::Frame { iface, bytes } = kind else {
+            return Ok(Event { draw, kind });
+        };
+        let mut query = Vec::new(alloc);
+        let bytes = if self.hears_queries(iface)
+            && give_query(alloc, bytes.as_slice(), &mut query)?
+        {
+            Series::from_vec(query)
+        } else {
+            bytes
+        };
+        let kind = EventKind::Frame { iface, bytes };
+        Ok(Event { draw, kind })
+    }
+
+    /// The query of version 2 that leaves in the place of a packet; `None` where the packet leaves as it is.
+    pub fn cut(&self, alloc: Global, emission: &Emission) -> Result<Option<Emission>, AllocError> {
+        let (Emission::Link { iface, bytes }, QueryVersion::Two) = (emission, self.version) else {
+            return Ok(None);
+        };
+        let mut query = Vec::new(alloc);
+        if !cut_query(alloc, self.times, bytes.as_slice(), &mut query)? {
+            return Ok(None);
+        }
+        Ok(Some(Emission::Link {
+            iface: *iface,
+            bytes: Series::from_vec(query),
+        }))
     }
 
     /// What is printed before the router's tables.
@@ -165,6 +218,14 @@ fn presence_of(
         hosts.push(older_hosts)?;
     }
     Ok(Presence::new(alloc, config.limit as usize, hosts))
+}
+
+// The times in which hosts answer the router's queries.
+fn times_of(config: &Config) -> ResponseTimes {
+    ResponseTimes {
+        general: config.query_response_interval,
+        specific: config.last_member_query_interval,
+    }
 }
 
 // Gives the first interfaces this setting. Those that have it keep their rows.

@@ -1,7 +1,6 @@
 //! Moves over a network, and the lines that they print.
 ghost use Rattle.std.specs.Prelude.{◌≡◌, IfErr, IfOk, Ok, OnOk, map};
 ghost use Rattle.pim_net.specs.Showing.{node_of};
-ghost use Rattle.pim_lab.specs.Settling.{step_of};
 ghost use Rattle.pim_lab.specs.Statuses.{IsFault, IsTroubleOf, router_node, routers_test};
 
 use crate::front::{Asked, run_behind};
@@ -10,10 +9,10 @@ use igmp_older::Presence;
 use lab_stations::{
     Delivery, Frames, Lines, Names, OlderLine, Reloaded, RowLine, Station, Trouble,
 };
-use pim_net::{Move, Net, NetLog, Node, Router, Unrestored, Wire};
+use pim_net::{Net, NetLog, Node, Router, Unrestored, Wire};
 use pim_rows::Table;
 use pim_scenario::{ConfigText, RouterText, ScenarioMove};
-use pim_types::{Emission, Event, Fault, Outcome, Series, Verdict};
+use pim_types::{Emission, Event, EventKind, Fault, Outcome, Refusal, Series, Verdict};
 use std::alloc::{AllocError, Global};
 
 /// How many deliveries one settle makes at most.
@@ -93,25 +92,25 @@ impl<W: Wire> Lab<W> {
                 frame,
                 draw,
             } => {
-                let action = Move::Deliver {
+                let iface = Some(iface);
+                let delivery = Delivery {
                     router,
                     iface,
                     frame,
-                    draw,
                 };
-                self.play(At { number, router }, action, lines)
+                self.deliver(number, delivery, draw, lines)
             }
             ScenarioMove::Carry {
                 router,
                 frame,
                 draw,
             } => {
-                let action = Move::DeliverUnicast {
+                let delivery = Delivery {
                     router,
+                    iface: None,
                     frame,
-                    draw,
                 };
-                self.play(At { number, router }, action, lines)
+                self.deliver(number, delivery, draw, lines)
             }
             ScenarioMove::Settle { draw } => self.settle(number, draw, lines),
             ScenarioMove::Restart { router } => self.restart(At { number, router }, lines),
@@ -156,11 +155,7 @@ impl<W: Wire> Lab<W> {
         ensures { IfErr result (λ t. IsFault t) }
     {
         self.net.restart(at.router)?;
-        let outcome = Outcome {
-            answer: Ok(Verdict::Done),
-            emissions: Series::new(self.alloc),
-            copies: 0,
-        };
+        let outcome = self.without_packets(Ok(Verdict::Done));
         self.print_with_tables(at, outcome, lines)
     }
 
@@ -177,20 +172,17 @@ impl<W: Wire> Lab<W> {
         let ConfigText {
             config,
             links,
-            older_hosts,
+            front,
         } = next;
         let links = self.names.links(self.alloc, links)?;
-        let (reloaded, node) = reloaded_of(self.alloc, config, links, older_hosts)?;
+        let (reloaded, node) = reloaded_of(self.alloc, config, links, front)?;
         let outcome = self.net.reload(at.router, draw, node)?;
         let is_done = outcome.answer.is_ok();
         self.print(at, outcome, lines)?;
         if is_done {
             self.keep(at.router, reloaded)?;
         }
-        if self.tables_each {
-            self.print_tables_at(at.router, lines)?;
-        }
-        Ok(())
+        self.print_each(at, lines)
     }
 
     // Keeps what the lab knows of another configuration of a router.
@@ -213,17 +205,46 @@ impl<W: Wire> Lab<W> {
         let Some(station) = self.stations.get_mut(at.router) else {
             return Err(Trouble::Fault(Fault::Failed));
         };
+        let event = station.hear(self.alloc, event)?;
         let presence = &mut station.presence;
         let log = run_behind(self.alloc, &mut self.net, at.router, presence, event)?;
         self.print_all(at, log, lines)
     }
 
-    // Plays one delivery of the network to a router, which passes no front: what routers send is no report.
-    fn play(&mut self, at: At, action: Move, lines: &mut Lines) -> Result<(), Trouble>
+    // Delivers a frame to a router, behind its front.
+    fn deliver(
+        &mut self,
+        number: usize,
+        delivery: Delivery,
+        draw: u32,
+        lines: &mut Lines,
+    ) -> Result<(), Trouble>
         ensures { IfErr result (λ t. IsFault t) }
     {
-        let log = self.net.run(&[action])?;
-        self.print_all(at, log, lines)
+        let Delivery {
+            router,
+            iface,
+            frame,
+        } = delivery;
+        let at = At { number, router };
+        let Some(bytes) = self.net.fetch(router, iface, frame)? else {
+            let outcome = self.without_packets(Err(Refusal::BadMove));
+            return self.print_with_tables(at, outcome, lines);
+        };
+        let kind = match iface {
+            Some(iface) => EventKind::Frame { iface, bytes },
+            None => EventKind::Unicast { bytes },
+        };
+        self.happen(at, Event { draw, kind }, lines)
+    }
+
+    // An outcome by which nothing is sent.
+    fn without_packets(&self, answer: Result<Verdict, Refusal>) -> Outcome {
+        Outcome {
+            answer,
+            emissions: Series::new(self.alloc),
+            copies: 0,
+        }
     }
 
     // Prints what became of moves that concern a router, with the tables if they are printed.
@@ -246,13 +267,20 @@ impl<W: Wire> Lab<W> {
         ensures { IfErr result (λ t. IsFault t) }
     {
         self.print(at, outcome, lines)?;
+        self.print_each(at, lines)
+    }
+
+    // Prints the tables of the router that answered, if they are printed after each answer.
+    fn print_each(&self, at: At, lines: &mut Lines) -> Result<(), Trouble>
+        ensures { IfErr result (λ t. IsFault t) }
+    {
         if self.tables_each {
             self.print_tables_at(at.router, lines)?;
         }
         Ok(())
     }
 
-    // Prints what became of a move, and the packets that left.
+    // Prints what became of a move, and the packets that left, with queries as the router's version has them.
     fn print(&mut self, at: At, outcome: Outcome, lines: &mut Lines) -> Result<(), Trouble>
         ensures { IfErr result (λ t. IsFault t) }
     {
@@ -265,7 +293,13 @@ impl<W: Wire> Lab<W> {
         let first = first_copy(emissions, outcome.copies);
         for (place, emission) in emissions.iter().enumerate() {
             let frame = self.frames.send(at.router, emission)?;
-            lines.push(station.packet_line(frame, emission, place >= first))?;
+            match station.cut(self.alloc, emission)? {
+                Some(query) => {
+                    lines.push(station.packet_line(frame, &query, false))?;
+                    self.net.replace(frame, packet_of(query));
+                }
+                None => lines.push(station.packet_line(frame, emission, place >= first))?,
+            }
         }
         Ok(())
     }
@@ -279,11 +313,7 @@ impl<W: Wire> Lab<W> {
             let Some(delivery) = self.frames.next(self.alloc, &self.stations)? else {
                 break;
             };
-            let at = At {
-                number,
-                router: delivery.router,
-            };
-            self.play(at, move_of(delivery, draw), lines)?;
+            self.deliver(number, delivery, draw, lines)?;
         }
         self.frames.end_settle();
         Ok(())
@@ -380,24 +410,10 @@ fn stations_of(
     Ok((stations, nodes))
 }
 
-// The move of the network for a delivery, with this draw.
-fn move_of(delivery: Delivery, draw: u32) -> Move
-    ensures { result ≡ step_of delivery draw }
-{
-    let router = delivery.router;
-    let frame = delivery.frame;
-    match delivery.iface {
-        Some(iface) => Move::Deliver {
-            router,
-            iface,
-            frame,
-            draw,
-        },
-        None => Move::DeliverUnicast {
-            router,
-            frame,
-            draw,
-        },
+// The bytes of a packet.
+fn packet_of(emission: Emission) -> Series<u8> {
+    match emission {
+        Emission::Link { bytes, .. } | Emission::Unicast { bytes, .. } => bytes,
     }
 }
 

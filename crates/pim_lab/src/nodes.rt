@@ -4,10 +4,9 @@ ghost use Rattle.pim_net.specs.Showing.{node_of};
 ghost use Rattle.lab_stations.specs.Stations.{nobody_behind};
 ghost use Rattle.pim_lab.specs.Statuses.{router_node};
 
-use igmp_older::OlderHosts;
 use lab_stations::{Reloaded, Station, link_numbers};
 use pim_net::Node;
-use pim_scenario::{Link, RouterText};
+use pim_scenario::{FrontText, Link, RouterText};
 use pim_types::{Config, Series};
 use std::alloc::{AllocError, Global};
 
@@ -16,16 +15,16 @@ pub(crate) fn station_of(alloc: Global, text: RouterText) -> Result<(Station, No
     ensures node { IfOk result (λ made. node_of made.1 ≡ router_node text) }
     ensures links { IfOk result (λ made. made.0.links ≡ text.links) }
     ensures addresses { IfOk result (λ made. made.0.addresses ≡ map (λ i. i.address) text.config.interfaces) }
-    ensures presence { IfOk result (λ made. made.0.presence ≡ nobody_behind text.config text.older_hosts) }
+    ensures presence { IfOk result (λ made. made.0.presence ≡ nobody_behind text.config text.front.older_hosts) }
 {
     let RouterText {
         name,
         config,
         links,
-        older_hosts,
+        front,
     } = text;
     let numbers = link_numbers(alloc, links.as_slice())?;
-    let station = Station::new(alloc, name, &config, links, older_hosts)?;
+    let station = Station::new(alloc, name, &config, links, front)?;
     let node = Node {
         config,
         links: numbers,
@@ -38,10 +37,10 @@ pub(crate) fn reloaded_of(
     alloc: Global,
     config: Config,
     links: Series<Link>,
-    older_hosts: OlderHosts,
+    front: FrontText,
 ) -> Result<(Reloaded, Node), AllocError> {
     let numbers = link_numbers(alloc, links.as_slice())?;
-    let reloaded = Reloaded::new(alloc, &config, links, older_hosts)?;
+    let reloaded = Reloaded::new(alloc, &config, links, front)?;
     let node = Node {
         config,
         links: numbers,

@@ -1,6 +1,6 @@
 -- What moves require of a wire, whichever it is, and what the network becomes by what the wire returns.
 use Rattle.std.{specs.{Option.option_map_or, Prelude.{Bool, IsSome, List, None, Option, Some, [], get_or, length, option_and_then, option_map, slice_get, take, true, ℕ, ◌+◌, ◌<◌, ◌≡◌, ◌∷◌}}}
-use Rattle.pim_types.{specs.declared.{event.{Event.Event, EventKind.EventKind}, outcome.Outcome.Outcome}}
+use Rattle.pim_types.{specs.declared.{config.IfaceId.IfaceId, event.{Event.Event, EventKind.EventKind}, outcome.Outcome.Outcome}}
 use Rattle.pim_model.{specs.Network.{Network, Station, event_of, moved, moved_at, station_at}}
 use Rattle.lab_wires.{specs.Carrying.IsCarried}
 use Rattle.pim_net.{specs.{Showing.{brought_on, brought_to, move_of}, declared.moves.Move.Move}}
@@ -18,6 +18,12 @@ carried_packet n (Move.Deliver router iface frame draw) =
     option_map (λ (e : ℕ × Event). bytes_of_kind (e.1).kind) (event_of n (move_of (Move.Deliver router iface frame draw)))
 carried_packet n (Move.DeliverUnicast router frame draw) =
     option_map (λ (e : ℕ × Event). bytes_of_kind (e.1).kind) (event_of n (move_of (Move.DeliverUnicast router frame draw)))
+
+-- The bytes of a frame that comes to an interface of a router, or without one to an address of the router; none where that
+-- would be refused.
+abbrev pub fetched : Network → ℕ → Option IfaceId → ℕ → Option (List ℕ)
+fetched n r (Some iface) frame = carried_packet n (Move.Deliver r iface frame 0)
+fetched n r None frame = carried_packet n (Move.DeliverUnicast r frame 0)
 
 -- The outcome and the network where these bytes come to the router.
 abbrev pub moved_with : Network → Move → List ℕ → Outcome × Network

@@ -1,7 +1,7 @@
 -- What a network shows: the network of the specification, and its wire.
-use Rattle.std.{specs.{Option.option_map_or, Prelude.{List, Option, Some, [], option_and_then, option_map, set, ℕ, ◌∷◌}}}
+use Rattle.std.{specs.{Option.option_map_or, Prelude.{List, Option, Some, [], option_and_then, option_map, set, slice_get, suc, zero, ℕ, ◌∷◌}}}
 use Rattle.pim_types.{specs.declared.{config.Config.Config, event.{Event.Event, EventKind.EventKind}}}
-use Rattle.pim_model.{specs.{Network.{Network, Station, station_at}, State.State}}
+use Rattle.pim_model.{specs.{Network.{Network, Sent, Station, station_at}, State.State}}
 pub use Rattle.pim_router.{specs.Standing.Standing}
 use Rattle.pim_net.{specs.declared.{node.Node.Node, moves.Move.Move}}
 use Rattle.pim_model.specs.Network as written
@@ -41,6 +41,13 @@ pub record Wired (W : Type 0) : Type 0 where
 abbrev pub with_state_at : Network → ℕ → State → Network
 with_state_at n r s =
     option_map_or (λ (st : Station). record n { stations = set n.stations r (record st { state = s }) }) (station_at n r) n
+
+-- The network with other bytes in the place of those of a frame, by its number from 1.
+abbrev pub with_bytes_at : Network → ℕ → List ℕ → Network
+with_bytes_at n zero bytes = n
+with_bytes_at n (suc k) bytes =
+    option_map_or (λ (f : Sent). record n { frames = set n.frames k (record f { bytes = bytes }) })
+    (slice_get n.frames k) n
 
 -- the state of a router, if there is such a router
 abbrev pub shown_state : Option Network → ℕ → Option State

@@ -3,14 +3,14 @@ ghost use Rattle.std.specs.Prelude.{Err, IfErr, IfNone, IfOk, IfSome, IsOk, IsOk
 ghost use Rattle.pim_ip.specs.declared.fault.Fault.{Fault};
 ghost use Rattle.pim_model.specs.Network.{network, network_ran, nodes_test};
 ghost use Rattle.pim_net.specs.Asked.{AreAsked, LeadOn};
-ghost use Rattle.pim_net.specs.Carried.{HasMoved, IsPartWay, MovesTo, carried_packet};
+ghost use Rattle.pim_net.specs.Carried.{HasMoved, IsPartWay, MovesTo, carried_packet, fetched};
 ghost use Rattle.pim_net.specs.Ports.{first_ports};
 ghost use Rattle.pim_net.specs.Reloading.{reloaded_at};
 ghost use Rattle.pim_model.specs.State.{State};
 ghost use Rattle.pim_rested.specs.Resuming.{restore_test};
 ghost use Rattle.pim_rested.specs.declared.refusal.RestoreRefusal.{RestoreRefusal};
 ghost use Rattle.pim_saved.specs.Reading.{reading};
-ghost use Rattle.pim_net.specs.Showing.{move_of, node_of, shown_state, with_state_at};
+ghost use Rattle.pim_net.specs.Showing.{move_of, node_of, shown_state, with_bytes_at, with_state_at};
 ghost use Rattle.pim_net.specs.declared.unrestored.Unrestored.{Unrestored};
 ghost use Rattle.lab_wires.specs.Wires.{IsFaultOver, failures_after};
 ghost use Rattle.pim_net.specs.declared.moves.Move.{Move};
@@ -21,7 +21,7 @@ use crate::node::Node;
 use crate::unrestored::Unrestored;
 use lab_wires::{Wire, carry};
 use pim_router::Router;
-use pim_types::{EventKind, Fault, IfaceId, Outcome, Refusal};
+use pim_types::{EventKind, Fault, IfaceId, Outcome, Refusal, Series};
 use std::alloc::Global;
 use std::marker::Model;
 
@@ -122,6 +122,46 @@ impl<W: Wire> Net<W> {
         );
         self.failed = matches!(ran, Err(Fault::Memory));
         ran
+    }
+
+    /// Sends a frame through the wire to an interface of a router on the frame's link, or without an interface to the
+    /// router as a unicast: what the wire returns there is the packet that is to come to the router, as an event of it.
+    /// There is none where `run` refuses such a delivery. The network is as it was, also after a fault.
+    pub fn fetch(
+        &mut self,
+        router: usize,
+        iface: Option<IfaceId>,
+        frame: u32,
+    ) -> Result<Option<Series<u8>>, Fault>
+        ensures fetched { W.is_faithful ≡ true → IfSome self.old.network (λ n. IfOk result (λ packet.
+            packet ≡ fetched n router iface frame)) }
+        ensures same { (self.new.network ≡ self.old.network) × (self.new.ports ≡ self.old.ports) }
+        ensures failed { self.old.network ≡ None → result ≡ Err Fault.Failed }
+    {
+        if self.failed {
+            return Err(Fault::Failed);
+        }
+        let delivery = match iface {
+            Some(iface) => self.network.to_interface(router, iface, frame),
+            None => self.network.to_router(router, frame),
+        };
+        let Some(delivery) = delivery else {
+            return Ok(None);
+        };
+        let port = u32::from(first_port(&self.ports, router)) + delivery.place;
+        let bytes = carry(self.alloc, &mut self.wire, port, delivery.bytes)?;
+        Ok(Some(bytes))
+    }
+
+    /// Puts other bytes in the place of those of a frame, by its number from 1: what stands before the router that sent
+    /// it has it leave so. An unknown frame is left alone, as all is after a failure.
+    pub fn replace(&mut self, frame: u32, bytes: Series<u8>)
+        ensures network { self.new.network ≡ option_map (λ n. with_bytes_at n frame bytes) self.old.network }
+        ensures rest { (self.new.ports ≡ self.old.ports) × (self.new.wire ≡ self.old.wire) }
+    {
+        if !self.failed {
+            self.network.replace(frame, bytes);
+        }
     }
 
     /// Puts a router, counted from 0, into the state that these bytes say: they are those that a router saved that has as

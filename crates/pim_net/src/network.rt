@@ -15,7 +15,7 @@ ghost use Rattle.law_reloaded.specs.Reloading.{reload};
 ghost use Rattle.pim_rested.specs.Resuming.{restore_test};
 ghost use Rattle.pim_rested.specs.declared.refusal.RestoreRefusal.{RestoreRefusal};
 ghost use Rattle.pim_saved.specs.Reading.{reading};
-ghost use Rattle.pim_net.specs.Showing.{brought_on, brought_to, node_of, shown_state, with_state_at};
+ghost use Rattle.pim_net.specs.Showing.{brought_on, brought_to, node_of, shown_state, with_bytes_at, with_state_at};
 ghost use Rattle.pim_net.specs.declared.unrestored.Unrestored.{Unrestored};
 ghost use Rattle.pim_net.specs.declared.node.Node.{Node};
 
@@ -206,6 +206,18 @@ impl Network {
             return Ok(Err(Unrestored::NoRouter));
         }
         self.stations[router].restore(self.alloc, bytes)
+    }
+
+    /// Puts other bytes in the place of those of a frame, by its number from 1. An unknown frame is left alone.
+    pub(crate) fn replace(&mut self, frame: u32, bytes: Series<u8>)
+        ensures { IfSome self.old (λ net. self.new ≡ Some (with_bytes_at net frame bytes)) }
+    {
+        let Some(place) = frame.checked_sub(1) else {
+            return;
+        };
+        if let Some(sent) = self.frames.get_mut(place as usize) {
+            sent.bytes = bytes;
+        }
     }
 
     /// Puts a router under the configuration of a node, with the node's links. It is refused where there is no such

@@ -1,9 +1,9 @@
 -- What a document has to say for a scenario to be read from it.
-use Rattle.std.{specs.{Prelude.{◌≡◌, ◌≢◌, ◌≤◌, ◌++◌, ◌⊎◌, ℕ, true, String, List, [], ◌∷◌, codes, length, Option, Some, None, option_and_then, if◌then◌else◌, string_bytes, position}, List.{All, AllPairs, AllZip, fold}, Option.is_some, Str.bytes_eq}}
+use Rattle.std.{specs.{Prelude.{◌≡◌, ◌≢◌, ◌≤◌, ◌++◌, ◌⊎◌, ℕ, true, String, List, [], ◌∷◌, codes, length, Option, Some, None, option_and_then, option_map, if◌then◌else◌, string_bytes, position, ◌==◌}, List.{All, AllPairs, AllZip, fold}, Option.is_some, Str.bytes_eq}}
 use Rattle.toml.{specs.{Parse.parse_document, Data.{Data, Members, as_str, as_table}}}
 use Rattle.pim_types.{specs.declared.{config.{Config.Config, InterfaceConfig.InterfaceConfig, Route.Route, RpRange.RpRange, SptSwitch.{SptSwitch, TheVariants.{Always, Never}}}, event.EventKind.EventKind}}
-use Rattle.igmp_older.{specs.declared.setting.OlderHosts.OlderHosts}
-use Rattle.pim_scenario.{specs.{declared.scenario.{ConfigText.ConfigText, Link.Link, RouterText.RouterText, ScenarioMove.{ScenarioMove, TheVariants.{Event, Deliver, Carry, Reload, Restart, Settle}}, Scenario.Scenario}, Fields.{has_only, table_at, text_at, optional_text, number_at, number_or, moment_at, list_at, list_or_empty}, Texts.{IsNumberText, IsAddressText, IsPrefixText, hex_of}, Words.AreWords}}
+use Rattle.igmp_older.{specs.declared.setting.{OlderHosts.OlderHosts, QueryVersion.QueryVersion}}
+use Rattle.pim_scenario.{specs.{declared.scenario.{ConfigText.ConfigText, FrontText.FrontText, Link.Link, RouterText.RouterText, ScenarioMove.{ScenarioMove, TheVariants.{Event, Deliver, Carry, Reload, Restart, Settle}}, Scenario.Scenario}, Fields.{has_only, table_at, text_at, optional_text, number_at, number_or, moment_at, list_at, list_or_empty}, Texts.{IsNumberText, IsAddressText, IsPrefixText, hex_of}, Words.AreWords}}
 use Rattle.pim_types.specs.declared.event.EventKind.TheVariants as event
 
 -- ---- routes and RP ranges
@@ -92,10 +92,23 @@ older_hosts_named (Some name) =
 abbrev pub older_hosts_at : Members → Option OlderHosts
 older_hosts_at ms = option_and_then older_hosts_named (optional_text (codes "older_hosts") ms)
 
+abbrev pub query_version_numbered : ℕ → Option QueryVersion
+query_version_numbered n =
+    if n == 2 then Some QueryVersion.Two else (if n == 3 then Some QueryVersion.Three else None)
+
+abbrev pub query_version_at : Members → Option QueryVersion
+query_version_at ms = option_and_then query_version_numbered (number_or 3 (codes "query_version") ms)
+
+-- what stands before a router
+abbrev pub front_at : Members → Option FrontText
+front_at ms =
+    option_and_then (λ hosts. option_map (λ version. record { older_hosts = hosts; query_version = version })
+    (query_version_at ms)) (older_hosts_at ms)
+
 abbrev pub router_keys : List (List ℕ)
 router_keys =
     codes "name" ∷ codes "iface" ∷ codes "limit" ∷ codes "spt" ∷ codes "rv" ∷ codes "qi" ∷ codes "qri"
-    ∷ codes "lmqi" ∷ codes "older_hosts" ∷ codes "routes" ∷ codes "rps" ∷ []
+    ∷ codes "lmqi" ∷ codes "older_hosts" ∷ codes "query_version" ∷ codes "routes" ∷ codes "rps" ∷ []
 
 -- A table `router` is a router with its name, its links and its configuration.
 pub record IsRouter (ms : Members) (r : RouterText) : Type 0 where
@@ -104,7 +117,7 @@ pub record IsRouter (ms : Members) (r : RouterText) : Type 0 where
   pub interfaces : AreRead (IsTable IsInterface) (list_at (codes "iface") ms) r.config.interfaces
   pub links : AreRead (IsTable IsLink) (list_at (codes "iface") ms) r.links
   pub config : IsConfig ms r.config
-  pub older_hosts : older_hosts_at ms ≡ Some r.older_hosts
+  pub front : front_at ms ≡ Some r.front
 
 -- ---- another configuration of a router
 
@@ -112,7 +125,7 @@ pub record IsRouter (ms : Members) (r : RouterText) : Type 0 where
 abbrev pub config_keys : List (List ℕ)
 config_keys =
     codes "iface" ∷ codes "limit" ∷ codes "spt" ∷ codes "rv" ∷ codes "qi" ∷ codes "qri" ∷ codes "lmqi"
-    ∷ codes "older_hosts" ∷ codes "routes" ∷ codes "rps" ∷ []
+    ∷ codes "older_hosts" ∷ codes "query_version" ∷ codes "routes" ∷ codes "rps" ∷ []
 
 abbrev pub NamesLink : {Z : Type 0} → Members → String Z → Type 0
 NamesLink ms name = text_at (codes "link") ms ≡ Some (string_bytes name)
@@ -123,7 +136,7 @@ pub record IsConfigText (ms : Members) (c : ConfigText) : Type 0 where
   pub interfaces : AreRead (IsTable IsInterface) (list_at (codes "iface") ms) c.config.interfaces
   pub links : AreRead (IsTable NamesLink) (list_at (codes "iface") ms) c.links
   pub config : IsConfig ms c.config
-  pub older_hosts : older_hosts_at ms ≡ Some c.older_hosts
+  pub front : front_at ms ≡ Some c.front
 
 -- ---- the routers of a scenario
 

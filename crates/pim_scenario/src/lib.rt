@@ -10,4 +10,6 @@ pub mod scenario;
 pub use command_line::{Answer, Command, Tables, WireKind, Words, read_words};
 pub use complaint::{Complaint, fault, refused};
 pub use file::load;
-pub use scenario::{ConfigText, Link, RouterText, Scenario, ScenarioMove, read_scenario};
+pub use scenario::{
+    ConfigText, FrontText, Link, RouterText, Scenario, ScenarioMove, read_scenario,
+};

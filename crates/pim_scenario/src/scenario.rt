@@ -17,7 +17,7 @@ mod router;
 mod routes;
 mod words;
 
-use igmp_older::OlderHosts;
+use igmp_older::{OlderHosts, QueryVersion};
 use pim_types::{Config, Event, Fault, IfaceId, Refusal, Series};
 use std::alloc::{AllocError, AllocFailed, Global};
 use toml::Table;
@@ -30,6 +30,15 @@ pub struct Link {
     pub name: String,
 }
 
+/// What stands before a router, alike on all its interfaces.
+#[derive(Clone, Copy)]
+pub struct FrontText {
+    /// Which hosts of older versions of IGMP are heard.
+    pub older_hosts: OlderHosts,
+    /// The version in which the interfaces query.
+    pub query_version: QueryVersion,
+}
+
 /// A router of a scenario.
 #[derive(Drop)]
 pub struct RouterText {
@@ -38,8 +47,7 @@ pub struct RouterText {
     pub config: Config,
     /// The link of each interface.
     pub links: Series<Link>,
-    /// Which hosts of older versions of IGMP are heard on its interfaces.
-    pub older_hosts: OlderHosts,
+    pub front: FrontText,
 }
 
 /// Another configuration of a router.
@@ -49,8 +57,7 @@ pub struct ConfigText {
     pub config: Config,
     /// The name of the link of each interface.
     pub links: Series<String>,
-    /// Which hosts of older versions of IGMP are heard on its interfaces.
-    pub older_hosts: OlderHosts,
+    pub front: FrontText,
 }
 
 /// What a scenario requests. A router is named by its place among the routers, from 0, and a frame by its number among

@@ -3,8 +3,8 @@ use Rattle.std.{specs.Option.option_map_or, proofs.Common.{◌≡◌, ◌∙◌,
 use Rattle.pim_ip.{specs.declared.refusal.Refusal.Refusal}
 use Rattle.pim_types.{specs.declared.{event.{Event.Event, EventKind.EventKind}, outcome.{Emission.Emission, Outcome.Outcome, Verdict.Verdict}}}
 use Rattle.pim_model.{specs.{State.State, Step.{outcome_of, ran, run, state_after, step}}}
-use Rattle.igmp_older.{specs.{Joined.{Both, joined, joined_step, known_after, known_if, noted_if, older_of, present_end, rows_of}, Presence.{Present, doubted, has_room, hosts_on, left, looked, noted_of, report_noted, setting_or_nobody}, Routers.{queried, query_packet}, Translation.translation, declared.{older.{Older.Older, OlderKind.OlderKind}, setting.OlderHosts.OlderHosts}}}
-use Rattle.pim_session.{specs.{Front.{Front, both, bytes_queried, emission_left, emissions_left, event_queried, front_after, given, kind_queried, queries_heard, version_on}, Laws.{Served, SessionIsJoined, WithoutFrontNothingChanges, outcome_left, session_run, session_step}}}
+use Rattle.igmp_older.{specs.{Joined.{Both, joined, joined_step, known_after, known_if, noted_if, older_of, present_end, rows_of}, Modes.queries_heard, Presence.{Present, doubted, has_room, hosts_on, left, looked, noted_of, report_noted, setting_or_nobody}, Routers.{queried, query_packet}, Translation.translation, declared.{older.{Older.Older, OlderKind.OlderKind}, setting.OlderHosts.OlderHosts}}}
+use Rattle.pim_session.{specs.{Front.{Front, both, bytes_queried, emission_left, emissions_left, event_queried, front_after, given, kind_queried, version_on}, Laws.{Served, SessionIsJoined, WithoutFrontNothingChanges, outcome_left, session_run, session_step}}}
 
 -- ---- nothing stands before the router
 

@@ -4,12 +4,14 @@ use Rattle.std.{specs.{Option.option_map_or, Prelude.{ℕ, Bool, true, false, �
 use Rattle.pim_ip.{specs.declared.refusal.Refusal.Refusal}
 use Rattle.pim_types.{specs.declared.{event.{Event.Event, EventKind.EventKind}, outcome.Emission.Emission}}
 use Rattle.pim_model.{specs.{State.{State, iface_count}, Step.step, Sure.needs_no_memory}}
-use Rattle.igmp_older.{specs.{Joined.{Both, event_given, joined_step, rows_of}, Presence.{Present, hosts_on, rows_told, with_hosts}, Routers.{cut, queried, query_packet}, Translation.translation, declared.{mode.OlderRow.OlderRow, setting.{OlderHosts.OlderHosts, QueryVersion.QueryVersion}}}}
+use Rattle.igmp_older.{specs.{Joined.{Both, event_given, joined_step, rows_of}, Modes.queries_heard, Presence.{Present, hosts_on, rows_told, with_hosts}, Routers.{cut, queried, query_packet}, Translation.translation, declared.{mode.OlderRow.OlderRow, router.ResponseTimes.ResponseTimes, setting.{OlderHosts.OlderHosts, QueryVersion.QueryVersion}}}}
 
--- what is known of older hosts, and the versions in which the interfaces query, by their numbers
+-- What is known of older hosts, the versions in which the interfaces query, by their numbers, and the times in which
+-- hosts answer.
 pub record Front : Type 0 where
   pub present : Present
   pub versions : List QueryVersion
+  pub times : ResponseTimes
 
 -- a version in which an interface queries, or version 3
 abbrev pub version_or_three : Option QueryVersion → QueryVersion
@@ -21,13 +23,6 @@ unfoldable pub version_on : Front → ℕ → QueryVersion
 version_on f i = version_or_three (slice_get f.versions i)
 
 -- ---- an event as the router is given it
-
--- older queries are heard on an interface that hears older hosts, and on one that queries in version 2
-abbrev pub queries_heard : OlderHosts → QueryVersion → Bool
-queries_heard hosts QueryVersion.Two = true
-queries_heard OlderHosts.All QueryVersion.Three = true
-queries_heard OlderHosts.VersionTwo QueryVersion.Three = true
-queries_heard OlderHosts.Nobody QueryVersion.Three = false
 
 -- queries of version 2 are heard on an interface
 abbrev pub hears_queries : Front → ℕ → Bool
@@ -70,13 +65,13 @@ front_after (Some f) s e = Some (record f { present = (joined_step (both f s) (e
 -- ---- emissions as they leave
 
 -- a packet as it leaves on an interface that queries in a version
-abbrev pub bytes_left : QueryVersion → List ℕ → List ℕ
-bytes_left QueryVersion.Two bytes = unwrap_or (cut bytes) bytes
-bytes_left QueryVersion.Three bytes = bytes
+abbrev pub bytes_left : ResponseTimes → QueryVersion → List ℕ → List ℕ
+bytes_left times QueryVersion.Two bytes = unwrap_or (cut times bytes) bytes
+bytes_left times QueryVersion.Three bytes = bytes
 
 -- a query on an interface of version 2 is cut
 unfoldable pub emission_left : Front → Emission → Emission
-emission_left f (Emission.Link i bytes) = Emission.Link i (bytes_left (version_on f i.number) bytes)
+emission_left f (Emission.Link i bytes) = Emission.Link i (bytes_left f.times (version_on f i.number) bytes)
 emission_left f (Emission.Unicast destination bytes) = Emission.Unicast destination bytes
 
 -- packets as they leave behind a front, if there is one
@@ -105,11 +100,19 @@ is_sure (Some f) s e = is_passed f s e.kind && needs_no_memory (step s (given (S
 
 -- ---- settings
 
+-- the times in which hosts answer a router's queries, as they are configured
+abbrev pub times_in : State → ResponseTimes
+times_in s = record {
+  general = s.settings.query_response_interval;
+  specific = s.settings.last_member_query_interval;
+}
+
 -- what stands before a router of which nothing was set: nobody is heard, and all interfaces query in version 3
 abbrev pub unset : State → Front
 unset s = record {
   present = record { rows = []; limit = s.settings.limit; hosts = replicate (iface_count s) OlderHosts.Nobody };
   versions = replicate (iface_count s) QueryVersion.Three;
+  times = times_in s;
 }
 
 -- the front of a session, or one without settings

@@ -8,11 +8,11 @@ ghost use Rattle.igmp_older.specs.Joined.{event_given, rows_of};
 ghost use Rattle.igmp_older.specs.Presence.{hosts_on};
 ghost use Rattle.igmp_older.specs.Translation.{translation};
 ghost use Rattle.pim_session.specs.Behind.{Gave, Stepped, Took, frame_event, is_done, is_plain, packet_of};
-ghost use Rattle.pim_session.specs.Front.{both, emissions_left, event_queried, front_after, front_of, given, is_sure, hosts_set, interface_test, older_rows, version_set};
+ghost use Rattle.pim_session.specs.Front.{both, emissions_left, event_queried, front_after, front_of, given, is_sure, hosts_set, interface_test, older_rows, times_in, version_set};
 
 use crate::asked::Asked;
 use crate::front::Front;
-use igmp_older::{Given, OlderHosts, OlderRow, QueryVersion, give_query};
+use igmp_older::{Given, OlderHosts, OlderRow, QueryVersion, ResponseTimes, give_query};
 use pim_intake::LentEvent;
 use pim_intake::lent::LentKind;
 use pim_router::Router;
@@ -240,6 +240,16 @@ pub(crate) fn step(
     Ok(told)
 }
 
+/// The times in which hosts answer the router's queries.
+pub(crate) fn times_in(router: &Router) -> ResponseTimes
+    ensures { IfSome router.now.standing (λ r. result ≡ times_in r.state) }
+{
+    ResponseTimes {
+        general: router.query_response_interval(),
+        specific: router.last_member_query_interval(),
+    }
+}
+
 // What stands before a router: what stood there, or what is made. Only the latter may fail for want of memory.
 fn front_of(alloc: Global, router: &Router, front: Option<Front>) -> Result<Front, AllocError>
     ensures made { IfSome router.now.standing (λ r. IfOk result (λ made. made ≡ front_of r.state front)) }
@@ -247,7 +257,12 @@ fn front_of(alloc: Global, router: &Router, front: Option<Front>) -> Result<Fron
 {
     match front {
         Some(front) => Ok(front),
-        None => Front::new(alloc, router.limit(), router.interface_count()),
+        None => Front::new(
+            alloc,
+            router.limit(),
+            router.interface_count(),
+            times_in(router),
+        ),
     }
 }
 

@@ -9,8 +9,8 @@ ghost use Rattle.pim_session.specs.Front.{bytes_left, emission_left, hears_queri
 mod resized;
 
 use igmp_older::{
-    Given, OlderHosts, OlderRow, Presence, Querier, QueryVersion, cut_query, note_answered,
-    translate,
+    Given, OlderHosts, OlderRow, Presence, Querier, QueryVersion, ResponseTimes, cut_query,
+    note_answered, translate,
 };
 use pim_types::{Emission, IfaceId, Refusal, Series, Verdict};
 use std::alloc::{AllocError, Global};
@@ -20,6 +20,7 @@ use std::marker::Model;
 pub struct Front {
     presence: Presence,
     versions: Vec<QueryVersion>,
+    times: ResponseTimes,
 }
 
 impl Model for Front {
@@ -27,7 +28,7 @@ impl Model for Front {
 
     ghost Value = { Front };
 
-    ghost view = { λ f. record { present = f.presence; versions = f.versions.items } };
+    ghost view = { λ f. record { present = f.presence; versions = f.versions.items; times = f.times } };
 }
 
 // Called at each exit of an owner, where a derived drop would be spelled out and proved anew.
@@ -36,6 +37,7 @@ impl Drop for Front {
         let Front {
             presence: _,
             versions: _,
+            times: _,
         } = self;
     }
 }
@@ -67,17 +69,27 @@ impl Front {
     ghost use Rattle.igmp_older.specs.declared.setting.QueryVersion.{QueryVersion};
 
     /// Nobody is heard on any of as many interfaces, all of which query in version 3. Later as many older hosts are
-    /// remembered as the limit says.
-    pub(crate) fn new(alloc: Global, limit: u32, count: u32) -> Result<Front, AllocError>
+    /// remembered as the limit says, and queries of version 2 leave with these times.
+    pub(crate) fn new(
+        alloc: Global,
+        limit: u32,
+        count: u32,
+        times: ResponseTimes,
+    ) -> Result<Front, AllocError>
         ensures { IfOk result (λ front. front ≡ record {
           present = record { rows = []; limit = limit; hosts = replicate count OlderHosts.Nobody };
           versions = replicate count QueryVersion.Three;
+          times = times;
         }) }
     {
         let hosts = nobody(alloc, count)?;
         let versions = three(alloc, count)?;
         let presence = Presence::new(alloc, limit as usize, hosts);
-        Ok(Front { presence, versions })
+        Ok(Front {
+            presence,
+            versions,
+            times,
+        })
     }
 
     // The version in which an interface queries.
@@ -95,10 +107,8 @@ impl Front {
     pub(crate) fn hears_queries(&self, iface: IfaceId) -> bool
         ensures { result ≡ hears_queries self.now iface.number }
     {
-        match (self.presence.hosts(iface), self.version(iface)) {
-            (OlderHosts::Nobody, QueryVersion::Three) => false,
-            _ => true,
-        }
+        self.version(iface)
+            .hears_queries(self.presence.hosts(iface))
     }
 
     /// What the querier is to be given in place of a packet that came on an interface, as `igmp_older::translate` says.
@@ -191,14 +201,14 @@ impl Front {
         iface: IfaceId,
         bytes: Series<u8>,
     ) -> Result<Series<u8>, AllocError>
-        ensures { IfOk result (λ left. left ≡ bytes_left (version_on self.now iface.number) bytes) }
+        ensures { IfOk result (λ left. left ≡ bytes_left self.now.times (version_on self.now iface.number) bytes) }
     {
         match self.version(iface) {
             QueryVersion::Three => return Ok(bytes),
             QueryVersion::Two => {}
         }
         let mut shorter = Vec::new(alloc);
-        if cut_query(alloc, bytes.as_slice(), &mut shorter)? {
+        if cut_query(alloc, self.times, bytes.as_slice(), &mut shorter)? {
             return Ok(Series::from_vec(shorter));
         }
         Ok(bytes)

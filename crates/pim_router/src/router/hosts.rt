@@ -32,6 +32,28 @@ impl Router {
         self.core.world.settings().limit
     }
 
+    /// [Query Response Interval] as it is configured, in tenths of a second; 0 where the router has failed. No memory is
+    /// taken.
+    pub fn query_response_interval(&self) -> u32
+        ensures { result ≡ option_map_or (λ r. r.state.settings.query_response_interval) self.now.standing 0 }
+    {
+        if self.failed {
+            return 0;
+        }
+        self.core.world.settings().query_response_interval
+    }
+
+    /// [Last Member Query Interval] as it is configured, in tenths of a second; 0 where the router has failed. No memory
+    /// is taken.
+    pub fn last_member_query_interval(&self) -> u32
+        ensures { result ≡ option_map_or (λ r. r.state.settings.last_member_query_interval) self.now.standing 0 }
+    {
+        if self.failed {
+            return 0;
+        }
+        self.core.world.settings().last_member_query_interval
+    }
+
     /// The present moment, in ms; 0 where the router has failed. No memory is taken.
     pub fn present(&self) -> u64
         ensures { result ≡ option_map_or (λ r. r.state.present) self.now.standing 0 }

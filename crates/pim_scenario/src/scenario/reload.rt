@@ -25,6 +25,7 @@ pub(super) fn config_text_in(alloc: Global, table: &Table) -> Result<ConfigText,
             "qri",
             "lmqi",
             "older_hosts",
+            "query_version",
             "routes",
             "rps",
         ],
@@ -36,7 +37,7 @@ pub(super) fn config_text_in(alloc: Global, table: &Table) -> Result<ConfigText,
     Ok(ConfigText {
         config,
         links,
-        older_hosts: router::older_hosts_in(table)?,
+        front: router::front_in(table)?,
     })
 }
 

@@ -4,14 +4,14 @@ ghost use Rattle.std.specs.List.{AllZip};
 ghost use Rattle.std.specs.Result.{result_ok};
 ghost use Rattle.toml.specs.View.{view, table_view};
 ghost use Rattle.pim_scenario.specs.Scenario.{IsConfig, IsInterface, IsLink, IsRouter, IsTable};
-ghost use Rattle.pim_scenario.specs.Scenario.{names_after, older_hosts_at, place_of, spt_switch_at, IsNumbered};
+ghost use Rattle.pim_scenario.specs.Scenario.{names_after, front_at, older_hosts_at, place_of, query_version_at, spt_switch_at, IsNumbered};
 ghost use Rattle.pim_scenario.specs.Scenario.{HasNumbered, AreRouters};
 ghost use Rattle.pim_scenario.specs.Texts.{ReadsExactly};
 ghost use Rattle.pim_scenario.specs.Links.{names_in};
 
 use super::links::LinkNames;
-use super::{Link, RouterText, Scenario, Unread, Wrong, address, field, routes};
-use igmp_older::OlderHosts;
+use super::{FrontText, Link, RouterText, Scenario, Unread, Wrong, address, field, routes};
+use igmp_older::{OlderHosts, QueryVersion};
 use pim_types::{Config, InterfaceConfig, Series, SptSwitch};
 use std::alloc::Global;
 use toml::{Table, Value};
@@ -66,6 +66,7 @@ fn router_in<'a>(
             "qri",
             "lmqi",
             "older_hosts",
+            "query_version",
             "routes",
             "rps",
         ],
@@ -79,7 +80,7 @@ fn router_in<'a>(
         name,
         config,
         links,
-        older_hosts: older_hosts_in(table)?,
+        front: front_in(table)?,
     })
 }
 
@@ -152,7 +153,17 @@ fn spt_switch_in(table: &Table) -> Result<SptSwitch, Wrong>
     }
 }
 
-pub(super) fn older_hosts_in(table: &Table) -> Result<OlderHosts, Wrong>
+/// What a table says of what stands before its router.
+pub(super) fn front_in(table: &Table) -> Result<FrontText, Wrong>
+    ensures { result_ok result ≡ front_at (table_view table.now) }
+{
+    Ok(FrontText {
+        older_hosts: older_hosts_in(table)?,
+        query_version: query_version_in(table)?,
+    })
+}
+
+fn older_hosts_in(table: &Table) -> Result<OlderHosts, Wrong>
     ensures { result_ok result ≡ older_hosts_at (table_view table.now) }
 {
     match field::optional_text(table, "older_hosts")? {
@@ -160,6 +171,16 @@ pub(super) fn older_hosts_in(table: &Table) -> Result<OlderHosts, Wrong>
         Some("v2") => Ok(OlderHosts::VersionTwo),
         Some("all") => Ok(OlderHosts::All),
         Some(_) => Err(Wrong),
+    }
+}
+
+fn query_version_in(table: &Table) -> Result<QueryVersion, Wrong>
+    ensures { result_ok result ≡ query_version_at (table_view table.now) }
+{
+    match field::number_or(table, "query_version", 3)? {
+        2 => Ok(QueryVersion::Two),
+        3 => Ok(QueryVersion::Three),
+        _ => Err(Wrong),
     }
 }
 

@@ -13,6 +13,7 @@ ghost use Rattle.pim_session.specs.Reloaded.{front_reloaded};
 ghost use Rattle.pim_state.specs.declared.touched.Touched.{Touched as TouchedValue};
 
 use super::Session;
+use crate::behind::times_in;
 use crate::front::Front;
 use pim_router::Router;
 use pim_types::{Config, Emission, Fault, Refusal};
@@ -89,7 +90,7 @@ fn follow(
         return Ok((sent, None));
     };
     let left = standing.emissions_left(alloc, sent)?;
-    standing.resize(router.limit(), router.interface_count())?;
+    standing.resize(router.limit(), router.interface_count(), times_in(router))?;
     Ok((left, Some(standing)))
 }
 
