@@ -17,7 +17,7 @@ from pimtext.facts import DELAYS, SETTINGS, USUAL
 
 MOST_ROUTERS, MOST_IFACES, MOST_ROUTES, MOST_RPS = 64, 120, 100_000, 256
 
-CONFIG_KEYS = ["iface", "limit", "spt", "rv", "qi", "qri", "lmqi", "older_hosts", "query_version", "routes", "rps"]
+CONFIG_KEYS = ["iface", "limit", "spt", "rv", "qi", "qri", "lmqi", "older_hosts", "query_version", "guard", "routes", "rps"]
 ROUTER_KEYS = ["name", *CONFIG_KEYS]
 IFACE_KEYS = ["link", "address", "priority", "propagation", "override"]
 MOVE_KEYS = {
@@ -228,6 +228,7 @@ class Judge:
             made[key] = self.number(table, key, USUAL[key], where)
         self.word(table, "spt", ("always", "never"), where)
         self.word(table, "older_hosts", ("none", "v2", "all"), where)
+        self.word(table, "guard", ("off", "on"), where)
         version = table.get("query_version")
         if version is not None and self.number(table, "query_version", 3, where) not in (2, 3, None):
             self.fault(version.line, where, f"`query_version` is {found(version)}, and wanted is 2 or 3")

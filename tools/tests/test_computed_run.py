@@ -98,7 +98,7 @@ class Read(unittest.TestCase):
             except run.SetAside as reason:
                 aside[path.name] = str(reason)
         known = ("its text is refused, before|it ends with an error that no|isn't UTF-8|isn't TOML|two interfaces on "
-                 "its link|speaks older versions|has a reload")
+                 "its link|speaks older versions|has a guard|has a reload")
         self.assertFalse({name: why for name, why in aside.items() if not re.search(known, why)})
 
     def test_a_refused_configuration(self):

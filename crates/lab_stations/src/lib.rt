@@ -10,7 +10,7 @@ mod table;
 mod trouble;
 
 pub use frames::{Delivery, Departure, Frame, Frames};
-pub use line::{MoveLine, PacketLine, Way};
+pub use line::{GuardedLine, MoveLine, PacketLine, Way};
 pub use lines::Lines;
 pub use names::Names;
 pub use station::{Reloaded, Station, link_numbers};

@@ -21,6 +21,21 @@ impl fmt::Display for MoveLine<'_> {
     }
 }
 
+/// A move that a router's guard stopped.
+#[derive(Clone, Copy)]
+pub struct GuardedLine<'a> {
+    pub number: usize,
+    pub router: &'a str,
+}
+
+impl fmt::Display for GuardedLine<'_> {
+    fn fmt<W: fmt::Write>(&self, f: &mut fmt::Formatter<W>) -> fmt::Result {
+        let number = self.number;
+        let router = self.router;
+        write!(f, "move {number} {router} ignored Guarded")
+    }
+}
+
 // What a router answered.
 #[derive(Clone, Copy)]
 struct Answered(Result<Verdict, Refusal>);

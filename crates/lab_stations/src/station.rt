@@ -1,10 +1,12 @@
 //! The routers of a scenario, as they are printed and found.
 ghost use Rattle.std.specs.Prelude.{◌≡◌, IfOk, map};
+ghost use Rattle.pim_guard.specs.Guard.{is_stopped};
 ghost use Rattle.lab_stations.specs.Queries.{hears_queries, kind_heard};
 ghost use Rattle.lab_stations.specs.Stations.{nobody_behind};
 
-use crate::line::{MoveLine, PacketLine, Way};
+use crate::line::{GuardedLine, MoveLine, PacketLine, Way};
 use igmp_older::{OlderHosts, Presence, QueryVersion, ResponseTimes, cut_query, give_query};
+use pim_guard::{stops_frame, stops_unicast};
 use pim_scenario::{FrontText, Link};
 use pim_types::{Addr, Config, Emission, Event, EventKind, IfaceId, Refusal, Series, Verdict};
 use std::alloc::{AllocError, Global};
@@ -50,6 +52,8 @@ pub struct Station {
     pub presence: Presence,
     /// The version in which the router queries.
     pub version: QueryVersion,
+    /// Whether a guard stands before the router.
+    pub guard: bool,
     times: ResponseTimes,
 }
 
@@ -74,6 +78,7 @@ impl Station {
             addresses,
             presence,
             version: front.query_version,
+            guard: front.guard,
             times: times_of(config),
         })
     }
@@ -92,10 +97,25 @@ impl Station {
         self.presence.resize(limit as usize, count)?;
         set_hosts(&mut self.presence, count, front.older_hosts);
         self.version = front.query_version;
+        self.guard = front.guard;
         self.times = times;
         self.links = links;
         self.addresses = addresses;
         Ok(())
+    }
+
+    /// Whether the router's guard stops an event.
+    pub fn stops(&self, event: &Event) -> bool
+        ensures { result ≡ is_stopped self.now.guard event.now.kind }
+    {
+        if !self.guard {
+            return false;
+        }
+        match &event.kind {
+            EventKind::Frame { bytes, .. } => stops_frame(bytes.as_slice()),
+            EventKind::Unicast { bytes } => stops_unicast(bytes.as_slice()),
+            _ => false,
+        }
     }
 
     // Whether older queries are heard on an interface.
@@ -151,6 +171,14 @@ impl Station {
             number,
             router: self.name.as_str(),
             answer,
+        }
+    }
+
+    /// A move that the router's guard stopped.
+    pub fn guarded_line(&self, number: usize) -> GuardedLine<'_> {
+        GuardedLine {
+            number,
+            router: self.name.as_str(),
         }
     }
 

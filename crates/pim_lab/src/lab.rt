@@ -205,6 +205,10 @@ impl<W: Wire> Lab<W> {
         let Some(station) = self.stations.get_mut(at.router) else {
             return Err(Trouble::Fault(Fault::Failed));
         };
+        if station.stops(&event) {
+            lines.push(station.guarded_line(at.number))?;
+            return self.print_each(at, lines);
+        }
         let event = station.hear(self.alloc, event)?;
         let presence = &mut station.presence;
         let log = run_behind(self.alloc, &mut self.net, at.router, presence, event)?;

@@ -1,5 +1,5 @@
 -- What a document has to say for a scenario to be read from it.
-use Rattle.std.{specs.{Prelude.{◌≡◌, ◌≢◌, ◌≤◌, ◌++◌, ◌⊎◌, ℕ, true, String, List, [], ◌∷◌, codes, length, Option, Some, None, option_and_then, option_map, if◌then◌else◌, string_bytes, position, ◌==◌}, List.{All, AllPairs, AllZip, fold}, Option.is_some, Str.bytes_eq}}
+use Rattle.std.{specs.{Prelude.{◌≡◌, ◌≢◌, ◌≤◌, ◌++◌, ◌⊎◌, ℕ, Bool, true, false, String, List, [], ◌∷◌, codes, length, Option, Some, None, option_and_then, option_map, if◌then◌else◌, string_bytes, position, ◌==◌}, List.{All, AllPairs, AllZip, fold}, Option.is_some, Str.bytes_eq}}
 use Rattle.toml.{specs.{Parse.parse_document, Data.{Data, Members, as_str, as_table}}}
 use Rattle.pim_types.{specs.declared.{config.{Config.Config, InterfaceConfig.InterfaceConfig, Route.Route, RpRange.RpRange, SptSwitch.{SptSwitch, TheVariants.{Always, Never}}}, event.EventKind.EventKind}}
 use Rattle.igmp_older.{specs.declared.setting.{OlderHosts.OlderHosts, QueryVersion.QueryVersion}}
@@ -99,16 +99,27 @@ query_version_numbered n =
 abbrev pub query_version_at : Members → Option QueryVersion
 query_version_at ms = option_and_then query_version_numbered (number_or 3 (codes "query_version") ms)
 
+abbrev pub guard_named : Option (List ℕ) → Option Bool
+guard_named None = Some false
+guard_named (Some name) =
+    if bytes_eq name (codes "off") then Some false
+    else (if bytes_eq name (codes "on") then Some true else None)
+
+abbrev pub guard_at : Members → Option Bool
+guard_at ms = option_and_then guard_named (optional_text (codes "guard") ms)
+
 -- what stands before a router
 abbrev pub front_at : Members → Option FrontText
 front_at ms =
-    option_and_then (λ hosts. option_map (λ version. record { older_hosts = hosts; query_version = version })
-    (query_version_at ms)) (older_hosts_at ms)
+    option_and_then (λ hosts.
+    option_and_then (λ version.
+    option_map (λ guard. record { older_hosts = hosts; query_version = version; guard = guard })
+    (guard_at ms)) (query_version_at ms)) (older_hosts_at ms)
 
 abbrev pub router_keys : List (List ℕ)
 router_keys =
     codes "name" ∷ codes "iface" ∷ codes "limit" ∷ codes "spt" ∷ codes "rv" ∷ codes "qi" ∷ codes "qri"
-    ∷ codes "lmqi" ∷ codes "older_hosts" ∷ codes "query_version" ∷ codes "routes" ∷ codes "rps" ∷ []
+    ∷ codes "lmqi" ∷ codes "older_hosts" ∷ codes "query_version" ∷ codes "guard" ∷ codes "routes" ∷ codes "rps" ∷ []
 
 -- A table `router` is a router with its name, its links and its configuration.
 pub record IsRouter (ms : Members) (r : RouterText) : Type 0 where
@@ -125,7 +136,7 @@ pub record IsRouter (ms : Members) (r : RouterText) : Type 0 where
 abbrev pub config_keys : List (List ℕ)
 config_keys =
     codes "iface" ∷ codes "limit" ∷ codes "spt" ∷ codes "rv" ∷ codes "qi" ∷ codes "qri" ∷ codes "lmqi"
-    ∷ codes "older_hosts" ∷ codes "query_version" ∷ codes "routes" ∷ codes "rps" ∷ []
+    ∷ codes "older_hosts" ∷ codes "query_version" ∷ codes "guard" ∷ codes "routes" ∷ codes "rps" ∷ []
 
 abbrev pub NamesLink : {Z : Type 0} → Members → String Z → Type 0
 NamesLink ms name = text_at (codes "link") ms ≡ Some (string_bytes name)

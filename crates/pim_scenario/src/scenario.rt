@@ -37,6 +37,8 @@ pub struct FrontText {
     pub older_hosts: OlderHosts,
     /// The version in which the interfaces query.
     pub query_version: QueryVersion,
+    /// Whether a guard stops IGMP and PIM that would be forwarded as data.
+    pub guard: bool,
 }
 
 /// A router of a scenario.

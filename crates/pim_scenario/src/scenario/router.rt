@@ -4,7 +4,7 @@ ghost use Rattle.std.specs.List.{AllZip};
 ghost use Rattle.std.specs.Result.{result_ok};
 ghost use Rattle.toml.specs.View.{view, table_view};
 ghost use Rattle.pim_scenario.specs.Scenario.{IsConfig, IsInterface, IsLink, IsRouter, IsTable};
-ghost use Rattle.pim_scenario.specs.Scenario.{names_after, front_at, older_hosts_at, place_of, query_version_at, spt_switch_at, IsNumbered};
+ghost use Rattle.pim_scenario.specs.Scenario.{names_after, front_at, guard_at, older_hosts_at, place_of, query_version_at, spt_switch_at, IsNumbered};
 ghost use Rattle.pim_scenario.specs.Scenario.{HasNumbered, AreRouters};
 ghost use Rattle.pim_scenario.specs.Texts.{ReadsExactly};
 ghost use Rattle.pim_scenario.specs.Links.{names_in};
@@ -67,6 +67,7 @@ fn router_in<'a>(
             "lmqi",
             "older_hosts",
             "query_version",
+            "guard",
             "routes",
             "rps",
         ],
@@ -160,6 +161,7 @@ pub(super) fn front_in(table: &Table) -> Result<FrontText, Wrong>
     Ok(FrontText {
         older_hosts: older_hosts_in(table)?,
         query_version: query_version_in(table)?,
+        guard: guard_in(table)?,
     })
 }
 
@@ -181,6 +183,16 @@ fn query_version_in(table: &Table) -> Result<QueryVersion, Wrong>
         2 => Ok(QueryVersion::Two),
         3 => Ok(QueryVersion::Three),
         _ => Err(Wrong),
+    }
+}
+
+fn guard_in(table: &Table) -> Result<bool, Wrong>
+    ensures { result_ok result ≡ guard_at (table_view table.now) }
+{
+    match field::optional_text(table, "guard")? {
+        None | Some("off") => Ok(false),
+        Some("on") => Ok(true),
+        Some(_) => Err(Wrong),
     }
 }
 
