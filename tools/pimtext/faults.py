@@ -17,7 +17,9 @@ from pimtext.facts import DELAYS, SETTINGS, USUAL
 
 MOST_ROUTERS, MOST_IFACES, MOST_ROUTES, MOST_RPS = 64, 120, 100_000, 256
 
-CONFIG_KEYS = ["iface", "limit", "spt", "rv", "qi", "qri", "lmqi", "older_hosts", "query_version", "guard", "routes", "rps"]
+CONFIG_KEYS = [
+    "iface", "limit", "spt", "rv", "qi", "qri", "lmqi", "older_hosts", "query_version", "guard", "routes", "rps"
+]
 ROUTER_KEYS = ["name", *CONFIG_KEYS]
 IFACE_KEYS = ["link", "address", "priority", "propagation", "override"]
 MOVE_KEYS = {

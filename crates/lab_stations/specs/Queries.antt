@@ -1,5 +1,5 @@
 -- Events at a router in which older queries are heard.
-use Rattle.std.{specs.{Option.option_map_or, Prelude.{Bool, List, ℕ, if◌then◌else◌}}}
+use Rattle.std.{specs.Prelude.{Bool, true, false, List, ℕ, option_map, unwrap_or}}
 use Rattle.pim_types.{specs.declared.event.EventKind.EventKind}
 use Rattle.igmp_older.{specs.{Modes.queries_heard, Presence.hosts_on, Routers.{queried, query_packet}}}
 use Rattle.lab_stations.{specs.declared.station.Station.Station}
@@ -10,7 +10,8 @@ hears_queries st i = queries_heard (hosts_on st.presence i) st.version
 
 -- an older query as one of version 3, where such queries are heard
 abbrev pub bytes_heard : Bool → List ℕ → List ℕ
-bytes_heard heard bytes = if heard then option_map_or query_packet (queried bytes) bytes else bytes
+bytes_heard true bytes = unwrap_or (option_map query_packet (queried bytes)) bytes
+bytes_heard false bytes = bytes
 
 -- an event's kind with an older query in it as one of version 3
 abbrev pub kind_heard : Station → EventKind → EventKind

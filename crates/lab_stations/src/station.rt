@@ -1,7 +1,7 @@
 //! The routers of a scenario, as they are printed and found.
 ghost use Rattle.std.specs.Prelude.{◌≡◌, IfOk, map};
 ghost use Rattle.pim_guard.specs.Guard.{is_stopped};
-ghost use Rattle.lab_stations.specs.Queries.{hears_queries, kind_heard};
+ghost use Rattle.lab_stations.specs.Queries.{bytes_heard, hears_queries, kind_heard};
 ghost use Rattle.lab_stations.specs.Stations.{nobody_behind};
 
 use crate::line::{GuardedLine, MoveLine, PacketLine, Way};
@@ -114,7 +114,11 @@ impl Station {
         match &event.kind {
             EventKind::Frame { bytes, .. } => stops_frame(bytes.as_slice()),
             EventKind::Unicast { bytes } => stops_unicast(bytes.as_slice()),
-            _ => false,
+            EventKind::Advance { .. }
+            | EventKind::Up { .. }
+            | EventKind::Down { .. }
+            | EventKind::Routes { .. }
+            | EventKind::Rps { .. } => false,
         }
     }
 
@@ -125,23 +129,42 @@ impl Station {
         self.version.hears_queries(self.presence.hosts(iface))
     }
 
+    // A packet that came on an interface, in which an older query that is heard is one of version 3.
+    fn hear_bytes(
+        &self,
+        alloc: Global,
+        iface: IfaceId,
+        bytes: Series<u8>,
+    ) -> Result<Series<u8>, AllocError>
+        ensures { IfOk result (λ heard. heard ≡ bytes_heard (hears_queries self.now iface.number) bytes) }
+    {
+        if !self.hears_queries(iface) {
+            return Ok(bytes);
+        }
+        let mut query = Vec::new(alloc);
+        if give_query(alloc, bytes.as_slice(), &mut query)? {
+            return Ok(Series::from_vec(query));
+        }
+        Ok(bytes)
+    }
+
     /// An event in which an older query that the router hears is one of version 3. An `Err` is want of memory.
     pub fn hear(&self, alloc: Global, event: Event) -> Result<Event, AllocError>
         ensures { IfOk result (λ heard. heard ≡ record event { kind = kind_heard self.now event.kind }) }
     {
         let Event { draw, kind } = event;
-        let EventKind::Frame { iface, bytes } = kind else {
-            return Ok(Event { draw, kind });
+        let kind = match kind {
+            EventKind::Frame { iface, bytes } => EventKind::Frame {
+                iface,
+                bytes: self.hear_bytes(alloc, iface, bytes)?,
+            },
+            EventKind::Advance { moment } => EventKind::Advance { moment },
+            EventKind::Unicast { bytes } => EventKind::Unicast { bytes },
+            EventKind::Up { iface } => EventKind::Up { iface },
+            EventKind::Down { iface } => EventKind::Down { iface },
+            EventKind::Routes { routes } => EventKind::Routes { routes },
+            EventKind::Rps { rps } => EventKind::Rps { rps },
         };
-        let mut query = Vec::new(alloc);
-        let bytes = if self.hears_queries(iface)
-            && give_query(alloc, bytes.as_slice(), &mut query)?
-        {
-            Series::from_vec(query)
-        } else {
-            bytes
-        };
-        let kind = EventKind::Frame { iface, bytes };
         Ok(Event { draw, kind })
     }
 

@@ -12,7 +12,7 @@ event_bytes e = bytes_of_kind (e.1).kind
 
 -- ---- the packet of a move
 
-no_packet : (n : Network) (m : Move) → event_of n (move_of m) ≡ None → carried_packet n m ≡ None
+pub no_packet : (n : Network) (m : Move) → event_of n (move_of m) ≡ None → carried_packet n m ≡ None
 unfolding carried_packet
 no_packet n (Move.Event r e) is = refl
 no_packet n (Move.Deliver r i k w) is = ap (option_map event_bytes) is

@@ -141,16 +141,22 @@ impl<W: Wire> Net<W> {
         if self.failed {
             return Err(Fault::Failed);
         }
-        let delivery = match iface {
-            Some(iface) => self.network.to_interface(router, iface, frame),
-            None => self.network.to_router(router, frame),
-        };
-        let Some(delivery) = delivery else {
-            return Ok(None);
-        };
-        let port = u32::from(first_port(&self.ports, router)) + delivery.place;
-        let bytes = carry(self.alloc, &mut self.wire, port, delivery.bytes)?;
-        Ok(Some(bytes))
+        match iface {
+            Some(iface) => fetch(
+                self.alloc,
+                &self.network,
+                &mut self.wire,
+                &self.ports,
+                (router, iface, frame),
+            ),
+            None => fetch_unicast(
+                self.alloc,
+                &self.network,
+                &mut self.wire,
+                &self.ports,
+                (router, frame),
+            ),
+        }
     }
 
     /// Puts other bytes in the place of those of a frame, by its number from 1: what stands before the router that sent
@@ -354,6 +360,46 @@ fn deliver_unicast<W: Wire>(
     let port = u32::from(first_port(ports, router)) + delivery.place;
     let bytes = carry(alloc, wire, port, delivery.bytes)?;
     network.receive(router, draw, EventKind::Unicast { bytes })
+}
+
+// What the wire gives of a frame that is sent to an interface of a router.
+fn fetch<W: Wire>(
+    alloc: Global,
+    network: &Network,
+    wire: &mut W,
+    ports: &[u16],
+    place: (usize, IfaceId, u32),
+) -> Result<Option<Series<u8>>, Fault>
+    ensures { W.is_faithful ≡ true → IfSome network.now (λ n. IfOk result (λ packet.
+        packet ≡ carried_packet n (Move.Deliver place.0 place.1 place.2 0))) }
+{
+    let (router, iface, frame) = place;
+    let Some(delivery) = network.to_interface(router, iface, frame) else {
+        return Ok(None);
+    };
+    let port = u32::from(first_port(ports, router)) + delivery.place;
+    let bytes = carry(alloc, wire, port, delivery.bytes)?;
+    Ok(Some(bytes))
+}
+
+// What the wire gives of a frame that is sent to a router's own address.
+fn fetch_unicast<W: Wire>(
+    alloc: Global,
+    network: &Network,
+    wire: &mut W,
+    ports: &[u16],
+    place: (usize, u32),
+) -> Result<Option<Series<u8>>, Fault>
+    ensures { W.is_faithful ≡ true → IfSome network.now (λ n. IfOk result (λ packet.
+        packet ≡ carried_packet n (Move.DeliverUnicast place.0 place.1 0))) }
+{
+    let (router, frame) = place;
+    let Some(delivery) = network.to_router(router, frame) else {
+        return Ok(None);
+    };
+    let port = u32::from(first_port(ports, router)) + delivery.place;
+    let bytes = carry(alloc, wire, port, delivery.bytes)?;
+    Ok(Some(bytes))
 }
 
 // The first port of a router; 0 where there is no such router.
