@@ -1,13 +1,13 @@
 -- All facts that count stay few, whatever reloads came and whatever a plane reported.
-use Rattle.std.{proofs.{Common.{◌≡◌, ℕ, ◌+◌, ◌*◌, ◌≤◌, max, List, [], ◌∷◌, length, Ok, true, refl, sym, subst, arith}, Math.Nat.{mul-add, mul-one, mul_comm}}}
+use Rattle.std.{proofs.{Common.{◌≡◌, ℕ, ◌+◌, ◌*◌, ◌≤◌, max, List, [], ◌∷◌, length, Ok, true, not, refl, sym, subst, arith}, Math.Nat.{mul-add, mul-one, mul_comm}}}
 use Rattle.pim_types.{specs.{Keys.source_key, declared.{config.Config.Config, event.Event.Event, fact.Key.Key}}}
 use Rattle.law_scope.{specs.Rest.IsAtRest, proofs.Rest.{opening_is_at_rest, step_is_at_rest}}
-use Rattle.law_settled.{specs.Ready.IsSettled, proofs.StepLaws.kept_by_run}
+use Rattle.law_settled.{specs.Ready.IsSettled, proofs.{ListLaws.each_filter, StepLaws.kept_by_run}}
 use Rattle.law_restored.{specs.Reload.config_of}
 use Rattle.pim_model.{specs.{Full.counted, Limits.config_test, Registers.keepalive_period, State.{State, iface_count, opening}, Step.{rps_replaced, state_after, step}, Tables.{has_row}}}
-use Rattle.law_promises.{specs.Bounded.counted_beside_asserts, proofs.{Few.{Covered, Holds, Named, Spread, asserts_few, configured_some, holds_on, opening_holds}, Keyed.{Kept, kept_same, kept_sources, settled_kept, under_put}, KeyedEvents.row_under}}
+use Rattle.law_promises.{specs.Bounded.counted_beside_asserts, proofs.{Few.{Covered, Holds, Named, Spread, asserts_few, configured_some, holds_on, opening_holds}, Keyed.{Kept, kept_sources, settled_kept, under_put}, KeyedEvents.row_under}}
 use Rattle.law_plane.{specs.Keeping.{keep, kept_until}, proofs.Keeps.{keep_by, keep_is_at_rest, running, running_there}}
-use Rattle.law_reloaded.{specs.Reloading.{hellos_anew, reload, removals, replaced, under}, proofs.{Ground.reload_is_under, Rest.reload_leaves_rest}}
+use Rattle.law_reloaded.{specs.Reloading.{asserts_under, hellos_anew, is_won_before, reload, removals, replaced, under}, proofs.{Ground.reload_is_under, Rest.reload_leaves_rest}}
 use Rattle.law_history.{specs.{History.{AreAccepted, Given, greatest_count, greatest_limit, state_given}, Laws.CountedStayWithinTheGreatest}, proofs.{Limits.facts_stay_within_the_greatest}}
 
 limit_at_least : (before : List Given) (limit : ℕ) → limit ≤ greatest_limit limit before
@@ -39,8 +39,13 @@ module _ (n limit : ℕ) (some : 1 ≤ n) where
   -- ---- a reload
 
   under_few : (s : State) (c : Config) (ks : List Key) → Kept (Named n ks) (Spread n ks) s → Kept (Named n ks) (Spread n ks) (under s c)
-  unfolding under rps_replaced
-  under_few s c ks f = kept_same (Named n ks) (Spread n ks) s (under s c) refl f
+  unfolding under rps_replaced asserts_under
+  under_few s c ks f = record {
+    asserts = each_filter (λ e. Named n ks e.0) (λ e. not (is_won_before s c.interfaces e)) s.asserts f.asserts;
+    downstream = f.downstream;
+    groups = f.groups;
+    sources = f.sources;
+  }
 
   of_limit : (t : State) (c : Config) → config_of t ≡ c → c.limit ≤ limit → t.settings.limit ≤ limit
   unfolding config_of
