@@ -20,8 +20,6 @@ if TYPE_CHECKING:
 # What the front end is to say of an edit that no type allows.
 ERROR = re.compile(r"error\[[\w-]+\]")
 LINE = re.compile(r"(?:edit: \w+|(?:refused|file|old): .+|new:(?: .*)?|#.*|)")
-# So many edits may name no clause yet. The number may only fall.
-MAY_BE_UNNAMED = 179
 UNNAMED = "it names no reason in a line `refused: FUNCTION CLAUSE`"
 # What the prover says that is no refusal by a clause: a limit of its own, and a proof by hand that names what an edit
 # takes away.
@@ -34,8 +32,8 @@ OF_NETWORKS = {"pim_runs": ("specs/ServedChain.antt",)}
 # Where a goal isn't met: in a proof by hand, whose path ends with the function's name, or in the code.
 IN_PROOF = re.compile(r"\./proofs/(\S*)/(?:Answers|Invariants|Proof)\.antt:\d+:\d+: error: "
                       r"(?:\d+ declarations? that depends? on )?`([^`]*)`(.*)")
-# The goals of a proof by hand that stand on a declaration of its own that is rejected.
-STANDING_ON = re.compile(r", which was rejected, (?:was|were) not checked: (.*)")
+# The goals of a proof by hand that stand on a declaration that is rejected, or on one of another file of proofs.
+STANDING_ON = re.compile(r", which was (?:rejected|not admitted), (?:was|were) not checked: (.*)")
 IN_CODE = re.compile(r"(?:note: )?(src/\S+?):(\d+):\d+: (?:error: )?(.*)")
 GOAL = re.compile(r"\(`([^`]*)`")
 
@@ -227,7 +225,7 @@ class Edit:
     def reasons(self, told: str) -> list[Reason]:
         """The reasons that the prover's line tells. Of a proof by hand these are the declaration that is rejected, and
         the goals that stand on it."""
-        if NO_REFUSAL.search(told):
+        if NO_REFUSAL.search(told) and not self.is_of_network(told):
             return []
         if found := IN_PROOF.match(told):
             near = self.crate.proved_in(found[1])
@@ -242,6 +240,11 @@ class Edit:
         if one and "`invariant`" in found[3]:
             return [Reason(one, "invariant")]
         return [Reason(one, goals[-1])] if one and goals else []
+
+    def is_of_network(self, told: str) -> bool:
+        """Whether the edit is of a network, and the line tells of a run that stands on what is computed of it: such an
+        edit takes no name away."""
+        return self.files() <= set(OF_NETWORKS.get(self.crate.name, ())) and bool(STANDING_ON.search(told))
 
     def reason(self, told: str) -> Reason | None:
         """The reason that the prover's line tells: one of a clause that the function has, if there is any. None where

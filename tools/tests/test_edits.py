@@ -117,6 +117,15 @@ class Flaws(unittest.TestCase):
             with repository({f"{name}/{path}": text for path, text in files.items()}) as room:
                 self.assertIn(flaw, str(Crate(room / name).edits()[0].flaw()))
 
+    def test_a_run_of_a_network_stands_on_what_is_computed_of_it(self):
+        told = ("./proofs/lib/lower/Answers.antt:4:5: error: 1 declaration that depends on `computed`, which was not "
+                "admitted, was not checked: returns")
+        for file, is_met in (("specs/ServedChain.antt", True), ("src/lib.rt", False)):
+            files = {"src/lib.rt": SOURCE, "specs/ServedChain.antt": "one = 1\n",
+                     "edits.txt": f"edit: one\nrefused: lower ensures\nfile: {file}\nold: 1\nnew: 2\n"}
+            with repository({f"pim_runs/{path}": text for path, text in files.items()}) as room:
+                self.assertEqual(is_met, Crate(room / "pim_runs").edits()[0].meets(told))
+
 
 class Reasons(unittest.TestCase):
     """Whether a line of the prover's is the refusal that an edit names."""

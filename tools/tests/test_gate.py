@@ -2,18 +2,19 @@
 import contextlib
 import io
 import os
+import re
 import unittest
 from pathlib import Path
 from unittest import mock
 
 from pimtext import turns
-from pimtext.edits import MAY_BE_UNNAMED
 from tests import stored
 from tests.rooms import kit, repository
 
 gate = stored.tool("gate")
 TOP = stored.TOOLS.parent
 EDIT = "refused: lower ensures\nfile: src/lib.rt\nold: 1\nnew: 2\n"
+NAMED = re.compile("refused: .").match
 GOOD = ("keeps_the_whole", "goes_too_far", "raises_a_number")
 PROVED = ["== low", "rt: low proved"]
 
@@ -65,11 +66,9 @@ class Gate(unittest.TestCase):
                                "low/keeps_the_whole: STILL PROVED", "low/goes_too_far: NOT AS IT SAYS: note: src/lib")
         self.assertEqual("2 passed, 2 failed", last)
 
-    def test_one_that_names_no_clause_is_red_where_none_may(self):
+    def test_one_that_names_no_clause_is_red(self):
         came = {**refused(*GOOD), "keeps_the_whole": "NAMES NO CLAUSE: note"}
-        for may, last in ((1, "4 passed, 0 failed"), (0, "3 passed, 1 failed")):
-            with mock.patch.object(gate, "MAY_BE_UNNAMED", may):
-                self.assertEqual(last, ended(GOOD, lines(came), words=["--edits", "--alone"])[0][-1])
+        self.assertEqual("3 passed, 1 failed", ended(GOOD, lines(came), words=["--edits", "--alone"])[0][-1])
 
     def test_one_that_was_not_tried(self):
         last = self.assert_red(ended(GOOD, lines(refused(*GOOD[1:])), words=["--edits", "--alone"])[0],
@@ -193,11 +192,10 @@ class List(unittest.TestCase):
     def test_the_wrong_bodies_of_the_list_are_there(self):
         self.assertEqual([], gate.missing(TOP))
 
-    def test_no_more_edits_name_no_clause_than_may(self):
-        texts = [edit for name in turns.with_edits(TOP)
-                 for edit in gate.texts_of(TOP / "crates" / name).values()]
-        unnamed = [edit for edit in texts if not any(line.startswith("refused: ") for line in edit)]
-        self.assertLessEqual(len(unnamed), MAY_BE_UNNAMED)
+    def test_each_edit_names_a_clause(self):
+        texts = {f"{name}/{edit}": its for name in turns.with_edits(TOP)
+                 for edit, its in gate.texts_of(TOP / "crates" / name).items()}
+        self.assertEqual([], [edit for edit, its in texts.items() if not any(map(NAMED, its))])
 
 
 if __name__ == "__main__":
