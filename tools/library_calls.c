@@ -25,6 +25,17 @@ static void set_sum(uint8_t *bytes, size_t length, size_t place) {
     bytes[place + 1] = (uint8_t)~sum;
 }
 
+/* Before each event the packets of the one before are dropped, but where a call is written in brackets. */
+#define viq_advance(router, ...) (viq_clear(router), viq_advance(router, __VA_ARGS__))
+#define viq_frame(router, ...) (viq_clear(router), viq_frame(router, __VA_ARGS__))
+#define viq_unicast(router, ...) (viq_clear(router), viq_unicast(router, __VA_ARGS__))
+#define viq_up(router, ...) (viq_clear(router), viq_up(router, __VA_ARGS__))
+#define viq_down(router, ...) (viq_clear(router), viq_down(router, __VA_ARGS__))
+#define viq_routes(router, ...) (viq_clear(router), viq_routes(router, __VA_ARGS__))
+#define viq_ranges(router, ...) (viq_clear(router), viq_ranges(router, __VA_ARGS__))
+#define viq_seen(router, ...) (viq_clear(router), viq_seen(router, __VA_ARGS__))
+#define viq_reload(router, ...) (viq_clear(router), viq_reload(router, __VA_ARGS__))
+
 static const struct viq_settings usual = VIQ_USUAL_SETTINGS;
 static const struct viq_interface three[] = {{0x0a000002, 24, 1, 500, 2500}, {0x0a000101, 24, 1, 500, 2500}, {0x0a000201, 24, 1, 500, 2500}};
 static const struct viq_route two[] = {{0x0a090900, 24, 0x0a000001, 0, 110, 20}, {0x0a000300, 24, 0x0a000001, 0, 110, 20}};
@@ -68,7 +79,8 @@ static void without_a_router(void) {
     is("ranges without a router", viq_ranges(NULL, one, 1, viq_draw(0)), VIQ_NO_ROUTER);
     is("reload without a router", reloaded(NULL, &usual, 3), VIQ_NO_ROUTER);
     is("packets without a router", viq_packets(NULL), 0);
-    is("packet without a router", viq_packet(NULL, 0, &packet, room, 2), false);
+    is("packet without a router", viq_take(NULL, &packet, room, 2), false);
+    viq_clear(NULL);
     is("its packet", packet.kind == 7 && packet.iface == 7 && packet.destination == 7 && packet.length == 7, true);
     is("its room", room[0] == 7 && room[1] == 7, true);
     is("copies without a router", viq_copies(NULL), 0);
@@ -270,37 +282,62 @@ static void moments_and_interfaces(struct viq_router *router) {
 }
 
 static void packets(struct viq_router *router) {
-    uint8_t wanted[VIQ_MOST_BYTES], room[VIQ_MOST_BYTES], small[9];
+    uint8_t wanted[VIQ_MOST_BYTES], room[VIQ_MOST_BYTES];
     struct viq_packet packet = {7, 7, 7, 7};
     size_t length = bytes_of(copy, wanted);
     is("hello", frame(router, 0, hello_above), VIQ_DONE);
     is("hello of the other", frame(router, 1, hello_below), VIQ_DONE);
     is("join", frame(router, 1, join), VIQ_DONE);
     is("a Hello and a Join", viq_packets(router), 2);
-    is("the Join", viq_packet(router, 1, &packet, room, sizeof room), true);
+    is("the Hello", viq_take(router, &packet, room, sizeof room), true);
+    is("the Join", viq_take(router, &packet, room, sizeof room), true);
     is("it is no copy", packet.kind == VIQ_FRAME && packet.iface == 0, true);
     is("none is a copy", viq_copies(router), 0);
     is("data", frame(router, 0, data), VIQ_DONE);
     is("one packet", viq_packets(router), 1);
     is("a copy", viq_copies(router), 1);
-    is("the copy", viq_packet(router, 0, &packet, room, sizeof room), true);
+    packet.length = 7;
+    memset(room, 7, sizeof room);
+    is("the copy into a room that is one byte too small", viq_take(router, &packet, room, length - 1), false);
+    is("the copy into no room", viq_take(router, &packet, room, 0), false);
+    is("the copy into no room at NULL", viq_take(router, &packet, NULL, 0), false);
+    is("what isn't written", packet.length == 7 && room[0] == 7 && viq_packets(router) == 1, true);
+    is("the copy", viq_take(router, &packet, room, sizeof room), true);
     is("what it is", packet.kind == VIQ_COPY && packet.iface == 1 && packet.destination == 0 && packet.length == length, true);
     is("its bytes", memcmp(room, wanted, length) == 0, true);
-    memset(small, 7, sizeof small);
-    is("the copy into a small room", viq_packet(router, 0, &packet, small, 8), true);
-    is("its length", packet.length, length);
-    is("the room", memcmp(small, wanted, 8) == 0 && small[8] == 7, true);
-    is("the copy into no room", viq_packet(router, 0, &packet, small, 0), true);
-    is("the copy into no room at NULL", viq_packet(router, 0, &packet, NULL, 0), true);
-    memset(room, 7, sizeof room);
-    is("the copy into a large room", viq_packet(router, 0, &packet, room, sizeof room), true);
     is("the rest of the room", room[length] == 7 && room[sizeof room - 1] == 7, true);
-    is("a second packet", viq_packet(router, 1, &packet, room, sizeof room), false);
-    is("the largest number", viq_packet(router, SIZE_MAX, &packet, room, sizeof room), false);
+    is("it is taken", viq_packets(router), 0);
+    is("a second packet", viq_take(router, &packet, room, sizeof room), false);
+    is("what was sent", viq_copies(router), 1);
     is("the node of the group and of the source", viq_probes(router) >= 1, true);
     is("data of the known source", frame(router, 0, data), VIQ_DONE);
     is("its nodes", viq_probes(router) >= 1 && viq_probes(router) <= 66, true);
     is("no row is touched", viq_touched(router), 0);
+}
+
+/* Whether an event is refused, and nothing is changed by it. */
+static void untaken(struct viq_router *router) {
+    static uint8_t before[4096], after[sizeof before];
+    uint8_t bytes[VIQ_MOST_BYTES];
+    size_t length = bytes_of(data, bytes), size = 0, size_after = 0;
+    viq_clear(router);
+    is("a frame whose copy stays", (viq_frame)(router, 0, bytes, length, viq_draw(0)), VIQ_DONE);
+    is("save before", viq_save(router, before, sizeof before, &size), VIQ_DONE);
+    uint32_t answers[] = {
+        (viq_advance)(router, 9, viq_draw(0)), (viq_frame)(router, 0, bytes, length, viq_draw(0)),
+        (viq_frame)(router, 9, NULL, 0, viq_draw(0)), (viq_unicast)(router, NULL, 0, viq_draw(0)),
+        (viq_up)(router, 0, viq_draw(0)), (viq_down)(router, 0, viq_draw(0)),
+        (viq_routes)(router, two, 1, viq_draw(0)), (viq_ranges)(router, one, 0, viq_draw(0)),
+        (viq_seen)(router, 0, 0x0a000305, 0xe1010101, viq_draw(0)),
+        (viq_reload)(router, &usual, three, COUNT(three), two, COUNT(two), one, COUNT(one), viq_draw(0))};
+    for (size_t at = 0; at < COUNT(answers); at++) is("untaken", answers[at], VIQ_UNTAKEN);
+    is("keep sends nothing", viq_keep(router, 0x0a000306, 0xe1010101, 1), VIQ_NO_TIMER);
+    is("save after", viq_save(router, after, sizeof after, &size_after), VIQ_DONE);
+    is("the same state", size == size_after && memcmp(before, after, size) == 0, true);
+    is("the packet is there", viq_packets(router) == 1 && viq_copies(router) == 1 && viq_touched(router) == 0, true);
+    viq_clear(router);
+    is("it is dropped", viq_packets(router), 0);
+    is("what is ignored is taken", (viq_up)(router, 0, viq_draw(0)), VIQ_ALREADY);
 }
 
 static void tables(struct viq_router *router) {
@@ -607,7 +644,7 @@ static void end_of_older(struct viq_router *router) {
     uint8_t room[VIQ_MOST_BYTES];
     is("a report of IGMPv2", older(router, 1, 9, REPORT_TWO, THEIRS), VIQ_DONE);
     is("its Leave", older(router, 1, 9, LEAVE, THEIRS), VIQ_DONE);
-    is("the query of the group", viq_packet(router, 0, &packet, room, sizeof room), true);
+    is("the query of the group", viq_take(router, &packet, room, sizeof room), true);
     is("it is one of IGMPv3", packet.iface == 1 && packet.length == 36, true);
     is("nobody answers", viq_advance(router, 5 + 2000, viq_draw(0)), VIQ_DONE);
     is("groups", viq_read(router, 'G'), VIQ_DONE);
@@ -617,7 +654,7 @@ static void end_of_older(struct viq_router *router) {
     is("version 2", viq_query_version(router, 1, 2), VIQ_DONE);
     is("a report of IGMPv2 again", older(router, 1, 9, REPORT_TWO, THEIRS), VIQ_DONE);
     is("its Leave again", older(router, 1, 9, LEAVE, THEIRS), VIQ_DONE);
-    is("the query of the group again", viq_packet(router, 0, &packet, room, sizeof room), true);
+    is("the query of the group again", viq_take(router, &packet, room, sizeof room), true);
     is("it is one of IGMPv2", packet.iface == 1 && packet.length == 32 && room[24] == QUERY && room[25] == 10, true);
     is("a query of IGMPv2 where hosts aren't heard", older(router, 0, 1, QUERY, 0), VIQ_OLD_VERSION);
     is("version 2 there", viq_query_version(router, 0, 2), VIQ_DONE);
@@ -642,7 +679,6 @@ static void older_versions(void) {
 static void refused_reloads(struct viq_router *router) {
     static const struct viq_settings bad = {0, 2, 125, 100, 10, false};
     static const size_t counts[] = {0, VIQ_MOST_INTERFACES + 1, SIZE_MAX};
-    size_t before = viq_packets(router);
     is("a row that was read", viq_read(router, 'N') == VIQ_DONE && viq_rows(router) == 2, true);
     is("a bad limit", reloaded(router, &bad, 3), VIQ_BAD_LIMIT);
     for (size_t at = 0; at < COUNT(counts); at++)
@@ -650,7 +686,6 @@ static void refused_reloads(struct viq_router *router) {
     is("a route of no interface", viq_reload(router, &usual, three, 1, (struct viq_route[]){{0, 0, 0x0a000201 + 5, 2, 0, 0}}, 1, NULL, 0, viq_draw(0)), VIQ_CONFIGURED_ROUTES);
     is("too many routes", viq_reload(router, &usual, three, 3, two, SIZE_MAX, one, 1, viq_draw(0)), VIQ_CONFIGURED_ROUTES);
     is("too many ranges", viq_reload(router, &usual, three, 3, two, 2, one, SIZE_MAX, viq_draw(0)), VIQ_CONFIGURED_RANGES);
-    is("the packets stay", viq_packets(router), before);
     is("the rows stay", viq_rows(router), 2);
     is("nothing may differ by it", viq_may_differ(router, 0x0a000306, 0xe1010102), false);
 }
@@ -677,7 +712,7 @@ static void other_configurations(struct viq_router *router) {
     four[1].priority = 9;
     is("another priority, an interface more, a limit below the facts", viq_reload(router, &small, four, 4, two, COUNT(two), one, COUNT(one), viq_draw(7)), VIQ_DONE);
     is("a Hello", viq_packets(router), 1);
-    is("there", viq_packet(router, 0, &packet, room, sizeof room) && packet.kind == VIQ_FRAME && packet.iface == 1, true);
+    is("there", viq_take(router, &packet, room, sizeof room) && packet.kind == VIQ_FRAME && packet.iface == 1, true);
     is("the new one is down", viq_link(router, 3, &link) && !link.is_up, true);
     is("it goes up", viq_up(router, 3, viq_draw(7)), VIQ_DONE);
     is("facts stay", viq_read(router, 'D') == VIQ_DONE && viq_rows(router) == 1, true);
@@ -860,13 +895,12 @@ static size_t put(uint8_t *to, uint64_t number, size_t width) {
     return width;
 }
 
-/* The sum of the packets that are told one by one. */
-static uint32_t sum_of_told(struct viq_router *router) {
+/* The sum of the packets, which are taken one by one. */
+static uint32_t sum_of_taken(struct viq_router *router) {
     uint32_t crc = 0xffffffff;
-    for (size_t n = 0; n < viq_packets(router); n++) {
-        struct viq_packet packet;
-        uint8_t room[VIQ_MOST_BYTES], head[13];
-        is("a packet to be summed", viq_packet(router, n, &packet, room, sizeof room), true);
+    struct viq_packet packet;
+    uint8_t room[VIQ_MOST_BYTES], head[13];
+    while (viq_take(router, &packet, room, sizeof room)) {
         head[0] = packet.kind == VIQ_UNICAST ? 'u' : 'f';
         put(head + 1, packet.kind == VIQ_UNICAST ? packet.destination : packet.iface, 4);
         put(head + 5, packet.length, 8);
@@ -941,9 +975,12 @@ static void records(void) {
     packets(router);
     is("data that is summed", frame(router, 0, data), VIQ_DONE);
     is("there are packets", viq_packets(router) != 0, true);
-    is("their sum", viq_sum(router), sum_of_told(router));
+    uint32_t sum = viq_sum(router);
+    is("their sum", sum, sum_of_taken(router));
+    is("the sum of none", viq_sum(router), 0);
     is("time that is summed", viq_advance(router, 100000, viq_draw(9)), VIQ_DONE);
-    is("the sum of messages", viq_sum(router), sum_of_told(router));
+    sum = viq_sum(router);
+    is("the sum of messages", sum, sum_of_taken(router));
     record_calls();
     record_lists();
     viq_end(router);
@@ -956,6 +993,7 @@ static void texts(void) {
     is("no answer", strcmp(viq_answer_text(10), "no answer of this library"), 0);
     is("refused", viq_is_refused(VIQ_FULL) && viq_is_refused(38) && !viq_is_refused(VIQ_DONE) && !viq_is_refused(VIQ_MEMORY), true);
     is("ignored", viq_is_ignored(VIQ_OWN) && viq_is_ignored(VIQ_ALREADY) && !viq_is_ignored(VIQ_NO_TIMER) && !viq_is_ignored(VIQ_NOT_QUIET) && !viq_is_ignored(VIQ_IGNORED), true);
+    is("untaken", viq_is_refused(VIQ_UNTAKEN) || viq_is_ignored(VIQ_UNTAKEN) || viq_is_lost(VIQ_UNTAKEN), false);
     is("lost", viq_is_lost(VIQ_LOST) && viq_is_lost(VIQ_FAILED) && !viq_is_lost(VIQ_MEMORY), true);
     is("the last reason", strcmp(viq_answer_text(VIQ_ALREADY), viq_answer_text(VIQ_ALREADY + 1)) != 0, true);
 }
@@ -968,6 +1006,7 @@ int main(void) {
     is("new of another", made(&other, &usual), VIQ_DONE);
     moments_and_interfaces(router);
     packets(router);
+    untaken(router);
     cached(router);
     told_trees(router);
     told_links(router);

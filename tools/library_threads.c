@@ -16,7 +16,9 @@ static uint32_t mixed(uint32_t sum, uint32_t value) { return (sum ^ value) * 167
 
 /* What a router answers and sends, as a sum. */
 static uint32_t took(struct viq_router *router, uint32_t sum, uint32_t answer) {
-    return mixed(mixed(mixed(sum, answer), viq_sum(router)), (uint32_t)viq_packets(router));
+    sum = mixed(mixed(mixed(sum, answer), viq_sum(router)), (uint32_t)viq_packets(router));
+    viq_clear(router);
+    return sum;
 }
 
 static uint32_t round_of(struct viq_router *router, uint32_t sum, uint64_t moment) {

@@ -102,10 +102,11 @@ uint32_t viq_ranges(struct viq_router *router, const struct viq_range *ranges, s
 
 size_t viq_packets(const struct viq_router *router) { return viq_core_packets(CORE(router)); }
 
-bool viq_packet(const struct viq_router *router, size_t index, struct viq_packet *packet, uint8_t *room,
-                size_t room_length) {
-    return viq_core_packet(CORE(router), index, packet, room, room_length);
+bool viq_take(struct viq_router *router, struct viq_packet *packet, uint8_t *room, size_t room_length) {
+    return viq_core_take(CORE(router), packet, room, room_length);
 }
+
+void viq_clear(struct viq_router *router) { viq_core_clear(CORE(router)); }
 
 uint32_t viq_copies(const struct viq_router *router) { return viq_core_copies(CORE(router)); }
 

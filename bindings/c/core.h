@@ -41,8 +41,8 @@ uint32_t viq_core_down(struct viq_core *router, uint32_t draw, uint32_t iface);
 uint32_t viq_core_routes(struct viq_core *router, uint32_t draw, const struct viq_route *routes, size_t count);
 uint32_t viq_core_ranges(struct viq_core *router, uint32_t draw, const struct viq_range *ranges, size_t count);
 size_t viq_core_packets(struct viq_core *router);
-bool viq_core_packet(struct viq_core *router, size_t index, struct viq_packet *packet, uint8_t *room,
-                     size_t room_length);
+bool viq_core_take(struct viq_core *router, struct viq_packet *packet, uint8_t *room, size_t room_length);
+void viq_core_clear(struct viq_core *router);
 uint32_t viq_core_copies(struct viq_core *router);
 uint64_t viq_core_next_moment(struct viq_core *router);
 uint32_t viq_core_read(struct viq_core *router, uint8_t letter);

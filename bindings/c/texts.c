@@ -45,6 +45,7 @@ const char *viq_answer_text(uint32_t answer) {
     case VIQ_NO_TIMER: return "no keepalive timer of the source runs";
     case VIQ_OTHER_ABI: return "the program was compiled for another version of the library";
     case VIQ_NO_SETTING: return "no setting has this number";
+    case VIQ_UNTAKEN: return "packets of the event before are untaken";
     case VIQ_NOT_OURS: return "the bytes are no saved state";
     case VIQ_OTHER_VERSION: return "the state was saved in another version of its format";
     case VIQ_CUT_SHORT: return "the saved state is cut short";

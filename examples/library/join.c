@@ -33,7 +33,7 @@ static void took(struct viq_router *router, uint32_t answer) {
     if (viq_is_ignored(answer)) printf("move %d r ignored %u\n", ++moves, (unsigned)answer);
     else if (viq_is_refused(answer)) printf("move %d r refused %u\n", ++moves, (unsigned)answer);
     else printf("move %d r done\n", ++moves);
-    for (size_t at = 0; viq_packet(router, at, &packet, bytes, sizeof bytes); at++) print_packet(&packet, bytes);
+    while (viq_take(router, &packet, bytes, sizeof bytes)) print_packet(&packet, bytes);
 }
 
 /* A packet came on an interface. The draw should be a random number. */

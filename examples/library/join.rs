@@ -1,6 +1,6 @@
 //! The same as `join.c`, in Rust.
 use std::net::Ipv4Addr;
-use viqeshor::{Error, Interface, Kind, Range, Route, Router, Settings, Verdict};
+use viqeshor::{Error, Interface, Range, Route, Router, Settings, Target, Verdict};
 
 fn bytes_of(hex: &str) -> Vec<u8> {
     let digit = |at: usize| hex.as_bytes()[at] as char;
@@ -28,24 +28,18 @@ impl Printer {
             }
             Err(fault) => return Err(fault),
         }
-        for sent in router.packets() {
+        for sent in router.drain() {
             self.frames += 1;
             let hex: String = sent
                 .bytes
                 .iter()
                 .map(|byte| format!("{byte:02x}"))
                 .collect();
-            let (number, packet) = (self.frames, sent.packet);
-            match packet.kind {
-                Kind::Unicast => println!("unicast {number} {} {hex}", packet.destination),
-                Kind::Copy => println!(
-                    "copy {number} {} {hex}",
-                    ["n", "m", "o"][packet.iface as usize]
-                ),
-                _ => println!(
-                    "frame {number} {} {hex}",
-                    ["n", "m", "o"][packet.iface as usize]
-                ),
+            let (number, link) = (self.frames, |iface: u32| ["n", "m", "o"][iface as usize]);
+            match sent.target {
+                Target::Unicast(to) => println!("unicast {number} {to} {hex}"),
+                Target::Copy(iface) => println!("copy {number} {} {hex}", link(iface)),
+                Target::Frame(iface) => println!("frame {number} {} {hex}", link(iface)),
             }
         }
         Ok(())

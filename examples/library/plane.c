@@ -44,7 +44,7 @@ static void print_packet(const struct viq_packet *packet, const uint8_t *bytes) 
 static void print_sent(void) {
     uint8_t bytes[VIQ_MOST_BYTES];
     struct viq_packet packet;
-    for (size_t at = 0; viq_packet(router, at, &packet, bytes, sizeof bytes); at++) print_packet(&packet, bytes);
+    while (viq_take(router, &packet, bytes, sizeof bytes)) print_packet(&packet, bytes);
 }
 
 /* ---- rows */

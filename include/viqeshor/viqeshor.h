@@ -1,9 +1,9 @@
 /* The multicast router in programs of other languages: PIM Sparse Mode (RFC 7761) and IGMPv3 (RFC 3376).
  *
- * A program gives the router its events, by one call an event, and after each event sends the packets that the router
- * lists. The router starts no thread, opens no socket and reads no clock. With the program's own `clock_ms`, `receive`,
- * `wait_until` and `send`, and a `send_all` that is one line, `for (n = 0; viq_packet(router, n, &packet, room, sizeof
- * room); n++) send(&packet, room);`:
+ * A program gives the router its events, by one call an event, and after each event takes the packets that are to be
+ * sent: until then the router takes no other event. The router starts no thread, opens no socket and reads no clock.
+ * With the program's own `clock_ms`, `receive`, `wait_until` and `send`, and a `send_all` that is one line, `while
+ * (viq_take(router, &packet, room, sizeof room)) send(&packet, room);`:
  *
  *     while (viq_advance(router, clock_ms(), viq_draw(random())) == VIQ_DONE) {        time passes
  *         send_all(router);                                                            packets out
@@ -65,7 +65,7 @@ extern "C" {
 /* The number of what a compiled program and a library have to agree on: the values, the calls and the numbers of this
  * header and of plane.h. Wherever one of them changes, this number changes. A program passes it to viq_new and
  * viq_restore, which refuse any other. */
-#define VIQ_ABI 5
+#define VIQ_ABI 6
 
 /* The library's number: VIQ_ABI as it was built with. */
 uint32_t viq_abi(void);
@@ -131,6 +131,7 @@ enum {
     VIQ_NO_TIMER = 52, /* no keepalive timer of the source runs, and none was started */
     VIQ_OTHER_ABI = 53, /* the program was compiled for another library than this one */
     VIQ_NO_SETTING = 54, /* no setting has this number */
+    VIQ_UNTAKEN = 55,   /* packets of the event before are untaken, and nothing has changed: viq_take, viq_clear */
 
     /* of saved bytes */
     VIQ_NOT_OURS = 60,
@@ -228,8 +229,8 @@ uint32_t viq_new(struct viq_router **router, uint32_t abi, const struct viq_sett
  * room. The interfaces that stay keep what viq_older and viq_query_version set, and the groups in an older mode; one that
  * is added is as in a new router.
  *
- * It answers VIQ_DONE; a refusal of 30 to 38 as viq_new does, or VIQ_MEMORY, where nothing has changed; VIQ_LOST,
- * VIQ_FAILED or VIQ_NO_ROUTER. Once it is done, what is to be sent is what it sent, and viq_copies answers 0; the rows
+ * It answers VIQ_DONE; a refusal of 30 to 38 as viq_new does, VIQ_UNTAKEN or VIQ_MEMORY, where nothing has changed;
+ * VIQ_LOST, VIQ_FAILED or VIQ_NO_ROUTER. Once it is done, what it sent is to be sent, and viq_copies answers 0; the rows
  * that were read are dropped; and a data plane reads all its rows again: viq_changed lists each source with a fact before
  * or after it, and viq_may_differ is true for all sources. */
 VIQ_READ_ANSWER VIQ_NOT_NULL(2)
@@ -249,7 +250,7 @@ void viq_end(struct viq_router *router);
  * where nothing is written.
  *
  * These aren't saved, and a program keeps what it needs of them: what the clock showed at time 0, the source of draws,
- * packets that weren't sent, rows that were read, and what viq_older and viq_query_version set and the groups in an
+ * packets that are untaken, rows that were read, and what viq_older and viq_query_version set and the groups in an
  * older mode. */
 VIQ_READ_ANSWER VIQ_NOT_NULL(4)
 uint32_t viq_save(const struct viq_router *router, uint8_t *room, size_t room_length, size_t *size);
@@ -262,7 +263,10 @@ uint32_t viq_save(const struct viq_router *router, uint8_t *room, size_t room_le
 VIQ_READ_ANSWER VIQ_NOT_NULL(1)
 uint32_t viq_restore(struct viq_router **router, uint32_t abi, const uint8_t *bytes, size_t length);
 
-/* ---- events: each answers VIQ_DONE, a reason to ignore, a refusal of 1 to 26, VIQ_LOST, VIQ_FAILED or VIQ_NO_ROUTER
+/* ---- events: each answers VIQ_DONE, a reason to ignore, a refusal of 1 to 26, VIQ_UNTAKEN, VIQ_LOST, VIQ_FAILED or
+ * VIQ_NO_ROUTER
+ *
+ * While packets of the event before are untaken each event answers VIQ_UNTAKEN, and nothing changes.
  *
  * Where memory is refused for an event the router is lost: it answers VIQ_LOST, and VIQ_FAILED to every later event.
  * The event didn't happen, and nothing of it is to be sent. Routes and ranges are copied before the router takes them:
@@ -295,8 +299,10 @@ uint32_t viq_routes(struct viq_router *router, const struct viq_route *routes, s
 VIQ_READ_ANSWER
 uint32_t viq_ranges(struct viq_router *router, const struct viq_range *ranges, size_t count, struct viq_draw draw);
 
-/* ---- what is to be sent, of the last event that wasn't answered VIQ_MEMORY, or of viq_reload since. A lost router, and
- * NULL, have nothing to send. */
+/* ---- what is to be sent: the packets of the last event, or of viq_reload since, that are untaken
+ *
+ * Each packet is given once, in the order in which they are to leave, and none is lost but by viq_clear. A lost router,
+ * and NULL, have nothing to send. */
 
 /* The most bytes that a packet has. */
 #define VIQ_MOST_BYTES 1528
@@ -315,18 +321,20 @@ struct viq_packet {
     size_t length;        /* bytes, at most VIQ_MOST_BYTES */
 };
 
-/* How many packets there are. */
+/* How many packets are untaken. */
 VIQ_READ_ANSWER
 size_t viq_packets(const struct viq_router *router);
 
-/* One of them, counted from 0 in the order in which they are to leave. Its bytes are written into `room`, as many as
- * room_length allows; the rest of `room` is unchanged. It answers false, and writes nothing, where there is none of
- * that number. */
-VIQ_NOT_NULL(3)
-bool viq_packet(const struct viq_router *router, size_t index, struct viq_packet *packet, uint8_t *room,
-                size_t room_length);
+/* Takes the first of them. Its bytes are written into `room`; the rest of `room` is unchanged. It answers false, and
+ * nothing changes, where none is untaken, or room_length is less than the packet's length: VIQ_MOST_BYTES is enough for
+ * each. */
+VIQ_READ_ANSWER VIQ_NOT_NULL(2)
+bool viq_take(struct viq_router *router, struct viq_packet *packet, uint8_t *room, size_t room_length);
 
-/* How many of them are copies. */
+/* Drops all that are untaken. */
+void viq_clear(struct viq_router *router);
+
+/* How many copies the last event sent, taken or not. */
 VIQ_READ_ANSWER
 uint32_t viq_copies(const struct viq_router *router);
 
@@ -692,7 +700,8 @@ uint32_t viq_record_reload(const struct viq_call *call, const struct viq_setting
                            const struct viq_route *routes, size_t route_count, const struct viq_range *ranges,
                            size_t range_count, uint8_t *room, size_t room_length, size_t *size);
 
-/* The sum of the packets that are to be sent, as viq_packets counts them: their CRC-32 (RFC 1952, section 8). */
+/* The sum of the packets that are untaken, as viq_packets counts them: their CRC-32 (RFC 1952, section 8). So it is
+ * asked for before they are taken. */
 VIQ_READ_ANSWER
 uint32_t viq_sum(const struct viq_router *router);
 

@@ -3,6 +3,7 @@ use crate::error::Fatal;
 use crate::left::Told;
 use crate::mroute::Key;
 use crate::older::Speech;
+use crate::outgoing::Outgoing;
 use crate::packet::{self, is_pim, HELLO};
 use crate::plane::Row;
 use crate::recorder::{answer_of, Configuration, Place, Recorder};
@@ -13,8 +14,8 @@ use rand::{Rng, RngCore, SeedableRng};
 use std::collections::BTreeMap;
 use std::net::Ipv4Addr;
 use viqeshor::{
-    Error, Link, NeighbourRow, OlderRow, Packet, Range, Refusal, Route, Router, Sent, SourceTree, Table, TableRow,
-    Tree, Verdict, MOST_BYTES,
+    Error, Link, NeighbourRow, OlderRow, Range, Refusal, Route, Router, SourceTree, Table, TableRow, Target, Tree,
+    Verdict,
 };
 
 /// A Hello that an event triggers leaves after a part of Triggered_Hello_Delay, in ms (RFC 7761, 4.3.1 and 4.11), which
@@ -61,6 +62,8 @@ pub enum Answer {
 
 pub struct Core {
     router: Router,
+    /// What is to leave, of the events since `each_packet`.
+    sent: Outgoing,
     /// By which it was made, or goes on.
     pub told: Told,
     draws: StdRng,
@@ -113,6 +116,7 @@ impl Core {
     fn of(router: Router, told: Told) -> Result<Core, Fatal> {
         Ok(Core {
             router,
+            sent: Outgoing::default(),
             told,
             draws: StdRng::from_rng(OsRng)?,
             speech: BTreeMap::new(),
@@ -127,7 +131,7 @@ impl Core {
         Core::of(Router::restore(saved).map_err(Fatal::Settings)?, told)
     }
 
-    /// The router's state as bytes. What the last event sent isn't in them.
+    /// The router's state as bytes. What is to leave isn't in them.
     pub fn save(&self) -> Result<Vec<u8>, Error> {
         self.router.save()
     }
@@ -217,10 +221,12 @@ impl Core {
         let draw = self.draws.next_u32();
         let (given, ranges) = (settings_of(settings), ranges_of(&settings.rps));
         let done = self.router.reload(&given, interfaces, routes, &ranges, draw);
+        let before = self.sent.len();
+        self.sent.take(&mut self.router);
         if let Some(recorder) = &mut self.recorder {
             let configuration = Configuration { settings: &given, interfaces, routes, ranges: &ranges };
             let answer = done.map_or_else(Error::number, |()| 0);
-            let written = recorder.reload(&self.router, &configuration, draw, answer);
+            let written = recorder.reload(self.sent.since(before), &configuration, draw, answer);
             self.was_recorded(written);
         }
         match done {
@@ -257,8 +263,10 @@ impl Core {
             Event::Ranges(ranges) => router.set_ranges(ranges, draw),
             Event::Seen(iface, key) => router.seen(iface, key.source, key.group, draw),
         };
+        let before = self.sent.len();
+        self.sent.take(router);
         if let Some(recorder) = &mut self.recorder {
-            let written = recorder.event(router, &event, draw, answer_of(&verdict));
+            let written = recorder.event(self.sent.since(before), &event, draw, answer_of(&verdict));
             self.was_recorded(written);
         }
         match verdict {
@@ -275,19 +283,15 @@ impl Core {
         *self.next.get_or_insert_with(|| router.next_moment())
     }
 
-    /// Whether no packet is to leave after the last event.
+    /// Whether no packet is to leave.
     pub fn sends_nothing(&self) -> bool {
-        self.router.packet_count() == 0
+        self.sent.len() == 0
     }
 
-    /// Hands on each packet that the last event sent, in the order in which they are to leave.
-    pub fn each_packet(&mut self, take: impl FnMut(&Packet, &[u8])) {
-        self.router.each_packet(&mut [0; MOST_BYTES], take);
-    }
-
-    /// The same, each with whether it is a copy of data.
-    pub fn packets(&mut self) -> Vec<Sent> {
-        self.router.packets()
+    /// Hands on each packet that is to leave, once, in the order in which they are to.
+    pub fn each_packet(&mut self, mut take: impl FnMut(Target, &[u8])) {
+        self.sent.since(0).for_each(|(target, bytes)| take(target, bytes));
+        self.sent.clear();
     }
 
     /// The sources whose rows the last event changed.

@@ -34,7 +34,7 @@ use std::collections::{BTreeMap, BTreeSet};
 use std::net::Ipv4Addr;
 use std::path::{Path, PathBuf};
 use std::time::{Duration, Instant};
-use viqeshor::{Route, Table};
+use viqeshor::{Route, Table, Target};
 use watched::Kind;
 
 /// The most bytes of Join/Prunes that leave together: the library of another router reads no more.
@@ -359,18 +359,17 @@ impl Daemon {
 
     // ---- what leaves
 
-    /// Sends what the last event named, Join/Prunes to a neighbour together.
+    /// Sends what is to leave, Join/Prunes to a neighbour together.
     fn leave(&mut self) {
         if self.core.sends_nothing() {
             return;
         }
         let Daemon { core, kernel, ports, policy, counters, settings, machine, .. } = self;
         let mut packing = Packing::default();
-        core.each_packet(|packet, bytes| {
-            let to = packet.iface;
-            if packet.is_unicast() {
+        core.each_packet(|target, bytes| {
+            let Some(to) = target.iface() else {
                 return send_unicast(kernel.as_mut(), counters, bytes);
-            }
+            };
             let index = ports.get(to as usize).and_then(|port| port.index).filter(|_| settings.packs);
             let most = index.map_or(0, |index| machine.mtu(index).min(MOST_PACKED));
             for left in packing.take(to, bytes, most) {
@@ -388,16 +387,17 @@ impl Daemon {
     fn leave_as(&mut self, itself: &[u8]) {
         let Daemon { core, kernel, ports, policy, counters, .. } = self;
         counters.stood_in += 1;
-        for sent in core.packets() {
-            let to = sent.packet.iface;
-            if sent.packet.is_unicast() {
-                let bytes = stand_in::register(itself, &sent.bytes).unwrap_or(sent.bytes);
-                send_unicast(kernel.as_mut(), counters, &bytes);
-            } else {
-                let bytes = if sent.packet.is_copy() { stand_in::copy(itself, &sent.bytes) } else { sent.bytes };
-                send_on(kernel.as_mut(), ports.get_mut(to as usize), policy.is_passive(to), &bytes);
+        let mut send = |to: u32, bytes: &[u8], kernel: &mut dyn Kernel| {
+            send_on(kernel, ports.get_mut(to as usize), policy.is_passive(to), bytes)
+        };
+        core.each_packet(|target, bytes| match target {
+            Target::Unicast(_) => {
+                let whole = stand_in::register(itself, bytes);
+                send_unicast(kernel.as_mut(), counters, whole.as_deref().unwrap_or(bytes));
             }
-        }
+            Target::Copy(to) => send(to, &stand_in::copy(itself, bytes), kernel.as_mut()),
+            Target::Frame(to) => send(to, bytes, kernel.as_mut()),
+        });
     }
 
     // ---- the kernel's forwarding cache

@@ -17,6 +17,7 @@ mod mroute;
 mod netlink;
 mod notify;
 mod older;
+mod outgoing;
 mod packed;
 mod packet;
 mod plane;

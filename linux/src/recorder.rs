@@ -13,7 +13,7 @@ use std::io::{self, Write};
 use std::path::PathBuf;
 use std::time::Duration;
 use time::OffsetDateTime;
-use viqeshor::{Call, Error, Interface, Kind, Packet, Range, Route, Router, Settings, Verdict, MOST_BYTES};
+use viqeshor::{Call, Error, Interface, Range, Route, Router, Settings, Target, Verdict};
 
 const MAGIC: &[u8; 4] = b"VQRC";
 const VERSION: u16 = 2;
@@ -63,28 +63,25 @@ pub fn answer_of(verdict: &Result<Verdict, Error>) -> u32 {
     }
 }
 
-/// What `Router::sum` tells of what is to be sent, by the processor's own instructions.
-fn sum_of(router: &Router) -> u32 {
+/// What `Router::sum` tells of packets before they are taken, by the processor's own instructions.
+fn sum_of<'a>(sent: impl Iterator<Item = (Target, &'a [u8])>) -> u32 {
     let mut hasher = crc32fast::Hasher::new();
-    if router.packet_count() == 0 {
-        return hasher.finalize();
-    }
-    router.each_packet(&mut [0; MOST_BYTES], |packet: &Packet, bytes| {
-        let (letter, place): (u8, u32) = match packet.kind {
-            Kind::Unicast => (b'u', packet.destination.into()),
-            _ => (b'f', packet.iface),
+    for (target, bytes) in sent {
+        let (letter, place): (u8, u32) = match target {
+            Target::Unicast(to) => (b'u', to.into()),
+            Target::Frame(iface) | Target::Copy(iface) => (b'f', iface),
         };
         hasher.update(&[letter]);
         hasher.update(&place.to_be_bytes());
         hasher.update(&(bytes.len() as u64).to_be_bytes());
         hasher.update(bytes);
-    });
+    }
     hasher.finalize()
 }
 
 /// A call with this draw that had this answer; nothing of a call that wasn't done is to be sent.
-fn answered(router: &Router, draw: u32, answer: u32) -> Call {
-    let sum = if answer == DONE { sum_of(router) } else { 0 };
+fn answered<'a>(sent: impl Iterator<Item = (Target, &'a [u8])>, draw: u32, answer: u32) -> Call {
+    let sum = if answer == DONE { sum_of(sent) } else { 0 };
     Call { draw, answer, sum, ..Call::default() }
 }
 
@@ -166,9 +163,15 @@ impl Recorder {
         }
     }
 
-    /// What the router answered to an event.
-    pub fn event(&mut self, router: &Router, event: &Event, draw: u32, answer: u32) -> io::Result<()> {
-        let call = answered(router, draw, answer);
+    /// What the router answered to an event, and sent.
+    pub fn event<'a>(
+        &mut self,
+        sent: impl Iterator<Item = (Target, &'a [u8])>,
+        event: &Event,
+        draw: u32,
+        answer: u32,
+    ) -> io::Result<()> {
+        let call = answered(sent, draw, answer);
         let (kind, to) = (|letter: u8| u32::from(letter), &mut self.waiting);
         let put = match *event {
             Event::Advance(moment) => Call { letter: kind(b'a'), moment, ..call }.put(&[], to),
@@ -187,9 +190,15 @@ impl Recorder {
         self.was_put()
     }
 
-    /// What the router answered to another configuration.
-    pub fn reload(&mut self, router: &Router, it: &Configuration, draw: u32, answer: u32) -> io::Result<()> {
-        let call = answered(router, draw, answer);
+    /// What the router answered to another configuration, and sent.
+    pub fn reload<'a>(
+        &mut self,
+        sent: impl Iterator<Item = (Target, &'a [u8])>,
+        it: &Configuration,
+        draw: u32,
+        answer: u32,
+    ) -> io::Result<()> {
+        let call = answered(sent, draw, answer);
         let put = call.put_reload(it.settings, it.interfaces, it.routes, it.ranges, &mut self.waiting);
         put.map_err(refused)?;
         self.was_put()
@@ -250,6 +259,7 @@ impl Drop for Recorder {
 #[cfg(test)]
 mod tests {
     use super::*;
+    use crate::outgoing::Outgoing;
     use std::net::Ipv4Addr;
 
     const OWN: Ipv4Addr = Ipv4Addr::new(10, 1, 0, 1);
@@ -257,6 +267,14 @@ mod tests {
     fn router() -> Router {
         let interfaces = [viqeshor::Interface::new(OWN, 24)];
         Router::new(&viqeshor::Settings::default(), &interfaces, &[], &[]).unwrap()
+    }
+
+    /// What it has to send, with the sum that it tells of it.
+    fn taken(router: &mut Router) -> (Outgoing, u32) {
+        let (mut sent, sum) = (Outgoing::default(), router.sum());
+        sent.take(router);
+        assert_eq!(sum_of(sent.since(0)), sum);
+        (sent, sum)
     }
 
     fn place(name: &str, size: u64) -> Place {
@@ -272,13 +290,12 @@ mod tests {
         let state = router.save().unwrap();
         let mut recorder = Recorder::begin(&place, &mut router, &speech, 0).unwrap();
         let answer = answer_of(&router.up(0, 7));
-        recorder.event(&router, &Event::Up(0), 7, answer).unwrap();
-        let sum = router.sum();
+        let (sent, sum) = taken(&mut router);
         assert_ne!(sum, 0);
-        assert_eq!(sum_of(&router), sum);
+        recorder.event(sent.since(0), &Event::Up(0), 7, answer).unwrap();
         let routes = [Route::new(Ipv4Addr::new(10, 9, 0, 0), 16, Ipv4Addr::new(10, 1, 0, 2), 0)];
         let answer = answer_of(&router.set_routes(&routes, 8));
-        recorder.event(&router, &Event::Routes(&routes), 8, answer).unwrap();
+        recorder.event(taken(&mut router).0.since(0), &Event::Routes(&routes), 8, answer).unwrap();
         let key = Key { source: OWN, group: Ipv4Addr::new(239, 1, 1, 1) };
         recorder.kept(key, 5, false).unwrap();
         let interfaces = [Interface { priority: 7, ..Interface::new(OWN, 24) }];
@@ -286,10 +303,9 @@ mod tests {
         let settings = Settings { limit: 1000, stays_on_shared_tree: true, ..Settings::default() };
         router.reload(&settings, &interfaces, &routes, &ranges, 9).unwrap();
         let given = Configuration { settings: &settings, interfaces: &interfaces, routes: &routes, ranges: &ranges };
-        recorder.reload(&router, &given, 9, DONE).unwrap();
-        let sum_then = router.sum();
+        let (sent, sum_then) = taken(&mut router);
         assert_ne!(sum_then, 0);
-        assert_eq!(sum_of(&router), sum_then);
+        recorder.reload(sent.since(0), &given, 9, DONE).unwrap();
         recorder.end_turn(&mut router, &speech, 0).unwrap();
         assert_eq!(recorder.due(), Some(WAITS));
         recorder.end_turn(&mut router, &speech, WAITS).unwrap();
@@ -319,7 +335,7 @@ mod tests {
         let mut recorder = Recorder::begin(&place, &mut router, &speech, 0).unwrap();
         for moment in 1..1_000 {
             let answer = answer_of(&router.advance(moment, 0));
-            recorder.event(&router, &Event::Advance(moment), 0, answer).unwrap();
+            recorder.event(taken(&mut router).0.since(0), &Event::Advance(moment), 0, answer).unwrap();
             recorder.end_turn(&mut router, &speech, moment).unwrap();
             let sizes = [0, 1].map(|number| std::fs::metadata(place.path(number)).map_or(0, |it| it.len()));
             assert!(sizes.iter().sum::<u64>() <= 4_100, "{sizes:?}");

@@ -57,6 +57,7 @@ static void play(FILE *file) {
             iface = (unsigned)atoi(line + 3);
         uint32_t answer = is_counted ? counted(line[0], iface, length) : take(line[0], iface, length);
         if (line[0] == 'r') route_count = 0;
+        viq_clear(router);
         if (is_counted) printf("%u %llu\n", (unsigned)answer, (unsigned long long)viq_probes(router));
         if (!is_counted && answer != VIQ_DONE) exit(1);
     }

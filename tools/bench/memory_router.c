@@ -24,6 +24,7 @@ int main(int words, char **word) {
     if (viq_new(&router, VIQ_ABI, &settings, interfaces, INTERFACES, routes, 2, ranges, 1) != VIQ_DONE) return 1;
     while (fgets(line, sizeof line, file)) {
         size_t length = 0;
+        viq_clear(router);
         if (sscanf(line, "up %u", &iface) == 1 && viq_up(router, iface, viq_draw(7)) != VIQ_DONE) return 1;
         if (sscanf(line, "frame %u %s", &iface, hex) != 2) continue;
         for (; sscanf(hex + 2 * length, "%2x", &byte) == 1; length++) packet[length] = (uint8_t)byte;

@@ -21,11 +21,13 @@ static void play(const char *path) {
     FILE *file = fopen(path, "r");
     while (file && fgets(line, sizeof line, file)) {
         size_t length = 0;
+        viq_clear(router);
         if (sscanf(line, "up %u", &iface) == 1) must(viq_up(router, iface, viq_draw(7)));
         if (sscanf(line, "frame %u %s", &iface, hex) != 2) continue;
         for (; sscanf(hex + 2 * length, "%2x", &byte) == 1; length++) packet[length] = (uint8_t)byte;
         must(viq_frame(router, iface, packet, length, viq_draw(7)));
     }
+    viq_clear(router);
 }
 
 static uint32_t source_of(uint32_t row) { return 0x0a090000 + row; }
@@ -58,7 +60,7 @@ __attribute__((noinline)) void counted(char call, const uint8_t *packet, uint32_
     switch (call) {
     case 'f':
         must(viq_frame(router, 0, packet, BYTES, viq_draw(7)));
-        for (size_t at = 0, count = viq_packets(router); at < count; at++) viq_packet(router, at, &copy, room, sizeof room);
+        while (viq_take(router, &copy, room, sizeof room)) continue;
         break;
     case 's': must(viq_seen(router, 0, source, group, viq_draw(7))); break;
     case 'k': must(viq_keep(router, source, group, now)); break;
@@ -83,9 +85,11 @@ int main(int words, char **word) {
     for (uint32_t at = 0; at < 2 * rows; at++) {
         make_data(packet, at % rows);
         must(viq_frame(router, 0, packet, BYTES, viq_draw(7)));
+        viq_clear(router);
     }
     for (uint32_t at = 0, row = 0; at < count; at++, row = (row + 7919) % rows) {
         if (at % 64 == 0) must(viq_advance(router, now++, viq_draw(7)));
+        viq_clear(router);
         make_data(packet, row);
         counted(word[3][0], packet, source_of(row), group_of(row));
     }

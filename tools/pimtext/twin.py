@@ -152,7 +152,7 @@ class Twin:
     def __init__(self, table: dict[str, Any]) -> None:
         self.first = self.table = table
         self.events, self.saved = [], {}
-        self.router, self.taken = None, 0
+        self.router, self.taken, self.sent = None, 0, []
 
     def take_note(self, step: Step) -> None:
         """The same of a step that the router may have refused or ignored."""
@@ -161,7 +161,8 @@ class Twin:
 
     def last(self) -> list[viqeshor.Sent]:
         """What left with the last event."""
-        return self.after(len(self.events)).packets()
+        self.after(len(self.events))
+        return self.sent
 
     def add(self, step: Step) -> None:
         """The router took one event more."""
@@ -183,7 +184,7 @@ class Twin:
         return self.router
 
     def take(self, event: fed.Event) -> None:
-        answer = take(self.router, event, self.table)
+        answer, self.sent = take(self.router, event, self.table), self.router.packets()
         if event.name == "reload" and answer == viqeshor.Answer.DONE:
             (self.table,) = event.values
 

@@ -149,6 +149,7 @@ static void put_behind_a_plane(void) {
 }
 
 static uint32_t play(struct viq_router *router, const struct event *event) {
+    viq_clear(router);
     switch (event->kind) {
     case 'a': return viq_advance(router, event->moment, viq_draw(event->draw));
     case 'f': return viq_frame(router, event->iface, bytes + event->first, event->count, viq_draw(event->draw));
@@ -178,11 +179,12 @@ static uint64_t mixed(uint64_t sum, const void *from, size_t count) {
 
 static const uint64_t no_packets = 14695981039346656037u;
 
-static uint64_t packets_of(const struct viq_router *router) {
+/* It takes them. */
+static uint64_t packets_of(struct viq_router *router) {
     uint64_t sum = no_packets;
     uint8_t room[VIQ_MOST_BYTES];
     struct viq_packet packet;
-    for (size_t index = 0; viq_packet(router, index, &packet, room, sizeof room); index++) {
+    while (viq_take(router, &packet, room, sizeof room)) {
         uint64_t words[] = {packet.kind, packet.iface, packet.destination, packet.length};
         sum = mixed(mixed(sum, words, sizeof words), room, packet.length);
     }
@@ -203,8 +205,8 @@ static uint64_t cached_of(const struct viq_router *router) {
     return sum;
 }
 
-static struct seen look(const struct viq_router *router, uint32_t answer) {
-    return (struct seen){packets_of(router), cached_of(router), viq_next_moment(router), viq_probes(router), viq_touched(router),
+static struct seen look(const struct viq_router *router, uint32_t answer, uint64_t packets) {
+    return (struct seen){packets, cached_of(router), viq_next_moment(router), viq_probes(router), viq_touched(router),
                          answer, viq_copies(router)};
 }
 
@@ -315,7 +317,7 @@ static int is_lost(struct viq_router *router, uint64_t rows) {
     struct seen wanted = {no_packets, 0, VIQ_NEVER, 0, 0, VIQ_FAILED, 0};
     if (viq_offload(router, 0x0a000009, 0xe8010101, &offered) || viq_changed(router) || viq_changed_source(router, 0, &name)) return 0;
     if (viq_packets(router) != 0 || rows_of(router, 0) != rows) return 0;
-    return viq_may_differ(router, 0x0a000009, 0xe8010101) && same(look(router, VIQ_FAILED), wanted);
+    return viq_may_differ(router, 0x0a000009, 0xe8010101) && same(look(router, VIQ_FAILED, packets_of(router)), wanted);
 }
 
 /* Finds every source of which there is a fact after some event. */
@@ -358,14 +360,15 @@ static int is_sure(const struct event *event, uint32_t answer) {
 /* After memory was refused to an event: each answer says what became of the router. */
 static int after_refusal(struct viq_router *router, size_t at, uint32_t answer, struct seen before, uint64_t rows) {
     if (answer == VIQ_LOST) return is_lost(router, rows) && !is_sure(&events[at], full[at].answer) ? LOST : OTHER;
-    return is_copied(&events[at]) && same(look(router, before.answer), before) && rows_of(router, 0) == rows ? UNCHANGED : OTHER;
+    return is_copied(&events[at]) && viq_packets(router) == 0 && same(look(router, before.answer, before.packets), before) &&
+           rows_of(router, 0) == rows ? UNCHANGED : OTHER;
 }
 
 /* A run, which ends its router. */
 static int run_on(struct viq_router *router, int is_first) {
     uint64_t sum = 0;
     int was_refused = DONE_WITHOUT;
-    struct seen before = look(router, VIQ_DONE);
+    struct seen before = look(router, VIQ_DONE, no_packets);
     for (size_t at = 0; at < event_count; at++) {
         uint64_t rows = rows_of(router, 0);
         uint32_t answer = play(router, &events[at]);
@@ -374,13 +377,13 @@ static int run_on(struct viq_router *router, int is_first) {
             if (was_refused != UNCHANGED) return was_refused;
             answer = play(router, &events[at]);
         }
-        struct seen now = look(router, answer);
+        struct seen now = look(router, answer, packets_of(router));
         if (is_first) full[at] = now;
         else if (!same(now, full[at])) return OTHER;
         before = now;
         if (at % 8 == 0 && viq_read(router, (uint8_t)tables[at / 8 % 8]) == VIQ_MEMORY) {
             was_refused = UNCHANGED;
-            if (!same(look(router, answer), now) || viq_read(router, (uint8_t)tables[at / 8 % 8]) != VIQ_DONE) return OTHER;
+            if (!same(look(router, answer, now.packets), now) || viq_read(router, (uint8_t)tables[at / 8 % 8]) != VIQ_DONE) return OTHER;
         }
     }
     if (!read_all(router, &sum, &was_refused) || !is_restored(router, &was_refused)) return OTHER;

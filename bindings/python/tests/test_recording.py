@@ -94,17 +94,23 @@ class Recordings(unittest.TestCase):
         for number in (0, 1):
             self.router.up(number)
         self.router.frame(1, hosts.join("10.0.1.9", GROUP))
-        data = hosts.data("10.0.0.7", GROUP, b"word")
-        for happens in (lambda: self.router.frame(0, data), lambda: self.router.advance(40_000)):
-            happens()
-            sent = self.router.packets()
-            self.assertTrue(sent)
-            total = 0
-            for kind, where, packet in sent:
-                place = int(ipaddress.ip_address(where)) if kind == "unicast" else where
-                letter = b"u" if kind == "unicast" else b"f"
-                total = zlib.crc32(letter + struct.pack(">IQ", place, len(packet)) + packet, total)
-            self.assertEqual(recording.sum_of(self.router), total)
+        self.router.packets()
+        data, totals = hosts.data("10.0.0.7", GROUP, b"word"), []
+        with Recorder(self.router, self.path):
+            for happens in (lambda: self.router.frame(0, data), lambda: self.router.advance(40_000)):
+                happens()
+                sent = self.router.packets()
+                self.assertTrue(sent)
+                totals.append(self.total_of(sent))
+        self.assertEqual([record.total for record in recording.read(f"{self.path}.0").records], totals)
+
+    def total_of(self, sent):
+        total = 0
+        for kind, where, packet in sent:
+            place = int(ipaddress.ip_address(where)) if kind == "unicast" else where
+            letter = b"u" if kind == "unicast" else b"f"
+            total = zlib.crc32(letter + struct.pack(">IQ", place, len(packet)) + packet, total)
+        return total
 
     def test_version_1_is_read_and_played(self):
         state, packet = self.router.save(), hosts.join("10.0.1.9", GROUP)

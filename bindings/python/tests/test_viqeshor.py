@@ -77,7 +77,7 @@ class Routers(unittest.TestCase):
     def test_another_configuration(self):
         router = self.joined()
         router.frame(0, bytes.fromhex(DATA))
-        before = list(router.tables())
+        before, _ = list(router.tables()), router.packets()
         self.assertIsNone(router.reload(INTERFACES, RANGES, ROUTES, draw=7))
         self.assertEqual((router.packets(), list(router.tables())), ([], before))
         router.reload([("10.0.0.2", 24, 9, 500, 2500), *INTERFACES[1:], ("10.0.4.1", 24)], RANGES, ROUTES, limit=7)
@@ -104,7 +104,7 @@ class Routers(unittest.TestCase):
             with self.assertRaises(Refused) as caught:
                 router.reload(*given)
             self.assertEqual(caught.exception.answer, answer)
-        self.assertEqual((router.save(), router.packets()), (before, sent))
+        self.assertEqual((len(sent), router.save(), router.packets()), (5, before, []))
         with self.assertRaises(TypeError):
             router.reload(INTERFACES, limits=7)
 
@@ -125,7 +125,8 @@ class Routers(unittest.TestCase):
 
     def test_a_join_a_packet_and_its_copy(self):
         router = self.joined()
-        self.assertEqual([(one.kind, one.where) for one in router.packets()], [("frame", 0)] * 2)
+        sent = [(one.kind, one.where) for one in router.packets()]
+        self.assertEqual(sent, [("frame", 0), ("frame", 1), ("frame", 2), ("frame", 0), ("frame", 0)])
         self.assertEqual(router.frame(0, bytes.fromhex(DATA)), Answer.DONE)
         copy, = router.packets()
         self.assertEqual((copy.kind, copy.where, copy.packet[8]), ("copy", 1, 63))
@@ -183,7 +184,7 @@ class Routers(unittest.TestCase):
         unknown = router.offload(*name)
         self.assertFalse(unknown.is_known)
         self.assertIn(0, unknown.to_core)
-        self.assertEqual(router.keep(*name, 0), Answer.NO_TIMER)
+        self.assertEqual((router.keep(*name, 0), len(router.packets())), (Answer.NO_TIMER, 5))
         self.assertEqual(router.seen(0, *name), Answer.DONE)
         self.assertEqual((router.packets(), router.changed()), ([], [name]))
         self.assertEqual((router.may_differ(*name), router.may_differ("10.0.3.6", "225.1.1.2")), (True, False))
@@ -265,6 +266,24 @@ class Routers(unittest.TestCase):
         self.assertEqual([above, below], [NeighbourRow(0, "10.0.0.1", None), NeighbourRow(1, "10.0.1.2", None)])
         self.assertNotEqual(above, below)
 
+    def test_no_packet_is_lost_or_given_twice(self):
+        router, (*others, last) = self.router(), [self.router() for _ in range(3)]
+        for number in (0, 1):
+            router.up(number, draw=7)
+            others[number].up(number, draw=7)
+        alone = [one for other in others for one in other.packets()]
+        self.assertEqual(len(alone), 2)
+        self.assertEqual((router.packets(), router.packets()), (alone, []))
+        for number in (0, 1):
+            last.up(number, draw=7)
+        sent = last.run_to(0)
+        self.assertEqual((sent[:2], last.packets()), (alone, []))
+        self.assertTrue(any(packet[9] == 2 for _, _, packet in sent))
+        router.frame(0, b"")
+        self.assertEqual(router.packets(), [])
+        router.end()
+        self.assertRaises(Closed, router.packets)
+
     def test_time_passes_timer_by_timer(self):
         router = self.joined()
         sent = router.run_to(100_000)
@@ -275,6 +294,7 @@ class Routers(unittest.TestCase):
     def test_two_threads_lose_no_event(self):
         router, each, copies = self.joined(), 3000, []
         router.frame(0, bytes.fromhex(DATA))
+        router.packets()
 
         def feed():
             for _ in range(each):
@@ -338,6 +358,7 @@ class Routers(unittest.TestCase):
         router.set_older_hosts(2, "v2")
         self.assertEqual(router.older_rows(), [])
         self.assertEqual(router.frame(2, hosts.older_join("10.0.2.6", group, version=1)), Answer.OLD_VERSION)
+        router.packets()
         self.assertEqual(router.frame(2, leave), Answer.DONE)
         self.assertEqual([len(one.packet) for one in router.packets()], [36])
         router.run_to(2000)
@@ -361,6 +382,7 @@ class Routers(unittest.TestCase):
             self.assertEqual(list(other.tables()), list(router.tables()))
             self.assertEqual((other.next_moment(), other.save()), (router.next_moment(), saved))
             self.assertEqual(other.cached("10.0.3.5", "225.1.1.1"), router.cached("10.0.3.5", "225.1.1.1"))
+            router.packets()
             answers = [one.advance(100_000, draw=9) for one in (router, other)]
             self.assertEqual(answers, [Answer.DONE] * 2)
             self.assertEqual((router.packets(), router.save()), (other.packets(), other.save()))

@@ -1,19 +1,18 @@
 //! A multicast router: PIM Sparse Mode (RFC 7761) and IGMPv3 (RFC 3376). It is what `include/viqeshor/viqeshor.h`
 //! describes.
 //!
-//! A program gives a [`Router`] its events, by one call an event, and after each sends the packets that it lists. The
-//! router starts no thread, opens no socket and reads no clock. With the program's own `clock_ms`, `receive`,
-//! `wait_until`, `send` and `random`:
+//! A program gives a [`Router`] its events, by one call an event, and after each takes the packets that are to be sent:
+//! until then the router takes no other event, and answers [`Error::Untaken`]. The router starts no thread, opens no
+//! socket and reads no clock. With the program's own `clock_ms`, `receive`, `wait_until`, `send` and `random`:
 //!
 //! ```ignore
-//! let mut room = [0; MOST_BYTES];
 //! loop {
 //!     router.run_to(clock_ms(), random, send)?;                        // time passes, and packets leave
 //!     while let Some((iface, packet)) = receive() {
 //!         if let Err(lost @ (Error::Lost | Error::Failed)) = router.frame(iface, &packet, random()) {
 //!             return Err(lost);
 //!         }
-//!         router.each_packet(&mut room, send);
+//!         router.drain().for_each(|sent| send(sent.target, &sent.bytes));
 //!     }
 //!     wait_until(router.next_moment());                                // or a packet comes
 //! }
@@ -42,7 +41,7 @@ pub use trees::{Hop, LanDelay, Link, Neighbour, Path, Querier, Querying, Rpf, Rp
 /// The most bytes that a packet has.
 pub const MOST_BYTES: usize = 1528;
 /// What this crate and the library have to agree on: `VIQ_ABI` of `viqeshor.h`.
-pub const ABI: u32 = 5;
+pub const ABI: u32 = 6;
 
 const DONE: u32 = 0;
 const MEMORY: u32 = 40;
@@ -51,6 +50,7 @@ const LOST: u32 = 43;
 const NO_TIMER: u32 = 52;
 const OTHER_ABI: u32 = 53;
 const NO_SETTING: u32 = 54;
+const UNTAKEN: u32 = 55;
 const NEVER: u64 = u64::MAX;
 const NO_INTERFACE: u32 = u32::MAX;
 
@@ -289,6 +289,8 @@ pub enum Error {
     OtherAbi,
     /// The library has no setting of this number.
     NoSetting,
+    /// Packets of the event before are untaken, and nothing has changed: they are for `drain`, `take` or `clear`.
+    Untaken,
     /// An answer that this crate doesn't know.
     Unknown(u32),
 }
@@ -301,6 +303,7 @@ impl Error {
             FAILED => Error::Failed,
             OTHER_ABI => Error::OtherAbi,
             NO_SETTING => Error::NoSetting,
+            UNTAKEN => Error::Untaken,
             _ => Refusal::of(answer).map_or(Error::Unknown(answer), Error::Refused),
         }
     }
@@ -314,6 +317,7 @@ impl Error {
             Error::Failed => FAILED,
             Error::OtherAbi => OTHER_ABI,
             Error::NoSetting => NO_SETTING,
+            Error::Untaken => UNTAKEN,
             Error::Unknown(number) => number,
         }
     }
@@ -343,56 +347,66 @@ fn verdict(answer: u32) -> Result<Verdict, Error> {
 
 // ---- what is told
 
-/// What a packet is.
+/// Where a packet goes.
 #[derive(Clone, Copy, Debug, PartialEq, Eq, Hash)]
-#[non_exhaustive]
-pub enum Kind {
-    /// PIM or IGMP, on the interface, to its group.
-    Frame,
-    /// Data that is forwarded, on the interface, to its group.
-    Copy,
-    /// By unicast routing, to the destination.
-    Unicast,
+pub enum Target {
+    /// PIM or IGMP, on this interface, to its group.
+    Frame(u32),
+    /// Data that is forwarded, on this interface, to its group.
+    Copy(u32),
+    /// By unicast routing, to this address.
+    Unicast(Ipv4Addr),
 }
 
-/// A packet that is to be sent, without its bytes.
-#[derive(Clone, Copy, Debug, PartialEq, Eq)]
-#[non_exhaustive]
-pub struct Packet {
-    pub kind: Kind,
-    /// Or 0.
-    pub iface: u32,
-    /// Or 0.0.0.0.
-    pub destination: Ipv4Addr,
-    pub length: usize,
-}
-
-impl Packet {
-    fn told(of: raw::Packet) -> Packet {
-        let kind = match of.kind {
-            raw::COPY => Kind::Copy,
-            raw::UNICAST => Kind::Unicast,
-            _ => Kind::Frame,
-        };
-        Packet { kind, iface: of.iface, destination: of.destination.into(), length: of.length }
+impl Target {
+    fn told(of: &raw::Packet) -> Target {
+        match of.kind {
+            raw::COPY => Target::Copy(of.iface),
+            raw::UNICAST => Target::Unicast(of.destination.into()),
+            _ => Target::Frame(of.iface),
+        }
     }
 
-    pub fn is_unicast(&self) -> bool {
-        self.kind == Kind::Unicast
-    }
-
-    pub fn is_copy(&self) -> bool {
-        self.kind == Kind::Copy
+    /// The interface, of a packet that leaves on one.
+    pub fn iface(self) -> Option<u32> {
+        match self {
+            Target::Frame(iface) | Target::Copy(iface) => Some(iface),
+            Target::Unicast(_) => None,
+        }
     }
 }
 
 /// A packet that is to be sent.
-#[derive(Clone, Debug, PartialEq, Eq)]
+#[derive(Clone, Debug, PartialEq, Eq, Hash)]
 #[non_exhaustive]
 pub struct Sent {
-    pub packet: Packet,
+    /// Where it goes.
+    pub target: Target,
+    /// All of it, from the IP header on.
     pub bytes: Vec<u8>,
 }
+
+/// The packets that are to be sent, each of which is taken as it is given. What isn't asked for remains untaken.
+#[derive(Debug)]
+pub struct Drain<'a> {
+    router: &'a mut Router,
+}
+
+impl Iterator for Drain<'_> {
+    type Item = Sent;
+
+    fn next(&mut self) -> Option<Sent> {
+        let mut room = [0; MOST_BYTES];
+        self.router.take(&mut room).map(|(target, bytes)| Sent { target, bytes: bytes.to_vec() })
+    }
+
+    fn size_hint(&self) -> (usize, Option<usize>) {
+        let count = self.router.packet_count();
+        (count, Some(count))
+    }
+}
+
+impl ExactSizeIterator for Drain<'_> {}
 
 /// A table that can be read.
 #[derive(Clone, Copy, Debug, PartialEq, Eq, Hash)]
@@ -636,13 +650,8 @@ extern "C" {
     fn viq_routes(router: *mut c_void, routes: *const raw::Route, count: usize, draw: Draw) -> u32;
     fn viq_ranges(router: *mut c_void, ranges: *const raw::Range, count: usize, draw: Draw) -> u32;
     fn viq_packets(router: *const c_void) -> usize;
-    fn viq_packet(
-        router: *const c_void,
-        index: usize,
-        packet: *mut raw::Packet,
-        room: *mut u8,
-        room_length: usize,
-    ) -> bool;
+    fn viq_take(router: *mut c_void, packet: *mut raw::Packet, room: *mut u8, room_length: usize) -> bool;
+    fn viq_clear(router: *mut c_void);
     fn viq_copies(router: *const c_void) -> u32;
     fn viq_next_moment(router: *const c_void) -> u64;
     fn viq_read(router: *mut c_void, letter: u8) -> u32;
@@ -741,7 +750,7 @@ impl Router {
     /// in which they are given: those past the last one go down and are removed, those that are added are down, and the
     /// others stay as they are. Then settings, routes and ranges are those of the configuration, and what follows is done
     /// as after an event. What leaves, among it a Hello on each interface that is up and whose address, priority or
-    /// delays differ, is then in `packets`. A data plane reads all its rows again. Where the limit is below the number of
+    /// delays differ, is then to be sent. A data plane reads all its rows again. Where the limit is below the number of
     /// facts, they all stay, and none is made until there is room. An `Err` that a configuration is refused changes
     /// nothing.
     pub fn reload(
@@ -789,7 +798,7 @@ impl Router {
     }
 
     /// The state of the router as bytes, of which `restore` makes a router that goes on from it. What isn't in them:
-    /// what the clock showed at timestamp 0, packets that weren't sent, and what `set_older_hosts` and
+    /// what the clock showed at timestamp 0, packets that are untaken, and what `set_older_hosts` and
     /// `set_query_version` set and the groups in an older mode.
     pub fn save(&self) -> Result<Vec<u8>, Error> {
         let size = self.save_into(&mut [])?;
@@ -822,22 +831,26 @@ impl Router {
         verdict(unsafe { viq_advance(self.at_mut(), moment, Draw { bits: draw }) })
     }
 
-    /// Time passes up to the timestamp `now`, timer by timer, each with a draw of its own; each packet that leaves on
-    /// the way is passed to `send` with its bytes.
+    /// Time passes up to the timestamp `now`, timer by timer, each with a draw of its own; each packet that is untaken or
+    /// leaves on the way is passed to `send` with its bytes.
     pub fn run_to(
         &mut self,
         now: u64,
         mut draw: impl FnMut() -> u32,
-        mut send: impl FnMut(&Packet, &[u8]),
+        mut send: impl FnMut(Target, &[u8]),
     ) -> Result<(), Error> {
         let mut room = [0; MOST_BYTES];
+        let mut reached = None;
         loop {
-            let next = self.next_moment().map_or(now, |moment| moment.min(now));
-            self.advance(next, draw())?;
-            self.each_packet(&mut room, &mut send);
-            if next == now && self.next_moment().map_or(true, |moment| moment > now) {
+            while let Some((target, bytes)) = self.take(&mut room) {
+                send(target, bytes);
+            }
+            if reached == Some(now) && self.next_moment().map_or(true, |moment| moment > now) {
                 return Ok(());
             }
+            let moment = self.next_moment().map_or(now, |moment| moment.min(now));
+            self.advance(moment, draw())?;
+            reached = Some(moment);
         }
     }
 
@@ -881,39 +894,32 @@ impl Router {
 
     // ---- what is to be sent
 
-    /// How many packets the last event sent; none once the router is lost.
+    /// How many packets are untaken; none once the router is lost.
     pub fn packet_count(&self) -> usize {
         // SAFETY: the router is there.
         unsafe { viq_packets(self.at()) }
     }
 
-    /// One of them, counted from 0; its bytes are written into `room`, as many as it holds.
-    pub fn packet(&self, index: usize, room: &mut [u8]) -> Option<Packet> {
+    /// Takes the first of them: where it goes, and its bytes, which are written into `room`.
+    pub fn take<'a>(&mut self, room: &'a mut [u8; MOST_BYTES]) -> Option<(Target, &'a [u8])> {
         let mut packet = raw::Packet::default();
-        // SAFETY: the router is there; the room is passed as its pointer and its length.
-        let is_there = unsafe { viq_packet(self.at(), index, &mut packet, room.as_mut_ptr(), room.len()) };
-        is_there.then(|| Packet::told(packet))
+        // SAFETY: the router is there and borrowed alone; the room is passed as its pointer and its length.
+        let is_taken = unsafe { viq_take(self.at_mut(), &mut packet, room.as_mut_ptr(), room.len()) };
+        is_taken.then(|| (Target::told(&packet), &room[..packet.length]))
     }
 
-    /// Passes each of them to `take` with its bytes, in the order in which they are to leave.
-    pub fn each_packet(&self, room: &mut [u8; MOST_BYTES], mut take: impl FnMut(&Packet, &[u8])) {
-        for index in 0..self.packet_count() {
-            if let Some(packet) = self.packet(index, room) {
-                take(&packet, &room[..packet.length]);
-            }
-        }
+    /// Takes them one by one, in the order in which they are to leave.
+    pub fn drain(&mut self) -> Drain<'_> {
+        Drain { router: self }
     }
 
-    /// All of them.
-    pub fn packets(&self) -> Vec<Sent> {
-        let mut all = Vec::new();
-        self.each_packet(&mut [0; MOST_BYTES], |packet, bytes| {
-            all.push(Sent { packet: *packet, bytes: bytes.to_vec() })
-        });
-        all
+    /// Drops all that are untaken.
+    pub fn clear(&mut self) {
+        // SAFETY: the router is there and borrowed alone.
+        unsafe { viq_clear(self.at_mut()) }
     }
 
-    /// How many of them are copies of data.
+    /// How many copies of data the last event sent, taken or not.
     pub fn copies(&self) -> usize {
         // SAFETY: the router is there.
         unsafe { viq_copies(self.at()) as usize }

@@ -1,9 +1,9 @@
 //! Each call of the crate once, and what it answers: a Join of 10.0.1.2 comes and a packet of its source, as in `examples/library`.
 use std::net::Ipv4Addr;
 use viqeshor::{
-    ActiveRow, Call, DownstreamRow, DownstreamState, Error, GroupRow, Hop, Interface, Kind, NeighbourRow, OlderHosts,
-    OlderRow, Querier, QueryVersion, Range, Reason, Refusal, Route, Router, Row, Rpf, RptState, Settings, Table,
-    UpstreamRow, Verdict,
+    ActiveRow, Call, DownstreamRow, DownstreamState, Error, GroupRow, Hop, Interface, NeighbourRow, OlderHosts,
+    OlderRow, Querier, QueryVersion, Range, Reason, Refusal, Route, Router, Row, Rpf, RptState, Sent, Settings, Table,
+    Target, UpstreamRow, Verdict, MOST_BYTES,
 };
 
 const HELLO_ABOVE: &str = "45C0001E000000000167CEAB0A000001E000000D2000DFFC00010002FFFF";
@@ -37,16 +37,30 @@ fn router() -> Router {
     Router::new(&Settings::default(), &interfaces(), &routes(), &ranges()).unwrap()
 }
 
-/// With all interfaces up, and the Join of 10.0.3.5 to 225.1.1.1 on the second one.
-fn joined() -> Router {
+/// With all interfaces up, and the Join of 10.0.3.5 to 225.1.1.1 on the second one, for which two packets are untaken.
+fn just_joined() -> Router {
     let mut router = router();
     for iface in 0..3 {
         assert_eq!(router.up(iface, 7), DONE);
+        router.clear();
     }
     assert_eq!(router.frame(0, &bytes_of(HELLO_ABOVE), 0), DONE);
+    router.clear();
     assert_eq!(router.frame(1, &bytes_of(HELLO_BELOW), 0), DONE);
+    router.clear();
     assert_eq!(router.frame(1, &bytes_of(JOIN), 0), DONE);
     router
+}
+
+/// The same, with all packets taken.
+fn joined() -> Router {
+    let mut router = just_joined();
+    router.clear();
+    router
+}
+
+fn taken(router: &mut Router) -> Vec<Sent> {
+    router.drain().collect()
 }
 
 /// The one that there is.
@@ -69,8 +83,8 @@ fn configurations_that_are_refused() {
 /// As `include/viqeshor/viqeshor.h` has them.
 #[test]
 fn errors_have_their_numbers() {
-    let errors = [Error::Memory, Error::Failed, Error::Lost, Error::OtherAbi, Error::NoSetting];
-    assert_eq!(errors.map(Error::number), [40, 41, 43, 53, 54]);
+    let errors = [Error::Memory, Error::Failed, Error::Lost, Error::OtherAbi, Error::NoSetting, Error::Untaken];
+    assert_eq!(errors.map(Error::number), [40, 41, 43, 53, 54, 55]);
     assert_eq!((Error::Refused(Refusal::Short).number(), Error::Unknown(99).number()), (1, 99));
 }
 
@@ -105,29 +119,32 @@ fn another_configuration() {
     more[0].priority = 9;
     more.push(Interface::new(address([10, 0, 4, 1]), 24));
     router.reload(&Settings::default(), &more, &routes(), &ranges(), 7).expect("taken");
-    assert_eq!(router.packet_count(), 1);
+    assert_eq!(taken(&mut router).len(), 1);
     assert_eq!(router.up(3, 7), Ok(Verdict::Done));
+    assert_eq!(router.reload(&Settings::default(), &more, &routes(), &ranges(), 7), Err(Error::Untaken));
+    router.clear();
     assert_eq!(
         router.reload(&Settings::default(), &[], &routes(), &ranges(), 7),
         Err(Error::Refused(Refusal::InterfaceCount))
     );
     router.reload(&Settings::default(), &interfaces()[..1], &routes(), &ranges(), 7).expect("taken");
     assert_eq!(router.rows(Table::Downstream), Ok(Vec::new()));
+    router.clear();
     assert_eq!(router.up(1, 7), Err(Error::Refused(Refusal::BadInterface)));
 }
 
 #[test]
 fn a_join_a_packet_and_its_copy() {
-    let mut router = joined();
-    let sent = router.packets();
+    let mut router = just_joined();
+    let sent = taken(&mut router);
     assert_eq!(sent.len(), 2);
-    assert!(sent.iter().all(|sent| sent.packet.kind == Kind::Frame && sent.packet.iface == 0));
+    assert!(sent.iter().all(|sent| sent.target == Target::Frame(0) && sent.target.iface() == Some(0)));
     assert_eq!(router.frame(0, &bytes_of(DATA), 0), DONE);
-    let copy = only(router.packets());
-    assert!(copy.packet.is_copy() && copy.packet.iface == 1 && copy.packet.length == copy.bytes.len());
+    let copy = only(taken(&mut router));
+    assert_eq!((copy.target, copy.bytes.len()), (Target::Copy(1), 28));
     assert_eq!(copy.bytes[8], 63);
     assert_eq!(router.copies(), 1);
-    assert!(router.packet(1, &mut []).is_none());
+    assert_eq!(router.take(&mut [0; MOST_BYTES]), None);
     assert!(router.probes() >= 1);
     assert_eq!(router.frame(0, &bytes_of(DATA), 0), DONE);
     assert_eq!(router.touched(), 0);
@@ -163,6 +180,7 @@ fn how_data_goes() {
     assert_eq!(told.shared_tree.iter().count(), 0);
     assert!(!told.immediate.contains(128));
     assert_eq!(router.cached(address([10, 0, 3, 6]), group), None);
+    router.clear();
     let to_rp = Route::new(address([10, 9, 9, 0]), 24, address([10, 0, 1, 2]), 1);
     assert_eq!(router.set_routes(&[to_rp, routes()[1]], 0), DONE);
     let told = router.cached(source, group).unwrap();
@@ -231,6 +249,7 @@ fn what_a_data_plane_tells() {
     let (source, group) = (address([10, 0, 3, 5]), address([225, 1, 1, 1]));
     assert_eq!(router.frame(0, &bytes_of(DATA), 0), DONE);
     assert_eq!(router.keep(source, group, 1000), Ok(true));
+    router.clear();
     let active = ActiveRow { group, source, keepalive: Some(211_000), spt_bit: true, register: None };
     assert_eq!(router.rows_of(), Ok(vec![active]));
     assert_eq!(router.seen(0, source, group, 0), DONE);
@@ -244,6 +263,7 @@ fn a_router_without_room_offers_nothing() {
     let mut router = Router::new(&settings, &interfaces(), &routes(), &ranges()).unwrap();
     let (source, group) = (address([10, 0, 2, 7]), address([225, 1, 1, 1]));
     assert_eq!(router.up(2, 7), DONE);
+    router.clear();
     assert!(router.offload(address([10, 0, 3, 6]), group).is_some());
     assert_eq!(router.seen(2, source, group, 0), DONE);
     assert_eq!(router.offload(address([10, 0, 3, 6]), group), None);
@@ -263,13 +283,45 @@ fn time_passes_timer_by_timer() {
     let (mut at_once, mut by_timers, mut hellos) = (joined(), joined(), Vec::new());
     let mut draws = 0..;
     by_timers
-        .run_to(100_000, || draws.next().unwrap(), |packet, bytes| hellos.push((packet.iface, bytes.to_vec())))
+        .run_to(100_000, || draws.next().unwrap(), |target, bytes| hellos.push((target.iface(), bytes.to_vec())))
         .unwrap();
     assert!(by_timers.next_moment().unwrap() > 100_000);
-    assert_eq!(hellos.iter().filter(|(iface, bytes)| *iface == 2 && bytes[9] == 103 && bytes[20] == 0x20).count(), 4);
+    assert_eq!(
+        hellos.iter().filter(|(iface, bytes)| *iface == Some(2) && bytes[9] == 103 && bytes[20] == 0x20).count(),
+        4
+    );
     assert_eq!(at_once.advance(100_000, 0), DONE);
     assert!(draws.start > 4);
     assert_eq!(by_timers.run_to(99_999, || 0, |_, _| ()), Err(Error::Refused(Refusal::MomentBack)));
+}
+
+/// Two interfaces go up, and what each sends is taken before the next event: what isn't taken is refused the event.
+#[test]
+fn no_packet_is_lost_or_given_twice() {
+    let mut router = just_joined();
+    let before = router.save().unwrap();
+    for answer in [
+        router.advance(9, 0),
+        router.frame(0, &bytes_of(DATA), 0),
+        router.unicast(&[], 0),
+        router.up(0, 0),
+        router.down(9, 0),
+        router.set_routes(&routes(), 0),
+        router.set_ranges(&ranges(), 0),
+        router.seen(0, address([10, 0, 3, 5]), address([225, 1, 1, 1]), 0),
+    ] {
+        assert_eq!(answer, Err(Error::Untaken));
+    }
+    assert_eq!((router.save(), router.packet_count()), (Ok(before), 2));
+    let mut again = just_joined();
+    let all = taken(&mut again);
+    assert_eq!((router.drain().next().as_ref(), router.packet_count()), (all.first(), 1));
+    assert_eq!(router.up(0, 0), Err(Error::Untaken));
+    assert_eq!((router.drain().next().as_ref(), router.packet_count()), (all.last(), 0));
+    assert_eq!((router.drain().next(), router.up(0, 0)), (None, Ok(Verdict::Ignored(Reason::Already))));
+    let (mut other, mut sent) = (just_joined(), Vec::new());
+    other.run_to(0, || 0, |target, bytes| sent.push((target, bytes.to_vec()))).unwrap();
+    assert_eq!(sent, all.into_iter().map(|one| (one.target, one.bytes)).collect::<Vec<_>>());
 }
 
 #[test]
@@ -285,8 +337,9 @@ fn it_goes_on_from_saved_bytes() {
     }
     let (source, group) = (address([10, 0, 3, 5]), address([225, 1, 1, 1]));
     assert_eq!(other.cached(source, group), router.cached(source, group));
+    router.clear();
     assert_eq!((router.advance(100_000, 9), other.advance(100_000, 9)), (DONE, DONE));
-    assert_eq!((router.packets(), router.save()), (other.packets(), other.save()));
+    assert_eq!((taken(&mut router), router.save()), (taken(&mut other), other.save()));
     let mut room = [7; 6];
     assert_eq!(router.save_into(&mut room), Ok(router.save().unwrap().len()));
     assert_eq!(&room, b"VQST\0\x02");
@@ -362,7 +415,7 @@ fn a_router_goes_to_another_thread() {
     let mut router = joined();
     let sent = std::thread::spawn(move || {
         assert_eq!(router.frame(0, &bytes_of(DATA), 0), DONE);
-        router.packets().len()
+        router.drain().len()
     });
     assert_eq!(sent.join().unwrap(), 1);
 }
@@ -396,7 +449,7 @@ fn hosts_of_older_versions() {
     assert_eq!(router.older_rows(), Ok(vec![]));
     assert_eq!(router.set_query_version(1, QueryVersion::Two), Ok(()));
     assert_eq!(router.frame(1, &bytes_of(LEAVE_OF_TWO), 0), DONE);
-    assert_eq!(only(router.packets()).bytes.len(), 32);
+    assert_eq!(only(taken(&mut router)).bytes.len(), 32);
     assert_eq!(router.set_older_hosts(1, OlderHosts::Nobody), Ok(()));
     assert_eq!(router.frame(1, &bytes_of(REPORT_OF_TWO), 0), old);
 }

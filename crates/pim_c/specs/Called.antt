@@ -1,6 +1,6 @@
 -- What a call does to a handle and answers, by what the handle had: nothing, a router that has failed, or one that
 -- works.
-use Rattle.std.{specs.{Option.option_map_or, Prelude.{[], Bool, Err, IfSome, List, None, Ok, Option, Result, Some, drop, false, filter, length, min, nat_lt, true, unwrap_or, ℕ, ◌+◌, ◌≡◌, ◌⊎◌}}}
+use Rattle.std.{specs.{Option.option_map_or, Prelude.{[], Bool, Err, IfSome, List, None, Ok, Option, Result, Some, drop, false, filter, length, min, nat_le, nat_lt, option_map, true, unwrap_or, ℕ, ◌∷◌, ◌≡◌, ◌⊎◌}}}
 use Rattle.pim_ip.{specs.{Refusal.refusal_number, declared.refusal.Refusal.Refusal}}
 use Rattle.pim_ifset.{specs.Members.mask_of}
 use Rattle.pim_model.{specs.{Cache.{Answers, cached}, Cause.is_on_link, Judging.last_moment, Limits.config_test, Sets.{Set, is_kept_alive}, State.{State, opening}, Step.step, Unicast.rpf_interface_rp}}
@@ -12,7 +12,7 @@ use Rattle.pim_event.{specs.{Costs.IsCheap, Disturbing.event_disturbed, Listing.
 use Rattle.pim_rested.{specs.{Refused.restore_refusal_number, Resuming.{IsResumable, restore_test}, declared.refusal.RestoreRefusal.RestoreRefusal}}
 use Rattle.pim_saved.{specs.{Fits.FitsState, Reading.reading, Text.text}}
 use Rattle.pim_router.{specs.{Asked.{LeadsOn, SentIsAsked}, Standing.{Standing, begun, nothing_shown, standing, with_state}}}
-use Rattle.pim_session.{specs.{Front.{emissions_left, front_after, given, hosts_set, interface_test, is_sure, older_rows, version_set}, Leaving.{GoesOnFrom, LeftIsAsked}, Session.ShownSession}}
+use Rattle.pim_session.{specs.{Front.{emissions_left, front_after, given, hosts_set, interface_test, is_sure, older_rows, version_set}, Leaving.{GoesOnFrom, LeftIsAsked}, Session.ShownSession, Untaken.has_untaken}}
 use Rattle.igmp_older.{specs.declared.{mode.OlderRow.OlderRow, setting.{OlderHosts.OlderHosts, QueryVersion.QueryVersion}}}
 use Rattle.pim_types.{specs.declared.{config.Config.Config, event.Event.Event, fact.Key.Key, outcome.Emission.Emission}}
 use Rattle.pim_c.{specs.{Told.{answer_number, bytes_in, kept_number, name_of, no_interface_number, older_group_of, set_number, told_packet, written_into}, declared.told.{Forwarding.Forwarding, Interfaces.Interfaces, NamedSource.NamedSource, OlderGroup.OlderGroup, Packet.Packet, PlaneRow.PlaneRow}}}
@@ -53,27 +53,34 @@ TakenBehind s r e behind left = Went s r behind left × (left.front ≡ front_af
     × (left.sent ≡ emissions_left s.front (step r.state behind).emissions)
     × IfSome left.router.standing (λ after. LeftIsAsked s.front r.state behind (step r.state behind).answer left.sent after.copies)
 
+-- While packets of the event before are untaken an event is refused, and nothing changes.
+abbrev pub UnlessUntaken : Bool → ShownSession → ℕ → ShownSession → Type 0 → Type 0
+UnlessUntaken true s answer left taken = (answer ≡ 55) × (left ≡ s)
+UnlessUntaken false s answer left taken = taken
+
 abbrev pub SteppedFrom : ShownSession → Option Standing → Event → ℕ → ShownSession → Type 0
 SteppedFrom s None e answer left = (answer ≡ 41) × (left ≡ lost s)
-SteppedFrom s (Some r) e answer left =
+SteppedFrom s (Some r) e answer left = UnlessUntaken (has_untaken s) s answer left (
     ((answer ≡ answer_number (step r.state (given s.front r.state e)).answer)
     × TakenBehind s r e (given s.front r.state e) left)
-    ⊎ ((answer ≡ 43) × (left ≡ lost s) × (is_sure s.front r.state e ≡ false))
+    ⊎ ((answer ≡ 43) × (left ≡ lost s) × (is_sure s.front r.state e ≡ false)))
 
--- The router took the event and the answer is the router's, or an allocation failed.
+-- The event was refused for untaken packets, or the router took it and the answer is the router's, or an allocation
+-- failed.
 abbrev pub Stepped : Option ShownSession → Event → ℕ → Option ShownSession → Type 0
 Stepped None e answer left = (answer ≡ 50) × (left ≡ None)
 Stepped (Some s) e answer (Some left) = SteppedFrom s s.router.standing e answer left
 Stepped (Some s) e answer None = ⊥
 
-abbrev pub refused_number : Option Standing → ℕ
-refused_number None = 41
-refused_number (Some r) = 40
+abbrev pub refused_number : Option Standing → Bool → ℕ
+refused_number None has_untaken = 41
+refused_number (Some r) true = 55
+refused_number (Some r) false = 40
 
 -- An allocation failed for an event that is to be copied, and nothing changed.
 abbrev pub Refused : Option ShownSession → ℕ → Option ShownSession → Type 0
 Refused None answer left = (answer ≡ 50) × (left ≡ None)
-Refused (Some s) answer left = (answer ≡ refused_number s.router.standing) × (left ≡ Some s)
+Refused (Some s) answer left = (answer ≡ refused_number s.router.standing (has_untaken s)) × (left ≡ Some s)
 
 -- The event was copied or an allocation failed for that; if it was copied, the router took it, or an allocation failed.
 abbrev pub Copied : Option ShownSession → Event → ℕ → Option ShownSession → Type 0
@@ -81,11 +88,11 @@ Copied old e answer left = Stepped old e answer left ⊎ Refused old answer left
 
 abbrev pub SeenFrom : ShownSession → Option Standing → Event → ℕ → ShownSession → Type 0
 SeenFrom s None e answer left = (answer ≡ 41) × (left ≡ lost s)
-SeenFrom s (Some r) e answer left =
-    ((answer ≡ answer_number (step r.state e).answer) × Taken s r e left) ⊎ ((answer ≡ 43) × (left ≡ lost s))
+SeenFrom s (Some r) e answer left = UnlessUntaken (has_untaken s) s answer left (
+    ((answer ≡ answer_number (step r.state e).answer) × Taken s r e left) ⊎ ((answer ≡ 43) × (left ≡ lost s)))
 
--- The router took the event that stands for a packet which a data plane saw, or an allocation failed, whatever the
--- event is.
+-- The event that stands for a packet which a data plane saw was refused for untaken packets, or the router took it, or an
+-- allocation failed, whatever the event is.
 abbrev pub Seen : Option ShownSession → Event → ℕ → Option ShownSession → Type 0
 Seen None e answer left = (answer ≡ 50) × (left ≡ None)
 Seen (Some s) e answer (Some left) = SeenFrom s s.router.standing e answer left
@@ -174,14 +181,10 @@ OlderRead None answer left = (answer ≡ 50) × (left ≡ None)
 OlderRead (Some s) answer (Some left) = OlderReadFrom s s.router.standing answer left
 OlderRead (Some s) answer None = ⊥
 
--- What is to be sent: nothing once the router has failed.
-abbrev pub to_send : List Emission → Option Standing → List Emission
-to_send sent None = []
-to_send sent (Some r) = sent
-
+-- What is to be sent: the packets that are untaken.
 abbrev pub packets_in : Option ShownSession → List Emission
 packets_in None = []
-packets_in (Some s) = to_send s.sent s.router.standing
+packets_in (Some s) = s.sent
 
 abbrev pub rows_in : Option ShownSession → List Row
 rows_in None = []
@@ -214,18 +217,45 @@ may_differ_in None source group = true
 may_differ_in (Some s) source group =
     option_map_or (λ (r : Standing). may_differ s.router.disturbed r.state group source) s.router.standing true
 
--- The packet of this number is one of the given number of last packets on links.
-abbrev pub is_copy : List Emission → ℕ → ℕ → Bool
-is_copy sent copies index = nat_lt (length (filter is_on_link (drop (index + 1) sent))) copies
+-- The first packet, before others, is one of the given number of last packets on links.
+abbrev pub is_copy : ℕ → List Emission → Bool
+is_copy copies others = nat_lt (length (filter is_on_link others)) copies
 
 abbrev pub copies_in : Option Standing → ℕ
 copies_in standing = option_map_or (λ (r : Standing). r.copies) standing 0
 
--- A packet that exists is written out with its bytes, as many as fit.
-abbrev pub PacketTold : Option Emission → Bool → Bool → Packet → Packet → List ℕ → List ℕ → Type 0
-PacketTold None is_copied is_there packet told room filled = (is_there ≡ false) × (told ≡ packet) × (filled ≡ room)
-PacketTold (Some emission) is_copied is_there packet told room filled =
-    (is_there ≡ true) × (told ≡ told_packet emission is_copied) × (filled ≡ written_into room (bytes_in emission))
+abbrev pub NoneTold : Bool → Packet → Packet → List ℕ → List ℕ → Type 0
+NoneTold is_taken packet told room filled = (is_taken ≡ false) × (told ≡ packet) × (filled ≡ room)
+
+-- A packet is written out with its bytes, if there is room for them.
+abbrev pub FirstTold : Bool → Emission → Bool → Bool → Packet → Packet → List ℕ → List ℕ → Type 0
+FirstTold false first is_copied is_taken packet told room filled = NoneTold is_taken packet told room filled
+FirstTold true first is_copied is_taken packet told room filled =
+    (is_taken ≡ true) × (told ≡ told_packet first is_copied) × (filled ≡ written_into room (bytes_in first))
+
+-- The first packet is written out, if there is one and room for its bytes.
+abbrev pub PacketTold : ℕ → List Emission → Bool → Packet → Packet → List ℕ → List ℕ → Type 0
+PacketTold copies [] is_taken packet told room filled = NoneTold is_taken packet told room filled
+PacketTold copies (first ∷ others) is_taken packet told room filled =
+    FirstTold (nat_le (length (bytes_in first)) (length room)) first (is_copy copies others) is_taken packet told room filled
+
+-- what is untaken after a packet was taken, or after none was
+abbrev pub sent_left : Bool → List Emission → List Emission
+sent_left true sent = drop 1 sent
+sent_left false sent = sent
+
+-- The first of the packets that are to be sent was written out and is no more to be sent; or there is none, or no room
+-- for it, and nothing changed.
+abbrev pub PacketTaken : Option ShownSession → Bool → Packet → Packet → List ℕ → List ℕ → Option ShownSession → Type 0
+PacketTaken None is_taken packet told room filled left =
+    (is_taken ≡ false) × (told ≡ packet) × (filled ≡ room) × (left ≡ None)
+PacketTaken (Some s) is_taken packet told room filled left =
+    PacketTold (copies_in s.router.standing) s.sent is_taken packet told room filled
+    × (left ≡ Some (record s { sent = sent_left is_taken s.sent }))
+
+-- no packet is to be sent, and nothing else changed
+abbrev pub cleared : ShownSession → ShownSession
+cleared s = record s { sent = [] }
 
 abbrev pub OlderTold : Option OlderRow → Bool → OlderGroup → OlderGroup → Type 0
 OlderTold None is_there row told = (is_there ≡ false) × (told ≡ row)

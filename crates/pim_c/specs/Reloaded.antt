@@ -7,10 +7,10 @@ use Rattle.law_history.{specs.History.Given}
 use Rattle.law_reloaded.{specs.Reloading.reload}
 use Rattle.pim_reloader.{specs.Listing.ListsFacts}
 use Rattle.pim_router.{specs.{Asked.LeadsOn, Standing.{Standing, beginning}}}
-use Rattle.pim_session.{specs.{Front.emissions_left, Reloaded.front_reloaded, Session.ShownSession}}
+use Rattle.pim_session.{specs.{Front.emissions_left, Reloaded.front_reloaded, Session.ShownSession, Untaken.has_untaken}}
 use Rattle.pim_types.{specs.declared.config.Config.Config}
 use Rattle.pim_state.{specs.declared.touched.Touched.Touched}
-use Rattle.pim_c.{specs.Called.{Refused, lost}}
+use Rattle.pim_c.{specs.Called.{Refused, UnlessUntaken, lost}}
 
 -- What a session shows after its router was put under another configuration: what is to be sent is what that sends, all
 -- sources with a fact before or after it are listed, all count as disturbed, and no rows are kept. What led to the
@@ -31,10 +31,11 @@ ReloadedBy (Err refusal) s r config draw answer left = (answer ≡ refusal_numbe
 
 abbrev pub ReloadedFrom : ShownSession → Option Standing → Config → ℕ → ℕ → ShownSession → Type 0
 ReloadedFrom s None config draw answer left = (answer ≡ 41) × (left ≡ lost s)
-ReloadedFrom s (Some r) config draw answer left =
-    ReloadedBy (config_test config) s r config draw answer left ⊎ ((answer ≡ 43) × (left ≡ lost s))
+ReloadedFrom s (Some r) config draw answer left = UnlessUntaken (has_untaken s) s answer left (
+    ReloadedBy (config_test config) s r config draw answer left ⊎ ((answer ≡ 43) × (left ≡ lost s)))
 
--- The router was put under the configuration, or the configuration was refused, or an allocation failed.
+-- The call was refused for untaken packets, or the router was put under the configuration, or the configuration was
+-- refused, or an allocation failed.
 abbrev pub Reloaded : Option ShownSession → Config → ℕ → ℕ → Option ShownSession → Type 0
 Reloaded None config draw answer left = (answer ≡ 50) × (left ≡ None)
 Reloaded (Some s) config draw answer (Some left) = ReloadedFrom s s.router.standing config draw answer left

@@ -4,6 +4,7 @@ use Rattle.pim_ip.{specs.{Refusal.refusal_number, declared.{fault.Fault.Fault, r
 use Rattle.pim_types.{specs.declared.{outcome.{Emission.Emission, Ignored.Ignored, Verdict.Verdict}, config.IfaceId.IfaceId, fact.Key.Key}}
 use Rattle.pim_rows.{specs.declared.table.Table.Table}
 use Rattle.igmp_older.{specs.declared.{mode.{Mode.Mode, OlderRow.OlderRow}, setting.{OlderHosts.OlderHosts, QueryVersion.QueryVersion}}}
+use Rattle.pim_session.{specs.declared.stop.Stop.Stop}
 use Rattle.pim_c.{specs.declared.told.{NamedSource.NamedSource, OlderGroup.OlderGroup, Packet.Packet}}
 
 -- The number that stands for a timestamp that doesn't exist.
@@ -37,6 +38,11 @@ abbrev pub loss_number : Fault → ℕ
 loss_number Fault.Memory = 43
 loss_number Fault.Failed = 41
 loss_number Fault.Wire = 42
+
+-- The number of why an event wasn't taken.
+abbrev pub stop_number : Stop → ℕ
+stop_number Stop.Untaken = 55
+stop_number (Stop.Fault fault) = loss_number fault
 
 -- The number that says whether a keepalive timer runs.
 abbrev pub kept_number : Bool → ℕ

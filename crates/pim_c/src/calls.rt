@@ -1,12 +1,12 @@
 //! The functions that C calls. Each repeats the contract of the method of the handle that it calls.
 ghost use Rattle.std.specs.Option.{option_map_or};
 ghost use Rattle.std.specs.List.{slice_get};
-ghost use Rattle.std.specs.Prelude.{◌≡◌, None, length, map, nat_lt, option_and_then, unwrap_or};
+ghost use Rattle.std.specs.Prelude.{◌≡◌, None, length, map, nat_lt, option_and_then, option_map, unwrap_or};
 ghost use Rattle.pim_model.specs.Judging.{last_moment};
 ghost use Rattle.pim_model.specs.Timers.{next_moment};
 ghost use Rattle.law_plane.specs.Seen.{seen_event};
 ghost use Rattle.pim_types.specs.declared.event.EventKind.{EventKind};
-ghost use Rattle.pim_c.specs.Called.{CachedTold, Copied, HostsSetBy, KeepAnswered, Made, NameTold, OffloadTold, OlderRead, OlderTold, PacketTold, ReadBy, Restored, Saved, Seen, Stepped, VersionSetBy, changed_in, copies_in, is_copy, may_differ_in, older_rows_in, packets_in, probes_in, rows_in, standing_in, touched_in};
+ghost use Rattle.pim_c.specs.Called.{CachedTold, Copied, HostsSetBy, KeepAnswered, Made, NameTold, OffloadTold, OlderRead, OlderTold, PacketTaken, ReadBy, Restored, Saved, Seen, Stepped, VersionSetBy, changed_in, cleared, may_differ_in, older_rows_in, packets_in, probes_in, rows_in, standing_in, touched_in};
 ghost use Rattle.pim_c.specs.Rows.{RowTold};
 ghost use Rattle.pim_c.specs.Trees.{ValueTold, link_in, link_of, neighbour_in, neighbour_of, source_tree_in, source_tree_of, tree_in, tree_of};
 ghost use Rattle.pim_ifset.specs.Members.{iface_of};
@@ -186,7 +186,7 @@ pub extern "C" fn viq_core_ranges(
     router.step_copied(alloc, given::new_ranges(alloc, draw, ranges))
 }
 
-/// How many packets the last event sent that wasn't answered with a fault; 0 once the router has failed.
+/// How many packets are to be sent: those of the last event that are untaken.
 #[unsafe(no_mangle)]
 pub extern "C" fn viq_core_packets(alloc: Global, router: &mut Handle) -> usize
     ensures count { result ≡ length (packets_in router.old.place.inside) }
@@ -195,22 +195,26 @@ pub extern "C" fn viq_core_packets(alloc: Global, router: &mut Handle) -> usize
     router.packets(alloc)
 }
 
-/// Reads one of the packets that `viq_core_packets` counts, counted from 0. As many of its bytes as the buffer holds
-/// are written into it. False where there is no packet of this number.
+/// Takes the first of the packets that `viq_core_packets` counts: its bytes are written into the buffer. False, with
+/// nothing changed, where there is none or the buffer is too small for it.
 #[unsafe(no_mangle)]
-pub extern "C" fn viq_core_packet(
+pub extern "C" fn viq_core_take(
     alloc: Global,
     router: &mut Handle,
-    index: usize,
     packet: &mut Packet,
     room: &mut [u8],
 ) -> bool
-    ensures told { PacketTold (slice_get (packets_in router.old.place.inside) index)
-        (is_copy (packets_in router.old.place.inside) (copies_in (standing_in router.old.place.inside)) index)
-        result packet.old packet.new room.old room.new }
-    ensures stays { router.new.place.inside ≡ router.old.place.inside }
+    ensures { PacketTaken router.old.place.inside result packet.old packet.new room.old room.new router.new.place.inside }
 {
-    router.packet(alloc, index, packet, room)
+    router.take_packet(alloc, packet, room)
+}
+
+/// Takes all packets away that `viq_core_packets` counts.
+#[unsafe(no_mangle)]
+pub extern "C" fn viq_core_clear(alloc: Global, router: &mut Handle)
+    ensures { router.new.place.inside ≡ option_map cleared router.old.place.inside }
+{
+    router.clear(alloc);
 }
 
 /// How many copies of a data packet the last event sent on links. They are the last of the packets that it sent on

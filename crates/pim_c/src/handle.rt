@@ -1,7 +1,7 @@
 //! A handle of a router.
 ghost use Rattle.std.specs.List.{slice_get};
 ghost use Rattle.std.specs.Option.{option_map_or};
-ghost use Rattle.std.specs.Prelude.{◌≡◌, ◌<◌, [], Err, IfErr, IfOk, IfSome, MatchOption, None, Ok, OnErr, Option, Some, false, filter, is_some, length, option_and_then, unwrap_or};
+ghost use Rattle.std.specs.Prelude.{◌≡◌, [], Err, IfErr, IfOk, IfSome, MatchOption, None, Ok, OnErr, Option, Some, false, filter, is_some, length, option_and_then, option_map, unwrap_or};
 ghost use Rattle.pim_fanout.specs.Named.{keys_of};
 ghost use Rattle.pim_ip.specs.declared.fault.Fault.{Fault};
 ghost use Rattle.pim_model.specs.Limits.{config_test};
@@ -17,9 +17,10 @@ ghost use Rattle.pim_mfc.specs.Shown.{TellsOffload};
 ghost use Rattle.pim_rested.specs.Resuming.{restore_test};
 ghost use Rattle.pim_saved.specs.Reading.{reading};
 ghost use Rattle.pim_session.specs.Leaving.{GoesOnFrom};
+ghost use Rattle.pim_session.specs.Untaken.{has_untaken};
 ghost use Rattle.pim_c.specs.Told.{never};
 ghost use Rattle.pim_c.specs.Rows.{RowTold};
-ghost use Rattle.pim_c.specs.Called.{AnswersTold, CachedTold, HostsSet, HostsSetFrom, SourceKept, SourceKeptFrom, Made, NameTold, OfferTold, OffloadTold, OlderRead, OlderReadFrom, OlderTold, PacketTold, Read, ReadFrom, Refused, Restored, Saved, SavedFrom, Seen, SeenFrom, Stepped, SteppedFrom, VersionSet, VersionSetFrom, changed_in, copies_in, is_copy, lost, may_differ_in, new_shown, older_rows_in, packets_in, probes_in, refused_number, restored_shown, rows_in, standing_in, to_send, touched_in};
+ghost use Rattle.pim_c.specs.Called.{AnswersTold, CachedTold, HostsSet, HostsSetFrom, SourceKept, SourceKeptFrom, Made, NameTold, OfferTold, OffloadTold, OlderRead, OlderReadFrom, OlderTold, PacketTaken, PacketTold, Read, ReadFrom, Refused, Restored, Saved, SavedFrom, Seen, SeenFrom, Stepped, SteppedFrom, VersionSet, VersionSetFrom, changed_in, cleared, copies_in, is_copy, lost, may_differ_in, new_shown, older_rows_in, packets_in, probes_in, refused_number, restored_shown, rows_in, sent_left, standing_in, touched_in};
 
 mod recorded;
 mod reloaded;
@@ -29,7 +30,7 @@ use crate::place::Place;
 use crate::rows::{ToldRow, tell_row};
 use crate::told::{
     self, DONE, FAILED, Forwarding, MEMORY, NEVER, NO_ROUTER, NamedSource, OlderGroup, Packet,
-    PlaneRow, answer_number, kept_number, loss_number, set_number,
+    PlaneRow, UNTAKEN, answer_number, kept_number, loss_number, set_number,
 };
 use igmp_older::{OlderHosts, OlderRow, QueryVersion};
 use pim_intake::LentEvent;
@@ -236,7 +237,7 @@ impl Handle {
         answer
     }
 
-    /// How many packets the last event sent that wasn't answered with a fault.
+    /// How many packets are to be sent: those of the last event that are untaken.
     pub fn packets(&mut self, alloc: Global) -> usize
         ensures count { result ≡ length (packets_in self.old.place.inside) }
         ensures stays { self.new.place.inside ≡ self.old.place.inside }
@@ -244,30 +245,32 @@ impl Handle {
         let Some(session) = self.take(alloc) else {
             return 0;
         };
-        let count = to_send(&session).len();
+        let count = session.sent().len();
         self.put(session);
         count
     }
 
-    /// Reads one of the packets that `packets` counts, counted from 0.
-    pub fn packet(
-        &mut self,
-        alloc: Global,
-        index: usize,
-        packet: &mut Packet,
-        room: &mut [u8],
-    ) -> bool
-        ensures told { PacketTold (slice_get (packets_in self.old.place.inside) index)
-            (is_copy (packets_in self.old.place.inside) (copies_in (standing_in self.old.place.inside)) index)
-            result packet.old packet.new room.old room.new }
-        ensures stays { self.new.place.inside ≡ self.old.place.inside }
+    /// Takes the first of the packets that are to be sent, if there is one, and if there is room for its bytes.
+    pub fn take_packet(&mut self, alloc: Global, packet: &mut Packet, room: &mut [u8]) -> bool
+        ensures { PacketTaken self.old.place.inside result packet.old packet.new room.old room.new self.new.place.inside }
     {
-        let Some(session) = self.take(alloc) else {
+        let Some(mut session) = self.take(alloc) else {
             return false;
         };
-        let is_there = tell_packet(to_send(&session), session.copies(), index, packet, room);
+        let is_taken = take_packet(session.as_mut(), packet, room);
         self.put(session);
-        is_there
+        is_taken
+    }
+
+    /// Takes all packets away that are to be sent.
+    pub fn clear(&mut self, alloc: Global)
+        ensures { self.new.place.inside ≡ option_map cleared self.old.place.inside }
+    {
+        let Some(mut session) = self.take(alloc) else {
+            return;
+        };
+        session.clear();
+        self.put(session);
     }
 
     /// How many copies of a data packet the last event sent on links.
@@ -475,16 +478,6 @@ fn restored(alloc: Global, bytes: &[u8]) -> Result<Result<Box<Session>, RestoreR
     }
 }
 
-// What is to be sent: nothing once the router has failed.
-fn to_send(session: &Session) -> &[Emission]
-    ensures { result.now ≡ to_send session.now.sent session.now.router.standing }
-{
-    if session.has_failed() {
-        return &[];
-    }
-    session.sent()
-}
-
 // How many of the packets leave on links.
 fn links(sent: &[Emission]) -> usize
     ensures { result ≡ length (filter is_on_link sent.now) }
@@ -494,32 +487,40 @@ fn links(sent: &[Emission]) -> usize
         .count()
 }
 
-// Whether a packet is a copy, if it leaves on a link: the copies are the last of those.
-fn is_copy(sent: &[Emission], copies: u32, index: usize) -> bool
-    requires { index < length sent.now }
-    ensures { result ≡ is_copy sent.now copies index }
+// Whether the packet before these is a copy, if it leaves on a link: the copies are the last of those.
+fn is_copy(copies: u32, others: &[Emission]) -> bool
+    ensures { result ≡ is_copy copies others.now }
 {
-    copies != 0 && links(&sent[index + 1..]) < copies as usize
+    copies != 0 && links(others) < copies as usize
 }
 
-// Writes out one of the packets, if it exists.
-fn tell_packet(
-    sent: &[Emission],
-    copies: u32,
-    index: usize,
-    packet: &mut Packet,
-    room: &mut [u8],
-) -> bool
-    ensures { PacketTold (slice_get sent.now index) (is_copy sent.now copies index) result packet.old packet.new room.old room.new }
+// Writes out the first of the packets, if there is one, and if there is room for its bytes.
+fn tell_packet(sent: &[Emission], copies: u32, packet: &mut Packet, room: &mut [u8]) -> bool
+    ensures { PacketTold copies sent.now result packet.old packet.new room.old room.new }
 {
-    match sent.get(index) {
-        Some(emission) => {
-            *packet = told::outline(emission, is_copy(sent, copies, index));
-            told::write(room, told::bytes(emission));
-            true
-        }
-        None => false,
+    let Some((first, others)) = sent.split_first() else {
+        return false;
+    };
+    let bytes = told::bytes(first);
+    if room.len() < bytes.len() {
+        return false;
     }
+    *packet = told::outline(first, is_copy(copies, others));
+    told::write(room, bytes);
+    true
+}
+
+// Takes the first of a session's packets, if there is one, and if there is room for its bytes.
+fn take_packet(session: &mut Session, packet: &mut Packet, room: &mut [u8]) -> bool
+    ensures told { PacketTold (copies_in session.old.router.standing) session.old.sent result packet.old packet.new
+        room.old room.new }
+    ensures left { session.new ≡ record session.old { sent = sent_left result session.old.sent } }
+{
+    let is_taken = tell_packet(session.sent(), session.copies(), packet, room);
+    if is_taken {
+        session.remove_first();
+    }
+    is_taken
 }
 
 // Writes out one of the groups in an older mode, if it exists.
@@ -588,15 +589,28 @@ fn step(alloc: Global, session: &mut Session, event: &LentEvent<'_>) -> u32
     answer_number(session.step(alloc, event))
 }
 
+// The number of an answer where an event couldn't be copied.
+fn refused_number(session: &Session) -> u32
+    ensures { result ≡ refused_number session.now.router.standing (has_untaken session.now) }
+{
+    if session.has_failed() {
+        return FAILED;
+    }
+    if session.has_untaken() {
+        UNTAKEN
+    } else {
+        MEMORY
+    }
+}
+
 // Has a session take an event that was copied. If the copy failed for want of memory, nothing changes.
 fn step_copied(alloc: Global, session: &mut Session, event: Result<Event, AllocError>) -> u32
     ensures stepped { IfOk event (λ e. SteppedFrom session.old session.old.router.standing e result session.new) }
-    ensures refused { OnErr event ((result ≡ refused_number session.old.router.standing) × (session.new ≡ session.old)) }
+    ensures refused { OnErr event ((result ≡ refused_number session.old.router.standing (has_untaken session.old)) × (session.new ≡ session.old)) }
 {
     match event {
         Ok(event) => step(alloc, session, &LentEvent::of(&event)),
-        Err(_) if session.has_failed() => FAILED,
-        Err(_) => MEMORY,
+        Err(_) => refused_number(session),
     }
 }
 

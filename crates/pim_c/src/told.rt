@@ -11,12 +11,13 @@ ghost use Rattle.law_plane.specs.Offered.{Offered as OfferedValue};
 ghost use Rattle.pim_mfc.specs.Shown.{ShowsOffered};
 ghost use Rattle.pim_state.specs.Shown.{Shows};
 ghost use Rattle.pim_c.specs.Called.{forwarding_of, interface_bits, plane_row_of};
-ghost use Rattle.pim_c.specs.Told.{answer_number, bytes_in, iface_number, ignored_number, kept_number, link_kind, loss_number, mode_number, name_of, older_group_of, older_hosts_of, query_version_of, set_number, told_packet, table_of_letter, verdict_number, written_into};
+ghost use Rattle.pim_c.specs.Told.{answer_number, bytes_in, iface_number, ignored_number, kept_number, link_kind, loss_number, mode_number, name_of, older_group_of, older_hosts_of, query_version_of, set_number, stop_number, told_packet, table_of_letter, verdict_number, written_into};
 
 use igmp_older::{Mode, OlderHosts, OlderRow, QueryVersion};
 use pim_ifset::IfSet;
 use pim_mfc::{CacheRow, Offered};
 use pim_rows::Table;
+use pim_session::Stop;
 use pim_types::{Addr, Emission, Fault, IfaceId, Ignored, Refusal, SourceGroup, Verdict};
 
 /// The event was accepted and done.
@@ -37,6 +38,8 @@ pub const NO_TABLE: u32 = 51;
 pub const NO_TIMER: u32 = 52;
 /// No setting has this number.
 pub const NO_SETTING: u32 = 54;
+/// Packets of the event before are untaken, and nothing has changed.
+pub const UNTAKEN: u32 = 55;
 /// A packet that leaves on an interface and is no copy.
 pub const FRAME: u32 = 1;
 /// A copy of a packet of data, which leaves on an interface.
@@ -87,15 +90,25 @@ pub fn loss_number(fault: Fault) -> u32
     }
 }
 
+/// The number of why an event wasn't taken.
+pub fn stop_number(stop: Stop) -> u32
+    ensures { result ≡ stop_number stop }
+{
+    match stop {
+        Stop::Untaken => UNTAKEN,
+        Stop::Fault(fault) => loss_number(fault),
+    }
+}
+
 /// The number of an answer to what changes a router.
-pub fn answer_number(answer: Result<Result<Verdict, Refusal>, Fault>) -> u32
+pub fn answer_number(answer: Result<Result<Verdict, Refusal>, Stop>) -> u32
     ensures answer { IfOk answer (λ a. result ≡ answer_number a) }
-    ensures fault { IfErr answer (λ f. result ≡ loss_number f) }
+    ensures stop { IfErr answer (λ s. result ≡ stop_number s) }
 {
     match answer {
         Ok(Ok(verdict)) => verdict_number(verdict),
         Ok(Err(refusal)) => u32::from(refusal.number()),
-        Err(fault) => loss_number(fault),
+        Err(stop) => stop_number(stop),
     }
 }
 

@@ -12,7 +12,7 @@ pub record ShownSession : Type 0 where
   pub router : RouterShown
   -- none where no setting was made, and once an allocation failed
   pub front : Option Front
-  -- what the last event sent that had no fault
+  -- what is untaken of what the last event sent: the last of its packets, in their order
   pub sent : List Emission
   -- the rows of the table that was read last
   pub rows : List Row

@@ -1,5 +1,5 @@
-//! A router with the packets that it sent last and the rows that were read last, for programs that fetch these one by
-//! one. Hosts and routers of older versions of IGMP may be heard before it.
+//! A router with the packets that it sent last, which are taken one by one before the next event, and the rows that were
+//! read last. Hosts and routers of older versions of IGMP may be heard before it.
 #![tactic(auto)]
 
 mod asked;
@@ -7,6 +7,8 @@ mod behind;
 pub mod front;
 pub mod laws;
 pub mod session;
+pub mod stop;
 
 pub use front::Front;
 pub use session::Session;
+pub use stop::Stop;

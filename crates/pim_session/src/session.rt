@@ -1,7 +1,7 @@
 //! A router in a box, with what stands before it, and what its last calls returned.
 ghost use Rattle.std.specs.List.Sorted.{IsStrictlySortedBy};
 ghost use Rattle.std.specs.Option.{option_map_or};
-ghost use Rattle.std.specs.Prelude.{◌≡◌, ◌++◌, ◌↔◌, [], Err, IfErr, IfOk, IfSome, IsOk, IsOkUnless, IsSome, IsTrue, None, Ok, OnErr, OnOk, Some, min, option_and_then, true};
+ghost use Rattle.std.specs.Prelude.{◌≡◌, ◌++◌, ◌↔◌, [], Err, IfErr, IfOk, IfSome, IsOk, IsOkUnless, IsSome, IsTrue, None, Ok, OnErr, OnOk, Some, drop, min, option_and_then, true};
 ghost use Rattle.pim_ip.specs.declared.fault.Fault.{Fault};
 ghost use Rattle.pim_fanout.specs.Named.{keys_of};
 ghost use Rattle.pim_macros.specs.Rows.{number_of};
@@ -28,6 +28,8 @@ ghost use Rattle.pim_event.specs.Staying.{OffersStay};
 ghost use Rattle.pim_rested.specs.Resuming.{IsResumable, restore_test};
 ghost use Rattle.law_history.specs.History.{Given};
 ghost use Rattle.pim_router.specs.Asked.{LeadsOn, SentIsAsked};
+ghost use Rattle.pim_session.specs.Untaken.{IsMemoryAlone, Stopped, has_untaken};
+ghost use Rattle.pim_session.specs.declared.stop.Stop.{Stop as StopValue};
 ghost use Rattle.pim_session.specs.Leaving.{GoesOnFrom, LeftIsAsked};
 ghost use Rattle.pim_router.specs.Standing.{begun, nothing_shown, standing, with_state};
 ghost use Rattle.pim_saved.specs.Fits.{FitsState};
@@ -41,6 +43,7 @@ mod trees;
 
 use crate::behind;
 use crate::front::Front;
+use crate::stop::Stop;
 use igmp_older::{OlderHosts, OlderRow, QueryVersion};
 use pim_intake::LentEvent;
 use pim_mfc::{CacheRow, Offered};
@@ -51,21 +54,23 @@ use std::alloc::Global;
 use std::marker::Model;
 use std::mem;
 
-/// A router, what stands before it for hosts and routers of older versions of IGMP, the packets of the last event that
-/// had no fault, and the rows that were read last. Nothing stands before a new session's router, which refuses each
-/// message of an older version.
+/// A router, what stands before it for hosts and routers of older versions of IGMP, the packets of the last event, and
+/// the rows that were read last. The packets are taken one by one, or cleared: until then the session takes no event.
+/// Nothing stands before a new session's router, which refuses each message of an older version.
 pub struct Session {
     router: Box<Router>,
     // Whether an allocation failed, and with it the session.
     is_lost: bool,
     front: Option<Front>,
     sent: Vec<Emission>,
+    // How many of the packets were taken.
+    taken: usize,
     rows: Vec<Row>,
     older_rows: Vec<OlderRow>,
 }
 
 impl Model for Session {
-    ghost use Rattle.std.specs.Prelude.{◌≡◌, IsSome, None, false, if◌then◌else◌};
+    ghost use Rattle.std.specs.Prelude.{◌≡◌, IsSome, None, [], drop, false, if◌then◌else◌};
     ghost use Rattle.pim_router.specs.Standing.{nothing_shown};
     ghost use Rattle.pim_session.specs.Session.{ShownSession};
 
@@ -74,7 +79,7 @@ impl Model for Session {
     ghost view = { λ s. record {
       router = if s.is_lost then nothing_shown else s.router.value;
       front = if s.is_lost then None else s.front;
-      sent = s.sent.items;
+      sent = if s.is_lost then [] else drop s.taken s.sent.items;
       rows = s.rows.items;
       older_rows = s.older_rows.items;
     } };
@@ -90,6 +95,7 @@ impl Drop for Session {
             is_lost: _,
             front: _,
             sent: _,
+            taken: _,
             rows: _,
             older_rows: _,
         } = self;
@@ -140,21 +146,23 @@ impl Session {
             is_lost: false,
             front: None,
             sent: Vec::new(alloc),
+            taken: 0,
             rows: Vec::new(alloc),
             older_rows: Vec::new(alloc),
         }
     }
 
-    /// Takes one event, as `Router::step_lent` does, and keeps its packets in place of the packets kept before. Where
-    /// something stands before the router, the router is given what that makes of a packet, and its queries leave as the
-    /// versions of the interfaces say. After a fault the kept packets are unchanged, and the session answers `Failed`
-    /// from then on. A session that hasn't failed has no fault where the event is ignored, or is refused for its bytes,
-    /// its timestamp or its interface, if its packet was given to the router as it came.
+    /// Takes one event, as `Router::step_lent` does, and keeps its packets. Where something stands before the router, the
+    /// router is given what that makes of a packet, and its queries leave as the versions of the interfaces say. While
+    /// packets of the event before are untaken the answer is `Untaken`, and nothing changes. After a fault the session
+    /// answers `Failed` from then on. A session that hasn't failed, and has no untaken packets, takes an event that is
+    /// ignored, or is refused for its bytes, its timestamp or its interface, if its packet was given to the router as it
+    /// came.
     pub fn step(
         &mut self,
         alloc: Global,
         event: &LentEvent<'_>,
-    ) -> Result<Result<Verdict, Refusal>, Fault>
+    ) -> Result<Result<Verdict, Refusal>, Stop>
         ensures answer { IfSome self.old.router.standing (λ r. IfOk result (λ answer. answer
             ≡ (step r.state (given self.old.front r.state event.now)).answer)) }
         ensures state { IfSome self.old.router.standing (λ r. OnOk result
@@ -175,14 +183,19 @@ impl Session {
             (self.new.router.disturbed ≡ event_disturbed r.state (given self.old.front r.state event.now))) }
         ensures stays { IfSome self.old.router.standing (λ r. OnOk result
             (OffersStay self.new.router.disturbed r.state (step r.state (given self.old.front r.state event.now)).state)) }
-        ensures failing { OnErr result ((self.new.router ≡ nothing_shown) × (self.new.front ≡ None)) }
+        ensures untaken { (result ≡ Err StopValue.Untaken) ↔ IsTrue (has_untaken self.old) }
+        ensures stopped { IfErr result (λ stop. Stopped stop self.old self.new) }
         ensures silent { OnErr result (self.new.sent ≡ self.old.sent) }
-        ensures failed { (result ≡ Err Fault.Failed) ↔ (self.old.router.standing ≡ None) }
-        ensures fault { IfSome self.old.router.standing (λ r. IsOkUnless result Fault.Memory) }
-        ensures sure { IfSome self.old.router.standing (λ r. IsTrue (is_sure self.old.front r.state event.now) → IsOk result) }
+        ensures failed { (result ≡ Err (StopValue.Fault Fault.Failed)) ↔ (self.old.router.standing ≡ None) }
+        ensures fault { IfSome self.old.router.standing (λ r. IfErr result IsMemoryAlone) }
+        ensures sure { IfSome self.old.router.standing (λ r. self.old.sent ≡ []
+            → IsTrue (is_sure self.old.front r.state event.now) → IsOk result) }
         ensures rows { (self.new.rows ≡ self.old.rows) × (self.new.older_rows ≡ self.old.older_rows) }
     {
-        self.take(alloc, event)
+        if self.has_untaken() {
+            return Err(Stop::Untaken);
+        }
+        Ok(self.take(alloc, event)?)
     }
 
     // Takes one event, and keeps its packets.
@@ -229,9 +242,9 @@ impl Session {
         }
     }
 
-    /// A data plane saw a packet of (S,G) on the interface, as `Router::seen` says. What leaves is kept in place of the
-    /// packets kept before. After a fault the kept packets are unchanged, and the session answers `Failed` from then
-    /// on.
+    /// A data plane saw a packet of (S,G) on the interface, as `Router::seen` says. What leaves is kept. While
+    /// packets of the event before are untaken the answer is `Untaken`, and nothing changes. After a fault the session
+    /// answers `Failed` from then on.
     #[tactic(auto, using(crate::proofs::Leaving::sent_by))]
     pub fn seen(
         &mut self,
@@ -240,7 +253,7 @@ impl Session {
         iface: IfaceId,
         source: Addr,
         group: Addr,
-    ) -> Result<Result<Verdict, Refusal>, Fault>
+    ) -> Result<Result<Verdict, Refusal>, Stop>
         ensures answer { IfSome self.old.router.standing (λ r. IfOk result (λ answer.
             answer ≡ (step r.state (seen_event draw iface group.bits source.bits)).answer)) }
         ensures state { IfSome self.old.router.standing (λ r. OnOk result (self.new.router.standing
@@ -259,15 +272,19 @@ impl Session {
             ≡ event_disturbed r.state (seen_event draw iface group.bits source.bits))) }
         ensures stays { IfSome self.old.router.standing (λ r. OnOk result (OffersStay self.new.router.disturbed r.state
             (step r.state (seen_event draw iface group.bits source.bits)).state)) }
-        ensures failing { OnErr result ((self.new.router ≡ nothing_shown) × (self.new.front ≡ None)) }
+        ensures untaken { (result ≡ Err StopValue.Untaken) ↔ IsTrue (has_untaken self.old) }
+        ensures stopped { IfErr result (λ stop. Stopped stop self.old self.new) }
         ensures front { OnOk result (self.new.front ≡ self.old.front) }
         ensures silent { OnErr result (self.new.sent ≡ self.old.sent) }
-        ensures failed { (result ≡ Err Fault.Failed) ↔ (self.old.router.standing ≡ None) }
-        ensures fault { IfSome self.old.router.standing (λ r. IsOkUnless result Fault.Memory) }
+        ensures failed { (result ≡ Err (StopValue.Fault Fault.Failed)) ↔ (self.old.router.standing ≡ None) }
+        ensures fault { IfSome self.old.router.standing (λ r. IfErr result IsMemoryAlone) }
         ensures rows { (self.new.rows ≡ self.old.rows) × (self.new.older_rows ≡ self.old.older_rows) }
     {
         if self.is_lost {
-            return Err(Fault::Failed);
+            return Err(Stop::Fault(Fault::Failed));
+        }
+        if self.has_untaken() {
+            return Err(Stop::Untaken);
         }
         let mut leaving = Vec::new(alloc);
         match self.router.seen(draw, iface, source, group, &mut leaving) {
@@ -277,7 +294,7 @@ impl Session {
             }
             Err(fault) => {
                 self.is_lost = true;
-                Err(fault)
+                Err(Stop::Fault(fault))
             }
         }
     }
@@ -317,6 +334,7 @@ impl Session {
             × (self.new.older_rows ≡ self.old.older_rows) }
     {
         let done = mem::replace(&mut self.sent, sent);
+        self.taken = 0;
         self.router.take_back(done);
     }
 
@@ -434,11 +452,41 @@ impl Session {
         Ok(())
     }
 
-    /// The packets of the last event that had no fault, in their order.
+    /// The packets of the last event that are untaken, in their order; none after a fault.
     pub fn sent(&self) -> &[Emission]
         ensures { result.now ≡ self.now.sent }
     {
-        self.sent.as_slice()
+        if self.has_untaken() {
+            return &self.sent.as_slice()[self.taken..];
+        }
+        &[]
+    }
+
+    /// Whether packets of the last event are untaken.
+    pub fn has_untaken(&self) -> bool
+        ensures { result ≡ has_untaken self.now }
+    {
+        !self.is_lost && self.taken < self.sent.len()
+    }
+
+    /// Takes the first of the untaken packets away, if there is one.
+    pub fn remove_first(&mut self)
+        ensures sent { self.new.sent ≡ drop 1 self.old.sent }
+        ensures rest { (self.new.router ≡ self.old.router) × (self.new.front ≡ self.old.front) × (self.new.rows ≡ self.old.rows)
+            × (self.new.older_rows ≡ self.old.older_rows) }
+    {
+        if self.has_untaken() {
+            self.taken += 1;
+        }
+    }
+
+    /// Takes all untaken packets away.
+    pub fn clear(&mut self)
+        ensures sent { self.new.sent ≡ [] }
+        ensures rest { (self.new.router ≡ self.old.router) × (self.new.front ≡ self.old.front) × (self.new.rows ≡ self.old.rows)
+            × (self.new.older_rows ≡ self.old.older_rows) }
+    {
+        self.taken = self.sent.len();
     }
 
     /// The rows that were read last, in ascending order of their keys.

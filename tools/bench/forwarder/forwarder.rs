@@ -81,7 +81,9 @@ fn library_batch(router: &mut Router, batch: &Batch, room: &mut [u8; MOST_BYTES]
     for packet in batch.bytes.chunks_exact(batch.length) {
         let answer = router.frame(0, packet, DRAW);
         assert_eq!(answer, DONE);
-        router.each_packet(room, |packet, bytes| sent.take(packet.iface, bytes));
+        while let Some((target, bytes)) = router.take(room) {
+            sent.take(target.iface().unwrap_or(0), bytes);
+        }
     }
     sent
 }
@@ -138,7 +140,11 @@ impl Both {
                 (next - 1) % self.rows
             });
             let mut packets = batch.bytes.chunks_exact(batch.length);
-            assert!(packets.all(|packet| self.router.frame(0, packet, DRAW) == DONE));
+            assert!(packets.all(|packet| {
+                self.router.clear();
+                self.router.frame(0, packet, DRAW) == DONE
+            }));
+            self.router.clear();
         }
     }
 
@@ -148,7 +154,7 @@ impl Both {
             let [source, group] = [12, 16].map(|at| u32::from_be_bytes(packet[at..at + 4].try_into().expect("an address")));
             assert!(self.router.cached(source.into(), group.into()).is_some_and(|it| it.has_spt_bit));
             assert_eq!(self.router.frame(0, packet, DRAW), DONE);
-            let one: Vec<(u32, Vec<u8>)> = self.router.packets().into_iter().map(|it| (it.packet.iface, it.bytes)).collect();
+            let one: Vec<(u32, Vec<u8>)> = self.router.drain().map(|it| (it.target.iface().unwrap_or(0), it.bytes)).collect();
             let mut other = Vec::new();
             let answer = self.plain.frame(0, packet, &mut self.room, |iface, bytes| other.push((iface, bytes.to_vec())));
             assert_eq!((answer, one), (Ok(()), other));
@@ -159,6 +165,7 @@ impl Both {
     fn tick(&mut self) {
         self.moment += 1;
         assert_eq!(self.router.advance(self.moment, DRAW), DONE);
+        self.router.clear();
         self.plain.present = self.moment;
     }
 
@@ -220,6 +227,7 @@ fn take_line(router: &mut Router, line: &str) {
         _ => router.frame(iface, &bytes_of(words[2]), DRAW),
     };
     assert_eq!(answer, DONE, "{line}");
+    router.clear();
 }
 
 fn bytes_of(hex: &str) -> Vec<u8> {

@@ -12,6 +12,8 @@ describes, by ctypes.
                 router.frame(iface, packet)
                 send(router.packets())                          # each a kind, an interface or an address, and bytes
 
+A packet that is to be sent is kept until `packets` or `run_to` returns it, whatever events come between.
+
 A moment is a timestamp, in milliseconds from any beginning, at most 2**62. The shared library is the one that `library`
 names, or VIQESHOR_LIBRARY in the environment, or the one in the package's folder, or the one that the system loads as
 `libviqeshor.so.0.9`. `viqeshor.hosts` writes packets of hosts.
@@ -90,7 +92,7 @@ Buffer: TypeAlias = bytes | bytearray | memoryview
 Interface: TypeAlias = str | IPv4Interface | tuple[Any, ...]
 
 # What this package and the library have to agree on: VIQ_ABI of viqeshor.h.
-ABI = 5
+ABI = 6
 NEVER, NO_INTERFACE, MOST_BYTES = 2**64 - 1, 2**32 - 1, 1528
 # The letters of the tables.
 TABLES = "NGSDAURF"
@@ -100,7 +102,7 @@ OLDER_HOSTS = {"none": 0, "v2": 1, "all": 2}
 
 class Answer(enum.IntEnum):
     """What became of an event. `docs/SCENARIOS.md` has the refusals, 1 to 39, and the reasons to ignore, from 101.
-    Those of 40 to 51, of 53 and of 54 are raised as an `Error`, and so are the refusals of saved bytes, 60 to 69, which
+    Those of 40 to 51 and of 53 to 55 are raised as an `Error`, and so are the refusals of saved bytes, 60 to 69, which
     `docs/SAVED.md` has."""
     DONE = 0
     SHORT = 1
@@ -136,6 +138,7 @@ class Answer(enum.IntEnum):
     NO_TIMER = 52
     OTHER_ABI = 53
     NO_SETTING = 54
+    UNTAKEN = 55
     NOT_OURS = 60
     OTHER_VERSION = 61
     CUT_SHORT = 62
@@ -347,8 +350,8 @@ CALLS: dict[str, tuple[list[Any], Any]] = {
     "down": ([c_uint32, Draw], c_uint32),
     "routes": ([*LIST, Draw], c_uint32),
     "ranges": ([*LIST, Draw], c_uint32),
-    "packets": ([], c_size_t),
-    "packet": ([c_size_t, POINTER(ToldPacket), POINTER(c_uint8), c_size_t], c_bool),
+    "take": ([POINTER(ToldPacket), POINTER(c_uint8), c_size_t], c_bool),
+    "clear": ([], None),
     "copies": ([], c_uint32),
     "next_moment": ([], c_uint64),
     "read": ([c_uint8], c_uint32),
@@ -507,8 +510,8 @@ class Router:
     one is given.
 
     Threads may share a router: each call waits for the others. A thread that wants what its own event sent holds `lock`
-    from the event on: `with router.lock: answer, sent = router.frame(0, packet), router.packets()`. A router is freed
-    by `end`, or with its last reference."""
+    before it, and takes what is there: `with router.lock: before, answer, sent = router.packets(), router.frame(0,
+    packet), router.packets()`. A router is freed by `end`, or with its last reference."""
 
     def __init__(
         self,
@@ -537,7 +540,7 @@ class Router:
     ) -> None:
         """Puts the router under another configuration, which is given whole, as to a new router. Interfaces keep their
         numbers: those past the last one go down and are removed, those that are added are down. What leaves, a Hello
-        where the address, the priority or the delays of an interface differ among others, is then in `packets`. Rows
+        where the address, the priority or the delays of an interface differ among others, is for `packets`. Rows
         that were read are dropped, and a data plane reads all its rows again. It is no event. Raises `Refused`, and
         changes nothing, where a new router would be refused."""
         bits = random.getrandbits(32) if draw is None else number(draw, 32, "a draw")
@@ -561,6 +564,8 @@ class Router:
 
     def _keep(self, made: c_void_p) -> None:
         self._router: c_void_p | None = made
+        self._sent: list[Sent] = []
+        self._room = (c_uint8 * MOST_BYTES)()
         self._took: Callable[[str, int, tuple[Any, ...], Answer], None] | None = None
         self._finalizer = weakref.finalize(self, self._library.viq_end, made)
 
@@ -588,14 +593,24 @@ class Router:
         return self._recorded(name, bits, values, Draw(bits))
 
     def _recorded(self, name: str, draw: int, values: tuple[Any, ...], *more: Any) -> Answer:
-        """What a call answers, which a recorder is told, if there is one (`viqeshor.recording`)."""
+        """What a call answers, which a recorder is told, if there is one (`viqeshor.recording`). What it sends is kept."""
         with self.lock:
             answer = Answer(self._call(name, *values, *more))
             if self._took is not None:
                 self._took(name, draw, values, answer)
+            if answer == Answer.DONE:
+                self._take()
         if answer in RAISED:
             self._raise(answer)
         return answer
+
+    def _take(self) -> None:
+        """Keeps what the router has to send, which takes no other event before."""
+        told, room = ToldPacket(), self._room
+        while self._call("take", byref(told), room, MOST_BYTES):
+            kind = KINDS[told.kind]
+            where = dotted(told.destination) if kind == "unicast" else told.iface
+            self._sent.append(Sent(kind, where, bytes(room[: told.length])))
 
     def end(self) -> None:
         """Frees the router and its memory. From then on each call but this one raises `Closed`."""
@@ -605,7 +620,7 @@ class Router:
 
     def save(self) -> bytes:
         """The state of the router as bytes, of which `restore` makes a router that goes on from it. What isn't in them:
-        what the clock showed at timestamp 0, packets that weren't sent, and what `set_older_hosts` and
+        what the clock showed at timestamp 0, packets that `packets` didn't return, and what `set_older_hosts` and
         `set_query_version` set and the groups in an older mode."""
         size = c_size_t()
         with self.lock:
@@ -622,17 +637,15 @@ class Router:
 
     def run_to(self, moment: int) -> list[Sent]:
         """Time passes up to the timestamp `moment`, timer by timer, each with a draw of its own. Returns what is to be
-        sent, in its order. Raises `Refused` where `moment` is before the present."""
-        sent = []
+        sent, in its order, as `packets` does. Raises `Refused` where `moment` is before the present."""
         with self.lock:
             while True:
                 ends_next = self.next_moment()
                 now = moment if ends_next is None else min(moment, ends_next)
                 self._must(self.advance(now))
-                sent += self.packets()
                 ends_next = self.next_moment()
                 if now == moment and (ends_next is None or ends_next > moment):
-                    return sent
+                    return self.packets()
 
     def frame(self, iface: int, packet: Buffer, draw: int | None = None) -> Answer:
         """A packet came on an interface, to a group."""
@@ -659,17 +672,12 @@ class Router:
     # ---- what is read
 
     def packets(self) -> list[Sent]:
-        """What the last event sent, in the order in which it is to leave."""
-        told, room, sent = ToldPacket(), (c_uint8 * MOST_BYTES)(), []
+        """What all events sent since this was called last, in the order in which it is to leave. None is returned
+        twice."""
         with self.lock:
-            for index in range(self._call("packets")):
-                self._call("packet", index, byref(told), room, MOST_BYTES)
-                kind = KINDS[told.kind]
-                sent.append(
-                    Sent(
-                        kind, dotted(told.destination) if kind == "unicast" else told.iface, bytes(room[: told.length])
-                    )
-                )
+            if self._router is None:
+                self._raise(Answer.NO_ROUTER)
+            sent, self._sent = self._sent, []
         return sent
 
     def next_moment(self) -> int | None:

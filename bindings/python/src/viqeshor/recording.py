@@ -84,8 +84,10 @@ def sum_of(router: Router, version: int = VERSION) -> int:
 
 
 def sum_of_version_1(router: Router) -> int:
-    """The same in version 1: of each packet a letter, where it goes as a text, its length and its bytes."""
+    """The same in version 1: of each packet a letter, where it goes as a text, its length and its bytes. It takes
+    them."""
     total = 0
+    router._take()
     for kind, where, packet in router.packets():
         place = str(where).encode()
         total = zlib.crc32(KIND_BYTES[kind] + struct.pack(">BI", len(place), len(packet)) + place + packet, total)
@@ -354,10 +356,11 @@ def values_of(record: Record) -> tuple[Any, ...]:
 
 
 def take(router: Router, record: Record, version: int = VERSION) -> tuple[int, int]:
-    """Gives a router what was recorded; what it answers, and the sum of what it sends, as the version has it."""
+    """Gives a router what was recorded; what it answers, and the sum of what it sends, as the version has it. The
+    packets are cleared."""
     draw = [] if record.name in QUIET else [Draw(record.draw)]
-    try:
-        answer = Answer(router._call(record.name, *values_of(record), *draw))
-    except Error as error:
-        answer = error.answer
-    return answer.value, sum_of(router, version) if draw and answer == Answer.DONE else 0
+    answer, total = Answer(router._call(record.name, *values_of(record), *draw)), 0
+    if draw and answer == Answer.DONE:
+        total = sum_of(router, version)
+        router._call("clear")
+    return answer.value, total

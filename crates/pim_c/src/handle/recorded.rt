@@ -3,7 +3,7 @@ ghost use Rattle.std.specs.Prelude.{◌≡◌};
 ghost use Rattle.pim_c.specs.Called.{packets_in};
 ghost use Rattle.pim_recorded.specs.Records.{sum_of};
 
-use super::{Handle, to_send};
+use super::Handle;
 use std::alloc::Global;
 
 impl Handle {
@@ -15,7 +15,7 @@ impl Handle {
         let Some(session) = self.take(alloc) else {
             return pim_recorded::sum_of(&[]);
         };
-        let sum = pim_recorded::sum_of(to_send(&session));
+        let sum = pim_recorded::sum_of(session.sent());
         self.put(session);
         sum
     }

@@ -1,10 +1,11 @@
 //! Another configuration in the router of a handle.
 ghost use Rattle.std.specs.Prelude.{◌≡◌, IfOk, OnErr};
 ghost use Rattle.pim_c.specs.Called.{Refused, refused_number};
+ghost use Rattle.pim_session.specs.Untaken.{has_untaken};
 ghost use Rattle.pim_c.specs.Reloaded.{Reloaded, ReloadedFrom};
 
-use super::Handle;
-use crate::told::{DONE, FAILED, MEMORY, NO_ROUTER, loss_number};
+use super::{Handle, refused_number};
+use crate::told::{DONE, NO_ROUTER, stop_number};
 use pim_session::Session;
 use pim_types::Config;
 use std::alloc::{AllocError, Global};
@@ -37,7 +38,7 @@ fn reload(alloc: Global, session: &mut Session, draw: u32, config: &Config) -> u
     match session.reload(alloc, draw, config) {
         Ok(Ok(())) => DONE,
         Ok(Err(refusal)) => u32::from(refusal.number()),
-        Err(fault) => loss_number(fault),
+        Err(stop) => stop_number(stop),
     }
 }
 
@@ -49,11 +50,10 @@ fn reload_copied(
     config: Result<Config, AllocError>,
 ) -> u32
     ensures reloaded { IfOk config (λ c. ReloadedFrom session.old session.old.router.standing c draw result session.new) }
-    ensures refused { OnErr config ((result ≡ refused_number session.old.router.standing) × (session.new ≡ session.old)) }
+    ensures refused { OnErr config ((result ≡ refused_number session.old.router.standing (has_untaken session.old)) × (session.new ≡ session.old)) }
 {
     match config {
         Ok(config) => reload(alloc, session, draw, &config),
-        Err(_) if session.has_failed() => FAILED,
-        Err(_) => MEMORY,
+        Err(_) => refused_number(session),
     }
 }

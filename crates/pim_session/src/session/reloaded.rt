@@ -1,5 +1,5 @@
 //! Another configuration in the session's router.
-ghost use Rattle.std.specs.Prelude.{◌≡◌, ◌↔◌, [], Err, IfErr, IfOk, IfSome, IsOkUnless, None, Ok, OnErr, OnOk, Some};
+ghost use Rattle.std.specs.Prelude.{◌≡◌, ◌↔◌, [], Err, IfErr, IfOk, IfSome, IsOkUnless, IsTrue, None, Ok, OnErr, OnOk, Some};
 ghost use Rattle.pim_event.specs.Replacing.{NoneReplaced};
 ghost use Rattle.pim_ip.specs.declared.fault.Fault.{Fault};
 ghost use Rattle.pim_model.specs.Limits.{config_test};
@@ -7,32 +7,35 @@ ghost use Rattle.law_reloaded.specs.Reloading.{reload};
 ghost use Rattle.pim_reloader.specs.Listing.{ListsFacts};
 ghost use Rattle.law_history.specs.History.{Given};
 ghost use Rattle.pim_router.specs.Asked.{LeadsOn};
-ghost use Rattle.pim_router.specs.Standing.{beginning, nothing_shown};
+ghost use Rattle.pim_router.specs.Standing.{beginning};
 ghost use Rattle.pim_session.specs.Front.{emissions_left};
 ghost use Rattle.pim_session.specs.Reloaded.{front_reloaded};
+ghost use Rattle.pim_session.specs.Untaken.{IsMemoryAlone, Stopped, has_untaken};
+ghost use Rattle.pim_session.specs.declared.stop.Stop.{Stop as StopValue};
 ghost use Rattle.pim_state.specs.declared.touched.Touched.{Touched as TouchedValue};
 
 use super::Session;
 use crate::behind::times_in;
 use crate::front::Front;
+use crate::stop::Stop;
 use pim_router::Router;
 use pim_types::{Config, Emission, Fault, Refusal};
 use std::alloc::{AllocError, Global};
 use std::mem;
 
 impl Session {
-    /// Puts the router under another configuration, as `Router::reload` does, and keeps the packets that leave in place
-    /// of those kept before. Where something stands before the router, queries leave as the versions of the interfaces
+    /// Puts the router under another configuration, as `Router::reload` does, and keeps the packets that leave. Where something stands before the router, queries leave as the versions of the interfaces
     /// say; after that the first interfaces keep their settings and what they heard, and one that is added hears nobody
     /// and queries in version 3. As many older hosts are remembered as the new limit says, or as are remembered already
-    /// if these are more. Rows that were read are dropped. A refused configuration changes nothing. After a fault the kept packets and
-    /// rows are unchanged, and the session answers `Failed` from then on.
+    /// if these are more. Rows that were read are dropped. A refused configuration changes nothing. While
+    /// packets of the event before are untaken the answer is `Untaken`, and nothing changes. After a fault the rows are
+    /// unchanged, and the session answers `Failed` from then on.
     pub fn reload(
         &mut self,
         alloc: Global,
         draw: u32,
         config: &Config,
-    ) -> Result<Result<(), Refusal>, Fault>
+    ) -> Result<Result<(), Refusal>, Stop>
         ensures accepted { IfSome self.old.router.standing (λ r. IfOk result (λ answer. OnOk answer
             (config_test config.now ≡ Ok tt))) }
         ensures state { IfSome self.old.router.standing (λ r. IfOk result (λ answer. OnOk answer
@@ -50,14 +53,18 @@ impl Session {
         ensures rows { IfOk result (λ answer. OnOk answer ((self.new.rows ≡ []) × (self.new.older_rows ≡ []))) }
         ensures refused { IfOk result (λ answer. IfErr answer (λ refusal. (config_test config.now ≡ Err refusal)
             × (self.new ≡ self.old))) }
-        ensures failing { OnErr result ((self.new.router ≡ nothing_shown) × (self.new.front ≡ None)) }
+        ensures untaken { (result ≡ Err StopValue.Untaken) ↔ IsTrue (has_untaken self.old) }
+        ensures stopped { IfErr result (λ stop. Stopped stop self.old self.new) }
         ensures silent { OnErr result ((self.new.sent ≡ self.old.sent) × (self.new.rows ≡ self.old.rows)
             × (self.new.older_rows ≡ self.old.older_rows)) }
-        ensures failed { (result ≡ Err Fault.Failed) ↔ (self.old.router.standing ≡ None) }
-        ensures fault { IfSome self.old.router.standing (λ r. IsOkUnless result Fault.Memory) }
+        ensures failed { (result ≡ Err (StopValue.Fault Fault.Failed)) ↔ (self.old.router.standing ≡ None) }
+        ensures fault { IfSome self.old.router.standing (λ r. IfErr result IsMemoryAlone) }
     {
         if self.is_lost {
-            return Err(Fault::Failed);
+            return Err(Stop::Fault(Fault::Failed));
+        }
+        if self.has_untaken() {
+            return Err(Stop::Untaken);
         }
         match reload(alloc, self.router.as_mut(), &mut self.front, draw, config) {
             Ok(Ok(sent)) => {
@@ -69,7 +76,7 @@ impl Session {
             Ok(Err(refusal)) => Ok(Err(refusal)),
             Err(fault) => {
                 self.is_lost = true;
-                Err(fault)
+                Err(Stop::Fault(fault))
             }
         }
     }

@@ -170,8 +170,11 @@ fn other_ranges_are_taken() {
         daemon.core.take(Event::Seen(1, key(NEAR, [239, 2, 1, 9]))).expect("it goes on");
     }
     assert_eq!(next.counters.made_anew, 0);
-    let told =
-        |daemon: &mut Daemon| daemon.core.packets().into_iter().map(|it| it.packet.destination).collect::<Vec<_>>();
+    let told = |daemon: &mut Daemon| {
+        let mut targets = Vec::new();
+        daemon.core.each_packet(|target, _| targets.push(target));
+        targets
+    };
     assert_eq!(told(&mut next), told(&mut usual));
 }
 

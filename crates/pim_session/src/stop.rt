@@ -1,0 +1,22 @@
+//! Why a session takes no event.
+use pim_types::Fault;
+
+/// Why a session took no event.
+#[derive(Clone, Copy, Debug)]
+pub enum Stop {
+    /// Packets of the event before are untaken. Nothing has changed.
+    Untaken,
+    /// The router has failed, at this event or at an earlier one.
+    Fault(Fault),
+}
+
+impl From<Fault> for Stop {
+    ghost use Rattle.std.specs.Prelude.{◌≡◌};
+    ghost use Rattle.pim_session.specs.declared.stop.Stop.{Stop};
+
+    ghost from_gives = { λ fault stop. stop ≡ Stop.Fault fault };
+
+    fn from(fault: Fault) -> Stop {
+        Stop::Fault(fault)
+    }
+}

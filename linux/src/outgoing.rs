@@ -1,0 +1,39 @@
+//! Packets that the library's router has to send, taken of it after each event and kept until they leave.
+use viqeshor::{Router, Target, MOST_BYTES};
+
+#[derive(Default)]
+pub struct Outgoing {
+    /// Where each goes, and where its bytes end.
+    ends: Vec<(Target, usize)>,
+    bytes: Vec<u8>,
+}
+
+impl Outgoing {
+    /// Takes what the router has to send.
+    pub fn take(&mut self, router: &mut Router) {
+        let mut room = [0; MOST_BYTES];
+        while let Some((target, bytes)) = router.take(&mut room) {
+            self.bytes.extend_from_slice(bytes);
+            self.ends.push((target, self.bytes.len()));
+        }
+    }
+
+    pub fn len(&self) -> usize {
+        self.ends.len()
+    }
+
+    /// The packets behind the first so many, in the order in which they are to leave.
+    pub fn since(&self, first: usize) -> impl Iterator<Item = (Target, &[u8])> {
+        let mut begin = first.checked_sub(1).map_or(0, |last| self.ends[last].1);
+        self.ends[first..].iter().map(move |(target, end)| {
+            let bytes = &self.bytes[begin..*end];
+            begin = *end;
+            (*target, bytes)
+        })
+    }
+
+    pub fn clear(&mut self) {
+        self.ends.clear();
+        self.bytes.clear();
+    }
+}
