@@ -189,6 +189,48 @@ static void refused_lists(struct viq_router *router) {
 }
 
 /* A list that is too long is refused by its count, and isn't read: here it isn't there. */
+/* Each reason, at an item behind one that can stand; and that the library refuses as they tell. */
+static void refused_items(void) {
+    struct { struct viq_route route; uint32_t reason; } wrong[] = {
+        {{0x0a000000, 33, 0x0a000001, 0, 1, 1}, VIQ_ITEM_LENGTH}, {{0x0a000001, 31, 0x0a000001, 0, 1, 1}, VIQ_ITEM_HOST_BITS},
+        {{1, 0, 0x0a000001, 0, 1, 1}, VIQ_ITEM_HOST_BITS}, {{0, 0, 0x0a000001, 3, 1, 1}, VIQ_ITEM_INTERFACE},
+        {{0, 0, 0, 0, 1, 1}, VIQ_ITEM_NO_HOST}, {{0, 0, 0xe0000000, 0, 1, 1}, VIQ_ITEM_NO_HOST},
+        {{0, 0, 0x0a000201, 0, 1, 1}, VIQ_ITEM_OWN}, {{0, 0, 0x0a000001, 0, 0x7fffffff, 1}, VIQ_ITEM_PREFERENCE},
+        {two[0], VIQ_ITEM_TWICE}, {{0, 0, 0xdfffffff, 2, 0x7ffffffe, UINT32_MAX}, 0}, {{5, 32, 1, 0, 0, 0}, 0}};
+    struct { struct viq_range range; uint32_t reason; } bad[] = {
+        {{0xe0000000, 3, 1}, VIQ_ITEM_LENGTH}, {{0xe0000000, 33, 1}, VIQ_ITEM_LENGTH}, {{0xe0000001, 31, 1}, VIQ_ITEM_HOST_BITS},
+        {{0xd0000000, 4, 1}, VIQ_ITEM_NO_GROUPS}, {{0xe8000000, 8, 0}, VIQ_ITEM_NO_HOST},
+        {{0xe8000000, 8, 0xe0000000}, VIQ_ITEM_NO_HOST}, {one[0], VIQ_ITEM_TWICE}, {{0xe0000000, 5, 1}, 0}};
+    struct viq_refused_at at = {7, 7};
+    for (size_t n = 0; n < COUNT(wrong); n++) {
+        struct viq_route routes[] = {two[0], wrong[n].route};
+        is("a route that is refused", viq_routes_refused_at(three, COUNT(three), routes, 2, &at), wrong[n].reason != 0);
+        is("its reason", at.reason, wrong[n].reason);
+        is("its place", at.index, wrong[n].reason ? 1 : 2);
+        is("as the library says", can_be_made(&usual, three, COUNT(three), routes, 2, NULL, 0), wrong[n].reason ? 37 : 0);
+    }
+    for (size_t n = 0; n < COUNT(bad); n++) {
+        struct viq_range ranges[] = {one[0], bad[n].range};
+        is("a range that is refused", viq_ranges_refused_at(ranges, 2, &at), bad[n].reason != 0);
+        is("its reason", at.reason, bad[n].reason);
+        is("its place", at.index, bad[n].reason ? 1 : 2);
+        is("as the library says", can_be_made(&usual, three, COUNT(three), NULL, 0, ranges, 2), bad[n].reason ? 38 : 0);
+    }
+    static struct viq_route many[VIQ_MOST_ROUTES];
+    for (uint32_t n = 0; n < COUNT(many); n++) many[n] = (struct viq_route){n << 8, 24, 0x0a000001, 0, 1, 1};
+    is("as many as there may be", viq_routes_refused_at(three, COUNT(three), many, COUNT(many), &at), false);
+    many[99000] = many[70000];
+    many[50000] = many[90000];
+    is("two that are there twice", viq_routes_refused_at(three, COUNT(three), many, COUNT(many), &at), true);
+    is("the first of them", at.index == 90000 && at.reason == VIQ_ITEM_TWICE, true);
+    is("too many", viq_routes_refused_at(three, COUNT(three), many, SIZE_MAX, &at), true);
+    is("the first too many", at.index == VIQ_MOST_ROUTES && at.reason == VIQ_ITEM_COUNT, true);
+    is("too many ranges", viq_ranges_refused_at(one, SIZE_MAX, &at) && at.index == VIQ_MOST_RANGES && at.reason == VIQ_ITEM_COUNT, true);
+    is("no lists", viq_routes_refused_at(NULL, 0, NULL, 0, &at) || viq_ranges_refused_at(NULL, 0, &at), false);
+    for (uint32_t reason = 0; reason <= VIQ_ITEM_COUNT; reason++)
+        is("a text of its own", strcmp(viq_refused_text(reason), viq_refused_text(reason + 1)) != 0, true);
+}
+
 static void long_lists(struct viq_router *router) {
     static const size_t counts[] = {VIQ_MOST_ROUTES + 1, (size_t)1 << 40, SIZE_MAX};
     static const struct viq_settings bad = {0, 2, 125, 100, 10, false};
@@ -233,6 +275,7 @@ static void configurations(void) {
     refused_interfaces();
     refused_lists(other);
     long_lists(other);
+    refused_items();
     other_abi();
     viq_end(other);
 }
@@ -909,15 +952,23 @@ static uint32_t sum_of_taken(struct viq_router *router) {
     return ~crc;
 }
 
+/* Whether behind bytes, but for the last four, is their CRC-32. */
+static bool is_summed(const uint8_t *bytes, size_t length) {
+    uint8_t sum[4];
+    put(sum, ~crc_of(UINT32_MAX, bytes, length - 4) & UINT32_MAX, 4);
+    return memcmp(bytes + length - 4, sum, 4) == 0;
+}
+
 static void recorded(const char *what, const struct viq_call *call, const uint8_t *packet, size_t length, const char *wanted, size_t size) {
     uint8_t room[256];
-    size_t told = 7;
+    size_t told = 7, whole = size ? size + 4 : 0;
     is(what, viq_record(call, packet, length, NULL, 0, &told), VIQ_DONE);
-    is("its size", told, size);
+    is("its size", told, whole);
     memset(room, 7, sizeof room);
     is("into room", viq_record(call, packet, length, room, sizeof room, &told), VIQ_DONE);
     is("its bytes", memcmp(room, wanted, size), 0);
-    is("the rest of the room", room[size], 7);
+    is("its sum", !size || is_summed(room, whole), true);
+    is("the rest of the room", room[whole], 7);
 }
 
 #define RECORDED(what, call, packet, length, wanted) recorded(what, call, packet, length, wanted, sizeof wanted - 1)
@@ -953,15 +1004,16 @@ static void record_lists(void) {
     uint8_t room[512], long_one[64];
     size_t size = 7, other = 7;
     is("ranges", viq_record_ranges(&call, one, COUNT(one), room, sizeof room, &size), VIQ_DONE);
-    is("the bytes of ranges", size == sizeof ranges - 1 && memcmp(room, ranges, size) == 0, true);
+    is("the bytes of ranges", size == sizeof ranges + 3 && memcmp(room, ranges, size - 4) == 0 && is_summed(room, size), true);
     is("no routes", viq_record_routes(&call, NULL, 0, room, sizeof room, &size), VIQ_DONE);
-    is("the bytes of no routes", size == sizeof none - 1 && memcmp(room, none, size) == 0, true);
+    is("the bytes of no routes", size == sizeof none + 3 && memcmp(room, none, size - 4) == 0 && is_summed(room, size), true);
     is("two routes", viq_record_routes(&call, two, COUNT(two), NULL, 0, &size), VIQ_DONE);
-    is("their size", size, 1 + 4 + 8 + 2 * 24 + 8);
+    is("their size", size, 1 + 4 + 8 + 2 * 24 + 8 + 4);
     is("too many routes", viq_record_routes(&call, two, VIQ_MOST_ROUTES + 1, long_one, sizeof long_one, &other), VIQ_DONE);
-    is("as one that is refused", other == 1 + 4 + 8 + 24 + 8 && long_one[20] == 33, true);
+    is("as one that is refused", other == 1 + 4 + 8 + 24 + 8 + 4 && long_one[20] == 33, true);
     is("a reload", viq_record_reload(&call, &usual, three, COUNT(three), two, COUNT(two), one, COUNT(one), room, sizeof room, &size), VIQ_DONE);
-    is("its size", size, 1 + 4 + 21 + 8 + 3 * 20 + 8 + 2 * 24 + 8 + 12 + 8);
+    is("its size", size, 1 + 4 + 21 + 8 + 3 * 20 + 8 + 2 * 24 + 8 + 12 + 8 + 4);
+    is("its sum", is_summed(room, size), true);
     is("its beginning", memcmp(room, "c\0\0\0\x9\0\1\0\0\0\0\0\0\2\0\0\0\x7d", 18), 0);
 }
 

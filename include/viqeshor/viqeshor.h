@@ -220,6 +220,35 @@ uint32_t viq_new(struct viq_router **router, uint32_t abi, const struct viq_sett
                  const struct viq_interface *interfaces, size_t interface_count, const struct viq_route *routes,
                  size_t route_count, const struct viq_range *ranges, size_t range_count);
 
+/* Why an item of a list of routes or ranges can't stand. */
+enum {
+    VIQ_ITEM_LENGTH = 1,     /* a prefix longer than 32, or of groups and shorter than 4 */
+    VIQ_ITEM_HOST_BITS = 2,  /* its prefix has host bits */
+    VIQ_ITEM_INTERFACE = 3,  /* no interface has its number */
+    VIQ_ITEM_NO_HOST = 4,    /* its next hop or RP is no host's address */
+    VIQ_ITEM_OWN = 5,        /* its next hop is an address of the router */
+    VIQ_ITEM_PREFERENCE = 6, /* it is above 0x7ffffffe */
+    VIQ_ITEM_NO_GROUPS = 7,  /* its prefix isn't in 224.0.0.0/4 */
+    VIQ_ITEM_TWICE = 8,      /* one before it has the same prefix */
+    VIQ_ITEM_COUNT = 9       /* there are too many: it is the first that is */
+};
+struct viq_refused_at {
+    size_t index;    /* of the first that can't stand, counted from 0 */
+    uint32_t reason; /* VIQ_ITEM_.. */
+};
+
+/* Tell which route or range is refused, and why, after VIQ_BAD_ROUTES, VIQ_CONFIGURED_ROUTES, VIQ_BAD_RANGES or
+ * VIQ_CONFIGURED_RANGES. The interfaces are those of the router, of which the addresses are read. They answer false
+ * where all can stand. Where memory is refused, a route that repeats another isn't looked for. */
+VIQ_READ_ANSWER VIQ_NOT_NULL(5)
+bool viq_routes_refused_at(const struct viq_interface *interfaces, size_t interface_count,
+                           const struct viq_route *routes, size_t count, struct viq_refused_at *at);
+VIQ_READ_ANSWER VIQ_NOT_NULL(3)
+bool viq_ranges_refused_at(const struct viq_range *ranges, size_t count, struct viq_refused_at *at);
+
+/* The meaning of such a reason in a few words; never NULL. */
+const char *viq_refused_text(uint32_t reason);
+
 /* Puts a router that works under another configuration. Interfaces are numbered in the order in which they are given, as
  * in viq_new: those past the last one go down first, those that are added are down until viq_up, and the others stay up
  * or down. Then settings, routes and ranges are those of the configuration, and what follows is done as after an event;

@@ -16,7 +16,7 @@ use time::OffsetDateTime;
 use viqeshor::{Call, Error, Interface, Range, Route, Router, Settings, Target, Verdict};
 
 const MAGIC: &[u8; 4] = b"VQRC";
-const VERSION: u16 = 2;
+const VERSION: u16 = 3;
 const DONE: u32 = 0;
 /// What `viq_keep` answers where the source's timer doesn't run.
 const NO_TIMER: u32 = 52;
@@ -132,6 +132,7 @@ impl Recorder {
         let mut bytes = [MAGIC.as_slice(), &VERSION.to_be_bytes()].concat();
         bytes.extend_from_slice(&older.to_be_bytes());
         bytes.extend_from_slice(&(state.len() as u64).to_be_bytes());
+        bytes.extend_from_slice(&crc32fast::hash(&bytes).to_be_bytes());
         bytes.extend_from_slice(&state);
         for (iface, set) in speech {
             setting(b'o', *iface, set.older_hosts as u32, DONE).put(&[], &mut bytes).map_err(refused)?;
@@ -310,20 +311,22 @@ mod tests {
         assert_eq!(recorder.due(), Some(WAITS));
         recorder.end_turn(&mut router, &speech, WAITS).unwrap();
         assert_eq!(recorder.due(), None);
-        let mut wanted = [b"VQRC\0\x02\0\0\0\0".as_slice(), &(state.len() as u64).to_be_bytes(), &state].concat();
+        let summed = |bytes: Vec<u8>| [&bytes[..], &crc32fast::hash(&bytes).to_be_bytes()].concat();
+        let head = [b"VQRC\0\x03\0\0\0\0".as_slice(), &(state.len() as u64).to_be_bytes()].concat();
+        let mut wanted = [summed(head), state].concat();
         let words = |numbers: &[u32]| numbers.iter().flat_map(|number| number.to_be_bytes()).collect::<Vec<_>>();
         let record = |letter: u8, numbers: &[u32]| [vec![letter], words(numbers)].concat();
         let route = [0x0a09_0000, 16, 0x0a01_0002, 0, 110, 20];
-        wanted.extend(record(b'o', &[0, 0, 0, 0]));
-        wanted.extend(record(b'q', &[0, 3, 0, 0]));
-        wanted.extend(record(b'+', &[7, 0, 0, sum]));
-        wanted.extend(record(b'r', &[8, 0, 1]));
-        wanted.extend(words(&[&route[..], &[0, 0]].concat()));
-        wanted.extend(record(b'k', &[OWN.into(), 0xef01_0101, 0, 5, 52, 0]));
-        wanted.extend(record(b'c', &[9, 1000]));
-        wanted.push(1);
-        wanted.extend(words(&[2, 125, 100, 10, 0, 1, OWN.into(), 24, 7, 500, 2500, 0, 1]));
-        wanted.extend(words(&[&route[..], &[0, 1, 0xef00_0000, 8, OWN.into(), 0, sum_then]].concat()));
+        wanted.extend(summed(record(b'o', &[0, 0, 0, 0])));
+        wanted.extend(summed(record(b'q', &[0, 3, 0, 0])));
+        wanted.extend(summed(record(b'+', &[7, 0, 0, sum])));
+        wanted.extend(summed(record(b'r', &[&[8, 0, 1], &route[..], &[0, 0]].concat())));
+        wanted.extend(summed(record(b'k', &[OWN.into(), 0xef01_0101, 0, 5, 52, 0])));
+        let mut reload = record(b'c', &[9, 1000]);
+        reload.push(1);
+        reload.extend(words(&[2, 125, 100, 10, 0, 1, OWN.into(), 24, 7, 500, 2500, 0, 1]));
+        reload.extend(words(&[&route[..], &[0, 1, 0xef00_0000, 8, OWN.into(), 0, sum_then]].concat()));
+        wanted.extend(summed(reload));
         assert_eq!(std::fs::read(place.path(0)).unwrap(), wanted);
         std::fs::remove_dir_all(&place.folder).unwrap();
     }

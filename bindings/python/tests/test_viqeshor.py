@@ -108,6 +108,16 @@ class Routers(unittest.TestCase):
         with self.assertRaises(TypeError):
             router.reload(INTERFACES, limits=7)
 
+    def test_which_item_of_a_configuration_is_refused(self):
+        to_itself = ("10.1.0.0/16", "10.0.1.1", 0, 110, 20)
+        text = r"configured routes that can't stand: number 2, its next hop is the router's own \(37\)"
+        with self.assertRaisesRegex(Refused, text):
+            Router(INTERFACES, RANGES, [*ROUTES, to_itself])
+        with self.assertRaisesRegex(Refused, text):
+            self.router().reload(INTERFACES, RANGES, [*ROUTES, to_itself])
+        with self.assertRaisesRegex(Refused, r"number 1, one before it has the same prefix \(38\)"):
+            Router(INTERFACES, RANGES * 2)
+
     def test_older_hosts_stay_in_another_configuration(self):
         router = self.joined()
         router.set_older_hosts(2, "all")

@@ -26,6 +26,7 @@ use std::fmt;
 use std::net::Ipv4Addr;
 use std::os::raw::{c_char, c_void};
 use std::ptr::{null_mut, NonNull};
+use std::str::FromStr;
 
 mod record;
 mod rows;
@@ -56,6 +57,40 @@ const NO_INTERFACE: u32 = u32::MAX;
 
 // ---- what is given
 
+/// An address and the length of a prefix, as `"10.0.0.1/24"` says them.
+#[derive(Clone, Copy, Debug, PartialEq, Eq, Hash)]
+pub struct Prefix {
+    /// With host bits, where they are those of an interface.
+    pub address: Ipv4Addr,
+    /// Any number: the router refuses one that is too large.
+    pub length: u32,
+}
+
+/// A text that is no [`Prefix`].
+#[derive(Clone, Copy, Debug, PartialEq, Eq, Hash)]
+pub struct NoPrefix;
+
+impl fmt::Display for NoPrefix {
+    fn fmt(&self, to: &mut fmt::Formatter) -> fmt::Result {
+        to.write_str("no address and length, as in 10.0.0.1/24")
+    }
+}
+
+impl std::error::Error for NoPrefix {}
+
+impl FromStr for Prefix {
+    type Err = NoPrefix;
+
+    fn from_str(text: &str) -> Result<Prefix, NoPrefix> {
+        let (address, length) = text.split_once('/').ok_or(NoPrefix)?;
+        let is_number = length.bytes().all(|digit| digit.is_ascii_digit());
+        match (address.parse(), length.parse()) {
+            (Ok(address), Ok(length)) if is_number => Ok(Prefix { address, length }),
+            _ => Err(NoPrefix),
+        }
+    }
+}
+
 /// An interface of the router.
 #[derive(Clone, Copy, Debug, PartialEq, Eq)]
 pub struct Interface {
@@ -74,6 +109,11 @@ impl Interface {
     /// With the usual priority and delays.
     pub fn new(address: Ipv4Addr, length: u32) -> Interface {
         Interface { address, length, priority: 1, propagation_delay: 500, override_interval: 2500 }
+    }
+
+    /// The same, as `Interface::at("10.0.0.1/24".parse()?)`.
+    pub fn at(prefix: Prefix) -> Interface {
+        Interface::new(prefix.address, prefix.length)
     }
 
     fn given(&self) -> raw::Interface {
@@ -105,6 +145,11 @@ impl Route {
         Route { prefix, length, next_hop, iface, preference: 110, metric: 20 }
     }
 
+    /// The same, as `Route::to("10.1.0.0/16".parse()?, next_hop, 0)`.
+    pub fn to(prefix: Prefix, next_hop: Ipv4Addr, iface: u32) -> Route {
+        Route::new(prefix.address, prefix.length, next_hop, iface)
+    }
+
     fn given(&self) -> raw::Route {
         raw::Route {
             prefix: self.prefix.into(),
@@ -128,6 +173,11 @@ pub struct Range {
 impl Range {
     pub fn new(prefix: Ipv4Addr, length: u32, rp: Ipv4Addr) -> Range {
         Range { prefix, length, rp }
+    }
+
+    /// The same, as `Range::of("239.0.0.0/8".parse()?, rp)`.
+    pub fn of(prefix: Prefix, rp: Ipv4Addr) -> Range {
+        Range::new(prefix.address, prefix.length, rp)
     }
 
     fn given(&self) -> raw::Range {
@@ -343,6 +393,43 @@ fn verdict(answer: u32) -> Result<Verdict, Error> {
         DONE => Ok(Verdict::Done),
         _ => Reason::of(answer).map_or(Err(Error::of(answer)), |reason| Ok(Verdict::Ignored(reason))),
     }
+}
+
+/// The first item of a list of routes or ranges that can't stand.
+#[derive(Clone, Copy, Debug, PartialEq, Eq)]
+pub struct RefusedAt {
+    /// Counted from 0.
+    pub index: usize,
+    /// Its number in `include/viqeshor/viqeshor.h`.
+    pub reason: u32,
+}
+
+impl fmt::Display for RefusedAt {
+    fn fmt(&self, to: &mut fmt::Formatter) -> fmt::Result {
+        // SAFETY: the call takes any number.
+        write!(to, "number {}, {}", self.index, text(unsafe { viq_refused_text(self.reason) }))
+    }
+}
+
+/// Which route is refused to a router with these interfaces, and why: after `Refusal::ConfiguredRoutes` or
+/// `Refusal::BadRoutes`. `None` where all can stand.
+pub fn refused_route(interfaces: &[Interface], routes: &[Route]) -> Option<RefusedAt> {
+    let interfaces: Vec<_> = interfaces.iter().map(Interface::given).collect();
+    let routes: Vec<_> = routes.iter().map(Route::given).collect();
+    let mut at = raw::RefusedAt::default();
+    // SAFETY: each list is passed as its pointer and its length.
+    let is_refused =
+        unsafe { viq_routes_refused_at(interfaces.as_ptr(), interfaces.len(), routes.as_ptr(), routes.len(), &mut at) };
+    is_refused.then_some(RefusedAt { index: at.index, reason: at.reason })
+}
+
+/// Which range is refused, and why: after `Refusal::ConfiguredRanges` or `Refusal::BadRanges`.
+pub fn refused_range(ranges: &[Range]) -> Option<RefusedAt> {
+    let ranges: Vec<_> = ranges.iter().map(Range::given).collect();
+    let mut at = raw::RefusedAt::default();
+    // SAFETY: the list is passed as its pointer and its length.
+    let is_refused = unsafe { viq_ranges_refused_at(ranges.as_ptr(), ranges.len(), &mut at) };
+    is_refused.then_some(RefusedAt { index: at.index, reason: at.reason })
 }
 
 // ---- what is told
@@ -598,6 +685,13 @@ mod raw {
 
     #[repr(C)]
     #[derive(Default)]
+    pub struct RefusedAt {
+        pub index: usize,
+        pub reason: u32,
+    }
+
+    #[repr(C)]
+    #[derive(Default)]
     pub struct OlderRow {
         pub iface: u32,
         pub group: u32,
@@ -617,6 +711,15 @@ use raw::Draw;
 extern "C" {
     fn viq_version() -> *const c_char;
     fn viq_answer_text(answer: u32) -> *const c_char;
+    fn viq_routes_refused_at(
+        interfaces: *const raw::Interface,
+        interface_count: usize,
+        routes: *const raw::Route,
+        count: usize,
+        at: *mut raw::RefusedAt,
+    ) -> bool;
+    fn viq_ranges_refused_at(ranges: *const raw::Range, count: usize, at: *mut raw::RefusedAt) -> bool;
+    fn viq_refused_text(reason: u32) -> *const c_char;
     fn viq_new(
         router: *mut *mut c_void,
         abi: u32,

@@ -1,9 +1,9 @@
 //! Each call of the crate once, and what it answers: a Join of 10.0.1.2 comes and a packet of its source, as in `examples/library`.
 use std::net::Ipv4Addr;
 use viqeshor::{
-    ActiveRow, Call, DownstreamRow, DownstreamState, Error, GroupRow, Hop, Interface, NeighbourRow, OlderHosts,
-    OlderRow, Querier, QueryVersion, Range, Reason, Refusal, Route, Router, Row, Rpf, RptState, Sent, Settings, Table,
-    Target, UpstreamRow, Verdict, MOST_BYTES,
+    refused_range, refused_route, ActiveRow, Call, DownstreamRow, DownstreamState, Error, GroupRow, Hop, Interface,
+    NeighbourRow, NoPrefix, OlderHosts, OlderRow, Prefix, Querier, QueryVersion, Range, Reason, Refusal, RefusedAt,
+    Route, Router, Row, Rpf, RptState, Sent, Settings, Table, Target, UpstreamRow, Verdict, MOST_BYTES,
 };
 
 const HELLO_ABOVE: &str = "45C0001E000000000167CEAB0A000001E000000D2000DFFC00010002FFFF";
@@ -78,6 +78,26 @@ fn configurations_that_are_refused() {
     let error = Router::new(&settings, &interfaces(), &[], &[]).err().unwrap();
     assert_eq!(error, Error::Refused(Refusal::BadLimit));
     assert_eq!(error.to_string(), "the limit isn't 1 to 1,000,000 (34)");
+}
+
+#[test]
+fn which_item_is_refused() {
+    assert_eq!((refused_route(&interfaces(), &routes()), refused_range(&ranges())), (None, None));
+    let to_itself = Route { next_hop: address([10, 0, 1, 1]), ..routes()[1] };
+    let at = refused_route(&interfaces(), &[routes()[0], to_itself]).unwrap();
+    assert_eq!(at, RefusedAt { index: 1, reason: 5 });
+    assert_eq!(at.to_string(), "number 1, its next hop is the router's own");
+    assert_eq!(refused_range(&[ranges()[0]; 2]), Some(RefusedAt { index: 1, reason: 8 }));
+}
+
+#[test]
+fn an_address_and_a_length_as_a_text() {
+    assert_eq!("10.0.0.2/24".parse().map(Interface::at), Ok(interfaces()[0]));
+    assert_eq!("10.9.9.0/24".parse().map(|to| Route::to(to, address([10, 0, 0, 1]), 0)), Ok(routes()[0]));
+    assert_eq!("224.0.0.0/4".parse().map(|to| Range::of(to, address([10, 9, 9, 9]))), Ok(ranges()[0]));
+    for text in ["10.0.0.1", "10.0.0/24", "10.0.0.1/", "10.0.0.1/+4", "10.0.0.1/24/3", ""] {
+        assert_eq!(text.parse::<Prefix>(), Err(NoPrefix));
+    }
 }
 
 /// As `include/viqeshor/viqeshor.h` has them.
@@ -361,13 +381,13 @@ fn what_is_recorded() {
     call.put_routes(&many, &mut put).unwrap();
     let (range, route) = ([0xe000_0000, 4, 0x0a09_0909], [0x0a09_0900, 24, 0x0a00_0001, 0, 110, 20]);
     let end = words(&[24, 9]);
-    let mut wanted = [vec![5, b'+'], words(&[7, 1]), end.clone()].concat();
-    wanted.extend([vec![b'f'], words(&[7, 1, 0, 3]), vec![1, 2, 3], end.clone()].concat());
-    wanted.extend([vec![b'g'], words(&[7, 0, 1]), words(&range), end.clone()].concat());
-    wanted.extend([vec![b'r'], words(&[7, 0, 20]), words(&route).repeat(20), end.clone()].concat());
+    let mut wanted = [vec![5], summed(&[vec![b'+'], words(&[7, 1]), end.clone()].concat())].concat();
+    wanted.extend(summed(&[vec![b'f'], words(&[7, 1, 0, 3]), vec![1, 2, 3], end.clone()].concat()));
+    wanted.extend(summed(&[vec![b'g'], words(&[7, 0, 1]), words(&range), end.clone()].concat()));
+    wanted.extend(summed(&[vec![b'r'], words(&[7, 0, 20]), words(&route).repeat(20), end.clone()].concat()));
     assert_eq!(put, wanted);
     call.put_reload(&Settings::default(), &interfaces(), &routes(), &ranges(), &mut put).unwrap();
-    assert_eq!(put.len() - wanted.len(), 1 + 4 + 21 + 8 + 3 * 20 + 8 + 2 * 24 + 8 + 12 + 8);
+    assert_eq!(put.len() - wanted.len(), 1 + 4 + 21 + 8 + 3 * 20 + 8 + 2 * 24 + 8 + 12 + 8 + 4);
     assert_eq!(put[wanted.len()..][..5], [b'c', 0, 0, 0, 7]);
 }
 

@@ -3,7 +3,7 @@ use Rattle.std.{specs.{Option.option_map_or, Prelude.{List, None, Option, Some, 
 use Rattle.pim_ifset.{specs.Members.iface_of}
 use Rattle.pim_ip.{specs.Addr.addr}
 use Rattle.pim_types.{specs.declared.{config.{Config.Config, Settings.Settings}, event.EventKind.EventKind}}
-use Rattle.pim_recorded.{specs.{Records.{Call, Hosts, Kept, Record, Reloaded, Seen, Version, event_record, record_text}, declared.answered.Answered.Answered}}
+use Rattle.pim_recorded.{specs.{Records.{Call, Hosts, Kept, Record, Reloaded, Seen, Version, event_record, front_text, record_text, summed}, declared.answered.Answered.Answered}}
 use Rattle.pim_c.{specs.{Given.{range_of, route_of}, Told.written_into, declared.{given.{GivenRange.GivenRange, GivenRoute.GivenRoute}, recorded.GivenCall.GivenCall}}}
 
 abbrev pub answered_of : GivenCall → Answered
@@ -28,15 +28,28 @@ record_given c packet =
     else (if c.letter == 111 then called c (Hosts (iface_of c.iface) c.value)
     else (if c.letter == 113 then called c (Version (iface_of c.iface) c.value) else None))))))))
 
--- the bytes of a recorded call; none where no kind has the letter
+-- the bytes of a recorded call without their sum; none where no kind has the letter
+abbrev pub given_front : GivenCall → List ℕ → List ℕ
+given_front c packet = option_map_or front_text (record_given c packet) []
+
+-- the bytes of a record with their sum, where there are any
+abbrev pub ended : List ℕ → List ℕ
+ended bytes = if length bytes == 0 then bytes else summed bytes
+
 abbrev pub given_text : GivenCall → List ℕ → List ℕ
-given_text c packet = option_map_or record_text (record_given c packet) []
+given_text c packet = ended (given_front c packet)
+
+abbrev pub routes_record : GivenCall → List GivenRoute → Record
+routes_record c routes = event_record c.draw (EventKind.Routes (map route_of routes)) (answered_of c)
 
 abbrev pub routes_text : GivenCall → List GivenRoute → List ℕ
-routes_text c routes = record_text (event_record c.draw (EventKind.Routes (map route_of routes)) (answered_of c))
+routes_text c routes = record_text (routes_record c routes)
+
+abbrev pub ranges_record : GivenCall → List GivenRange → Record
+ranges_record c ranges = event_record c.draw (EventKind.Rps (map range_of ranges)) (answered_of c)
 
 abbrev pub ranges_text : GivenCall → List GivenRange → List ℕ
-ranges_text c ranges = record_text (event_record c.draw (EventKind.Rps (map range_of ranges)) (answered_of c))
+ranges_text c ranges = record_text (ranges_record c ranges)
 
 -- a configuration without its lists
 abbrev pub settings_in : Config → Settings
@@ -49,11 +62,14 @@ settings_in c = record {
   last_member_query_interval = c.last_member_query_interval;
 }
 
-abbrev pub reload_text : GivenCall → Config → List ℕ
-reload_text c given = record_text (record {
+abbrev pub reload_record : GivenCall → Config → Record
+reload_record c given = record {
   call = Reloaded c.draw (settings_in given) given.interfaces given.routes given.rps;
   answered = answered_of c;
-})
+}
+
+abbrev pub reload_text : GivenCall → Config → List ℕ
+reload_text c given = record_text (reload_record c given)
 
 -- Bytes were written, as many as fit, with how many there are, or an allocation failed.
 abbrev pub Written : List ℕ → ℕ → ℕ → ℕ → List ℕ → List ℕ → Type 0

@@ -535,9 +535,7 @@ pub extern "C" fn viq_core_record(
 ) -> u32
     ensures { Written (given_text call.now packet.now) result size.old size.new room.old room.new }
 {
-    let mut bytes = Vec::new(alloc);
-    let written = recorded::write_call(call, packet, &mut bytes);
-    recorded::tell(written, bytes.as_slice(), room, size)
+    recorded::tell(recorded::call_record(alloc, call, packet), room, size)
 }
 
 /// The record of new unicast routes, written so.
@@ -551,9 +549,7 @@ pub extern "C" fn viq_core_record_routes(
 ) -> u32
     ensures { Written (routes_text call.now routes.now) result size.old size.new room.old room.new }
 {
-    let mut bytes = Vec::new(alloc);
-    let written = recorded::write_routes(alloc, call, routes, &mut bytes);
-    recorded::tell(written, bytes.as_slice(), room, size)
+    recorded::tell(recorded::routes_record(alloc, call, routes), room, size)
 }
 
 /// The record of new RP ranges, written so.
@@ -567,9 +563,7 @@ pub extern "C" fn viq_core_record_ranges(
 ) -> u32
     ensures { Written (ranges_text call.now ranges.now) result size.old size.new room.old room.new }
 {
-    let mut bytes = Vec::new(alloc);
-    let written = recorded::write_ranges(alloc, call, ranges, &mut bytes);
-    recorded::tell(written, bytes.as_slice(), room, size)
+    recorded::tell(recorded::ranges_record(alloc, call, ranges), room, size)
 }
 
 /// The record of another configuration, written so.
@@ -590,9 +584,7 @@ pub extern "C" fn viq_core_record_reload(
     let Ok(config) = given::config(alloc, settings, interfaces, routes, ranges) else {
         return MEMORY;
     };
-    let mut bytes = Vec::new(alloc);
-    let written = recorded::write_reload(call, &config, &mut bytes);
-    recorded::tell(written, bytes.as_slice(), room, size)
+    recorded::tell(recorded::reload_record(alloc, call, &config), room, size)
 }
 
 /// The sum of the packets that are to be sent, as it is in a record.

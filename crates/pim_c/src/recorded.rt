@@ -1,6 +1,6 @@
-//! Records of calls, which a program writes one behind the other, and the sum that is in them.
-ghost use Rattle.std.specs.Prelude.{◌≡◌, ◌++◌, OnErr, OnOk};
-ghost use Rattle.pim_c.specs.Recorded.{Written, answered_of, given_text, ranges_text, reload_text, routes_text, settings_in};
+//! Records of calls, which a program writes one behind the other.
+ghost use Rattle.std.specs.Prelude.{◌≡◌, ◌++◌, IfOk, OnErr, OnOk};
+ghost use Rattle.pim_c.specs.Recorded.{Written, answered_of, given_front, given_text, ranges_text, reload_text, routes_text, settings_in};
 
 use crate::given::{self, GivenRange, GivenRoute};
 use crate::told::{self, DONE, MEMORY};
@@ -36,10 +36,9 @@ fn answered(call: &GivenCall) -> Answered
     }
 }
 
-/// Puts the record of a call without a list behind the others; none where no kind has its letter. An error is want of
-/// memory, as of each function that puts one.
-pub fn write_call(call: &GivenCall, packet: &[u8], out: &mut Vec<u8>) -> Result<(), AllocError>
-    ensures { OnOk result (out.new.items ≡ out.old.items ++ given_text call.now packet.now) }
+// Puts the record of a call without a list behind what is there, without its sum; none where no kind has its letter.
+fn write_call(call: &GivenCall, packet: &[u8], out: &mut Vec<u8>) -> Result<(), AllocError>
+    ensures { OnOk result (out.new.items ≡ out.old.items ++ given_front call.now packet.now) }
 {
     let iface = IfaceId { number: call.iface };
     let source = Addr { bits: call.source };
@@ -59,30 +58,48 @@ pub fn write_call(call: &GivenCall, packet: &[u8], out: &mut Vec<u8>) -> Result<
     }
 }
 
-/// Puts the record of new unicast routes behind the others.
-pub fn write_routes(
+/// The bytes of the record of a call without a list; none where no kind has its letter. An error is want of memory, as of
+/// each function that returns a record.
+pub fn call_record(alloc: Global, call: &GivenCall, packet: &[u8]) -> Result<Vec<u8>, AllocError>
+    ensures { IfOk result (λ bytes. bytes.items ≡ given_text call.now packet.now) }
+{
+    let mut out = Vec::new(alloc);
+    write_call(call, packet, &mut out)?;
+    if out.is_empty() {
+        return Ok(out);
+    }
+    pim_recorded::end_record(&mut out)?;
+    Ok(out)
+}
+
+/// The bytes of the record of new unicast routes.
+pub fn routes_record(
     alloc: Global,
     call: &GivenCall,
     routes: &[GivenRoute],
-    out: &mut Vec<u8>,
-) -> Result<(), AllocError>
-    ensures { OnOk result (out.new.items ≡ out.old.items ++ routes_text call.now routes.now) }
+) -> Result<Vec<u8>, AllocError>
+    ensures { IfOk result (λ bytes. bytes.items ≡ routes_text call.now routes.now) }
 {
     let routes = given::routes(alloc, routes)?;
-    pim_recorded::write_routes(call.draw, routes.as_slice(), answered(call), out)
+    let mut out = Vec::new(alloc);
+    pim_recorded::write_routes(call.draw, routes.as_slice(), answered(call), &mut out)?;
+    pim_recorded::end_record(&mut out)?;
+    Ok(out)
 }
 
-/// Puts the record of new RP ranges behind the others.
-pub fn write_ranges(
+/// The bytes of the record of new RP ranges.
+pub fn ranges_record(
     alloc: Global,
     call: &GivenCall,
     ranges: &[GivenRange],
-    out: &mut Vec<u8>,
-) -> Result<(), AllocError>
-    ensures { OnOk result (out.new.items ≡ out.old.items ++ ranges_text call.now ranges.now) }
+) -> Result<Vec<u8>, AllocError>
+    ensures { IfOk result (λ bytes. bytes.items ≡ ranges_text call.now ranges.now) }
 {
     let ranges = given::ranges(alloc, ranges)?;
-    pim_recorded::write_ranges(call.draw, ranges.as_slice(), answered(call), out)
+    let mut out = Vec::new(alloc);
+    pim_recorded::write_ranges(call.draw, ranges.as_slice(), answered(call), &mut out)?;
+    pim_recorded::end_record(&mut out)?;
+    Ok(out)
 }
 
 fn settings(config: &Config) -> Settings
@@ -98,10 +115,15 @@ fn settings(config: &Config) -> Settings
     }
 }
 
-/// Puts the record of another configuration behind the others.
-pub fn write_reload(call: &GivenCall, config: &Config, out: &mut Vec<u8>) -> Result<(), AllocError>
-    ensures { OnOk result (out.new.items ≡ out.old.items ++ reload_text call.now config.now) }
+/// The bytes of the record of another configuration.
+pub fn reload_record(
+    alloc: Global,
+    call: &GivenCall,
+    config: &Config,
+) -> Result<Vec<u8>, AllocError>
+    ensures { IfOk result (λ bytes. bytes.items ≡ reload_text call.now config.now) }
 {
+    let mut out = Vec::new(alloc);
     pim_recorded::write_reloaded(
         call.draw,
         settings(config),
@@ -109,20 +131,22 @@ pub fn write_reload(call: &GivenCall, config: &Config, out: &mut Vec<u8>) -> Res
         config.routes.as_slice(),
         config.rps.as_slice(),
         answered(call),
-        out,
-    )
+        &mut out,
+    )?;
+    pim_recorded::end_record(&mut out)?;
+    Ok(out)
 }
 
 /// Writes the bytes of a record into a buffer, as many as fit, and how many there are. The result is the number of the
 /// answer.
-pub fn tell(written: Result<(), AllocError>, bytes: &[u8], room: &mut [u8], size: &mut usize) -> u32
-    ensures ok { OnOk written (Written bytes.now result size.old size.new room.old room.new) }
+pub fn tell(written: Result<Vec<u8>, AllocError>, room: &mut [u8], size: &mut usize) -> u32
+    ensures ok { IfOk written (λ bytes. Written bytes.items result size.old size.new room.old room.new) }
     ensures err { OnErr written ((result ≡ 40) × (size.new ≡ size.old) × (room.new ≡ room.old)) }
 {
     match written {
-        Ok(()) => {
+        Ok(bytes) => {
             *size = bytes.len();
-            told::write(room, bytes);
+            told::write(room, bytes.as_slice());
             DONE
         }
         Err(_) => MEMORY,

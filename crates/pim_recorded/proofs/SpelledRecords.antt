@@ -1,9 +1,9 @@
 -- Each record is read of its bytes, and of no others: of bytes, of each kind of call, and of records.
-use Rattle.std.{proofs.{Common.{◌≡◌, ℕ, ◌+◌, ◌≤◌, Bool, true, false, cond, eqb, ltb, List, [], ◌∷◌, ◌++◌, length, take, drop, Result, Ok, Err, refl, sym, ap, subst, ◌∙◌, append_assoc, arith, inl, inr, ◌⊎◌}, lemmas.{Bool.{eqb-true, ltb-false, le-ltb}, List.{take_at, drop_at, take-append-drop, length-append, length-take, get_or-drop, Concat.flat_map-cons}}}, specs.List.{AllByRecursion, flat_map}}
+use Rattle.std.{proofs.{Common.{◌≡◌, ℕ, ◌+◌, ◌≤◌, Bool, true, false, cond, eqb, ltb, List, [], ◌∷◌, ◌++◌, length, take, drop, Result, Ok, Err, refl, sym, ap, subst, ◌∙◌, append_assoc, arith, inl, inr, ◌⊎◌}, lemmas.{Bool.{eq-eqb, eqb-true, ltb-false, le-ltb}, List.{take_at, drop_at, take-append-drop, length-append, length-take, get_or-drop, Concat.flat_map-cons}}}, specs.List.{AllByRecursion, flat_map}}
 use Rattle.pim_ip.{specs.declared.addr.Addr.Addr}
 use Rattle.pim_types.{specs.declared.{config.{IfaceId.IfaceId, Route.Route, RpRange.RpRange}, event.EventKind.EventKind}}
-use Rattle.pim_saved.{specs.{declared.refusal.SavedRefusal.SavedRefusal, Fits.FitsWord, Laws.AreBytes, Reading.{Reader, iface_at, made, moment_at}, Text.{moment_text, word_text}}, proofs.{Spelled.{AreBytes-rest, IsSpelled, Takes, Takes-then, bind_ok, both, guard_ok, list, made_of, moment, ok_is, word}, SpelledRows.{address, interface, range, route, settings}}}
-use Rattle.pim_recorded.{specs.{Fits.{FitsAnswered, FitsBytes, FitsCall, FitsEvent, FitsRecord}, Laws.{OneRecording, ReadingIsRecord, RecordIsRead}, Reading.{Configured, answered_at, by_letter, bytes_at, bytes_of_length, call_at, drawn, kinds, record_at}, Records.{Call, Happened, Hosts, Kept, Record, Reloaded, Seen, Version, answered_text, bytes_text, call_text, event_text, record_text}, declared.answered.Answered.Answered}}
+use Rattle.pim_saved.{specs.{Crc.crc32, declared.refusal.SavedRefusal.SavedRefusal, Fits.FitsWord, Laws.AreBytes, Reading.{Reader, iface_at, made, moment_at, word_at}, Text.{moment_text, word_text}}, proofs.{Spelled.{AreBytes-rest, IsSpelled, Takes, Takes-then, bind_ok, both, guard_ok, list, made_of, moment, ok_is, word}, SpelledRows.{address, interface, range, route, settings}, Summed.sum_fits}}
+use Rattle.pim_recorded.{specs.{Fits.{FitsAnswered, FitsBytes, FitsCall, FitsEvent, FitsRecord}, Laws.{OneRecording, ReadingIsRecord, RecordIsRead}, Reading.{Configured, answered_at, by_letter, bytes_at, bytes_of_length, call_at, drawn, front_at, kinds, record_at, summed_at}, Records.{Call, Happened, Hosts, Kept, Record, Reloaded, Seen, Version, answered_text, bytes_text, call_text, event_text, front_text, record_text}, declared.answered.Answered.Answered}}
 
 -- ---- bytes behind their count
 
@@ -132,9 +132,36 @@ call = record { takes = call_takes; again = call_again }
 answered : IsSpelled FitsAnswered answered_text answered_at
 answered = made_of (λ (p : ℕ × ℕ). record { answer = p.0; sum = p.1 }) (λ (a : Answered). (a.answer, a.sum)) (λ p. refl) (λ a. refl) (both word word)
 
-recorded : IsSpelled FitsRecord record_text record_at
+front : IsSpelled FitsRecord front_text front_at
+unfolding front_at
+front = made_of (λ (p : Call × Answered). record { call = p.0; answered = p.1 }) (λ (r : Record). (r.call, r.answered)) (λ p. refl) (λ r. refl) (both call answered)
+
+kept : (b : Bool) (d : SavedRefusal) (r x : Record × List ℕ) → cond b (Ok r) (Err d) ≡ Ok x → (b ≡ true) × (r ≡ x)
+kept true d r x e = (refl, ok_is r x e)
+kept false d r x e = absurd cc
+
+record_takes : (bytes : List ℕ) (x : Record × List ℕ) → AreBytes bytes → record_at bytes ≡ Ok x → Takes bytes (record_text x.0) x.1 × FitsRecord x.0
 unfolding record_at
-recorded = made_of (λ (p : Call × Answered). record { call = p.0; answered = p.1 }) (λ (r : Record). (r.call, r.answered)) (λ p. refl) (λ r. refl) (both call answered)
+record_takes bytes x fits e =
+    let a = bind_ok (front_at bytes) (λ r. summed_at r.0 r.1) x e in
+    let one = front.takes bytes a.0 fits a.1 in
+    let sum : ℕ = crc32 (front_text a.0.0) in
+    let w = bind_ok (word_at a.0.1) (λ w. cond (eqb w.0 sum) (Ok (a.0.0, w.1)) (Err SavedRefusal.Damaged)) x a.2 in
+    let two = word.takes a.0.1 w.0 one.0.rest_fits w.1 in
+    let is = kept (eqb w.0.0 sum) SavedRefusal.Damaged (a.0.0, w.0.1) x w.2 in
+    let joined = Takes-then bytes (front_text a.0.0) a.0.1 (word_text w.0.0) w.0.1 one.0 two.0 in
+    subst (λ (y : Record × List ℕ). Takes bytes (record_text y.0) y.1 × FitsRecord y.0) is.1
+    (subst (λ (n : ℕ). Takes bytes (front_text a.0.0 ++ word_text n) w.0.1) (eqb-true w.0.0 sum is.0) joined, one.1)
+
+record_again : (r : Record) (rest : List ℕ) → FitsRecord r → record_at (record_text r ++ rest) ≡ Ok (r, rest)
+unfolding record_at
+record_again r rest fits =
+    let sum : ℕ = crc32 (front_text r) in
+    ap record_at (append_assoc (front_text r) (word_text sum) rest)
+    ∙ rw (front.again r (word_text sum ++ rest) fits, word.again sum rest (sum_fits (front_text r)), eq-eqb sum sum refl) refl
+
+recorded : IsSpelled FitsRecord record_text record_at
+recorded = record { takes = record_takes; again = record_again }
 
 pub record_is_read : RecordIsRead
 record_is_read r rest fits = recorded.again r rest fits
@@ -148,7 +175,7 @@ clash : {A B : Type 0} (d : SavedRefusal) (x : A) (r : Result A SavedRefusal) �
 clash d x r e f = absurd cc
 
 none_read : record_at [] ≡ Err SavedRefusal.CutShort
-unfolding record_at
+unfolding record_at front_at
 none_read = refl
 
 first_read : (r : Record) (rs : List Record) → FitsRecord r → record_at (flat_map record_text (r ∷ rs)) ≡ Ok (r, flat_map record_text rs)

@@ -2,8 +2,8 @@
 use Rattle.std.{specs.Prelude.{Err, List, Ok, [], drop, if◌then◌else◌, length, nat_lt, take, ℕ, ◌==◌, ◌∷◌}}
 use Rattle.pim_ip.{specs.declared.addr.Addr.Addr}
 use Rattle.pim_types.{specs.declared.{config.{IfaceId.IfaceId, InterfaceConfig.InterfaceConfig, Route.Route, RpRange.RpRange, Settings.Settings}, event.EventKind.EventKind}}
-use Rattle.pim_saved.{specs.{Reading.{Reader, address_at, iface_at, in_turn, interface_at, list_at, made, moment_at, range_at, route_at, settings_at, word_at, ◌>>=◌}, declared.refusal.SavedRefusal.SavedRefusal}}
-use Rattle.pim_recorded.{specs.{Records.{Call, Happened, Hosts, Kept, Record, Reloaded, Seen, Version}, declared.answered.Answered.Answered}}
+use Rattle.pim_saved.{specs.{Crc.crc32, Reading.{Reader, address_at, iface_at, in_turn, interface_at, list_at, made, moment_at, range_at, route_at, settings_at, word_at, ◌>>=◌}, declared.refusal.SavedRefusal.SavedRefusal}}
+use Rattle.pim_recorded.{specs.{Records.{Call, Happened, Hosts, Kept, Record, Reloaded, Seen, Version, front_text}, declared.answered.Answered.Answered}}
 
 abbrev pub bytes_of_length : ℕ → Reader (List ℕ)
 bytes_of_length n bytes = if nat_lt (length bytes) n then Err SavedRefusal.CutShort else Ok (take n bytes, drop n bytes)
@@ -50,5 +50,14 @@ call_at (letter ∷ bytes) = by_letter kinds letter bytes
 abbrev pub answered_at : Reader Answered
 answered_at bytes = made (λ (p : ℕ × ℕ). record { answer = p.0; sum = p.1 }) (in_turn word_at word_at) bytes
 
+-- a record without its sum
+unfoldable pub front_at : Reader Record
+front_at bytes = made (λ (p : Call × Answered). record { call = p.0; answered = p.1 }) (in_turn call_at answered_at) bytes
+
+-- behind a record is its sum
+abbrev pub summed_at : Record → Reader Record
+summed_at r bytes =
+    word_at bytes >>= λ w. if w.0 == crc32 (front_text r) then Ok (r, w.1) else Err SavedRefusal.Damaged
+
 unfoldable pub record_at : Reader Record
-record_at bytes = made (λ (p : Call × Answered). record { call = p.0; answered = p.1 }) (in_turn call_at answered_at) bytes
+record_at bytes = front_at bytes >>= λ r. summed_at r.0 r.1

@@ -1,5 +1,5 @@
--- The bytes of a recording: of each call of a router its letter, what it was given, what it answered, and a sum of what
--- was sent. Numbers, routes, ranges and counts are written as in a saved state.
+-- The bytes of a recording: of each call of a router its letter, what it was given, what it answered, a sum of what was
+-- sent, and the CRC-32 of all these. Numbers, routes, ranges and counts are written as in a saved state.
 use Rattle.std.{specs.{List.flat_map, Prelude.{List, [], length, ℕ, ◌∷◌}}}
 use Rattle.pim_ip.{specs.declared.addr.Addr.Addr}
 use Rattle.pim_types.{specs.declared.{config.{IfaceId.IfaceId, InterfaceConfig.InterfaceConfig, Route.Route, RpRange.RpRange, Settings.Settings}, event.{Event.Event, EventKind.EventKind}, outcome.Emission.Emission}}
@@ -62,9 +62,17 @@ abbrev pub event_record : ℕ → EventKind → Answered → Record
 event_record draw kind answered =
     record { call = Happened (record { draw = draw; kind = kind }); answered = answered }
 
+-- the bytes of a record without their sum
+abbrev pub front_text : Record → List ℕ
+front_text r = call_text r.call then answered_text r.answered
+
+-- bytes with their CRC-32 behind them
+abbrev pub summed : List ℕ → List ℕ
+summed bytes = bytes then word_text (crc32 bytes)
+
 -- the bytes of a record
 abbrev pub record_text : Record → List ℕ
-record_text r = call_text r.call then answered_text r.answered
+record_text r = summed (front_text r)
 
 -- ---- the sum of what was sent
 

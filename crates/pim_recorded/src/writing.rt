@@ -1,11 +1,11 @@
-//! Records written one behind the other.
+//! A record written: what it says, and then its sum.
 ghost use Rattle.std.specs.Prelude.{◌≡◌, ◌++◌, OnOk};
 ghost use Rattle.pim_types.specs.declared.event.EventKind.{EventKind as EventValue};
 ghost use Rattle.pim_recorded.specs.Fits.{FitsBytes, FitsRecord};
-ghost use Rattle.pim_recorded.specs.Records.{Hosts, Kept, Reloaded, Seen, Version, bytes_text, event_record, record_text};
+ghost use Rattle.pim_recorded.specs.Records.{Hosts, Kept, Reloaded, Seen, Version, bytes_text, event_record, front_text, summed};
 
 use crate::answered::Answered;
-use pim_saver::{Saved, write_list};
+use pim_saver::{Saved, write_list, write_sum};
 use pim_types::{Addr, IfaceId, InterfaceConfig, Route, RpRange, Settings};
 use std::alloc::AllocError;
 
@@ -19,15 +19,22 @@ fn write_bytes(bytes: &[u8], out: &mut Vec<u8>) -> Result<(), AllocError>
     Ok(())
 }
 
-/// Puts the record of time that passed behind the others. An error is want of memory, and leaves behind what was written
-/// before it, as of each of these functions.
+/// Ends a record whose bytes these are: puts their CRC-32 behind them.
+pub fn end_record(out: &mut Vec<u8>) -> Result<(), AllocError>
+    ensures { OnOk result (out.new.items ≡ summed out.old.items) }
+{
+    write_sum(0, out)
+}
+
+/// Puts the record of time that passed behind what is there, without its sum, as each of these functions does. An error is
+/// want of memory, and leaves behind what was written before it.
 pub fn write_advance(
     draw: u32,
     moment: u64,
     answered: Answered,
     out: &mut Vec<u8>,
 ) -> Result<(), AllocError>
-    ensures ok { OnOk result (out.new.items ≡ out.old.items ++ record_text (event_record draw (EventValue.Advance moment) answered)) }
+    ensures ok { OnOk result (out.new.items ≡ out.old.items ++ front_text (event_record draw (EventValue.Advance moment) answered)) }
     ensures fitting { OnOk result (FitsRecord (event_record draw (EventValue.Advance moment) answered)) }
 {
     out.push(b'a')?;
@@ -37,7 +44,7 @@ pub fn write_advance(
     Ok(())
 }
 
-/// Puts the record of a packet that came on an interface behind the others.
+/// Puts the record of a packet that came on an interface behind what is there.
 pub fn write_frame(
     draw: u32,
     iface: IfaceId,
@@ -45,7 +52,7 @@ pub fn write_frame(
     answered: Answered,
     out: &mut Vec<u8>,
 ) -> Result<(), AllocError>
-    ensures ok { OnOk result (out.new.items ≡ out.old.items ++ record_text (event_record draw (EventValue.Frame iface packet.now) answered)) }
+    ensures ok { OnOk result (out.new.items ≡ out.old.items ++ front_text (event_record draw (EventValue.Frame iface packet.now) answered)) }
     ensures fitting { OnOk result (FitsRecord (event_record draw (EventValue.Frame iface packet.now) answered)) }
 {
     out.push(b'f')?;
@@ -56,14 +63,14 @@ pub fn write_frame(
     Ok(())
 }
 
-/// Puts the record of a packet that came for an address of the router behind the others.
+/// Puts the record of a packet that came for an address of the router behind what is there.
 pub fn write_unicast(
     draw: u32,
     packet: &[u8],
     answered: Answered,
     out: &mut Vec<u8>,
 ) -> Result<(), AllocError>
-    ensures ok { OnOk result (out.new.items ≡ out.old.items ++ record_text (event_record draw (EventValue.Unicast packet.now) answered)) }
+    ensures ok { OnOk result (out.new.items ≡ out.old.items ++ front_text (event_record draw (EventValue.Unicast packet.now) answered)) }
     ensures fitting { OnOk result (FitsRecord (event_record draw (EventValue.Unicast packet.now) answered)) }
 {
     out.push(b'u')?;
@@ -73,14 +80,14 @@ pub fn write_unicast(
     Ok(())
 }
 
-/// Puts the record of an interface that went up behind the others.
+/// Puts the record of an interface that went up behind what is there.
 pub fn write_up(
     draw: u32,
     iface: IfaceId,
     answered: Answered,
     out: &mut Vec<u8>,
 ) -> Result<(), AllocError>
-    ensures ok { OnOk result (out.new.items ≡ out.old.items ++ record_text (event_record draw (EventValue.Up iface) answered)) }
+    ensures ok { OnOk result (out.new.items ≡ out.old.items ++ front_text (event_record draw (EventValue.Up iface) answered)) }
     ensures fitting { OnOk result (FitsRecord (event_record draw (EventValue.Up iface) answered)) }
 {
     out.push(b'+')?;
@@ -90,14 +97,14 @@ pub fn write_up(
     Ok(())
 }
 
-/// Puts the record of an interface that went down behind the others.
+/// Puts the record of an interface that went down behind what is there.
 pub fn write_down(
     draw: u32,
     iface: IfaceId,
     answered: Answered,
     out: &mut Vec<u8>,
 ) -> Result<(), AllocError>
-    ensures ok { OnOk result (out.new.items ≡ out.old.items ++ record_text (event_record draw (EventValue.Down iface) answered)) }
+    ensures ok { OnOk result (out.new.items ≡ out.old.items ++ front_text (event_record draw (EventValue.Down iface) answered)) }
     ensures fitting { OnOk result (FitsRecord (event_record draw (EventValue.Down iface) answered)) }
 {
     out.push(b'-')?;
@@ -107,14 +114,14 @@ pub fn write_down(
     Ok(())
 }
 
-/// Puts the record of new unicast routes behind the others.
+/// Puts the record of new unicast routes behind what is there.
 pub fn write_routes(
     draw: u32,
     routes: &[Route],
     answered: Answered,
     out: &mut Vec<u8>,
 ) -> Result<(), AllocError>
-    ensures ok { OnOk result (out.new.items ≡ out.old.items ++ record_text (event_record draw (EventValue.Routes routes.now) answered)) }
+    ensures ok { OnOk result (out.new.items ≡ out.old.items ++ front_text (event_record draw (EventValue.Routes routes.now) answered)) }
     ensures fitting { OnOk result (FitsRecord (event_record draw (EventValue.Routes routes.now) answered)) }
 {
     out.push(b'r')?;
@@ -124,14 +131,14 @@ pub fn write_routes(
     Ok(())
 }
 
-/// Puts the record of new RP ranges behind the others.
+/// Puts the record of new RP ranges behind what is there.
 pub fn write_ranges(
     draw: u32,
     ranges: &[RpRange],
     answered: Answered,
     out: &mut Vec<u8>,
 ) -> Result<(), AllocError>
-    ensures ok { OnOk result (out.new.items ≡ out.old.items ++ record_text (event_record draw (EventValue.Rps ranges.now) answered)) }
+    ensures ok { OnOk result (out.new.items ≡ out.old.items ++ front_text (event_record draw (EventValue.Rps ranges.now) answered)) }
     ensures fitting { OnOk result (FitsRecord (event_record draw (EventValue.Rps ranges.now) answered)) }
 {
     out.push(b'g')?;
@@ -141,7 +148,7 @@ pub fn write_ranges(
     Ok(())
 }
 
-/// Puts the record of another configuration behind the others.
+/// Puts the record of another configuration behind what is there.
 pub fn write_reloaded(
     draw: u32,
     settings: Settings,
@@ -151,7 +158,7 @@ pub fn write_reloaded(
     answered: Answered,
     out: &mut Vec<u8>,
 ) -> Result<(), AllocError>
-    ensures ok { OnOk result (out.new.items ≡ out.old.items ++ record_text
+    ensures ok { OnOk result (out.new.items ≡ out.old.items ++ front_text
         (record { call = Reloaded draw settings interfaces.now routes.now ranges.now; answered = answered })) }
     ensures fitting { OnOk result (FitsRecord
         (record { call = Reloaded draw settings interfaces.now routes.now ranges.now; answered = answered })) }
@@ -166,7 +173,7 @@ pub fn write_reloaded(
     Ok(())
 }
 
-/// Puts the record of a packet that a data plane saw behind the others.
+/// Puts the record of a packet that a data plane saw behind what is there.
 pub fn write_seen(
     draw: u32,
     iface: IfaceId,
@@ -175,7 +182,7 @@ pub fn write_seen(
     answered: Answered,
     out: &mut Vec<u8>,
 ) -> Result<(), AllocError>
-    ensures ok { OnOk result (out.new.items ≡ out.old.items ++ record_text (record { call = Seen draw iface source group; answered = answered })) }
+    ensures ok { OnOk result (out.new.items ≡ out.old.items ++ front_text (record { call = Seen draw iface source group; answered = answered })) }
     ensures fitting { OnOk result (FitsRecord (record { call = Seen draw iface source group; answered = answered })) }
 {
     out.push(b's')?;
@@ -187,7 +194,7 @@ pub fn write_seen(
     Ok(())
 }
 
-/// Puts the record of the last packet that a data plane forwarded, at a timestamp in ms, behind the others.
+/// Puts the record of the last packet that a data plane forwarded, at a timestamp in ms, behind what is there.
 pub fn write_kept(
     source: Addr,
     group: Addr,
@@ -195,7 +202,7 @@ pub fn write_kept(
     answered: Answered,
     out: &mut Vec<u8>,
 ) -> Result<(), AllocError>
-    ensures ok { OnOk result (out.new.items ≡ out.old.items ++ record_text (record { call = Kept source group moment; answered = answered })) }
+    ensures ok { OnOk result (out.new.items ≡ out.old.items ++ front_text (record { call = Kept source group moment; answered = answered })) }
     ensures fitting { OnOk result (FitsRecord (record { call = Kept source group moment; answered = answered })) }
 {
     out.push(b'k')?;
@@ -206,14 +213,14 @@ pub fn write_kept(
     Ok(())
 }
 
-/// Puts the record of which older hosts an interface hears, by their number, behind the others.
+/// Puts the record of which older hosts an interface hears, by their number, behind what is there.
 pub fn write_hosts(
     iface: IfaceId,
     hosts: u32,
     answered: Answered,
     out: &mut Vec<u8>,
 ) -> Result<(), AllocError>
-    ensures ok { OnOk result (out.new.items ≡ out.old.items ++ record_text (record { call = Hosts iface hosts; answered = answered })) }
+    ensures ok { OnOk result (out.new.items ≡ out.old.items ++ front_text (record { call = Hosts iface hosts; answered = answered })) }
     ensures fitting { OnOk result (FitsRecord (record { call = Hosts iface hosts; answered = answered })) }
 {
     out.push(b'o')?;
@@ -223,14 +230,14 @@ pub fn write_hosts(
     Ok(())
 }
 
-/// Puts the record of the version of an interface's queries behind the others.
+/// Puts the record of the version of an interface's queries behind what is there.
 pub fn write_version(
     iface: IfaceId,
     version: u32,
     answered: Answered,
     out: &mut Vec<u8>,
 ) -> Result<(), AllocError>
-    ensures ok { OnOk result (out.new.items ≡ out.old.items ++ record_text (record { call = Version iface version; answered = answered })) }
+    ensures ok { OnOk result (out.new.items ≡ out.old.items ++ front_text (record { call = Version iface version; answered = answered })) }
     ensures fitting { OnOk result (FitsRecord (record { call = Version iface version; answered = answered })) }
 {
     out.push(b'q')?;

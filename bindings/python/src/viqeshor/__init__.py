@@ -25,7 +25,7 @@ import os
 import random
 import threading
 import weakref
-from collections.abc import Callable, Iterable, Iterator
+from collections.abc import Callable, Iterable, Iterator, Sequence
 from ctypes import POINTER, Structure, byref, c_bool, c_char_p, c_size_t, c_uint8, c_uint32, c_uint64, c_void_p
 from functools import cache, lru_cache
 from ipaddress import IPv4Address, IPv4Interface
@@ -276,6 +276,10 @@ class ToldName(Structure):
     _fields_ = numbers("source", "group")
 
 
+class RefusedAt(Structure):
+    _fields_ = [("index", c_size_t), ("reason", c_uint32)]
+
+
 # ---- what is told
 
 KINDS = {1: "frame", 2: "copy", 3: "unicast"}
@@ -400,8 +404,13 @@ def load(path: str) -> ctypes.CDLL:
         call.restype = c_uint32
     library.viq_new.argtypes = [POINTER(c_void_p), c_uint32, POINTER(Settings), *LIST, *LIST, *LIST]
     library.viq_restore.argtypes = [POINTER(c_void_p), c_uint32, c_char_p, c_size_t]
-    library.viq_answer_text.argtypes = [c_uint32]
-    library.viq_answer_text.restype = c_char_p
+    library.viq_routes_refused_at.argtypes = [*LIST, *LIST, POINTER(RefusedAt)]
+    library.viq_ranges_refused_at.argtypes = [*LIST, POINTER(RefusedAt)]
+    for name in ("routes_refused_at", "ranges_refused_at"):
+        getattr(library, f"viq_{name}").restype = c_bool
+    for name in ("answer_text", "refused_text"):
+        call = getattr(library, f"viq_{name}")
+        call.argtypes, call.restype = [c_uint32], c_char_p
     for name in ("new", "restore"):
         getattr(library, f"viq_{name}").restype = c_uint32
     return library
@@ -526,7 +535,7 @@ class Router:
         self._begin(library)
         first, *lists = configuration(interfaces, ranges, routes, **settings)
         made = c_void_p()
-        self._must(self._library.viq_new(byref(made), ABI, byref(first), *lists))
+        self._must(self._library.viq_new(byref(made), ABI, byref(first), *lists), lists)
         self._keep(made)
 
     def reload(
@@ -545,7 +554,7 @@ class Router:
         changes nothing, where a new router would be refused."""
         bits = random.getrandbits(32) if draw is None else number(draw, 32, "a draw")
         values = configuration(interfaces, ranges, routes, **settings)
-        self._must(self._recorded("reload", bits, values, Draw(bits)))
+        self._must(self._recorded("reload", bits, values, Draw(bits)), values[1:])
 
     @classmethod
     def restore(cls, saved: Buffer, *, library: str | os.PathLike[str] | None = None) -> Self:
@@ -575,12 +584,22 @@ class Router:
     def __exit__(self, *_: object) -> None:
         self.end()
 
-    def _raise(self, answer: Answer) -> None:
-        raise RAISED.get(answer, Refused)(answer, self._library.viq_answer_text(answer).decode())
+    def _raise(self, answer: Answer, lists: Sequence[Any] = ()) -> None:
+        text = self._library.viq_answer_text(answer).decode()
+        raise RAISED.get(answer, Refused)(answer, text + self._item(answer, lists))
 
-    def _must(self, answer: int) -> None:
+    def _item(self, answer: Answer, lists: Sequence[Any]) -> str:
+        """Which route or range of a configuration is refused, and why, as more of a text."""
+        told, library = RefusedAt(), self._library
+        is_found = {
+            Answer.CONFIGURED_ROUTES: lambda: library.viq_routes_refused_at(*lists[:4], byref(told)),
+            Answer.CONFIGURED_RANGES: lambda: library.viq_ranges_refused_at(*lists[4:], byref(told)),
+        }.get(answer, lambda: False)
+        return f": number {told.index}, {library.viq_refused_text(told.reason).decode()}" if is_found() else ""
+
+    def _must(self, answer: int, lists: Sequence[Any] = ()) -> None:
         if answer:
-            self._raise(Answer(answer))
+            self._raise(Answer(answer), lists)
 
     def _call(self, name: str, *values: Any) -> Any:
         with self.lock:
@@ -593,7 +612,8 @@ class Router:
         return self._recorded(name, bits, values, Draw(bits))
 
     def _recorded(self, name: str, draw: int, values: tuple[Any, ...], *more: Any) -> Answer:
-        """What a call answers, which a recorder is told, if there is one (`viqeshor.recording`). What it sends is kept."""
+        """What a call answers, which a recorder is told, if there is one (`viqeshor.recording`). What it sends is kept.
+        """
         with self.lock:
             answer = Answer(self._call(name, *values, *more))
             if self._took is not None:

@@ -22,7 +22,7 @@ from typing import Any, BinaryIO, NamedTuple, Self
 
 from . import Answer, Draw, Error, GivenCall, Router, Settings, ToldInterface, ToldRange, ToldRoute
 
-MAGIC, VERSION = b"VQRC", 2
+MAGIC, VERSION = b"VQRC", 3
 # Of each kind of record: its letter, and the numbers that it has behind its draw. Bytes and lists follow these.
 KINDS: dict[str, tuple[str, tuple[str, ...]]] = {
     "advance": ("a", ("moment",)),
@@ -52,10 +52,6 @@ class Unreadable(ValueError):
     """The file is no recording, or a record of it is none."""
 
 
-class _CutShort(Unreadable):
-    """There are fewer bytes than are wanted."""
-
-
 class Record(NamedTuple):
     """What a router took: the name of its call, the draw, the numbers, and the packet or the lists as bytes; then the
     number that it answered, and the sum of what it sent. A reload, which is no event, has the lengths of its lists as
@@ -80,7 +76,7 @@ class Recording(NamedTuple):
 
 def sum_of(router: Router, version: int = VERSION) -> int:
     """The CRC-32 of what is to be sent."""
-    return router._call("sum") if version == VERSION else sum_of_version_1(router)
+    return router._call("sum") if version > 1 else sum_of_version_1(router)
 
 
 def sum_of_version_1(router: Router) -> int:
@@ -95,6 +91,16 @@ def sum_of_version_1(router: Router) -> int:
 
 
 # ---- written
+
+
+def summed(data: bytes) -> bytes:
+    """Bytes, and their CRC-32 behind them."""
+    return data + struct.pack(">I", zlib.crc32(data))
+
+
+def head_of(older_groups: int, state: bytes) -> bytes:
+    """What a recording begins with, before its state."""
+    return summed(MAGIC + struct.pack(">HIQ", VERSION, older_groups, len(state)))
 
 
 def record_of(library: CDLL, name: str, draw: int, values: tuple[Any, ...], answer: int, total: int) -> bytes:
@@ -180,7 +186,7 @@ class Recorder:
         state, older = self.router.save(), len(self.router.older_rows())
         library, kept = self.router._library, self._settings.items()
         settings = (record_of(library, name, 0, (iface, value), 0, 0) for (name, iface), value in kept)
-        return MAGIC + struct.pack(">HIQ", VERSION, older, len(state)) + state + b"".join(settings)
+        return head_of(older, state) + state + b"".join(settings)
 
     def took(self, name: str, draw: int, values: tuple[Any, ...], answer: int) -> None:
         """Is called after each call that changes the router, and after each event."""
@@ -227,37 +233,50 @@ def write_all(file: Any, data: bytes) -> None:
 
 
 class _Reader:
+    """Reads a file from its beginning; `sum` is the CRC-32 of what was read since it was set to 0."""
     version = VERSION
 
     def __init__(self, file: BinaryIO) -> None:
-        self.file, self.size = file, os.fstat(file.fileno()).st_size
+        self.file, self.size, self.sum = file, file.seek(0, os.SEEK_END), 0
+        file.seek(0)
 
     def bytes(self, count: int) -> bytes:
         if count > self.size - self.file.tell():
-            raise _CutShort("the recording is cut short")
-        return self.file.read(count)
+            raise Unreadable("the recording is cut short")
+        data = self.file.read(count)
+        self.sum = zlib.crc32(data, self.sum)
+        return data
 
     def numbers(self, form: str) -> tuple[int, ...]:
         return struct.unpack(f">{form}", self.bytes(struct.calcsize(f">{form}")))
 
+    def check(self) -> None:
+        """What was read is followed by its sum, in version 3."""
+        wanted = self.sum
+        if self.version > 2 and self.numbers("I") != (wanted,):
+            raise Unreadable("the recording is damaged")
+
     def records(self) -> tuple[list[Record], int]:
         """The records, and how many bytes behind them are no whole record: the last one was cut off as it was written,
-        or a length isn't as it was written."""
+        or a byte isn't as it was written."""
         records = []
         while (begun := self.file.tell()) < self.size:
             try:
-                records.append(self.record(begun))
-            except _CutShort:
+                records.append(self.record())
+            except Unreadable:
                 return records, self.size - begun
         return records, 0
 
-    def record(self, begun: int) -> Record:
+    def record(self) -> Record:
+        self.sum = 0
         letter = self.bytes(1)
         name = NAMES.get(letter.decode("latin1"))
         if name is None:
-            raise Unreadable(f"byte {begun}: no kind of record has the letter {letter!r}")
-        draw, *rest = self.given(name) if self.version == VERSION else self.given_version_1(name)
-        return Record(name, draw, *rest, *self.numbers("II"))
+            raise Unreadable(f"no kind of record has the letter {letter!r}")
+        draw, *rest = self.given(name) if self.version > 1 else self.given_version_1(name)
+        record = Record(name, draw, *rest, *self.numbers("II"))
+        self.check()
+        return record
 
     def given(self, name: str) -> tuple[int, tuple[int, ...], bytes]:
         draw = 0 if name in QUIET else self.numbers("I")[0]
@@ -294,18 +313,23 @@ def form_of(name: str) -> str:
 
 
 def read(path: str | os.PathLike[str]) -> Recording:
-    """A recording's file; raises `Unreadable` where it is none. What is no whole record at its end is left out, and
-    counted."""
+    """A recording's file; raises `Unreadable` where it is none. From the first record on that isn't whole all is left
+    out, and counted."""
     with open(path, "rb") as file:
-        reader = _Reader(file)
-        if reader.bytes(4) != MAGIC:
-            raise Unreadable("no recording")
-        reader.version, older, length = reader.numbers("HIQ")
-        if reader.version not in (1, VERSION):
-            raise Unreadable(f"a recording of version {reader.version}, where this library reads 1 and {VERSION}")
-        state = reader.bytes(length)
-        records, rest = reader.records()
-        return Recording(state, older, records, reader.version, rest)
+        return read_of(file)
+
+
+def read_of(file: BinaryIO) -> Recording:
+    reader = _Reader(file)
+    if reader.bytes(4) != MAGIC:
+        raise Unreadable("no recording")
+    reader.version, older, length = reader.numbers("HIQ")
+    if not 1 <= reader.version <= VERSION:
+        raise Unreadable(f"a recording of version {reader.version}, where this library reads 1 to {VERSION}")
+    reader.check()
+    state = reader.bytes(length)
+    records, rest = reader.records()
+    return Recording(state, older, records, reader.version, rest)
 
 
 def newest(path: str | os.PathLike[str]) -> list[Path]:
