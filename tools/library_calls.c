@@ -1038,6 +1038,62 @@ static void records(void) {
     viq_end(router);
 }
 
+/* ---- messages and reports */
+
+static uint32_t message_of(const char *hex) {
+    uint8_t bytes[VIQ_MOST_BYTES];
+    return viq_message(bytes, bytes_of(hex, bytes));
+}
+
+static void messages(void) {
+    static const char head[] = "4500001500000000016700000A000001E000000D";
+    static const struct { const char *type; uint32_t message; } types[] = {{"20", VIQ_HELLO}, {"21", VIQ_REGISTER}, {"22", VIQ_REGISTER_STOP},
+        {"23", VIQ_JOIN_PRUNE}, {"24", VIQ_OTHER_PIM}, {"25", VIQ_ASSERT}, {"26", VIQ_OTHER_PIM}, {"10", VIQ_OTHER_PIM}, {"", VIQ_NO_PACKET}};
+    for (size_t at = 0; at < COUNT(types); at++) {
+        char hex[64];
+        snprintf(hex, sizeof hex, "%s%s", head, types[at].type);
+        is("a message of PIM", message_of(hex), types[at].message);
+    }
+    is("a Hello", message_of(hello_above), VIQ_HELLO);
+    is("a Join", message_of(join), VIQ_JOIN_PRUNE);
+    is("data", message_of(data), VIQ_DATA);
+    is("no bytes", viq_message(NULL, 0), VIQ_NO_PACKET);
+    is("another version", message_of("6500001C0000000040118BCA0A000305E1010101"), VIQ_NO_PACKET);
+    is("a header that is too short", message_of("4400001C0000000040118BCA0A000305E1010101"), VIQ_NO_PACKET);
+    static const struct { const char *hex; uint32_t message; } igmp[] = {{"46000020000000000102000000000000E00000019404000011", VIQ_QUERY},
+        {"46000020000000000102000000000000E00000019404000012", VIQ_REPORT}, {"46000020000000000102000000000000E00000019404000016", VIQ_REPORT},
+        {"46000020000000000102000000000000E00000019404000017", VIQ_LEAVE}, {"46000020000000000102000000000000E00000019404000013", VIQ_OTHER_IGMP}};
+    for (size_t at = 0; at < COUNT(igmp); at++) is("a message of IGMP", message_of(igmp[at].hex), igmp[at].message);
+    for (uint32_t message = 0; message < VIQ_OTHER_IGMP; message++)
+        is("a name of its own", strcmp(viq_message_text(message), viq_message_text(message + 1)) != 0, true);
+    is("a name of none", strcmp(viq_message_text(99), "no packet"), 0);
+}
+
+/* As tools/library_threads.c has it, written by hand. */
+static void reports(void) {
+    static const uint8_t wanted[] = {0x46, 0xc0, 0, 0x28, 0, 0, 0, 0, 1, 2, 0x38, 0xf1, 10, 0, 1, 9, 224, 0, 0, 22, 0x94, 4,
+        0, 0, 0x22, 0, 0xe9, 0xfb, 0, 0, 0, 1, 4, 0, 0, 0, 239, 1, 1, 1};
+    struct viq_router *router = NULL;
+    uint8_t room[VIQ_MOST_BYTES];
+    uint32_t sources[VIQ_MOST_SOURCES] = {0x0a000009, 0x0a000008};
+    memset(room, 7, sizeof room);
+    is("no room", viq_report(0x0a000109, VIQ_TO_EX, 0xef010101, NULL, 0, room, 39), 0);
+    is("too many sources", viq_report(0x0a000109, VIQ_ALLOW, 0xef010101, sources, VIQ_MOST_SOURCES + 1, room, sizeof room), 0);
+    is("too many to count", viq_report(0x0a000109, VIQ_ALLOW, 0xef010101, sources, SIZE_MAX, room, sizeof room), 0);
+    is("nothing is written", room[0] == 7 && room[39] == 7, true);
+    is("a report", viq_report(0x0a000109, VIQ_TO_EX, 0xef010101, NULL, 0, room, sizeof room), sizeof wanted);
+    is("its bytes", memcmp(room, wanted, sizeof wanted) == 0 && room[sizeof wanted] == 7, true);
+    is("what it is", viq_message(room, sizeof wanted), VIQ_REPORT);
+    is("new that hears hosts", made(&router, &usual), VIQ_DONE);
+    is("up", viq_up(router, 2, viq_draw(7)), VIQ_DONE);
+    is("a report of sources", viq_report(0x0a000209, VIQ_ALLOW, 0xe8010101, sources, 2, room, sizeof room), 48);
+    is("the router takes it", viq_frame(router, 2, room, 48, viq_draw(0)), VIQ_DONE);
+    is("both are wanted", viq_read(router, 'S') == VIQ_DONE && viq_rows(router) == 2, true);
+    is("as many as there may be", viq_report(0x0a000209, VIQ_BLOCK, 0xe8010101, sources, VIQ_MOST_SOURCES, room, sizeof room), 40 + 4 * VIQ_MOST_SOURCES);
+    is("the router takes them", viq_frame(router, 2, room, 40 + 4 * VIQ_MOST_SOURCES, viq_draw(0)), VIQ_DONE);
+    viq_end(router);
+}
+
 static void texts(void) {
     is("the version", strncmp(viq_version(), VIQ_VERSION " ", sizeof VIQ_VERSION), 0);
     is("how it was built", strstr(viq_version(), "proved") != NULL, true);
@@ -1071,6 +1127,8 @@ int main(void) {
     reloads();
     saved_routers();
     records();
+    messages();
+    reports();
     texts();
     is("the other's moment", viq_next_moment(other), VIQ_NEVER);
     is("the other's packets", viq_packets(other), 0);

@@ -5,9 +5,7 @@ use viqeshor::{Error, Interface, Range, Route, Router, Settings, Target, Verdict
 fn bytes_of(hex: &str) -> Vec<u8> {
     let digit = |at: usize| hex.as_bytes()[at] as char;
     let nibble = |at| digit(at).to_digit(16).unwrap_or(0) as u8;
-    (0..hex.len() / 2)
-        .map(|at| nibble(2 * at) << 4 | nibble(2 * at + 1))
-        .collect()
+    (0..hex.len() / 2).map(|at| nibble(2 * at) << 4 | nibble(2 * at + 1)).collect()
 }
 
 #[derive(Default)]
@@ -30,11 +28,7 @@ impl Printer {
         }
         for sent in router.drain() {
             self.frames += 1;
-            let hex: String = sent
-                .bytes
-                .iter()
-                .map(|byte| format!("{byte:02x}"))
-                .collect();
+            let hex: String = sent.bytes.iter().map(|byte| format!("{byte:02x}")).collect();
             let (number, link) = (self.frames, |iface: u32| ["n", "m", "o"][iface as usize]);
             match sent.target {
                 Target::Unicast(to) => println!("unicast {number} {to} {hex}"),
@@ -47,16 +41,10 @@ impl Printer {
 }
 
 fn main() -> Result<(), Error> {
-    let interfaces = [[10, 0, 0, 2], [10, 0, 1, 1], [10, 0, 2, 1]]
-        .map(|own: [u8; 4]| Interface::new(own.into(), 24));
+    let interfaces = [[10, 0, 0, 2], [10, 0, 1, 1], [10, 0, 2, 1]].map(|own: [u8; 4]| Interface::new(own.into(), 24));
     let next_hop = Ipv4Addr::new(10, 0, 0, 1);
-    let routes = [[10, 9, 9, 0], [10, 0, 3, 0]]
-        .map(|prefix: [u8; 4]| Route::new(prefix.into(), 24, next_hop, 0));
-    let ranges = [Range::new(
-        Ipv4Addr::new(224, 0, 0, 0),
-        4,
-        Ipv4Addr::new(10, 9, 9, 9),
-    )];
+    let routes = [[10, 9, 9, 0], [10, 0, 3, 0]].map(|prefix: [u8; 4]| Route::new(prefix.into(), 24, next_hop, 0));
+    let ranges = [Range::new(Ipv4Addr::new(224, 0, 0, 0), 4, Ipv4Addr::new(10, 9, 9, 9))];
     let mut router = Router::new(&Settings::default(), &interfaces, &routes, &ranges)?;
     let mut printer = Printer::default();
     for iface in 0..3 {

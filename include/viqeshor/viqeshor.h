@@ -350,6 +350,26 @@ struct viq_packet {
     size_t length;        /* bytes, at most VIQ_MOST_BYTES */
 };
 
+/* What a whole IPv4 packet says, by its first bytes; its checksums and lengths aren't tested. */
+enum {
+    VIQ_NO_PACKET = 0, /* no IPv4 packet */
+    VIQ_DATA = 1,      /* neither PIM nor IGMP */
+    VIQ_HELLO = 2,
+    VIQ_REGISTER = 3,
+    VIQ_REGISTER_STOP = 4,
+    VIQ_JOIN_PRUNE = 5,
+    VIQ_ASSERT = 6,
+    VIQ_OTHER_PIM = 7,
+    VIQ_QUERY = 8,  /* of any version of IGMP, as the two below */
+    VIQ_REPORT = 9,
+    VIQ_LEAVE = 10,
+    VIQ_OTHER_IGMP = 11
+};
+uint32_t viq_message(const uint8_t *packet, size_t length);
+
+/* The name of such a message; never NULL. */
+const char *viq_message_text(uint32_t message);
+
 /* How many packets are untaken. */
 VIQ_READ_ANSWER
 size_t viq_packets(const struct viq_router *router);
@@ -637,6 +657,22 @@ struct viq_neighbour {
 /* A neighbour; the table N lists them. It answers false also where the interface has no neighbour of this address. */
 VIQ_READ_ANSWER VIQ_NOT_NULL(4)
 bool viq_neighbour(const struct viq_router *router, uint32_t iface, uint32_t address, struct viq_neighbour *neighbour);
+
+/* ---- hosts, for programs that try a router */
+
+/* What a record of a report says of its sources (RFC 3376, section 4.2.12). A host that wants a group of any source
+ * says VIQ_TO_EX of none, and one that wants it no more VIQ_TO_IN of none. */
+enum { VIQ_IS_IN = 1, VIQ_IS_EX = 2, VIQ_TO_IN = 3, VIQ_TO_EX = 4, VIQ_ALLOW = 5, VIQ_BLOCK = 6 };
+
+/* The most sources of a report. */
+#define VIQ_MOST_SOURCES 360
+
+/* Writes a report of a host with one record, a whole IPv4 packet, as viq_frame takes it, and answers how many bytes it
+ * has: 40, and 4 for each source. It answers 0, and writes nothing, where there are more sources than VIQ_MOST_SOURCES
+ * or there is no room. */
+VIQ_READ_ANSWER
+size_t viq_report(uint32_t host, uint32_t kind, uint32_t group, const uint32_t *sources, size_t count, uint8_t *room,
+                  size_t room_length);
 
 /* ---- older versions of IGMP (RFC 3376, section 7.3)
  *

@@ -110,7 +110,7 @@ HEAP, WHOLE = "heap.pic.o", "viqeshor.o"
 
 def written_in_c(how: str, room: Path) -> Iterator[Path]:
     """What of the library is C: what it says of itself, and its calls, which make those that are proved."""
-    for name in ("texts", "calls", "refused"):
+    for name in ("texts", "calls", "refused", "messages"):
         made = room / f"{name}.o"
         ran([CC, "-std=c99", "-Wall", "-Wextra", "-Werror", "-O2", "-fPIC", f'-DVIQ_HOW="{how}"', "-I", INCLUDE, "-c",
              BINDINGS / "c" / f"{name}.c", "-o", made])

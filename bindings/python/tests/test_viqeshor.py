@@ -176,7 +176,8 @@ class Routers(unittest.TestCase):
         self.assertEqual((source.joins, source.immediate_olist, source.inherited_olist), ({1}, {1}, {1}))
         self.assertEqual((source.rpf_neighbour, source.rpt_state), ((0, "10.0.0.1"), "notjoined"))
         self.assertEqual((source.join_desired, source.spt_bit, source.has_tunnel), (True, False, False))
-        self.assertEqual(router.source_tree("10.0.1.1", "225.1.1.1").rpf_cause, "own")
+        self.assertIs(router.source_tree("10.0.1.1", "225.1.1.1").rpf_cause, viqeshor.Cause.OWN)
+        self.assertIs(tree.rpf_cause, viqeshor.Cause.NEXT_HOP)
 
     def test_what_the_links_are(self):
         router = self.joined()

@@ -20,7 +20,7 @@
 //!
 //! A moment is a timestamp, in milliseconds from any beginning, at most 2^62. A draw is a random number, another one
 //! with each event.
-#![deny(missing_debug_implementations, unsafe_op_in_unsafe_fn)]
+#![deny(missing_debug_implementations, missing_docs, unsafe_op_in_unsafe_fn)]
 use std::ffi::CStr;
 use std::fmt;
 use std::net::Ipv4Addr;
@@ -94,6 +94,7 @@ impl FromStr for Prefix {
 /// An interface of the router.
 #[derive(Clone, Copy, Debug, PartialEq, Eq)]
 pub struct Interface {
+    /// The router's, on the link.
     pub address: Ipv4Addr,
     /// Of the subnet's prefix.
     pub length: u32,
@@ -130,12 +131,17 @@ impl Interface {
 /// A unicast route.
 #[derive(Clone, Copy, Debug, PartialEq, Eq)]
 pub struct Route {
+    /// Without host bits.
     pub prefix: Ipv4Addr,
+    /// Of the prefix, at most 32.
     pub length: u32,
+    /// A host's address on the link, and none of the router's.
     pub next_hop: Ipv4Addr,
+    /// The interface to it.
     pub iface: u32,
     /// The lower is better.
     pub preference: u32,
+    /// As an Assert tells it.
     pub metric: u32,
 }
 
@@ -165,12 +171,16 @@ impl Route {
 /// A range of groups, and its RP.
 #[derive(Clone, Copy, Debug, PartialEq, Eq)]
 pub struct Range {
+    /// In 224.0.0.0/4, without host bits.
     pub prefix: Ipv4Addr,
+    /// Of the prefix, 4 to 32.
     pub length: u32,
+    /// Of the groups.
     pub rp: Ipv4Addr,
 }
 
 impl Range {
+    /// Of a prefix of groups.
     pub fn new(prefix: Ipv4Addr, length: u32, rp: Ipv4Addr) -> Range {
         Range { prefix, length, rp }
     }
@@ -215,6 +225,7 @@ pub enum QueryVersion {
 pub struct Settings {
     /// Of facts.
     pub limit: u32,
+    /// The querier's, 2 to 7 (RFC 3376, section 8.1).
     pub robustness: u32,
     /// In seconds.
     pub query_interval: u32,
@@ -242,12 +253,12 @@ impl Default for Settings {
 // ---- what is answered
 
 macro_rules! numbered {
-    ($(#[$about:meta])* $name:ident { $($variant:ident = $number:literal,)* }) => {
+    ($(#[$about:meta])* $name:ident { $($(#[$says:meta])* $variant:ident = $number:literal,)* }) => {
         $(#[$about])*
         #[derive(Clone, Copy, Debug, PartialEq, Eq, Hash)]
         #[non_exhaustive]
         #[repr(u32)]
-        pub enum $name { $($variant = $number,)* }
+        pub enum $name { $($(#[$says])* $variant = $number,)* }
 
         impl $name {
             fn of(number: u32) -> Option<$name> {
@@ -264,40 +275,75 @@ numbered! {
     /// A refusal, which changed nothing. `docs/SCENARIOS.md` has each, and `docs/SAVED.md` those of saved bytes, from
     /// `NotOurs` on.
     Refusal {
+        /// The packet is shorter than its lengths and counts say.
         Short = 1,
+        /// Another version than IPv4 or PIM 2.
         BadVersion = 2,
+        /// A wrong checksum.
         BadChecksum = 3,
+        /// A wrong length.
         BadLength = 4,
+        /// An address that can't stand there.
         BadAddress = 5,
+        /// No group where a group has to stand.
         NotMulticast = 6,
+        /// IGMPv1 or IGMPv2.
         OldVersion = 7,
+        /// Another IGMP type than query and report.
         UnknownType = 8,
+        /// A fragment.
         Fragment = 9,
+        /// The moment is before the present.
         MomentBack = 20,
+        /// The moment is above 2^62.
         MomentFar = 21,
+        /// There is no such interface.
         BadInterface = 22,
+        /// The interface is down.
         InterfaceDown = 23,
+        /// The limit of facts, or of neighbours on an interface, leaves no room.
         Full = 24,
+        /// Routes that can't stand.
         BadRoutes = 25,
+        /// RP ranges that can't stand.
         BadRanges = 26,
+        /// No interfaces, or more than 120.
         InterfaceCount = 30,
+        /// An interface's address is no host's.
         InterfaceAddress = 31,
+        /// An interface's prefix length isn't 1 to 31.
         InterfaceLength = 32,
+        /// Two subnets overlap.
         Overlap = 33,
+        /// The limit isn't 1 to 1,000,000.
         BadLimit = 34,
+        /// A value of the querier is out of range.
         BadQuerier = 35,
+        /// An interface's delay is out of range.
         BadDelay = 36,
+        /// Configured routes that can't stand.
         ConfiguredRoutes = 37,
+        /// Configured RP ranges that can't stand.
         ConfiguredRanges = 38,
+        /// The bytes are no saved state.
         NotOurs = 60,
+        /// The state was saved in another version of its format.
         OtherVersion = 61,
+        /// The saved state is cut short.
         CutShort = 62,
+        /// A flag or a tag of the saved state is none that there is.
         OutOfRange = 63,
+        /// The keys of a table of the saved state don't rise.
         KeysDontRise = 64,
+        /// Bytes follow the saved state.
         LeftOver = 65,
+        /// No router has the saved configuration, or a fact under such a key.
         NotHeld = 66,
+        /// A timer of the saved state has expired, or a fact is of an interface that is down.
         NotSettled = 67,
+        /// An assert or an SPTbit of the saved state would go, or a register isn't as it has to be.
         NotQuiet = 68,
+        /// The saved state is damaged: its sum is another one.
         Damaged = 69,
     }
 }
@@ -305,13 +351,21 @@ numbered! {
 numbered! {
     /// Why an event was ignored, which changed nothing.
     Reason {
+        /// The router's own packet.
         Own = 101,
+        /// Not for this router.
         NotForMe = 102,
+        /// A PIM message of another type.
         OtherType = 103,
+        /// For a range of groups.
         Mask = 104,
+        /// A group that stays on its link.
         LinkLocal = 105,
+        /// The sender is no neighbour.
         NoNeighbour = 106,
+        /// The sender isn't the RP.
         NotRp = 107,
+        /// It is so already.
         Already = 108,
     }
 }
@@ -319,7 +373,9 @@ numbered! {
 /// What became of an event that was in order.
 #[derive(Clone, Copy, Debug, PartialEq, Eq, Hash)]
 pub enum Verdict {
+    /// The router did what it says.
     Done,
+    /// It was for nothing that the router has to do.
     Ignored(Reason),
 }
 
@@ -463,6 +519,51 @@ impl Target {
     }
 }
 
+/// What a packet says, by its first bytes; its checksums and lengths aren't tested.
+pub fn message(packet: &[u8]) -> &'static str {
+    // SAFETY: the packet is passed as its pointer and its length; the second call takes any number.
+    text(unsafe { viq_message_text(viq_message(packet.as_ptr(), packet.len())) })
+}
+
+/// What a record of a report says of its sources (RFC 3376, section 4.2.12).
+#[derive(Clone, Copy, Debug, PartialEq, Eq, Hash)]
+#[repr(u32)]
+pub enum Asks {
+    /// These are wanted, and no others.
+    IsIn = 1,
+    /// All but these are wanted.
+    IsEx = 2,
+    /// From now on these are wanted, and no others.
+    ToIn = 3,
+    /// From now on all but these are wanted.
+    ToEx = 4,
+    /// These are wanted too.
+    Allow = 5,
+    /// These are wanted no more.
+    Block = 6,
+}
+
+/// A report of a host with one record, a whole packet as `Router::frame` takes it. `None` where there are too many
+/// sources for one.
+pub fn report(host: Ipv4Addr, asks: Asks, group: Ipv4Addr, sources: &[Ipv4Addr]) -> Option<Vec<u8>> {
+    let sources: Vec<u32> = sources.iter().map(|source| (*source).into()).collect();
+    let mut room = vec![0; MOST_BYTES];
+    // SAFETY: the sources and the room are passed as their pointers and their lengths.
+    let size = unsafe {
+        viq_report(
+            host.into(),
+            asks as u32,
+            group.into(),
+            sources.as_ptr(),
+            sources.len(),
+            room.as_mut_ptr(),
+            room.len(),
+        )
+    };
+    room.truncate(size);
+    (size > 0).then_some(room)
+}
+
 /// A packet that is to be sent.
 #[derive(Clone, Debug, PartialEq, Eq, Hash)]
 #[non_exhaustive]
@@ -499,17 +600,26 @@ impl ExactSizeIterator for Drain<'_> {}
 #[derive(Clone, Copy, Debug, PartialEq, Eq, Hash)]
 #[repr(u8)]
 pub enum Table {
+    /// PIM neighbours.
     Neighbours = b'N',
+    /// What hosts want of groups.
     Groups = b'G',
+    /// Sources that hosts want or exclude.
     Sources = b'S',
+    /// What other routers joined or pruned.
     Downstream = b'D',
+    /// Asserts that the router won or lost.
     Asserts = b'A',
+    /// Trees that the router has joined.
     Upstream = b'U',
+    /// Sources of shared trees that the router has joined.
     Trees = b'R',
+    /// Active sources.
     Active = b'F',
 }
 
 impl Table {
+    /// In the order in which they are printed.
     pub const ALL: [Table; 8] = [
         Table::Neighbours,
         Table::Groups,
@@ -525,7 +635,9 @@ impl Table {
 /// A group in an older mode on an interface: a host of IGMPv1 or IGMPv2 reported it.
 #[derive(Clone, Copy, Debug, PartialEq, Eq)]
 pub struct OlderRow {
+    /// Where it was reported.
     pub iface: u32,
+    /// That was reported.
     pub group: Ipv4Addr,
     /// The version, 1 or 2.
     pub mode: u32,
@@ -558,6 +670,7 @@ pub struct Interfaces {
 }
 
 impl Interfaces {
+    /// Whether the interface is in the set.
     pub fn contains(self, iface: u32) -> bool {
         iface < 128 && (u128::from(self.high) << 64 | u128::from(self.low)) >> iface & 1 == 1
     }
@@ -632,10 +745,12 @@ pub struct SourceGroup {
 }
 
 impl SourceGroup {
+    /// S.
     pub fn source(&self) -> Ipv4Addr {
         self.source.into()
     }
 
+    /// G.
     pub fn group(&self) -> Ipv4Addr {
         self.group.into()
     }
@@ -720,6 +835,17 @@ extern "C" {
     ) -> bool;
     fn viq_ranges_refused_at(ranges: *const raw::Range, count: usize, at: *mut raw::RefusedAt) -> bool;
     fn viq_refused_text(reason: u32) -> *const c_char;
+    fn viq_message(packet: *const u8, length: usize) -> u32;
+    fn viq_message_text(message: u32) -> *const c_char;
+    fn viq_report(
+        host: u32,
+        kind: u32,
+        group: u32,
+        sources: *const u32,
+        count: usize,
+        room: *mut u8,
+        room_length: usize,
+    ) -> usize;
     fn viq_new(
         router: *mut *mut c_void,
         abi: u32,

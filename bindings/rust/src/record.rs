@@ -11,8 +11,11 @@ pub struct Call {
     pub letter: u32,
     /// Of an event.
     pub draw: u32,
+    /// Of an event on an interface, and of a setting of one.
     pub iface: u32,
+    /// Of a report of a data plane, as the next one.
     pub source: u32,
+    /// As a number, like the source.
     pub group: u32,
     /// What an interface was set to.
     pub value: u32,

@@ -5,7 +5,9 @@ use std::net::Ipv4Addr;
 /// A PIM neighbour.
 #[derive(Clone, Copy, Debug, PartialEq, Eq)]
 pub struct NeighbourRow {
+    /// The interface.
     pub iface: u32,
+    /// The neighbour's.
     pub address: Ipv4Addr,
     /// When its holdtime expires, in ms, if it does.
     pub end: Option<u64>,
@@ -14,7 +16,9 @@ pub struct NeighbourRow {
 /// What hosts want of a group.
 #[derive(Clone, Copy, Debug, PartialEq, Eq)]
 pub struct GroupRow {
+    /// The interface.
     pub iface: u32,
+    /// G.
     pub group: Ipv4Addr,
     /// Every source but those that they exclude; else only the sources of the rows of `Table::Sources`.
     pub is_exclude: bool,
@@ -25,8 +29,11 @@ pub struct GroupRow {
 /// A source that hosts want or exclude.
 #[derive(Clone, Copy, Debug, PartialEq, Eq)]
 pub struct SourceRow {
+    /// The interface.
     pub iface: u32,
+    /// G.
     pub group: Ipv4Addr,
+    /// S.
     pub source: Ipv4Addr,
     /// Until when they want it, in ms; `None` where they exclude it.
     pub end: Option<u64>,
@@ -36,6 +43,7 @@ pub struct SourceRow {
 #[derive(Clone, Copy, Debug, PartialEq, Eq, Hash)]
 #[non_exhaustive]
 pub enum DownstreamState {
+    /// A Join holds it.
     Joined,
     /// A Prune came, and takes effect unless a Join overrides it.
     PrunePending,
@@ -46,12 +54,15 @@ pub enum DownstreamState {
 /// What other routers joined or pruned.
 #[derive(Clone, Copy, Debug, PartialEq, Eq)]
 pub struct DownstreamRow {
+    /// The interface.
     pub iface: u32,
+    /// G.
     pub group: Ipv4Addr,
     /// `None` for (\*,G).
     pub source: Option<Ipv4Addr>,
     /// Of (S,G,rpt); else of (\*,G) or (S,G).
     pub is_rpt: bool,
+    /// Of the machine.
     pub state: DownstreamState,
     /// When the Expiry Timer expires, in ms, if it does.
     pub end: Option<u64>,
@@ -62,7 +73,9 @@ pub struct DownstreamRow {
 /// An assert.
 #[derive(Clone, Copy, Debug, PartialEq, Eq)]
 pub struct AssertRow {
+    /// The interface.
     pub iface: u32,
+    /// G.
     pub group: Ipv4Addr,
     /// `None` for (\*,G).
     pub source: Option<Ipv4Addr>,
@@ -77,6 +90,7 @@ pub struct AssertRow {
 /// A tree that the router has joined upstream.
 #[derive(Clone, Copy, Debug, PartialEq, Eq)]
 pub struct UpstreamRow {
+    /// G.
     pub group: Ipv4Addr,
     /// `None` for (\*,G).
     pub source: Option<Ipv4Addr>,
@@ -87,7 +101,9 @@ pub struct UpstreamRow {
 /// A source of a shared tree that the router has joined.
 #[derive(Clone, Copy, Debug, PartialEq, Eq)]
 pub struct RptRow {
+    /// G.
     pub group: Ipv4Addr,
+    /// S.
     pub source: Ipv4Addr,
     /// The router pruned it off the shared tree.
     pub is_pruned: bool,
@@ -108,7 +124,9 @@ pub enum RegisterState {
 /// An active source.
 #[derive(Clone, Copy, Debug, PartialEq, Eq)]
 pub struct ActiveRow {
+    /// G.
     pub group: Ipv4Addr,
+    /// S.
     pub source: Ipv4Addr,
     /// When the keepalive timer expires, in ms, if it runs.
     pub keepalive: Option<u64>,
@@ -122,18 +140,27 @@ pub struct ActiveRow {
 #[derive(Clone, Copy, Debug, PartialEq, Eq)]
 #[non_exhaustive]
 pub enum Row {
+    /// N.
     Neighbour(NeighbourRow),
+    /// G.
     Group(GroupRow),
+    /// S.
     Source(SourceRow),
+    /// D.
     Downstream(DownstreamRow),
+    /// A.
     Assert(AssertRow),
+    /// U.
     Upstream(UpstreamRow),
+    /// R.
     Rpt(RptRow),
+    /// F.
     Active(ActiveRow),
 }
 
 /// A kind of row, which is of one table.
 pub trait TableRow: sealed::Sealed + Copy {
+    /// Of which they are rows.
     const TABLE: Table;
 
     /// The row, if it is of this kind.

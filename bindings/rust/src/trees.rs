@@ -5,7 +5,9 @@ use std::net::Ipv4Addr;
 /// A neighbour on an interface.
 #[derive(Clone, Copy, Debug, PartialEq, Eq, Hash)]
 pub struct Hop {
+    /// Where it is.
     pub iface: u32,
+    /// Its own.
     pub address: Ipv4Addr,
 }
 
@@ -15,8 +17,11 @@ pub struct Hop {
 pub struct Path {
     /// RPF_interface.
     pub iface: u32,
+    /// Of the route.
     pub next_hop: Ipv4Addr,
+    /// The lower is better.
     pub preference: u32,
+    /// As an Assert tells it.
     pub metric: u32,
     /// It leads to a link of the router: the next hop is the address itself.
     pub is_connected: bool,
@@ -81,8 +86,11 @@ pub struct Tree {
 /// The upstream state of (S,G,rpt).
 #[derive(Clone, Copy, Debug, PartialEq, Eq, Hash)]
 pub enum RptState {
+    /// The shared tree isn't joined.
     NotJoined,
+    /// The source is pruned off it.
     Pruned,
+    /// The source comes by it.
     NotPruned,
 }
 
@@ -141,16 +149,26 @@ pub struct SourceTree {
 pub enum Querier {
     /// The router itself: when its next general query leaves, in ms, and how many of the startup queries are still to
     /// leave with it.
-    Own { next_query: u64, startup_left: u32 },
+    Own {
+        /// In ms, when the next general query leaves.
+        next_query: u64,
+        /// How many startup queries are left.
+        startup_left: u32,
+    },
     /// Another router. The router takes over at this timestamp, in ms, unless it hears a query before.
-    Other { end: u64 },
+    Other {
+        /// In ms, when it is given up.
+        end: u64,
+    },
 }
 
 /// Who queries on an interface, with the values in force.
 #[derive(Clone, Copy, Debug, PartialEq, Eq)]
 #[non_exhaustive]
 pub struct Querying {
+    /// Which router it is.
     pub querier: Querier,
+    /// The value in force.
     pub robustness: u32,
     /// In seconds.
     pub query_interval: u32,
@@ -160,6 +178,7 @@ pub struct Querying {
 #[derive(Clone, Copy, Debug, PartialEq, Eq)]
 #[non_exhaustive]
 pub struct Link {
+    /// The interface is up.
     pub is_up: bool,
     /// I_am_DR(I): the interface is up, and the router itself is the DR.
     pub is_dr: bool,
@@ -191,6 +210,7 @@ pub struct Neighbour {
     pub priority: Option<u32>,
     /// Generation ID.
     pub generation: Option<u32>,
+    /// The option LAN Prune Delay, if its last Hello had it.
     pub lan_delay: Option<LanDelay>,
 }
 

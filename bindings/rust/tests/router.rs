@@ -1,9 +1,9 @@
 //! Each call of the crate once, and what it answers: a Join of 10.0.1.2 comes and a packet of its source, as in `examples/library`.
 use std::net::Ipv4Addr;
 use viqeshor::{
-    refused_range, refused_route, ActiveRow, Call, DownstreamRow, DownstreamState, Error, GroupRow, Hop, Interface,
-    NeighbourRow, NoPrefix, OlderHosts, OlderRow, Prefix, Querier, QueryVersion, Range, Reason, Refusal, RefusedAt,
-    Route, Router, Row, Rpf, RptState, Sent, Settings, Table, Target, UpstreamRow, Verdict, MOST_BYTES,
+    message, refused_range, refused_route, ActiveRow, Asks, Call, DownstreamRow, DownstreamState, Error, GroupRow, Hop,
+    Interface, NeighbourRow, NoPrefix, OlderHosts, OlderRow, Prefix, Querier, QueryVersion, Range, Reason, Refusal,
+    RefusedAt, Route, Router, Row, Rpf, RptState, Sent, Settings, Table, Target, UpstreamRow, Verdict, MOST_BYTES,
 };
 
 const HELLO_ABOVE: &str = "45C0001E000000000167CEAB0A000001E000000D2000DFFC00010002FFFF";
@@ -88,6 +88,18 @@ fn which_item_is_refused() {
     assert_eq!(at, RefusedAt { index: 1, reason: 5 });
     assert_eq!(at.to_string(), "number 1, its next hop is the router's own");
     assert_eq!(refused_range(&[ranges()[0]; 2]), Some(RefusedAt { index: 1, reason: 8 }));
+}
+
+#[test]
+fn messages_and_reports() {
+    assert_eq!([HELLO_ABOVE, JOIN, DATA].map(|hex| message(&bytes_of(hex))), ["Hello", "Join/Prune", "data"]);
+    let (mut router, group) = (joined(), address([239, 1, 1, 1]));
+    let report = |asks, sources: &[Ipv4Addr]| viqeshor::report(address([10, 0, 2, 9]), asks, group, sources);
+    let wants = report(Asks::ToEx, &[]).unwrap();
+    assert_eq!((message(&wants), router.frame(2, &wants, 0)), ("report", DONE));
+    let row = GroupRow { iface: 2, group, is_exclude: true, end: Some(260_000) };
+    assert_eq!(router.rows_of(), Ok(vec![row]));
+    assert_eq!(report(Asks::Allow, &[group; 361]), None);
 }
 
 #[test]

@@ -1,6 +1,6 @@
 -- A session's call, by what is said of its answer, its packets and its state.
 use Rattle.std.{proofs.Common.{◌≡◌, ◌∙◌, ℕ, ◌∷◌, [], List, Option, Some, None, Result, Ok, Err, refl, sym, ap, subst}, specs.Prelude.{IfOk, IfSome, OnOk}}
-use Rattle.pim_ip.{specs.declared.{fault.Fault.Fault, refusal.Refusal.Refusal}}
+use Rattle.pim_ip.{specs.declared.refusal.Refusal.Refusal}
 use Rattle.pim_types.{specs.declared.{event.Event.Event, outcome.{Emission.Emission, Verdict.Verdict}}}
 use Rattle.pim_model.{specs.{State.State, Step.step}}
 use Rattle.pim_saved.{specs.Reading.reading, proofs.SpelledStates.text_is_read}
@@ -8,8 +8,8 @@ use Rattle.law_history.{specs.History.{Given, IsLedTo}}
 use Rattle.pim_router.{specs.{Asked.{LeadsOn, SentIsAsked}, Standing.{Shown, Standing, beginning, begun, standing}}, proofs.Asked.{leads_now, step_asked, step_leads}}
 use Rattle.pim_session.{specs.{Leaving.{GoesOnFrom, LeftIsAsked}, Front.{Front, emissions_left}}}
 
-module _ (front : Option Front) (event : State → Event) (was now : Option Standing) where
-  pub left_by : (r : Result (Result Verdict Refusal) Fault) (left : List Emission)
+module _ {E : Type 0} (front : Option Front) (event : State → Event) (was now : Option Standing) where
+  pub left_by : (r : Result (Result Verdict Refusal) E) (left : List Emission)
       → IfSome was (λ r'. IfOk r (λ answer. answer ≡ (step r'.state (event r'.state)).answer))
       → IfSome was (λ r'. OnOk r (now ≡ Some (standing (step r'.state (event r'.state)))))
       → IfSome was (λ r'. OnOk r (left ≡ emissions_left front (step r'.state (event r'.state)).emissions))
@@ -17,7 +17,7 @@ module _ (front : Option Front) (event : State → Event) (was now : Option Stan
       LeftIsAsked front r'.state (event r'.state) answer left after.copies)))
   left_by = go was
     where
-      go : (o : Option Standing) (r : Result (Result Verdict Refusal) Fault) (left : List Emission)
+      go : (o : Option Standing) (r : Result (Result Verdict Refusal) E) (left : List Emission)
           → IfSome o (λ r'. IfOk r (λ answer. answer ≡ (step r'.state (event r'.state)).answer))
           → IfSome o (λ r'. OnOk r (now ≡ Some (standing (step r'.state (event r'.state)))))
           → IfSome o (λ r'. OnOk r (left ≡ emissions_left front (step r'.state (event r'.state)).emissions))
@@ -33,12 +33,12 @@ module _ (front : Option Front) (event : State → Event) (was now : Option Stan
             asked = step_asked r'.state (event r'.state) answer (step r'.state (event r'.state)).emissions is refl;
           })
 
-  pub led_by : (r : Result (Result Verdict Refusal) Fault)
+  pub led_by : (r : Result (Result Verdict Refusal) E)
       → IfSome was (λ r'. OnOk r (now ≡ Some (standing (step r'.state (event r'.state)))))
       → IfSome was (λ r'. OnOk r (IfSome now (λ after. LeadsOn r'.state (Given.Happening (event r'.state)) after.state)))
   led_by = go was
     where
-      go : (o : Option Standing) (r : Result (Result Verdict Refusal) Fault)
+      go : (o : Option Standing) (r : Result (Result Verdict Refusal) E)
           → IfSome o (λ r'. OnOk r (now ≡ Some (standing (step r'.state (event r'.state)))))
           → IfSome o (λ r'. OnOk r (IfSome now (λ after. LeadsOn r'.state (Given.Happening (event r'.state)) after.state)))
       go None r stands = tt
@@ -48,7 +48,7 @@ module _ (front : Option Front) (event : State → Event) (was now : Option Stan
           (step_leads r'.state (event r'.state))
 
 -- without a front
-pub sent_by : (e : Event) (was now : Option Standing) (r : Result (Result Verdict Refusal) Fault) (left : List Emission)
+pub sent_by : {E : Type 0} (e : Event) (was now : Option Standing) (r : Result (Result Verdict Refusal) E) (left : List Emission)
     → IfSome was (λ r'. IfOk r (λ answer. answer ≡ (step r'.state e).answer))
     → IfSome was (λ r'. OnOk r (now ≡ Some (standing (step r'.state e))))
     → IfSome was (λ r'. OnOk r (left ≡ (step r'.state e).emissions))

@@ -47,12 +47,13 @@ from viqeshor.rows import (
     numbers,
     row_of,
 )
-from viqeshor.trees import Link, Neighbour, SourceTree, Tree, Words, dotted
+from viqeshor.trees import Cause, Link, Neighbour, SourceTree, Tree, Words, dotted
 
 __all__ = [
     "ActiveRow",
     "Answer",
     "AssertRow",
+    "Cause",
     "Closed",
     "DownstreamRow",
     "Error",

@@ -1,15 +1,27 @@
 """The macros of RFC 7761 of a group or of a source, and what is known of an interface and of a neighbour."""
 from ctypes import Structure, c_bool, c_uint32, c_uint64
+from enum import StrEnum
 from ipaddress import IPv4Address
 from typing import NamedTuple
 
 NEVER = 2**64 - 1
-# What `rpf_cause` says: where RPF' comes from, or why there is none. The root is RP(G), or S: an assert's winner; the
-# next hop of the route to the root; the root is on a link of the router, and is no neighbour; the next hop is no
-# neighbour; there is no route; the root is the router itself; the group has no RP.
-CAUSES = ["", "winner", "next hop", "connected", "no neighbour", "no route", "own", "no rp"]
 RPT_STATES = ["notjoined", "pruned", "notpruned"]
 QUERIERS = ["none", "own", "other"]
+
+
+class Cause(StrEnum):
+    """Where RPF' comes from, or why there is none. The root is RP(G), or S. It equals its text."""
+    WINNER = "winner"  # of an assert
+    NEXT_HOP = "next hop"  # of the route to the root
+    CONNECTED = "connected"  # the root is on a link of the router, and is no neighbour
+    NO_NEIGHBOUR = "no neighbour"  # the next hop is none
+    NO_ROUTE = "no route"
+    OWN = "own"  # the root is the router itself
+    NO_RP = "no rp"  # the group has none
+
+
+# By their numbers in C.
+CAUSES = dict(enumerate(Cause, 1))
 
 
 # ---- the values of C
@@ -162,7 +174,7 @@ class Tree(NamedTuple):
     rp: str | None
     path: Path | None
     rpf_neighbour: Hop | None
-    rpf_cause: str
+    rpf_cause: Cause
     join_desired: bool
     joins: frozenset[int]
     local_receiver_include: frozenset[int]
@@ -181,7 +193,7 @@ class SourceTree(NamedTuple):
     immediate_olist(S,G), inherited_olist(S,G) and inherited_olist(S,G,rpt)."""
     path: Path | None
     rpf_neighbour: Hop | None
-    rpf_cause: str
+    rpf_cause: Cause
     rpf_neighbour_rpt: Hop | None
     rpt_state: str
     spt_bit: bool
