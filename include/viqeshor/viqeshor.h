@@ -131,7 +131,7 @@ enum {
     VIQ_NO_TIMER = 52, /* no keepalive timer of the source runs, and none was started */
     VIQ_OTHER_ABI = 53, /* the program was compiled for another library than this one */
     VIQ_NO_SETTING = 54, /* no setting has this number */
-    VIQ_UNTAKEN = 55,   /* packets of the event before are untaken, and nothing has changed: viq_take, viq_clear */
+    VIQ_UNTAKEN = 55, /* packets of the event before are untaken, and nothing has changed: viq_take, viq_clear */
 
     /* of saved bytes */
     VIQ_NOT_OURS = 60,
