@@ -330,8 +330,8 @@ uint32_t viq_ranges(struct viq_router *router, const struct viq_range *ranges, s
 
 /* ---- what is to be sent: the packets of the last event, or of viq_reload since, that are untaken
  *
- * Each packet is given once, in the order in which they are to leave, and none is lost but by viq_clear. A lost router,
- * and NULL, have nothing to send. */
+ * Each packet is given once, in the order in which they are to leave, and none is lost but by viq_clear. NULL has nothing
+ * to send, nor has a router that an event lost; one that viq_keep lost has what was untaken then. */
 
 /* The most bytes that a packet has. */
 #define VIQ_MOST_BYTES 1528

@@ -52,10 +52,17 @@ class Recorded(unittest.TestCase):
     def test_what_is_no_whole_record(self):
         file = self.room / "router.0"
         file.write_bytes(file.read_bytes()[:-5])
-        told = "6 records, each as it was recorded\n16 bytes are no whole record\n"
+        told = "6 records, each as it was recorded\n20 bytes are no whole record\n"
         self.assertEqual(self.run_tool(file), (1, told))
         status, listed = self.run_tool(file, "--list", "--from", "6")
-        self.assertEqual((status, listed.splitlines()[1:]), (1, ["16 bytes are no whole record"]))
+        self.assertEqual((status, listed.splitlines()[1:]), (1, ["20 bytes are no whole record"]))
+
+    def test_each_flip_is_told(self):
+        file = self.room / "router.0"
+        self.assertEqual(self.run_tool(file, "--flips", "300"), (0, "300 flips, 0 of which nothing tells\n"))
+        # One that isn't whole itself tells nothing of flips.
+        file.write_bytes(file.read_bytes()[:-1])
+        self.assertEqual(self.run_tool(file, "--flips", "1"), (1, "1 flips, 0 of which nothing tells\n"))
 
     def test_a_state_that_is_damaged(self):
         file = self.room / "router.0"
@@ -119,7 +126,7 @@ class Recorded(unittest.TestCase):
         data = path.read_bytes()
         library = load(self.shared)
         written = b"".join(recording.bytes_of(library, record) for record in changed)
-        path.write_bytes(data[:18 + len(told.state)] + written)
+        path.write_bytes(data[:22 + len(told.state)] + written)
         status, text = self.run_tool(path)
         self.assertEqual(status, 1)
         self.assertIn("record 5, frame 0 ", text)

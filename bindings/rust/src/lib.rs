@@ -1123,7 +1123,7 @@ impl Router {
 
     // ---- what is to be sent
 
-    /// How many packets are untaken; none once the router is lost.
+    /// How many packets are untaken.
     pub fn packet_count(&self) -> usize {
         // SAFETY: the router is there.
         unsafe { viq_packets(self.at()) }

@@ -70,7 +70,7 @@ pub struct Session {
 }
 
 impl Model for Session {
-    ghost use Rattle.std.specs.Prelude.{◌≡◌, IsSome, None, [], drop, false, if◌then◌else◌};
+    ghost use Rattle.std.specs.Prelude.{◌≡◌, IsSome, None, drop, false, if◌then◌else◌};
     ghost use Rattle.pim_router.specs.Standing.{nothing_shown};
     ghost use Rattle.pim_session.specs.Session.{ShownSession};
 
@@ -79,7 +79,7 @@ impl Model for Session {
     ghost view = { λ s. record {
       router = if s.is_lost then nothing_shown else s.router.value;
       front = if s.is_lost then None else s.front;
-      sent = if s.is_lost then [] else drop s.taken s.sent.items;
+      sent = drop s.taken s.sent.items;
       rows = s.rows.items;
       older_rows = s.older_rows.items;
     } };
@@ -183,7 +183,8 @@ impl Session {
             (self.new.router.disturbed ≡ event_disturbed r.state (given self.old.front r.state event.now))) }
         ensures stays { IfSome self.old.router.standing (λ r. OnOk result
             (OffersStay self.new.router.disturbed r.state (step r.state (given self.old.front r.state event.now)).state)) }
-        ensures untaken { (result ≡ Err StopValue.Untaken) ↔ IsTrue (has_untaken self.old) }
+        ensures untaken { IfSome self.old.router.standing (λ r.
+            (result ≡ Err StopValue.Untaken) ↔ IsTrue (has_untaken self.old)) }
         ensures stopped { IfErr result (λ stop. Stopped stop self.old self.new) }
         ensures silent { OnErr result (self.new.sent ≡ self.old.sent) }
         ensures failed { (result ≡ Err (StopValue.Fault Fault.Failed)) ↔ (self.old.router.standing ≡ None) }
@@ -192,10 +193,16 @@ impl Session {
             → IsTrue (is_sure self.old.front r.state event.now) → IsOk result) }
         ensures rows { (self.new.rows ≡ self.old.rows) × (self.new.older_rows ≡ self.old.older_rows) }
     {
+        if self.is_lost {
+            return Err(Stop::Fault(Fault::Failed));
+        }
         if self.has_untaken() {
             return Err(Stop::Untaken);
         }
-        Ok(self.take(alloc, event)?)
+        match self.take(alloc, event) {
+            Ok(answer) => Ok(answer),
+            Err(fault) => Err(Stop::Fault(fault)),
+        }
     }
 
     // Takes one event, and keeps its packets.
@@ -272,7 +279,8 @@ impl Session {
             ≡ event_disturbed r.state (seen_event draw iface group.bits source.bits))) }
         ensures stays { IfSome self.old.router.standing (λ r. OnOk result (OffersStay self.new.router.disturbed r.state
             (step r.state (seen_event draw iface group.bits source.bits)).state)) }
-        ensures untaken { (result ≡ Err StopValue.Untaken) ↔ IsTrue (has_untaken self.old) }
+        ensures untaken { IfSome self.old.router.standing (λ r.
+            (result ≡ Err StopValue.Untaken) ↔ IsTrue (has_untaken self.old)) }
         ensures stopped { IfErr result (λ stop. Stopped stop self.old self.new) }
         ensures front { OnOk result (self.new.front ≡ self.old.front) }
         ensures silent { OnErr result (self.new.sent ≡ self.old.sent) }
@@ -452,7 +460,7 @@ impl Session {
         Ok(())
     }
 
-    /// The packets of the last event that are untaken, in their order; none after a fault.
+    /// The packets of the last event that are untaken, in their order.
     pub fn sent(&self) -> &[Emission]
         ensures { result.now ≡ self.now.sent }
     {
@@ -466,7 +474,7 @@ impl Session {
     pub fn has_untaken(&self) -> bool
         ensures { result ≡ has_untaken self.now }
     {
-        !self.is_lost && self.taken < self.sent.len()
+        self.taken < self.sent.len()
     }
 
     /// Takes the first of the untaken packets away, if there is one.

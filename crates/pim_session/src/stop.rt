@@ -9,14 +9,3 @@ pub enum Stop {
     /// The router has failed, at this event or at an earlier one.
     Fault(Fault),
 }
-
-impl From<Fault> for Stop {
-    ghost use Rattle.std.specs.Prelude.{◌≡◌};
-    ghost use Rattle.pim_session.specs.declared.stop.Stop.{Stop};
-
-    ghost from_gives = { λ fault stop. stop ≡ Stop.Fault fault };
-
-    fn from(fault: Fault) -> Stop {
-        Stop::Fault(fault)
-    }
-}

@@ -53,7 +53,8 @@ impl Session {
         ensures rows { IfOk result (λ answer. OnOk answer ((self.new.rows ≡ []) × (self.new.older_rows ≡ []))) }
         ensures refused { IfOk result (λ answer. IfErr answer (λ refusal. (config_test config.now ≡ Err refusal)
             × (self.new ≡ self.old))) }
-        ensures untaken { (result ≡ Err StopValue.Untaken) ↔ IsTrue (has_untaken self.old) }
+        ensures untaken { IfSome self.old.router.standing (λ r.
+            (result ≡ Err StopValue.Untaken) ↔ IsTrue (has_untaken self.old)) }
         ensures stopped { IfErr result (λ stop. Stopped stop self.old self.new) }
         ensures silent { OnErr result ((self.new.sent ≡ self.old.sent) × (self.new.rows ≡ self.old.rows)
             × (self.new.older_rows ≡ self.old.older_rows)) }
