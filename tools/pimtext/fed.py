@@ -46,10 +46,11 @@ def ranges(texts: Iterable[str]) -> Iterator[tuple[str, str]]:
 
 
 def event(step: Step) -> Event | None:
-    """The event that a step of `pimtext.story` was to its router; None where the move itself was refused."""
+    """The event that a step of `pimtext.story` was to its router; None where the move itself was refused, or a guard
+    before the router stopped the packet."""
     did = step.did
     draw, kind = did.get("draw", 0), did["do"]
-    if step.verdict == "refused" and step.cause == "27":
+    if (step.verdict, step.cause) in (("refused", "27"), ("ignored", "Guarded")):
         return None
     if step.brought is not None:
         return arrival(draw, None if kind == "carry" else step.iface, step.brought.data)
