@@ -29,6 +29,9 @@ BY_FRONT_END = re.compile(r"(src/\S+?):(\d+):\d+: error\[[\w-]+\]")
 # What the prover says of a function, and of one that it doesn't try.
 PROVED = re.compile(r"fn (\S+): proved")
 WAITS = re.compile(r"fn (\S+): (?:not proved|no proof)[;:] it calls `")
+# A function that was asked for by a name that the kit doesn't give it.
+UNKNOWN = re.compile(r"has no function `([^`]+)`")
+SEVERAL = re.compile(r"several functions are named `\w+`: help: write one of (.*)")
 # The last line of a check of some functions.
 ENDED = re.compile(r"only=\d+ ")
 CONSTANT = re.compile(r"\s*(?:pub(?:\([a-z]+\))? )?const (\w+):")
@@ -118,6 +121,11 @@ def batches(edits: Iterable[Edit], most: int = 40) -> Iterator[Batch]:
         left = [edit for edit in left if edit not in taken]
 
 
+def without_block(path: str) -> str:
+    """A path without the types by which the kit tells apart the blocks of a type (`Timed+R`)."""
+    return re.sub(r"\+\w+::", "::", path)
+
+
 class Prover:
     """The kit's program on a crate, in a copy of its files. The words name what stands below it; those before them hold
     the program, where it isn't to outlive what runs it."""
@@ -140,12 +148,25 @@ class Prover:
         for file in edit.files():
             (self.folder / file).write_text(edit.edited(file), encoding="utf-8")
         status, lines = ran(words, self.folder)
+        if unknown := next(filter(None, map(UNKNOWN.search, lines)), None):
+            words = self.by_its_end(words, unknown[1])
+            status, lines = ran(words, self.folder)
         if status == -signal.SIGKILL:
             # Most likely for memory.
             status, lines = ran(words, self.folder)
         for file in edit.files():
             (self.folder / file).write_text(edit.crate.texts[file], encoding="utf-8")
         return lines
+
+    def by_its_end(self, words: list[str], name: str) -> list[str]:
+        """The command where the kit doesn't know a function by its type, which has several blocks: by its name alone,
+        or by that of the names that the kit offers for it."""
+        end = name.rpartition("::")[2]
+        shorter = [end if word == name else word for word in words]
+        for found in filter(None, map(SEVERAL.search, ran(shorter, self.folder)[1])):
+            whole = (it for it in re.findall(r"`([^`]+)`", found[1]) if without_block(it).endswith(f"::{name}"))
+            return [next(whole, end) if word == name else word for word in words]
+        return shorter
 
 
 def by_front_end(batch: Batch, lines: list[str]) -> Told:
@@ -185,13 +206,13 @@ def rank(batch: Batch, reason: Reason) -> int:
 def path_of(function: Function) -> str:
     """A function's path below its crate as a check prints it, of a method without the modules."""
     modules = [it for it in function.module if it not in ("lib", "main", "mod")]
-    owner = function.owner + function.trait + function.types
+    owner = function.owner[:1].upper() + function.owner[1:] + function.trait + function.types
     return "::".join([*([owner] if function.owner else modules), function.name])
 
 
 def in_state(batch: Batch, lines: list[str], state: re.Pattern[str]) -> set[Edit]:
     """The edits of those functions of which the prover says this."""
-    paths = [told[1] for told in map(state.match, lines) if told]
+    paths = [without_block(told[1]) for told in map(state.match, lines) if told]
     crate = batch.crate.name
     return {edit for one, edit in batch.of.items() for path in paths
             if path == f"{crate}::{path_of(one)}" or one.owner and path.endswith(f"::{path_of(one)}")}
