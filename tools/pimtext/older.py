@@ -11,6 +11,8 @@ SIZE = 8
 # The types of the records that say the same: IS_EX and TO_IN.
 RECORDS = {"IGMPv1 report": 2, "IGMPv2 report": 2, "IGMPv2 Leave": 3}
 NO_GROUP = "0.0.0.0"
+# What a query of IGMPv1, which says no response time, stands for, in tenths of a second (RFC 2236, section 4).
+IGMPV1_RESPONSE = 100
 
 
 @dataclass(frozen=True)
@@ -41,12 +43,13 @@ def older_of(data: bytes) -> Older | None:
 
 
 def read_heard(data: bytes) -> packets.Packet:
-    """A packet on a link as a router takes it that hears older hosts: a report or a Leave as the report of IGMPv3 that
-    says the same. Raises Refused.
+    """A packet on a link as a router takes it that hears older hosts and routers: a report or a Leave as the report of
+    IGMPv3 that says the same, a query as that of IGMPv3 with its response time. Raises Refused.
     """
     older = older_of(data)
-    kind = RECORDS.get(older.name) if older is not None else None
-    if older is None or kind is None:
+    if older is None:
         return packets.read_on_link(data)
-    head, _ = packets.read_header(data, packets.MOST_IN_A_FRAME)
-    return packets.Packet(**head, body=packets.Report((packets.Record(kind, older.group, ()),)))
+    head, message = packets.read_header(data, packets.MOST_IN_A_FRAME)
+    if older.name == QUERY:
+        return packets.Packet(**head, body=packets.Query(older.group, (), message[1] or IGMPV1_RESPONSE, False, 0, 0))
+    return packets.Packet(**head, body=packets.Report((packets.Record(RECORDS[older.name], older.group, ()),)))
