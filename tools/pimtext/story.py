@@ -7,6 +7,7 @@ from itertools import chain
 from typing import TYPE_CHECKING, Any, NamedTuple, TypeVar
 
 from pimtext import packets, printed
+from pimtext.older import read_heard
 
 if TYPE_CHECKING:
     from pimtext.scenario import Router, Scenario
@@ -37,7 +38,9 @@ class Sent:
 
     def packet(self) -> packets.Packet:
         """The packet read; raises packets.Refused where it is malformed."""
-        return packets.read_data(self.data) if self.kind == "copy" else packets.read(self.data)
+        if self.kind == "copy":
+            return packets.read_data(self.data)
+        return packets.read(self.data) if self.is_unicast() else read_heard(self.data)
 
 
 @dataclass
@@ -80,21 +83,26 @@ class Tables:
         return printed.rows_of(self.rows, table, **values)
 
 
+# The only option of a goodbye: a holdtime of 0 s.
+GOODBYE = bytes.fromhex("000100020000")
+
+
 class Untold(Exception):
     """The lines aren't those of the scenario."""
 
 
 def left_on(step: Step, emission: printed.Emission, before: Router, after: Router) -> int | None:
     """The interface that a packet left on. `before` is the router with the links that it had, on which it left, `after`
-    with the addresses that it has since; what a `reload` removes has those that it had. Where several of its interfaces
-    are on the link, a router's own packet has the address of its interface, and of a copy the lines don't say it: the
-    answer is the first one that the packet didn't come on."""
+    with the addresses that it has since; what a `reload` removes, and its goodbyes, have those that it had. Where
+    several of its interfaces are on the link, a router's own packet has the address of its interface, and of a copy the
+    lines don't say it: the answer is the first one that the packet didn't come on."""
     if emission.kind == "unicast":
         return None
     here = [each.number for each in before.on(emission.where)]
     if emission.kind == "frame":
         source = packets.dotted(emission.data[12:16])
-        own = [number for number in here if (after.address(number) or before.address(number)) == source]
+        now = before if emission.data.endswith(GOODBYE) else after
+        own = [number for number in here if (now.address(number) or before.address(number)) == source]
         return next(iter(own or here), None)
     return next((number for number in here if number != step.iface), next(iter(here), None))
 

@@ -177,7 +177,7 @@ class Changed(unittest.TestCase):
         played = scenario.scenario_of(toml_lines.plain(toml_lines.read(SHIFTED)))
         notes = Notes(judge, Diagnosis(judge, played, scenario.run_text(SHIFTED)).run)
         whys = [each.alone for each in notes.odd() if each.cause == "27"]
-        for number, why in zip((3, 4), whys, strict=True):
+        for number, why in zip((3, 4, 5), whys, strict=True):
             self.assertIn(f"packet {number} left interface 0 of a on the link ab, and a `reload` put that interface on "
                           "ac before the settle: it reaches nobody on ab", why)
 

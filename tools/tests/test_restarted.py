@@ -47,7 +47,7 @@ class Restarted(unittest.TestCase):
         """A router that is restored of what was saved before its last event."""
         before = {}
 
-        def stale(library, router, older, count):
+        def stale(library, router, table):
             saved = router.save()
             router.end()
             given, before["saved"] = before.get("saved", saved), saved
