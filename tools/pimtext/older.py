@@ -11,8 +11,6 @@ SIZE = 8
 # The types of the records that say the same: IS_EX and TO_IN.
 RECORDS = {"IGMPv1 report": 2, "IGMPv2 report": 2, "IGMPv2 Leave": 3}
 NO_GROUP = "0.0.0.0"
-# What a query of IGMPv1, which says no response time, stands for, in tenths of a second (RFC 2236, section 4).
-IGMPV1_RESPONSE = 100
 
 
 @dataclass(frozen=True)
@@ -51,5 +49,5 @@ def read_heard(data: bytes) -> packets.Packet:
         return packets.read_on_link(data)
     head, message = packets.read_header(data, packets.MOST_IN_A_FRAME)
     if older.name == QUERY:
-        return packets.Packet(**head, body=packets.Query(older.group, (), message[1] or IGMPV1_RESPONSE, False, 0, 0))
+        return packets.Packet(**head, body=packets.Query(older.group, (), message[1], False, 0, 0))
     return packets.Packet(**head, body=packets.Report((packets.Record(RECORDS[older.name], older.group, ()),)))

@@ -27,7 +27,8 @@ NextQueryIsNearAnew = (s : State) (c : Config) (w : ℕ) → next_query_is_near 
 
 -- ---- nothing moves
 
--- A reload with the configuration that there is changes nothing, and sends nothing.
+-- A reload with the configuration that there is changes nothing, and sends nothing, where the next general queries are
+-- near, as after any events and reloads.
 abbrev pub SameReloadChangesNothing : Type 0
 SameReloadChangesNothing = (s : State) (w : ℕ) → IsAtRest s → next_query_is_near s ≡ true
     → reload s (config_of s) w ≡ (s, [])
@@ -143,7 +144,7 @@ with_interfaces s configured = record (config_of s) { interfaces = configured }
 abbrev pub with_more : State → List InterfaceConfig → Config
 with_more s more = with_interfaces s (s.configured ++ more)
 
--- Interfaces that are appended move no fact, and nothing is sent: they are down.
+-- Interfaces that are appended move no fact, and nothing is sent: they are down. The next general queries are near.
 abbrev pub AppendedMoveNothing : Type 0
 AppendedMoveNothing = (s : State) (more : List InterfaceConfig) (w : ℕ) → IsAtRest s → next_query_is_near s ≡ true
     → AreConfigured s → AreNew s more → reload s (with_more s more) w ≡ (record s { configured = s.configured ++ more }, [])
@@ -153,7 +154,7 @@ AppendedMoveNothing = (s : State) (more : List InterfaceConfig) (w : ℕ) → Is
 abbrev pub without_delays : InterfaceConfig → InterfaceConfig
 without_delays c = record c { propagation_delay = 0; override_interval = 0 }
 
--- Other delays alone move no fact, and nothing is sent but their Hellos.
+-- Other delays alone move no fact, and nothing is sent but their Hellos. The next general queries are near.
 abbrev pub DelaysMoveNothing : Type 0
 DelaysMoveNothing = (s : State) (configured : List InterfaceConfig) (w : ℕ)
     → map without_delays configured ≡ map without_delays s.configured → IsAtRest s → next_query_is_near s ≡ true

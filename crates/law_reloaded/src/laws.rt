@@ -1,7 +1,8 @@
 //! The laws.
 ghost use Rattle.law_reloaded.specs.Laws.{AppendedMoveNothing, DelaysMoveNothing, GoodbyeReads, HellosLeaveFirst, KeptStayUp, NextQueryIsNearAnew, NoneOfRemoved, NoOtherHello, ReloadIsUnder, ReloadLeavesRest, RemovedAreDown, SameReloadChangesNothing, SettingsMoveNothing, UntoldSaysSame};
 
-/// A reload with the configuration that there is changes nothing, and sends nothing.
+/// A reload with the configuration that there is changes nothing, and sends nothing, where the next general queries are
+/// near (`next_query_is_near`), as after any events and reloads.
 pub fn same_reload_changes_nothing()
     ensures { SameReloadChangesNothing }
 {}
@@ -61,12 +62,12 @@ pub fn untold_says_same()
     ensures { UntoldSaysSame }
 {}
 
-/// Interfaces that are appended move no fact, and nothing is sent.
+/// Interfaces that are appended move no fact, and nothing is sent, where the next general queries are near.
 pub fn appended_move_nothing()
     ensures { AppendedMoveNothing }
 {}
 
-/// Other delays alone move no fact, and nothing is sent but their Hellos.
+/// Other delays alone move no fact, and nothing is sent but their Hellos, where the next general queries are near.
 pub fn delays_move_nothing()
     ensures { DelaysMoveNothing }
 {}
