@@ -1,12 +1,13 @@
 -- A router whose Hellos come in time stays a neighbour: by Refresh, the Hello timer and the neighbour's row.
-use Rattle.std.{proofs.{Common.{◌≡◌, ◌∙◌, ℕ, ◌+◌, ◌*◌, ◌<◌, ◌≤◌, ◌==◌, nat_le, Bool, true, false, List, [], ◌∷◌, ◌⊎◌, inl, inr, Option, Some, None, is_some, refl, sym, ap, subst, arith, eq-eqb}, lemmas.Bool.{both_ways, Decides.nat_tests}}}
-use Rattle.pim_types.{specs.{Keys.{iface_key, neighbour_key}, declared.{event.Event.Event, fact.InterfaceRow.InterfaceRow}}}
-use Rattle.pim_model.{specs.{declared.accepted.Accepted.Accepted, Cause.done_as, Neighbours.is_neighbour, Network.{Move, Network, Station, event_of, moved, station_at}, State.{State, is_up}, Step.step, Tables.{has_row, row_at}}}
-use Rattle.law_settled.{specs.Ready.IsSettled}
-use Rattle.law_scope.{specs.Rest.IsAtRest, proofs.Rest.step_is_at_rest}
+use Rattle.std.{proofs.{Common.{◌≡◌, ◌∙◌, ℕ, ◌+◌, ◌*◌, ◌<◌, ◌≤◌, nat_le, true, false, List, [], ◌∷◌, ◌⊎◌, inl, inr, Option, Some, None, Ok, is_some, refl, sym, ap, subst, arith}, lemmas.Bool.{Decides.nat_tests}}}
+use Rattle.pim_ip.{specs.Addr.addr}
+use Rattle.pim_types.{specs.{Keys.{iface_key}, declared.{config.{IfaceId.IfaceId, InterfaceConfig.InterfaceConfig}, event.{Event.Event, EventKind.EventKind}, fact.InterfaceRow.InterfaceRow}}}
+use Rattle.pim_wire.{specs.Hellos.hello_holdtime}
+use Rattle.pim_model.{specs.{declared.accepted.Accepted.Accepted, Cause.done_as, Full.{hello_is_full, is_full}, Judging.judged, Network.{Move, Network, Station, frame_at, moved, station_at}, State.{State, address_among, is_up}, Step.step, Tables.{has_row, row_at}}}
+use Rattle.law_scope.{specs.Rest.IsAtRest}
 use Rattle.law_promises.{specs.Copies.happens, proofs.Settings.step_configured}
-use Rattle.law_served.{proofs.{Deliveries.{IsNewOn, IsStepped}, Timed.step_keeps_timed}}
-use Rattle.law_in_time.{specs.{Adjacent.{Adjacent, HelloInTime, HellosInTime, IsKnown, IsKnownFirst, IsKnownSoon, IsKnownAfter, KnowsTo, NeighboursComeToBeKnown, NeighboursStay, Sends, begins_or_ends, hello_of, shortens}, Joins.{Always, IsBy, IsReady, time_at}, Neighbours.{HoldsNeighbour, ends_neighbour}}, proofs.{HelloTimer.{HelloBy, SendsHello, each_event_hello, is_late, moves_iface}, Neighbours.event_keeps_neighbour, Pairs.{Steps, one_router, ready_then, same_station}, Refresh.{Ever, EverAfter, comes_to_hold, Held, Keeps, Sent as SentBy, Soon, Turned, Turns, all_moves}, Upper.moves_on}}
+use Rattle.law_served.{proofs.{Deliveries.{IsNewOn, IsStepped, is_delivered}, Passes.done_if}}
+use Rattle.law_in_time.{specs.{Adjacent.{Adjacent, HelloInTime, HellosInTime, IsKnown, IsKnownFirst, IsKnownAfter, KnowsTo, NeighboursComeToBeKnown, NeighboursStay, Sends, HelloComes, HelloComesBy, begins_or_ends, shortens}, Hellos.{IsReadable, Listens, hello_of, hello_value}, Joins.{Always, IsBy, IsReady, time_at}, Neighbours.{HoldsNeighbour, ends_neighbour}}, proofs.{HelloRead.{hello_is_read, hello_is_taken, hello_keeps_time}, HelloTimer.{HelloBy, SendsHello, each_event_hello, is_late, moves_iface}, Neighbours.event_keeps_neighbour, Pairs.{Steps, frame_stays, one_router, ready_then, same_station}, Refresh.{Ever, EverAfter, comes_to_hold, Held, Keeps, Sent as SentBy, Soon, Turned, Turns, all_moves}, Upper.moves_on}}
 
 moves_same : (i : ℕ) (o : Option Accepted) → begins_or_ends i o ≡ false → moves_iface i o ≡ false
 moves_same i None e = refl
@@ -65,16 +66,75 @@ module _ (d : ℕ) (started : ℕ → ℕ) (c : Adjacent) (few : d < 37500) wher
   abbrev Outlasts : ℕ → Network → Move → Type 0
   Outlasts l n m = Unit {0}
 
-  comes_so : (q : ℕ) (ms : List Move) (n : Network) → IsKnownSoon d started c q n ms → Soon next 105000 d By Timer Holds Outlasts q n ms
-  comes_so q [] n f = tt
-  comes_so q (m ∷ ms) n f = go f (comes_so q ms (next n m))
-    where
-      go : (KnowsTo started c (q + 105000) (next n m)
-          ⊎ (IsBy started c.upper (q + d) (next n m) × IsKnownSoon d started c q (next n m) ms))
-          → (IsKnownSoon d started c q (next n m) ms → Soon next 105000 d By Timer Holds Outlasts q (next n m) ms)
-          → Soon next 105000 d By Timer Holds Outlasts q n (m ∷ ms)
-      go (inl held) later = inl (held, λ l lt. tt)
-      go (inr (by, soon)) later = inr (by, later soon)
+  module _ (cs : List InterfaceConfig) (generation number sent : ℕ) (own : address_among cs c.iface ≡ c.address) (readable : IsReadable cs c.iface) where
+    abbrev framed_at : Network → Type 0
+    framed_at n = frame_at n number ≡ Some (record { link = Some c.link; bytes = hello_of cs c.iface generation })
+
+    module _ (n : Network) (m : Move) (framed : frame_at n number ≡ Some (record { link = Some c.link; bytes = hello_of cs c.iface generation }))
+        (t : HelloComes started c number sent n m) where
+      abbrev hearer : State
+      hearer = (t.station).state
+
+      abbrev at : IfaceId
+      at = record { number = c.down }
+
+      abbrev e : Event
+      e = record { draw = t.draw; kind = EventKind.Frame at (hello_of cs c.iface generation) }
+
+      abbrev heard : Accepted
+      heard = Accepted.Hello at (addr (address_among cs c.iface)) (hello_value cs c.iface generation)
+
+      steps : IsStepped n c.upper t.station e (moved n m).1
+      steps =
+          subst (λ (k : Move). IsStepped n c.upper t.station e (moved n k).1) (sym t.is)
+          (is_delivered n c.upper t.station c.down number t.draw c.link (hello_of cs c.iface generation) t.there t.linked framed)
+
+      judged_so : judged hearer e.kind ≡ Ok heard
+      judged_so =
+          hello_is_read hearer c.down c.iface generation cs (subst (λ (a : ℕ). Listens hearer c.down a) (sym own) t.listens) readable
+
+      roomy : is_full hearer heard ≡ false
+      unfolding is_full
+      roomy = subst (λ (a : ℕ). hello_is_full hearer c.down a hello_holdtime ≡ false) (sym own) t.room
+
+      is_done : done_as (happens hearer e) ≡ Some heard
+      is_done = done_if hearer e heard judged_so roomy
+
+      held_then : HoldsNeighbour (step hearer e).state c.down c.address (hearer.present + 105000)
+      held_then =
+          subst (λ (a : ℕ). HoldsNeighbour (step hearer e).state c.down a (hearer.present + 105000)) own
+          (hello_is_taken hearer e at (addr (address_among cs c.iface)) (hello_value cs c.iface generation) is_done refl)
+
+      present_then : ((step hearer e).state).present ≡ hearer.present
+      present_then = hello_keeps_time hearer e at (addr (address_among cs c.iface)) (hello_value cs c.iface generation) is_done
+
+      more : (a b q : ℕ) → a ≤ b + q → a + 105000 ≤ b + 105000 + q
+      more a b q e = omega (arith, e)
+
+      within : (a b : ℕ) → a ≡ b → a < b + 105000
+      within a b e = omega (arith, e)
+
+      known_then : KnowsTo started c (sent + 105000) (next n m)
+      known_then = record {
+        station = record t.station { state = (step hearer e).state };
+        there = (steps).here;
+        end = hearer.present + 105000;
+        later = within ((step hearer e).state).present hearer.present present_then;
+        holds = held_then;
+        lasts = more sent hearer.present (started c.upper) t.after;
+      }
+
+    comes_so : (ms : List Move) (n : Network) → framed_at n → HelloComesBy d started c number sent n ms
+        → Soon next 105000 d By Timer Holds Outlasts sent n ms
+    comes_so [] n framed f = tt
+    comes_so (m ∷ ms) n framed f = go f (comes_so ms (next n m) (frame_stays n m number _ framed))
+      where
+        go : (HelloComes started c number sent n m
+            ⊎ (IsBy started c.upper (sent + d) (next n m) × HelloComesBy d started c number sent (next n m) ms))
+            → (HelloComesBy d started c number sent (next n m) ms → Soon next 105000 d By Timer Holds Outlasts sent (next n m) ms)
+            → Soon next 105000 d By Timer Holds Outlasts sent n (m ∷ ms)
+        go (inl t) later = inl (known_then n m framed t, λ l lt. tt)
+        go (inr (by, soon)) later = inr (by, later soon)
 
   -- ---- the sender
 
@@ -124,6 +184,18 @@ module _ (d : ℕ) (started : ℕ → ℕ) (c : Adjacent) (few : d < 37500) wher
       abbrev t : Station
       t = record st { state = (step s w.event).state }
 
+      own_then : address_among ((step s w.event).state).configured c.iface ≡ c.address
+      own_then = ap (λ (cs : List InterfaceConfig). address_among cs c.iface) (sym (step_configured s w.event).configured) ∙ here.own
+
+      readable_then : IsReadable ((step s w.event).state).configured c.iface
+      readable_then =
+          subst (λ (cs : List InterfaceConfig). IsReadable cs c.iface) (step_configured s w.event).configured here.readable
+
+      told : (generation : ℕ) → (new : IsNewOn n after c.link (hello_of ((step s w.event).state).configured c.iface generation))
+          → HelloComesBy d started c (new.on).number (time_at started c.lower t) after ms
+      told generation new =
+          in_time.hellos w.event t (new.on).number generation w.is (w.stepped).here new.later (new.on).is
+
       by_own : (generation : ℕ) → IsNewOn n after c.link (hello_of ((step s w.event).state).configured c.iface generation)
           → HelloBy c.iface (((step s w.event).state).present + 30000) (step s w.event).state → Out
       by_own generation new by =
@@ -134,8 +206,8 @@ module _ (d : ℕ) (started : ℕ → ℕ) (c : Adjacent) (few : d < 37500) wher
             rest = 30000;
             low = further sent (row.hello_end + started c.lower) soon low;
             few = short few;
-            comes = inr (comes_so sent ms after
-                (in_time.hellos w.event t (new.on).number generation w.is (w.stepped).here new.later (new.on).is));
+            comes = inr (comes_so (t.state).configured generation (new.on).number sent own_then readable_then ms after
+                (new.on).is (told generation new));
             timer = timer_at t ((t.state).present + 30000) (w.stepped).here by (sent + 30000) (swap (t.state).present (started c.lower));
           }
         where

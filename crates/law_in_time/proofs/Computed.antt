@@ -1,9 +1,9 @@
 -- What holds of each station, event and frame of a network, from what is computed of one: for whoever shows the
 -- premises of the laws for a network of their own.
-use Rattle.std.{proofs.{Common.{◌≡◌, ◌∙◌, ℕ, zero, suc, ◌+◌, ◌-◌, ◌*◌, ◌/◌, ◌<◌, ◌≤◌, ◌==◌, Bool, true, false, List, [], ◌∷◌, ◌++◌, drop, length, map, Option, Some, None, is_some, refl, sym, ap, subst, arith, length-append}, lemmas.List.length-map}, specs.{List.flat_map, Prelude.{slice_get, unwrap_or}, Option.option_map_or}}
+use Rattle.std.{proofs.{Common.{◌≡◌, ◌∙◌, ℕ, zero, suc, ◌+◌, ◌*◌, ◌/◌, ◌<◌, ◌≤◌, ◌==◌, Bool, true, false, List, [], ◌∷◌, ◌++◌, drop, length, map, Option, Some, None, is_some, refl, sym, ap, subst, arith, length-append}, lemmas.List.length-map}, specs.{List.flat_map, Prelude.{slice_get, unwrap_or}, Option.option_map_or}}
 use Rattle.pim_types.{specs.declared.{event.{Event.Event, EventKind.EventKind}, fact.JoinTimerRow.JoinTimerRow}}
 use Rattle.pim_wire.{specs.{Encoded.{group_text, pim_text, unicast_text}, JoinPrunes.{entry_text, join_prune_holdtime, join_prune_text}, declared.join_prune.{Entry.Entry, EntryKind.EntryKind}}}
-use Rattle.pim_ip.{specs.{Checksum.with_checksum, Ipv4.{header_text, pim_packet_text}}, proofs.WritingLemmas.length-with_checksum}
+use Rattle.pim_ip.{specs.{Ipv4.{header_text, pim_packet_text}}, proofs.WritingLemmas.length-with_checksum}
 use Rattle.byteorder.{specs.Endian.big_bytes}
 use Rattle.pim_model.{specs.{Cause.done_as, Messages.entry, Network.{Deliver, Move, Network, Sent, Station, event_of, frame_at, moved, station_at}, State.State, Tables.row_at}}
 use Rattle.law_promises.{specs.Copies.happens}

@@ -14,3 +14,4 @@ pub mod Neighbours
 pub mod HelloTimer
 pub mod Adjacent
 pub mod Computed
+pub mod HelloRead

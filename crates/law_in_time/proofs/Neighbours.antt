@@ -1,10 +1,10 @@
 -- Which events leave a neighbour known.
-use Rattle.std.{proofs.{Common.{◌≡◌, ◌∙◌, ℕ, ◌+◌, ◌*◌, ◌<◌, ◌≤◌, ◌==◌, nat_le, nat_lt, max, ◌&&◌, ◌||◌, not, Bool, true, false, Option, Some, None, Ok, refl, sym, ap, subst, arith, eq-eqb}, lemmas.{Bool.{both_ways, Decides.nat_tests}, Grind.common_steps}}}
-use Rattle.pim_types.{specs.{Keys.{iface_in, is_on, neighbour_key, same_key, source_in}, declared.{event.Event.Event, fact.{Key.Key, NeighbourRow.NeighbourRow}}}, proofs.Keys.{equal_keys, same_key_same}}
+use Rattle.std.{proofs.{Common.{◌≡◌, ◌∙◌, ℕ, ◌+◌, ◌*◌, ◌<◌, ◌==◌, nat_le, nat_lt, max, ◌&&◌, ◌||◌, Bool, true, false, Option, Some, Ok, refl, sym, ap, subst, arith, eq-eqb}, lemmas.{Bool.{Decides.nat_tests}}}}
+use Rattle.pim_types.{specs.{Keys.{iface_in, is_on, neighbour_key, same_key, source_in}, declared.{fact.{Key.Key, NeighbourRow.NeighbourRow}}}, proofs.Keys.{equal_keys}}
 use Rattle.pim_wire.{specs.{Values.{Encapsulated, Null}, declared.hello.Hello.Hello as HelloValue}}
-use Rattle.pim_model.{specs.{declared.accepted.Accepted.Accepted, Cause.{done_as, if_done}, Downstream.{holdtime_end_from, keys_taken, to_me}, Forwarding.source_here, Hellos.{hello_holdtime_of, hello_received, hello_triggered, neighbour_replaced, neighbour_restarted, neighbours_replaced, row_of_hello}, Judging.{Judged, judged}, Querier.{querier_up, querying}, Registers.{register_stop_seen, settle_register, with_keepalive}, State.State, Step.{advanced, change, concluded, done, iface_down, iface_up, rps_replaced, step, taken, taken_unless_full}, Tables.{Table, drop_where, later_end, put, row_at, set_row}}}
+use Rattle.pim_model.{specs.{declared.accepted.Accepted.Accepted, Cause.{done_as, if_done}, Downstream.{holdtime_end_from}, Forwarding.source_here, Hellos.{hello_holdtime_of, hello_received, hello_triggered, neighbour_replaced, neighbour_restarted, neighbours_replaced}, Judging.{Judged, judged}, Querier.{querier_up, querying}, Registers.{register_stop_seen, settle_register, with_keepalive}, State.State, Step.{advanced, change, concluded, done, iface_down, iface_up, rps_replaced, step, taken, taken_unless_full}, Tables.{Table, later_end, put, row_at, set_row}}}
 use Rattle.law_settled.{proofs.{RowLaws.{row_drop_away, row_kept, row_put, row_put_away}, UnchangedLaws.{full_or_taken, taken_done}, SettledStates.settled_is_lawful, Unsettled.{Unsettled, settling_leaves}}, specs.Ready.IsSettled}
-use Rattle.law_promises.{specs.Copies.happens, proofs.Lasting.{Lasting, Still, Whole, Beside, assert_whole, lasting, still, whole, data_whole, query_lasting, register_whole, report_lasting, seen_beside, to_me_whole}}
+use Rattle.law_promises.{proofs.Lasting.{Lasting, Whole, Beside, assert_whole, lasting, still, whole, data_whole, query_lasting, register_whole, report_lasting, seen_beside, to_me_whole}}
 use Rattle.law_served.{proofs.{Climbs.swapped, Taken.apart_keys}}
 use Rattle.law_in_time.{specs.Neighbours.{EventKeepsNeighbour, HoldsNeighbour, ends_neighbour}, proofs.NeighbourLasts.time_keeps}
 
@@ -19,12 +19,12 @@ module _ (i address : ℕ) where
     held_so : (s t : State) → row_at t.neighbours key ≡ row_at s.neighbours key → Held s → Held t
     held_so s t same f = record { row = f.row; found = same ∙ f.found; lasts = f.lasts }
 
-    held_by : (s t : State) → t.neighbours ≡ s.neighbours → Held s → Held t
+    pub held_by : (s t : State) → t.neighbours ≡ s.neighbours → Held s → Held t
     held_by s t same f = held_so s t (ap (λ (d : Table NeighbourRow). row_at d key) same) f
 
     -- ---- a Hello
 
-    hello_rows : (s : State) (j from : ℕ) (h : HelloValue) (w : ℕ)
+    pub hello_rows : (s : State) (j from : ℕ) (h : HelloValue) (w : ℕ)
         → (hello_received s j from h w).neighbours ≡ neighbours_replaced s.present j from h s.neighbours
     unfolding hello_received neighbour_replaced hello_triggered neighbour_restarted
     hello_rows s j from h w = grind arith
@@ -33,7 +33,7 @@ module _ (i address : ℕ) where
     unfolding holdtime_end_from
     long_end p n e = grind (arith, nat_tests, e)
 
-    own_hello : (s : State) (h : HelloValue) (t : State) → t.neighbours ≡ neighbours_replaced s.present i address h s.neighbours
+    pub own_hello : (s : State) (h : HelloValue) (t : State) → t.neighbours ≡ neighbours_replaced s.present i address h s.neighbours
         → (hello_holdtime_of h == 0) ≡ false → nat_lt (s.present + 1000 * hello_holdtime_of h) end ≡ false → Held t
     unfolding neighbours_replaced set_row
     own_hello s h t is some long =

@@ -1,8 +1,8 @@
 -- Of two routers that know each other at most one is the DR.
-use Rattle.std.{proofs.{Common.{◌≡◌, ◌∙◌, ℕ, ◌+◌, ◌<◌, ◌≤◌, ◌==◌, nat_lt, ◌&&◌, ◌||◌, not, Bool, true, false, cond, List, [], ◌∷◌, ◌⊎◌, inl, inr, filter, Option, Some, None, refl, sym, ap, subst, arith, eq-eqb, if◌then◌else◌}, lemmas.{Bool.{both_ways, Decides.nat_tests}, Grind.common_steps}}, specs.{List.{AllByRecursion, list_any}, Prelude.unwrap_or}}
-use Rattle.pim_types.{specs.{Keys.{is_on, neighbour_key, same_key, source_in}, declared.fact.{Key.Key, NeighbourRow.NeighbourRow}}, proofs.Keys.{equal_keys, same_key_same}}
+use Rattle.std.{proofs.{Common.{◌≡◌, ◌∙◌, ℕ, ◌==◌, nat_lt, ◌&&◌, ◌||◌, not, Bool, true, false, cond, List, [], ◌∷◌, ◌⊎◌, inl, inr, filter, Option, Some, refl, sym, ap, subst, arith, eq-eqb, if◌then◌else◌}, lemmas.{Bool.{Decides.nat_tests}}}, specs.{List.{AllByRecursion, list_any}, Prelude.unwrap_or}}
+use Rattle.pim_types.{specs.{Keys.{is_on, neighbour_key, same_key, source_in}, declared.fact.{Key.Key, NeighbourRow.NeighbourRow}}, proofs.Keys.{equal_keys}}
 use Rattle.pim_model.{specs.{Neighbours.{all_have_priority, is_better_dr, is_dr, is_dr_among, neighbours_on}, State.{State, my_address, my_priority}, Tables.{Table, row_at, rows_on}}}
-use Rattle.law_in_time.{specs.OneDr.{Among, AtLeastOneDr, AtMostOneDr, HasDr, IsOf, KnowEachOther, Knows, KnowsOnly, Seat}}
+use Rattle.law_in_time.{specs.OneDr.{Among, AtLeastOneDr, AtMostOneDr, IsOf, Knows, KnowsOnly, Seat}}
 
 own_on : (i a : ℕ) → is_on i (neighbour_key i a) ≡ true
 own_on i a = eq-eqb i i refl

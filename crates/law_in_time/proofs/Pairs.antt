@@ -1,5 +1,5 @@
 -- Two routers on a link, move after move: the next hop holds what is joined, whoever's Joins refresh it.
-use Rattle.std.{proofs.{Common.{◌≡◌, ◌∙◌, ℕ, ◌+◌, ◌*◌, ◌<◌, ◌≤◌, ◌==◌, nat_le, Bool, true, false, List, [], ◌∷◌, ◌⊎◌, inl, inr, length, Option, Some, None, is_some, refl, sym, ap, subst, arith}, lemmas.{Bool.Decides.nat_tests, Grind.common_steps}}}
+use Rattle.std.{proofs.{Common.{◌≡◌, ◌∙◌, ℕ, ◌+◌, ◌*◌, ◌<◌, ◌≤◌, ◌==◌, nat_le, Bool, true, false, List, [], ◌∷◌, ◌⊎◌, inl, inr, Option, Some, None, is_some, refl, sym, ap, subst, arith}, lemmas.{Bool.Decides.nat_tests, Grind.common_steps}}}
 use Rattle.pim_types.{specs.declared.{event.Event.Event, fact.JoinTimerRow.JoinTimerRow}}
 use Rattle.pim_model.{specs.{Cause.done_as, Network.{Move, Network, Sent, Station, event_of, frame_at, moved, moved_at, network_ran, station_at, stepped}, State.{State, iface_count, is_up}, Step.step, Tables.{has_row, row_at}}}
 use Rattle.law_scope.{specs.Rest.IsAtRest, proofs.Rest.step_is_at_rest}
@@ -57,7 +57,7 @@ module _ (n : Network) (m : Move) (r : ℕ) (st : Station) (at : station_at n r 
   pub one_router : Either
   one_router = by_event (event_of n m) refl
 
-frame_stays : (n : Network) (m : Move) (k : ℕ) (f : Sent) → frame_at n k ≡ Some f → frame_at (moved n m).1 k ≡ Some f
+pub frame_stays : (n : Network) (m : Move) (k : ℕ) (f : Sent) → frame_at n k ≡ Some f → frame_at (moved n m).1 k ≡ Some f
 unfolding network_ran
 frame_stays n m k f there = frames_stay n (m ∷ []) k f there
 

@@ -1,11 +1,10 @@
 -- No event's own change has the Join timer of what is joined end later than 84 s from its present, or than before.
-use Rattle.std.{proofs.{Common.{◌≡◌, ◌∙◌, ℕ, ◌+◌, ◌*◌, ◌≤◌, max, ◌==◌, nat_lt, ◌&&◌, ◌||◌, not, min, Bool, true, false, cond, List, [], ◌∷◌, filter, fold, map, Option, Some, None, refl, sym, ap, subst, arith}, lemmas.{Bool.Decides.nat_tests, Nat.mod_below}}}
-use Rattle.pim_types.{specs.{Keys.{group_in, rpt_key, same_key, source_in, source_key, star_key}, declared.{config.IfaceId.IfaceId, fact.{JoinTimerRow.JoinTimerRow, Key.Key}, path.Hop.Hop}}, proofs.Keys.{equal_keys, same_key_same}}
-use Rattle.pim_wire.{specs.{Values.{Encapsulated, JoinPrune, Null}, declared.{hello.Hello.Hello as HelloValue, join_prune.EntryKind.EntryKind}}}
-use Rattle.pim_model.{specs.{declared.accepted.Accepted.Accepted, Asserts.assert_received, Desires.{rpf_source, rpf_star}, Downstream.{Named, accepted_joins, accepted_prunes, is_named, joined_keys, key_by, keys_taken, named_key, to_me}, Forwarding.source_here, Hellos.{hello_received, hello_triggered, neighbour_replaced, neighbour_restarted}, Neighbours.{is_neighbour, t_suppressed, t_suppressed_among}, Querier.{querier_up, query_seen, querying, report_seen}, Registers.{register_stop_seen, settle_register, with_keepalive}, Seen.{cancel_override_timer, is_star_entry, is_unpruned_towards, join_seen, lower_join_timer, lower_override_timer, lowered_row, override_end, lower_source_timer, lower_star_timer, lower_tree_timer, prune_seen, raise_join_timer, raised_row, seen, sources_joined_towards, suppressed_end}, State.State, Step.{change, iface_down, iface_up, rps_replaced}, Tables.{Table, delay_in, hop_at, row_at, same_hop}}}
+use Rattle.std.{proofs.{Common.{◌≡◌, ℕ, ◌+◌, ◌*◌, ◌≤◌, max, nat_lt, not, min, false, cond, filter, Option, Some, None, refl, subst, arith}, lemmas.{Bool.Decides.nat_tests, Nat.mod_below}}}
+use Rattle.pim_types.{specs.{Keys.{rpt_key, source_key, star_key}, declared.{fact.{JoinTimerRow.JoinTimerRow, Key.Key}, path.Hop.Hop}}, proofs.Keys.{equal_keys}}
+use Rattle.pim_wire.{specs.{Values.{JoinPrune}, declared.{join_prune.EntryKind.EntryKind}}}
+use Rattle.pim_model.{specs.{declared.accepted.Accepted.Accepted, Desires.{rpf_source, rpf_star}, Downstream.{Named, accepted_joins, accepted_prunes}, Neighbours.{t_suppressed, t_suppressed_among}, Seen.{cancel_override_timer, is_star_entry, is_unpruned_towards, join_seen, prune_seen, raise_join_timer, raised_row, seen, suppressed_end}, State.State, Step.{change}, Tables.{delay_in, hop_at, row_at, same_hop}}}
 use Rattle.law_settled.{proofs.{ListLaws.by_cond, TurnLaws.kept_by_fold}}
-use Rattle.law_promises.{proofs.Lasting.{Lasting, Whole, assert_whole, lasting, whole, data_whole, query_lasting, register_whole, report_lasting}}
-use Rattle.law_stream.{proofs.{Rows.set_good, Tests.neither}}
+use Rattle.law_stream.{proofs.{Rows.set_good}}
 use Rattle.law_in_time.{specs.Joins.{Join, join_key}, proofs.{Changes.{cancelled_by, prune_by, unless_seen}, Timers.{EndsBy, is_after}}}
 
 -- ---- how long a suppression takes at most

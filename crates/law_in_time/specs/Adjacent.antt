@@ -1,11 +1,10 @@
 -- Neighbours in time: a router whose Hellos come to another within d is its neighbour without end.
 use Rattle.std.{specs.Prelude.{Bool, List, Option, Some, [], false, length, nat_lt, slice_get, true, ℕ, ◌&&◌, ◌*◌, ◌+◌, ◌<◌, ◌==◌, ◌||◌, ◌∷◌, ◌≡◌, ◌≤◌, ◌⊎◌}}
-use Rattle.pim_ip.{specs.Ipv4.{all_pim_routers, pim_packet_text}}
-use Rattle.pim_types.{specs.{Keys.iface_key, declared.{config.InterfaceConfig.InterfaceConfig, event.Event.Event, fact.InterfaceRow.InterfaceRow}}}
-use Rattle.pim_wire.{specs.Hellos.hello_text}
-use Rattle.pim_model.{specs.{declared.accepted.Accepted.Accepted, Cause.done_as, Hellos.hello_holdtime_of, Neighbours.is_neighbour, Network.{Move, Network, Station, event_of, frame_at, moved, station_at}, State.{State, address_among, is_up, value_among}, Tables.row_at}}
+use Rattle.pim_types.{specs.{Keys.iface_key, declared.{event.Event.Event, fact.InterfaceRow.InterfaceRow}}}
+use Rattle.pim_wire.{specs.Hellos.hello_holdtime}
+use Rattle.pim_model.{specs.{declared.accepted.Accepted.Accepted, Cause.done_as, Full.hello_is_full, Hellos.hello_holdtime_of, Neighbours.is_neighbour, Network.{Deliver, Move, Network, Station, event_of, frame_at, moved, station_at}, State.{State, address_among, is_up}, Tables.row_at}}
 use Rattle.law_promises.{specs.Copies.happens}
-use Rattle.law_in_time.{specs.{Joins.{Always, IsBy, IsReady, time_at}, Neighbours.HoldsNeighbour}}
+use Rattle.law_in_time.{specs.{Hellos.{IsReadable, Listens, hello_of}, Joins.{Always, IsBy, IsReady, time_at}, Neighbours.HoldsNeighbour}}
 
 -- two routers on a link: one sends Hellos, the other hears them
 pub record Adjacent : Type 0 where
@@ -17,19 +16,14 @@ pub record Adjacent : Type 0 where
   -- the sender's address there
   pub address : ℕ
 
--- the bytes of a Hello of an interface
-abbrev pub hello_of : List InterfaceConfig → ℕ → ℕ → List ℕ
-hello_of cs i generation =
-    pim_packet_text 1 (address_among cs i) all_pim_routers
-    (hello_text (value_among (λ c. c.propagation_delay) cs i) (value_among (λ c. c.override_interval) cs i)
-    (value_among (λ c. c.priority) cs i) generation)
-
--- the sender's interface is up, on the link
+-- the sender's interface is up, on the link, with its address, and its Hellos can be read
 pub record Sends (c : Adjacent) (n : Network) : Type 0 where
   pub station : Station
   pub there : station_at n c.lower ≡ Some station
   pub up : is_up station.state c.iface ≡ true
   pub linked : slice_get station.links c.iface ≡ Some c.link
+  pub own : address_among (station.state).configured c.iface ≡ c.address
+  pub readable : IsReadable (station.state).configured c.iface
 
 -- the receiver knows it beyond its present time, and until a timestamp at least
 pub record KnowsTo (started : ℕ → ℕ) (c : Adjacent) (limit : ℕ) (n : Network) : Type 0 where
@@ -40,12 +34,24 @@ pub record KnowsTo (started : ℕ → ℕ) (c : Adjacent) (limit : ℕ) (n : Net
   pub holds : HoldsNeighbour station.state c.down c.address end
   pub lasts : limit ≤ end + started c.upper
 
--- before the receiver's time is past d after a Hello was sent, it knows the sender until 105 s after that
-abbrev pub IsKnownSoon : (d : ℕ) → (ℕ → ℕ) → Adjacent → (sent : ℕ) → Network → List Move → Type 0
-IsKnownSoon d started c sent n [] = Unit {0}
-IsKnownSoon d started c sent n (m ∷ ms) =
-    KnowsTo started c (sent + 105000) (moved n m).1
-    ⊎ (IsBy started c.upper (sent + d) (moved n m).1 × IsKnownSoon d started c sent (moved n m).1 ms)
+-- the move delivers the frame of a number to the receiver, no sooner than it was sent; the receiver listens on the link,
+-- and there is room for a neighbour
+pub record HelloComes (started : ℕ → ℕ) (c : Adjacent) (number sent : ℕ) (n : Network) (m : Move) : Type 0 where
+  pub draw : ℕ
+  pub is : m ≡ Deliver c.upper c.down number draw
+  pub station : Station
+  pub there : station_at n c.upper ≡ Some station
+  pub linked : slice_get station.links c.down ≡ Some c.link
+  pub listens : Listens station.state c.down c.address
+  pub room : hello_is_full station.state c.down c.address hello_holdtime ≡ false
+  pub after : sent ≤ time_at started c.upper station
+
+-- the frame is delivered before the receiver's time is past d after it was sent, if the moves go so far
+abbrev pub HelloComesBy : (d : ℕ) → (ℕ → ℕ) → Adjacent → (number sent : ℕ) → Network → List Move → Type 0
+HelloComesBy d started c number sent n [] = Unit {0}
+HelloComesBy d started c number sent n (m ∷ ms) =
+    HelloComes started c number sent n m
+    ⊎ (IsBy started c.upper (sent + d) (moved n m).1 × HelloComesBy d started c number sent (moved n m).1 ms)
 
 -- an event that begins or ends the interface
 abbrev pub begins_or_ends : ℕ → Option Accepted → Bool
@@ -66,11 +72,11 @@ pub record HelloInTime (d : ℕ) (started : ℕ → ℕ) (c : Adjacent) (n : Net
       → row_at (st.state).interfaces (iface_key c.iface) ≡ Some row
       → IsBy started c.lower (row.hello_end + started c.lower + d) (moved n m).1
       × IsBy started c.upper (row.hello_end + started c.lower + d) (moved n m).1
-  -- each Hello that is sent is known to the receiver within d
+  -- each Hello that is sent comes to the receiver within d
   pub hellos : (e : Event) (st : Station) (number generation : ℕ) → event_of n m ≡ Some (c.lower, e)
       → station_at (moved n m).1 c.lower ≡ Some st → length n.frames < number
       → frame_at (moved n m).1 number ≡ Some (record { link = Some c.link; bytes = hello_of (st.state).configured c.iface generation })
-      → IsKnownSoon d started c (time_at started c.lower st) (moved n m).1 ms
+      → HelloComesBy d started c number (time_at started c.lower st) (moved n m).1 ms
   -- neither interface begins or ends, and no Hello ends sooner than the one before
   pub sender_stays : (e : Event) (st : Station) → event_of n m ≡ Some (c.lower, e) → station_at n c.lower ≡ Some st
       → begins_or_ends c.iface (done_as (happens st.state e)) ≡ false

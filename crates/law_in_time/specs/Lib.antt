@@ -3,3 +3,4 @@ pub mod Streams
 pub mod Neighbours
 pub mod Adjacent
 pub mod OneDr
+pub mod Hellos

@@ -2,6 +2,7 @@
 //! a function with nothing to do.
 
 ghost use Rattle.law_in_time.specs.Adjacent.{NeighboursComeToBeKnown, NeighboursStay};
+ghost use Rattle.law_in_time.specs.Hellos.{HelloIsRead};
 ghost use Rattle.law_in_time.specs.Joins.{JoinsAreShared, JoinsComeToBeHeld, WayStaysJoined};
 ghost use Rattle.law_in_time.specs.Neighbours.{EventKeepsNeighbour};
 ghost use Rattle.law_in_time.specs.OneDr.{AtLeastOneDr, AtMostOneDr};
@@ -56,11 +57,18 @@ pub fn event_keeps_neighbour()
     ensures { EventKeepsNeighbour }
 {}
 
-/// A router whose Hellos come to another in time is its neighbour without end. Its interface is up on a link, its Hello
-/// timer is at most d late by its own time and the receiver's, and the receiver knows it until 105 s after each Hello
-/// before its own time is more than d beyond the Hello. Here d is below 37.5 s, half of what the holdtime (105 s) is
-/// beyond the period (30 s). Neither interface begins or ends, no Hello of that address ends sooner than the one
-/// before, and to begin with the receiver knows it until later than 2 d after its next Hello.
+/// The bytes of a Hello that a router sends are read as exactly that Hello by each router of the link that listens.
+pub fn hello_is_read()
+    ensures { HelloIsRead }
+{}
+
+/// A router whose Hellos come to another in time is its neighbour without end. Its interface is up on a link, and its
+/// Hello timer is at most d late by its own time and the receiver's. Each of its Hellos is delivered to the receiver
+/// there, no sooner than it was sent, and while the receiver's time is at most d beyond that; then the receiver's
+/// interface is up, the address isn't the receiver's own, and there is room for a neighbour. Here d is below 37.5 s,
+/// half of what the holdtime (105 s) is beyond the period (30 s). Neither interface begins or ends, no Hello of that
+/// address ends sooner than the one before, and to begin with the receiver knows it until later than 2 d after its next
+/// Hello.
 pub fn neighbours_stay()
     ensures { NeighboursStay }
 {}

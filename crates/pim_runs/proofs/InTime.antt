@@ -1,15 +1,13 @@
 -- The premises, computed.
-use Rattle.std.{proofs.{Common.{◌≡◌, ◌∙◌, ℕ, suc, ◌+◌, ◌*◌, ◌<◌, ◌≤◌, ◌==◌, ◌⊎◌, inl, inr, Bool, true, false, List, [], ◌∷◌, drop, length, map, Option, Some, None, Ok, refl, sym, ap, subst, lit≤, lit<}, lemmas.List.Elements.All-nil}, specs.{List.list_any, Prelude.unwrap_or}}
+use Rattle.std.{proofs.{Common.{◌≡◌, suc, ◌+◌, ◌*◌, ◌<◌, ◌≤◌, inl, inr, false, [], ◌∷◌, drop, length, Some, None, Ok, refl, lit≤, lit<}, lemmas.List.Elements.All-nil}}
 use Rattle.pim_types.{specs.declared.{event.Event.Event, fact.JoinTimerRow.JoinTimerRow}}
-use Rattle.pim_wire.{specs.declared.join_prune.{Entry.Entry, EntryKind.EntryKind}}
-use Rattle.law_promises.{specs.Copies.happens}
-use Rattle.pim_model.{specs.{declared.accepted.Accepted.Accepted, Cause.done_as, Full.is_full, Limits.config_test, Messages.entry, Network.{At, Deliver, Move, Network, Sent, Station, event_of, frame_at, moved, network_ran, station_at}, Sets.prunes, State.{State, opening}, Step.state_after, Tables.row_at}}
-use Rattle.law_scope.{specs.Rest.IsAtRest, proofs.Rest.{opening_is_at_rest, run_is_at_rest}}
-use Rattle.law_served.{specs.{Joins.{IsWritable, join_packet, join_value}, Timed.AreTimed}, proofs.Timed.run_is_timed}
+use Rattle.pim_model.{specs.{declared.accepted.Accepted.Accepted, Full.is_full, Limits.config_test, Network.{At, Deliver, Move, Network, Station, event_of, moved, station_at}, Sets.prunes, State.{opening}}}
+use Rattle.law_scope.{proofs.Rest.{opening_is_at_rest, run_is_at_rest}}
+use Rattle.law_served.{specs.{Joins.{IsWritable, join_packet, join_value}}, proofs.Timed.run_is_timed}
 use Rattle.law_settled.{specs.Ready.IsSettled, proofs.Steps.run_is_settled}
 use Rattle.law_stream.{specs.Passing.{Passes, Receiver, Tree, has_moved, is_lost, takes_effect}}
-use Rattle.law_in_time.{specs.{Joins.{Always, AreInTime, AreThere, ComesBy, ComesToBoth, IsBy, IsCovered, IsInTime, IsJoin, IsReady, Join, Wants, entry_of, frame_of, is_suppressed, join_key, most_late, prunes_it, prunes_of, time_at}, Streams.{IsPassing, NoneEndsOtherwise, ends_otherwise}}, proofs.{Computed.{at_another, event_in, joins_told, none_pruned, none_shared, stand, stands_there, timely, with_event, with_station, with_timer}, Pairs.joins_are_shared, Streams.joins_keep_stream}}
-use Rattle.pim_runs.{proofs.OnLiterals.machine_on_literals, specs.{Words.advance, ServedChain.{asked_group, first, root, second, sender, station}, InTime.{JoinStaysHeld, JoinsAreInTime, StreamGoesOn, both, first_events, joined, late, pair, repeats, second_events, started}}}
+use Rattle.law_in_time.{specs.{Joins.{Always, AreThere, ComesBy, IsCovered, IsInTime, IsJoin, IsReady, Wants, entry_of, frame_of, prunes_of, time_at}, Streams.{IsPassing, NoneEndsOtherwise, ends_otherwise}}, proofs.{Computed.{at_another, event_in, joins_told, none_pruned, none_shared, stand, stands_there, timely, with_event, with_station, with_timer}, Pairs.joins_are_shared, Streams.joins_keep_stream}}
+use Rattle.pim_runs.{proofs.OnLiterals.machine_on_literals, specs.{Words.advance, ServedChain.{asked_group, first, second, sender, station}, InTime.{JoinStaysHeld, JoinsAreInTime, StreamGoesOn, both, first_events, joined, late, pair, repeats, second_events, started}}}
 
 abbrev nowhere : Station
 nowhere = record { links = []; state = opening first }
@@ -41,7 +39,7 @@ accepted_first : config_test first ≡ Ok tt
 unfolding machine_on_literals
 accepted_first = refl
 
-accepted_second : config_test second ≡ Ok tt
+pub accepted_second : config_test second ≡ Ok tt
 unfolding machine_on_literals
 accepted_second = refl
 

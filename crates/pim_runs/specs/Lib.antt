@@ -27,3 +27,4 @@ pub mod Plane
 pub mod Registered
 pub mod WayInTime
 pub mod SourceChain
+pub mod HellosInTime

@@ -1,5 +1,5 @@
 -- Three routers of the chain, of which the first and the second repeat their Joins in time.
-use Rattle.std.{specs.Prelude.{List, [], ℕ, ◌++◌, ◌∷◌}}
+use Rattle.std.{specs.Prelude.{List, [], ◌++◌, ◌∷◌}}
 use Rattle.pim_types.{specs.declared.event.Event.Event}
 use Rattle.pim_wire.{specs.declared.join_prune.EntryKind.EntryKind}
 use Rattle.pim_model.{specs.{Messages.entry, Network.{At, Deliver, Move, Network}, Tables.hop_at}}

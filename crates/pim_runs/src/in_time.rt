@@ -1,4 +1,5 @@
-//! A network that meets the premises of the laws of Joins in time, computed by the kernel.
+//! A network that meets the premises of the laws of Joins and Hellos in time, computed by the kernel.
+ghost use Rattle.pim_runs.specs.HellosInTime.{HellosAreInTime, NeighbourStays, OneIsDr};
 ghost use Rattle.pim_runs.specs.InTime.{JoinStaysHeld, JoinsAreInTime, StreamGoesOn};
 ghost use Rattle.pim_runs.specs.WayInTime.{WayIsInTime, WayStaysHeld};
 
@@ -25,4 +26,19 @@ pub fn way_is_in_time()
 /// So each router above holds the group all the while.
 pub fn way_stays_held()
     ensures { WayStaysHeld }
+{}
+
+/// The Hello of a router of the chain comes to the next in time, move after move.
+pub fn hellos_are_in_time()
+    ensures { HellosAreInTime }
+{}
+
+/// So the next has it as a neighbour all the while.
+pub fn neighbour_stays()
+    ensures { NeighbourStays }
+{}
+
+/// The two know each other alone, so that one of them is the DR of their link.
+pub fn one_is_dr()
+    ensures { OneIsDr }
 {}
