@@ -21,15 +21,21 @@ from typing import TYPE_CHECKING
 
 from pimtext.diagnosis import Diagnosis
 from viqeshor import lab
-from viqeshor.lab import *  # noqa: F403
+from viqeshor.lab import (
+    NEVER, Active, AssertState, Downstream, GroupRecord, Link, Mistake, Neighbour, OlderHosts, Port, Received, Router,
+    SharedTree, SourceRecord, Table, Tree, Upstream,
+)
 from viqeshor.lab.faults import LateJudge
 from viqeshor.lab.lines import Lines
-from viqeshor.lab.mistakes import Mistake, group_given, source_given
+from viqeshor.lab.mistakes import group_given, source_given
 
 if TYPE_CHECKING:
     from pimtext.streams import Stream
 
-__all__ = [*lab.__all__, "Served"]
+__all__ = [
+    "NEVER", "Active", "AssertState", "Downstream", "GroupRecord", "Host", "Link", "Mistake", "Neighbour", "Network",
+    "OlderHosts", "Port", "Received", "Router", "Served", "SharedTree", "SourceRecord", "Table", "Tree", "Upstream",
+]
 
 
 @dataclass(frozen=True)

@@ -1,4 +1,4 @@
-"""The guard before a router of a scenario: it stops IGMP and PIM that would be forwarded as data (docs/SCENARIOS.md)."""
+"""The guard before a router of a scenario: it stops IGMP and PIM that would be forwarded as data."""
 from __future__ import annotations
 
 from typing import TYPE_CHECKING, Any

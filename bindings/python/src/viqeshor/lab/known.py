@@ -1,6 +1,6 @@
 """What a router of a run knows: the rows that were printed, and what the router itself says of its trees.
 
-The macros of RFC 7761 are asked of a router of the library, which takes what the router of the run took (pimtext.twin).
+The macros of RFC 7761 are asked of a router of the library, which takes what the router of the run took (`twin`).
 """
 from __future__ import annotations
 

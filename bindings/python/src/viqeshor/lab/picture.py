@@ -79,7 +79,8 @@ class Picture:
         arrows = [(tree, *pair) for tree in trees for pair in ((one, other), (other, one))
                   if self.carries(tree, *pair, link)]
         if not arrows:
-            yield f'<line class="line{" off" * (not self.is_up(one, other, link))}" {between(*ends, 0, is_short=False)}/>'
+            off = "" if self.is_up(one, other, link) else " off"
+            yield f'<line class="line{off}" {between(*ends, 0, is_short=False)}/>'
         for at, (tree, tail, head) in enumerate(arrows):
             shift = APART * (at - (len(arrows) - 1) / 2) * (1 if tail == one else -1)
             shade = shades[tree.group, tree.source]
@@ -128,7 +129,8 @@ class Picture:
         foot = max(ys) + HALF[1] + MARGIN
         high = foot - top + LEGEND * (len(trees) + 1)
         parts = [f'<svg xmlns="http://www.w3.org/2000/svg" viewBox="{left:g} {top:g} {wide:g} {high:g}" '
-                 f'width="{wide:g}" height="{high:g}"><style>{STYLE}</style>', *map(arrowhead, sorted(set(shades.values())))]
+                 f'width="{wide:g}" height="{high:g}"><style>{STYLE}</style>']
+        parts += map(arrowhead, sorted(set(shades.values())))
         for one, other, name in self.edges:
             parts += self.line(one, other, name, trees, shades)
         for node in self.places:

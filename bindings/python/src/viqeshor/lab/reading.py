@@ -1,4 +1,4 @@
-"""Networks of scenario files: their routers, links and hosts, and their moves, which are played as the file has them."""
+"""Networks of scenario files: their routers, links and hosts, and their moves, played as the file has them."""
 from __future__ import annotations
 
 from collections import deque
@@ -160,8 +160,8 @@ class Script:
         message = wishes.igmp_of(step.taken())
         older = wishes.older_wish(message)
         host.igmp = wishes.OLDER[message[0]] if older else 3
-        told = [older] if older else [(each.group, wishes.after(host.wish(each.group), each)) for each in report.records]
-        for group, wish in told:
+        for record in report.records:
+            group, wish = older or (record.group, wishes.after(host.wish(record.group), record))
             host.wishes[group] = wish
             if wish == NOTHING:
                 del host.wishes[group]

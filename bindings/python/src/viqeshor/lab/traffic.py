@@ -12,9 +12,9 @@ from collections.abc import Sequence
 from dataclasses import dataclass, field
 from typing import TYPE_CHECKING, Any
 
+from viqeshor.lab import story
 from viqeshor.lab.playing import Action, Batch
 from viqeshor.lab.topology import ways
-from viqeshor.lab import story
 
 if TYPE_CHECKING:
     from viqeshor.lab.network import Network
