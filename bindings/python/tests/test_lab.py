@@ -130,7 +130,13 @@ class Shown(unittest.TestCase):
 
     def test_a_network_that_has_not_run(self):
         self.assertEqual(len(self.parts(Network()._repr_svg_(), "box")), 0)
-        self.assertEqual(repr(Network()), "at 0.000 s: 0 routers, 0 hosts")
+        self.assertEqual(repr(Network()), "<network of 0 routers and 0 hosts at 0.000 s>")
+
+    def test_its_links_as_a_text(self):
+        self.net.links["r2-r3"].down()
+        lines = ["r1-r2 10.0.1.0/24: r1 10.0.1.1, r2 10.0.1.2", "r2-r3 10.0.2.0/24: r2 10.0.2.1 down, r3 10.0.2.2 down"]
+        self.assertEqual(str(self.net).splitlines()[:2], lines)
+        self.assertIn("viewer 10.0.4.0/24: r2 10.0.4.1, host viewer 10.0.4.101", str(self.net).splitlines())
 
     def test_a_table_of_all_routers(self):
         table = self.net.table("U")

@@ -29,7 +29,7 @@ class Received:
     source: str
     payload: bytes
     ttl: int
-    path: tuple
+    path: tuple[str, ...]
 
 
 def change(old: Wish, new: Wish) -> list[tuple[int, frozenset[str]]]:
@@ -61,8 +61,8 @@ class Host:
     link: Link
     address: str
     net: Network = field(repr=False)
-    wishes: dict = field(default_factory=dict, repr=False)
-    received: list = field(default_factory=list, repr=False)
+    wishes: dict[str, Wish] = field(default_factory=dict, repr=False)
+    received: list[Received] = field(default_factory=list, repr=False)
     igmp: int = 3
     answers: bool = True
 

@@ -15,6 +15,7 @@ if TYPE_CHECKING:
 
     N = TypeVar("N", int, float)
 
+T = TypeVar("T")
 TABLES = list(printed.ROWS.values())
 LINK_LOCAL = IPv4Network("224.0.0.0/24")
 KINDS = [
@@ -32,7 +33,7 @@ class Mistake(ValueError):
     """A sentence on what is wrong with a call."""
 
 
-class Named(dict):
+class Named(dict[str, T]):
     """Routers, links or hosts by their names; `kind` is what one of them is called."""
 
     def __init__(self, kind: str) -> None:

@@ -62,13 +62,10 @@ class Network:
     ) -> None:
         self.chance = random.Random(seed)
         self.loss, self.step, self.order = share_given(loss, "are lost"), ms_given(step, "step", 0.001), count()
-        self.routers, self.links, self.hosts, self.ranges, self.fixed = (
-            Named("router"),
-            Named("link"),
-            Named("host"),
-            [],
-            {},
-        )
+        self.routers: Named[Router] = Named("router")
+        self.links: Named[Link] = Named("link")
+        self.hosts: Named[Host] = Named("host")
+        self.ranges, self.fixed = [], {}
         self.now = self.present = self.stepped = 0
         self.alone = set()
         self.player, self.sent, self.paths, self.odd = None, [], {}, []
@@ -380,12 +377,15 @@ class Network:
     # ---- what came of it
 
     def __repr__(self) -> str:
-        """The time, and a line for each link: its subnet, and the routers and hosts on it."""
-        about = [f"at {words.seconds(self.now)}: {len(self.routers)} routers, {len(self.hosts)} hosts"]
+        return f"<network of {len(self.routers)} routers and {len(self.hosts)} hosts at {words.seconds(self.now)}>"
+
+    def __str__(self) -> str:
+        """A line for each link: its subnet, and the routers and hosts on it."""
+        about = []
         for link in self.links.values():
             ends = [f"{port.router.name} {port.address}" + " down" * (not port.is_up()) for port in link.ports]
             ends += [" ".join(dict.fromkeys(["host", host.name, host.address])) for host in link.hosts]
-            about.append(f"  {link.name} {link.subnet}: {', '.join(ends)}")
+            about.append(f"{link.name} {link.subnet}: {', '.join(ends)}")
         return "\n".join(about)
 
     def tables(self) -> dict[str, Tables]:

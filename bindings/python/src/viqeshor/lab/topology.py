@@ -14,6 +14,7 @@ from viqeshor.lab.mistakes import Mistake, host_given, is_known_key, kind_given,
 from viqeshor.lab.printed import Neighbour
 
 if TYPE_CHECKING:
+    from viqeshor.lab.hosts import Host
     from viqeshor.lab.network import Network
     from viqeshor.lab.packets import Packet
     from viqeshor.lab.story import Sent
@@ -30,9 +31,9 @@ IFACE_OPTIONS = ["priority", "propagation", "override"]
 class Router:
     """`options` are keys of the scenario file's router, as `spt` or `limit`."""
     name: str
-    options: dict
+    options: dict[str, Any]
     net: Network = field(repr=False)
-    ports: list = field(default_factory=list, repr=False)
+    ports: list[Port] = field(default_factory=list, repr=False)
     is_up: bool = True
     made: Line = field(default_factory=calling, repr=False)
 
@@ -69,7 +70,7 @@ class Port:
     number: int
     link: "Link"
     address: str
-    options: dict = field(default_factory=dict)
+    options: dict[str, Any] = field(default_factory=dict)
     is_working: bool = True
     length: int | None = None
 
@@ -111,10 +112,10 @@ class Link:
     cost: int
     loss: float
     net: Network = field(repr=False)
-    ports: list = field(default_factory=list, repr=False)
-    hosts: list = field(default_factory=list, repr=False)
+    ports: list[Port] = field(default_factory=list, repr=False)
+    hosts: list[Host] = field(default_factory=list, repr=False)
     is_up: bool = True
-    losses: list = field(default_factory=list, repr=False)
+    losses: list[Loss] = field(default_factory=list, repr=False)
 
     @cached_property
     def prefix(self) -> str:

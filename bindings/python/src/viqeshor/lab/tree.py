@@ -22,8 +22,8 @@ class Tree:
     """
     group: str
     source: str
-    incoming: dict
-    outgoing: dict
+    incoming: dict[str, str | None]
+    outgoing: dict[str, set[str]]
     net: Network = field(compare=False)
     moment: int = field(compare=False)
 
