@@ -1,18 +1,7 @@
-"""Networks of `viqeshor.lab` that tell why a host gets nothing, as `tools/why` does.
+"""The networks of `viqeshor.lab`, which also tell why a host gets nothing, as `tools/why` does: `host.served(group,
+source)`, `host.watch(group)` and `net.notes()`.
 
-    from lab import Network
-
-    net = Network()
-    net.line("r1", "r2", "r3")                 # three routers, and the links r1-r2 and r2-r3
-    net.rp("r2")                               # r2 is the RP of all groups
-    camera = net.host("camera", "r1")          # a host on a link of its own at r1
-    viewer = net.host("viewer", "r3")
-    net.run(10)                                # ten seconds: interfaces come up, Hellos are exchanged
-    viewer.join("239.1.1.1")
-    net.run(5)
-    assert viewer.served("239.1.1.1", camera)
-
-`tools/lab FILE.py` runs such a file; tools/networks/examples has some.
+`tools/lab FILE.py` runs a file that says `from lab import Network`; tools/networks/examples has some.
 """
 from __future__ import annotations
 
