@@ -25,9 +25,9 @@ from pathlib import Path
 from typing import Any
 
 TOP = Path(__file__).resolve().parents[2]
-sys.path[:0] = [str(TOP / "bindings" / "python" / "src"), str(TOP / "tools")]
+sys.path.insert(0, str(TOP / "bindings" / "python" / "src"))
 import viqeshor  # noqa: E402
-from pimtext import packets, words  # noqa: E402
+from viqeshor.lab import packets, words  # noqa: E402
 
 ETH_P_IP = 0x0800
 SOL_PACKET, PACKET_ADD_MEMBERSHIP, PACKET_AUXDATA, PACKET_MR_ALLMULTI = 263, 1, 8, 2

@@ -6,10 +6,10 @@ import tempfile
 from collections.abc import Iterable
 from pathlib import Path
 
-sys.path.append(str(Path(__file__).resolve().parent.parent))
-from pimtext import packets  # noqa: E402
-from pimtext.addresses import dotted  # noqa: E402
-from pimtext.packets import Entry, GroupEntries, Record, octets  # noqa: E402
+sys.path.append(str(Path(__file__).resolve().parents[2] / "bindings" / "python" / "src"))
+from viqeshor.lab import packets  # noqa: E402
+from viqeshor.lab.addresses import dotted  # noqa: E402
+from viqeshor.lab.packets import Entry, GroupEntries, Record, octets  # noqa: E402
 
 TOP = Path(__file__).resolve().parent.parent.parent
 PROGRAM = TOP / "crates" / "pimlab" / "out" / "pimlab"

@@ -1,13 +1,26 @@
-"""What the tools for people share: packets, scenario files and printed lines, each read in one place.
+"""What the tools for people share, beside the package `viqeshor.lab`, on which they stand: packets, scenario files, the
+lines of `pimlab run` and the networks of tools/lab are read and written there.
 
-`addresses` reads addresses, prefixes and routes. Of a run `notes` and `mistakes` say what is odd, `served` whether a
-host is served, `reasons` why an interface is in a list or no Join leaves, and `views` what a router knows, by FRR's
-names. `known` has what a router of a run knows at a moment: its printed rows, and `asked` what a router of the library
-says that took the same events, its `twin`. No tool evaluates a macro of RFC 7761 by itself.
-
-`packets` reads and writes packets, `scenario` the scenario file, `printed` the lines of `pimlab run`; `story` puts the
-two together: what each move was, and which packet a delivery brought; and `words` says all of it to people. `program`
-finds the build of `./pimlab` that is run, `kept` knows where unproved builds are kept, and `unproved` makes them, each
-once, as `builds` sees to, by the programs of the `kit` and of what `modules` leaves of the kit's code; `library` has
-the library.
+Of a run `notes` and `mistakes` say what is odd, `served` whether a host is served, `reasons` why an interface is in a
+list or no Join leaves, and `views` what a router knows, by FRR's names. `pimlab` plays a scenario by the program, of
+which `program` finds the build; `kept` knows where unproved builds are kept, and `unproved` makes them, each once, as
+`builds` sees to, by the programs of the `kit` and of what `modules` leaves of the kit's code. `library` has the
+library, and `shared` finds the one that the tools ask.
 """
+import sys
+from pathlib import Path
+
+PACKAGE = Path(__file__).resolve().parent.parent.parent / "bindings" / "python" / "src"
+if str(PACKAGE) not in sys.path:
+    sys.path.insert(0, str(PACKAGE))
+import viqeshor  # noqa: E402
+
+
+def found() -> str:
+    """The shared library that is meant where none is named: that of these tools, which is built first where it has to
+    be."""
+    from pimtext import shared
+    return str(shared.shared())
+
+
+viqeshor.found = found

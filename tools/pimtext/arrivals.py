@@ -6,8 +6,8 @@ from bisect import bisect_right
 from dataclasses import dataclass, field
 from typing import TYPE_CHECKING, Any
 
-from pimtext import packets
-from pimtext.printed import ANY
+from viqeshor.lab import packets
+from viqeshor.lab.printed import ANY
 
 if TYPE_CHECKING:
     from pimtext.diagnosis import Diagnosis
@@ -15,7 +15,7 @@ if TYPE_CHECKING:
     from pimtext.streams import Arrival
     from pimtext.trace import Packet
     from pimtext.watched import Verdict
-    from pimtext.wishes import Key, Wish
+    from viqeshor.lab.wishes import Key, Wish
 
 # What an event says of a stream: no longer wanted, waited for, came, came more than once, didn't come.
 LEFT, WAITS, CAME, TWICE, MISSED = range(5)

@@ -5,19 +5,20 @@ from __future__ import annotations
 from collections.abc import Callable, Container, Hashable, Iterator
 from typing import TYPE_CHECKING
 
-from pimtext import asked, packets, printed, streams, wishes, words
-from pimtext.addresses import ip_address, is_source_specific
+from pimtext import streams
+from viqeshor.lab import asked, packets, printed, wishes, words
+from viqeshor.lab.addresses import ip_address, is_source_specific
 from pimtext.cause import Cause
-from pimtext.printed import ANY
+from viqeshor.lab.printed import ANY
 from pimtext.run import gathered, is_local, some, times
 
 if TYPE_CHECKING:
     from ipaddress import IPv4Network
     from pimtext.cause import Symptom
     from pimtext.run import Run
-    from pimtext.spoken import Said
-    from pimtext.story import Sent, Step
-    from pimtext.wishes import Heard
+    from viqeshor.lab.spoken import Said
+    from viqeshor.lab.story import Sent, Step
+    from viqeshor.lab.wishes import Heard
 
 OLD_QUERY_SIZE = 8
 # A host that has no address yet reports with this one.

@@ -8,9 +8,10 @@ from ipaddress import IPv4Address
 from pathlib import Path
 from typing import TYPE_CHECKING, Any
 
-from pimtext import packets, scenario, story, toml_lines
-from pimtext.addresses import prefix_in
-from pimtext.packets import dotted, is_multicast
+from pimtext import pimlab
+from viqeshor.lab import packets, scenario, story, toml_lines
+from viqeshor.lab.addresses import prefix_in
+from viqeshor.lab.packets import dotted, is_multicast
 
 if TYPE_CHECKING:
     from pimtext.capture import Capture, Frame
@@ -88,7 +89,7 @@ def table_of(addresses: list[str], ranges: list[str], routes: list[str], frames:
 
 def table_in(path: str | Path, address: str, ranges: list[str], routes: list[str]) -> dict[str, Any]:
     """The table of the router of a scenario's file that has an address, with more ranges and routes."""
-    played = scenario.read(path)
+    played = pimlab.read(path)
     found = [router.table for router in played.routers if router.has(address)]
     if not found:
         raise Unclear(f"no router of {path} has the address {address}")
@@ -341,6 +342,6 @@ def run_of(sorter: Sorter, events: list[Event], step: int = STEP, is_running: bo
     moves, early = moves_of(sorter, events, step, is_running)
     table = sorter.router.table
     played = scenario.scenario_of({"router": [table], "move": moves})
-    steps, _ = story.played(played, scenario.run_text(scenario.text_of([table], moves)))
+    steps, _ = story.played(played, pimlab.run_text(scenario.text_of([table], moves)))
     sent = [(each, each.iface) for step in steps for each in step.sent]
     return Run(moves, sent, steps, early, not step)

@@ -7,7 +7,7 @@ from dataclasses import dataclass, field
 from typing import TYPE_CHECKING
 
 if TYPE_CHECKING:
-    from lab.lines import Line
+    from viqeshor.lab.lines import Line
 
 # How many refusals are told below a cause.
 MOST_ODD = 4

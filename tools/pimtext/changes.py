@@ -6,8 +6,8 @@ from collections.abc import Callable, Iterable, Iterator
 from dataclasses import dataclass
 from typing import TYPE_CHECKING, Any
 
-from pimtext import words
-from pimtext.addresses import is_source_specific
+from viqeshor.lab import words
+from viqeshor.lab.addresses import is_source_specific
 from pimtext.cause import Cause
 from pimtext.run import gathered, some
 from pimtext.settings import spans, way_words
@@ -15,7 +15,7 @@ from pimtext.settings import spans, way_words
 if TYPE_CHECKING:
     from pimtext.cause import Symptom
     from pimtext.run import Run
-    from pimtext.scenario import Interface
+    from viqeshor.lab.scenario import Interface
     from pimtext.settings import Since, Told
 
 BY_LINK = ("no join", "no neighbour", "lost", "dead dr", "no owner", "rpf", "down", "interface down", "twice")

@@ -6,8 +6,8 @@ from collections.abc import Iterator
 from difflib import get_close_matches
 from typing import Any
 
-from pimtext.addresses import dotted, mask
-from pimtext.faults import Fault, Iface, Judge
+from viqeshor.lab.addresses import dotted, mask
+from viqeshor.lab.faults import Fault, Iface, Judge
 
 # How alike two names are of which one is probably misspelt.
 NEAR = 0.6

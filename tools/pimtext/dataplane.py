@@ -8,7 +8,7 @@ from typing import TYPE_CHECKING, Any
 
 import viqeshor
 from viqeshor import Answer
-from pimtext import packets
+from viqeshor.lab import packets
 
 if TYPE_CHECKING:
     from pimtext.happenings import Event

@@ -8,8 +8,9 @@ from __future__ import annotations
 from collections.abc import Iterator
 from typing import TYPE_CHECKING
 
-from pimtext import asked, printed, reasons, served, words
-from pimtext.addresses import is_source_specific
+from pimtext import reasons, served
+from viqeshor.lab import asked, printed, words
+from viqeshor.lab.addresses import is_source_specific
 from pimtext.askers import Askers
 from pimtext.cause import Cause, Symptom, attached, grouped
 from pimtext.changes import Changes
@@ -21,16 +22,16 @@ from pimtext.memberships import Memberships
 from pimtext.mistakes import Mistakes
 from pimtext.notes import Lines, Notes
 from pimtext.outages import Outages
-from pimtext.printed import ANY
+from viqeshor.lab.printed import ANY
 from pimtext.run import Run, times
 from pimtext.strangers import Strangers
 
 if TYPE_CHECKING:
-    from lab.lines import Lines as LabLines
+    from viqeshor.lab.lines import Lines as LabLines
     from pimtext.ends import End
-    from pimtext.faults import Judge
-    from pimtext.known import Known
-    from pimtext.scenario import Scenario
+    from viqeshor.lab.faults import Judge
+    from viqeshor.lab.known import Known
+    from viqeshor.lab.scenario import Scenario
     from pimtext.streams import Stream
     from pimtext.watched import Verdict
 

@@ -6,13 +6,14 @@ from __future__ import annotations
 
 from typing import TYPE_CHECKING
 
-from pimtext import asked, served, trace, words
-from pimtext.addresses import is_source_specific
+from pimtext import served, trace
+from viqeshor.lab import asked, words
+from viqeshor.lab.addresses import is_source_specific
 from pimtext.ends import End
-from pimtext.printed import ANY
+from viqeshor.lab.printed import ANY
 
 if TYPE_CHECKING:
-    from pimtext.known import Known
+    from viqeshor.lab.known import Known
     from pimtext.past import Past
 
 # How many routers are told of that took a packet which goes another way than to the host.

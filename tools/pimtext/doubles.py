@@ -4,11 +4,11 @@ from __future__ import annotations
 from collections.abc import Iterator
 from typing import TYPE_CHECKING
 
-from pimtext import asked, packets, words
+from viqeshor.lab import asked, packets, words
 
 if TYPE_CHECKING:
     from pimtext.run import Run
-    from pimtext.story import Sent
+    from viqeshor.lab.story import Sent
     from pimtext.streams import Stream
     from pimtext.trace import Packet
 

@@ -14,11 +14,11 @@ from collections.abc import Iterable, Iterator
 from dataclasses import dataclass, field
 from typing import TYPE_CHECKING, Any
 
-from lab.topology import ways
+from viqeshor.lab.topology import ways
 
 if TYPE_CHECKING:
-    from lab.network import Network
-    from lab.topology import Link
+    from viqeshor.lab.network import Network
+    from viqeshor.lab.topology import Link
     from pimtext.playpage import Told
 
 # Seconds of the stream before the failure; then packets a second apart at first, and later EVERY seconds apart.
@@ -75,7 +75,7 @@ class Stream:
 
 def streams(net: Network) -> list[Stream]:
     """What hosts have sent in the run so far, by the moves that gave it to routers."""
-    from pimtext import spoken
+    from viqeshor.lab import spoken
     names = {host.address: host.name for host in net.hosts.values()}
     sent = [(each.packet.source, each.packet.destination) for each in spoken.said(net.running().steps)
             if each.is_data()]

@@ -12,7 +12,7 @@ from pimtext import frr
 from pimtext.frr import IGMP_TIMES
 
 if TYPE_CHECKING:
-    from lab.network import Network
+    from viqeshor.lab.network import Network
 
 # A loopback's subnet has two addresses here at least.
 LONGEST = 31
@@ -359,7 +359,7 @@ def branch_told(plan: Plan, router: frr.Router, entry: dict[str, Any]) -> Branch
 
 def lab_branches(net: Network) -> dict[tuple[str, str, str], Branch]:
     """The same of a network of tools/lab."""
-    from pimtext import asked
+    from viqeshor.lab import asked
     found = []
     for name, state in net.known().items():
         for branch in asked.branches(state):

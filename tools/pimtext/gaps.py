@@ -6,7 +6,7 @@ from collections.abc import Iterator
 from dataclasses import dataclass
 from typing import TYPE_CHECKING
 
-from pimtext import printed, words
+from viqeshor.lab import printed, words
 from pimtext.cause import Cause
 from pimtext.run import gathered, some
 from pimtext.wire import names_group

@@ -8,13 +8,13 @@ from dataclasses import dataclass, replace
 from ipaddress import IPv4Address, IPv4Network
 from typing import TYPE_CHECKING, Any
 
-from pimtext import fed, packets
-from pimtext.packets import Assert, Entry, GroupEntries, Hello, Record
+from viqeshor.lab import fed, packets
+from viqeshor.lab.packets import Assert, Entry, GroupEntries, Hello, Record
 
 if TYPE_CHECKING:
     from collections.abc import Iterable, Iterator
 
-    from pimtext.story import Step
+    from viqeshor.lab.story import Step
 
 ANY_SOURCE, SSM = ("239.1.1.1", "239.1.1.2", "239.2.1.1"), ("232.1.1.1",)
 GROUPS = ANY_SOURCE + SSM

@@ -12,12 +12,12 @@ from pathlib import Path
 from typing import TYPE_CHECKING, Any
 
 from pimtext import served, views
-from pimtext.addresses import ip_address
-from pimtext.printed import ANY
+from viqeshor.lab.addresses import ip_address
+from viqeshor.lab.printed import ANY
 
 if TYPE_CHECKING:
     from pimtext.served import World
-    from pimtext.wishes import Key
+    from viqeshor.lab.wishes import Key
 
 HEADS = ["Hop", "Router", "From", "RPF'", "To", "Tree", "Flags", "Packets", "State"]
 # No way is longer.

@@ -4,17 +4,18 @@ from __future__ import annotations
 from collections.abc import Callable, Iterable, Iterator
 from typing import TYPE_CHECKING
 
-from pimtext import packets, served, words
-from pimtext.addresses import ip_address, longest
+from pimtext import served
+from viqeshor.lab import packets, words
+from viqeshor.lab.addresses import ip_address, longest
 from pimtext.cause import Cause
 from pimtext.run import gathered, some
 
 if TYPE_CHECKING:
     from pimtext.cause import Symptom
-    from pimtext.known import Known
+    from viqeshor.lab.known import Known
     from pimtext.run import Run
-    from pimtext.scenario import Interface
-    from pimtext.story import Step
+    from viqeshor.lab.scenario import Interface
+    from viqeshor.lab.story import Step
 
 # No Hello waits longer after `up`, in ms.
 HELLO_DELAY = 5_000

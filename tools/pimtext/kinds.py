@@ -8,10 +8,10 @@ from io import StringIO
 from pathlib import Path
 from typing import TYPE_CHECKING
 
-from pimtext import written
+from viqeshor.lab import written
 
 if TYPE_CHECKING:
-    from lab.network import Network
+    from viqeshor.lab.network import Network
 
 # How files of pcap and pcapng begin.
 CAPTURES = [bytes.fromhex(each) for each in ("d4c3b2a1", "a1b2c3d4", "4d3cb2a1", "a1b23c4d", "0a0d0d0a")]

@@ -11,14 +11,14 @@ from typing import TYPE_CHECKING
 from pimtext import playpage
 
 if TYPE_CHECKING:
-    from lab.network import Network
+    from viqeshor.lab.network import Network
 
 
 def network(path: str | Path) -> Network:
     """The last network that a file makes and runs; ends the program where there is none. An assert of the file that
     fails is told, and the network that it fails at is the one to look at."""
     import lab
-    from lab.network import made
+    from viqeshor.lab.network import made
     nets, sys.argv = [], [str(path)]
     try:
         kept = runpy.run_path(str(path), run_name="__main__")
@@ -39,7 +39,7 @@ def network(path: str | Path) -> Network:
 
 def told(net: Network, name: str, is_by_time: bool = True) -> playpage.Told:
     """A network's run, with the names of its hosts, and what is odd in it."""
-    from lab.lines import Lines
+    from viqeshor.lab.lines import Lines
     hosts = {host.address: host.name for host in net.hosts.values()}
     return playpage.Told(name, net.scenario(), hosts, Lines(net), frozenset(net.unheard), is_by_time, net.played())
 

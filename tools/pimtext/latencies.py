@@ -7,7 +7,8 @@ from dataclasses import dataclass
 from statistics import median
 from typing import TYPE_CHECKING
 
-from pimtext import packets, served, words
+from pimtext import served
+from viqeshor.lab import packets, words
 from pimtext.cause import Cause
 from pimtext.run import gathered, times
 from pimtext.watched import seconds

@@ -3,8 +3,9 @@ from __future__ import annotations
 
 from collections.abc import Iterator
 
-from pimtext import fed, packets, printed, scenario, story, words
-from pimtext.printed import ANY
+from pimtext import pimlab
+from viqeshor.lab import fed, packets, printed, scenario, story, words
+from viqeshor.lab.printed import ANY
 
 # Types of an IGMPv3 record: those that ask for all but some sources, and those that ask for the sources that they name.
 ALL_BUT, ONLY = (2, 4), (1, 3, 5)
@@ -50,7 +51,7 @@ def said_again(played: scenario.Scenario, step: story.Step) -> list[printed.Row]
     named = [] if packets.refusal(content, packets.MOST_IN_A_FRAME) else list(refreshed(packets.read(content).body))
     if not named:
         return []
-    _, tables = story.played(played, scenario.run_text(played.text(step.move - 1)))
+    _, tables = story.played(played, pimlab.run_text(played.text(step.move - 1)))
     rows = (tables[step.router].of(table, iface=iface, **columns) for table, columns in named)
     return [row for found in rows for row in found if row.end is not None]
 

@@ -7,13 +7,14 @@ import shlex
 from pathlib import Path
 from typing import IO, TYPE_CHECKING
 
-from lab import Mistake, Network, Refused
-from pimtext import labfile, packets, playpage, view_text, views
-from pimtext.printed import ANY
+from lab import Mistake, Network
+from pimtext import labfile, playpage, view_text, views
+from viqeshor.lab import packets
+from viqeshor.lab.printed import ANY
 
 if TYPE_CHECKING:
-    from lab.hosts import Host
-    from lab.topology import Link
+    from viqeshor.lab.hosts import Host
+    from viqeshor.lab.topology import Link
 
 INTRO = """\
 A network of multicast routers. `help` names the commands, `look` writes the page, ctrl-d ends. For a beginning:
@@ -57,7 +58,7 @@ class Prompt(cmd.Cmd):
             try:
                 if super().onecmd(part):
                     return True
-            except (Mistake, Unclear, Refused, OSError) as error:
+            except (Mistake, Unclear, OSError) as error:
                 self.say(error)
                 return False
             except (TypeError, ValueError):

@@ -7,11 +7,12 @@ from collections.abc import Callable, Iterable, Iterator
 from dataclasses import dataclass
 from typing import TYPE_CHECKING
 
-from pimtext import captured, packets, words
-from pimtext.packets import GroupEntries, JoinPrune, Refused
+from pimtext import captured
+from viqeshor.lab import packets, words
+from viqeshor.lab.packets import GroupEntries, JoinPrune, Refused
 
 if TYPE_CHECKING:
-    from pimtext.scenario import Router
+    from viqeshor.lab.scenario import Router
 
 # How far apart in ms two packets of a kind may be: what RFC 7761 (4.11) draws by chance, else two seconds for clocks
 # and work.

@@ -5,16 +5,16 @@ from collections.abc import Callable, Iterable, Iterator
 from dataclasses import dataclass
 from typing import TYPE_CHECKING, NamedTuple
 
-from pimtext import packets, printed, wishes, words
+from viqeshor.lab import packets, printed, wishes, words
 from pimtext.cause import Cause
 from pimtext.run import gathered, listed, some, times
 
 if TYPE_CHECKING:
-    from lab.lines import Line
+    from viqeshor.lab.lines import Line
     from pimtext.cause import Symptom
     from pimtext.run import Run
-    from pimtext.story import Step
-    from pimtext.wishes import Heard
+    from viqeshor.lab.story import Step
+    from viqeshor.lab.wishes import Heard
 
 
 class Whose(NamedTuple):

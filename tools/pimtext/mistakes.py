@@ -9,19 +9,19 @@ from collections.abc import Callable, Iterable, Iterator
 from difflib import SequenceMatcher
 from typing import TYPE_CHECKING, TypeVar
 
-from pimtext import asked, printed, words
-from pimtext.addresses import ip_address
+from viqeshor.lab import asked, printed, words
+from viqeshor.lab.addresses import ip_address
 from pimtext.cause import Cause
-from pimtext.printed import ANY
+from viqeshor.lab.printed import ANY
 from pimtext.run import gathered, some
 
 if TYPE_CHECKING:
     from ipaddress import IPv4Network
-    from lab.lines import Line
+    from viqeshor.lab.lines import Line
     from pimtext.cause import Symptom
-    from pimtext.known import Known
+    from viqeshor.lab.known import Known
     from pimtext.run import Run
-    from pimtext.scenario import Interface
+    from viqeshor.lab.scenario import Interface
     from viqeshor.trees import Path
 
     T = TypeVar("T")

@@ -4,12 +4,12 @@ from __future__ import annotations
 from collections.abc import Iterable, Iterator
 from typing import TYPE_CHECKING
 
-from pimtext import story
-from pimtext.known import begun, follow
+from viqeshor.lab import story
+from viqeshor.lab.known import begun, follow
 
 if TYPE_CHECKING:
-    from pimtext.known import Known
-    from pimtext.scenario import Scenario
+    from viqeshor.lab.known import Known
+    from viqeshor.lab.scenario import Scenario
 
 
 def after_moves(played: Scenario, lines: Iterable[str]) -> Iterator[tuple[int, list[story.Step], dict[str, Known]]]:

@@ -6,13 +6,14 @@ from collections import Counter
 from collections.abc import Iterator
 from typing import TYPE_CHECKING, Any
 
-from pimtext import packets, story, trace, wishes, words
+from pimtext import trace
+from viqeshor.lab import packets, story, wishes, words
 from pimtext.cause import Symptom
-from pimtext.facts import MEANINGS
-from pimtext.faults import MOST_ROUTES, MOST_RPS, Judge, configuration_faults, list_faults, route_fault, rp_fault
+from viqeshor.lab.facts import MEANINGS
+from viqeshor.lab.faults import MOST_ROUTES, MOST_RPS, Judge, configuration_faults, list_faults, route_fault, rp_fault
 
 if TYPE_CHECKING:
-    from lab.lines import Line
+    from viqeshor.lab.lines import Line
     from pimtext.run import Run
 
 # The answer of a guard before a router, which is no reason of the router's own.

@@ -6,16 +6,17 @@ from collections.abc import Callable, Collection, Iterator
 from dataclasses import dataclass
 from typing import TYPE_CHECKING
 
-from pimtext import asked, limit, packets, printed, words
+from pimtext import limit
+from viqeshor.lab import asked, packets, printed, words
 from pimtext.cause import Cause
-from pimtext.facts import DELAYS, USUAL
+from viqeshor.lab.facts import DELAYS, USUAL
 from pimtext.run import COUNTED, gathered, listed, some, times
 from pimtext.wire import ASSERT, DATA, HELLO, JOIN, PLURALS, SINGULARS, names_group
 
 if TYPE_CHECKING:
     from pimtext.cause import Symptom
     from pimtext.run import Run
-    from pimtext.story import Sent, Step
+    from viqeshor.lab.story import Sent, Step
     from pimtext.streams import Stream
     from pimtext.watched import Loss
     from pimtext.wire import Way

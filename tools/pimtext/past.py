@@ -4,11 +4,11 @@ from __future__ import annotations
 from bisect import bisect_right
 from typing import TYPE_CHECKING
 
-from pimtext.known import begun, copied, follow
+from viqeshor.lab.known import begun, copied, follow
 
 if TYPE_CHECKING:
-    from pimtext import scenario, story
-    from pimtext.known import Known
+    from viqeshor.lab import scenario, story
+    from viqeshor.lab.known import Known
 
 
 class Past:

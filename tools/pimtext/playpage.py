@@ -13,10 +13,11 @@ from dataclasses import dataclass, field
 from pathlib import Path
 from typing import TYPE_CHECKING, Any
 
-from pimtext import colours, diagnosis, faults, places, recorded, scenario, story, toml_lines
+from pimtext import diagnosis, layout, pimlab, recorded
+from viqeshor.lab import colours, faults, places, scenario, story, toml_lines
 
 if TYPE_CHECKING:
-    from lab.lines import Lines
+    from viqeshor.lab.lines import Lines
 
 FOLDER = Path(__file__).resolve().parent / "page"
 # The scripts of the page, in their order.
@@ -41,10 +42,10 @@ class Told:
     played: tuple[scenario.Scenario, story.Story] | None = None
 
     def read(self) -> tuple[faults.Judge | faults.LateJudge, scenario.Scenario, story.Story]:
-        """What judged the text, the scenario, and its run. Raises scenario.Refused where it isn't played."""
+        """What judged the text, the scenario, and its run. Raises pimlab.Refused where it isn't played."""
         if self.played:
             return faults.LateJudge(self.text), *self.played
-        lines = scenario.run_text(self.text)
+        lines = pimlab.run_text(self.text)
         judge = faults.faults_of(self.text)[0]
         played = scenario.scenario_of(toml_lines.plain(judge.root))
         return judge, played, story.played(played, lines)
@@ -63,7 +64,7 @@ def notes_of(found: diagnosis.Diagnosis, numbers: dict[int, int], named: Callabl
 
 
 def run_of(told: Told) -> dict[str, Any]:
-    """What the page has of a run. Raises scenario.Refused where the program doesn't play it."""
+    """What the page has of a run. Raises pimlab.Refused where the program doesn't play it."""
     judge, played, run = told.read()
     found = diagnosis.Diagnosis(judge, played, run, told.places, told.unheard)
     is_by_time = len(played.moves) > MANY_MOVES if told.is_by_time is None else told.is_by_time
@@ -96,7 +97,7 @@ def data(runs: list[dict[str, Any]], start: int) -> dict[str, Any]:
     sources = [run["hosts"][host]["address"] for run in runs for move in run["moves"] for host, at in move[4]
                if is_data(run, at)]
     ratio = WIDE if len(runs) == 1 else 2 * WIDE
-    where, box = places.places(routers, kinds, ports, by_link, list(dict.fromkeys(sources))[:3], ratio)
+    where, box = layout.places(routers, kinds, ports, by_link, list(dict.fromkeys(sources))[:3], ratio)
     trees = [tuple(tree) for run in runs for tree in run["trees"] + run["streams"]]
     names = {f"({source}, {group})": colour for (group, source), colour in colours.colours(trees).items()}
     return {"runs": runs, "places": where, "box": box, "kinds": kinds, "hosts": hosts, "colours": names, "start": start}

@@ -4,12 +4,12 @@ from __future__ import annotations
 from collections.abc import Iterator
 from typing import TYPE_CHECKING
 
-from pimtext import asked, printed
-from pimtext.addresses import ip_address, longest
-from pimtext.printed import ANY
+from viqeshor.lab import asked, printed
+from viqeshor.lab.addresses import ip_address, longest
+from viqeshor.lab.printed import ANY
 
 if TYPE_CHECKING:
-    from pimtext.known import Known
+    from viqeshor.lab.known import Known
 
 
 def causes(state: Known, group: str, source: str, number: int) -> list[str]:

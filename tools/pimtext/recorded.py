@@ -15,15 +15,16 @@ from dataclasses import dataclass, field, replace
 from functools import cache, lru_cache
 from typing import TYPE_CHECKING, Any
 
-from pimtext import asked, packets, printed, story, view_text, views, words
+from pimtext import view_text, views
+from viqeshor.lab import asked, packets, printed, story, words
 from pimtext.arrivals import Arrivals
-from pimtext.known import begun, copied, follow
+from viqeshor.lab.known import begun, copied, follow
 
 if TYPE_CHECKING:
-    from pimtext.asked import Branch
+    from viqeshor.lab.asked import Branch
     from pimtext.diagnosis import Diagnosis
-    from pimtext.known import Known
-    from pimtext.scenario import Router, Scenario
+    from viqeshor.lab.known import Known
+    from viqeshor.lab.scenario import Router, Scenario
 
 # An address by itself, without the length of a subnet.
 ADDRESS = r"(?<![\d.])\d+\.\d+\.\d+\.\d+(?![\d.]*\d|/)"

@@ -4,17 +4,17 @@ from __future__ import annotations
 from collections.abc import Callable, Iterable
 from typing import TYPE_CHECKING, Any, TypeVar
 
-from pimtext import asked, printed, spoken, story
-from pimtext.addresses import ip_address, is_source_specific
-from pimtext.printed import ANY
+from viqeshor.lab import asked, printed, spoken, story
+from viqeshor.lab.addresses import ip_address, is_source_specific
+from viqeshor.lab.printed import ANY
 from pimtext.settings import Settings
 from pimtext.watched import Watch
 from pimtext.wire import Wire
 
 if TYPE_CHECKING:
-    from lab.lines import Line, Lines as LabLines
+    from viqeshor.lab.lines import Line, Lines as LabLines
     from pimtext.notes import Lines
-    from pimtext.scenario import Interface, Scenario
+    from viqeshor.lab.scenario import Interface, Scenario
     from pimtext.settings import Told
 
     K = TypeVar("K")

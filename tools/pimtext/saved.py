@@ -6,7 +6,7 @@ from collections.abc import Callable, Iterator
 from dataclasses import dataclass
 from typing import Any, NamedTuple
 
-from pimtext.addresses import dotted
+from viqeshor.lab.addresses import dotted
 
 MAGIC, VERSION = b"VQST", 2
 

@@ -8,13 +8,14 @@ from collections import defaultdict
 from dataclasses import dataclass
 from typing import TYPE_CHECKING
 
-from pimtext import asked, packets, printed, reasons, trace, words
-from pimtext.addresses import ip_address, is_source_specific, longest
+from pimtext import reasons, trace
+from viqeshor.lab import asked, packets, printed, words
+from viqeshor.lab.addresses import ip_address, is_source_specific, longest
 from pimtext.ends import End
-from pimtext.printed import ANY
+from viqeshor.lab.printed import ANY
 
 if TYPE_CHECKING:
-    from pimtext.known import Known
+    from viqeshor.lab.known import Known
 
 
 # How many hops are told of a stream that goes another way than to the host.

@@ -5,17 +5,17 @@ from collections.abc import Callable, Iterable
 from dataclasses import dataclass
 from typing import TYPE_CHECKING, Any
 
-from pimtext import words
-from pimtext.addresses import ip_address, longest, ranges_of, routes_of
-from pimtext.scenario import router_of
+from viqeshor.lab import words
+from viqeshor.lab.addresses import ip_address, longest, ranges_of, routes_of
+from viqeshor.lab.scenario import router_of
 
 if TYPE_CHECKING:
     from ipaddress import IPv4Network
-    from lab.lines import Line, Lines as LabLines
-    from pimtext.addresses import Route
+    from viqeshor.lab.lines import Line, Lines as LabLines
+    from viqeshor.lab.addresses import Route
     from pimtext.notes import Lines
-    from pimtext.scenario import Router, Scenario
-    from pimtext.story import Step
+    from viqeshor.lab.scenario import Router, Scenario
+    from viqeshor.lab.story import Step
 
 KINDS = ("routes", "rps", "reload")
 

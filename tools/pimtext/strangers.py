@@ -9,15 +9,16 @@ from collections.abc import Callable, Iterator
 from dataclasses import dataclass
 from typing import TYPE_CHECKING
 
-from pimtext import asked, packets, printed, reasons, served, words
+from pimtext import reasons, served
+from viqeshor.lab import asked, packets, printed, words
 from pimtext.cause import Cause, Symptom
-from pimtext.facts import DELAYS, USUAL
+from viqeshor.lab.facts import DELAYS, USUAL
 from pimtext.run import gathered, some, times
 
 if TYPE_CHECKING:
-    from pimtext.known import Known
+    from viqeshor.lab.known import Known
     from pimtext.run import Run
-    from pimtext.story import Step
+    from viqeshor.lab.story import Step
 
 # The holdtime of a Hello that never ends, in seconds.
 FOR_EVER = 0xFFFF

@@ -7,12 +7,12 @@ from dataclasses import dataclass, field
 from itertools import groupby
 from typing import TYPE_CHECKING
 
-from pimtext.printed import ANY
+from viqeshor.lab.printed import ANY
 
 if TYPE_CHECKING:
-    from pimtext.story import Step
+    from viqeshor.lab.story import Step
     from pimtext.trace import Copy, Packet
-    from pimtext.wishes import Hosts, Key
+    from viqeshor.lab.wishes import Hosts, Key
 
 
 @dataclass(frozen=True)

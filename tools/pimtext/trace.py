@@ -8,10 +8,11 @@ from collections import defaultdict
 from dataclasses import dataclass, field
 from typing import TYPE_CHECKING
 
-from pimtext import packets, story, streams
+from pimtext import streams
+from viqeshor.lab import packets, story
 
 if TYPE_CHECKING:
-    from pimtext.scenario import Scenario
+    from viqeshor.lab.scenario import Scenario
 
 # A packet comes to the routers of its link by such moves, one directly after the other.
 AT_ONCE = ("frame", "unicast")

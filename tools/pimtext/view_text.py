@@ -2,7 +2,7 @@
 from collections.abc import Iterable, Iterator
 from typing import Any
 
-from pimtext import words
+from viqeshor.lab import words
 
 
 def table(title: str, heads: list[str], rows: list[list[Any]]) -> Iterator[str]:

@@ -6,14 +6,15 @@ from __future__ import annotations
 
 from typing import TYPE_CHECKING, Any, TypeVar
 
-from pimtext import asked, printed, reasons
-from pimtext.addresses import ip_address, is_source_specific, longest
-from pimtext.printed import ANY
+from pimtext import reasons
+from viqeshor.lab import asked, printed
+from viqeshor.lab.addresses import ip_address, is_source_specific, longest
+from viqeshor.lab.printed import ANY
 
 if TYPE_CHECKING:
     from ipaddress import IPv4Network
-    from pimtext.known import Known
-    from pimtext.scenario import Interface
+    from viqeshor.lab.known import Known
+    from viqeshor.lab.scenario import Interface
 
     R = TypeVar("R")
 

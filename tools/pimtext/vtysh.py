@@ -9,13 +9,14 @@ from collections.abc import Callable, Iterator
 from dataclasses import dataclass, field
 from typing import TYPE_CHECKING
 
-from pimtext import asked, moments, printed, scenario, story, trace, views
-from pimtext.addresses import address_in, is_group
-from pimtext.printed import ANY
+from pimtext import moments, pimlab, trace, views
+from viqeshor.lab import asked, printed, scenario, story
+from viqeshor.lab.addresses import address_in, is_group
+from viqeshor.lab.printed import ANY
 
 if TYPE_CHECKING:
-    from pimtext.known import Known
-    from pimtext.scenario import Scenario
+    from viqeshor.lab.known import Known
+    from viqeshor.lab.scenario import Scenario
 
 Rows = list[list[str]]
 
@@ -49,7 +50,7 @@ def rows_known(state: Known) -> Iterator[tuple]:
 def history(played: Scenario, number: int) -> History:
     """The run up to a move, followed move by move."""
     cut = scenario.Scenario(played.routers, played.moves[:number])
-    lines = scenario.run_each(cut.text())
+    lines = pimlab.run_each(cut.text())
     made, there = History({}), {}
     for _, steps, known in moments.after_moves(cut, lines):
         made.known = known

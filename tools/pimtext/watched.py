@@ -5,16 +5,17 @@ from collections.abc import Iterator
 from dataclasses import dataclass
 from typing import TYPE_CHECKING
 
-from pimtext import died, served, streams, trace, wishes, words
+from pimtext import died, served, streams, trace
+from viqeshor.lab import wishes, words
 from pimtext.ends import End
-from pimtext.known import known_after
+from viqeshor.lab.known import known_after
 from pimtext.past import Past
 
 if TYPE_CHECKING:
-    from pimtext.scenario import Scenario
-    from pimtext.story import Step, Tables
+    from viqeshor.lab.scenario import Scenario
+    from viqeshor.lab.story import Step, Tables
     from pimtext.streams import Stream
-    from pimtext.wishes import Key
+    from viqeshor.lab.wishes import Key
 
 
 # Reasons that a packet didn't come for which are none of what the routers know.

@@ -50,8 +50,8 @@ def how(shared: Path) -> str:
 
 def parts(shared: Path, tag: str) -> Iterator[tuple[str, bytes]]:
     """The names of the wheel's files, and what is in them."""
-    for file in [*sorted(PACKAGE.glob("*.py")), PACKAGE / "py.typed"]:
-        yield f"viqeshor/{file.name}", file.read_bytes()
+    for file in [*sorted(PACKAGE.rglob("*.py")), PACKAGE / "py.typed"]:
+        yield f"viqeshor/{file.relative_to(PACKAGE)}", file.read_bytes()
     yield f"viqeshor/{SONAME}", shared.read_bytes()
     yield f"{INFO}/METADATA", METADATA.format(how(shared)).encode()
     yield f"{INFO}/WHEEL", f"Wheel-Version: 1.0\nGenerator: viqeshor\nRoot-Is-Purelib: false\nTag: {tag}\n".encode()

@@ -7,10 +7,10 @@ from collections.abc import Collection
 from dataclasses import dataclass, field
 from typing import TYPE_CHECKING
 
-from pimtext import packets, story
+from viqeshor.lab import packets, story
 
 if TYPE_CHECKING:
-    from pimtext.scenario import Scenario
+    from viqeshor.lab.scenario import Scenario
 
 HELLO, JOIN, ASSERT = "Hello", "Join/Prune", "Assert"
 DATA, REGISTER, OTHER = "data", "Register", "other"

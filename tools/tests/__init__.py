@@ -2,5 +2,7 @@
 import sys
 from pathlib import Path
 
-# The package `lab` is there.
-sys.path.append(str(Path(__file__).resolve().parent.parent / "networks"))
+from pimtext import PACKAGE
+
+# The packages `lab` and `viqeshor` are there.
+sys.path += [str(Path(__file__).resolve().parent.parent / "networks"), str(PACKAGE)]

@@ -1,8 +1,8 @@
 """A small network for tests: a source, three routers in a row with the RP in the middle, and a host."""
 from copy import deepcopy
 
-from pimtext import packets, scenario
-from pimtext.packets import Record
+from viqeshor.lab import packets, scenario
+from viqeshor.lab.packets import Record
 
 GROUP, SOURCE, HOST, RP = "239.1.1.1", "10.7.0.50", "10.8.0.77", "10.0.1.2"
 SSM = "232.1.1.1"

@@ -77,7 +77,8 @@ SPOILS = [
     Spoil("linux/viqeshord.bash", "complete ", "fi; complete ", "lint", "viqeshord.bash"),
     Spoil("linux/trials/network.py", "ROUTES = {", "ROADS = {", "lint", "ROUTES"),
     # The tools: one that others use, one with a program of its own, a measurement, a script.
-    Spoil("tools/pimtext/packets.py", "return total ^ 0xFFFF", "return total ^ 0xFFFE", "test_packets", "FAILED"),
+    Spoil("bindings/python/src/viqeshor/lab/packets.py", "return total ^ 0xFFFF", "return total ^ 0xFFFE",
+        "test_packets", "FAILED"),
     Spoil("tools/library_calls.c", "viq_packets(NULL), 0)", "viq_packets(NULL), 1)", "library",
         "packets without a router"),
     Spoil("tools/bench/forwarder/plain.rs", "const FRAME_LIMIT: usize = 1500", "const FRAME_LIMIT: usize = 15",

@@ -8,10 +8,11 @@ import tarfile
 import unittest
 from dataclasses import dataclass, field
 
-from pimtext import scenario, toml_lines
+from pimtext import pimlab
+from viqeshor.lab import scenario, toml_lines
 from pimtext.channels import as_csv, channels_of, phases_of
 from pimtext.diagnosis import Diagnosis
-from pimtext.faults import faults_of
+from viqeshor.lab.faults import faults_of
 from pimtext.latencies import Latencies
 from tests import stored
 
@@ -213,7 +214,7 @@ class Played:
     def __init__(self, text):
         judge, self.number = faults_of(text)
         played = scenario.scenario_of(toml_lines.plain(toml_lines.read(text)))
-        self.diagnosis = Diagnosis(judge, played, scenario.run_text(text))
+        self.diagnosis = Diagnosis(judge, played, pimlab.run_text(text))
         self.run = self.diagnosis.run
         self.told = self.diagnosis.lines()
         hosts = dict.fromkeys(host for host, *_ in self.run.hosts.told)

@@ -10,9 +10,10 @@ import tempfile
 import unittest
 from pathlib import Path
 
-from pimtext import playpage, scenario, story, toml_lines, view_text, views
+from pimtext import pimlab, playpage, view_text, views
+from viqeshor.lab import scenario, story, toml_lines
 from pimtext.diagnosis import Diagnosis
-from pimtext.faults import faults_of
+from viqeshor.lab.faults import faults_of
 from pimtext.notes import Notes
 from tests import stored
 
@@ -102,7 +103,7 @@ class Changes:
 
 def changed(path, seed):
     """The text of a scenario with moves put in, and a move at which to look."""
-    played, draws = scenario.read(path), random.Random(f"{path.name} {seed}")
+    played, draws = pimlab.read(path), random.Random(f"{path.name} {seed}")
     changes = Changes(played, draws)
     moves = list(played.moves)
     places = sorted(draws.randrange(len(moves) + 1) for _ in range(CHANGES))
@@ -126,8 +127,8 @@ class Changed(unittest.TestCase):
     def through(self, text, at, is_page):
         """A scenario through all tools; what `why` tells."""
         self.file.write_text(text)
-        lines = scenario.run_text(text)
-        played = scenario.read(self.file)
+        lines = pimlab.run_text(text)
+        played = pimlab.read(self.file)
         list(stored.tool("show").shown(lines, played))
         steps, _ = story.played(played, lines)
         pcap, mroute = stored.tool("pcap"), stored.tool("mroute")
@@ -160,8 +161,8 @@ class Changed(unittest.TestCase):
                 text, at = changed(path, seed)
                 with self.subTest(path.stem, seed=seed):
                     try:
-                        scenario.run_text(text)
-                    except scenario.Refused:
+                        pimlab.run_text(text)
+                    except pimlab.Refused:
                         continue
                     self.through(text, at, (number + seed) % PAGES == 0)
 
@@ -175,7 +176,7 @@ class Changed(unittest.TestCase):
     def test_why_a_settle_could_not_bring_a_packet(self):
         judge, _ = faults_of(SHIFTED)
         played = scenario.scenario_of(toml_lines.plain(toml_lines.read(SHIFTED)))
-        notes = Notes(judge, Diagnosis(judge, played, scenario.run_text(SHIFTED)).run)
+        notes = Notes(judge, Diagnosis(judge, played, pimlab.run_text(SHIFTED)).run)
         whys = [each.alone for each in notes.odd() if each.cause == "27"]
         for number, why in zip((3, 4, 5), whys, strict=True):
             self.assertIn(f"packet {number} left interface 0 of a on the link ab, and a `reload` put that interface on "

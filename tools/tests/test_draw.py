@@ -3,8 +3,9 @@ import re
 import shutil
 import unittest
 
-from pimtext import colours, scenario, story, toml_lines
-from pimtext.known import known_after
+from pimtext import pimlab
+from viqeshor.lab import colours, scenario, story, toml_lines
+from viqeshor.lab.known import known_after
 from tests import networks, stored
 
 draw = stored.tool("draw")
@@ -22,7 +23,7 @@ def edges(text, tail, head):
 class Drawn(unittest.TestCase):
     def drawn(self, text):
         read = scenario.scenario_of(toml_lines.plain(toml_lines.read(text)))
-        steps, tables = story.played(read, scenario.run_text(text))
+        steps, tables = story.played(read, pimlab.run_text(text))
         end = draw.Moment(read, known_after(read, steps, tables), [], "the end", draw.hosts_of(steps))
         return "\n".join(draw.graph(draw.picture(end)))
 
@@ -68,7 +69,7 @@ class Drawn(unittest.TestCase):
 @unittest.skipUnless(shutil.which("neato"), "Graphviz isn't installed")
 class Pictures(unittest.TestCase):
     def test_frames_have_one_layout(self):
-        read = scenario.read(FIRST_SCENARIO)
+        read = pimlab.read(FIRST_SCENARIO)
         frames = draw.frames(read, 8)
         self.assertEqual(len(frames), 3)
         self.assertEqual(len({re.search('viewBox="[^"]+"', frame)[0] for frame in frames}), 1)

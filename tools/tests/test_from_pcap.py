@@ -6,7 +6,8 @@ import tempfile
 import unittest
 from pathlib import Path
 
-from pimtext import capture, captured, frr, frr_lab, matched, packets, scenario, story
+from pimtext import capture, captured, frr, frr_lab, matched, pimlab
+from viqeshor.lab import packets, story
 from tests import stored
 
 pcap = stored.tool("pcap")
@@ -91,7 +92,7 @@ class Stored(unittest.TestCase):
         """Where the capture has all that its router took, and no delay of it is drawn, both send the same packets."""
         fit = 0
         for path, lines in stored.played():
-            read = scenario.read(path)
+            read = pimlab.read(path)
             steps, _ = story.played(read, lines)
             for router in read.routers:
                 if unfit(read, steps, router) is None:
@@ -194,7 +195,7 @@ class Files(unittest.TestCase):
         out = self.path.with_suffix(".toml")
         frames = [(1.0, own_query()), (2.0, report())]
         self.compared(classic(101, frames), "--router", f"{ROUTER}/24", "--step", "0", "--scenario", out)
-        moves = [(move["do"], move.get("moment", move.get("hex"))) for move in scenario.read(out).moves]
+        moves = [(move["do"], move.get("moment", move.get("hex"))) for move in pimlab.read(out).moves]
         self.assertEqual(moves, [("up", None), ("advance", 1000), ("frame", report().hex())])
 
     def test_what_cannot_be_compared(self):

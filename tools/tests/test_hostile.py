@@ -4,8 +4,8 @@ import unittest
 from pathlib import Path
 from unittest import mock
 
-from pimtext import packets
-from pimtext.packets import Entry, GroupEntries, Hello, Record, octets, refusal
+from viqeshor.lab import packets
+from viqeshor.lab.packets import Entry, GroupEntries, Hello, Record, octets, refusal
 from tests import stored
 
 hostile = stored.tool("hostile")

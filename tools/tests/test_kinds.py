@@ -8,7 +8,8 @@ import unittest
 from pathlib import Path
 
 from lab import Network
-from pimtext import checked, faults, kinds, playpage, scenario, written
+from pimtext import checked, kinds, pimlab, playpage
+from viqeshor.lab import faults, scenario, written
 from tests import stored
 
 LINE = stored.TOOLS / "tests" / "frr" / "line"
@@ -76,8 +77,8 @@ class Words(unittest.TestCase):
             move = '[[move]]\ndo = "frame"\nrouter = "edge"\niface = 1\nhex = "igmp v3 239.1.1.1 join"\n'
             path.write_text(TWO + move)
             ran = called("plain", path)
-            self.assertIn("move 2 edge done", scenario.run_text(ran.stdout))
-            self.assertIn("move 2 edge done", "\n".join(map(str, scenario.run_file(path))))
+            self.assertIn("move 2 edge done", pimlab.run_text(ran.stdout))
+            self.assertIn("move 2 edge done", "\n".join(map(str, pimlab.run_file(path))))
             path.write_text(TWO + move.replace("join", "jion"))
             for tool in ("plain", "why", "mroute"):
                 ran = called(tool, path)
@@ -140,7 +141,7 @@ class Names(unittest.TestCase):
         text = net.scenario()
         self.assertEqual(scenario.hosts_in(text), {net.hosts["the camera"].address: "the camera",
                                                    net.hosts["tv"].address: "tv"})
-        self.assertEqual(scenario.run_text(text)[0].split()[-1], "done")
+        self.assertEqual(pimlab.run_text(text)[0].split()[-1], "done")
         self.assertIn("the camera", scenario.scenario_of(faults.toml_lines.plain(faults.toml_lines.read(text))).links())
 
     def test_a_page_has_them(self):
@@ -181,7 +182,7 @@ class Hints(unittest.TestCase):
 
     def told(self, *words):
         here, there = pty.openpty()
-        ran = subprocess.run([sys.executable, scenario.PIMLAB, *words], stdout=subprocess.PIPE, stderr=there)
+        ran = subprocess.run([sys.executable, pimlab.PIMLAB, *words], stdout=subprocess.PIPE, stderr=there)
         os.close(there)
         text = os.read(here, 4096).decode().replace("\r\n", "\n")
         os.close(here)

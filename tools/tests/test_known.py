@@ -11,11 +11,12 @@ import unittest
 from concurrent.futures import ThreadPoolExecutor
 from unittest.mock import patch
 
-from pimtext import asked, packets, playpage, printed, scenario, served, story, twin
+from pimtext import pimlab, playpage, served, shared
 from pimtext.kept import cache
-from pimtext.known import begun, copied, follow, known_after
+from viqeshor.lab import asked, packets, printed, scenario, story, twin
+from viqeshor.lab.known import begun, copied, follow, known_after
 from pimtext.moments import after_moves
-from pimtext.older import read_heard
+from viqeshor.lab.older import read_heard
 from tests import stored
 from tests.networks import GROUP, SOURCE, Network
 
@@ -36,14 +37,14 @@ def packet_of(step):
 def found(kind):
     """The stored scenarios' moves that bring a packet of this kind: (scenario, step)."""
     for path, lines in stored.played():
-        played = scenario.read(path)
+        played = pimlab.read(path)
         yield from ((played, step) for step in story.played(played, lines)[0] if is_taken(step, kind))
 
 
 def before(played, step):
     """What the router of a step knows just before it."""
     cut = scenario.Scenario(played.routers, played.moves[:step.move - 1])
-    steps, tables = story.played(cut, scenario.run_text(cut.text()))
+    steps, tables = story.played(cut, pimlab.run_text(cut.text()))
     return known_after(cut, steps, tables)[step.router]
 
 
@@ -82,7 +83,7 @@ class Drs(unittest.TestCase):
         network = Network()
         network.routers[2]["iface"][0].update(options)
         played = scenario.scenario_of({"router": network.routers, "move": network.moves()})
-        known = known_after(played, *story.played(played, scenario.run_text(network.text())))
+        known = known_after(played, *story.played(played, pimlab.run_text(network.text())))
         return {asked.dr_of(known["hub"], 1), asked.dr_of(known["east"], 0)}
 
     def test_the_higher_address(self):
@@ -97,7 +98,7 @@ class Drs(unittest.TestCase):
         network.said = [{"do": "frame", "router": "east", "iface": 1, "hex": hello.hex()}]
         network.routers[2]["iface"][1]["priority"] = 100
         played = scenario.scenario_of({"router": network.routers, "move": network.moves()})
-        known = known_after(played, *story.played(played, scenario.run_text(network.text())))
+        known = known_after(played, *story.played(played, pimlab.run_text(network.text())))
         self.assertEqual(asked.dr_of(known["east"], 1), "10.8.0.9")
 
 
@@ -105,7 +106,7 @@ class Joined(unittest.TestCase):
     def test_the_trees_of_a_network(self):
         network = Network()
         played = scenario.scenario_of({"router": network.routers, "move": network.moves()})
-        known = known_after(played, *story.played(played, scenario.run_text(network.text())))
+        known = known_after(played, *story.played(played, pimlab.run_text(network.text())))
         found = {(name, branch.source): branch for name, state in known.items() for branch in asked.branches(state)}
         shared = {name: (branch.incoming, set(branch.outgoing)) for (name, source),
             branch in found.items() if source == "*"}
@@ -119,7 +120,7 @@ class Twins(unittest.TestCase):
     def network(self):
         network = Network()
         played = scenario.scenario_of({"router": network.routers, "move": network.moves()})
-        return played, story.played(played, scenario.run_text(network.text()))[0]
+        return played, story.played(played, pimlab.run_text(network.text()))[0]
 
     def told(self, state):
         """All rows, and what is asked most."""
@@ -142,7 +143,7 @@ class Twins(unittest.TestCase):
     def test_the_rows_are_those_that_are_printed(self):
         network = Network()
         played = scenario.scenario_of({"router": network.routers, "move": network.moves()})
-        lines = scenario.run_text(network.text())
+        lines = pimlab.run_text(network.text())
         known = known_after(played, *story.played(played, lines))
         rows = lines[lines.index("router west"):]
         self.assertEqual([line for state in known.values() for line in (f"router {state.router.name}",
@@ -165,7 +166,7 @@ class Reloads(unittest.TestCase):
     def after_moves(self, name):
         """What each router knows after each move: (number of moves, known)."""
         path = stored.DATA / f"{name}.toml"
-        for number, _, known in after_moves(scenario.read(path), scenario.run_each(path.read_text())):
+        for number, _, known in after_moves(pimlab.read(path), pimlab.run_each(path.read_text())):
             yield number, {router: copied(state) for router, state in known.items()}
 
     def test_the_rows_are_those_that_are_printed_after_each_move(self):
@@ -189,11 +190,11 @@ class Reloads(unittest.TestCase):
 
     def test_it_is_shown_drawn_and_put_on_a_page(self):
         path, draw, show = stored.DATA / "a_reload.toml", stored.tool("draw"), stored.tool("show")
-        read = scenario.read(path)
+        read = pimlab.read(path)
         drawn = [draw.picture(moment) for moment in draw.moments_of(read, 1)]
         self.assertEqual(len(drawn), len(read.moves))
         self.assertIn("move 6 r: gets another configuration, of 2 interfaces: done",
-                      list(show.shown(scenario.run_file(path), read)))
+                      list(show.shown(pimlab.run_file(path), read)))
         page = playpage.run_of(playpage.Told(path.name, path.read_text()))
         self.assertEqual([router["name"] for router in page["routers"]], ["r"])
         self.assertEqual([shape["dr"] for shape in page["shapes"][0] if len(shape["up"]) == 3][-1], [0, 1, 2])
@@ -209,7 +210,7 @@ class Libraries(unittest.TestCase):
         return ran.returncode, ran.stdout, ran.stderr.splitlines()[-1:]
 
     def test_one_that_is_named(self):
-        status, out, _ = self.mroute(VIQESHOR_LIBRARY=str(twin.shared()))
+        status, out, _ = self.mroute(VIQESHOR_LIBRARY=str(shared.shared()))
         self.assertEqual(status, 0)
         self.assertIn("router attic", out)
 

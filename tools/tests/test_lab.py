@@ -7,10 +7,12 @@ import unittest
 from pathlib import Path
 from unittest import mock
 
-from lab import GroupRecord, Network, hosts, topology
-from lab.hosts import ALLOW, BLOCK, IS_EX, IS_IN, TO_EX, TO_IN, Wish
-from pimtext import packets, scenario, story, twin
-from pimtext.printed import OlderHosts
+from lab import GroupRecord, Network
+from viqeshor.lab import hosts, topology
+from viqeshor.lab.hosts import ALLOW, BLOCK, IS_EX, IS_IN, TO_EX, TO_IN, Wish
+from pimtext import pimlab
+from viqeshor.lab import packets, scenario, story, twin
+from viqeshor.lab.printed import OlderHosts
 from tests import stored
 
 GROUP = "239.1.1.1"
@@ -135,7 +137,7 @@ class Links(unittest.TestCase):
             camera.stream(GROUP, every=0.25, times=8)
             net.run(20)
             read = scenario.scenario_of(tomllib.loads(net.scenario()))
-            steps, tables = story.played(read, scenario.run_text(net.scenario()))
+            steps, tables = story.played(read, pimlab.run_text(net.scenario()))
             again = [(sent.number, sent.where, sent.data, sent.move) for step in steps for sent in step.sent]
             self.assertEqual(again, [(sent.number, sent.where, sent.data, sent.move) for sent in net.sent])
             self.assertEqual({name: table.rows for name, table in tables.items()},
@@ -174,7 +176,7 @@ class Calls(unittest.TestCase):
         net.ring(*names)
         net.rp("r10")
         camera, viewers = net.host("camera", "r0"), [net.host(f"viewer{at}", names[at]) for at in (3, 7, 12, 17)]
-        played = mock.patch.object(scenario, "run_text", side_effect=AssertionError("the program is called"))
+        played = mock.patch.object(pimlab, "run_text", side_effect=AssertionError("the program is called"))
         with mock.patch.object(twin, "take", wraps=twin.take) as taken, played:
             net.run(10)
             for viewer in viewers:
@@ -210,8 +212,8 @@ class Large(unittest.TestCase):
         self.assertEqual(set(viewer.payloads()), {b"1", b"2", b"3"})
         self.assertTrue(viewer.served(GROUP, camera))
         self.assertFalse([note for note in net.notes() if "missed" in note])
-        with self.assertRaisesRegex(scenario.Refused, "39"):
-            scenario.run_text(net.scenario())
+        with self.assertRaisesRegex(pimlab.Refused, "39"):
+            pimlab.run_text(net.scenario())
 
     def test_a_thousand_and_no_more(self):
         net = Network()

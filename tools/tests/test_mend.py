@@ -6,7 +6,7 @@ import tempfile
 import unittest
 from pathlib import Path
 
-from pimtext import written
+from viqeshor.lab import written
 from tests import stored
 
 mend = stored.tool("mend")

@@ -1,9 +1,10 @@
 """What `tools/why --run` says where a stream doesn't come though nothing is refused: each mistake with its line."""
 import unittest
 
-from pimtext import scenario, toml_lines
+from pimtext import pimlab
+from viqeshor.lab import scenario, toml_lines
 from pimtext.diagnosis import Diagnosis
-from pimtext.faults import faults_of
+from viqeshor.lab.faults import faults_of
 from tests.networks import ALLOW, GROUP, HOST, RP, SOURCE, SSM, TO_EX, Network, data, report, router
 
 
@@ -12,7 +13,7 @@ def noted(network):
     judge, number = faults_of(text)
     assert number == 0, judge.faults
     played = scenario.scenario_of(toml_lines.plain(toml_lines.read(text)))
-    return Diagnosis(judge, played, scenario.run_text(text)).lines()
+    return Diagnosis(judge, played, pimlab.run_text(text)).lines()
 
 
 class Mistakes(unittest.TestCase):

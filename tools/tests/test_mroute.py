@@ -6,8 +6,9 @@ import tempfile
 import unittest
 from pathlib import Path
 
-from pimtext import asked, scenario, story, view_text, views
-from pimtext.known import known_after
+from pimtext import pimlab, view_text, views
+from viqeshor.lab import asked, story
+from viqeshor.lab.known import known_after
 from tests import stored
 from tests.networks import GROUP, HOST, RP, SOURCE, Network
 
@@ -143,7 +144,7 @@ class Stored(unittest.TestCase):
 
     def test_each_is_shown_and_its_branches_are_those_of_the_trees(self):
         for path, lines in stored.played():
-            played = scenario.read(path)
+            played = pimlab.read(path)
             steps, tables = story.played(played, lines)
             for name, state in known_after(played, steps, tables).items():
                 view = views.router(state)

@@ -2,7 +2,7 @@
 import re
 import unittest
 
-from pimtext import packets, words
+from viqeshor.lab import packets, words
 from tests import stored
 
 

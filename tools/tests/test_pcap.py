@@ -7,7 +7,8 @@ import unittest
 from collections import Counter
 from pathlib import Path
 
-from pimtext import scenario, story
+from pimtext import pimlab
+from viqeshor.lab import scenario, story
 from tests import stored
 from tests.networks import GROUP, SOURCE, TO_EX, Network, data, report
 
@@ -19,7 +20,7 @@ WRONG = "(pim || igmp) && (_ws.malformed || _ws.expert.severity >= warning)"
 
 
 def sent_of(path, lines):
-    read = scenario.read(path)
+    read = pimlab.read(path)
     return read, list(pcap.seen(story.played(read, lines)[0], False))
 
 
@@ -45,7 +46,7 @@ class Written(unittest.TestCase):
     def network(self, *said):
         network = Network(*said)
         read = scenario.scenario_of({"router": network.routers, "move": network.moves()})
-        return read, story.played(read, scenario.run_text(network.text()))[0]
+        return read, story.played(read, pimlab.run_text(network.text()))[0]
 
     def test_what_routers_and_hosts_sent(self):
         read, steps = self.network()

@@ -7,7 +7,8 @@ import unittest
 from pathlib import Path
 
 from lab import Network
-from pimtext import colours, labfile, playpage, printed, recorded, scenario, story
+from pimtext import labfile, pimlab, playpage, recorded
+from viqeshor.lab import colours, printed, scenario, story
 from tests import browser, networks, stored
 
 EXAMPLE = stored.EXAMPLES / "shared_to_source_tree.toml"
@@ -47,12 +48,12 @@ def large_network():
 class TablesOfEachAnswer(unittest.TestCase):
     def test_they_are_those_of_the_run_up_to_there(self):
         """After each move that is no settle the tables are those at the end of a run of the moves up to it."""
-        read = scenario.read(EXAMPLE)
-        parts = list(story.Teller(read).tell(scenario.run_text(read.text(), ["--tables-each"])))
+        read = pimlab.read(EXAMPLE)
+        parts = list(story.Teller(read).tell(pimlab.run_text(read.text(), ["--tables-each"])))
         self.assertEqual(len([part for part in parts if isinstance(part, story.Step)]), len(parts) / 2)
         for number, did in enumerate(read.moves, 1):
             cut = scenario.Scenario(read.routers, read.moves[:number])
-            _, tables = story.played(cut, scenario.run_text(cut.text()))
+            _, tables = story.played(cut, pimlab.run_text(cut.text()))
             for name in {part.router for part in parts if isinstance(part, story.Step) and part.move == number}:
                 here = [part for step, part in zip(parts[::2], parts[1::2]) if step.move <= number
                         and part.router == name]
@@ -60,22 +61,22 @@ class TablesOfEachAnswer(unittest.TestCase):
 
     def test_nothing_else_is_printed_otherwise(self):
         text = EXAMPLE.read_text()
-        plain = scenario.run_text(text, ())
-        each = [line for line in scenario.run_each(text) if line.split(" ")[0] in ("move", *printed.PACKETS)]
+        plain = pimlab.run_text(text, ())
+        each = [line for line in pimlab.run_each(text) if line.split(" ")[0] in ("move", *printed.PACKETS)]
         self.assertEqual(plain, each)
-        self.assertEqual(scenario.run_text(text)[:len(plain)], plain)
+        self.assertEqual(pimlab.run_text(text)[:len(plain)], plain)
 
     def test_both_kinds_of_tables_follow_one_another(self):
         text = EXAMPLE.read_text()
-        end = scenario.run_text(text)[len(scenario.run_text(text, ())):]
-        self.assertEqual(scenario.run_each(text), scenario.run_text(text, ["--tables-each"]) + end)
+        end = pimlab.run_text(text)[len(pimlab.run_text(text, ())):]
+        self.assertEqual(pimlab.run_each(text), pimlab.run_text(text, ["--tables-each"]) + end)
 
 
 class Recorded(unittest.TestCase):
     def test_a_shape_and_ends_are_the_rows(self):
         """Of each step the rows in words are those that the run printed, and its ends are theirs."""
-        read = scenario.read(EXAMPLE)
-        lines = scenario.run_each(read.text())
+        read = pimlab.read(EXAMPLE)
+        lines = pimlab.run_each(read.text())
         told = run(read.text())
         tables = [part for part in story.Teller(read).tell(lines) if isinstance(part, story.Tables)]
         now = {}
@@ -108,7 +109,7 @@ class Recorded(unittest.TestCase):
         net = networks.Network()
         moves = net.moves()
         read = scenario.scenario_of({"router": net.routers, "move": moves})
-        steps, _ = story.played(read, scenario.run_text(read.text()))
+        steps, _ = story.played(read, pimlab.run_text(read.text()))
         copy = next(sent for step in steps for sent in step.sent if sent.kind == "copy" and sent.where == "hub-east")
         again = {"do": "deliver", "router": "east", "iface": 0, "frame": copy.number}
         told = run(scenario.text_of(net.routers, [*moves, again]))

@@ -14,6 +14,7 @@ import zipfile
 from pathlib import Path
 
 from pimtext import library
+from pimtext.wheel import PACKAGE
 from tests import stored
 
 TOP = library.TOP
@@ -130,6 +131,16 @@ class Unproved(unittest.TestCase):
         summary = wheel.read(f"viqeshor-{library.VERSION}.dist-info/METADATA").decode()
         self.assertIn("; the library in it is not proved\n", summary)
         self.assertEqual(self.viq("--version"), f"viq {library.VERSION}: the router that plays is not proved\n")
+
+    def test_the_package_for_python_is_whole(self):
+        """The wheel has each module of the sources, and so has the Debian package."""
+        wanted = {f"viqeshor/{file.relative_to(PACKAGE)}" for file in PACKAGE.rglob("*.py")}
+        wheel = set(zipfile.ZipFile(next((self.room / "made").glob("*.whl"))).namelist())
+        self.assertEqual({name for name in wheel if name.endswith(".py")}, wanted)
+        self.assertIn("viqeshor/lab/network.py", wanted)
+        package = next((self.room / "made").glob("python3-viqeshor_*.deb"))
+        listed = subprocess.run(["dpkg-deb", "--contents", package], stdout=subprocess.PIPE, text=True, check=True)
+        self.assertEqual(set(re.findall(r"/dist-packages/(\S+\.py)$", listed.stdout, re.M)), wanted)
 
     def test_its_sums_are_of_all_its_files(self):
         subprocess.run(["sha256sum", "--check", "--quiet", "SHA256SUMS"], cwd=self.top, check=True)

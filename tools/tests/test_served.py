@@ -11,7 +11,8 @@ import unittest
 from pathlib import Path
 
 import lab
-from pimtext import packets, scenario, story, watched
+from pimtext import pimlab, watched
+from viqeshor.lab import packets, scenario, story
 from tests import stored
 from tests.networks import ALLOW, GROUP, HOST, RP, SOURCE, SSM, TO_EX, Network, data, report, router
 
@@ -20,7 +21,7 @@ TRIALS, SEED = int(os.environ.get("TRIALS", 8)), int(os.environ.get("SEED", 1))
 
 def answer(network, *asked):
     played = scenario.scenario_of({"router": network.routers, "move": network.moves()})
-    steps, tables = story.played(played, scenario.run_text(network.text()))
+    steps, tables = story.played(played, pimlab.run_text(network.text()))
     ((verdict, lines),) = watched.Watch(played, steps, tables).answers(*(asked or (HOST, GROUP, SOURCE)))
     return lines, bool(verdict and verdict.is_served)
 

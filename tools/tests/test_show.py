@@ -3,7 +3,8 @@ import subprocess
 import unittest
 from collections import Counter
 
-from pimtext import scenario, story
+from pimtext import pimlab
+from viqeshor.lab import story
 from tests import stored
 from tests.rooms import repository
 
@@ -13,7 +14,7 @@ show = stored.tool("show")
 class Shown(unittest.TestCase):
     def test_every_stored_line_is_told(self):
         for path, lines in stored.played():
-            read = scenario.read(path)
+            read = pimlab.read(path)
             letters = Counter(line.split()[0] for line in lines)
             for known in (read, None):
                 said = list(show.shown(lines, known))
@@ -25,7 +26,7 @@ class Shown(unittest.TestCase):
 
     def test_the_first_packet_of_an_example(self):
         path = stored.EXAMPLES / "shared_to_source_tree.toml"
-        said = list(show.shown(path.with_suffix(".out").read_text().splitlines(), scenario.read(path)))
+        said = list(show.shown(path.with_suffix(".out").read_text().splitlines(), pimlab.read(path)))
         self.assertIn("move 16 rp: settle brings as a unicast: packet 19 of first, Register: done", said)
         self.assertIn("move 18 last: settle brings on 1 first-last: packet 27 of first, data: done", said)
         self.assertIn("    2 home     239.1.1.1  exclude  260.001 s", said)
@@ -36,13 +37,13 @@ class Shown(unittest.TestCase):
         text = path.read_text().replace("{ do =", "{\n  do =")
         self.assertNotEqual(text, path.read_text())
         with repository({"scenario.toml": "\ufeff" + text}) as room:
-            self.assertEqual(scenario.read(room / "scenario.toml"), scenario.read(path))
-            self.assertEqual(scenario.run_file(room / "scenario.toml"), scenario.run_file(path))
+            self.assertEqual(pimlab.read(room / "scenario.toml"), pimlab.read(path))
+            self.assertEqual(pimlab.run_file(room / "scenario.toml"), pimlab.run_file(path))
 
     def test_lines_of_another_scenario_are_found(self):
         lines = (stored.EXAMPLES / "one_join.out").read_text().splitlines()
         with self.assertRaises((story.Untold, LookupError)):
-            list(show.shown(lines, scenario.read(stored.EXAMPLES / "lan_assert.toml")))
+            list(show.shown(lines, pimlab.read(stored.EXAMPLES / "lan_assert.toml")))
 
     def test_a_row_or_a_packet_below_no_line_of_its_router_is_said_to_be_one(self):
         row, packet, answer, heading = "N 0 10.0.2.2 110000", "frame 1 lan 4500", "move 1 r done", "router r"

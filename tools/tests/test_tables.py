@@ -72,7 +72,7 @@ class Tables(unittest.TestCase):
             "include/viqeshor/viqeshor.h", "bindings/python/src/viqeshor/__init__.py"})
         self.assertLessEqual({"bindings/c/texts.c"}, self.holders('BAD_OPTION: return "an odd saying";'))
         self.assertLessEqual({"docs/SCENARIOS.md"}, self.holders("| 10 | BadOption | an odd when |"))
-        self.assertLessEqual({"tools/pimtext/facts.py"}, self.holders('"10": "an odd hint",'))
+        self.assertLessEqual({"bindings/python/src/viqeshor/lab/facts.py"}, self.holders('"10": "an odd hint",'))
 
     def test_so_is_one_of_saved_bytes(self):
         self.with_answer(70, 101)

@@ -2,14 +2,15 @@
 step."""
 import unittest
 
-from pimtext import packets, past, printed, scenario, story, trace, watched, wire
+from pimtext import past, pimlab, trace, watched, wire
+from viqeshor.lab import packets, printed, scenario, story
 from tests.networks import GROUP, HOST, RP, SETTLE, SOURCE, TO_EX, Network, data, report, router
 
 
 def played(network):
     """A network with its steps and its tables."""
     made = scenario.scenario_of({"router": network.routers, "move": network.moves()})
-    return made, *story.played(made, scenario.run_text(made.text()))
+    return made, *story.played(made, pimlab.run_text(made.text()))
 
 
 def packets_of(network):
@@ -37,7 +38,7 @@ class Traced(unittest.TestCase):
         moves = network.moves()
         moves.insert(-1, data(router="spare"))
         made = scenario.scenario_of({"router": network.routers, "move": moves})
-        first, second = trace.traced(made, story.played(made, scenario.run_text(made.text()))[0])
+        first, second = trace.traced(made, story.played(made, pimlab.run_text(made.text()))[0])
         self.assertEqual([taken.router for taken in first.began], ["west"])
         self.assertEqual([taken.router for taken in second.began], ["west", "spare"])
 
@@ -59,7 +60,7 @@ class Traced(unittest.TestCase):
     def test_a_register_that_comes_to_nobody(self):
         network = Network(report(TO_EX, GROUP), data())
         made = scenario.scenario_of({"router": network.routers, "move": network.moves()[:-1]})
-        (packet,) = trace.traced(made, story.played(made, scenario.run_text(made.text()))[0])
+        (packet,) = trace.traced(made, story.played(made, pimlab.run_text(made.text()))[0])
         (copy,) = packet.ends()[1]
         self.assertEqual((copy.is_register(), copy.sent.where), (True, RP))
 
@@ -103,13 +104,13 @@ class Lost(unittest.TestCase):
         network = Network(report(TO_EX, GROUP))
         moves = [move for move in network.moves() if move != SETTLE]
         made = scenario.scenario_of({"router": network.routers, "move": moves})
-        steps, _ = story.played(made, scenario.run_text(made.text()))
+        steps, _ = story.played(made, pimlab.run_text(made.text()))
         # Hub's Hello comes to east; west's come to nobody.
         hello = next(sent for step in steps for sent in step.sent if sent.router == "hub" and sent.where == "hub-east"
                      and packets.is_pim(sent.data, packets.HELLO))
         moves.append({"do": "deliver", "router": "east", "iface": 0, "frame": hello.number})
         made = scenario.scenario_of({"router": network.routers, "move": moves})
-        steps, _ = story.played(made, scenario.run_text(made.text()))
+        steps, _ = story.played(made, pimlab.run_text(made.text()))
         lost = wire.Wire(made, steps)
         self.assertTrue(lost.way("west", "hub", "west-hub").is_dead())
         self.assertFalse(lost.way("hub", "east", "hub-east").is_dead())

@@ -11,9 +11,10 @@ import unittest
 from collections import Counter
 from dataclasses import dataclass, field
 
-from pimtext import packets, scenario, toml_lines
+from pimtext import pimlab
+from viqeshor.lab import packets, scenario, toml_lines
 from pimtext.diagnosis import Diagnosis
-from pimtext.faults import faults_of
+from viqeshor.lab.faults import faults_of
 from tests import stored
 
 FOLDER = stored.TOOLS / "tests" / "mistakes"
@@ -187,7 +188,7 @@ class Played:
         judge, self.number = faults_of(text)
         self.told = [fault.what for fault in judge.faults]
         if not self.number:
-            self.lines = scenario.run_text(text)
+            self.lines = pimlab.run_text(text)
             played = scenario.scenario_of(toml_lines.plain(toml_lines.read(text)))
             self.diagnosis = Diagnosis(judge, played, self.lines)
             self.told = self.diagnosis.lines()

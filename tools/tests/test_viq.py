@@ -8,7 +8,8 @@ import tempfile
 import unittest
 from pathlib import Path
 
-from pimtext import library, scenario, written
+from pimtext import library, pimlab
+from viqeshor.lab import written
 from pimtext.called import CUT_OFF
 from tests import stored
 
@@ -71,7 +72,7 @@ class Runs(unittest.TestCase):
 
     def test_a_run_in_words(self):
         show, lines = stored.tool("show"), EXAMPLE.with_suffix(".out").read_text().splitlines()
-        for words, text, read in (([EXAMPLE], "", scenario.read(EXAMPLE)), (["-"], EXAMPLE.read_text(), None)):
+        for words, text, read in (([EXAMPLE], "", pimlab.read(EXAMPLE)), (["-"], EXAMPLE.read_text(), None)):
             wanted = "".join(f"{line}\n" for line in show.shown(lines, read))
             self.assertEqual(called("run", *words, "--tables", text=text), (0, wanted, ""))
 
@@ -83,7 +84,7 @@ class Runs(unittest.TestCase):
         self.assertEqual(called("run", words, "--lines", "--tables"), (0, lines, ""))
         self.assertEqual(called("run", words, "--tables"), called("run", EXAMPLE, "--tables"))
         network = TOP / "tools" / "networks" / "examples" / "three_in_a_line.py"
-        lines = "".join(f"{line}\n" for line in scenario.run_file(network))
+        lines = "".join(f"{line}\n" for line in pimlab.run_file(network))
         self.assertEqual(called("run", network, "--lines", "--tables"), (0, lines, ""))
 
     def test_a_run_that_is_refused_has_the_programs_status_and_line(self):
@@ -107,7 +108,8 @@ class Release(unittest.TestCase):
         self.top = room / "release"
         ignored = shutil.ignore_patterns("__pycache__", "tests")
         shutil.copytree(TOP / "tools", self.top / "tools", ignore=ignored)
-        shutil.copytree(TOP / "include", self.top / "include")
+        for folder in ("include", "bindings/python/src"):
+            shutil.copytree(TOP / folder, self.top / folder, ignore=ignored)
         (self.top / "bin").mkdir()
         (self.top / "bin" / "pimlab").write_text('#!/bin/sh\necho "own $*"\n')
         (self.top / "bin" / "pimlab").chmod(0o755)

@@ -12,10 +12,11 @@ import unittest
 from collections import Counter
 from concurrent.futures import ThreadPoolExecutor
 
-from pimtext import notes, scenario, toml_lines
+from pimtext import notes, pimlab
+from viqeshor.lab import scenario, toml_lines
 from pimtext.diagnosis import Diagnosis
-from pimtext.faults import faults_of
-from pimtext.scenario import PIMLAB
+from viqeshor.lab.faults import faults_of
+from pimtext.pimlab import PIMLAB
 from tests import stored
 
 GOOD = """\
@@ -491,7 +492,7 @@ class Odd(unittest.TestCase):
         judge, number = faults_of(text)
         self.assertEqual(number, 0)
         played = scenario.scenario_of(toml_lines.plain(toml_lines.read(text)))
-        return Diagnosis(judge, played, scenario.run_text(text)).lines()
+        return Diagnosis(judge, played, pimlab.run_text(text)).lines()
 
     def test_nothing_is_odd_in_a_good_run(self):
         self.assertEqual(self.noted(RUN), [])

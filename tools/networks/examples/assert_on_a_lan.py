@@ -2,7 +2,7 @@
 route.
 """
 from lab import AssertState, Network
-from pimtext.packets import Assert
+from viqeshor.lab.packets import Assert
 
 net = Network()
 net.link("head", "left", cost=10)

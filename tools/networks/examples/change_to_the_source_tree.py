@@ -6,7 +6,7 @@ from __future__ import annotations
 from typing import TYPE_CHECKING
 
 from lab import Network
-from pimtext.packets import Register, RegisterStop
+from viqeshor.lab.packets import Register, RegisterStop
 
 if TYPE_CHECKING:
     from lab import Host

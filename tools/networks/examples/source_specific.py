@@ -1,6 +1,6 @@
 """Source-specific multicast: no RP, and a viewer gets the source that it asked for, and no other one."""
 from lab import Network
-from pimtext.packets import Register
+from viqeshor.lab.packets import Register
 
 net = Network()
 net.line("r1", "r2", "r3", "r4")

@@ -16,7 +16,7 @@ A packet that is to be sent is kept until `packets` or `run_to` returns it, what
 
 A moment is a timestamp, in milliseconds from any beginning, at most 2**62. The shared library is the one that `library`
 names, or VIQESHOR_LIBRARY in the environment, or the one in the package's folder, or the one that the system loads as
-`libviqeshor.so.0.9`. `viqeshor.hosts` writes packets of hosts.
+`libviqeshor.so.0.9`. `viqeshor.hosts` writes packets of hosts, and `viqeshor.lab` plays whole networks.
 """
 import ctypes
 import enum

@@ -6,7 +6,7 @@ from pathlib import Path
 from typing import TYPE_CHECKING, NamedTuple
 
 if TYPE_CHECKING:
-    from lab.network import Network
+    from viqeshor.lab.network import Network
 
 HERE = Path(__file__).resolve().parent
 
@@ -29,7 +29,7 @@ def calling() -> Line:
 
 def is_inside(name: str) -> bool:
     """Whether code is the package's own, or was made for one of its data classes."""
-    return name.startswith("<") or Path(name).parent == HERE
+    return name == "<string>" or Path(name).parent == HERE
 
 
 class Lines:

@@ -12,14 +12,14 @@ from collections.abc import Sequence
 from dataclasses import dataclass, field
 from typing import TYPE_CHECKING, Any
 
-from lab.playing import Action, Batch
-from lab.topology import ways
-from pimtext import story
+from viqeshor.lab import story
+from viqeshor.lab.playing import Action, Batch
+from viqeshor.lab.topology import ways
 
 if TYPE_CHECKING:
-    from lab.network import Network
-    from lab.topology import Link, Router
-    from pimtext.scenario import Scenario
+    from viqeshor.lab.network import Network
+    from viqeshor.lab.topology import Link, Router
+    from viqeshor.lab.scenario import Scenario
 
 # What is due at one moment goes in this order.
 START, HOSTS, DELIVERIES, OVERTAKEN = range(4)

@@ -6,12 +6,12 @@ from dataclasses import dataclass, field
 from itertools import chain
 from typing import TYPE_CHECKING, Any, NamedTuple, TypeVar
 
-from pimtext import packets, printed
-from pimtext.older import read_heard
+from viqeshor.lab import packets, printed
+from viqeshor.lab.older import read_heard
 
 if TYPE_CHECKING:
-    from pimtext.scenario import Router, Scenario
-    from pimtext.twin import Twin
+    from viqeshor.lab.scenario import Router, Scenario
+    from viqeshor.lab.twin import Twin
 
     R = TypeVar("R")
 
@@ -62,6 +62,11 @@ class Step:
     def answer(self) -> str:
         return self.verdict if self.cause is None else f"{self.verdict} {self.cause}"
 
+    def lines(self) -> list[str]:
+        """The lines that `pimlab run` prints of it."""
+        sent = (f"{each.kind} {each.number} {each.where} {each.data.hex()}" for each in self.sent)
+        return [f"move {self.move} {self.router} {self.answer()}", *sent]
+
     def is_settle(self) -> bool:
         return self.did is not None and self.did["do"] == "settle"
 
@@ -74,7 +79,7 @@ class Step:
 
 @dataclass
 class Tables:
-    """What a router knows at last: rows as pimtext.printed has them."""
+    """What a router knows at last: rows as viqeshor.lab.printed has them."""
     router: str
     moment: int
     rows: list = field(default_factory=list)
@@ -245,7 +250,7 @@ class Teller:
 
     def twin(self, name: str) -> Twin:
         if name not in self.twins:
-            from pimtext.twin import Twin
+            from viqeshor.lab.twin import Twin
             self.twins[name] = Twin(self.scenario.router(name).table)
         return self.twins[name]
 

@@ -6,8 +6,10 @@ Addresses are dotted text.
 """
 from __future__ import annotations
 
+import functools
 from collections.abc import Sequence
 from dataclasses import dataclass
+from ipaddress import IPv4Address
 from typing import Any
 
 SHORT, VERSION, CHECKSUM, LENGTH, ADDRESS, GROUP, OLD, UNKNOWN, FRAGMENT = range(1, 10)
@@ -49,8 +51,10 @@ def dotted(data: bytes) -> str:
     return ".".join(map(str, data))
 
 
+@functools.lru_cache(maxsize=65536)
 def octets(address: str) -> bytes:
-    return bytes(map(int, str(address).split(".")))
+    """Raises a ValueError where the text is no address."""
+    return IPv4Address(address).packed
 
 
 def is_multicast(data: bytes) -> bool:

@@ -5,16 +5,15 @@ from collections.abc import Iterable
 from dataclasses import dataclass, field
 from typing import TYPE_CHECKING, Any
 
-from lab.lines import calling
-from lab.mistakes import Mistake, group_given, ms_given, number_given, payload_given, source_given
-from lab.playing import Action
-from pimtext import packets
-from pimtext.wishes import NOTHING, Wish
+from viqeshor.lab import packets
+from viqeshor.lab.lines import calling
+from viqeshor.lab.mistakes import Mistake, group_given, ms_given, number_given, payload_given, source_given
+from viqeshor.lab.playing import Action
+from viqeshor.lab.wishes import NOTHING, Wish
 
 if TYPE_CHECKING:
-    from lab.network import Network, Served
-    from lab.topology import Link
-    from pimtext.streams import Stream
+    from viqeshor.lab.network import Network
+    from viqeshor.lab.topology import Link
 
 # How often a host tells a change on a link that loses packets, and the ms between (RFC 3376, 8.1 and 8.11).
 ROBUSTNESS, UNSOLICITED_INTERVAL = 2, 1000
@@ -30,7 +29,7 @@ class Received:
     source: str
     payload: bytes
     ttl: int
-    path: tuple
+    path: tuple[str, ...]
 
 
 def change(old: Wish, new: Wish) -> list[tuple[int, frozenset[str]]]:
@@ -62,8 +61,8 @@ class Host:
     link: Link
     address: str
     net: Network = field(repr=False)
-    wishes: dict = field(default_factory=dict, repr=False)
-    received: list = field(default_factory=list, repr=False)
+    wishes: dict[str, Wish] = field(default_factory=dict, repr=False)
+    received: list[Received] = field(default_factory=list, repr=False)
     igmp: int = 3
     answers: bool = True
 
@@ -93,6 +92,7 @@ class Host:
 
     def turn(self, group: str, new: Wish) -> None:
         """Another wish: it is told to the routers."""
+        self.net.act()
         records = [record(kind, group, sources) for kind, sources in change(self.wish(group), new)]
         self.wishes[group] = new
         if new == NOTHING:
@@ -122,18 +122,9 @@ class Host:
         answers = [(group, answer(self.wishes[group], query)) for group in groups]
         return [record(told[0], group, told[1]) for group, told in answers if told]
 
-    def served(self, group: str, source: Host | str) -> Served:
-        """Whether it is served of a source, a host or an address, at the present; as a text, hop by hop how, or why
-        not."""
-        return self.net.served(self, group, source)
-
-    def watch(self, group: str, source: Host | str | None = None) -> list[Stream]:
-        """What came of a group so far, of each source that sent to it or of one: a `Stream` each, with `sent`, `came`,
-        `twice`, `longest_gap` and `first_after` in seconds, and `missing()`."""
-        return self.net.watch(self, group, source)
-
     def send(self, group: str, payload: bytes = b"", ttl: int = 16, after: float = 0.0) -> None:
         """Sends a packet of data to a group, at the present or so many seconds later."""
+        self.net.act()
         ttl = number_given(ttl, "TTL", 0, 255, is_whole=True)
         data = packets.write_data(self.address, group_given(group), payload_given(payload), ttl)
         self.net.schedule(Speech(self, data), self.net.now + ms_given(after, "number of seconds"))

@@ -11,8 +11,8 @@ import re
 from collections.abc import Callable
 from difflib import get_close_matches
 
-from pimtext import packets
-from pimtext.addresses import address_in, is_group, is_host
+from viqeshor.lab import packets
+from viqeshor.lab.addresses import address_in, is_group, is_host
 
 # A key `hex` with a text that begins with a word, by which packets are told from hexadecimal.
 KEY = re.compile(r"""(\bhex\s*=\s*)(["'])((?:igmp|data)\b[^"'\n]*)\2""")

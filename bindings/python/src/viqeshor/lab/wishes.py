@@ -6,12 +6,12 @@ from collections import defaultdict
 from dataclasses import dataclass
 from typing import TYPE_CHECKING
 
-from pimtext import packets
-from pimtext.spoken import ALLOW, BLOCK, IS_EX, IS_IN, TO_EX
+from viqeshor.lab import packets
+from viqeshor.lab.spoken import ALLOW, BLOCK, IS_EX, IS_IN, TO_EX
 
 if TYPE_CHECKING:
-    from pimtext.scenario import Scenario
-    from pimtext.story import Step
+    from viqeshor.lab.scenario import Scenario
+    from viqeshor.lab.story import Step
 
 # The messages of older hosts, with their version of IGMP: reports, and the one that leaves.
 OLDER, LEAVE = {0x12: 1, 0x16: 2, 0x17: 2}, 0x17

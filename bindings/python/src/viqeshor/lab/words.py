@@ -4,13 +4,13 @@ from __future__ import annotations
 from collections.abc import Iterable
 from typing import TYPE_CHECKING, Any
 
-from pimtext import packets, printed
-from pimtext.older import older_of
-from pimtext.packets import RECORD_KINDS, Refused
+from viqeshor.lab import packets, printed
+from viqeshor.lab.older import older_of
+from viqeshor.lab.packets import RECORD_KINDS, Refused
 
 if TYPE_CHECKING:
-    from pimtext.scenario import Router, Scenario
-    from pimtext.story import Sent, Step
+    from viqeshor.lab.scenario import Router, Scenario
+    from viqeshor.lab.story import Sent, Step
 
 REFUSALS = {
     1: "Short", 2: "BadVersion", 3: "BadChecksum", 4: "BadLength", 5: "BadAddress", 6: "NotMulticast", 7: "OldVersion",

@@ -2,26 +2,16 @@
 from __future__ import annotations
 
 import functools
-import hashlib
-import os
-import shutil
-import sys
-import tempfile
-from pathlib import Path
+from os import PathLike
 from typing import TYPE_CHECKING, Any
 
-from pimtext import fed, library, printed, program
-from pimtext.builds import keep
-from pimtext.kept import TOP, cache, released
-
-PACKAGE = library.BINDINGS / "python" / "src"
-if str(PACKAGE) not in sys.path:
-    sys.path.insert(0, str(PACKAGE))
-import viqeshor  # noqa: E402
+import viqeshor
+from viqeshor.lab import fed, printed
+from viqeshor.rows import ends
 
 if TYPE_CHECKING:
     from collections.abc import Iterator
-    from pimtext.story import Step
+    from viqeshor.lab.story import Step
 
 # The calls of the library whose names aren't those of the events, and what reads the texts that these take.
 CALLS = {"routes": ("set_routes", fed.routes), "ranges": ("set_ranges", fed.ranges)}
@@ -29,67 +19,13 @@ CALLS = {"routes": ("set_routes", fed.routes), "ranges": ("set_ranges", fed.rang
 APART = 256
 
 
-# ---- the library that is asked
-
-
-@functools.cache
-def shared() -> Path:
-    """The shared library that is asked. It is the one that VIQESHOR_LIBRARY in the environment names, or that of a
-    release; else it is put together once, and kept, of the same build as the program: of the proved archive where that
-    is newer than its sources, else of an unproved one. This process ends with a line where there can be none."""
-    if given := os.environ.get("VIQESHOR_LIBRARY"):
-        return usable(Path(given))
-    if released():
-        return TOP / "lib" / "libviqeshor.so"
-    is_proved = program.wanted() == "proved" and library.PROVED.exists() and program.is_newer(library.PROVED)
-    try:
-        router = library.PROVED if is_proved else library.unproved_router(None)
-        made = cache() / f"libviqeshor-{sum_of(router)}.so"
-        if not made.exists():
-            put_together(router, made)
-    except OSError as error:
-        sys.exit(f"library: it can't be kept: {error}")
-    return made
-
-
-def usable(given: Path) -> Path:
-    """A library that is of this version; the end of the process where it isn't."""
-    try:
-        viqeshor.version(given)
-    except (OSError, viqeshor.Error) as error:
-        sys.exit(f"library: {given}, which VIQESHOR_LIBRARY names, can't be taken: {error}")
-    return given
-
-
-def sum_of(router: Path) -> str:
-    """A sum of all that a shared library is made of."""
-    here = [router, library.BINDINGS / "c", library.INCLUDE / "viqeshor"]
-    files = (file for path in here for file in (sorted(path.iterdir()) if path.is_dir() else [path]))
-    total = hashlib.sha256()
-    for file in files:
-        total.update(file.read_bytes())
-    return total.hexdigest()[:32]
-
-
-def put_together(router: Path, made: Path) -> None:
-    """Makes a shared library of a router's archive, and keeps it."""
-    if shutil.which(library.CC) is None:
-        sys.exit(f"library: there is no C compiler `{library.CC}`, which puts it together; CC may name another one")
-    made.parent.mkdir(parents=True, exist_ok=True)
-    with tempfile.TemporaryDirectory(prefix="shared-", dir=made.parent) as room:
-        keep(library.Library(router, room=Path(room)).shared(), made)
-
-
-# ---- a router of it
-
-
-def new_router(table: dict[str, Any], path: Path) -> viqeshor.Router:
-    """A router of a shared library with the configuration of a scenario's."""
+def new_router(table: dict[str, Any], library: str | PathLike[str] | None = None) -> viqeshor.Router:
+    """A router with the configuration of a scenario's, of the library that is named, else of the package's."""
     router = viqeshor.Router(
         fed.interfaces(table),
         fed.ranges(table.get("rps", [])),
         fed.routes(table.get("routes", [])),
-        library=path,
+        library=library,
         **fed.settings(table)
     )
     for iface, _ in enumerate(table["iface"]):
@@ -131,6 +67,13 @@ def reload(router: viqeshor.Router, event: fed.Event, before: dict[str, Any]) ->
     for iface, _ in enumerate(config["iface"]):
         router.set_query_version(iface, config.get("query_version", 3))
     return viqeshor.Answer.DONE
+
+
+def lines_of(router: viqeshor.Router) -> list[str]:
+    """The lines of a router's tables, those of older hosts too."""
+    older = (f"O {row.iface} {row.group} v{row.mode} {ends(row.one_end, '-')} {ends(row.two_end, '-')}"
+             for row in router.older_rows())
+    return [*router.tables(), *older]
 
 
 def rows_of(router: viqeshor.Router) -> list[printed.Row]:
@@ -193,10 +136,10 @@ class Twin:
         self.taken = max((at for at in self.saved if at <= count), default=0)
         if self.taken:
             state, self.table = self.saved[self.taken]
-            self.router = viqeshor.Router.restore(state, library=shared())
+            self.router = viqeshor.Router.restore(state)
         else:
             self.table = self.first
-            self.router = new_router(self.table, shared())
+            self.router = new_router(self.table)
 
     def stops(self, count: int) -> Iterator[int]:
         """Where the states on the way to an event are saved, and the event itself."""
@@ -209,4 +152,4 @@ class Twin:
 
     def copy(self, count: int) -> viqeshor.Router:
         """Another router after so many events, which may take others from then on."""
-        return viqeshor.Router.restore(self.after(count).save(), library=shared())
+        return viqeshor.Router.restore(self.after(count).save())

@@ -1,6 +1,6 @@
 """Networks of multicast routers in a few lines of Python, each a router of the library.
 
-    from lab import Network
+    from viqeshor.lab import Network
 
     net = Network()
     net.line("r1", "r2", "r3")                 # three routers, and the links r1-r2 and r2-r3
@@ -15,24 +15,26 @@
     assert viewer.payloads() == [b"one"]
     assert net.tree("239.1.1.1").path(viewer) == ["r2", "r3"]
 
+A scenario file is one too: `net = Network.read("network.toml")`, and `net.run_to(60)` plays its moves up to then. In a
+notebook a network and a tree are pictures, and `net.table("N")`, the table of all neighbours, is a frame of pandas by
+`.frame()`.
+
 Unicast routes are computed by shortest path. Time passes for all routers together, in steps; after each step all that
 was sent is delivered. With `loss`, `delay` or `reorder` the packets between routers suffer, by chance from `seed`: the
 same network with the same seed does the same. Hosts speak IGMPv3, or an older version, and answer queries. Times that
-you give are in seconds; times that you read are in ms, as in the tables.
-
-`tools/lab FILE.py` runs such a file; tools/networks/examples has some.
+you give are in seconds; times that you read are in ms, as in the tables. What is wrong with a call is a `Mistake`.
 """
-from lab.hosts import Host, Received
-from lab.mistakes import Mistake
-from lab.network import Network
-from lab.topology import Link, Router
-from lab.tree import Tree
-from pimtext.printed import (NEVER, Active, AssertState, Downstream, GroupRecord, Neighbour, SharedTree, SourceRecord,
-                             Upstream)
-from pimtext.scenario import Refused
+from viqeshor.lab.hosts import Host, Received
+from viqeshor.lab.mistakes import Mistake
+from viqeshor.lab.network import Network
+from viqeshor.lab.printed import (
+    NEVER, Active, AssertState, Downstream, GroupRecord, Neighbour, OlderHosts, SharedTree, SourceRecord, Upstream,
+)
+from viqeshor.lab.tables import Table
+from viqeshor.lab.topology import Link, Port, Router
+from viqeshor.lab.tree import Tree
 
 __all__ = [
     "NEVER", "Active", "AssertState", "Downstream", "GroupRecord", "Host", "Link", "Mistake", "Neighbour", "Network",
-        "Received",
-    "Refused", "Router", "SharedTree", "SourceRecord", "Tree", "Upstream",
+    "OlderHosts", "Port", "Received", "Router", "SharedTree", "SourceRecord", "Table", "Tree", "Upstream",
 ]

@@ -1,73 +1,22 @@
-"""Where the routers, links and hosts of a network stand in a picture, by Graphviz, or in a ring without it."""
+"""Where the routers, links and hosts of a network stand in a picture, by Graphviz, or in plain ranks without it."""
 from __future__ import annotations
 
-import math
 import re
 import shutil
 import subprocess
-from collections import defaultdict
 from collections.abc import Collection, Iterable, Iterator, Mapping, Sequence
-from typing import TYPE_CHECKING, TypeAlias
+from typing import TYPE_CHECKING
+
+from viqeshor.lab.places import edges, in_ranks, ranks
 
 if TYPE_CHECKING:
-    Node: TypeAlias = tuple[str, str]
+    from viqeshor.lab.places import Node
 
 # Up to so many routers stand in ranks from the sources on; more are laid out by their distances.
 MOST_IN_RANKS = 9
 SIZES = {"r": (1.3, 0.58), "l": (1.17, 0.45), "h": (1.28, 0.36)}
 # Around the middles of the outermost nodes, to the sides and above and below.
 MARGIN = 96, 70
-
-
-def kinds(links: Iterable[str], ports: Mapping[str, list[str]], hosts: Mapping[str, list[str]]) -> dict[str, str]:
-    """What each link is in a picture: a node of its own ("lan"), a line between two routers ("pair"), a line from a
-    router to each host ("stub"), or nothing. `ports` are the routers on each link, `hosts` the hosts there."""
-    found = {}
-    for link in links:
-        routers, here = len(ports[link]), hosts[link]
-        if routers == 2 and not here and len(set(ports[link])) == 2:
-            found[link] = "pair"
-        elif routers == 1 or not (routers or here):
-            found[link] = "stub" if here else "none"
-        else:
-            found[link] = "lan"
-    return found
-
-
-def edges(
-    kinds_of: dict[str, str], ports: Mapping[str, list[str]], hosts: Mapping[str, list[str]]
-) -> Iterator[tuple[Node, ...]]:
-    """The lines of a picture, as pairs of nodes: a kind's letter and a name."""
-    for link, kind in kinds_of.items():
-        routers = [("r", name) for name in ports[link]]
-        ends = [("h", host) for host in hosts[link]]
-        if kind == "pair":
-            yield tuple(routers)
-        elif kind == "stub":
-            yield from ((routers[0], end) for end in ends)
-        elif kind == "lan":
-            yield from ((node, ("l", link)) for node in routers + ends)
-
-
-def ranks(pairs: Iterable[tuple[Node, ...]], roots: Sequence[Node]) -> dict[Node, int]:
-    """How far each node is from the roots."""
-    near = defaultdict(list)
-    for one, other in pairs:
-        near[one].append(other)
-        near[other].append(one)
-    far, waiting = {root: 0 for root in roots}, list(roots)
-    for node in waiting:  # grows as it goes
-        fresh = [each for each in near[node] if each not in far]
-        far.update((each, far[node] + 1) for each in fresh)
-        waiting += fresh
-    return far
-
-
-def ringed(nodes: Sequence[Node]) -> dict[Node, tuple[float, float]]:
-    """All in a ring, where Graphviz isn't installed."""
-    radius = max(150, 26 * len(nodes))
-    turns = [2 * math.pi * place / max(1, len(nodes)) for place in range(len(nodes))]
-    return {node: (radius * math.cos(turn), radius * math.sin(turn)) for node, turn in zip(nodes, turns)}
 
 
 def quoted(node: Node) -> str:
@@ -98,7 +47,7 @@ def laid_out(
 ) -> dict[Node, tuple[float, float]]:
     program = "dot" if is_ranked else "neato"
     if shutil.which(program) is None:
-        return ringed(nodes)
+        return in_ranks(nodes, list(pairs), far)
     text = "\n".join(graph(nodes, pairs, far, is_ranked))
     plain = subprocess.run([program, "-Tplain"], input=text, capture_output=True, text=True, check=True).stdout
     rows = re.findall(r'^node (?:"((?:[^"\\]|\\.)*)"|(\S+)) (\S+) (\S+)', plain, re.M)
@@ -124,7 +73,7 @@ def places(
 ) -> tuple[dict[str, list[float]], list[float]]:
     """The place of each node by its kind and name, and the box that has all of them, about as much wider than high as
     `ratio` says."""
-    pairs = list(edges(kinds_of, ports, hosts))
+    pairs = [(one, other) for one, other, _ in edges(kinds_of, ports, hosts)]
     nodes = list(dict.fromkeys([("r", name) for name in routers] + [node for pair in pairs for node in pair]))
     roots = [("h", host) for host in roots if ("h", host) in nodes] or nodes[:1]
     found = stretched(laid_out(nodes, pairs, ranks(pairs, roots), len(routers) <= MOST_IN_RANKS), ratio)

@@ -9,11 +9,11 @@ from collections.abc import Iterator
 from dataclasses import dataclass
 from typing import TYPE_CHECKING
 
-from pimtext import printed
-from pimtext.printed import ANY
+from viqeshor.lab import printed
+from viqeshor.lab.printed import ANY
 
 if TYPE_CHECKING:
-    from pimtext.known import Known
+    from viqeshor.lab.known import Known
     from viqeshor.trees import Hop, Path
 
 # A group with which routes are asked for: they are the same for each.

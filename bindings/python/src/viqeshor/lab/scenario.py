@@ -1,28 +1,22 @@
 """The scenario file as plain objects, read and written; docs/SCENARIOS.md says what its keys mean.
 
-What the program would refuse isn't looked for here: these are the scenarios that it has played.
+What the program would refuse isn't looked for here: `faults` does that.
 """
 from __future__ import annotations
 
 import functools
 import json
 import re
-import subprocess
-import sys
 from collections.abc import Iterable
 from dataclasses import dataclass, field
 from ipaddress import IPv4Interface
 from itertools import chain
-from pathlib import Path
 from typing import TYPE_CHECKING, Any
 
-from pimtext import program, toml_lines
-from pimtext.addresses import ranges_of, routes_of
+from viqeshor.lab.addresses import ranges_of, routes_of
 
 if TYPE_CHECKING:
     from ipaddress import IPv4Network
-
-PIMLAB = Path(__file__).resolve().parent.parent.parent / "pimlab"
 
 
 @dataclass
@@ -154,17 +148,6 @@ def scenario_of(tables: dict[str, Any]) -> Scenario:
     return made
 
 
-def read(path: str | Path) -> Scenario:
-    """The scenario of a file of any kind (pimtext.kinds); ends the program with a line where it makes none."""
-    from pimtext import kinds
-    try:
-        return scenario_of(toml_lines.plain(toml_lines.read(kinds.text_of(path))))
-    except toml_lines.Unreadable as reason:
-        sys.exit(f"{path} isn't TOML: {reason}")
-    except (KeyError, ValueError, TypeError) as reason:
-        sys.exit(f"{path} is no scenario ({reason}); tools/why {path} says what is wrong")
-
-
 # ---- written
 
 
@@ -207,40 +190,3 @@ def hosts_in(text: str) -> dict[str, str]:
 
 def hosts_text(hosts: dict[str, str]) -> str:
     return "".join(f"# host {address} {name}\n" for address, name in hosts.items())
-
-
-# ---- played
-
-
-class Refused(Exception):
-    """The program didn't play the scenario; the text is its own line."""
-
-
-@functools.cache
-def playing() -> str | Path:
-    """What plays a scenario: the program, which is looked for once, or `./pimlab`, where none can be kept."""
-    return program.chosen() or PIMLAB
-
-
-def run_text(text: str, words: Iterable[str] = ("--tables",)) -> list[str]:
-    """The lines that the program prints of a scenario's text, with tables."""
-    ran = subprocess.run([playing(), "run", "-", *words], input=text, capture_output=True, text=True)
-    if ran.returncode:
-        raise Refused(ran.stderr.strip())
-    return ran.stdout.splitlines()
-
-
-def run_each(text: str) -> list[str]:
-    """The same, with the tables of its router after each answer, and those of all at the end."""
-    return run_text(text, ("--tables", "--tables-each"))
-
-
-def run_file(path: str | Path) -> list[str]:
-    """The same of a file of any kind. What the program says on standard error stands there; its status ends this
-    program."""
-    from pimtext import kinds
-    words = [playing(), "run", "-", "--tables"]
-    ran = subprocess.run(words, input=kinds.text_of(path), stdout=subprocess.PIPE, text=True)
-    if ran.returncode:
-        sys.exit(ran.returncode)
-    return ran.stdout.splitlines()

@@ -2,10 +2,10 @@
 from collections.abc import Iterable, Iterator
 from dataclasses import dataclass
 
-from pimtext import packets, story
-from pimtext.older import read_heard
-from pimtext.packets import RECORD_KINDS
-from pimtext.printed import ANY
+from viqeshor.lab import packets, story
+from viqeshor.lab.older import read_heard
+from viqeshor.lab.packets import RECORD_KINDS
+from viqeshor.lab.printed import ANY
 
 IS_IN, IS_EX, TO_IN, TO_EX, ALLOW, BLOCK = RECORD_KINDS
 

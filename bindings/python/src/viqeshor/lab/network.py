@@ -1,39 +1,39 @@
 """A network: its routers, links and hosts, the packets between them, and time."""
 from __future__ import annotations
 
+import math
 import random
 import weakref
 from collections.abc import Callable, Container, Sequence
-from dataclasses import dataclass
 from itertools import count, zip_longest
 from pathlib import Path
-from typing import TYPE_CHECKING, Any
+from typing import TYPE_CHECKING, Any, Self
 
-from lab.hosts import Host
-from lab.lines import Lines, calling
-from lab.mistakes import (
+from viqeshor.lab import packets, words
+from viqeshor.lab.addresses import address_in, is_host, prefix_in
+from viqeshor.lab.faults import ROUTER_KEYS, faults_of
+from viqeshor.lab.hosts import Host
+from viqeshor.lab.lines import calling
+from viqeshor.lab.mistakes import (
     Mistake, Named, address_given, delay_given, group_given, host_given, is_known_key, kind_given, ms_given, near,
     number_given, share_given, shown, source_given, subnet_given,
 )
-from lab.playing import Action, Player
-from lab.topology import Link, Port, Router, routes
-from lab.traffic import HOSTS, START, Chances, Traffic
-from lab.tree import tree_of
-from pimtext import packets, words
-from pimtext.addresses import address_in, is_host, prefix_in
-from pimtext.diagnosis import Diagnosis
-from pimtext.faults import ROUTER_KEYS, LateJudge, faults_of
-from pimtext.printed import ANY
-from pimtext.scenario import hosts_text, scenario_of, text_of
+from viqeshor.lab.picture import svg
+from viqeshor.lab.playing import Action, Player
+from viqeshor.lab.printed import ANY, ROWS, Upstream
+from viqeshor.lab.scenario import hosts_text, scenario_of, text_of
+from viqeshor.lab.tables import Table, table_of
+from viqeshor.lab.topology import Link, Port, Router, routes
+from viqeshor.lab.traffic import HOSTS, START, Chances, Traffic
+from viqeshor.lab.tree import Tree, tree_of
 
 if TYPE_CHECKING:
-    from lab.playing import Batch
-    from lab.tree import Tree
-    from pimtext.known import Known
-    from pimtext.packets import Packet
-    from pimtext.scenario import Scenario
-    from pimtext.story import Sent, Step, Story, Tables
-    from pimtext.streams import Stream
+    from viqeshor.lab.known import Known
+    from viqeshor.lab.packets import Packet
+    from viqeshor.lab.playing import Batch
+    from viqeshor.lab.reading import Script
+    from viqeshor.lab.scenario import Scenario
+    from viqeshor.lab.story import Sent, Step, Story, Tables
 
 # All networks of this run.
 MADE = []
@@ -43,24 +43,14 @@ MOST_ROUTERS = 1000
 FIRST_HOST = 101
 
 
-@dataclass(frozen=True)
-class Served:
-    """Whether a host is served, and the lines that say how or why not."""
-    lines: list
-    is_served: bool
-
-    def __bool__(self) -> bool:
-        return self.is_served
-
-    def __str__(self) -> str:
-        return "\n".join(self.lines)
-
-
 class Network:
     """`loss` is the share of packets that each link between routers loses, for each receiver by itself; `delay` the
     least and the most seconds that one takes; `reorder` the share of those that later ones overtake. `step` is the
     seconds between two moments at which time passes for all routers: what a router sends in between leaves at the next
     of them."""
+
+    # What makes a host of this network.
+    HOST = Host
 
     def __init__(
         self,
@@ -72,21 +62,29 @@ class Network:
     ) -> None:
         self.chance = random.Random(seed)
         self.loss, self.step, self.order = share_given(loss, "are lost"), ms_given(step, "step", 0.001), count()
-        self.routers, self.links, self.hosts, self.ranges, self.fixed = (
-            Named("router"),
-            Named("link"),
-            Named("host"),
-            [],
-            {},
-        )
+        self.routers: Named[Router] = Named("router")
+        self.links: Named[Link] = Named("link")
+        self.hosts: Named[Host] = Named("host")
+        self.ranges, self.fixed = [], {}
         self.now = self.present = self.stepped = 0
         self.alone = set()
         self.player, self.sent, self.paths, self.odd = None, [], {}, []
-        self.made, self.spoken, self.unheard, self.diagnosed = calling(), {}, set(), None
+        self.made, self.spoken, self.unheard = calling(), {}, set()
+        self.script: Script | None = None
         MADE.append(weakref.ref(self))
         chances = Chances(seed, delay_given(delay), share_given(reorder, "later ones overtake"))
         self.traffic = Traffic(self, None, chances)
         self.settles = not (loss or reorder or chances.delay[1])
+
+    @classmethod
+    def read(cls, path: str | Path, until: float | None = None, seed: int = 0) -> Self:
+        """The network of a scenario file, of which no move is played yet: `run` and `run_to` play them as their time
+        comes, those up to `until` seconds alone where it is given. Until then nothing else may happen in it; from then
+        on time passes as in any network. Its hosts are those that speak in the file, by the names of lines `# host
+        ADDRESS NAME`, else by their addresses; they answer queries once the last move is played. Its routes and RPs
+        are the file's, whatever fails. Raises a `Mistake` that has a line `FILE:LINE: ..` for all that is wrong."""
+        from viqeshor.lab import reading
+        return reading.network_of(cls(seed), path, until)
 
     # ---- what it is made of
 
@@ -149,7 +147,7 @@ class Network:
         if not isinstance(link, Link):
             link = self.link(self.known_router(at, " or link"), name=name, loss=0.0)
         own = host_given(address) if address else address_given(link.subnet, FIRST_HOST + len(link.hosts), name)
-        host = Host(name, link, own, self, igmp=igmp, answers=answers)
+        host = self.HOST(name, link, own, self, igmp=igmp, answers=answers)
         link.hosts.append(host)
         self.hosts[name] = host
         return host
@@ -158,6 +156,8 @@ class Network:
         """The RP of a range of groups. Where no address of it is given, it is that of a link of its own, which never
         fails."""
         router = self.known_router(router)
+        if self.script:
+            raise Mistake("the RPs of this network are those of its file")
         if not isinstance(groups, str) or prefix_in(groups) is None:
             raise Mistake(f"{groups!r} is no range of groups: it is one as \"239.0.0.0/8\"")
         if address is not None and (not isinstance(address, str) or not is_host(address_in(address) or 0)):
@@ -204,7 +204,7 @@ class Network:
         """The router that has an address."""
         return next(router for router in self.routers.values() for port in router.ports if port.address == address)
 
-    def table(self, router: Router) -> dict[str, Any]:
+    def written(self, router: Router) -> dict[str, Any]:
         """A router's table in the scenario file."""
         ports = [port.table() for port in router.ports]
         return {
@@ -226,6 +226,7 @@ class Network:
 
     def change(self, thing: Link | Router, is_up: bool, ports: list[Port]) -> None:
         """A link or a router comes or goes: with it its ports, and routes change."""
+        self.act()
         if self.player is None:
             raise Mistake("links and routers go down after the first run")
         if thing.is_up != is_up:
@@ -236,6 +237,7 @@ class Network:
 
     def change_port(self, port: Port, is_up: bool) -> None:
         """One interface comes or goes."""
+        self.act()
         if self.player is None:
             port.is_working, self.settles = is_up, self.settles and is_up
         elif port.is_working != is_up:
@@ -275,6 +277,12 @@ class Network:
 
     # ---- time
 
+    def act(self) -> None:
+        """A sentence where a file's moves come first."""
+        if self.script and self.script.moves:
+            raise Mistake(f"the moves of {self.script.name} come first: `net.play()` plays them all, `Network.read(.., "
+                          "until=SECONDS)` leaves out the later ones")
+
     def draw(self) -> int:
         return self.chance.getrandbits(32)
 
@@ -284,22 +292,42 @@ class Network:
 
     def start(self) -> None:
         """All interfaces come up at moment 0."""
-        tables = [self.table(router) for router in self.routers.values()]
+        tables = [self.written(router) for router in self.routers.values()]
         # What was given is judged; routes by shortest path aren't looked for mistakes.
         given = [{**table, "routes": list(self.fixed.get(self.routers[table["name"]], ()))} for table in tables]
         judge, number = faults_of(text_of(given, []), MOST_ROUTERS)
         if number:
             raise Mistake("; ".join(f"{fault.where}: {fault.what}" for fault in judge.faults))
-        self.player = Player(tables, {name: self.draw() for name in self.routers})
-        self.traffic.read = scenario_of({"router": tables})
+        self.begin(tables)
         moves = [self.turned(port) for router in self.routers.values() for port in router.ports if port.is_up()]
         self.traffic.schedule(Action(moves), 0, (START,))
 
-    def run(self, seconds: float) -> Network:
+    def begin(self, tables: list[dict[str, Any]], coming: Sequence[dict[str, Any]] = ()) -> None:
+        """Makes the routers, by their tables in the scenario file."""
+        self.player = Player(tables, {name: self.draw() for name in self.routers}, coming)
+        self.traffic.read = scenario_of({"router": tables})
+
+    def run(self, seconds: float) -> Self:
         """Time passes, with all that happens in it."""
+        return self.go_on(self.now + ms_given(seconds, "number of seconds"))
+
+    def run_to(self, seconds: float) -> Self:
+        """The same until so many seconds after the beginning."""
+        return self.go_on(ms_given(seconds, "number of seconds", self.now / 1000))
+
+    def play(self) -> Self:
+        """Plays what is left of the moves of its file."""
+        if self.script:
+            self.script.play(math.inf)
+            self.now = self.present
+        return self
+
+    def go_on(self, end: int) -> Self:
+        """Time passes up to a moment, after the moves of a file up to then."""
         if self.player is None:
             self.start()
-        end = self.now + ms_given(seconds, "number of seconds")
+        if self.script:
+            self.script.play(end)
         while batch := self.traffic.coming(self.stepped, self.step, end):
             self.happen(batch)
         self.now = self.present = end
@@ -312,8 +340,12 @@ class Network:
         steps = self.player.play(batch, self.draw if self.settles else None)
         for action in batch.actions:
             action.done(batch.moment)
+        self.came(steps, batch.moment)
+
+    def came(self, steps: list[Step], moment: int) -> None:
+        """What routers did at a moment, and what left."""
         for step in steps:
-            self.follow(step, batch.moment)
+            self.follow(step, moment)
         for sent in (sent for step in steps for sent in step.sent):
             self.leave(sent)
 
@@ -344,6 +376,18 @@ class Network:
 
     # ---- what came of it
 
+    def __repr__(self) -> str:
+        return f"<network of {len(self.routers)} routers and {len(self.hosts)} hosts at {words.seconds(self.now)}>"
+
+    def __str__(self) -> str:
+        """A line for each link: its subnet, and the routers and hosts on it."""
+        about = []
+        for link in self.links.values():
+            ends = [f"{port.router.name} {port.address}" + " down" * (not port.is_up()) for port in link.ports]
+            ends += [" ".join(dict.fromkeys(["host", host.name, host.address])) for host in link.hosts]
+            about.append(f"{link.name} {link.subnet}: {', '.join(ends)}")
+        return "\n".join(about)
+
     def tables(self) -> dict[str, Tables]:
         """What each router knows at the present, by names."""
         return {name: self.table_of(name) for name in self.running().cores}
@@ -360,50 +404,41 @@ class Network:
 
     def tree(self, group: str, source: Host | str = ANY) -> Tree:
         """The tree of a group and all sources, or of one, a host or an address, as it stands at the present."""
-        return tree_of(self.known(), group_given(group), source if source == ANY else source_given(source))
+        return tree_of(self, self.known(), group_given(group), source if source == ANY else source_given(source))
+
+    def table(self, kind: type | str) -> Table:
+        """The rows of a table of all routers, each with its router's name before it: a class as `Neighbour`, or its
+        letter, as "N"."""
+        return table_of(kind, {name: router.rows(kind) for name, router in self.routers.items()})
+
+    def frames(self) -> dict[str, Any]:
+        """The tables of all routers by their letters, as frames of pandas, or as they are where pandas isn't there."""
+        return {letter: self.table(letter).frame() for letter in ROWS}
 
     def known(self) -> dict[str, Known]:
         """The same with what follows of the run: interfaces that are up, routes, RP ranges, Hellos."""
         return self.running().known(self.now)
 
-    def served(self, host: Host, group: str, source: Host | str) -> Served:
-        """Whether a host is served of a source, a host or an address, at the present; as a text, hop by hop how, or why
-        not."""
-        diagnosis, address = self.diagnosis(), source_given(source)
-        watch = diagnosis.run.watch
-        stream = watch.stream(host.address, group_given(group), address, host.link.name)
-        if watch.origin(stream) is None:
-            raise Mistake(f"the source {address} is in the subnet of no link that is up")
-        verdict = watch.verdict(stream)
-        causes = [f"  cause: {cause.line}: {cause.text}" for cause in diagnosis.of(verdict.stream)]
-        return Served([*verdict.lines, *causes], verdict.is_served)
-
-    def watch(self, host: Host, group: str, source: Host | str | None = None) -> list[Stream]:
-        """What came to a host of a group, of each source or of one: streams with their numbers."""
-        self.running()
-        watch = self.diagnosis().run.watch
-        found = watch.asked(host.address, group_given(group), source and source_given(source))
-        return [stream for _, streams in found for stream in streams]
-
-    def diagnosis(self) -> Diagnosis:
-        """The run up to the present with what went wrong in it; it is made once for each present."""
-        key = len(self.running().moves), self.now
-        if self.diagnosed is None or self.diagnosed[0] != key:
-            judge = LateJudge(self.scenario())
-            self.diagnosed = key, Diagnosis(judge, *self.played(), Lines(self), frozenset(self.unheard))
-        return self.diagnosed[1]
-
     def played(self) -> tuple[Scenario, Story]:
         """The scenario that was played up to the present, and its run."""
         return self.running().told(self.now)
 
-    def notes(self) -> list[str]:
-        """What a reader would wonder about in the run, as `tools/why --run` has it, with the lines of the file that
-        made it."""
-        return self.diagnosis().lines()
+    def _repr_svg_(self) -> str:
+        """Its picture in a notebook, with all trees as they stand at the present."""
+        return svg(self, self.trees() if self.player else [])
+
+    def trees(self) -> list[Tree]:
+        """All trees that a router has joined, as they stand at the present."""
+        known = self.known()
+        named = {(row.group, row.source) for state in known.values() for row in state.of(Upstream)}
+        return [tree_of(self, known, *name) for name in sorted(named)]
+
+    def lines(self, with_tables: bool = True) -> list[str]:
+        """What `pimlab run` prints of what was played so far, with the tables of `--tables` or without."""
+        return self.running().lines(with_tables)
 
     def packets(self, kind: type | None = None) -> list[Sent]:
-        """What routers sent, in order, all or of one kind: a class of pimtext.packets, as Register."""
+        """What routers sent, in order, all or of one kind: a class of viqeshor.lab.packets, as Register."""
         kind_given(kind)
         return [sent for sent in self.sent if kind is None or isinstance(sent.packet().body, kind)]
 

@@ -2,7 +2,7 @@
 
 Each router of a network is one of the library, which goes on from where it is: a move costs what its router does with
 it, however many moves and routers there are. The routers whose next timer is due stand in a queue, so time passes only
-where it does something. What is played is kept as the moves and steps of a scenario; `./pimlab` prints the same of it.
+where it does something. What is played is kept as the moves and steps of a scenario; `pimlab` prints the same of it.
 """
 from __future__ import annotations
 
@@ -11,12 +11,16 @@ from collections.abc import Callable, Iterable
 from dataclasses import dataclass, replace
 from typing import TYPE_CHECKING, Any
 
-from pimtext import fed, scenario, story, twin
-from pimtext.known import begun, follow
+from viqeshor.lab import guard, scenario, story, twin
+from viqeshor.lab.known import begun, follow
 
 if TYPE_CHECKING:
-    from pimtext.known import Known
+    from viqeshor.lab.known import Known
     from viqeshor import Answer, Router as Core
+
+
+# What is answered where the packet to deliver isn't there, and where a guard stops one.
+BAD_MOVE, GUARDED = ("refused", "27"), ("ignored", "Guarded")
 
 
 class Action:
@@ -49,15 +53,18 @@ def words_of(answer: Answer) -> tuple[str, str | None]:
 
 class Player:
     """The routers' tables in the scenario file, the draw of each for time that passes, and what was played: `moves`
-    with their `steps`. `states` are what follows of them for each router; `clocks` say how far a router has come."""
+    with their `steps`. `states` are what follows of them for each router; `clocks` say how far a router has come.
+    `coming` are moves of a file that are to be played: interfaces that these make are known from the beginning."""
 
-    def __init__(self, routers: list[dict[str, Any]], draws: dict[str, int]) -> None:
+    def __init__(
+        self, routers: list[dict[str, Any]], draws: dict[str, int], coming: Iterable[dict[str, Any]] = ()
+    ) -> None:
         self.routers, self.draws = routers, draws
         self.moves, self.steps = [], []
-        self.played = replace(scenario.scenario_of({"router": routers}), moves=self.moves)
+        self.played = replace(scenario.scenario_of({"router": routers, "move": list(coming)}), moves=self.moves)
         self.teller = story.Teller(self.played)
         self.states, self.followed = begun(self.played), 0
-        self.cores = {table["name"]: twin.new_router(table, twin.shared()) for table in routers}
+        self.cores = {table["name"]: twin.new_router(table) for table in routers}
         self.clocks = dict.fromkeys(self.cores, 0)
         self.waking, self.next = [], {}
         self.printed = {}
@@ -97,19 +104,41 @@ class Player:
         name = move["router"]
         step = story.Step(len(self.moves), name, "done", None, self.clocks[name], move, iface=move.get("iface"))
         if move["do"] == "advance":
-            step.moment = self.clocks[name] = move["moment"]
-        elif "frame" in move:
-            step.brought = self.teller.sent[move["frame"] - 1]
-        self.take(step)
+            step.moment = move["moment"]
+        if "frame" in move and not self.bring(step, move["frame"]):
+            step.verdict, step.cause = BAD_MOVE
+        else:
+            self.take(step)
+        if move["do"] == "advance":
+            step.moment = self.clocks[name] = step.moment if step.verdict == "done" else self.clocks[name]
         self.steps.append(step)
 
-    def settle(self, move: dict[str, Any], moment: int) -> None:
-        """All that was sent comes to its receivers, for which time passes before the move: so its number is known once
-        it was made."""
+    def bring(self, step: story.Step, number: int) -> bool:
+        """The packet of a number comes, if it was sent, and on the link where it is to come."""
+        if not 1 <= number <= len(self.teller.sent):
+            return False
+        step.brought = sent = self.teller.sent[number - 1]
+        here = self.teller.present
+        link = None if sent.is_unicast() else here.router(sent.router).link(sent.iface)
+        return step.did["do"] == "carry" or link is not None and here.router(step.router).link(step.iface) == link
+
+    def play_move(self, move: dict[str, Any]) -> list[story.Step]:
+        """Plays a move of a file: time passes as the file says it."""
+        first = len(self.steps)
+        if move["do"] == "settle":
+            self.settle(move)
+        else:
+            self.make(move)
+        return self.steps[first:]
+
+    def settle(self, move: dict[str, Any], moment: int | None = None) -> None:
+        """All that was sent comes to its receivers, for which time passes before the move, where a moment is given: so
+        its number is known once it was made."""
         steps, first = [], len(self.teller.sent)
         for sent, name, iface in self.teller.deliveries():
-            self.come(name, moment)
-            steps.append(story.Step(0, name, "done", None, moment, move, sent, iface))
+            if moment is not None:
+                self.come(name, moment)
+            steps.append(story.Step(0, name, "done", None, self.clocks[name], move, sent, iface))
             self.take(steps[-1])
         self.moves.append(move)
         here = self.teller.sent
@@ -120,18 +149,28 @@ class Player:
         self.steps += steps
 
     def take(self, step: story.Step) -> None:
-        """A router takes what a step brings it."""
+        """A router takes what a step brings it. What leaves does so on the links that it had."""
         core, name = self.cores[step.router], step.router
-        step.link = self.played.router(name).link(step.iface)
-        answer = twin.take(core, fed.event(step), self.played.router(name).table)
-        step.verdict, step.cause = words_of(answer)
+        here = self.teller.present.router(name)
+        step.link = here.link(step.iface)
+        step.verdict, step.cause = self.answer(step, core, here.table)
         for kind, where, data in core.packets():
-            place = where if kind == "unicast" else self.played.router(name).interfaces[where].link
+            place = where if kind == "unicast" else here.interfaces[where].link
             number = len(self.teller.sent) + 1
             left = None if kind == "unicast" else where
             step.sent.append(story.Sent(kind, number, place, data, name, step.move, step.moment, left))
             self.teller.sent.append(step.sent[-1])
+        if step.did["do"] == "reload":
+            self.teller.go_on(step)
         self.wake(name, core)
+
+    @staticmethod
+    def answer(step: story.Step, core: Core, table: dict[str, Any]) -> tuple[str, str | None]:
+        """What a router answers; no answer of it follows of a move `restart`, which is done."""
+        event = twin.event_of(step)
+        if event is None:
+            return "done", None
+        return GUARDED if guard.stops(table, event) else words_of(twin.take(core, event, table))
 
     def wake(self, name: str, core: Core) -> None:
         """Keeps when time does something for a router that has changed."""
@@ -151,6 +190,12 @@ class Player:
             steps.append(story.Step(len(moves), name, "done", None, moment, moves[-1]))
         tables = {name: self.tables(name, moment) for name in self.cores}
         return replace(self.played, moves=moves), story.Story(steps, tables)
+
+    def lines(self, with_tables: bool) -> list[str]:
+        """What `pimlab run` prints of what was played, with the tables or without."""
+        steps = [line for step in self.steps for line in step.lines()]
+        cores = self.cores.items() if with_tables else ()
+        return steps + [line for name, core in cores for line in (f"router {name}", *twin.lines_of(core))]
 
     def tables(self, name: str, moment: int) -> story.Tables:
         """What a router knows at a moment up to which time has passed."""

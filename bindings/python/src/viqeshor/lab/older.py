@@ -3,7 +3,7 @@ from __future__ import annotations
 
 from dataclasses import dataclass
 
-from pimtext import packets
+from viqeshor.lab import packets
 
 QUERY = "query of IGMPv1 or IGMPv2"
 NAMES = {0x11: QUERY, 0x12: "IGMPv1 report", 0x16: "IGMPv2 report", 0x17: "IGMPv2 Leave"}

@@ -5,11 +5,11 @@ from collections.abc import Iterable, Iterator
 from dataclasses import dataclass
 from typing import TYPE_CHECKING, Any
 
-from pimtext.addresses import dotted, prefix_in, range_words, route_words
-from pimtext.facts import DELAYS, SETTINGS, USUAL
+from viqeshor.lab.addresses import dotted, prefix_in, range_words, route_words
+from viqeshor.lab.facts import DELAYS, SETTINGS, USUAL
 
 if TYPE_CHECKING:
-    from pimtext.story import Step
+    from viqeshor.lab.story import Step
 
 
 @dataclass(frozen=True)
@@ -46,8 +46,8 @@ def ranges(texts: Iterable[str]) -> Iterator[tuple[str, str]]:
 
 
 def event(step: Step) -> Event | None:
-    """The event that a step of `pimtext.story` was to its router; None where the move itself was refused, or a guard
-    before the router stopped the packet."""
+    """The event that a step was to its router; None where the move itself was refused, or a guard before the router
+    stopped the packet."""
     did = step.did
     draw, kind = did.get("draw", 0), did["do"]
     if (step.verdict, step.cause) in (("refused", "27"), ("ignored", "Guarded")):

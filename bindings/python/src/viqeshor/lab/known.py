@@ -1,6 +1,6 @@
 """What a router of a run knows: the rows that were printed, and what the router itself says of its trees.
 
-The macros of RFC 7761 are asked of a router of the library, which takes what the router of the run took (pimtext.twin).
+The macros of RFC 7761 are asked of a router of the library, which takes what the router of the run took (`twin`).
 """
 from __future__ import annotations
 
@@ -9,16 +9,16 @@ from dataclasses import dataclass, field, replace
 from ipaddress import ip_address
 from typing import TYPE_CHECKING, Any, TypeVar
 
-from pimtext import packets, printed, wishes
-from pimtext.addresses import ranges_of, routes_of
-from pimtext.scenario import router_of
-from pimtext.twin import Twin
+from viqeshor.lab import packets, printed, wishes
+from viqeshor.lab.addresses import ranges_of, routes_of
+from viqeshor.lab.scenario import router_of
+from viqeshor.lab.twin import Twin
 
 if TYPE_CHECKING:
     from ipaddress import IPv4Network
-    from pimtext.addresses import Route
-    from pimtext.scenario import Interface, Router, Scenario
-    from pimtext.story import Step, Tables
+    from viqeshor.lab.addresses import Route
+    from viqeshor.lab.scenario import Interface, Router, Scenario
+    from viqeshor.lab.story import Step, Tables
     from viqeshor import Link, Neighbour, Router as Core, SourceTree, Tree
 
     R = TypeVar("R")

@@ -11,9 +11,9 @@ from difflib import get_close_matches
 from functools import cached_property
 from typing import Any
 
-from pimtext import toml_lines
-from pimtext.addresses import BELOW, address_in, dotted, is_group, is_host, mask, number_in, prefix_in, words_in
-from pimtext.facts import DELAYS, SETTINGS, USUAL
+from viqeshor.lab import toml_lines
+from viqeshor.lab.addresses import BELOW, address_in, dotted, is_group, is_host, mask, number_in, prefix_in, words_in
+from viqeshor.lab.facts import DELAYS, SETTINGS, USUAL
 
 MOST_ROUTERS, MOST_IFACES, MOST_ROUTES, MOST_RPS = 64, 120, 100_000, 256
 

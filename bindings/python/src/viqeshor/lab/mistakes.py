@@ -7,14 +7,15 @@ from difflib import get_close_matches
 from ipaddress import AddressValueError, IPv4Network, NetmaskValueError
 from typing import TYPE_CHECKING, NoReturn, TypeVar
 
-from pimtext import packets, printed
-from pimtext.addresses import address_in, is_group, is_host
+from viqeshor.lab import packets, printed
+from viqeshor.lab.addresses import address_in, is_group, is_host
 
 if TYPE_CHECKING:
-    from lab.hosts import Host
+    from viqeshor.lab.hosts import Host
 
     N = TypeVar("N", int, float)
 
+T = TypeVar("T")
 TABLES = list(printed.ROWS.values())
 LINK_LOCAL = IPv4Network("224.0.0.0/24")
 KINDS = [
@@ -32,7 +33,7 @@ class Mistake(ValueError):
     """A sentence on what is wrong with a call."""
 
 
-class Named(dict):
+class Named(dict[str, T]):
     """Routers, links or hosts by their names; `kind` is what one of them is called."""
 
     def __init__(self, kind: str) -> None:
@@ -155,12 +156,14 @@ def one_of(kind: type, known: Sequence[type], what: str) -> None:
         raise Mistake(f"{name if isinstance(kind, type) else repr(kind)} is no {what}{near(name, names)}")
 
 
-def table_given(kind: type, values: Iterable[str]) -> None:
-    """A table of a router and the columns that are asked of it, or a sentence."""
+def table_given(kind: type | str, values: Iterable[str]) -> type:
+    """A table of a router, which may be told by its letter, with the columns that are asked of it, or a sentence."""
+    kind = printed.ROWS.get(kind, kind) if isinstance(kind, str) else kind
     one_of(kind, TABLES, "table of a router")
     for column in values:
         if column not in kind._fields:
             raise Mistake(f"{kind.__name__} has no column {column}{near(column, kind._fields)}")
+    return kind
 
 
 def kind_given(kind: type | None) -> None:

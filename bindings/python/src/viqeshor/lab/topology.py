@@ -9,14 +9,15 @@ from ipaddress import IPv4Network
 from itertools import count
 from typing import TYPE_CHECKING, Any, TypeVar
 
-from lab.lines import Line, calling
-from lab.mistakes import Mistake, host_given, is_known_key, kind_given, length_given, share_given, table_given
-from pimtext.printed import Neighbour
+from viqeshor.lab.lines import Line, calling
+from viqeshor.lab.mistakes import Mistake, host_given, is_known_key, kind_given, length_given, share_given, table_given
+from viqeshor.lab.printed import Neighbour
 
 if TYPE_CHECKING:
-    from lab.network import Network
-    from pimtext.packets import Packet
-    from pimtext.story import Sent
+    from viqeshor.lab.hosts import Host
+    from viqeshor.lab.network import Network
+    from viqeshor.lab.packets import Packet
+    from viqeshor.lab.story import Sent
 
     R = TypeVar("R")
 
@@ -30,9 +31,9 @@ IFACE_OPTIONS = ["priority", "propagation", "override"]
 class Router:
     """`options` are keys of the scenario file's router, as `spt` or `limit`."""
     name: str
-    options: dict
+    options: dict[str, Any]
     net: Network = field(repr=False)
-    ports: list = field(default_factory=list, repr=False)
+    ports: list[Port] = field(default_factory=list, repr=False)
     is_up: bool = True
     made: Line = field(default_factory=calling, repr=False)
 
@@ -51,9 +52,10 @@ class Router:
             raise Mistake(f"{self.name} is not on the link {link.name}")
         return found
 
-    def rows(self, kind: type[R], **values: object) -> list[R]:
-        """The rows of a table, as of the end of the last `run`, that have these values."""
-        table_given(kind, values)
+    def rows(self, kind: type[R] | str, **values: object) -> list[R]:
+        """The rows of a table, as of the end of the last `run`, that have these values: a class as `Neighbour`, or its
+        letter, as "N"."""
+        kind = table_given(kind, values)
         return self.net.table_of(self.name).of(kind, **values)
 
     def neighbours(self) -> set[str]:
@@ -68,7 +70,7 @@ class Port:
     number: int
     link: "Link"
     address: str
-    options: dict = field(default_factory=dict)
+    options: dict[str, Any] = field(default_factory=dict)
     is_working: bool = True
     length: int | None = None
 
@@ -110,10 +112,10 @@ class Link:
     cost: int
     loss: float
     net: Network = field(repr=False)
-    ports: list = field(default_factory=list, repr=False)
-    hosts: list = field(default_factory=list, repr=False)
+    ports: list[Port] = field(default_factory=list, repr=False)
+    hosts: list[Host] = field(default_factory=list, repr=False)
     is_up: bool = True
-    losses: list = field(default_factory=list, repr=False)
+    losses: list[Loss] = field(default_factory=list, repr=False)
 
     @cached_property
     def prefix(self) -> str:
@@ -132,8 +134,8 @@ class Link:
         receiver: Router | str | None = None,
     ) -> None:
         """From the present on it loses this share of the packets between routers, Registers and Register-Stops that
-        pass it too: of one kind, a class of pimtext.packets, as `Hello`, `JoinPrune` or `Data`, and from one router of
-        it or to one, by their names. Another call of the same kind and way replaces it."""
+        pass it too: of one kind, a class of `viqeshor.lab.packets`, as `Hello`, `JoinPrune` or `Data`, and from one
+        router of it or to one, by their names. Another call of the same kind and way replaces it."""
         kind_given(kind)
         names = [router and self.net.known_router(router).name for router in (sender, receiver)]
         for router in (sender, receiver):
@@ -178,7 +180,7 @@ class Link:
         return self.net.known_router(router).port(self)
 
     def packets(self, kind: type | None = None) -> list[Sent]:
-        """What routers sent on it, all or of one kind: a class of pimtext.packets."""
+        """What routers sent on it, all or of one kind: a class of viqeshor.lab.packets."""
         return [sent for sent in self.net.packets(kind) if sent.where == self.name and not sent.is_unicast()]
 
 
