@@ -397,8 +397,8 @@ uint64_t viq_next_moment(const struct viq_router *router);
 /* A row of N: a PIM neighbour. */
 struct viq_neighbour_row {
     uint32_t iface;
-    uint32_t address;
-    uint64_t end; /* ms, when its holdtime expires, or VIQ_NEVER */
+    uint32_t address; /* the neighbour's */
+    uint64_t end;     /* ms, when its holdtime expires, or VIQ_NEVER */
 };
 
 /* A row of G: what hosts want of a group. */

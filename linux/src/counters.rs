@@ -5,36 +5,57 @@ use std::time::Duration;
 /// What the router did since it began, or since its counters were cleared.
 #[derive(Clone, Debug, Default)]
 pub struct Counters {
-    pub events: u64,
-    pub ignored: u64,
+    /// Events that the library refused, by the number of the answer.
     pub refused: BTreeMap<u32, u64>,
-    /// Refused messages that were offered again in parts, the parts, and those of them that were taken.
-    pub split: u64,
-    pub parts: u64,
-    pub parts_taken: u64,
-    pub own_reports: u64,
-    pub unicasts_heard: u64,
-    pub unicasts_sent: u64,
-    pub unicasts_not_sent: u64,
     /// PIM from and to addresses of routers.
     pub unicasts: Passing,
-    pub no_cache: u64,
-    pub strays: u64,
-    pub whole: u64,
-    /// Fragments, and packets of more than 1,500 bytes.
-    pub stood_in: u64,
-    pub checksums_filled: u64,
-    /// Join/Prunes that left in a packet with one before them.
-    pub packed: u64,
-    pub entries_written: u64,
-    pub entries_removed: u64,
-    pub entries_refused: u64,
-    pub kept: u64,
-    pub seen: u64,
-    pub made_anew: u64,
-    pub reloaded: u64,
     /// How long an event took, with all that followed of it.
     pub took: Durations,
+    // tables/metrics.toml has those below.
+    /// The number of events given to the router.
+    pub events: u64,
+    /// The number of events that it ignored.
+    pub ignored: u64,
+    /// The number of messages that a full router was offered in parts.
+    pub split: u64,
+    /// The number of parts offered.
+    pub parts: u64,
+    /// The number of parts taken.
+    pub parts_taken: u64,
+    /// The number of sources of which the kernel's counts told.
+    pub kept: u64,
+    /// The number of packets of which the router was told that they were seen.
+    pub seen: u64,
+    /// The number of times that the router was made anew.
+    pub made_anew: u64,
+    /// The number of times that the router took another configuration.
+    pub reloaded: u64,
+    /// The number of reports of programs on the router.
+    pub own_reports: u64,
+    /// The number of unicasts heard.
+    pub unicasts_heard: u64,
+    /// The number of unicasts sent.
+    pub unicasts_sent: u64,
+    /// The number of unicasts that couldn't be sent.
+    pub unicasts_not_sent: u64,
+    /// The number of fragments and long packets that a short one stood for.
+    pub stood_in: u64,
+    /// The number of checksums filled in.
+    pub checksums_filled: u64,
+    /// The number of Join/Prunes that left in a packet with others.
+    pub packed: u64,
+    /// The number of packets for which the kernel had no entry.
+    pub no_cache: u64,
+    /// The number of strays that the kernel told.
+    pub strays: u64,
+    /// The number of packets that the kernel handed up whole.
+    pub whole: u64,
+    /// The number of rows told to the kernel.
+    pub entries_written: u64,
+    /// The number of rows withdrawn from the kernel.
+    pub entries_removed: u64,
+    /// The number of rows that the kernel refused.
+    pub entries_refused: u64,
 }
 
 /// What a message of PIM or IGMP is.

@@ -1,4 +1,6 @@
 //! The router's counts for Prometheus, in its text format (0.0.4), by HTTP.
+pub mod families;
+
 use crate::bfd::State;
 use crate::counters::{Message, Passing};
 use crate::daemon::Daemon;
@@ -82,18 +84,33 @@ pub enum Kind {
     Histogram,
 }
 
+/// A metric, as it is told before its samples.
+pub struct Family {
+    pub name: &'static str,
+    pub kind: Kind,
+    pub help: &'static str,
+}
+
+impl Family {
+    /// What a count is the number of.
+    pub fn counts(&self) -> &'static str {
+        self.help.trim_start_matches("The number of ").trim_end_matches('.')
+    }
+}
+
 /// The text as it grows.
 #[derive(Default)]
 struct Text(String);
 
 impl Text {
-    fn family(&mut self, name: &str, kind: Kind, about: &str) {
-        let kind = match kind {
+    fn family(&mut self, family: &Family) {
+        let (name, help) = (family.name, family.help.replace('\\', "\\\\"));
+        let kind = match family.kind {
             Kind::Counter => "counter",
             Kind::Gauge => "gauge",
             Kind::Histogram => "histogram",
         };
-        let _ = writeln!(self.0, "# HELP viqeshor_{name} {}", about.replace('\\', "\\\\"));
+        let _ = writeln!(self.0, "# HELP viqeshor_{name} {help}");
         let _ = writeln!(self.0, "# TYPE viqeshor_{name} {kind}");
     }
 
@@ -104,18 +121,18 @@ impl Text {
         let _ = writeln!(self.0, "viqeshor_{name}{labels} {value}");
     }
 
-    fn one(&mut self, name: &str, kind: Kind, about: &str, value: impl Display) {
-        self.family(name, kind, about);
-        self.sample(name, &[], value);
+    fn one(&mut self, family: &Family, value: impl Display) {
+        self.family(family);
+        self.sample(family.name, &[], value);
     }
 }
 
 /// All of it.
 pub fn text(daemon: &mut Daemon) -> Result<String, Fatal> {
     let mut text = Text::default();
-    text.family("build_info", Kind::Gauge, "The versions of the daemon and of the library.");
+    text.family(&families::BUILD_INFO);
     let versions = [("version", env!("CARGO_PKG_VERSION")), ("library", viqeshor::version())];
-    text.sample("build_info", &versions, 1);
+    text.sample(families::BUILD_INFO.name, &versions, 1);
     process(daemon, &mut text);
     counts(daemon, &mut text);
     refusals(daemon, &mut text);
@@ -129,35 +146,35 @@ pub fn text(daemon: &mut Daemon) -> Result<String, Fatal> {
 
 /// What the kernel says of the process.
 fn process(daemon: &Daemon, text: &mut Text) {
-    text.one("uptime_seconds", Kind::Gauge, "The time since the router began.", daemon.now() as f64 / 1e3);
+    text.one(&families::UPTIME_SECONDS, daemon.now() as f64 / 1e3);
     let status = std::fs::read_to_string(format!("/proc/{}/status", daemon.process)).unwrap_or_default();
     let kibibytes = status.lines().find_map(|line| line.strip_prefix("VmRSS:")?.trim().split(' ').next()?.parse().ok());
     if let Some(resident) = kibibytes.map(|kibibytes: u64| kibibytes << 10) {
-        text.one("resident_memory_bytes", Kind::Gauge, "The memory of the router (RSS).", resident);
+        text.one(&families::RESIDENT_MEMORY_BYTES, resident);
     }
 }
 
 fn counts(daemon: &Daemon, text: &mut Text) {
     for count in show::counts(daemon) {
-        text.one(count.metric, count.kind, &format!("The number of {}.", count.words), count.value);
+        text.one(count.family, count.value);
     }
 }
 
 fn refusals(daemon: &Daemon, text: &mut Text) {
-    text.family("events_refused_total", Kind::Counter, "Events that the library refused, by reason.");
+    text.family(&families::EVENTS_REFUSED_TOTAL);
     for (number, count) in &daemon.counters.refused {
-        text.sample("events_refused_total", &[("reason", viqeshor::answer_text(*number))], count);
+        text.sample(families::EVENTS_REFUSED_TOTAL.name, &[("reason", viqeshor::answer_text(*number))], count);
     }
-    text.family("policy_refused_total", Kind::Counter, "Packets and items that the settings refused, by setting.");
+    text.family(&families::POLICY_REFUSED_TOTAL);
     for (cause, place, count) in daemon.policy.refusals.by_cause() {
-        text.sample("policy_refused_total", &[("interface", place), ("setting", cause.name())], count);
+        text.sample(families::POLICY_REFUSED_TOTAL.name, &[("interface", place), ("setting", cause.name())], count);
     }
 }
 
 fn took(daemon: &Daemon, text: &mut Text) {
-    const NAME: &str = "event_duration_seconds";
+    const NAME: &str = families::EVENT_DURATION_SECONDS.name;
     let took = &daemon.counters.took;
-    text.family(NAME, Kind::Histogram, "How long an event took in the library, with what was sent and set after it.");
+    text.family(&families::EVENT_DURATION_SECONDS);
     for (bound, count) in took.within() {
         text.sample(&format!("{NAME}_bucket"), &[("le", &bound.to_string())], count);
     }
@@ -166,58 +183,48 @@ fn took(daemon: &Daemon, text: &mut Text) {
     text.sample(&format!("{NAME}_count"), &[], took.count);
 }
 
-/// A metric of each interface, with what it is.
-type OfPort = (&'static str, Kind, &'static str, fn(&Daemon, &Port) -> u64);
+/// A metric of each interface.
+type OfPort = (&'static Family, fn(&Daemon, &Port) -> u64);
 
 const OF_PORTS: [OfPort; 7] = [
-    ("interface_up", Kind::Gauge, "Whether the interface is up for the router.", |_, port| {
-        u64::from(port.standing.is_up())
-    }),
-    ("interface_dr", Kind::Gauge, "Whether the router is the designated router of the link.", |daemon, port| {
+    (&families::INTERFACE_UP, |_, port| u64::from(port.standing.is_up())),
+    (&families::INTERFACE_DR, |daemon, port| {
         let is_dr = port.standing.is_up() && daemon.core.link(port.number).map_or(false, |link| link.is_dr);
         u64::from(is_dr)
     }),
-    ("pim_neighbors", Kind::Gauge, "The PIM neighbours of the interface.", |daemon, port| {
+    (&families::PIM_NEIGHBORS, |daemon, port| {
         daemon.neighbours.known.keys().filter(|(iface, _)| *iface == port.number).count() as u64
     }),
-    ("interface_refused_messages_total", Kind::Counter, "Messages that the library refused.", |_, port| {
-        port.passed.refused
-    }),
-    ("interface_router_copies_total", Kind::Counter, "Packets of data that the router itself sent.", |_, port| {
-        port.passed.copies
-    }),
-    ("interface_not_sent_total", Kind::Counter, "Packets that couldn't be sent.", |_, port| port.passed.not_sent),
-    ("interface_messages_total", Kind::Counter, "Messages of PIM and IGMP that came.", |_, port| port.passed.heard),
+    (&families::INTERFACE_REFUSED_MESSAGES_TOTAL, |_, port| port.passed.refused),
+    (&families::INTERFACE_ROUTER_COPIES_TOTAL, |_, port| port.passed.copies),
+    (&families::INTERFACE_NOT_SENT_TOTAL, |_, port| port.passed.not_sent),
+    (&families::INTERFACE_MESSAGES_TOTAL, |_, port| port.passed.heard),
 ];
 
 fn interfaces(daemon: &Daemon, text: &mut Text) {
     let ports = || daemon.ports.iter().filter(|port| !port.is_removed);
-    for (name, kind, about, value) in OF_PORTS {
-        text.family(name, kind, about);
+    for (family, value) in OF_PORTS {
+        text.family(family);
         ports().for_each(|port| {
-            text.sample(name, &[("interface", &port.settings.name)], value(daemon, port));
+            text.sample(family.name, &[("interface", &port.settings.name)], value(daemon, port));
         });
     }
     let carried = |port: &Port| daemon.kernel.carried(port.vif?).ok();
     let carried: Vec<_> = ports().filter_map(|port| Some((port.settings.name.as_str(), carried(port)?))).collect();
-    text.family(
-        "forwarded_packets_total",
-        Kind::Counter,
-        "Packets of data that the kernel received and sent by the interface.",
-    );
+    text.family(&families::FORWARDED_PACKETS_TOTAL);
     for (name, it) in &carried {
         for (direction, count) in [("received", it.packets_in), ("sent", it.packets_out)] {
-            text.sample("forwarded_packets_total", &[("interface", name), ("direction", direction)], count);
+            text.sample(
+                families::FORWARDED_PACKETS_TOTAL.name,
+                &[("interface", name), ("direction", direction)],
+                count,
+            );
         }
     }
-    text.family(
-        "forwarded_bytes_total",
-        Kind::Counter,
-        "Bytes of data that the kernel received and sent by the interface.",
-    );
+    text.family(&families::FORWARDED_BYTES_TOTAL);
     for (name, it) in &carried {
         for (direction, count) in [("received", it.bytes_in), ("sent", it.bytes_out)] {
-            text.sample("forwarded_bytes_total", &[("interface", name), ("direction", direction)], count);
+            text.sample(families::FORWARDED_BYTES_TOTAL.name, &[("interface", name), ("direction", direction)], count);
         }
     }
 }
@@ -227,17 +234,10 @@ fn messages(daemon: &Daemon, text: &mut Text) {
     let mut passing: Vec<_> = ports.map(|port| (port.settings.name.as_str(), port.passed.messages)).collect();
     // Registers and Register-Stops, by whichever interface.
     passing.push(("", daemon.counters.unicasts));
-    for (name, about, is_pim) in [
-        (
-            "pim_messages_total",
-            "Messages of PIM, by type; those to an address of a router have an empty interface.",
-            true,
-        ),
-        ("igmp_messages_total", "Messages of IGMP, by type.", false),
-    ] {
-        text.family(name, Kind::Counter, about);
+    for (family, is_pim) in [(&families::PIM_MESSAGES_TOTAL, true), (&families::IGMP_MESSAGES_TOTAL, false)] {
+        text.family(family);
         for (interface, passing) in &passing {
-            of_interface(text, name, interface, passing, is_pim);
+            of_interface(text, family.name, interface, passing, is_pim);
         }
     }
 }
@@ -256,18 +256,17 @@ fn of_interface(text: &mut Text, name: &str, interface: &str, passing: &Passing,
 }
 
 fn neighbours(daemon: &Daemon, text: &mut Text) {
-    const NAME: &str = "pim_neighbor_uptime_seconds";
-    text.family(NAME, Kind::Gauge, "For how long a neighbour has been known.");
+    text.family(&families::PIM_NEIGHBOR_UPTIME_SECONDS);
     for ((iface, address), known) in &daemon.neighbours.known {
         let up = daemon.now().saturating_sub(known.since) as f64 / 1e3;
-        text.sample(NAME, &[("interface", daemon.name(*iface)), ("neighbor", &address.to_string())], up);
+        let labels = [("interface", daemon.name(*iface)), ("neighbor", &address.to_string())];
+        text.sample(families::PIM_NEIGHBOR_UPTIME_SECONDS.name, &labels, up);
     }
-    const SESSIONS: &str = "bfd_session_up";
-    text.family(SESSIONS, Kind::Gauge, "Whether the BFD session with a neighbour is up.");
+    text.family(&families::BFD_SESSION_UP);
     for (iface, address) in daemon.neighbours.known.keys() {
         if let Some(state) = daemon.bfd_state(&(*iface, *address)) {
             let labels = [("interface", daemon.name(*iface)), ("neighbor", &address.to_string())];
-            text.sample(SESSIONS, &labels, u8::from(state == State::Up));
+            text.sample(families::BFD_SESSION_UP.name, &labels, u8::from(state == State::Up));
         }
     }
 }
@@ -279,27 +278,27 @@ fn facts(daemon: &mut Daemon, text: &mut Text) -> Result<(), Fatal> {
     let sources: Vec<_> = daemon.core.rows_of::<SourceRow>()?.iter().map(|row| row.iface).collect();
     let downstream = daemon.core.rows_of::<DownstreamRow>()?;
     let active = daemon.core.rows_of::<ActiveRow>()?.len();
-    of_interfaces(daemon, text, "igmp_groups", "Groups that hosts reported.", &groups);
-    of_interfaces(daemon, text, "igmp_sources", "Sources of groups that hosts named.", &sources);
+    of_interfaces(daemon, text, &families::IGMP_GROUPS, &groups);
+    of_interfaces(daemon, text, &families::IGMP_SOURCES, &sources);
     older_groups(daemon, text)?;
     joins(daemon, text, &downstream);
     let lost_and_won = daemon.core.rows_of::<AssertRow>()?;
     asserts(daemon, text, &lost_and_won);
     let joined = daemon.core.rows_of::<UpstreamRow>()?.len();
-    text.one("pim_upstream_joins", Kind::Gauge, "Trees that the router has joined.", joined);
-    text.one("active_sources", Kind::Gauge, "Sources of groups that have a fact in the library.", active);
+    text.one(&families::PIM_UPSTREAM_JOINS, joined);
+    text.one(&families::ACTIVE_SOURCES, active);
     let facts = neighbours + groups.len() + sources.len() + downstream.len() + active;
-    text.one("facts", Kind::Gauge, "Facts that the library holds, without asserts.", facts);
-    text.one("facts_limit", Kind::Gauge, "The most facts that the library may hold.", daemon.settings.limit);
+    text.one(&families::FACTS, facts);
+    text.one(&families::FACTS_LIMIT, daemon.settings.limit);
     Ok(())
 }
 
 /// By the interface of each row.
-fn of_interfaces(daemon: &Daemon, text: &mut Text, name: &str, about: &str, ifaces: &[u32]) {
-    text.family(name, Kind::Gauge, about);
+fn of_interfaces(daemon: &Daemon, text: &mut Text, family: &Family, ifaces: &[u32]) {
+    text.family(family);
     for port in daemon.ports.iter().filter(|port| !port.is_removed) {
         let count = ifaces.iter().filter(|iface| **iface == port.number).count();
-        text.sample(name, &[("interface", &port.settings.name)], count);
+        text.sample(family.name, &[("interface", &port.settings.name)], count);
     }
 }
 
@@ -307,40 +306,43 @@ fn of_interfaces(daemon: &Daemon, text: &mut Text, name: &str, about: &str, ifac
 fn by_label(
     daemon: &Daemon,
     text: &mut Text,
-    name: &str,
+    family: &Family,
     label: &str,
     rows: impl Iterator<Item = (u32, &'static str)>,
 ) {
+    text.family(family);
     let mut counts: BTreeMap<_, u64> = BTreeMap::new();
     rows.for_each(|row| *counts.entry(row).or_default() += 1);
     for ((iface, value), count) in counts {
-        text.sample(name, &[("interface", daemon.name(iface)), (label, value)], count);
+        text.sample(family.name, &[("interface", daemon.name(iface)), (label, value)], count);
     }
 }
 
 fn older_groups(daemon: &mut Daemon, text: &mut Text) -> Result<(), Fatal> {
-    const NAME: &str = "igmp_older_groups";
-    text.family(NAME, Kind::Gauge, "Groups in the compatibility mode of an older version, by version.");
     let rows = daemon.core.older_rows()?;
     let version = |mode: u32| match Version::of_mode(mode) {
         Version::One => "1",
         Version::Two => "2",
     };
-    by_label(daemon, text, NAME, "version", rows.iter().map(|row| (row.iface, version(row.mode))));
+    by_label(
+        daemon,
+        text,
+        &families::IGMP_OLDER_GROUPS,
+        "version",
+        rows.iter().map(|row| (row.iface, version(row.mode))),
+    );
     Ok(())
 }
 
 fn joins(daemon: &Daemon, text: &mut Text, rows: &[DownstreamRow]) {
-    const NAME: &str = "pim_joins";
-    text.family(NAME, Kind::Gauge, "What neighbours have joined, by type; for S,G,rpt what they have pruned.");
     let is_counted = |row: &&DownstreamRow| row.is_rpt == (row.state == DownstreamState::Pruned);
-    by_label(daemon, text, NAME, "type", rows.iter().filter(is_counted).map(|row| (row.iface, show::joins::kind(row))));
+    let kinds = rows.iter().filter(is_counted).map(|row| (row.iface, show::joins::kind(row)));
+    by_label(daemon, text, &families::PIM_JOINS, "type", kinds);
 }
 
 fn asserts(daemon: &Daemon, text: &mut Text, rows: &[AssertRow]) {
-    const NAME: &str = "pim_asserts";
-    text.family(NAME, Kind::Gauge, "Asserts, by whether the router won.");
-    by_label(daemon, text, NAME, "state", rows.iter().map(|row| (row.iface, show::joins::assert_state(row))));
+    let states = rows.iter().map(|row| (row.iface, show::joins::assert_state(row)));
+    by_label(daemon, text, &families::PIM_ASSERTS, "state", states);
 }
 
 #[cfg(test)]
@@ -357,7 +359,7 @@ mod tests {
     #[test]
     fn labels_are_escaped() {
         let mut text = Text::default();
-        text.one("a", Kind::Gauge, "A \\ sign.", 1.5);
+        text.one(&Family { name: "a", kind: Kind::Gauge, help: "A \\ sign." }, 1.5);
         text.sample("a", &[("b", "x\"y\\z\n")], 2);
         let wanted = "# HELP viqeshor_a A \\\\ sign.\n# TYPE viqeshor_a gauge\nviqeshor_a 1.5\n\
             viqeshor_a{b=\"x\\\"y\\\\z\\n\"} 2\n";

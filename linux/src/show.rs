@@ -6,7 +6,7 @@ mod why;
 
 use crate::daemon::Daemon;
 use crate::error::Fatal;
-use crate::metrics::Kind;
+use crate::metrics::{families, Family};
 use crate::older::Version;
 use crate::ports::{Port, Standing};
 use crate::routes::{longest, Counts};
@@ -339,77 +339,54 @@ fn igmp(daemon: &mut Daemon, about: About, sheet: &mut Sheet) -> io::Result<()> 
 
 // ---- counters
 
-/// A count of the router, with what it is for people and for Prometheus.
+/// A count of the router.
 pub struct Count {
-    pub words: &'static str,
-    pub metric: &'static str,
-    pub kind: Kind,
+    pub family: &'static Family,
     pub value: u64,
-}
-
-fn rises(words: &'static str, metric: &'static str, value: u64) -> Count {
-    Count { words, metric, kind: Kind::Counter, value }
-}
-
-fn stands(words: &'static str, metric: &'static str, value: usize) -> Count {
-    Count { words, metric, kind: Kind::Gauge, value: value as u64 }
 }
 
 /// All of them but those of interfaces and of reasons.
 pub fn counts(daemon: &Daemon) -> Vec<Count> {
-    let mut all = counts_of_events(daemon);
-    all.extend(counts_of_the_kernel(daemon));
-    all
-}
-
-fn counts_of_events(daemon: &Daemon) -> Vec<Count> {
-    let it = &daemon.counters;
-    let refused = it.refused.values().sum();
-    let memory = daemon.core.refused_memory;
-    vec![
-        rises("events given to the router", "events_total", it.events),
-        rises("events that it ignored", "events_ignored_total", it.ignored),
-        rises("events that it refused", "events_all_refused_total", refused),
-        rises("times that memory was refused to the library for a table", "library_memory_refusals_total", memory),
-        rises("messages that a full router was offered in parts", "messages_split_total", it.split),
-        rises("parts offered", "parts_offered_total", it.parts),
-        rises("parts taken", "parts_taken_total", it.parts_taken),
-        rises("reports of programs on the router", "own_reports_total", it.own_reports),
-        rises("unicasts heard", "unicasts_received_total", it.unicasts_heard),
-        rises("unicasts sent", "unicasts_sent_total", it.unicasts_sent),
-        rises("unicasts that couldn't be sent", "unicasts_not_sent_total", it.unicasts_not_sent),
-        rises("packets for which the kernel had no entry", "kernel_no_cache_total", it.no_cache),
-        rises("strays that the kernel told", "kernel_strays_total", it.strays),
-        rises("packets that the kernel handed up whole", "kernel_whole_packets_total", it.whole),
-        rises("fragments and long packets that a short one stood for", "long_packets_total", it.stood_in),
-        rises("checksums filled in", "checksums_filled_total", it.checksums_filled),
-        rises("Join/Prunes that left in a packet with others", "join_prunes_packed_total", it.packed),
-        rises("times that the router was made anew", "router_made_anew_total", it.made_anew),
-        rises("times that the router took another configuration", "router_reloaded_total", it.reloaded),
-        rises("sources of which the kernel's counts told", "sources_kept_total", it.kept),
-        rises("packets of which the router was told that they were seen", "packets_seen_total", it.seen),
-    ]
-}
-
-fn counts_of_the_kernel(daemon: &Daemon) -> Vec<Count> {
     let (it, routes) = (&daemon.counters, &daemon.routing.counts);
+    let count = |family, value| Count { family, value };
     vec![
-        stands("entries in the kernel's forwarding cache", "mroute_entries", daemon.plane.len()),
-        rises("rows told to the kernel", "kernel_entries_written_total", it.entries_written),
-        rises("rows withdrawn from the kernel", "kernel_entries_removed_total", it.entries_removed),
-        rises("rows that the kernel refused", "kernel_entries_refused_total", it.entries_refused),
-        stands("routes told to the router", "routes", daemon.routing.told.len()),
-        stands("kernel routes taken by their next hop", "kernel_routes_taken", routes.by_next_hop),
-        stands("kernel routes taken that have several next hops", "kernel_routes_multipath", routes.multipath),
-        stands("kernel routes left out for a lower metric", "kernel_routes_higher_metric", routes.higher_metric),
-        stands("kernel routes that refuse packets", "kernel_routes_refusing", routes.refusing),
-        stands("kernel routes elsewhere", "kernel_routes_elsewhere", routes.elsewhere),
+        count(&families::MROUTE_ENTRIES, daemon.plane.len() as u64),
+        count(&families::EVENTS_TOTAL, it.events),
+        count(&families::EVENTS_IGNORED_TOTAL, it.ignored),
+        count(&families::EVENTS_ALL_REFUSED_TOTAL, it.refused.values().sum()),
+        count(&families::MESSAGES_SPLIT_TOTAL, it.split),
+        count(&families::PARTS_OFFERED_TOTAL, it.parts),
+        count(&families::PARTS_TAKEN_TOTAL, it.parts_taken),
+        count(&families::LIBRARY_MEMORY_REFUSALS_TOTAL, daemon.core.refused_memory),
+        count(&families::SOURCES_KEPT_TOTAL, it.kept),
+        count(&families::PACKETS_SEEN_TOTAL, it.seen),
+        count(&families::ROUTER_MADE_ANEW_TOTAL, it.made_anew),
+        count(&families::ROUTER_RELOADED_TOTAL, it.reloaded),
+        count(&families::OWN_REPORTS_TOTAL, it.own_reports),
+        count(&families::UNICASTS_RECEIVED_TOTAL, it.unicasts_heard),
+        count(&families::UNICASTS_SENT_TOTAL, it.unicasts_sent),
+        count(&families::UNICASTS_NOT_SENT_TOTAL, it.unicasts_not_sent),
+        count(&families::LONG_PACKETS_TOTAL, it.stood_in),
+        count(&families::CHECKSUMS_FILLED_TOTAL, it.checksums_filled),
+        count(&families::JOIN_PRUNES_PACKED_TOTAL, it.packed),
+        count(&families::KERNEL_NO_CACHE_TOTAL, it.no_cache),
+        count(&families::KERNEL_STRAYS_TOTAL, it.strays),
+        count(&families::KERNEL_WHOLE_PACKETS_TOTAL, it.whole),
+        count(&families::KERNEL_ENTRIES_WRITTEN_TOTAL, it.entries_written),
+        count(&families::KERNEL_ENTRIES_REMOVED_TOTAL, it.entries_removed),
+        count(&families::KERNEL_ENTRIES_REFUSED_TOTAL, it.entries_refused),
+        count(&families::ROUTES, daemon.routing.told.len() as u64),
+        count(&families::KERNEL_ROUTES_TAKEN, routes.by_next_hop as u64),
+        count(&families::KERNEL_ROUTES_MULTIPATH, routes.multipath as u64),
+        count(&families::KERNEL_ROUTES_HIGHER_METRIC, routes.higher_metric as u64),
+        count(&families::KERNEL_ROUTES_REFUSING, routes.refusing as u64),
+        count(&families::KERNEL_ROUTES_ELSEWHERE, routes.elsewhere as u64),
     ]
 }
 
 fn counters(daemon: &mut Daemon) -> Result<Rows, Fatal> {
     let began = [("seconds since the router began".to_string(), daemon.now() / 1000)].into_iter();
-    let counts = counts(daemon).into_iter().map(|it| (it.words.to_string(), it.value));
+    let counts = counts(daemon).into_iter().map(|it| (it.family.counts().to_string(), it.value));
     let refused = daemon.counters.refused.iter();
     let reasons = refused.map(|(number, count)| (format!("refused: {}", viqeshor::answer_text(*number)), *count));
     let all = began.chain(counts).chain(reasons).chain(daemon.policy.refusals.counts());

@@ -95,16 +95,6 @@ def abi_text(headers: list[str]) -> str:
     return "\n".join([f"VIQ_ABI {abi_number(headers)}", *sorted(agreed(headers)), ""])
 
 
-def store_abi() -> None:
-    """Keeps what the number stands for now. It has to be another number than that which is kept, where anything else
-    differs."""
-    headers = [path.read_text() for path in HEADERS]
-    text, kept = abi_text(headers), ABI.read_text() if ABI.exists() else ""
-    if kept and kept != text and kept.splitlines()[0] == text.splitlines()[0]:
-        raise SystemExit("VIQ_ABI has to be raised: the library isn't the same any more")
-    ABI.write_text(text)
-
-
 def fields_hold(name: str, fields: list[tuple[str, str]]) -> Iterator[str]:
     """Assertions of a value: its size, and each field's place and type."""
     yield f"struct own_{name} {{ {' '.join(f'{kind} {field};' for field, kind in fields)} }};"
@@ -138,7 +128,3 @@ def assertions() -> str:
     for name, kind in calls():
         lines.append(f'_Static_assert(__builtin_types_compatible_p(__typeof__(&{name}), {kind}), "{name}");')
     return "\n".join([*lines, ""])
-
-
-if __name__ == "__main__":
-    store_abi()

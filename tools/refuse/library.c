@@ -218,23 +218,19 @@ static int same(struct seen a, struct seen b) {
 #define MIXED(sum, ...) mixed(sum, (uint64_t[]){__VA_ARGS__}, sizeof (uint64_t[]){__VA_ARGS__})
 
 static uint64_t columns_of(const struct viq_row *row, uint64_t sum) {
-    const struct viq_neighbour_row *neighbour = &row->of.neighbour;
-    const struct viq_group_row *group = &row->of.group;
-    const struct viq_source_row *source = &row->of.source;
-    const struct viq_downstream_row *join = &row->of.downstream;
-    const struct viq_assert_row *asserted = &row->of.asserted;
-    const struct viq_upstream_row *upstream = &row->of.upstream;
-    const struct viq_rpt_row *rpt = &row->of.rpt;
-    const struct viq_active_row *active = &row->of.active;
     switch (row->table) {
-    case 'N': return MIXED(sum, neighbour->iface, neighbour->address, neighbour->end);
-    case 'G': return MIXED(sum, group->iface, group->group, group->is_exclude, group->end);
-    case 'S': return MIXED(sum, source->iface, source->group, source->source, source->end);
-    case 'D': return MIXED(sum, join->iface, join->group, join->source, join->is_rpt, join->state, join->end, join->pending);
-    case 'A': return MIXED(sum, asserted->iface, asserted->group, asserted->source, asserted->is_loser, asserted->winner, asserted->end);
-    case 'U': return MIXED(sum, upstream->group, upstream->source, upstream->next_join);
-    case 'R': return MIXED(sum, rpt->group, rpt->source, rpt->is_pruned);
-    case 'F': return MIXED(sum, active->group, active->source, active->keepalive, active->spt_bit, active->register_state);
+    case 'N': return MIXED(sum, row->of.neighbour.iface, row->of.neighbour.address, row->of.neighbour.end);
+    case 'G': return MIXED(sum, row->of.group.iface, row->of.group.group, row->of.group.is_exclude, row->of.group.end);
+    case 'S': return MIXED(sum, row->of.source.iface, row->of.source.group, row->of.source.source, row->of.source.end);
+    case 'D': return MIXED(sum, row->of.downstream.iface, row->of.downstream.group, row->of.downstream.source,
+                           row->of.downstream.is_rpt, row->of.downstream.state, row->of.downstream.end,
+                           row->of.downstream.pending);
+    case 'A': return MIXED(sum, row->of.asserted.iface, row->of.asserted.group, row->of.asserted.source,
+                           row->of.asserted.is_loser, row->of.asserted.winner, row->of.asserted.end);
+    case 'U': return MIXED(sum, row->of.upstream.group, row->of.upstream.source, row->of.upstream.next_join);
+    case 'R': return MIXED(sum, row->of.rpt.group, row->of.rpt.source, row->of.rpt.is_pruned);
+    case 'F': return MIXED(sum, row->of.active.group, row->of.active.source, row->of.active.keepalive,
+                           row->of.active.spt_bit, row->of.active.register_state);
     }
     return sum;
 }

@@ -74,21 +74,20 @@ class Numbers(unittest.TestCase):
 # ---- a scenario beside its lines
 
 
-def restarts(path: Path) -> set[str]:
-    """The lines of moves `restart`, which the definitions don't have, since they change nothing."""
-    moves = enumerate(tomllib.loads(path.read_text()).get("move", []), 1)
-    return {f"move {number} {move['router']} done" for number, move in moves if move["do"] == "restart"}
-
-
 class Read(unittest.TestCase):
     def test_each_expected_line_is_in_its_case(self):
         for path, case in cases():
-            printed, again = path.with_suffix(".out").read_text().splitlines(), restarts(path)
-            lines = [line for line in printed if line not in again]
+            printed = path.with_suffix(".out").read_text().splitlines()
             with self.subTest(path.name):
-                self.assertEqual(case.shown, lines + ["the tables"] * case.is_cut)
-                self.assertEqual(len(case.lines), len(case.shown))
-                self.assertEqual(len(case.moves), sum(line[0] == run.ANSWER for line in case.lines))
+                self.assertEqual(case.shown, printed)
+                self.assertEqual(case.printed(case.lines), printed)
+                self.assertEqual(case.has_tables, any(line.startswith("router ") for line in printed))
+                moves = tomllib.loads(path.read_text(encoding="utf-8-sig")).get("move", [])
+                self.assertEqual(len(case.moves), len(moves))
+
+    def test_each_kind_of_move_is_a_term(self):
+        found = {term.split(", ", 1)[1].split(" ")[0] for _, case in cases() for term in case.moves}
+        self.assertEqual(found, {"Happens", "Delivers", "Carries", "Settles", "Restarts", "Reloads"})
 
     def test_what_is_set_aside(self):
         aside = {}
@@ -97,8 +96,7 @@ class Read(unittest.TestCase):
                 run.read_case(path)
             except run.SetAside as reason:
                 aside[path.name] = str(reason)
-        known = ("its text is refused, before|it ends with an error that no|isn't UTF-8|isn't TOML|two interfaces on "
-                 "its link|speaks older versions|has a guard|has a reload")
+        known = "its text is refused, before|it ends with an error that no|isn't UTF-8|isn't TOML"
         self.assertFalse({name: why for name, why in aside.items() if not re.search(known, why)})
 
     def test_a_refused_configuration(self):
@@ -156,17 +154,17 @@ class Spoilt(unittest.TestCase):
                 with self.subTest(path.name,
                     wrong=next((pair for pair in zip(wrong, lines) if pair[0] != pair[1]), "the end")):
                     try:
-                        self.assertNotEqual((read(text, wrong).lines, read(text, wrong).is_cut),
-                            (case.lines, case.is_cut))
+                        self.assertNotEqual((read(text, wrong).lines, read(text, wrong).has_tables),
+                            (case.lines, case.has_tables))
                     except (run.Differs, run.SetAside):
                         pass
         self.assertGreater(tried, 200)
 
-    def test_lines_after_the_last_table(self):
+    def test_lines_that_no_run_prints(self):
         path = stored.EXAMPLES / "lan_assert.toml"
         text, lines = path.read_text(), path.with_suffix(".out").read_text().splitlines()
         self.assertTrue(read(text, lines).lines)
-        for more in ("", "router attic", "router none", "move 24 head done", "frame 99 lan 45"):
+        for more in ("", "router none", "move 24 none done", "frame 99 lan 45"):
             with self.subTest(more), self.assertRaises(run.Differs):
                 read(text, [*lines, more])
 
@@ -179,31 +177,37 @@ class Spoilt(unittest.TestCase):
 # ---- what is asked of the kernel
 
 
-def parsed(term):
-    """A list of the definitions, as a list."""
-    def without_end(found):
-        return [without_end(each) for each in found[:-1]] if isinstance(found, list) else found
-    return without_end(eval(term.replace("(", "[").replace(")", "]").replace(" ∷ ", ",")))
+def symbols(lines):
+    """The symbols of lines, as the definitions have them."""
+    found = []
+    for first, *rest in lines:
+        is_packet = first in run.PACKETS
+        for number in ([first, rest[0]] if is_packet else [first, *rest]):
+            found += [*(int(digit, 16) for digit in f"{number:x}"), run.NUMBER_END]
+        for byte in rest[1:] if is_packet else []:
+            found += divmod(byte, 16)
+        found.append(run.LINE_END)
+    return [*found, run.ALL_END]
 
 
 class Computing:
-    """A kernel to which the machine's lines are these: it refuses the facts about them that don't hold."""
+    """A kernel to which the computed lines are these: it says what each part of them is."""
 
     def __init__(self, lines):
-        self.lines, self.checks = lines, 0
+        self.symbols, self.checks = symbols(lines), 0
 
     def check(self, files):
         self.checks += 1
-        facts = re.findall(r"^fact_(\d+) : take (\d+) \((.*)\) ≡ (.*)$", files["Probe"], re.M)
-        return "logic=ok\n" + "".join(self.told(number, int(count), of, right) for number, count, of, right in facts)
+        parts = re.findall(r"^part_(\d+) : 0 ≡ chunk (\d+) (\d+) ", files["Probe"], re.M)
+        return "logic=ok\n" + "".join(self.told(*map(int, part)) for part in parts)
 
-    def told(self, number, count, of, right):
-        part = re.fullmatch(r"drop (\d+) \(line_at (\d+) \(transcript nodes moves\)\)", of)
-        if part is None:
-            return "" if self.lines[:count] == parsed(right) else f"error: `fact_{number}`: it isn't\n"
-        start, place = int(part[1]), int(part[2])
-        line = (self.lines[place] if place < len(self.lines) else [])[start:start + count]
-        return f"error: `fact_{number}`: {' ∷ '.join(map(str, [*line, '[]']))} isn't []\n" if line else ""
+    def told(self, number, size, place):
+        code = 1
+        for symbol in self.symbols[size * place:size * place + size]:
+            code = code * run.BASE + symbol
+        says = f"the two types differ only where one has `{code}` (expected) and the other has `0` (found)"
+        says = f"the two types are `Path ℕ 0 {code}` (expected)" if code == 1 else says
+        return f"error: `part_{number}`: no\n  computed as far as they go, {says}\n"
 
 
 class Asked(unittest.TestCase):
@@ -215,10 +219,7 @@ class Asked(unittest.TestCase):
         self.assertIn("pub configured : configs_test ", text)
         self.assertIn(" ≡ Ok tt\n", text)
         self.assertIn(f"expected = {run.listing(map(run.numbers, self.case().lines))}", text)
-        whole = re.search(r"^pub holds : (.*) ≡ expected$", text, re.M)[1]
-        self.assertEqual(whole, self.case().transcript())
-        self.assertTrue(self.case().is_cut)
-        self.assertEqual(whole, f"take {len(self.case().lines)} (transcript nodes moves)")
+        self.assertIn("pub holds : move_lines nodes moves ≡ expected\n", text)
         self.assertEqual(len(re.findall(r"^move_\d+ = ", text, re.M)), len(self.case().moves))
 
     def test_those_of_a_refused_configuration(self):
@@ -226,32 +227,62 @@ class Asked(unittest.TestCase):
         self.assertIn(" ≡ Err Refusal.Overlap\n", text)
         self.assertNotIn("pub holds", text)
 
+    def test_all_lines_are_read_of_the_kernel(self):
+        for path, case in cases():
+            if len(case.lines) < 200:
+                with self.subTest(path.name):
+                    found = list(run.lines_of(run.computed_symbols(Computing(case.lines), case)))
+                    self.assertEqual(found, case.lines)
+
     def test_the_first_line_that_differs_is_found(self):
         case = self.case()
         for place in range(len(case.lines)):
             computed = [list(line) for line in case.lines]
-            computed[place] = [*computed[place][:-1], computed[place][-1] + 1]
-            kernel = Computing(computed)
-            machine = run.Machine(kernel, case)
-            self.assertEqual((machine.first_difference(), machine.line(place)), (place, computed[place]))
-            self.assertLess(kernel.checks, 8)
+            computed[place][1] += 1
+            if computed[place][0] in (run.FRAME, run.COPY):
+                computed[place] = [*case.lines[place][:-1], case.lines[place][-1] ^ 1]
+            self.assertIn(f"line {place + 1} differs\n", run.first_difference(Computing(computed), case))
 
     def test_a_line_too_few_and_one_too_many(self):
         case = self.case()
         self.assertIn("computed: no line", run.first_difference(Computing(case.lines[:-1]), case))
-        more = run.first_difference(Computing([*case.lines, [run.ANSWER, 0]]), case)
+        more = run.first_difference(Computing([*case.lines, [run.ANSWER, 1, 0, 0]]), case)
         self.assertIn(f"line {len(case.lines) + 1} differs\n    expected: no line", more)
 
     def test_it_is_told_in_words(self):
         case = self.case()
         computed = [list(line) for line in case.lines]
-        computed[0] = [run.ANSWER, run.IGNORED["Already"]]
+        computed[0] = [run.ANSWER, 1, 0, run.IGNORED["Already"]]
         said = run.first_difference(Computing(computed), case)
         self.assertEqual(said, "line 1 differs\n    expected: move 1 r done\n    computed: move 1 r ignored Already")
 
     def test_all_lines_right_is_no_verdict(self):
         with self.assertRaises(run.NoVerdict):
             run.first_difference(Computing(self.case().lines), self.case())
+
+
+class Written(unittest.TestCase):
+    """What --write writes is what the kernel says, whatever stood there."""
+
+    def written(self, room, name, lines):
+        report = run.Report()
+        with contextlib.redirect_stdout(io.StringIO()) as out:
+            run.write(room / f"{name}.toml", True, Computing(lines), report)
+        return out.getvalue().strip()
+
+    def test_the_lines_of_the_kernel_are_written(self):
+        case, stored_lines = run.read_case(ONE_JOIN)[0], ONE_JOIN.with_suffix(".out").read_text()
+        files = {"a.toml": ONE_JOIN.read_text(), "a.out": "move 1 r refused 1\n", "b.toml": ONE_JOIN.read_text()}
+        with repository(files) as room:
+            for name in ("a", "b"):
+                self.assertEqual(self.written(room, name, case.lines), f"{name}: written")
+                self.assertEqual((room / f"{name}.out").read_text(), stored_lines)
+            self.assertEqual(self.written(room, "a", case.lines), "a: as it was")
+
+    def test_what_cannot_be_computed_is_told(self):
+        with repository({"a.toml": "", "a.out": "", "a.err": "2\npimlab: scenario refused: 39\n"}) as room:
+            self.assertIn("a: set aside: its text is refused", self.written(room, "a", []))
+            self.assertEqual((room / "a.out").read_text(), "")
 
 
 class Kernels(unittest.TestCase):
@@ -325,20 +356,46 @@ class Told(unittest.TestCase):
         self.assertTrue(lines[1].startswith("b: set aside: b.toml isn't TOML"), lines)
 
 
+# Small scenarios with each kind of move, with older hosts and older queriers, a guard, reloads and a restart.
+SAMPLE = ("one_join", "a_restart", "two_routers", "frames_once_more", "a_host_of_version_one", "an_older_querier",
+          "a_guarded_register", "a_reload_of_an_address", "a_reload_with_older_hosts", "refused_and_ignored",
+          "routes_that_are_refused")
+
+
+class Sample(unittest.TestCase):
+    def test_it_has_each_kind_of_move(self):
+        moves = [move for name in SAMPLE for move in tomllib.loads((stored.DATA / f"{name}.toml").read_text())["move"]]
+        self.assertEqual({move["do"] for move in moves}, {
+            "advance", "carry", "deliver", "down", "frame", "reload", "restart", "routes", "rps", "settle", "unicast", "up"})
+
+
 @unittest.skipUnless(os.environ.get("KERNEL"), "KERNEL=1 asks the kit's kernel")
 class WithTheKernel(unittest.TestCase):
+    def called(self, room, *words):
+        return subprocess.run([sys.executable, stored.TOOLS / "computed_run", "--seconds", "1200", *words,
+                               *sorted(room.glob("*.toml"))], capture_output=True, text=True)
+
     def test_right_lines_hold_and_wrong_ones_do_not(self):
         right = ONE_JOIN.with_suffix(".out").read_text()
         wrong = right.replace("move 5 r done", "move 5 r ignored Already", 1)
         self.assertNotEqual(right, wrong)
         text = ONE_JOIN.read_text()
         with repository({"right.toml": text, "right.out": right, "wrong.toml": text, "wrong.out": wrong}) as room:
-            words = [sys.executable, stored.TOOLS / "computed_run", "--seconds", "1200", room / "right.toml",
-                room / "wrong.toml"]
-            ran = subprocess.run(words, capture_output=True, text=True)
+            ran = self.called(room)
         self.assertEqual(ran.returncode, 1)
         self.assertIn("right: holds", ran.stdout)
-        self.assertIn("wrong: does not hold: ", ran.stdout)
+        self.assertIn("wrong: does not hold: line ", ran.stdout)
+
+    def test_what_is_written_of_stored_scenarios_is_stored(self):
+        texts = {name: (stored.DATA / f"{name}.toml").read_text() for name in SAMPLE}
+        with repository({f"{name}.toml": text for name, text in texts.items()}) as room:
+            ran = self.called(room, "--write")
+            self.assertEqual(ran.returncode, 0, ran.stdout + ran.stderr)
+            for name in SAMPLE:
+                wanted = (stored.DATA / f"{name}.out").read_text()
+                found = (room / f"{name}.out").read_text()
+                with self.subTest(name):
+                    self.assertEqual(found if "\nrouter " in wanted else found.partition("\nrouter ")[0] + "\n", wanted)
 
 
 if __name__ == "__main__":

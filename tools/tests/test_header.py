@@ -124,8 +124,7 @@ class Abi(unittest.TestCase):
     headers = [path.read_text() for path in declared.HEADERS]
 
     def test_the_number_stands_for_what_the_headers_have(self):
-        """Where it fails: raise VIQ_ABI, and ABI in both bindings; then `python3 -m pimtext.declared` in tools keeps
-        what it stands for."""
+        """Where it fails: `tools/tables --write` raises VIQ_ABI, and writes what it stands for."""
         self.assertEqual(declared.abi_text(self.headers), declared.ABI.read_text())
 
     def test_the_bindings_have_the_same_number(self):

@@ -1,20 +1,22 @@
 """`tools/tables`: a fact that is one line of a table is written wherever it stands."""
 import contextlib
 import io
-import re
 import shutil
 import tempfile
 import unittest
 from pathlib import Path
 from unittest import mock
 
+from pimtext import declared
+
 from tests import stored
 
 tables = stored.tool("tables")
 TOP = stored.TOOLS.parent
 FILES = {
-    *(part.path for part in tables.PARTS), "tables/answers.toml", "tables/defaults.toml",
-    *re.findall(r'^"(.+)" = \[$', (TOP / "tables" / "defaults.toml").read_text(encoding="utf-8"), re.M),
+    *(part.path for parts in tables.PARTS.values() for part in parts), *(path for path, _, _ in tables.ABI_PLACES),
+    *(str(path.relative_to(TOP)) for path in [*declared.HEADERS, declared.ABI, *(TOP / "tables").iterdir()]),
+    *tables.WATCHED, *tables.read("defaults")["places"],
 }
 ANSWER = """
 [[answer]]
@@ -69,7 +71,7 @@ class Tables(unittest.TestCase):
         self.assertEqual(self.holders("BadOption = 10"), {
             "crates/pim_ip/specs/Refusal.antt", "crates/pim_ip/src/refusal.rt", "bindings/rust/src/lib.rs"})
         self.assertEqual(self.holders("BAD_OPTION = 10"), {
-            "include/viqeshor/viqeshor.h", "bindings/python/src/viqeshor/__init__.py"})
+            "include/viqeshor/viqeshor.h", "bindings/python/src/viqeshor/__init__.py", "bindings/c/abi.txt"})
         self.assertLessEqual({"bindings/c/texts.c"}, self.holders('BAD_OPTION: return "an odd saying";'))
         self.assertLessEqual({"docs/SCENARIOS.md"}, self.holders("| 10 | BadOption | an odd when |"))
         self.assertLessEqual({"bindings/python/src/viqeshor/lab/facts.py"}, self.holders('"10": "an odd hint",'))
@@ -89,11 +91,75 @@ class Tables(unittest.TestCase):
             "crates/pim_c/specs/Told.antt", "crates/pim_runs/specs/Transcript.antt"})
         self.assertLessEqual({"bindings/c/texts.c"}, self.holders('return "ignored: c";'))
 
-    def test_a_default_is_written_wherever_it_stands(self):
-        files = self.holders("125")
-        self.changed("tables/defaults.toml", "query_interval = 125 ", "query_interval = 4711 ")
+    def number(self):
+        return declared.abi_number([(self.top / "include" / "viqeshor" / "viqeshor.h").read_text(encoding="utf-8")])
+
+    def test_another_answer_of_the_library_raises_its_number(self):
+        number = self.number()
+        self.with_answer(10, 20)
+        self.assertIn(f"tables: VIQ_ABI is raised to {number + 1}", self.ran("--write")[1])
+        self.assertEqual(self.ran(), (0, []))
+        self.assertEqual(self.holders(f"VIQ_ABI {number + 1}\n"), {
+            "bindings/c/abi.txt", "include/viqeshor/viqeshor.h"})
+        self.assertLessEqual({"bindings/rust/src/lib.rs"}, self.holders(f"ABI: u32 = {number + 1};"))
+        self.assertLessEqual({"bindings/python/src/viqeshor/__init__.py"}, self.holders(f"\nABI = {number + 1}\n"))
+        self.changed("tables/answers.toml", 'name = "BadOption"', 'name = "BadChoice"')
+        self.ran("--write", "--keep-abi")
+        self.assertEqual((self.ran(), self.number()), ((0, []), number + 1))
+
+    def test_a_text_alone_raises_nothing(self):
+        number = self.number()
+        self.changed("tables/rows.toml", 'says = "when the Assert Timer expires"', 'says = "when it is over"')
         self.assertEqual(self.ran("--write")[0], 0)
-        self.assertEqual(len(self.holders("4711")), 11, files)
+        self.assertEqual((self.ran(), self.number()), ((0, []), number))
+        self.assertEqual(self.holders("hen it is over"), {
+            "bindings/python/src/viqeshor/rows.py", "bindings/rust/src/rows.rs", "crates/pim_c/src/rows.rt",
+            "include/viqeshor/viqeshor.h"} | {"tables/rows.toml"})
+
+    def test_a_column_is_written_wherever_it_stands(self):
+        end = '    { name = "end", kind = "moment", from = "fact.end", says = "when the Assert Timer expires" },\n'
+        more = '    { name = "metric", kind = "number", from = "fact.winner.metric", says = "an odd metric" },\n'
+        self.changed("tables/rows.toml", end, end + more)
+        self.assertEqual(self.ran("--write")[0], 0)
+        self.assertEqual(self.ran(), (0, []))
+        for text, paths in (
+            ("        metric: u32,", {"crates/pim_rows/src/table.rt"}),
+            ("(e.1).winner.address (e.1).end (e.1).winner.metric", {"crates/pim_rows/specs/Printed.antt"}),
+            ("metric: self.winner.metric,", {"crates/pim_printed/src/line.rt"}),
+            ("winner.bits ∷ end ∷ metric ∷ []", {"crates/pim_runs/specs/Transcript.antt"}),
+            ("A {place} {role} {winner} {end} {metric}", {"crates/lab_stations/src/table.rt"}),
+            ("row_of (Row.Assert key role winner end metric)", {
+                "crates/pim_c/specs/Rows.antt", "crates/pim_c/src/rows.rt"}),
+            ("metric: of.metric", {"bindings/rust/src/rows.rs"}),
+            ("    metric: int  # an odd metric", {"bindings/python/src/viqeshor/rows.py"}),
+            ("    metric: int\n", {"bindings/python/src/viqeshor/lab/printed.py"}),
+            ("WINNER END METRIC` |", {"docs/SCENARIOS.md"}), ("METRIC is an odd metric |", {"docs/SCENARIOS.md"}),
+            ("uint64_t end; uint32_t metric", {"bindings/c/abi.txt"}),
+            ("row->of.asserted.metric", {"tools/refuse/library.c"}),
+        ):
+            with self.subTest(text):
+                self.assertEqual(self.holders(text), paths)
+
+    def test_a_count_is_written_wherever_it_stands(self):
+        first = '    { name = "events_total"'
+        more = '    { name = "odd_total", kind = "counter", counts = "odd things", field = "odd" },\n'
+        self.changed("tables/metrics.toml", first, more + first)
+        self.assertEqual(self.ran("--write")[0], 0)
+        self.assertEqual(self.holders("odd_total`"), {"docs/LINUX.md"})
+        self.assertEqual(self.holders("families::ODD_TOTAL, it.odd"), {"linux/src/show.rs"})
+        self.assertEqual(self.holders("pub odd: u64,"), {"linux/src/counters.rs"})
+        self.assertEqual(self.holders('help: "The number of odd things."'), {"linux/src/metrics/families.rs"})
+
+    def test_a_watched_metric_has_to_be_one(self):
+        self.changed("tables/metrics.toml", 'name = "bfd_session_up"', 'name = "bfd_session"')
+        lines = self.ran("--write")[1]
+        self.assertIn("tables: linux/monitoring/alerts.yml names viqeshor_bfd_session_up, which is no metric", lines)
+
+    def test_a_default_is_written_wherever_it_stands(self):
+        files = {"tables/defaults.toml", "bindings/c/abi.txt", *tables.read("defaults")["places"], tables.FOR_TOOLS}
+        self.changed("tables/defaults.toml", "query_interval = 125 ", "query_interval = 471147 ")
+        self.assertEqual(self.ran("--write")[0], 0)
+        self.assertEqual(self.holders("471147"), files)
         self.changed("tables/defaults.toml", "query_response_interval = 100 ", "query_response_interval = 93 ")
         self.assertEqual(self.ran("--write")[0], 0)
         self.assertEqual(self.holders("query_response = 9.3 "), {"linux/viqeshord.toml"})

@@ -9,7 +9,7 @@ pub struct NeighbourRow {
     pub iface: u32,
     /// The neighbour's.
     pub address: Ipv4Addr,
-    /// When its holdtime expires, in ms, if it does.
+    /// When its holdtime expires, in ms, or `None`.
     pub end: Option<u64>,
 }
 
@@ -20,7 +20,7 @@ pub struct GroupRow {
     pub iface: u32,
     /// G.
     pub group: Ipv4Addr,
-    /// Every source but those that they exclude; else only the sources of the rows of `Table::Sources`.
+    /// Every source but those that they exclude; else only the sources of the rows of S.
     pub is_exclude: bool,
     /// When EXCLUDE mode ends, in ms; `None` in INCLUDE mode.
     pub end: Option<u64>,
@@ -64,7 +64,7 @@ pub struct DownstreamRow {
     pub is_rpt: bool,
     /// Of the machine.
     pub state: DownstreamState,
-    /// When the Expiry Timer expires, in ms, if it does.
+    /// When the Expiry Timer expires, in ms, or `None`.
     pub end: Option<u64>,
     /// When the Prune-Pending Timer expires, in ms; `None` in another state.
     pub pending: Option<u64>,
@@ -128,7 +128,7 @@ pub struct ActiveRow {
     pub group: Ipv4Addr,
     /// S.
     pub source: Ipv4Addr,
-    /// When the keepalive timer expires, in ms, if it runs.
+    /// When the keepalive timer expires, in ms; `None` where it doesn't run.
     pub keepalive: Option<u64>,
     /// SPTbit(S,G).
     pub spt_bit: bool,

@@ -16,6 +16,7 @@ use pim_types::{Addr, IfaceId, Key};
 #[derive(Drop)]
 pub struct NeighbourColumns {
     pub iface: u32,
+    /// The neighbour's.
     pub address: u32,
     /// When its holdtime expires, in ms, or `NEVER`.
     pub end: u64,
@@ -27,8 +28,9 @@ pub struct NeighbourColumns {
 pub struct GroupColumns {
     pub iface: u32,
     pub group: u32,
+    /// Every source but those that they exclude; else only the sources of the rows of S.
     pub is_exclude: bool,
-    /// When its timer expires, in ms, in EXCLUDE mode, else `NEVER`.
+    /// When EXCLUDE mode ends, in ms; `NEVER` in INCLUDE mode.
     pub end: u64,
 }
 
@@ -39,7 +41,7 @@ pub struct SourceColumns {
     pub iface: u32,
     pub group: u32,
     pub source: u32,
-    /// When the timer of a source that is wanted expires, in ms; of one that is excluded `NEVER`.
+    /// Until when they want it, in ms; `NEVER` where they exclude it.
     pub end: u64,
 }
 
@@ -51,13 +53,13 @@ pub struct DownstreamColumns {
     pub group: u32,
     /// 0 for (*,G).
     pub source: u32,
-    /// Whether the state is of (S,G,rpt).
+    /// Of (S,G,rpt); else of (*,G) or (S,G).
     pub is_rpt: bool,
-    /// 1 Joined, 2 Prune-Pending, 3 Pruned.
+    /// VIQ_JOINED, VIQ_PRUNE_PENDING or VIQ_PRUNED.
     pub state: u32,
-    /// When its Expiry Timer expires, in ms, or `NEVER`.
+    /// When the Expiry Timer expires, in ms, or `NEVER`.
     pub end: u64,
-    /// When its Prune-Pending Timer expires, in ms; `NEVER` where it doesn't run.
+    /// When the Prune-Pending Timer expires, in ms; `NEVER` in another state.
     pub pending: u64,
 }
 
@@ -69,11 +71,11 @@ pub struct AssertColumns {
     pub group: u32,
     /// 0 for (*,G).
     pub source: u32,
-    /// Whether the router lost the assert.
+    /// The router lost it; else it won.
     pub is_loser: bool,
-    /// The winner's address.
+    /// The winner's address: the router's own where it won.
     pub winner: u32,
-    /// When its timer expires, in ms.
+    /// When the Assert Timer expires, in ms.
     pub end: u64,
 }
 
@@ -94,6 +96,7 @@ pub struct UpstreamColumns {
 pub struct RptColumns {
     pub group: u32,
     pub source: u32,
+    /// The router pruned it off the shared tree.
     pub is_pruned: bool,
 }
 
@@ -103,11 +106,11 @@ pub struct RptColumns {
 pub struct ActiveColumns {
     pub group: u32,
     pub source: u32,
-    /// When its keepalive timer expires, in ms; `NEVER` where it doesn't run.
+    /// When the keepalive timer expires, in ms; `NEVER` where it doesn't run.
     pub keepalive: u64,
     /// SPTbit(S,G).
     pub spt_bit: bool,
-    /// 0 no register, 1 Join, 2 Join-Pending, 3 Prune.
+    /// Of the register at the source's DR, VIQ_REGISTER_..; VIQ_REGISTER_NONE elsewhere.
     pub register_state: u32,
 }
 

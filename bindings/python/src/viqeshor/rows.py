@@ -12,59 +12,46 @@ DOWNSTREAM_STATES = ["", "join", "pending", "prune"]
 REGISTER_STATES = [None, "join", "pending", "prune"]
 
 
-# ---- the values of C
-
-
 def numbers(*names: str) -> list[tuple[str, Any]]:
     return [(name, c_uint32) for name in names]
 
 
+# ---- the values of C
+
+
 class ToldNeighbour(Structure):
-    _fields_ = [*numbers("iface", "address"), ("end", c_uint64)]
+    _fields_ = [("iface", c_uint32), ("address", c_uint32), ("end", c_uint64)]
 
 
 class ToldGroup(Structure):
-    _fields_ = [*numbers("iface", "group"), ("is_exclude", c_bool), ("end", c_uint64)]
+    _fields_ = [("iface", c_uint32), ("group", c_uint32), ("is_exclude", c_bool), ("end", c_uint64)]
 
 
 class ToldSource(Structure):
-    _fields_ = [*numbers("iface", "group", "source"), ("end", c_uint64)]
+    _fields_ = [("iface", c_uint32), ("group", c_uint32), ("source", c_uint32), ("end", c_uint64)]
 
 
 class ToldDownstream(Structure):
-    _fields_ = [
-        *numbers("iface", "group", "source"),
-        ("is_rpt", c_bool),
-        ("state", c_uint32),
-        ("end", c_uint64),
-        ("pending", c_uint64),
-    ]
+    _fields_ = [("iface", c_uint32), ("group", c_uint32), ("source", c_uint32), ("is_rpt", c_bool), ("state", c_uint32),
+                ("end", c_uint64), ("pending", c_uint64)]
 
 
 class ToldAssert(Structure):
-    _fields_ = [
-        *numbers("iface", "group", "source"),
-        ("is_loser", c_bool),
-        ("winner", c_uint32),
-        ("end", c_uint64),
-    ]
+    _fields_ = [("iface", c_uint32), ("group", c_uint32), ("source", c_uint32), ("is_loser", c_bool),
+                ("winner", c_uint32), ("end", c_uint64)]
 
 
 class ToldUpstream(Structure):
-    _fields_ = [*numbers("group", "source"), ("next_join", c_uint64)]
+    _fields_ = [("group", c_uint32), ("source", c_uint32), ("next_join", c_uint64)]
 
 
 class ToldRpt(Structure):
-    _fields_ = [*numbers("group", "source"), ("is_pruned", c_bool)]
+    _fields_ = [("group", c_uint32), ("source", c_uint32), ("is_pruned", c_bool)]
 
 
 class ToldActive(Structure):
-    _fields_ = [
-        *numbers("group", "source"),
-        ("keepalive", c_uint64),
-        ("spt_bit", c_bool),
-        ("register_state", c_uint32),
-    ]
+    _fields_ = [("group", c_uint32), ("source", c_uint32), ("keepalive", c_uint64), ("spt_bit", c_bool),
+                ("register_state", c_uint32)]
 
 
 class ToldColumns(ctypes.Union):
@@ -91,122 +78,122 @@ def ends(moment: int | None, without: str) -> str:
     return without if moment is None else str(moment)
 
 
+def line(*words: object) -> str:
+    return " ".join(map(str, words))
+
+
 @dataclass(frozen=True)
 class NeighbourRow:
-    """A PIM neighbour. Its holdtime expires at `end`."""
+    """A PIM neighbour."""
     table: ClassVar[str] = "N"
-    iface: int
-    address: str
-    end: int | None
+    iface: int  # the interface
+    address: str  # the neighbour's
+    end: int | None  # when its holdtime expires, or None
 
     def __str__(self) -> str:
-        return f"N {self.iface} {self.address} {ends(self.end, 'never')}"
+        return line("N", self.iface, self.address, ends(self.end, "never"))
 
 
 @dataclass(frozen=True)
 class GroupRow:
-    """What hosts want of a group: until `end` every source but those that they exclude, or the sources of the rows of S
-    alone, where `end` is None."""
+    """What hosts want of a group."""
     table: ClassVar[str] = "G"
-    iface: int
-    group: str
-    is_exclude: bool
-    end: int | None
+    iface: int  # the interface
+    group: str  # G
+    is_exclude: bool  # every source but those that they exclude; else only the sources of the rows of S
+    end: int | None  # when EXCLUDE mode ends; None in INCLUDE mode
 
     def __str__(self) -> str:
-        return f"G {self.iface} {self.group} {'exclude' if self.is_exclude else 'include'} {ends(self.end, 'never')}"
+        return line("G", self.iface, self.group, "exclude" if self.is_exclude else "include", ends(self.end, "never"))
 
 
 @dataclass(frozen=True)
 class SourceRow:
-    """A source that hosts want until `end`; where that is None, they exclude it."""
+    """A source that hosts want or exclude."""
     table: ClassVar[str] = "S"
-    iface: int
-    group: str
-    source: str
-    end: int | None
+    iface: int  # the interface
+    group: str  # G
+    source: str  # S
+    end: int | None  # until when they want it; None where they exclude it
 
     def __str__(self) -> str:
-        return f"S {self.iface} {self.group} {self.source} {ends(self.end, '-')}"
+        return line("S", self.iface, self.group, self.source, ends(self.end, "-"))
 
 
 @dataclass(frozen=True)
 class DownstreamRow:
-    """What other routers joined or pruned. The source is None for (*,G). The state is `join`, `pending` or `prune`; the
-    Expiry Timer expires at `end`, and the Prune-Pending Timer at `pending`."""
+    """What other routers joined or pruned."""
     table: ClassVar[str] = "D"
-    iface: int
-    group: str
-    source: str | None
-    is_rpt: bool
-    state: str
-    end: int | None
-    pending: int | None
+    iface: int  # the interface
+    group: str  # G
+    source: str | None  # None for (*,G)
+    is_rpt: bool  # of (S,G,rpt); else of (*,G) or (S,G)
+    state: str  # of the machine
+    end: int | None  # when the Expiry Timer expires, or None
+    pending: int | None  # when the Prune-Pending Timer expires; None in another state
 
     def kind(self) -> str:
         """`g` for (*,G), `sg` for (S,G) and `rpt` for (S,G,rpt)."""
         return "g" if self.source is None else "rpt" if self.is_rpt else "sg"
 
     def __str__(self) -> str:
-        times = f"{ends(self.end, 'never')} {ends(self.pending, '-')}"
-        return f"D {self.iface} {self.group} {self.source or '*'} {self.kind()} {self.state} {times}"
+        return line("D", self.iface, self.group, self.source or "*", self.kind(), self.state, ends(self.end, "never"),
+                    ends(self.pending, "-"))
 
 
 @dataclass(frozen=True)
 class AssertRow:
-    """An assert that the router lost, or won; `winner` is the winner's address. The source is None for (*,G). The
-    Assert Timer expires at `end`."""
+    """An assert."""
     table: ClassVar[str] = "A"
-    iface: int
-    group: str
-    source: str | None
-    is_loser: bool
-    winner: str
-    end: int
+    iface: int  # the interface
+    group: str  # G
+    source: str | None  # None for (*,G)
+    is_loser: bool  # the router lost it; else it won
+    winner: str  # the winner's address: the router's own where it won
+    end: int  # when the Assert Timer expires
 
     def __str__(self) -> str:
-        role = "loser" if self.is_loser else "winner"
-        return f"A {self.iface} {self.group} {self.source or '*'} {role} {self.winner} {self.end}"
+        return line("A", self.iface, self.group, self.source or "*", "loser" if self.is_loser else "winner",
+                    self.winner, self.end)
 
 
 @dataclass(frozen=True)
 class UpstreamRow:
-    """A tree that the router has joined upstream. The source is None for (*,G)."""
+    """A tree that the router has joined upstream."""
     table: ClassVar[str] = "U"
-    group: str
-    source: str | None
-    next_join: int
+    group: str  # G
+    source: str | None  # None for (*,G)
+    next_join: int  # when the next Join leaves
 
     def __str__(self) -> str:
-        return f"U {self.group} {self.source or '*'} {self.next_join}"
+        return line("U", self.group, self.source or "*", self.next_join)
 
 
 @dataclass(frozen=True)
 class RptRow:
-    """A source of a shared tree that the router has joined: whether the router pruned it off that tree."""
+    """A source of a shared tree that the router has joined."""
     table: ClassVar[str] = "R"
-    group: str
-    source: str
-    is_pruned: bool
+    group: str  # G
+    source: str  # S
+    is_pruned: bool  # the router pruned it off the shared tree
 
     def __str__(self) -> str:
-        return f"R {self.group} {self.source} {'pruned' if self.is_pruned else 'notpruned'}"
+        return line("R", self.group, self.source, "pruned" if self.is_pruned else "notpruned")
 
 
 @dataclass(frozen=True)
 class ActiveRow:
-    """An active source. Its keepalive timer expires at `keepalive`. The state of its register is `join`, `pending` or
-    `prune`, and None elsewhere than at the source's DR."""
+    """An active source."""
     table: ClassVar[str] = "F"
-    group: str
-    source: str
-    keepalive: int | None
-    spt_bit: bool
-    register_state: str | None
+    group: str  # G
+    source: str  # S
+    keepalive: int | None  # when the keepalive timer expires; None where it doesn't run
+    spt_bit: bool  # SPTbit(S,G)
+    register_state: str | None  # None elsewhere than at the source's DR
 
     def __str__(self) -> str:
-        spt = "spt" if self.spt_bit else "-"
-        return f"F {self.group} {self.source} {ends(self.keepalive, '-')} {spt} {self.register_state or '-'}"
+        return line("F", self.group, self.source, ends(self.keepalive, "-"), "spt" if self.spt_bit else "-",
+                    self.register_state or "-")
 
 
 # A row of any table, which as text is its line, as docs/SCENARIOS.md describes it ("Tables").
@@ -237,8 +224,8 @@ def source_row(of: ToldSource) -> SourceRow:
 
 
 def downstream_row(of: ToldDownstream) -> DownstreamRow:
-    state, times = DOWNSTREAM_STATES[of.state], (there(of.end), there(of.pending))
-    return DownstreamRow(of.iface, dotted(of.group), source_of(of.source), of.is_rpt, state, *times)
+    return DownstreamRow(of.iface, dotted(of.group), source_of(of.source), of.is_rpt, DOWNSTREAM_STATES[of.state],
+                         there(of.end), there(of.pending))
 
 
 def assert_row(of: ToldAssert) -> AssertRow:
@@ -254,8 +241,8 @@ def rpt_row(of: ToldRpt) -> RptRow:
 
 
 def active_row(of: ToldActive) -> ActiveRow:
-    register_state = REGISTER_STATES[of.register_state]
-    return ActiveRow(dotted(of.group), dotted(of.source), there(of.keepalive), of.spt_bit, register_state)
+    return ActiveRow(dotted(of.group), dotted(of.source), there(of.keepalive), of.spt_bit,
+                     REGISTER_STATES[of.register_state])
 
 
 # The member of each table, and the row that it is.

@@ -1,4 +1,5 @@
-"""The answers of the core and what holds where nothing is said, for the tools: `tools/tables` writes all of it."""
+"""The answers of the core, its printed rows and what holds where nothing is said, for the tools: `tools/tables` writes
+all of it."""
 
 # ---- answers
 # The names of refusals, by their numbers.
@@ -70,6 +71,21 @@ MEANINGS = {
                    "or is over",
     "NotRp": "a Register-Stop from another address than the group's RP: the router goes on registering",
     "Already": "`up` of an interface that is up, or `down` of one that is down",
+}
+# ---- rows
+# The rows of the definitions: the first number of each, and its columns, each a kind with its words.
+ROWS = {
+    "N": (10, [("iface", []), ("address", []), ("end", ["never"])]),
+    "G": (11, [("iface", []), ("address", []), ("flag", ["include", "exclude"]), ("end", ["never"])]),
+    "S": (12, [("iface", []), ("address", []), ("address", []), ("end", ["-"])]),
+    "D": (13, [("iface", []), ("address", []), ("source", []), ("tree", []),
+               ("downstream", ["join", "pending", "prune"]), ("end", ["never"]), ("end", ["-"])]),
+    "A": (14, [("iface", []), ("address", []), ("source", []), ("nothing", []), ("role", ["winner", "loser"]),
+               ("address", []), ("moment", [])]),
+    "U": (15, [("address", []), ("source", []), ("moment", [])]),
+    "R": (16, [("address", []), ("address", []), ("flag", ["notpruned", "pruned"])]),
+    "F": (17, [("address", []), ("address", []), ("end", ["-"]), ("flag", ["-", "spt"]),
+               ("register", ["-", "join", "pending", "prune"])]),
 }
 # ---- defaults
 # What holds where a scenario says nothing, by its keys; the first are a router's.

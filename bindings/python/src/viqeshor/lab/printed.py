@@ -44,12 +44,14 @@ class Heading(NamedTuple):
 
 
 class Neighbour(NamedTuple):
+    """A PIM neighbour."""
     iface: int
     address: str
     end: float | None
 
 
 class GroupRecord(NamedTuple):
+    """What hosts want of a group."""
     iface: int
     group: str
     mode: str
@@ -57,6 +59,7 @@ class GroupRecord(NamedTuple):
 
 
 class SourceRecord(NamedTuple):
+    """A source that hosts want or exclude."""
     iface: int
     group: str
     source: str
@@ -64,6 +67,7 @@ class SourceRecord(NamedTuple):
 
 
 class Downstream(NamedTuple):
+    """What other routers joined or pruned."""
     iface: int
     group: str
     source: str
@@ -74,6 +78,7 @@ class Downstream(NamedTuple):
 
 
 class AssertState(NamedTuple):
+    """An assert."""
     iface: int
     group: str
     source: str
@@ -83,18 +88,21 @@ class AssertState(NamedTuple):
 
 
 class Upstream(NamedTuple):
+    """A tree that the router has joined upstream."""
     group: str
     source: str
     end: float | None
 
 
 class SharedTree(NamedTuple):
+    """A source of a shared tree that the router has joined."""
     group: str
     source: str
     state: str
 
 
 class Active(NamedTuple):
+    """An active source."""
     group: str
     source: str
     end: float | None
@@ -103,7 +111,7 @@ class Active(NamedTuple):
 
 
 class OlderHosts(NamedTuple):
-    """Hosts of IGMPv1 and IGMPv2 that want a group: its mode, and when the timers that run expire."""
+    """A group in an older mode on an interface."""
     iface: int
     group: str
     mode: str
@@ -117,6 +125,8 @@ ROWS = {
 }
 # The columns that are moments.
 ENDS = ("end", "pending", "one_end", "two_end")
+# The columns that are numbers.
+NUMBERS = ("iface",)
 PACKETS = ("frame", "copy", "unicast")
 
 
@@ -125,7 +135,7 @@ def end_of(text: str) -> float | None:
 
 
 def value_of(column: str, text: str) -> str | float | None:
-    if column == "iface":
+    if column in NUMBERS:
         return int(text)
     return end_of(text) if column in ENDS else text
 
