@@ -366,7 +366,8 @@ class Sample(unittest.TestCase):
     def test_it_has_each_kind_of_move(self):
         moves = [move for name in SAMPLE for move in tomllib.loads((stored.DATA / f"{name}.toml").read_text())["move"]]
         self.assertEqual({move["do"] for move in moves}, {
-            "advance", "carry", "deliver", "down", "frame", "reload", "restart", "routes", "rps", "settle", "unicast", "up"})
+            "advance", "carry", "deliver", "down", "frame", "reload", "restart", "routes", "rps", "settle", "unicast",
+            "up"})
 
 
 @unittest.skipUnless(os.environ.get("KERNEL"), "KERNEL=1 asks the kit's kernel")
