@@ -6,12 +6,13 @@ import tempfile
 from collections.abc import Iterable
 from pathlib import Path
 
-sys.path.append(str(Path(__file__).resolve().parents[2] / "bindings" / "python" / "src"))
+TOOLS = Path(__file__).resolve().parent.parent
+sys.path += [str(TOOLS), str(TOOLS.parent / "bindings" / "python" / "src")]
 from viqeshor.lab import packets  # noqa: E402
 from viqeshor.lab.addresses import dotted  # noqa: E402
 from viqeshor.lab.packets import Entry, GroupEntries, Record, octets  # noqa: E402
 
-TOP = Path(__file__).resolve().parent.parent.parent
+TOP = TOOLS.parent
 PROGRAM = TOP / "crates" / "pimlab" / "out" / "pimlab"
 FIRST_GROUP = 0xE1010000
 FIRST_SOURCE = 0x0A800000

@@ -109,7 +109,8 @@ class Called(unittest.TestCase):
         with tempfile.TemporaryDirectory() as room:
             shutil.copy(PIMLAB, room)
             shutil.copy(PIMLAB.parent / "crates.txt", room)
-            shutil.copytree(PIMLAB.parent / "tools" / "pimtext", f"{room}/tools/pimtext")
+            for folder in ("tools/pimtext", "bindings/python/src"):
+                shutil.copytree(PIMLAB.parent / folder, f"{room}/{folder}")
             os.mkdir(f"{room}/crates")
             for build, reason in (("proved", b"there is no command `rt`"), ("by-rattle", b"./test makes it")):
                 env = {"PATH": "/nowhere", "XDG_CACHE_HOME": room, "PIMLAB_BUILD": build}
