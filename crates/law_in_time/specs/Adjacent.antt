@@ -1,9 +1,9 @@
 -- Neighbours in time: a router whose Hellos come to another within d is its neighbour without end.
 use Rattle.std.{specs.Prelude.{Bool, List, Option, Some, [], false, length, nat_lt, slice_get, true, ℕ, ◌&&◌, ◌*◌, ◌+◌, ◌<◌, ◌==◌, ◌||◌, ◌∷◌, ◌≡◌, ◌≤◌, ◌⊎◌}}
 use Rattle.pim_ip.{specs.Ipv4.{all_pim_routers, pim_packet_text}}
-use Rattle.pim_types.{specs.{Keys.iface_key, declared.{config.InterfaceConfig.InterfaceConfig, event.Event.Event, fact.InterfaceRow.InterfaceRow}}}
+use Rattle.pim_types.{specs.{Keys.iface_key, declared.{event.Event.Event, fact.InterfaceRow.InterfaceRow}}}
 use Rattle.pim_wire.{specs.Hellos.hello_text}
-use Rattle.pim_model.{specs.{declared.accepted.Accepted.Accepted, Cause.done_as, Hellos.hello_holdtime_of, Neighbours.is_neighbour, Network.{Move, Network, Station, event_of, frame_at, moved, station_at}, State.{State, address_among, is_up, value_among}, Tables.row_at}}
+use Rattle.pim_model.{specs.{declared.accepted.Accepted.Accepted, Cause.done_as, Hellos.hello_holdtime_of, Neighbours.is_neighbour, Network.{Move, Network, Station, event_of, frame_at, moved, station_at}, State.{Addressing, State, address_among, is_up, value_among}, Tables.row_at}}
 use Rattle.law_promises.{specs.Copies.happens}
 use Rattle.law_in_time.{specs.{Joins.{Always, IsBy, IsReady, time_at}, Neighbours.HoldsNeighbour}}
 
@@ -18,7 +18,7 @@ pub record Adjacent : Type 0 where
   pub address : ℕ
 
 -- the bytes of a Hello of an interface
-abbrev pub hello_of : List InterfaceConfig → ℕ → ℕ → List ℕ
+abbrev pub hello_of : Addressing → ℕ → ℕ → List ℕ
 hello_of cs i generation =
     pim_packet_text 1 (address_among cs i) all_pim_routers
     (hello_text (value_among (λ c. c.propagation_delay) cs i) (value_among (λ c. c.override_interval) cs i)

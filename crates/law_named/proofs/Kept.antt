@@ -144,7 +144,7 @@ narrower d e x z same = grind (arith, no_matter)
 
 -- ---- (*,G)
 
-module _ (g : ℕ) (o a : State) (config : IsConfigured o a) (few : length o.configured ≤ most_ifaces) where
+module _ (g : ℕ) (o a : State) (config : IsConfigured o a) (few : length o.configured.interfaces ≤ most_ifaces) where
   pub empty_same : (f h : Set) → ((i : ℕ) → Low i → f i ≡ h i) → is_empty o f ≡ is_empty a h
   unfolding is_empty
   empty_same f h same = grind (arith, any_same, nat_tests)
@@ -384,6 +384,6 @@ module _ (g : ℕ) (o a : State) (config : IsConfigured o a) (few : length o.con
     }
 
 pub unnamed_keeps : (g src : ℕ) (o a : State) → o.settings ≡ a.settings → o.configured ≡ a.configured
-    → length o.configured ≤ most_ifaces → is_source_named g src o a ≡ false → KeepsAnswers g src o a
+    → length o.configured.interfaces ≤ most_ifaces → is_source_named g src o a ≡ false → KeepsAnswers g src o a
 unfolding is_source_named is_same_beside
 unnamed_keeps g src o a settings configured few unnamed = grind (arith, both_of, not_false, keeps, same_source, flags)

@@ -53,7 +53,7 @@ module _ (s : State) (w i : ℕ) where
   taken_downs : Downs (taken s w (Accepted.Down (record { number = i })))
   unfolding taken done change iface_down
   taken_downs =
-      (ap (λ (g : Ground). length g.configured) (settled_ground s (iface_down s i, []) w), down_up s w i)
+      (ap (λ (g : Ground). length g.configured.interfaces) (settled_ground s (iface_down s i, []) w), down_up s w i)
 
   full_downs : Downs (taken_unless_full s w (Accepted.Down (record { number = i })))
   unfolding taken_unless_full is_full

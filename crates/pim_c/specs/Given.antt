@@ -40,6 +40,7 @@ config_of g interfaces routes ranges = record {
   last_member_query_interval = g.last_member_query_interval;
   routes = map route_of routes;
   rps = map range_of ranges;
+  addresses = [];
 }
 
 abbrev pub given_event : ℕ → EventKind → Event

@@ -171,6 +171,7 @@ pub fn config(
         last_member_query_interval: settings.last_member_query_interval,
         routes,
         rps,
+        addresses: Series::new(alloc),
     })
 }
 

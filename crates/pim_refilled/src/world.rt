@@ -11,7 +11,7 @@ use crate::interfaces::interfaces_of;
 use crate::membership::membership_of;
 use crate::neighbours::neighbours_of;
 use crate::store::store_of;
-use pim_ifaces::Interfaces;
+use pim_ifaces::{Interfaces, are_own_addresses};
 use pim_mrib::Mrib;
 use pim_saver::SavedState;
 use pim_state::{Meter, World};
@@ -52,7 +52,16 @@ fn world_of_rows(
 {
     let ground = &state.ground;
     let links = &state.links;
-    let Some(interfaces) = interfaces_of(alloc, &ground.configured, &links.interfaces)? else {
+    if !are_own_addresses(&ground.configured, &state.addresses) {
+        return Ok(None);
+    }
+    let Some(interfaces) = interfaces_of(
+        alloc,
+        &ground.configured,
+        &state.addresses,
+        &links.interfaces,
+    )?
+    else {
         return Ok(None);
     };
     let Some(mrib) = mrib_of(alloc, &interfaces, &ground.routes, &ground.ranges, meter)? else {

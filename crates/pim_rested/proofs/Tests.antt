@@ -51,7 +51,7 @@ quiet_so s h = all_four _ _ _ _ h.clear.asserts h.clear.sources h.sources_settle
 
 module _ (s : State) where
   abbrev up : Bool
-  up = list_all (λ e. is_up_key (length s.configured) e.0) s.interfaces
+  up = list_all (λ e. is_up_key (length s.configured.interfaces) e.0) s.interfaces
 
   accepted_is : can_hold s ≡ true → are_settings_accepted s ≡ true → config_test (config_of s) ≡ Ok tt
   unfolding config_of

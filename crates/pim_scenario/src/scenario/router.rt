@@ -141,6 +141,7 @@ pub(super) fn config_in(
         )?,
         routes: routes::routes_in(alloc, field::list_or_empty(table, "routes")?)?,
         rps: routes::rps_in(alloc, field::list_or_empty(table, "rps")?)?,
+        addresses: Series::new(alloc),
     })
 }
 

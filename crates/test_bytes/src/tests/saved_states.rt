@@ -283,6 +283,7 @@ fn state(alloc: Global) -> Result<SavedState, AllocError> {
     let records = records(alloc)?;
     let trees = trees(alloc)?;
     Ok(SavedState {
+        addresses: Vec::new(alloc),
         ground,
         links,
         records,
