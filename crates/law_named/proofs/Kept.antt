@@ -150,7 +150,7 @@ module _ (g : ℕ) (o a : State) (config : IsConfigured o a) (few : length o.con
   empty_same f h same = grind (arith, any_same, nat_tests)
 
   my_address_same : (i : ℕ) → my_address o i ≡ my_address a i
-  my_address_same i = λ j. option_map_or (λ (c : InterfaceConfig). c.address.bits) (slice_get (config.configured j) i) 0
+  my_address_same i = λ j. option_map_or (λ (c : InterfaceConfig). c.address.bits) (slice_get (config.configured j).interfaces i) 0
 
   own_same : (x : ℕ) → is_own o x ≡ is_own a x
   own_same x = λ j. is_own_among (config.configured j) x

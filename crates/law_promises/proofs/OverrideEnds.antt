@@ -17,7 +17,7 @@ IsShort (Some d) = d.override_interval ≤ longest_override
 abbrev pub AreShort : Table NeighbourRow → Type 0
 AreShort t = AllByRecursion (λ e. IsShort (e.1).lan_delay) t
 
-abbrev pub AreConfiguredShort : Addressing → Type 0
+abbrev pub AreConfiguredShort : List InterfaceConfig → Type 0
 AreConfiguredShort cs = AllByRecursion (λ c. c.override_interval ≤ longest_override) cs
 
 one_short : (mine : ℕ) (o : Option LanDelay) → mine ≤ longest_override → IsShort o
@@ -38,7 +38,7 @@ drawn_short : (v w : ℕ) → v ≤ longest_override → delay_in 1 (max 1 v) w 
 unfolding delay_in
 drawn_short v w le = grind (arith, mod_below)
 
-value_short : (cs : Addressing) (i : ℕ) → AreConfiguredShort cs
+value_short : (cs : List InterfaceConfig) (i : ℕ) → AreConfiguredShort cs
     → option_map_or (λ (c : InterfaceConfig). c.override_interval) (slice_get cs i) 0 ≤ longest_override
 value_short [] i f = omega arith
 value_short (c ∷ cs) zero f = f.0
@@ -46,7 +46,7 @@ value_short (c ∷ cs) (suc i) f = value_short cs i f.1
 
 -- no more is announced, or configured
 pub record IsBrief (configured : Addressing) (neighbours : Table NeighbourRow) : Type 0 where
-  pub mine : AreConfiguredShort configured
+  pub mine : AreConfiguredShort configured.interfaces
   pub theirs : AreShort neighbours
 
 abbrev pub Brief : State → Type 0

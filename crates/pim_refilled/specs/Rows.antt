@@ -17,9 +17,8 @@ pub record StateRises (s : State) : Type 0 where
 -- kind
 abbrev pub can_hold : State → Bool
 can_hold s =
-    are_own_addresses s.configured
-    && ((is_ok (interfaces_test s.configured.interfaces)
+    ((is_ok (interfaces_test s.configured.interfaces) && are_own_addresses s.configured)
     && list_all (λ e. is_up_key (length s.configured.interfaces) e.0) s.interfaces)
     && ((are_routes s.configured s.routes && are_rps s.ranges)
     && (membership.are_of_kind (membership_tables s)
-    && (store.are_of_kind (store.pim_tables s) && are_held s.settings s.present))))
+    && (store.are_of_kind (store.pim_tables s) && are_held s.settings s.present)))

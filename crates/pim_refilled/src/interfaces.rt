@@ -2,11 +2,12 @@
 ghost use Rattle.std.specs.List.{list_all};
 ghost use Rattle.std.specs.Prelude.{◌≡◌, ◌&&◌, IfOk, IfSome, IsTrue, is_ok, is_some, length};
 ghost use Rattle.pim_ifaces.specs.Interfaces.{interfaces_test, is_up_key};
+ghost use Rattle.pim_model.specs.Limits.{are_own_addresses};
 ghost use Rattle.pim_model.specs.Tables.{put};
 ghost use Rattle.pim_store.specs.PimTables.{Rises};
 ghost use Rattle.pim_refilled.specs.Refilled.{refilled};
 
-use pim_ifaces::{Interfaces, test_interfaces};
+use pim_ifaces::{Interfaces, are_own_addresses, test_interfaces};
 use pim_types::fact::InterfaceRow;
 use pim_types::{Addr, InterfaceConfig, Key};
 use std::alloc::{AllocError, Global};
@@ -55,9 +56,10 @@ pub(crate) fn interfaces_of(
     ensures shown { IfOk result (λ made. IfSome made (λ interfaces. interfaces.configured
         ≡ record { interfaces = configured.now; addresses = addresses.now })) }
     ensures none { IfOk result (λ made. is_some made
-        ≡ (is_ok (interfaces_test configured.now) && list_all (λ e. is_up_key (length configured.now) e.0) rows.now)) }
+        ≡ ((is_ok (interfaces_test configured.now)
+        && are_own_addresses (record { interfaces = configured.now; addresses = addresses.now })) && list_all (λ e. is_up_key (length configured.now) e.0) rows.now)) }
 {
-    if test_interfaces(configured).is_err() {
+    if test_interfaces(configured).is_err() || !are_own_addresses(configured, addresses) {
         return Ok(None);
     }
     let mut interfaces = Interfaces::new(alloc, configured, addresses)?;

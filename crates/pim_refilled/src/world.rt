@@ -11,7 +11,7 @@ use crate::interfaces::interfaces_of;
 use crate::membership::membership_of;
 use crate::neighbours::neighbours_of;
 use crate::store::store_of;
-use pim_ifaces::{Interfaces, are_own_addresses};
+use pim_ifaces::Interfaces;
 use pim_mrib::Mrib;
 use pim_saver::SavedState;
 use pim_state::{Meter, World};
@@ -52,9 +52,6 @@ fn world_of_rows(
 {
     let ground = &state.ground;
     let links = &state.links;
-    if !are_own_addresses(&ground.configured, &state.addresses) {
-        return Ok(None);
-    }
     let Some(interfaces) = interfaces_of(
         alloc,
         &ground.configured,

@@ -108,7 +108,8 @@ impl World {
         if let Err(refusal) = test_settings(config) {
             return Ok(Err(refusal));
         }
-        let (given, own) = (config.interfaces.as_slice(), config.addresses.as_slice());
+        let given = config.interfaces.as_slice();
+        let own = config.addresses.as_slice();
         let interfaces = Interfaces::new(alloc, given, own)?;
         let mut mrib = Mrib::new(alloc);
         if mrib
