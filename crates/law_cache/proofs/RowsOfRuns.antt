@@ -1,7 +1,7 @@
 -- The rows are kept at any events, of a router from its opening on.
 use Rattle.std.{proofs.Common.{◌≡◌, Bool, true, List, [], ◌∷◌, Ok, Option, is_some, length, ◌≤◌, refl, ap, subst, ◌∙◌, arith}}
 use Rattle.pim_ip.{specs.Ipv4.Packet}
-use Rattle.pim_types.{specs.declared.{config.{Config.Config}, event.Event.Event}}
+use Rattle.pim_types.{specs.declared.{config.Config.Config, event.Event.Event}}
 use Rattle.pim_model.{specs.{Cache.Plain, declared.accepted.Accepted.Accepted, Full.is_full, Judging.Judged, Limits.{config_test, most_ifaces}, Plain.IsPlainEvent, State.{Addressing, State, opening}, Step.{ran, state_after, step, taken}, Tables.has_row}}
 use Rattle.law_settled.{proofs.Accepted.few_interfaces}
 use Rattle.law_scope.{specs.Rest.IsAtRest}

@@ -1,7 +1,7 @@
 -- What is sent upstream, and what becomes packets, changes no answer: so an unnamed source keeps its answers to the end
 -- of the event. What is configured stays.
 use Rattle.std.{proofs.Common.{◌≡◌, ℕ, false, List, [], length, ◌≤◌, refl, subst, arith}}
-use Rattle.pim_types.{specs.{declared.Keys.source_key}}
+use Rattle.pim_types.{specs.Keys.source_key}
 use Rattle.pim_model.{specs.{Clearing.clear, declared.accepted.Accepted.Accepted, Firing.{fire_once, fired, settled}, Limits.most_ifaces, Messages.Message, Reach.own_firing, State.{Addressing, State}, Step.{change, done}, Timers.Ending}}
 use Rattle.law_scope.{specs.Locality.{AgreesBut, touching}, proofs.{QuietStates.{frame_packets, frame_upstream}, Touches.agrees_then}}
 use Rattle.law_named.{specs.{Keeps.KeepsAnswers, Named.is_source_named}, proofs.{Agreed.agreed_is_unnamed, Configured.{change_configured, configured_beside, firing_configured}, Kept.unnamed_keeps, Reached.{IsConfigured, clearing_keeps}, Through.kept_through}}

@@ -1,6 +1,6 @@
 -- Each assert that the router won names the address of its interface.
 use Rattle.std.{proofs.{Common.{◌≡◌, ◌==◌, ◌&&◌, ◌||◌, ◌∙◌, ℕ, ◌+◌, ◌≤◌, not, Bool, true, false, cond, List, [], filter, Option, option_map, Some, None, refl, sym, ap, subst, arith, eqb-true, eq-eqb}}, specs.{Cmp.first_so, List.{AllByRecursion}, Option.option_map_or}}
-use Rattle.pim_types.{specs.{Keys.{group_in, iface_in, is_on, is_star, same_key, source_in}, declared.{config.{Config.Config}, fact.{AssertMetric.AssertMetric, AssertRole.AssertRole, AssertRow.AssertRow, DownstreamRow.DownstreamRow, Key.Key}, path.Path.Path, timer.TimerKind.TimerKind}}, proofs.Keys.equal_keys}
+use Rattle.pim_types.{specs.{Keys.{group_in, iface_in, is_on, is_star, same_key, source_in}, declared.{config.Config.Config, fact.{AssertMetric.AssertMetric, AssertRole.AssertRole, AssertRow.AssertRow, DownstreamRow.DownstreamRow, Key.Key}, path.Path.Path, timer.TimerKind.TimerKind}}, proofs.Keys.equal_keys}
 use Rattle.pim_ip.{specs.Ipv4.Packet}
 use Rattle.pim_wire.{specs.{declared.{assert.Assert.Assert as AssertMessage, hello.Hello.Hello as HelloValue}, Values.{Encapsulated, JoinPrune, Null}}}
 use Rattle.igmp_wire.{specs.Values.{Query as QueryValue, Record}}

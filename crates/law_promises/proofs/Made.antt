@@ -1,7 +1,7 @@
 -- The copies that an event makes, as links and a text.
 use Rattle.std.{proofs.{Common.{◌≡◌, ◌∙◌, ℕ, ◌+◌, ◌-◌, ◌<◌, ◌==◌, Bool, true, false, cond, List, [], ◌++◌, length, Option, Some, Result, Ok, refl, sym, ap, subst, arith, length-append}, Math.{Nat.sub-zero, Seq.{drop-append_seam, drop-length}}, lemmas.{Bool.not-true, List.{append-nil, Elements.filter-append}}}, specs.{Cmp.second_so, List.{AllByRecursion, Sorted.IsStrictlySortedBy}, Ordering.nat_cmp}}
 use Rattle.pim_ip.{specs.{Ipv4.{Packet, copy_text}, declared.refusal.Refusal.Refusal}}
-use Rattle.pim_types.{specs.declared.{config.{IfaceId.IfaceId}, event.Event.Event, outcome.{Emission.Emission, Stop.Stop, Verdict.Verdict}}}
+use Rattle.pim_types.{specs.declared.{config.IfaceId.IfaceId, event.Event.Event, outcome.{Emission.Emission, Stop.Stop, Verdict.Verdict}}}
 use Rattle.pim_wire.{specs.{Registers.register_text, Values.Encapsulated}}
 use Rattle.pim_model.{specs.{declared.accepted.Accepted.Accepted, Asserts.{data_seen, wins, with_spt_bit}, Cause.{copies_in, done_as, if_done, is_on_link, packet_in}, Firing.settled, Forwarding.{Forwarded, forwarded, list_chosen, register_at_rp, register_received, source_here, source_joined, spt_updated, stray, watched}, Judging.{Judged, judged}, Registers.{settle_register, with_keepalive}, Sets.{Set, members}, State.{Addressing, State, iface_count}, Step.{Answered, Change, advanced, change, concluded, done, outcome_of, packet_forwarded, step, stopped, taken, taken_unless_full}, Tables.below, Writing.{copies_of, leaves, pim_to, register_of_packet, tunnel_of}}}
 use Rattle.law_settled.{proofs.{ListLaws.{each_filter, each_more, each_passes}, UnchangedLaws.{full_or_taken, taken_done}}}

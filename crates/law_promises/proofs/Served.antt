@@ -1,7 +1,7 @@
 -- Who is served.
 use Rattle.std.{proofs.Common.{◌≡◌, ◌∙◌, ℕ, ◌==◌, ◌<◌, ◌||◌, Bool, true, false, List, length, refl, sym, ap, subst, arith, lt-ltb, inl, inr}, specs.List.Contains}
 use Rattle.pim_ip.{specs.Ipv4.{Packet, copy_text}}
-use Rattle.pim_types.{specs.declared.{config.{IfaceId.IfaceId}, event.Event.Event, outcome.Emission.Emission}}
+use Rattle.pim_types.{specs.declared.{config.IfaceId.IfaceId, event.Event.Event, outcome.Emission.Emission}}
 use Rattle.pim_model.{specs.{declared.accepted.Accepted.Accepted, Asserts.with_spt_bit, Cause.copies_in, Forwarding.{Forwarded, forwarded, list_chosen, source_here, source_joined, spt_updated}, Neighbours.is_dr, Receivers.{is_exclude, local_receiver_exclude, local_receiver_include}, Registers.{settle_register, with_keepalive}, Sets.{Set, assert_source, assert_star, inherited_olist, inherited_olist_rpt, is_loser, is_winner, joins, joins_star, lost_assert, lost_assert_rpt, lost_assert_star, members, pim_exclude, pim_include, pim_include_star, prunes, serves, serves_star}, State.{Addressing, State, iface_count}, Step.outcome_of, Tables.below, Writing.on_link}}
 use Rattle.law_promises.{specs.{Copies.copies_at, Served.{Came, IsListOf, IsMember, IsServed, IsSourceJoined, IsSourceMember, ListIsServed, MemberIsServed, OfGroup, OfSource, OnATree, OnSharedTree, OnShortestPath, ServedHere, SourceIsServed, renewed}}, proofs.{Links.{contains_mapped, contains_passing, is_below}, Made.{data_copies, forwarded_configured, step_taken}}}
 

@@ -1,6 +1,6 @@
 -- The whole way.
 use Rattle.std.{proofs.Common.{◌≡◌, ◌∙◌, ℕ, ◌+◌, ◌<◌, ◌==◌, false, List, [], ◌∷◌, length, Some, refl, sym, ap, subst, arith, slice_get}, specs.List.AllByRecursion}
-use Rattle.pim_types.{specs.declared.{event.Event.Event}}
+use Rattle.pim_types.{specs.declared.event.Event.Event}
 use Rattle.pim_model.{specs.{Network.{At, Network, moved, network_ran, station_at}, Sets.{assert_source, is_loser}, State.{Addressing, iface_count}}}
 use Rattle.law_served.{specs.{Flows.IsFlowed, Roots.IsBrought, Served.{IsServedBy, carriers, root_link}, Ways.{AreApart, HasTaken, IsNotAmong, IsWay, Place, state_of, up_address}, Whole.{EachPacketIsServed, root_of}}, proofs.{Deliveries.{IsStepped, is_moved}, Roots.root_sends, Serves.who_asks_is_served}}
 

@@ -1,7 +1,7 @@
 -- A router that takes a Join(S,G) and sends its own.
 use Rattle.std.{proofs.{Common.{◌≡◌, ◌∙◌, ℕ, ◌^◌, ◌<◌, ◌||◌, Bool, true, false, not, cond, List, [], ◌∷◌, Option, Some, None, Ok, refl, sym, ap, subst, arith}, lemmas.List.Elements.All-nil}, specs.List.Contains}
 use Rattle.pim_ip.{specs.Ipv4.is_source_specific}
-use Rattle.pim_types.{specs.{Keys.{neighbour_key, source_key}, declared.{config.{IfaceId.IfaceId}, event.{Event.Event, EventKind.EventKind}, fact.{AssertRow.AssertRow, NeighbourRow.NeighbourRow}, outcome.Emission.Emission, path.{Hop.Hop, Path.Path}}}, proofs.Keys.same_key_same}
+use Rattle.pim_types.{specs.{Keys.{neighbour_key, source_key}, declared.{config.IfaceId.IfaceId, event.{Event.Event, EventKind.EventKind}, fact.{AssertRow.AssertRow, NeighbourRow.NeighbourRow}, outcome.Emission.Emission, path.{Hop.Hop, Path.Path}}}, proofs.Keys.same_key_same}
 use Rattle.pim_wire.{specs.{Values.JoinPrune, declared.join_prune.EntryKind.EntryKind}}
 use Rattle.pim_model.{specs.{declared.accepted.Accepted.Accepted, Cause.done_as, Desires.{rpf_source, winner_hop}, Downstream.{accepted_joins, accepted_prunes, is_accepted, is_named, joined_keys, keys_taken, pruned_keys, to_me}, Full.{distinct, is_full, join_prune_is_full, keys_are_full, makeable_keys, needed, once_more, passes_limit}, Judging.judged, Messages.entry, Neighbours.{nbr, nbr_among}, Sets.{assert_source, is_loser}, State.{Addressing, State, address_among, my_address}, Step.{change, done, step}, Tables.{Table, has_row}, Unicast.{route, rpf_interface}, Writing.on_link}}
 use Rattle.law_promises.{specs.Copies.happens, proofs.{Made.step_taken, Within.none_passes}}

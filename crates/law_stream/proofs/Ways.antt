@@ -1,7 +1,7 @@
 -- The way to an address is the same where routes, ranges and the interfaces that are up are.
 use Rattle.std.{proofs.Common.{◌≡◌, ℕ, Bool, false, ◌&&◌, List, length, Option, Some, None, refl, arith}, specs.{Option.option_map_or, Prelude.{find, if◌then◌else◌, option_and_then, slice_get}}}
 use Rattle.pim_ip.{specs.Prefixes.{contains, longest_match}}
-use Rattle.pim_types.{specs.declared.{config.{Route.Route}, path.Path.Path}}
+use Rattle.pim_types.{specs.declared.{config.Route.Route, path.Path.Path}}
 use Rattle.pim_model.{specs.{State.{Addressing, State, is_own_among, is_up}, Tables.below, Unicast.{is_on_link_among, is_rpf_interface, is_rpf_interface_rp, link_among, link_path, route, route_among, route_path, routed_among, rp_of, rp_route, rpf_interface, rpf_interface_rp, subnet}}}
 
 -- the route by a test of which interfaces are up

@@ -1,7 +1,7 @@
 -- The preferences of routes have 31 bits.
 use Rattle.std.{proofs.{Common.{◌≡◌, ◌<◌, ◌^◌, ℕ, Bool, true, false, List, [], ◌∷◌, Option, Some, None, ap, ◌∙◌, arith}, lemmas.Bool.Decides.nat_tests}, specs.{List.list_all, Option.{IfSome, option_map_or}, Prelude.{nat_le, nat_lt, if◌then◌else◌, option_and_then}}}
 use Rattle.pim_ip.{specs.{declared.addr.Prefix.Prefix, Prefixes.{contains, longer, longest_match}}}
-use Rattle.pim_types.{specs.{declared.{config.{Route.Route}, fact.InterfaceRow.InterfaceRow, path.Path.Path}, Keys.iface_key}}
+use Rattle.pim_types.{specs.{declared.{config.Route.Route, fact.InterfaceRow.InterfaceRow, path.Path.Path}, Keys.iface_key}}
 use Rattle.pim_model.{specs.{State.{Addressing, is_own_among}, Tables.{Table, has_row}, Limits.is_route, Unicast.{link_among, link_path, path_if_up, route_among, route_path, routed_among}}}
 use Rattle.pim_mrib.{specs.Routes.are_preferred, proofs.Accepted.{all_pass, and_first, and_second, pass_each}}
 
