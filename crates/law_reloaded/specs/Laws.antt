@@ -2,7 +2,7 @@
 use Rattle.std.{specs.{List.{list_all, list_any}, Prelude.{Bool, List, None, Ok, Some, [], false, filter, length, map, nat_le, nat_lt, not, slice_get, take, true, ℕ, ◌&&◌, ◌*◌, ◌++◌, ◌+◌, ◌==◌, ◌≡◌}}}
 use Rattle.pim_types.{specs.{declared.{config.{Config.Config, InterfaceConfig.InterfaceConfig, Settings.Settings}, fact.{AssertRow.AssertRow, DownstreamRow.DownstreamRow, GroupRecordRow.GroupRecordRow, GroupRepeatRow.GroupRepeatRow, Key.Key, NeighbourRow.NeighbourRow, QuerierRole.QuerierRole, QuerierRow.QuerierRow, SendingRow.SendingRow, SourceRecordRow.SourceRecordRow, SourceRepeatRow.SourceRepeatRow}}, Keys.{iface_in, source_in}}}
 use Rattle.pim_wire.{specs.{Messages.pim_reading, declared.view.PimView.PimView}}
-use Rattle.pim_model.{specs.{Clearing.clear, Limits.config_test, Messages.Message, State.{Addressing, State, iface_config, iface_count, interfaces_of, is_own_among, is_up}, Tables.below, Unicast.rp_of, Upstream.{fact_keys, upstream}, Writing.{hello_emission, write_all}}}
+use Rattle.pim_model.{specs.{Clearing.clear, Limits.config_test, Messages.Message, State.{Addressing, State, addressing_of, iface_config, iface_count, interfaces_of, is_own_among, is_up}, Tables.below, Unicast.rp_of, Upstream.{fact_keys, upstream}, Writing.{hello_emission, write_all}}}
 use Rattle.law_scope.{specs.Rest.IsAtRest}
 use Rattle.law_restored.{specs.Reload.config_of}
 use Rattle.law_reloaded.{specs.Reloading.{goodbye_text, hellos_anew, queriers_under, reload, replaced, tells_anew, under}}
@@ -102,7 +102,7 @@ NoneOfRemoved = (s : State) (c : Config) (w : ℕ) → config_test c ≡ Ok tt �
 
 -- the interfaces whose Hello says something else, ascending
 abbrev pub told_anew : State → Config → List ℕ
-told_anew s c = filter (tells_anew s c.interfaces) (below (length c.interfaces))
+told_anew s c = filter (tells_anew s (addressing_of c)) (below (length c.interfaces))
 
 -- After the configuration is replaced the Hellos of these interfaces leave first, one each, as the new configuration has
 -- them.

@@ -2,7 +2,7 @@
 use Rattle.std.{proofs.Common.{◌≡◌, Bool, true, false, ◌&&◌, List, [], ◌∷◌, length, map, refl, ap}, specs.{List.list_all, Prelude.nat_le}}
 use Rattle.pim_types.{specs.declared.config.{Route.Route, RpRange.RpRange}}
 use Rattle.pim_trie.{specs.Entries.is_canonical}
-use Rattle.pim_model.{specs.Limits.{are_distinct, are_routes, are_rps, is_route, is_rp_range, most_routes, most_rps}}
+use Rattle.pim_model.{specs.{Limits.{are_distinct, are_routes, are_rps, is_route, is_rp_range, most_routes, most_rps}, State.Addressing}}
 
 pub and_first : (a b : Bool) → (a && b) ≡ true → a ≡ true
 and_first true b e = refl

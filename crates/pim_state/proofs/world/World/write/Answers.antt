@@ -1,6 +1,5 @@
 use Rattle.std.{proofs.Common.{◌≡◌, ◌≤◌, ◌^◌, List, Ok, Err, OnOk, Result, ap, subst, sym, ◌∙◌}}
 use Rattle.pim_ip.{specs.declared.fault.Fault.Fault}
-use Rattle.pim_types.{specs.declared.config.InterfaceConfig.InterfaceConfig}
 use Rattle.pim_model.{specs.{Messages.Message, State.{Addressing, InterfaceTable, State, interfaces_of}, Writing.{all_written, write_all}}}
 use Rattle.pim_state.{specs.{contracts.world.World.the_view, Shown.{Shows, is_dr_on}}, proofs.Written.keeps_configured}
 use Rattle.pim_state.proofs.world.World.write.Goals as goal
