@@ -2,7 +2,7 @@
 ghost use Rattle.std.specs.List.{list_all, list_any};
 ghost use Rattle.std.specs.List.Sorted.{IsStrictlySortedBy};
 ghost use Rattle.std.specs.Option.{option_map_or};
-ghost use Rattle.std.specs.Prelude.{◌≡◌, ◌<◌, ◌≤◌, ◌==◌, false, [], length, nat_lt, slice_get, option_map, true, IfSome, IsTrue, Ok, OnOk, OnErr, Some};
+ghost use Rattle.std.specs.Prelude.{◌≡◌, ◌<◌, ◌≤◌, ◌==◌, false, [], length, nat_lt, slice_get, option_map, true, IfOk, IfSome, IsTrue, Ok, OnOk, OnErr, Some};
 ghost use Rattle.pim_model.specs.Hellos.{hellos_triggered};
 ghost use Rattle.pim_model.specs.State.{is_own_among};
 ghost use Rattle.pim_model.specs.Clearing.{first_by};
