@@ -1,6 +1,6 @@
 -- The tests of a configuration, in two parts.
-use Rattle.std.{proofs.{Common.{◌≡◌, ◌≤◌, arith, Bool, true, false, Result, Ok, Err, [], refl, ap, ◌∙◌}, lemmas.Bool.Decides.nat_tests}, specs.{List.list_all, Prelude.{if◌then◌else◌, is_err, length}}}
-use Rattle.pim_ip.{specs.{declared.refusal.Refusal.Refusal, Ipv4.is_unicast, Tests.{expect, ◌>>◌}}}
+use Rattle.std.{proofs.{Common.{◌≡◌, ◌≤◌, arith, Bool, true, false, Result, Ok, Err, [], List, refl, sym, ap, ◌∙◌}, lemmas.Bool.Decides.nat_tests}, specs.{List.list_all, Prelude.{if◌then◌else◌, is_err, length}}}
+use Rattle.pim_ip.{specs.{declared.{addr.Addr.Addr, refusal.Refusal.Refusal}, Ipv4.is_unicast, Tests.{expect, ◌>>◌}}}
 use Rattle.pim_types.{specs.declared.config.{Config.Config, InterfaceConfig.InterfaceConfig, Settings.Settings}}
 use Rattle.pim_model.{specs.{Limits.{are_apart, are_own_addresses, are_routes, are_rps, config_test, is_between, is_delay_config, is_querier_config, most_ifaces}, State.{addressing_of, opening, settings_of, InterfaceTable}}}
 use Rattle.pim_ifaces.{specs.Interfaces.{delays_test, interfaces_test}}
@@ -80,6 +80,17 @@ test_held false bad x e f = cc (e, ap (λ (y : Result (Unit {0}) Refusal). is_er
 pub chosen : {A : Type 0} (b : Bool) (x a d : A) → x ≡ (if b then a else d) → b ≡ true → x ≡ a
 chosen true x a d e f = e
 chosen false x a d e f = cc
+
+-- the interfaces as they were made of a configuration
+pub from_given : (c : Config) (t : InterfaceTable) (xs : List InterfaceConfig) (own : List Addr)
+    → t ≡ record { configured = record { interfaces = xs; addresses = own }; rows = [] } → xs ≡ c.interfaces
+    → own ≡ c.addresses → t ≡ record { configured = addressing_of c; rows = [] }
+from_given c t xs own is a b = is ∙ rw (a, b) refl
+
+pub own_from_given : (c : Config) (xs : List InterfaceConfig) (own : List Addr) (b d : Bool)
+    → b ≡ are_own_addresses (record { interfaces = xs; addresses = own }) → b ≡ d → xs ≡ c.interfaces
+    → own ≡ c.addresses → are_own_addresses (addressing_of c) ≡ d
+own_from_given c xs own b d is e f g = rw (← f, ← g) (sym is ∙ e)
 
 pub opens : (c : Config) (settings : Settings) (interfaces : InterfaceTable) (mrib : RouteTable)
     → settings ≡ settings_of c → interfaces ≡ record { configured = addressing_of c; rows = [] }
