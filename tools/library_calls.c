@@ -129,14 +129,63 @@ static void without_a_router(void) {
 
 static void refused_settings(void) {
     struct { struct viq_settings settings; uint32_t answer; } tries[] = {
-        {{0, 2, 125, 100, 10, false}, 34}, {{1000001, 2, 125, 100, 10, false}, 34}, {{65536, 1, 125, 100, 10, false}, 35},
-        {{65536, 8, 125, 100, 10, false}, 35}, {{65536, 2, 0, 100, 10, false}, 35}, {{65536, 2, 31745, 100, 10, false}, 35},
-        {{65536, 2, 125, 0, 10, false}, 35}, {{65536, 2, 125, 1250, 10, false}, 35}, {{65536, 2, 31744, 31745, 10, false}, 35},
-        {{65536, 2, 125, 100, 0, false}, 35}, {{65536, 2, 125, 100, 256, false}, 35},
-        {{1, 2, 1, 1, 1, true}, 0}, {{1000000, 7, 31744, 31744, 255, false}, 0}, {{65536, 2, 125, 1249, 10, true}, 0},
+        {{0, 2, 125, 100, 10, false, NULL, 0}, 34}, {{1000001, 2, 125, 100, 10, false, NULL, 0}, 34}, {{65536, 1, 125, 100, 10, false, NULL, 0}, 35},
+        {{65536, 8, 125, 100, 10, false, NULL, 0}, 35}, {{65536, 2, 0, 100, 10, false, NULL, 0}, 35}, {{65536, 2, 31745, 100, 10, false, NULL, 0}, 35},
+        {{65536, 2, 125, 0, 10, false, NULL, 0}, 35}, {{65536, 2, 125, 1250, 10, false, NULL, 0}, 35}, {{65536, 2, 31744, 31745, 10, false, NULL, 0}, 35},
+        {{65536, 2, 125, 100, 0, false, NULL, 0}, 35}, {{65536, 2, 125, 100, 256, false, NULL, 0}, 35},
+        {{1, 2, 1, 1, 1, true, NULL, 0}, 0}, {{1000000, 7, 31744, 31744, 255, false, NULL, 0}, 0}, {{65536, 2, 125, 1249, 10, true, NULL, 0}, 0},
     };
     for (size_t at = 0; at < COUNT(tries); at++) 
         is("settings", can_be_made(&tries[at].settings, three, COUNT(three), two, COUNT(two), one, COUNT(one)), tries[at].answer);
+}
+
+/* Own addresses of no interface: as many as there may be, and each reason to refuse them. */
+static void refused_addresses(void) {
+    static const uint32_t own[] = {0x0aff0001, 0x0aff0000}, twice[] = {0x0aff0001, 1, 0x0aff0001};
+    static const uint32_t nobody = 0, group = 0xe0000000, last = 0xdfffffff, of_an_interface = 0x0a000101, of_its_subnet = 0x0a0001ff;
+    static uint32_t many[VIQ_MOST_ADDRESSES + 1];
+    for (uint32_t at = 0; at < COUNT(many); at++) many[at] = 0x0aff0000 + at;
+    struct { const uint32_t *addresses; size_t count; uint32_t answer; } tries[] = {
+        {own, 2, 0}, {NULL, 0, 0}, {&last, 1, 0}, {many, VIQ_MOST_ADDRESSES, 0}, {many, VIQ_MOST_ADDRESSES + 1, 70}, {many, SIZE_MAX, 70},
+        {twice, 3, 70}, {twice, 2, 0}, {&nobody, 1, 70}, {&group, 1, 70}, {&of_an_interface, 1, 70}, {&of_its_subnet, 1, 70},
+    };
+    for (size_t at = 0; at < COUNT(tries); at++) {
+        struct viq_settings settings = usual, bad = usual;
+        settings.addresses = bad.addresses = tries[at].addresses;
+        settings.address_count = bad.address_count = tries[at].count;
+        bad.limit = 0;
+        is("addresses", can_be_made(&settings, three, COUNT(three), two, COUNT(two), one, COUNT(one)), tries[at].answer);
+        is("what is tested before them", can_be_made(&bad, three, COUNT(three), two, COUNT(two), one, COUNT(one)), VIQ_BAD_LIMIT);
+        is("a refusal as others", viq_is_refused(tries[at].answer), tries[at].answer != 0);
+    }
+    struct viq_settings settings = usual;
+    settings.addresses = own;
+    settings.address_count = 2;
+    struct viq_route to_itself = {0x0a090900, 24, 0x0aff0000, 0, 110, 20};
+    struct viq_refused_at at = {7, 7};
+    is("a next hop of no interface", can_be_made(&settings, three, COUNT(three), &to_itself, 1, one, 1), VIQ_CONFIGURED_ROUTES);
+    is("it is told", viq_routes_refused_at(three, COUNT(three), own, 2, &to_itself, 1, &at) && at.reason == VIQ_ITEM_OWN, true);
+    is("it is another's", can_be_made(&usual, three, COUNT(three), &to_itself, 1, one, 1), VIQ_DONE);
+}
+
+/* It is the RP by an address of no interface, and is another one's router without it. */
+static void rp_on_no_interface(void) {
+    static const uint32_t own = 0x0a090909;
+    struct viq_settings settings = usual;
+    struct viq_router *router = NULL;
+    struct viq_tree tree;
+    settings.addresses = &own;
+    settings.address_count = 1;
+    is("a router with an address", made(&router, &settings), VIQ_DONE);
+    is("its interface goes up", viq_up(router, 0, viq_draw(0)), VIQ_DONE);
+    is("the tree of its group", viq_tree(router, 0xe1010101, &tree), true);
+    is("no way to itself", tree.rp.value == own && !tree.path.is_there, true);
+    is("another configuration", reloaded(router, &usual, COUNT(three)), VIQ_DONE);
+    is("the tree again", viq_tree(router, 0xe1010101, &tree), true);
+    is("a way to the RP", tree.path.is_there && tree.path.next_hop == 0x0a000001, true);
+    is("the address again", reloaded(router, &settings, COUNT(three)), VIQ_DONE);
+    is("the tree then", viq_tree(router, 0xe1010101, &tree) && !tree.path.is_there, true);
+    viq_end(router);
 }
 
 static void refused_interfaces(void) {
@@ -204,7 +253,7 @@ static void refused_items(void) {
     struct viq_refused_at at = {7, 7};
     for (size_t n = 0; n < COUNT(wrong); n++) {
         struct viq_route routes[] = {two[0], wrong[n].route};
-        is("a route that is refused", viq_routes_refused_at(three, COUNT(three), routes, 2, &at), wrong[n].reason != 0);
+        is("a route that is refused", viq_routes_refused_at(three, COUNT(three), NULL, 0, routes, 2, &at), wrong[n].reason != 0);
         is("its reason", at.reason, wrong[n].reason);
         is("its place", at.index, wrong[n].reason ? 1 : 2);
         is("as the library says", can_be_made(&usual, three, COUNT(three), routes, 2, NULL, 0), wrong[n].reason ? 37 : 0);
@@ -218,22 +267,22 @@ static void refused_items(void) {
     }
     static struct viq_route many[VIQ_MOST_ROUTES];
     for (uint32_t n = 0; n < COUNT(many); n++) many[n] = (struct viq_route){n << 8, 24, 0x0a000001, 0, 1, 1};
-    is("as many as there may be", viq_routes_refused_at(three, COUNT(three), many, COUNT(many), &at), false);
+    is("as many as there may be", viq_routes_refused_at(three, COUNT(three), NULL, 0, many, COUNT(many), &at), false);
     many[99000] = many[70000];
     many[50000] = many[90000];
-    is("two that are there twice", viq_routes_refused_at(three, COUNT(three), many, COUNT(many), &at), true);
+    is("two that are there twice", viq_routes_refused_at(three, COUNT(three), NULL, 0, many, COUNT(many), &at), true);
     is("the first of them", at.index == 90000 && at.reason == VIQ_ITEM_TWICE, true);
-    is("too many", viq_routes_refused_at(three, COUNT(three), many, SIZE_MAX, &at), true);
+    is("too many", viq_routes_refused_at(three, COUNT(three), NULL, 0, many, SIZE_MAX, &at), true);
     is("the first too many", at.index == VIQ_MOST_ROUTES && at.reason == VIQ_ITEM_COUNT, true);
     is("too many ranges", viq_ranges_refused_at(one, SIZE_MAX, &at) && at.index == VIQ_MOST_RANGES && at.reason == VIQ_ITEM_COUNT, true);
-    is("no lists", viq_routes_refused_at(NULL, 0, NULL, 0, &at) || viq_ranges_refused_at(NULL, 0, &at), false);
+    is("no lists", viq_routes_refused_at(NULL, 0, NULL, 0, NULL, 0, &at) || viq_ranges_refused_at(NULL, 0, &at), false);
     for (uint32_t reason = 0; reason <= VIQ_ITEM_COUNT; reason++)
         is("a text of its own", strcmp(viq_refused_text(reason), viq_refused_text(reason + 1)) != 0, true);
 }
 
 static void long_lists(struct viq_router *router) {
     static const size_t counts[] = {VIQ_MOST_ROUTES + 1, (size_t)1 << 40, SIZE_MAX};
-    static const struct viq_settings bad = {0, 2, 125, 100, 10, false};
+    static const struct viq_settings bad = {0, 2, 125, 100, 10, false, NULL, 0};
     for (size_t at = 0; at < COUNT(counts); at++) {
         is("too many interfaces", can_be_made(&usual, three, counts[at], two, 2, one, 1), VIQ_INTERFACE_COUNT);
         is("too many routes", can_be_made(&usual, three, 3, two, counts[at], one, 1), VIQ_CONFIGURED_ROUTES);
@@ -263,7 +312,7 @@ static void configurations(void) {
     is("new", made(&router, &usual), VIQ_DONE);
     is("the router", router != NULL, true);
     is("up", viq_up(router, 0, viq_draw(7)), VIQ_DONE);
-    struct viq_settings wrong_one = {0, 2, 125, 100, 10, false};
+    struct viq_settings wrong_one = {0, 2, 125, 100, 10, false, NULL, 0};
     is("new that is refused", made(&other, &wrong_one), 34);
     is("there is none", other == NULL, true);
     is("its packets", viq_packets(router), 1);
@@ -272,6 +321,8 @@ static void configurations(void) {
     is("no packets", viq_packets(other), 0);
     viq_end(router);
     refused_settings();
+    refused_addresses();
+    rp_on_no_interface();
     refused_interfaces();
     refused_lists(other);
     long_lists(other);
@@ -720,7 +771,7 @@ static void older_versions(void) {
 
 /* What is refused changes nothing. */
 static void refused_reloads(struct viq_router *router) {
-    static const struct viq_settings bad = {0, 2, 125, 100, 10, false};
+    static const struct viq_settings bad = {0, 2, 125, 100, 10, false, NULL, 0};
     static const size_t counts[] = {0, VIQ_MOST_INTERFACES + 1, SIZE_MAX};
     is("a row that was read", viq_read(router, 'N') == VIQ_DONE && viq_rows(router) == 2, true);
     is("a bad limit", reloaded(router, &bad, 3), VIQ_BAD_LIMIT);
@@ -1012,8 +1063,15 @@ static void record_lists(void) {
     is("too many routes", viq_record_routes(&call, two, VIQ_MOST_ROUTES + 1, long_one, sizeof long_one, &other), VIQ_DONE);
     is("as one that is refused", other == 1 + 4 + 8 + 24 + 8 + 4 && long_one[20] == 33, true);
     is("a reload", viq_record_reload(&call, &usual, three, COUNT(three), two, COUNT(two), one, COUNT(one), room, sizeof room, &size), VIQ_DONE);
-    is("its size", size, 1 + 4 + 21 + 8 + 3 * 20 + 8 + 2 * 24 + 8 + 12 + 8 + 4);
+    is("its size", size, 1 + 4 + 21 + 8 + 3 * 20 + 8 + 8 + 2 * 24 + 8 + 12 + 8 + 4);
     is("its sum", is_summed(room, size), true);
+    static const uint32_t own[] = {0x0aff0001, 0x0aff0000};
+    struct viq_settings settings = usual;
+    settings.addresses = own;
+    settings.address_count = COUNT(own);
+    is("one with addresses", viq_record_reload(&call, &settings, three, 0, NULL, 0, NULL, 0, room, sizeof room, &size), VIQ_DONE);
+    is("its size then", size, 1 + 4 + 21 + 8 + 8 + 2 * 4 + 8 + 8 + 8 + 4);
+    is("its addresses", memcmp(room + 34, "\0\0\0\0\0\0\0\2\x0a\xff\0\1\x0a\xff\0\0", 16), 0);
     is("its beginning", memcmp(room, "c\0\0\0\x9\0\1\0\0\0\0\0\0\2\0\0\0\x7d", 18), 0);
 }
 

@@ -6,10 +6,15 @@
 
 #define CORE(router) (&(struct viq_core){(void *)(router), (router) != NULL})
 
-/* No prefix is longer than 32 bits. */
+/* 0.0.0.0 is no host's address, and no prefix is longer than 32 bits. */
+static const uint32_t no_address = 0;
 static const struct viq_route no_route = {0, 33, 0, 0, 0, 0};
 static const struct viq_range no_range = {0, 33, 0};
 
+struct address_list {
+    const uint32_t *at;
+    size_t count;
+};
 struct route_list {
     const struct viq_route *at;
     size_t count;
@@ -18,6 +23,21 @@ struct range_list {
     const struct viq_range *at;
     size_t count;
 };
+
+static struct viq_core_settings core_of(const struct viq_settings *settings) {
+    struct viq_core_settings core = {settings->limit,
+                                     settings->robustness,
+                                     settings->query_interval,
+                                     settings->query_response_interval,
+                                     settings->last_member_query_interval,
+                                     settings->stays_on_shared_tree};
+    return core;
+}
+
+static struct address_list addresses_of(const struct viq_settings *settings) {
+    struct address_list given = {settings->addresses, settings->address_count}, refused = {&no_address, 1};
+    return given.count <= VIQ_MOST_ADDRESSES ? given : refused;
+}
 
 static struct route_list routes_of(const struct viq_route *routes, size_t count) {
     struct route_list given = {routes, count}, refused = {&no_route, 1};
@@ -36,10 +56,12 @@ uint32_t viq_new(struct viq_router **router, uint32_t abi, const struct viq_sett
     *router = NULL;
     if (abi != VIQ_ABI) return VIQ_OTHER_ABI;
     if (interface_count > VIQ_MOST_INTERFACES) interface_count = 0;
+    struct viq_core_settings core_settings = core_of(settings);
+    struct address_list addresses = addresses_of(settings);
     struct route_list given_routes = routes_of(routes, route_count);
     struct range_list given_ranges = ranges_of(ranges, range_count);
-    uint32_t answer = viq_core_new(&core, settings, interfaces, interface_count, given_routes.at, given_routes.count,
-                                   given_ranges.at, given_ranges.count);
+    uint32_t answer = viq_core_new(&core, &core_settings, addresses.at, addresses.count, interfaces, interface_count,
+                                   given_routes.at, given_routes.count, given_ranges.at, given_ranges.count);
     if (core.is_there) *router = (struct viq_router *)core.place;
     return answer;
 }
@@ -48,10 +70,12 @@ uint32_t viq_reload(struct viq_router *router, const struct viq_settings *settin
                     const struct viq_interface *interfaces, size_t interface_count, const struct viq_route *routes,
                     size_t route_count, const struct viq_range *ranges, size_t range_count, struct viq_draw draw) {
     if (interface_count > VIQ_MOST_INTERFACES) interface_count = 0;
+    struct viq_core_settings core_settings = core_of(settings);
+    struct address_list addresses = addresses_of(settings);
     struct route_list given_routes = routes_of(routes, route_count);
     struct range_list given_ranges = ranges_of(ranges, range_count);
-    return viq_core_reload(CORE(router), draw.bits, settings, interfaces, interface_count, given_routes.at,
-                           given_routes.count, given_ranges.at, given_ranges.count);
+    return viq_core_reload(CORE(router), draw.bits, &core_settings, addresses.at, addresses.count, interfaces,
+                           interface_count, given_routes.at, given_routes.count, given_ranges.at, given_ranges.count);
 }
 
 uint32_t viq_restore(struct viq_router **router, uint32_t abi, const uint8_t *bytes, size_t length) {
@@ -213,10 +237,13 @@ uint32_t viq_record_reload(const struct viq_call *call, const struct viq_setting
                            const struct viq_route *routes, size_t route_count, const struct viq_range *ranges,
                            size_t range_count, uint8_t *room, size_t room_length, size_t *size) {
     if (interface_count > VIQ_MOST_INTERFACES) interface_count = 0;
+    struct viq_core_settings core_settings = core_of(settings);
+    struct address_list addresses = addresses_of(settings);
     struct route_list given_routes = routes_of(routes, route_count);
     struct range_list given_ranges = ranges_of(ranges, range_count);
-    return viq_core_record_reload(call, settings, interfaces, interface_count, given_routes.at, given_routes.count,
-                                  given_ranges.at, given_ranges.count, room, room_length, size);
+    return viq_core_record_reload(call, &core_settings, addresses.at, addresses.count, interfaces, interface_count,
+                                  given_routes.at, given_routes.count, given_ranges.at, given_ranges.count, room,
+                                  room_length, size);
 }
 
 uint32_t viq_sum(const struct viq_router *router) { return viq_core_sum(CORE(router)); }

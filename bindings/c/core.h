@@ -11,6 +11,16 @@ struct viq_core {
     bool is_there;
 };
 
+/* The settings but the addresses, which are a list of the calls. */
+struct viq_core_settings {
+    uint32_t limit;
+    uint32_t robustness;
+    uint32_t query_interval;
+    uint32_t query_response_interval;
+    uint32_t last_member_query_interval;
+    bool stays_on_shared_tree;
+};
+
 /* A row with room for the columns of each kind; those of other kinds than the row's are 0. */
 struct viq_core_row {
     uint32_t table;
@@ -24,12 +34,14 @@ struct viq_core_row {
     struct viq_active_row active;
 };
 
-uint32_t viq_core_new(struct viq_core *router, const struct viq_settings *settings,
-                      const struct viq_interface *interfaces, size_t interface_count, const struct viq_route *routes,
-                      size_t route_count, const struct viq_range *ranges, size_t range_count);
-uint32_t viq_core_reload(struct viq_core *router, uint32_t draw, const struct viq_settings *settings,
-                         const struct viq_interface *interfaces, size_t interface_count, const struct viq_route *routes,
-                         size_t route_count, const struct viq_range *ranges, size_t range_count);
+uint32_t viq_core_new(struct viq_core *router, const struct viq_core_settings *settings, const uint32_t *addresses,
+                      size_t address_count, const struct viq_interface *interfaces, size_t interface_count,
+                      const struct viq_route *routes, size_t route_count, const struct viq_range *ranges,
+                      size_t range_count);
+uint32_t viq_core_reload(struct viq_core *router, uint32_t draw, const struct viq_core_settings *settings,
+                         const uint32_t *addresses, size_t address_count, const struct viq_interface *interfaces,
+                         size_t interface_count, const struct viq_route *routes, size_t route_count,
+                         const struct viq_range *ranges, size_t range_count);
 uint32_t viq_core_restore(struct viq_core *router, const uint8_t *bytes, size_t length);
 uint32_t viq_core_save(struct viq_core *router, uint8_t *room, size_t room_length, size_t *size);
 void viq_core_end(struct viq_core *router);
@@ -70,7 +82,8 @@ uint32_t viq_core_record_routes(const struct viq_call *call, const struct viq_ro
                                 uint8_t *room, size_t room_length, size_t *size);
 uint32_t viq_core_record_ranges(const struct viq_call *call, const struct viq_range *ranges, size_t count,
                                 uint8_t *room, size_t room_length, size_t *size);
-uint32_t viq_core_record_reload(const struct viq_call *call, const struct viq_settings *settings,
+uint32_t viq_core_record_reload(const struct viq_call *call, const struct viq_core_settings *settings,
+                                const uint32_t *addresses, size_t address_count,
                                 const struct viq_interface *interfaces, size_t interface_count,
                                 const struct viq_route *routes, size_t route_count, const struct viq_range *ranges,
                                 size_t range_count, uint8_t *room, size_t room_length, size_t *size);

@@ -8,18 +8,28 @@ static bool is_host(uint32_t address) { return address != 0 && address < 0xe0000
 
 static bool has_host_bits(uint32_t prefix, uint32_t length) { return length < 32 && prefix << length != 0; }
 
-static bool is_own(const struct viq_interface *interfaces, size_t count, uint32_t address) {
-    for (size_t at = 0; at < count; at++)
-        if (interfaces[at].address == address) return true;
+/* The router's interfaces, and its addresses of no interface. */
+struct own {
+    const struct viq_interface *interfaces;
+    size_t interface_count;
+    const uint32_t *addresses;
+    size_t address_count;
+};
+
+static bool is_own(const struct own *own, uint32_t address) {
+    for (size_t at = 0; at < own->interface_count; at++)
+        if (own->interfaces[at].address == address) return true;
+    for (size_t at = 0; at < own->address_count; at++)
+        if (own->addresses[at] == address) return true;
     return false;
 }
 
-static uint32_t fault_of_route(const struct viq_interface *interfaces, size_t count, const struct viq_route *route) {
+static uint32_t fault_of_route(const struct own *own, const struct viq_route *route) {
     if (route->length > 32) return VIQ_ITEM_LENGTH;
     if (has_host_bits(route->prefix, route->length)) return VIQ_ITEM_HOST_BITS;
-    if (route->iface >= count) return VIQ_ITEM_INTERFACE;
+    if (route->iface >= own->interface_count) return VIQ_ITEM_INTERFACE;
     if (!is_host(route->next_hop)) return VIQ_ITEM_NO_HOST;
-    if (is_own(interfaces, count, route->next_hop)) return VIQ_ITEM_OWN;
+    if (is_own(own, route->next_hop)) return VIQ_ITEM_OWN;
     return route->preference > 0x7ffffffe ? VIQ_ITEM_PREFERENCE : 0;
 }
 
@@ -65,12 +75,14 @@ static bool told_first(struct viq_refused_at *at, size_t wrong, uint32_t reason,
     return repeated < wrong ? told(at, repeated, VIQ_ITEM_TWICE) : told(at, wrong, reason);
 }
 
-bool viq_routes_refused_at(const struct viq_interface *interfaces, size_t interface_count, const struct viq_route *routes,
-                           size_t count, struct viq_refused_at *at) {
+bool viq_routes_refused_at(const struct viq_interface *interfaces, size_t interface_count, const uint32_t *addresses,
+                           size_t address_count, const struct viq_route *routes, size_t count,
+                           struct viq_refused_at *at) {
+    const struct own own = {interfaces, interface_count, addresses, address_count};
     size_t wrong = 0;
     uint32_t reason = 0;
     if (count > VIQ_MOST_ROUTES) return told(at, VIQ_MOST_ROUTES, VIQ_ITEM_COUNT);
-    while (wrong < count && !(reason = fault_of_route(interfaces, interface_count, &routes[wrong]))) wrong++;
+    while (wrong < count && !(reason = fault_of_route(&own, &routes[wrong]))) wrong++;
     struct named *names = malloc((count + 1) * sizeof *names);
     for (size_t index = 0; names && index < count; index++)
         names[index] = (struct named){routes[index].prefix, routes[index].length, index};

@@ -37,7 +37,7 @@ static void settle(void) {
 int main(void) {
     static const struct viq_interface interfaces[2][2] = {{{0x0a000001, 24, 1, 500, 2500}, {0x0a000101, 24, 1, 500, 2500}},
                                                           {{0x0a000002, 24, 1, 500, 2500}, {0x0a000201, 24, 1, 500, 2500}}};
-    static const struct viq_settings settings = {65536, 2, 125, 100, 10, true};
+    static const struct viq_settings settings = {65536, 2, 125, 100, 10, true, NULL, 0};
     static const struct viq_route route = {0x0a000100, 24, 0x0a000001, LINK, 110, 20};
     static const struct viq_range range = {0xef000000, 8, 0x0a000001};
     static const uint8_t data[] = {0x45, 0, 0, 28, 0, 0, 0, 0, 64, 17, 0x7f, 0xc8, 10, 0, 1, 7, 239, 1, 1, 1, 0, 1, 0, 2, 0, 8, 0, 0};

@@ -65,7 +65,7 @@ extern "C" {
 /* The number of what a compiled program and a library have to agree on: the values, the calls and the numbers of this
  * header and of plane.h. Wherever one of them changes, this number changes. A program passes it to viq_new and
  * viq_restore, which refuse any other. */
-#define VIQ_ABI 6
+#define VIQ_ABI 7
 
 /* The library's number: VIQ_ABI as it was built with. */
 uint32_t viq_abi(void);
@@ -86,9 +86,9 @@ static inline struct viq_draw viq_draw(uint32_t bits) {
     return draw;
 }
 
-/* Answers. Refusals are 1 to 39, and those of saved bytes 60 to 69; reasons to ignore an event are above VIQ_IGNORED.
- * After all of these nothing has changed. SCENARIOS.md has each ("Refusals", "Reasons to ignore"), and SAVED.md those of
- * saved bytes ("What is refused"). */
+/* Answers. Refusals are 1 to 39 and 70, and those of saved bytes 60 to 69; reasons to ignore an event are above
+ * VIQ_IGNORED. After all of these nothing has changed. SCENARIOS.md has each ("Refusals", "Reasons to ignore"), and
+ * SAVED.md those of saved bytes ("What is refused"). */
 enum {
     VIQ_DONE = 0,
 
@@ -144,6 +144,7 @@ enum {
     VIQ_NOT_SETTLED = 67,
     VIQ_NOT_QUIET = 68,
     VIQ_DAMAGED = 69,
+    VIQ_OWN_ADDRESSES = 70,
 
     VIQ_IGNORED = 100, /* no answer: the reasons to ignore an event are the numbers above it */
     VIQ_OWN = 101,
@@ -157,7 +158,9 @@ enum {
 };
 
 /* Whether an event was refused; whether it was ignored; whether the router is lost, by this event or an earlier one. */
-static inline bool viq_is_refused(uint32_t answer) { return answer > VIQ_DONE && answer < VIQ_MEMORY; }
+static inline bool viq_is_refused(uint32_t answer) {
+    return (answer > VIQ_DONE && answer < VIQ_MEMORY) || answer == VIQ_OWN_ADDRESSES;
+}
 static inline bool viq_is_ignored(uint32_t answer) { return answer > VIQ_IGNORED; }
 static inline bool viq_is_lost(uint32_t answer) { return answer == VIQ_LOST || answer == VIQ_FAILED; }
 
@@ -174,6 +177,7 @@ const char *viq_answer_text(uint32_t answer);
 
 /* The most of each list. A longer one is refused by its count, and isn't read. */
 #define VIQ_MOST_INTERFACES 120
+#define VIQ_MOST_ADDRESSES 16
 #define VIQ_MOST_ROUTES 100000
 #define VIQ_MOST_RANGES 256
 
@@ -208,13 +212,16 @@ struct viq_settings {
     uint32_t query_response_interval;    /* tenths of a second, 1 to 31744, and below the query interval */
     uint32_t last_member_query_interval; /* tenths of a second, 1 to 255 */
     bool stays_on_shared_tree;           /* the router never changes to a source's tree */
+    const uint32_t *addresses;           /* the router's own that are of no interface, as a loopback's: hosts', none twice,
+                                          * none of an interface or in its subnet */
+    size_t address_count;
 };
-#define VIQ_USUAL_SETTINGS {65536, 2, 125, 100, 10, false}
+#define VIQ_USUAL_SETTINGS {65536, 2, 125, 100, 10, false, NULL, 0}
 
 /* Makes a router, at time 0 and with all interfaces down: 1 to VIQ_MOST_INTERFACES interfaces, at most VIQ_MOST_ROUTES
- * routes and VIQ_MOST_RANGES ranges. The second argument is VIQ_ABI. It answers VIQ_DONE, a refusal of 30 to 38,
- * VIQ_MEMORY or VIQ_OTHER_ABI. It writes what `router` points to, and doesn't read it: the new router, or NULL where
- * there is none. */
+ * routes, VIQ_MOST_RANGES ranges and VIQ_MOST_ADDRESSES addresses of no interface. The second argument is VIQ_ABI. It
+ * answers VIQ_DONE, a refusal of 30 to 38 or 70, VIQ_MEMORY or VIQ_OTHER_ABI. It writes what `router` points to, and
+ * doesn't read it: the new router, or NULL where there is none. */
 VIQ_READ_ANSWER VIQ_NOT_NULL(1) VIQ_NOT_NULL(3)
 uint32_t viq_new(struct viq_router **router, uint32_t abi, const struct viq_settings *settings,
                  const struct viq_interface *interfaces, size_t interface_count, const struct viq_route *routes,
@@ -238,11 +245,13 @@ struct viq_refused_at {
 };
 
 /* Tell which route or range is refused, and why, after VIQ_BAD_ROUTES, VIQ_CONFIGURED_ROUTES, VIQ_BAD_RANGES or
- * VIQ_CONFIGURED_RANGES. The interfaces are those of the router, of which the addresses are read. They answer false
- * where all can stand. Where memory is refused, a route that repeats another isn't looked for. */
-VIQ_READ_ANSWER VIQ_NOT_NULL(5)
-bool viq_routes_refused_at(const struct viq_interface *interfaces, size_t interface_count,
-                           const struct viq_route *routes, size_t count, struct viq_refused_at *at);
+ * VIQ_CONFIGURED_RANGES. The interfaces, of which the addresses are read, and the addresses of no interface are those of
+ * the router. They answer false where all can stand. Where memory is refused, a route that repeats another isn't looked
+ * for. */
+VIQ_READ_ANSWER VIQ_NOT_NULL(7)
+bool viq_routes_refused_at(const struct viq_interface *interfaces, size_t interface_count, const uint32_t *addresses,
+                           size_t address_count, const struct viq_route *routes, size_t count,
+                           struct viq_refused_at *at);
 VIQ_READ_ANSWER VIQ_NOT_NULL(3)
 bool viq_ranges_refused_at(const struct viq_range *ranges, size_t count, struct viq_refused_at *at);
 
@@ -258,7 +267,7 @@ const char *viq_refused_text(uint32_t reason);
  * room. The interfaces that stay keep what viq_older and viq_query_version set, and the groups in an older mode; one that
  * is added is as in a new router.
  *
- * It answers VIQ_DONE; a refusal of 30 to 38 as viq_new does, VIQ_UNTAKEN or VIQ_MEMORY, where nothing has changed;
+ * It answers VIQ_DONE; a refusal of 30 to 38 or 70 as viq_new does, VIQ_UNTAKEN or VIQ_MEMORY, where nothing has changed;
  * VIQ_LOST, VIQ_FAILED or VIQ_NO_ROUTER. Once it is done, what it sent is to be sent, and viq_copies answers 0; the rows
  * that were read are dropped; and a data plane reads all its rows again: viq_changed lists each source with a fact before
  * or after it, and viq_may_differ is true for all sources. */

@@ -1,7 +1,7 @@
 //! What `--check` says of settings in which nothing is wrong: what an operator may want to know, and what the machine
 //! lacks now, for which the router waits.
 use crate::netlink::{Link, Netlink};
-use crate::settings::{InterfaceSettings, Settings, Subnet, LOOPBACK};
+use crate::settings::{InterfaceSettings, Settings, Subnet};
 use crate::tables::Domain;
 use nix::unistd::Group;
 use std::io;
@@ -42,7 +42,7 @@ fn of_quotas(settings: &Settings) -> Vec<String> {
 /// Whether any host of an interface's link may speak PIM with the router.
 pub fn is_open(interface: &InterfaceSettings) -> bool {
     let policy = &interface.policy;
-    interface.name != LOOPBACK && !policy.is_passive && policy.neighbours.is_none()
+    !interface.may_be_apart() && !policy.is_passive && policy.neighbours.is_none()
 }
 
 fn of_the_file(settings: &Settings) -> Vec<String> {
@@ -159,6 +159,7 @@ mod tests {
             mtu: 1500,
             is_running: true,
             is_loopback: false,
+            is_dummy: false,
             vrf_table: None,
         };
         let has = (vec![eth0], vec![(7, Subnet { address: [10, 0, 0, 1].into(), length: 24 })]);

@@ -6,6 +6,7 @@ use crate::older::Speech;
 use crate::outgoing::Outgoing;
 use crate::packet::{self, is_pim, HELLO};
 use crate::plane::Row;
+use crate::ports::{self, Port};
 use crate::recorder::{answer_of, Configuration, Place, Recorder};
 use crate::settings::{RpSettings, Settings};
 use log::{error, info};
@@ -76,8 +77,22 @@ pub struct Core {
     next: Option<Option<u64>>,
 }
 
+/// What the library's router has of the machine.
+#[derive(Clone, Debug, PartialEq)]
+pub struct Given {
+    pub interfaces: Vec<viqeshor::Interface>,
+    /// Its own on no link.
+    pub addresses: Vec<Ipv4Addr>,
+}
+
+impl Given {
+    pub fn of(ports: &[Port]) -> Given {
+        Given { interfaces: ports.iter().map(Port::told).collect(), addresses: ports::apart(ports) }
+    }
+}
+
 /// As far as the library is told when its router is made, or goes on with another configuration.
-pub fn told_of(settings: &Settings, interfaces: &[viqeshor::Interface]) -> Told {
+pub fn told_of(settings: &Settings, given: &Given) -> Told {
     let interface =
         |it: &viqeshor::Interface| (it.address, it.length, it.priority, it.propagation_delay, it.override_interval);
     Told {
@@ -87,7 +102,8 @@ pub fn told_of(settings: &Settings, interfaces: &[viqeshor::Interface]) -> Told 
         query_response: settings.query_response,
         last_member_query: settings.last_member_query,
         stays_on_shared_tree: settings.stays_on_shared_tree,
-        interfaces: interfaces.iter().map(interface).collect(),
+        interfaces: given.interfaces.iter().map(interface).collect(),
+        addresses: given.addresses.clone(),
     }
 }
 
@@ -95,7 +111,7 @@ pub fn ranges_of(rps: &[RpSettings]) -> Vec<Range> {
     rps.iter().map(|rp| Range::new(rp.groups.address, rp.groups.length.into(), rp.address)).collect()
 }
 
-fn settings_of(settings: &Settings) -> viqeshor::Settings {
+fn settings_of(settings: &Settings, given: &Given) -> viqeshor::Settings {
     viqeshor::Settings {
         limit: settings.limit,
         robustness: settings.robustness,
@@ -103,14 +119,15 @@ fn settings_of(settings: &Settings) -> viqeshor::Settings {
         query_response_interval: settings.query_response,
         last_member_query_interval: settings.last_member_query,
         stays_on_shared_tree: settings.stays_on_shared_tree,
+        addresses: given.addresses.clone(),
     }
 }
 
 impl Core {
     /// A router without routes, at moment 0 and with every interface down.
-    pub fn new(settings: &Settings, interfaces: &[viqeshor::Interface]) -> Result<Core, Fatal> {
-        let router = Router::new(&settings_of(settings), interfaces, &[], &ranges_of(&settings.rps));
-        Core::of(router.map_err(Fatal::Settings)?, told_of(settings, interfaces))
+    pub fn new(settings: &Settings, given: &Given) -> Result<Core, Fatal> {
+        let router = Router::new(&settings_of(settings, given), &given.interfaces, &[], &ranges_of(&settings.rps));
+        Core::of(router.map_err(Fatal::Settings)?, told_of(settings, given))
     }
 
     fn of(router: Router, told: Told) -> Result<Core, Fatal> {
@@ -211,27 +228,23 @@ impl Core {
     }
 
     /// The router goes on with another configuration and these routes. Refused, it stays as it was. It is no event.
-    pub fn reload(
-        &mut self,
-        settings: &Settings,
-        interfaces: &[viqeshor::Interface],
-        routes: &[Route],
-    ) -> Result<Answer, Fatal> {
+    pub fn reload(&mut self, settings: &Settings, given: &Given, routes: &[Route]) -> Result<Answer, Fatal> {
         self.next = None;
         let draw = self.draws.next_u32();
-        let (given, ranges) = (settings_of(settings), ranges_of(&settings.rps));
-        let done = self.router.reload(&given, interfaces, routes, &ranges, draw);
+        let (configured, ranges) = (settings_of(settings, given), ranges_of(&settings.rps));
+        let interfaces = &given.interfaces;
+        let done = self.router.reload(&configured, interfaces, routes, &ranges, draw);
         let before = self.sent.len();
         self.sent.take(&mut self.router);
         if let Some(recorder) = &mut self.recorder {
-            let configuration = Configuration { settings: &given, interfaces, routes, ranges: &ranges };
+            let configuration = Configuration { settings: &configured, interfaces, routes, ranges: &ranges };
             let answer = done.map_or_else(Error::number, |()| 0);
             let written = recorder.reload(self.sent.since(before), &configuration, draw, answer);
             self.was_recorded(written);
         }
         match done {
             Ok(()) => {
-                self.told = told_of(settings, interfaces);
+                self.told = told_of(settings, given);
                 Ok(Answer::Done)
             }
             Err(Error::Refused(refusal)) => Ok(Answer::Refused(refusal)),

@@ -13,7 +13,7 @@ mod upgrade;
 mod watched;
 
 use crate::bfd::Session;
-use crate::core::{Answer, Core, Event};
+use crate::core::{Answer, Core, Event, Given};
 use crate::counters::Counters;
 use crate::error::Fatal;
 use crate::kernel::Kernel;
@@ -29,7 +29,7 @@ use crate::said::Said;
 use crate::settings::Settings;
 use crate::waiting::Waiting;
 use crate::{stand_in, words};
-use log::{debug, info, warn};
+use log::{debug, warn};
 use std::collections::{BTreeMap, BTreeSet};
 use std::net::Ipv4Addr;
 use std::path::{Path, PathBuf};
@@ -197,7 +197,7 @@ impl Books for Ledger<'_> {
             None => return false,
         };
         let there = port.index.map_or(&[][..], |index| self.machine.addresses(index));
-        there.iter().chain(&port.subnet).any(|subnet| subnet.contains(address.into()))
+        there.iter().chain(&port.own.subnet).any(|subnet| subnet.contains(address.into()))
     }
 }
 
@@ -210,13 +210,8 @@ impl Daemon {
         ports::take_settings(&mut ports, &settings.interfaces);
         let (addresses, said) = ports::addresses(&ports, &machine);
         said.iter().for_each(|line| warn!("{line}"));
-        ports.iter_mut().zip(addresses).for_each(|(port, subnet)| port.subnet = subnet);
-        for (port, subnet) in ports.iter().filter_map(|port| Some((port, port.subnet?))).filter(|it| it.1.length == 32)
-        {
-            info!("{} has {subnet}, and is told to the router as a subnet of two addresses", port.settings.name);
-        }
-        let told: Vec<_> = ports.iter().map(Port::told).collect();
-        let core = Core::new(&settings, &told)?;
+        ports.iter_mut().zip(addresses).for_each(|(port, own)| port.own = own);
+        let core = Core::new(&settings, &Given::of(&ports))?;
         let mut daemon = Daemon::of(file, settings, (kernel, machine), ports, core);
         daemon.set_policy();
         daemon.speak()?;
@@ -486,7 +481,7 @@ fn send_unicast(kernel: &mut dyn Kernel, counters: &mut Counters, bytes: &[u8]) 
 
 fn send_on(kernel: &mut dyn Kernel, port: Option<&mut Port>, is_passive: bool, bytes: &[u8]) {
     let (port, index) = match port.and_then(|port| port.index.map(|index| (port, index))) {
-        Some((port, index)) if !port.is_loopback => (port, index),
+        Some((port, index)) if !port.own.is_apart => (port, index),
         _ => return,
     };
     let packet = Packet::read(bytes);

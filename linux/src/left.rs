@@ -28,6 +28,9 @@ pub struct Told {
     pub stays_on_shared_tree: bool,
     /// Of each interface the address, its prefix, the priority and the two delays.
     pub interfaces: Vec<(Ipv4Addr, u32, u32, u32, u32)>,
+    /// The own addresses that are on no link.
+    #[serde(default)]
+    pub addresses: Vec<Ipv4Addr>,
 }
 
 #[derive(Clone, Debug, PartialEq, Eq, Serialize, Deserialize)]
@@ -36,7 +39,9 @@ pub struct LeftPort {
     pub subnet: Option<(Ipv4Addr, u8)>,
     pub index: Option<u32>,
     pub vif: Option<u16>,
-    pub is_loopback: bool,
+    /// It is on no link.
+    #[serde(default)]
+    pub is_apart: bool,
     pub is_up: bool,
     pub since: u64,
     pub hello: Option<Vec<u8>>,
@@ -290,13 +295,14 @@ mod tests {
                 last_member_query: 5,
                 stays_on_shared_tree: true,
                 interfaces: vec![(address, 24, 1, 500, 2500)],
+                addresses: vec![[10, 255, 0, 1].into()],
             },
             ports: vec![LeftPort {
                 name: "eth0".to_string(),
                 subnet: Some((address, 24)),
                 index: Some(2),
                 vif: Some(0),
-                is_loopback: false,
+                is_apart: false,
                 is_up: true,
                 since: 7,
                 hello: Some(vec![1, 2, 3]),

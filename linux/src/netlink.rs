@@ -79,6 +79,8 @@ pub struct Link {
     /// It is up, and has a carrier.
     pub is_running: bool,
     pub is_loopback: bool,
+    /// Its addresses are for the machine alone: of the kind `dummy`, or a VRF.
+    pub is_dummy: bool,
     /// Of a VRF its table.
     pub vrf_table: Option<u32>,
 }
@@ -293,20 +295,26 @@ fn link_of(content: &[u8]) -> Option<Link> {
     let is_running = flags & (IFF_UP | IFF_RUNNING) == IFF_UP | IFF_RUNNING;
     let mtu = value(IFLA_MTU).map_or(0, |value| word(value, 0));
     let is_loopback = flags & IFF_LOOPBACK != 0;
-    let vrf_table = value(IFLA_LINKINFO).and_then(vrf_table);
-    (content[0] == AF_UNSPEC).then_some(Link { index, name, mtu, is_running, is_loopback, vrf_table })
+    let information = value(IFLA_LINKINFO);
+    let vrf_table = information.and_then(vrf_table);
+    let is_dummy = vrf_table.is_some() || information.map_or(false, |it| is_of_kind(it, b"dummy"));
+    (content[0] == AF_UNSPEC).then_some(Link { index, name, mtu, is_running, is_loopback, is_dummy, vrf_table })
 }
 
-/// Of what a link says of its kind.
+/// An attribute among others.
+fn within(bytes: &[u8], wanted: u16) -> Option<&[u8]> {
+    attributes(bytes).into_iter().find(|(kind, _)| *kind == wanted).map(|(_, value)| value)
+}
+
+/// Whether what a link says of its kind is this kind.
+fn is_of_kind(information: &[u8], wanted: &[u8]) -> bool {
+    let rest = within(information, IFLA_INFO_KIND).and_then(|kind| kind.strip_prefix(wanted));
+    rest.map_or(false, |rest| rest.iter().all(|byte| *byte == 0))
+}
+
 fn vrf_table(information: &[u8]) -> Option<u32> {
-    let value = |within: &'_ [u8], wanted| {
-        let found = attributes(within).into_iter().find(|(kind, _)| *kind == wanted);
-        found.map(|(_, value)| value.to_vec())
-    };
-    let kind = value(information, IFLA_INFO_KIND).filter(|kind| kind.starts_with(b"vrf"))?;
-    let is_vrf = kind.iter().skip(3).all(|byte| *byte == 0);
-    let table = value(&value(information, IFLA_INFO_DATA)?, IFLA_VRF_TABLE)?;
-    is_vrf.then(|| word(&table, 0))
+    let table = within(within(information, IFLA_INFO_DATA)?, IFLA_VRF_TABLE)?;
+    is_of_kind(information, b"vrf").then(|| word(table, 0))
 }
 
 /// Whether a next hop with these flags is one by which nothing leaves.
@@ -712,9 +720,15 @@ mod tests {
             mtu: 1450,
             is_running: true,
             is_loopback: false,
+            is_dummy: false,
             vrf_table: None,
         };
         assert!(matches!(&found[..], [(7, Message::Link { is_gone: false, link })] if *link == wanted));
+        for (kind, is_dummy) in [(&b"dummy\0"[..], true), (&b"dummy2\0"[..], false), (&b"veth\0"[..], false)] {
+            let more = attribute(IFLA_LINKINFO, &attribute(IFLA_INFO_KIND, kind));
+            let link = link_of(&[&content[..16], &more[..]].concat()).expect("it is a link");
+            assert_eq!(link.is_dummy, is_dummy);
+        }
         // What a bridge says of its port.
         content[0] = 7;
         assert!(messages(&as_message(RTM_NEWLINK, &content)).is_empty());

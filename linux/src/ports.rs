@@ -2,9 +2,35 @@
 use crate::counters::Passing;
 use crate::left::LeftPort;
 use crate::netlink::{Change, Link};
-use crate::settings::{not_a_host, InterfaceSettings, Subnet};
+use crate::settings::{not_a_host, InterfaceSettings, Subnet, LOOPBACK};
 use std::collections::HashMap;
 use std::net::Ipv4Addr;
+
+/// The library takes so many own addresses that are on no link.
+const MOST_APART: usize = 16;
+
+/// What an interface has of addresses.
+#[derive(Clone, Copy, Debug, Default, PartialEq, Eq)]
+pub struct Own {
+    /// None where there is no address that can be taken.
+    pub subnet: Option<Subnet>,
+    /// It is on no link: the router has the address, and no interface in the library.
+    pub is_apart: bool,
+}
+
+impl Own {
+    fn overlaps(self, other: Own) -> bool {
+        match (self.subnet, other.subnet) {
+            (Some(mine), Some(theirs)) => alone(mine, self.is_apart).overlaps(alone(theirs, other.is_apart)),
+            _ => false,
+        }
+    }
+}
+
+/// Of a subnet on no link there is the address alone.
+fn alone(subnet: Subnet, is_apart: bool) -> Subnet {
+    Subnet { length: if is_apart { 32 } else { subnet.length }, ..subnet }
+}
 
 /// Links and addresses as the kernel has them.
 #[derive(Clone, Debug, Default)]
@@ -100,13 +126,12 @@ pub struct Passed {
 pub struct Port {
     pub number: u32,
     pub settings: InterfaceSettings,
-    /// Which the library's router has; none where there was no address that could be taken.
-    pub subnet: Option<Subnet>,
+    /// What the library's router has of it.
+    pub own: Own,
     /// The kernel's number, where it has the interface.
     pub index: Option<u32>,
-    /// The kernel's virtual interface for multicast; the loopback interface takes none.
+    /// The kernel's virtual interface for multicast; one that is on no link takes none.
     pub vif: Option<u16>,
-    pub is_loopback: bool,
     /// The file hasn't it any more.
     pub is_removed: bool,
     pub standing: Standing,
@@ -131,10 +156,9 @@ impl Port {
         Port {
             number,
             settings: settings.clone(),
-            subnet: None,
+            own: Own::default(),
             index: None,
             vif: None,
-            is_loopback: false,
             is_removed: false,
             standing: Standing::Down("it hasn't come up yet".to_string()),
             since: 0,
@@ -150,10 +174,9 @@ impl Port {
         let subnet = left.subnet.map(|(address, length)| Subnet { address, length });
         let why = || Standing::Down("it was down before".to_string());
         Port {
-            subnet,
+            own: Own { subnet, is_apart: left.is_apart },
             index: left.index,
             vif: left.vif,
-            is_loopback: left.is_loopback,
             standing: if left.is_up { Standing::Up } else { why() },
             since: left.since,
             hello: left.hello,
@@ -166,10 +189,10 @@ impl Port {
     pub fn left(&self) -> LeftPort {
         LeftPort {
             name: self.settings.name.clone(),
-            subnet: self.subnet.map(|subnet| (subnet.address, subnet.length)),
+            subnet: self.own.subnet.map(|subnet| (subnet.address, subnet.length)),
+            is_apart: self.own.is_apart,
             index: self.index,
             vif: self.vif,
-            is_loopback: self.is_loopback,
             is_up: self.standing.is_up(),
             since: self.since,
             hello: self.hello.clone(),
@@ -178,10 +201,15 @@ impl Port {
     }
 
     pub fn address(&self) -> Option<Ipv4Addr> {
-        self.subnet.map(|subnet| subnet.address)
+        self.own.subnet.map(|subnet| subnet.address)
     }
 
-    /// As the router is told: it wants a subnet with room for a neighbour.
+    /// Its address, where it is on no link.
+    pub fn apart(&self) -> Option<Ipv4Addr> {
+        self.address().filter(|_| self.own.is_apart)
+    }
+
+    /// As the router is told: it wants a subnet with room for a neighbour. One that is on no link never goes up there.
     pub fn told(&self) -> viqeshor::Interface {
         let subnet = self.told_subnet();
         viqeshor::Interface {
@@ -194,26 +222,34 @@ impl Port {
     }
 
     pub fn told_subnet(&self) -> Subnet {
-        let subnet = self.subnet.unwrap_or_else(|| placeholder(self.number));
+        let subnet = self.own.subnet.filter(|_| !self.own.is_apart).unwrap_or_else(|| placeholder(self.number));
         Subnet { length: subnet.length.min(31), ..subnet }
     }
 
+    /// The addresses that are the router's, or its neighbours', by this interface.
+    pub fn covered(&self) -> Subnet {
+        let subnet = self.own.subnet.filter(|_| self.own.is_apart);
+        subnet.map_or_else(|| self.told_subnet(), |subnet| alone(subnet, true))
+    }
+
     /// The address that it is to have: the file's, else the one that it has, else the first one of the kernel.
-    fn wanted(&self, machine: &Machine) -> Option<Subnet> {
+    fn wanted(&self, machine: &Machine) -> Own {
         if self.is_removed {
-            return None;
+            return Own::default();
         }
-        let has = |subnet: &Subnet| {
-            machine.link(&self.settings.name).map_or(false, |link| machine.addresses(link.index).contains(subnet))
-        };
-        let kept = self.subnet.filter(has);
-        self.settings.address.or(kept).or_else(|| machine.first_address(&self.settings.name)).or(self.subnet)
+        let link = machine.link(&self.settings.name);
+        let has = |subnet: &Subnet| link.map_or(false, |link| machine.addresses(link.index).contains(subnet));
+        let (had, kept) = (self.own.subnet, self.own.subnet.filter(has));
+        let subnet = self.settings.address.or(kept).or_else(|| machine.first_address(&self.settings.name)).or(had);
+        let is_dummy = link.map_or(self.own.is_apart, |link| link.is_dummy);
+        let is_alone = subnet.map_or(false, |subnet| subnet.length == 32);
+        Own { subnet, is_apart: self.settings.name == LOOPBACK || (is_dummy && is_alone) }
     }
 
     /// What the kernel has of it now.
     pub fn standing_in(&self, machine: &Machine) -> (Option<u32>, Standing) {
         let link = machine.link(&self.settings.name).filter(|_| !self.is_removed);
-        let why = match (link, self.subnet) {
+        let why = match (link, self.own.subnet) {
             _ if self.is_removed => "the file hasn't it any more".to_string(),
             (None, _) => "there is no such interface".to_string(),
             (Some(link), _) if !link.is_running && !link.is_loopback => "the link is down".to_string(),
@@ -252,27 +288,29 @@ pub fn take_settings(ports: &mut Vec<Port>, settings: &[InterfaceSettings]) {
     }
 }
 
-/// The address that each interface is to have in the router, and what is to be said of overlaps.
-pub fn addresses(ports: &[Port], machine: &Machine) -> (Vec<Option<Subnet>>, Vec<String>) {
-    let (mut found, mut said): (Vec<Option<Subnet>>, Vec<String>) = (Vec::new(), Vec::new());
-    for port in ports {
-        let wanted = port.wanted(machine);
-        let overlaps = |other: &Option<Subnet>| match (wanted, other) {
-            (Some(mine), Some(theirs)) => mine.overlaps(*theirs),
-            _ => false,
+/// The address that each interface is to have in the router, and what is to be said of those that can't be taken: links
+/// come before what is on none.
+pub fn addresses(ports: &[Port], machine: &Machine) -> (Vec<Own>, Vec<String>) {
+    let wanted: Vec<_> = ports.iter().map(|port| port.wanted(machine)).collect();
+    let (mut found, mut said) = (vec![Own::default(); ports.len()], Vec::new());
+    let (apart, linked): (Vec<_>, Vec<_>) = (0..ports.len()).partition(|number| wanted[*number].is_apart);
+    for number in linked.into_iter().chain(apart) {
+        let (own, name) = (wanted[number], &ports[number].settings.name);
+        let held = found.iter().filter(|it| it.is_apart && it.subnet.is_some()).count();
+        let why = match found.iter().position(|other| own.overlaps(*other)) {
+            Some(at) => Some(format!("the subnets of {} and {name} overlap", ports[at].settings.name)),
+            None if own.is_apart && held == MOST_APART => Some(format!("{MOST_APART} other addresses are on no link")),
+            None => None,
         };
-        match found.iter().position(overlaps) {
-            Some(at) => {
-                let (name, other) = (&port.settings.name, &ports[at].settings.name);
-                said.push(format!(
-                    "the subnets of {other} and {name} overlap: {name} has no address that can be taken"
-                ));
-                found.push(None);
-            }
-            None => found.push(wanted),
-        }
+        said.extend(why.iter().map(|why| format!("{why}: {name} has no address that can be taken")));
+        found[number] = Own { subnet: own.subnet.filter(|_| why.is_none()), ..own };
     }
     (found, said)
+}
+
+/// The own addresses that are on no link.
+pub fn apart(ports: &[Port]) -> Vec<Ipv4Addr> {
+    ports.iter().filter_map(Port::apart).collect()
 }
 
 #[cfg(test)]
@@ -281,7 +319,16 @@ mod tests {
     use crate::settings;
 
     fn link(index: u32, name: &str, is_running: bool) -> Link {
-        Link { index, name: name.to_string(), mtu: 1500, is_running, is_loopback: name == "lo", vrf_table: None }
+        let (is_loopback, is_dummy) = (name == "lo", name.starts_with("dummy"));
+        Link { index, name: name.to_string(), mtu: 1500, is_running, is_loopback, is_dummy, vrf_table: None }
+    }
+
+    fn on_link(text: &str) -> Own {
+        Own { subnet: Some(subnet(text)), is_apart: false }
+    }
+
+    fn apart_at(text: &str) -> Own {
+        Own { is_apart: true, ..on_link(text) }
     }
 
     fn subnet(text: &str) -> Subnet {
@@ -300,11 +347,16 @@ mod tests {
         settings::read(&text).unwrap().interfaces
     }
 
-    fn ports(names: &[&str]) -> Vec<Port> {
+    fn ports_of(names: &[&str]) -> Vec<Port> {
         let mut ports = Vec::new();
         take_settings(&mut ports, &settings_of(names));
+        ports
+    }
+
+    fn ports(names: &[&str]) -> Vec<Port> {
+        let mut ports = ports_of(names);
         let (found, _) = addresses(&ports, &machine());
-        ports.iter_mut().zip(found).for_each(|(port, subnet)| port.subnet = subnet);
+        ports.iter_mut().zip(found).for_each(|(port, own)| port.own = own);
         ports
     }
 
@@ -312,13 +364,13 @@ mod tests {
     fn each_has_the_first_address_or_a_number_alone() {
         let found: Vec<_> = ports(&["eth0", "eth1", "lo", "eth7"])
             .iter()
-            .map(|port| (port.number, port.subnet.map(|it| it.to_string()), port.told_subnet().to_string()))
+            .map(|port| (port.number, port.own.subnet.map(|it| it.to_string()), port.told_subnet().to_string()))
             .collect();
         let some = |text: &str| Some(text.to_string());
         let wanted = [
             (0, some("10.0.0.1/24"), "10.0.0.1/24"),
             (1, None, "0.1.1.1/30"),
-            (2, some("10.255.0.1/32"), "10.255.0.1/31"),
+            (2, some("10.255.0.1/32"), "0.1.2.1/30"),
             (3, None, "0.1.3.1/30"),
         ];
         assert_eq!(found, wanted.map(|(number, subnet, told)| (number, subnet, told.to_string())));
@@ -333,7 +385,7 @@ mod tests {
         assert_eq!(port.standing_in(&machine), (Some(2), down("the link is down")));
         machine.take(&Change::LinkGone(2));
         assert_eq!(port.standing_in(&machine), (None, down("there is no such interface")));
-        assert_eq!(addresses(std::slice::from_ref(&port), &machine).0, [port.subnet]);
+        assert_eq!(addresses(std::slice::from_ref(&port), &machine).0, [port.own]);
         machine.take(&Change::Link(link(9, "eth0", true)));
         machine.take(&Change::Address { index: 9, subnet: subnet("10.0.0.1/24") });
         assert_eq!(port.standing_in(&machine), (Some(9), Standing::Up));
@@ -345,9 +397,9 @@ mod tests {
         machine.take(&Change::AddressGone { index: 2, subnet: subnet("10.0.0.1/24") });
         let why = "it hasn't the address 10.0.0.1/24 (it has 10.0.9.1/24)";
         assert_eq!(port.standing_in(&machine), (Some(2), Standing::Down(why.to_string())));
-        assert_eq!(addresses(std::slice::from_ref(&port), &machine).0, [Some(subnet("10.0.9.1/24"))]);
-        port.settings.address = port.subnet;
-        assert_eq!(addresses(std::slice::from_ref(&port), &machine).0, [port.subnet]);
+        assert_eq!(addresses(std::slice::from_ref(&port), &machine).0, [on_link("10.0.9.1/24")]);
+        port.settings.address = port.own.subnet;
+        assert_eq!(addresses(std::slice::from_ref(&port), &machine).0, [port.own]);
     }
 
     #[test]
@@ -356,7 +408,7 @@ mod tests {
         let why = "it has no IPv4 address that can be taken (it has none)";
         assert_eq!(port.standing_in(&machine), (Some(3), Standing::Down(why.to_string())));
         machine.take(&Change::Address { index: 3, subnet: subnet("10.3.0.1/24") });
-        assert_eq!(addresses(&[port], &machine).0, [Some(subnet("10.3.0.1/24"))]);
+        assert_eq!(addresses(&[port], &machine).0, [on_link("10.3.0.1/24")]);
     }
 
     #[test]
@@ -364,8 +416,48 @@ mod tests {
         let mut machine = machine();
         machine.take(&Change::Address { index: 3, subnet: subnet("10.0.0.9/25") });
         let (found, said) = addresses(&ports(&["eth0", "eth1"]), &machine);
-        assert_eq!(found, [Some(subnet("10.0.0.1/24")), None]);
+        assert_eq!(found, [on_link("10.0.0.1/24"), Own::default()]);
         assert_eq!(said, ["the subnets of eth0 and eth1 overlap: eth1 has no address that can be taken"]);
+    }
+
+    #[test]
+    fn what_is_on_no_link_is_an_address_alone() {
+        let mut machine = machine();
+        machine.take(&Change::Link(link(4, "dummy0", true)));
+        machine.take(&Change::Address { index: 4, subnet: subnet("10.255.0.0/32") });
+        machine.take(&Change::Address { index: 3, subnet: subnet("10.3.0.1/32") });
+        let names = ["lo", "dummy0", "eth0", "eth1"];
+        let (found, said) = addresses(&ports(&names), &machine);
+        let apart = [apart_at("10.255.0.1/32"), apart_at("10.255.0.0/32")];
+        // Neighbours of an unnumbered link are elsewhere.
+        assert_eq!(found, [apart[0], apart[1], on_link("10.0.0.1/24"), on_link("10.3.0.1/32")]);
+        assert!(said.is_empty());
+        // One of lo is on no link whatever its length, and gives way to a link.
+        machine.take(&Change::AddressGone { index: 1, subnet: subnet("10.255.0.1/32") });
+        machine.take(&Change::Address { index: 1, subnet: subnet("10.0.0.77/16") });
+        let (found, said) = addresses(&ports_of(&names), &machine);
+        assert_eq!(found[..3], [Own { subnet: None, is_apart: true }, apart[1], on_link("10.0.0.1/24")]);
+        assert_eq!(said, ["the subnets of eth0 and lo overlap: lo has no address that can be taken"]);
+        // A dummy with a subnet has a link.
+        machine.take(&Change::AddressGone { index: 4, subnet: subnet("10.255.0.0/32") });
+        machine.take(&Change::Address { index: 4, subnet: subnet("10.255.0.1/30") });
+        assert_eq!(addresses(&ports_of(&names), &machine).0[1], on_link("10.255.0.1/30"));
+    }
+
+    #[test]
+    fn the_library_has_room_for_some_of_them() {
+        let names: Vec<_> = (0..18).map(|number| format!("dummy{number}")).collect();
+        let names: Vec<_> = names.iter().map(String::as_str).collect();
+        let mut machine = machine();
+        for (index, name) in (10..).zip(&names) {
+            machine.take(&Change::Link(link(index, name, true)));
+            machine.take(&Change::Address { index, subnet: subnet(&format!("10.8.0.{index}/32")) });
+        }
+        let mut ports = ports_of(&names);
+        let (found, said) = addresses(&ports, &machine);
+        ports.iter_mut().zip(found).for_each(|(port, own)| port.own = own);
+        assert_eq!((apart(&ports).len(), said.len()), (MOST_APART, 2));
+        assert_eq!(said[1], "16 other addresses are on no link: dummy17 has no address that can be taken");
     }
 
     #[test]

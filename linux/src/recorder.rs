@@ -16,7 +16,7 @@ use time::OffsetDateTime;
 use viqeshor::{Call, Error, Interface, Range, Route, Router, Settings, Target, Verdict};
 
 const MAGIC: &[u8; 4] = b"VQRC";
-const VERSION: u16 = 3;
+const VERSION: u16 = 4;
 const DONE: u32 = 0;
 /// What `viq_keep` answers where the source's timer doesn't run.
 const NO_TIMER: u32 = 52;
@@ -301,7 +301,8 @@ mod tests {
         recorder.kept(key, 5, false).unwrap();
         let interfaces = [Interface { priority: 7, ..Interface::new(OWN, 24) }];
         let ranges = [Range::new(Ipv4Addr::new(239, 0, 0, 0), 8, OWN)];
-        let settings = Settings { limit: 1000, stays_on_shared_tree: true, ..Settings::default() };
+        let addresses = vec![Ipv4Addr::new(10, 255, 0, 1)];
+        let settings = Settings { limit: 1000, stays_on_shared_tree: true, addresses, ..Settings::default() };
         router.reload(&settings, &interfaces, &routes, &ranges, 9).unwrap();
         let given = Configuration { settings: &settings, interfaces: &interfaces, routes: &routes, ranges: &ranges };
         let (sent, sum_then) = taken(&mut router);
@@ -312,7 +313,7 @@ mod tests {
         recorder.end_turn(&mut router, &speech, WAITS).unwrap();
         assert_eq!(recorder.due(), None);
         let summed = |bytes: Vec<u8>| [&bytes[..], &crc32fast::hash(&bytes).to_be_bytes()].concat();
-        let head = [b"VQRC\0\x03\0\0\0\0".as_slice(), &(state.len() as u64).to_be_bytes()].concat();
+        let head = [b"VQRC\0\x04\0\0\0\0".as_slice(), &(state.len() as u64).to_be_bytes()].concat();
         let mut wanted = [summed(head), state].concat();
         let words = |numbers: &[u32]| numbers.iter().flat_map(|number| number.to_be_bytes()).collect::<Vec<_>>();
         let record = |letter: u8, numbers: &[u32]| [vec![letter], words(numbers)].concat();
@@ -324,7 +325,7 @@ mod tests {
         wanted.extend(summed(record(b'k', &[OWN.into(), 0xef01_0101, 0, 5, 52, 0])));
         let mut reload = record(b'c', &[9, 1000]);
         reload.push(1);
-        reload.extend(words(&[2, 125, 100, 10, 0, 1, OWN.into(), 24, 7, 500, 2500, 0, 1]));
+        reload.extend(words(&[2, 125, 100, 10, 0, 1, OWN.into(), 24, 7, 500, 2500, 0, 1, 0x0aff_0001, 0, 1]));
         reload.extend(words(&[&route[..], &[0, 1, 0xef00_0000, 8, OWN.into(), 0, sum_then]].concat()));
         wanted.extend(summed(reload));
         assert_eq!(std::fs::read(place.path(0)).unwrap(), wanted);

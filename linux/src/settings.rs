@@ -138,6 +138,12 @@ pub struct InterfaceSettings {
 }
 
 impl InterfaceSettings {
+    /// Whether it may be on no link, where it takes no virtual interface of the kernel's.
+    pub fn may_be_apart(&self) -> bool {
+        let is_alone = self.address.map_or(false, |subnet| subnet.length == 32);
+        self.name == LOOPBACK || (is_alone && !self.policy.is_unnumbered)
+    }
+
     /// The neighbours of the file that lie in none of these subnets, where their PIM isn't believed; where there is no
     /// subnet none is known to.
     pub fn strangers<'a>(&'a self, subnets: &'a [Subnet]) -> impl Iterator<Item = Subnet> + 'a {
@@ -599,13 +605,11 @@ impl Check<'_> {
         if found.is_empty() {
             self.problems.push(Problem { line: 0, reason: "there is no [[interface]]".to_string() });
         }
-        let mut with_vifs = tables.iter().filter(|table| table.name.get_ref() != LOOPBACK);
-        let past = with_vifs.nth(MOST_INTERFACES).map(|table| table.name.start());
-        if let Some(at) = past {
+        if let Some(past) = found.iter().filter(|it| !it.may_be_apart()).nth(MOST_INTERFACES) {
             let reason = format!(
                 "at most {MOST_INTERFACES}: Linux has 32 virtual interfaces, of which the register tunnel is one"
             );
-            self.wrong(at, reason);
+            self.problems.push(Problem { line: past.line, reason });
         }
         let mut names = HashSet::new();
         for table in tables.iter().filter(|table| !names.insert(table.name.get_ref())) {
@@ -1128,7 +1132,11 @@ mod tests {
         assert_eq!(only(&format!("{SMALL}{SMALL}")).0, 4);
         let many: String = (0..32).map(one).collect();
         assert_eq!(only(&many).0, 31 * 3 + 2);
-        assert!(read(&(0..31).map(one).collect::<String>()).is_ok());
+        let some: String = (0..31).map(one).collect();
+        assert!(read(&some).is_ok());
+        let apart = |more: &str| format!("{some}[[interface]]\nname = \"dummy0\"\naddress = \"10.255.0.1/32\"\n{more}");
+        assert!(read(&format!("{}[[interface]]\nname = \"lo\"\n", apart(""))).is_ok());
+        assert_eq!(only(&apart("unnumbered = true\n")).0, 31 * 3 + 2);
     }
 
     #[test]

@@ -195,7 +195,7 @@ pub fn rp_of(daemon: &Daemon, group: u32) -> Option<Ipv4Addr> {
 /// The interface towards an address, and the next hop, or the address itself on a link of the router.
 fn way(daemon: &Daemon, to: Ipv4Addr) -> Option<(u32, Ipv4Addr)> {
     let number = u32::from(to);
-    let is_there = |port: &&Port| port.standing.is_up() && port.told_subnet().contains(number);
+    let is_there = |port: &&Port| port.standing.is_up() && port.covered().contains(number);
     let own = daemon.ports.iter().find(is_there);
     if let Some(port) = own {
         return Some((port.number, to));
@@ -260,7 +260,7 @@ fn interfaces(daemon: &mut Daemon) -> Result<Rows, Fatal> {
         let neighbours = daemon.neighbours.known.keys().filter(|(iface, _)| *iface == port.number).count();
         vec![
             ("interface", json!(port.settings.name)),
-            ("address", port.subnet.map_or(Value::Null, |subnet| json!(subnet.to_string()))),
+            ("address", port.own.subnet.map_or(Value::Null, |subnet| json!(subnet.to_string()))),
             ("vif", json!(port.vif)),
             ("is_up", json!(is_up)),
             ("up_seconds", if is_up { seconds(daemon.now().saturating_sub(port.since)) } else { Value::Null }),

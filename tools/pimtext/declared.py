@@ -13,7 +13,7 @@ ABI = TOP / "bindings" / "c" / "abi.txt"
 # What the crate's values are called in C.
 NAMES = {
     "Handle": "viq_core", "GivenInterface": "viq_interface", "GivenRoute": "viq_route", "GivenRange": "viq_range",
-    "GivenSettings": "viq_settings", "Packet": "viq_packet", "Interfaces": "viq_interfaces",
+    "GivenSettings": "viq_core_settings", "Packet": "viq_packet", "Interfaces": "viq_interfaces",
     "Forwarding": "viq_forwarding", "PlaneRow": "viq_plane_row", "OlderGroup": "viq_older_row",
     "NamedSource": "viq_source_group", "ToldNumber": "viq_number", "ToldHop": "viq_hop", "ToldPath": "viq_path",
     "ToldTree": "viq_tree", "ToldSourceTree": "viq_source_tree", "ToldQuerier": "viq_querier", "ToldLink": "viq_link",

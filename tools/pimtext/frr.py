@@ -52,8 +52,12 @@ class Interface:
     def own(self) -> IPv4Interface | None:
         return self.addresses[0][0] if self.addresses else None
 
+    def is_apart(self) -> bool:
+        """Whether its address has no link: no neighbour is in its subnet."""
+        return self.own is not None and self.own.network.prefixlen == 32
+
     def is_loopback(self) -> bool:
-        return self.name.startswith(("lo", "dummy")) or (self.own is not None and self.own.network.prefixlen == 32)
+        return self.name.startswith(("lo", "dummy")) or self.is_apart()
 
 
 @dataclass(frozen=True)
@@ -101,7 +105,7 @@ def take_address(router: Router, port: Interface, place: Place, text: str, *_: o
         port.addresses.append((IPv4Interface(text), place))
     except ValueError:
         return router.leave(place, "it is no IPv4 address with its length")
-    if len(port.addresses) > 1:
+    if len(port.addresses) > 1 and not (port.is_apart() and port.addresses[-1][0].network.prefixlen == 32):
         router.leave(place, "an interface has one address here, the first")
 
 

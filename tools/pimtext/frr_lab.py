@@ -9,13 +9,12 @@ from pathlib import Path
 from typing import TYPE_CHECKING, Any
 
 from pimtext import frr
+from pimtext.faults import MOST_ADDRESSES
 from pimtext.frr import IGMP_TIMES
 
 if TYPE_CHECKING:
     from viqeshor.lab.network import Network
 
-# A loopback's subnet has two addresses here at least.
-LONGEST = 31
 KEYS = {"query-interval": "qi", "query-max-response-time": "qri", "last-member-query-interval": "lmqi"}
 FIRST, THEN, STREAM = 10, 5, 20
 
@@ -50,16 +49,17 @@ class Source:
 
 
 class Plan:
-    """What is carried over. The rest is in each router's `left`."""
+    """What is carried over: links, and by router its addresses of no link. The rest is in each router's `left`."""
 
     def __init__(self, routers: list[frr.Router], sends: Sequence[tuple[str, str]] = ()) -> None:
         self.routers, self.links, self.taken = routers, {}, {address for address, _ in sends}
         self.ranges = {router.name: frr.ranges(router) for router in routers}
+        self.own = {router.name: [] for router in routers}
         self.roots = {address for ranges in self.ranges.values() for _, address in ranges}
         for router in routers:
             for port in router.here():
                 if is_carried(router, port, self.roots, self.taken):
-                    self.plug(router, port)
+                    (self.keep if port.is_apart() else self.plug)(router, port)
         self.name_links()
         self.members = [member for router in routers for member in self.members_of(router)]
         self.sources = [self.source(number, *each) for number, each in enumerate(groups_of(sends).items(), 1)]
@@ -71,13 +71,20 @@ class Plan:
     # ---- links
 
     def plug(self, router: frr.Router, port: frr.Interface) -> None:
-        subnet = port.own.network
-        if subnet.prefixlen > LONGEST:
-            subnet = port.own.network.supernet(new_prefix=LONGEST)
-            if subnet in self.links:
-                return router.leave(port.place, f"its subnet would be {subnet}, which is another one's already")
         self.taken.add(str(port.own.ip))
-        self.links.setdefault(subnet, Link(subnet)).ports.append((router, port))
+        self.links.setdefault(port.own.network, Link(port.own.network)).ports.append((router, port))
+
+    def keep(self, router: frr.Router, port: frr.Interface) -> None:
+        """The addresses of an interface without a link are the router's."""
+        own = self.own[router.name]
+        for address, place in port.addresses:
+            if len(own) == MOST_ADDRESSES:
+                router.leave(place, f"a router has at most {MOST_ADDRESSES} addresses of no link here")
+            elif address.network.prefixlen == 32 and str(address.ip) not in self.taken:
+                own.append(str(address.ip))
+                self.taken.add(str(address.ip))
+        for *_, place in port.joins:
+            router.leave(place, "a host joins on a link, and the interface has none here")
 
     def name_links(self) -> None:
         names = set()
@@ -165,8 +172,6 @@ class Plan:
                 router.leave(port.place, "it has no `ip igmp`; our router serves hosts on each interface")
             if not port.is_pim:
                 router.leave(port.place, "it has no `ip pim`; our router speaks PIM on each interface")
-            if port.own.network.prefixlen > LONGEST:
-                router.leave(port.addresses[0][1], f"its subnet is /{LONGEST} here")
         if router.ssm and not frr.is_usual_ssm(router):
             router.leave(router.ssm[1], "the groups of SSM are 232.0.0.0/8, and no others")
         if router.spt_never and any(router.has(root) for root in self.roots):
@@ -272,6 +277,7 @@ def text_of(plan: Plan, origin: str | Path) -> str:
 
 def router_lines(plan: Plan, router: frr.Router) -> Iterator[str]:
     options = dict(plan.options[router.name])
+    options["addresses"] = plan.own[router.name]
     options["rps"] = [f"{prefix} {address}" for prefix, address in plan.ranges[router.name]]
     if router.routes is not None and not plan.is_alone(router):
         options["routes"] = plan.routes[router.name]

@@ -19,6 +19,7 @@ if TYPE_CHECKING:
 ANY_SOURCE, SSM = ("239.1.1.1", "239.1.1.2", "239.2.1.1"), ("232.1.1.1",)
 GROUPS = ANY_SOURCE + SSM
 FAR_RP = "10.80.0.8"
+LOOPBACK = "10.255.0.1"
 FAR_SOURCES = ("10.90.0.7", "10.90.1.7", "10.91.0.7")
 PREFIXES = ("10.80.0.0/16", "10.90.0.0/16", "10.90.1.0/24", "10.91.0.0/16", "0.0.0.0/0")
 # Of Hellos and of Joins, in seconds.
@@ -96,10 +97,12 @@ class Happenings:
         self.count = draws.randint(2, 5)
         self.interfaces = [(f"10.0.{at}.5", 24, draws.choice((1, 1, 0, 7)), 500, 2500) for at in range(self.count)]
         self.neighbours = [[f"10.0.{at}.{last}" for last in (2, 9) if draws.random() < 0.6] for at in range(self.count)]
-        self.rps = [FAR_RP, self.own(0), self.own(self.count - 1)]
+        # Half of all have an address on no link.
+        self.apart = [LOOPBACK][seed % 2:]
+        self.rps = [FAR_RP, self.own(0), self.own(self.count - 1), *self.apart]
         self.routes, self.ranges = self.some_routes(), self.some_ranges()
         limit = draws.choice((65536, 65536, draws.randint(2, 8), draws.randint(8, 25)))
-        self.settings = {"limit": limit, "stays_on_shared_tree": draws.random() < 0.3}
+        self.settings = {"limit": limit, "stays_on_shared_tree": draws.random() < 0.3, "addresses": self.apart}
         self.flows = [self.some_flow() for _ in range(draws.randint(1, 3))]
         self.present = 0
         # What happens next, each as what makes the event.

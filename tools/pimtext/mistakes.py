@@ -137,6 +137,23 @@ class Mistakes:
         for address, ports in gathered((interface.address, (name, interface)) for name, interface in every).items():
             if len(ports) > 1:
                 yield self.address_twice(address, ports)
+        apart = {each for state in self.known.values() for each in state.router.addresses}
+        for address in sorted(apart, key=ip_address):
+            names = [name for name, state in self.known.items() if state.router.has(address)]
+            if len(names) > 1:
+                yield self.address_of_several(address, names)
+
+    def address_of_several(self, address: str, names: list[str]) -> Cause:
+        """One that is of no link at a router at least."""
+        groups = [group for group in self.run.groups() if address in self.run.rps_of(group)]
+
+        def covers(each: Symptom) -> bool:
+            is_rp = each.group in groups and each.kind in ("registers stopped", "no join")
+            return is_rp and (each.router in names or each.address == address)
+
+        where = " and ".join(f"{name} ({self.known[name].router.where(address)})" for name in names)
+        text = f": {address} is an address of several routers, {where}: what is sent to it comes to one of them alone"
+        return Cause(*self.run.at_setting(names[-1], text, lambda each: each.router.where(address)), covers)
 
     def address_twice(self, address: str, ports: list[tuple[str, Interface]]) -> Cause:
         names, links = [name for name, _ in ports], {interface.link for _, interface in ports}
@@ -290,8 +307,8 @@ class Mistakes:
         had = self.run.settings.had(address)
         if had is None:
             return ""
-        name, link, step = had
-        return f": {name} had it on {link} until {words.seconds(step.moment)}, {self.run.settings.move(step)}"
+        name, where, step = had
+        return f": {name} had it {where} until {words.seconds(step.moment)}, {self.run.settings.move(step)}"
 
     @staticmethod
     def of_next_hop(name: str, hop: str) -> Callable[[Symptom], bool]:

@@ -111,7 +111,7 @@ class Notes:
             return self.wrong_list(step.move, step.router, cause == "25")
         if cause == "27":
             return self.moved_on(step) if step.is_settle() else self.no_delivery(step)
-        if cause.isdigit() and 30 <= int(cause) <= 38:
+        if cause.isdigit() and (30 <= int(cause) <= 38 or cause == "70"):
             return self.wrong_configuration(step.move, int(cause))
         count, bytes_given = self.present(step), len(did.get("hex", "")) // 2
         if cause == "4" and bytes_given > packets.MOST_IN_A_FRAME and did["do"] == "frame":
@@ -136,10 +136,10 @@ class Notes:
     def wrong_list(self, number: int, router: str, is_routes: bool) -> str:
         """What is wrong with the routes or ranges of a move."""
         table = self.judge.moves[number - 1]
-        ifaces = next(made["ifaces"] for made in self.judge.routers if made["table"].get("name").held == router)
+        made = next(made for made in self.judge.routers if made["table"].get("name").held == router)
         entries = Judge().entries(table.get("do").held, table)
         if is_routes:
-            found = list_faults(entries, MOST_ROUTES, lambda route: route_fault(route, ifaces))
+            found = list_faults(entries, MOST_ROUTES, lambda route: route_fault(route, made))
         else:
             found = list_faults(entries, MOST_RPS, rp_fault)
         return "; ".join(what for _, what in found)

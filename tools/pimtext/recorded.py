@@ -365,6 +365,8 @@ def deliveries(count: int) -> str:
 
 
 def router_told(router: Router) -> dict[str, Any]:
-    """A router: its name, its interfaces by link and address, and the ranges of which it is the RP."""
+    """A router: its name, its interfaces by link and address, its addresses of no interface, and the ranges of which it
+    is the RP."""
     own = [str(prefix) for prefix, rp in router.rps if router.has(rp)]
-    return {"name": router.name, "ifaces": [[each.link, each.address] for each in router.interfaces], "rp": own}
+    ifaces = [[each.link, each.address] for each in router.interfaces]
+    return {"name": router.name, "ifaces": ifaces, "addresses": router.addresses, "rp": own}

@@ -8,7 +8,7 @@ from typing import Any, NamedTuple
 
 from viqeshor.lab.addresses import dotted
 
-MAGIC, VERSION = b"VQST", 2
+MAGIC, VERSION, WITH_ADDRESSES = b"VQST", 2, 3
 
 
 class Unreadable(ValueError):
@@ -38,6 +38,7 @@ Table = list[tuple[Key, Row]]
 @dataclass
 class Saved:
     settings: dict[str, int]
+    addresses: list[str]
     interfaces: list[tuple[str, int, int, int, int]]
     present: int
     routes: list[tuple[str, int, str, int, int, int]]
@@ -144,10 +145,14 @@ def read(data: bytes) -> Saved:
     r = Reader(data)
     if r.word() != int.from_bytes(MAGIC, "big"):
         raise Unreadable(60, "the first four bytes aren't VQST")
-    if r.half() != VERSION:
+    version = r.half()
+    if version not in (VERSION, WITH_ADDRESSES):
         raise Unreadable(61, "another version")
     if int.from_bytes(data[-4:], "big") != zlib.crc32(data[:-4]):
         raise Unreadable(69, "the sum isn't that of the bytes")
+    addresses = r.list(r.address) if version == WITH_ADDRESSES else []
+    if version == WITH_ADDRESSES and not addresses:
+        raise Unreadable(63, "version 3 without an own address of no interface")
     settings = {"limit": r.word(), "stays_on_shared_tree": r.tag(1)}
     names = ("robustness", "query_interval", "query_response_interval", "last_member_query_interval")
     settings |= {name: r.word() for name in names}
@@ -159,7 +164,7 @@ def read(data: bytes) -> Saved:
     r.word()
     if r.at != len(data):
         raise Unreadable(65, "bytes follow the sum")
-    return Saved(settings, interfaces, present, routes, ranges, tables)
+    return Saved(settings, addresses, interfaces, present, routes, ranges, tables)
 
 
 def summed(front: bytes) -> bytes:
@@ -187,6 +192,7 @@ def lines(saved: Saved) -> Iterator[str]:
     """A line for each setting, and for each row its table, its key and its fields in the order of docs/SAVED.md."""
     yield f"present {saved.present}"
     yield from (f"{name} {value}" for name, value in saved.settings.items())
+    yield from (f"address {each}" for each in saved.addresses)
     yield from (" ".join(["interface", str(number), *map(str, row)]) for number, row in enumerate(saved.interfaces))
     yield from (" ".join(["route", *map(str, row)]) for row in saved.routes)
     yield from (" ".join(["range", *map(str, row)]) for row in saved.ranges)

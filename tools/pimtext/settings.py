@@ -96,10 +96,10 @@ class Settings:
         return Since(now, *began, *ended)
 
     def had(self, address: str) -> tuple[str, str, Step] | None:
-        """The router that had an address until a `reload`, the link of its interface, and the move; the last one."""
+        """The router that had an address until a `reload`, where, and the move; the last one."""
         pairs = ((name, one, other) for name, told in self.told.items() for one, other in zip(told, told[1:]))
-        lost = [(name, each.link, other.step) for name, one, other in pairs for each in one.router.interfaces
-                if each.address == address and not other.router.has(address)]
+        lost = [(name, one.router.where(address), other.step) for name, one, other in pairs
+                if one.router.has(address) and not other.router.has(address)]
         return max(lost, key=lambda found: found[2].move, default=None)
 
     # ---- in words

@@ -53,11 +53,12 @@ struct event {
 
 static struct viq_settings settings;
 static struct viq_interface interfaces[128];
+static uint32_t addresses[VIQ_MOST_ADDRESSES];
 static struct viq_route routes[MOST_ITEMS];
 static struct viq_range ranges[MOST_ITEMS];
 static uint8_t bytes[MOST_EVENTS * 256];
 static struct event events[MOST_EVENTS];
-static size_t interface_count, route_count, range_count, byte_count, event_count, first_routes, first_ranges;
+static size_t interface_count, address_count, route_count, range_count, byte_count, event_count, first_routes, first_ranges;
 static size_t taken_routes, taken_ranges;
 
 static uint32_t number(void) {
@@ -99,12 +100,16 @@ static void read_line(char *line) {
     if (strcmp(word, "new") == 0) {
         uint32_t given[6];
         for (int at = 0; at < 6; at++) given[at] = number();
-        settings = (struct viq_settings){given[0], given[1], given[2], given[3], given[4], given[5] != 0};
+        settings = (struct viq_settings){given[0], given[1], given[2], given[3], given[4], given[5] != 0, addresses,
+                                         address_count};
         first_routes = taken_routes = route_count;
         first_ranges = taken_ranges = range_count;
     } else if (strcmp(word, "interface") == 0) {
         uint32_t *to = &interfaces[interface_count++].address;
         for (int at = 0; at < 5; at++) to[at] = number();
+    } else if (strcmp(word, "address") == 0) {
+        if (address_count == VIQ_MOST_ADDRESSES) exit(2);
+        addresses[address_count++] = number();
     } else if (strcmp(word, "route") == 0) {
         if (route_count == MOST_ITEMS) exit(2);
         uint32_t *to = &routes[route_count++].prefix;

@@ -116,7 +116,8 @@ class Carried(unittest.TestCase):
         for plan in plans:
             self.assertEqual(plan.options["r1"], {"qi": 60, "spt": "never"})
             self.assertEqual(plan.ranges["r1"], [("239.0.0.0/8", "10.0.1.2")])
-            self.assertEqual([link.name for link in plan.links.values()], ["r1-r2", "r1-eth1", "r2-lo"])
+            self.assertEqual([link.name for link in plan.links.values()], ["r1-r2", "r1-eth1"])
+            self.assertEqual(plan.own, {"r1": [], "r2": ["10.0.9.9"]})
             self.assertEqual([port.priority for _, port in plan.links[next(iter(plan.links))].ports], [7, 1])
             self.assertEqual(plan.members[0].joins, (("239.1.1.1", None), ("232.1.1.1", "10.9.0.9")))
         self.assertEqual(plans[0].routes["r1"], ["10.9.0.0/24 10.0.1.2 0 1 0"])
@@ -149,16 +150,32 @@ class Carried(unittest.TestCase):
         self.assertEqual(numbers, {5, 7, 9, 10, 11, 17, 22, 26})
         self.assertIn("exceptions", said["r1.conf:7"])
         self.assertIn("resolve-via-default", said["r1.conf:10"])
-        self.assertEqual(said["r2/frr.conf:2"], "its subnet is /31 here")
+        self.assertNotIn("r2/frr.conf:2", said)
 
     def test_another_vrf(self):
         files = {"r1.conf": NEWER}
         self.assertEqual(plan_of(files, vrf="red").ranges["r1"], [("224.0.0.0/4", "10.0.7.7")])
         self.assertEqual(left(plan_of(files))["r1.conf:6"], "it is of the VRF red, not of default")
 
-    def test_loopbacks_that_would_share_a_subnet(self):
-        loopback = "interface lo\n ip address 10.0.9.8/32\n ip pim\n"
-        self.assertIn("another one's", left(plan_of({"a.conf": OTHER, "b.conf": loopback}))["b.conf:1"])
+    def test_addresses_of_no_link(self):
+        """Those of a loopback are the router's, also where another router has the address beside one."""
+        loopback = "interface lo\n ip address 10.0.9.8/32\n ip address 10.0.8.8/32\n ip address 10.0.6.8/24\n ip pim\n"
+        loopback += " ip igmp\n ip igmp join 239.1.1.1\ninterface eth0\n ip address 10.0.1.3/24\n ip pim\n"
+        plan = plan_of({"a.conf": OTHER + "router ospf\n", "b.conf": loopback})
+        self.assertEqual(plan.own, {"a": ["10.0.9.9"], "b": ["10.0.9.8", "10.0.8.8"]})
+        said = left(plan)
+        self.assertIn("an interface has one address here", said["b.conf:4"])
+        self.assertIn("a host joins on a link", said["b.conf:7"])
+        text = frr_lab.text_of(plan, "here")
+        self.assertIn('net.router("b", addresses=["10.0.9.8", "10.0.8.8"])', text)
+        net = from_frr.played(text)
+        self.assertIn("10.0.9.8/32 10.0.1.3 0 110 10", net.table(net.routers["a"])["routes"])
+
+    def test_more_addresses_than_a_router_has(self):
+        loopback = "interface lo\n ip pim\n" + "".join(f" ip address 10.9.0.{n}/32\n" for n in range(1, 18))
+        plan = plan_of({"a.conf": OTHER.replace("interface lo", "interface lo1"), "b.conf": loopback})
+        self.assertEqual((len(plan.own["b"]), plan.own["a"]), (16, ["10.0.9.9"]))
+        self.assertIn("at most 16", left(plan)["b.conf:19"])
 
     def test_the_file_is_a_program(self):
         plan = plan_of({"r1.conf": OLDER, "r2/frr.conf": OTHER})

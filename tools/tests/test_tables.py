@@ -77,9 +77,9 @@ class Tables(unittest.TestCase):
         self.assertLessEqual({"bindings/python/src/viqeshor/lab/facts.py"}, self.holders('"10": "an odd hint",'))
 
     def test_so_is_one_of_saved_bytes(self):
-        self.with_answer(70, 101)
+        self.with_answer(80, 101)
         self.assertEqual(self.ran("--write")[0], 0)
-        self.assertEqual(self.holders("BadOption = 70"), {
+        self.assertEqual(self.holders("BadOption = 80"), {
             "crates/pim_saved/specs/Refused.antt", "crates/pim_saved/src/refusal.rt", "bindings/rust/src/lib.rs"})
 
     def test_so_is_a_reason_to_ignore(self):

@@ -59,10 +59,13 @@ MISTAKES = {
     "an_rp_that_nobody_is": Mistake(
         ("no router has the address 10.255.6.9", "RP of 239.1.1.1"), (ONE,), lost(ONE), ("10.255.6.9",),
         never=STOPPED),
-    "an_rp_on_a_32": Mistake(("10.255.6.1/32", "write 10.255.6.1/31")),
+    "an_rp_on_a_32": Mistake(("10.255.6.1/32", "one of `addresses`: \"10.255.6.1\"")),
     "two_routers_with_the_rps_address": Mistake(
         ("10.255.6.1 is the address of two interfaces", "fhr (on fhr-lo2)", "rp1 (on rp1-lo)"), (ONE,), lost(ONE),
         ("fhr is the RP of 239.1.1.1 to itself",), never=(*STOPPED, "is rp1-lo meant", "is fhr-lo2 meant")),
+    "two_routers_with_the_rps_address_on_no_link": Mistake(
+        ("10.255.6.1 is an address of several routers", "fhr (on no link)", "rp1 (on no link)"), (ONE,), lost(ONE),
+        ("fhr is the RP of 239.1.1.1 to itself",), never=STOPPED),
     # Routes
     "no_route_to_the_source": Mistake(
         ("e1 has no route to the source 10.0.9.101",), (SSM,), lost(SSM), ("e1 has no route",)),
@@ -165,7 +168,7 @@ MISTAKES = {
     "no_settle": Mistake(("58 packets reach nobody, since no settle",), ALL, lost(*ALL), ("no neighbour",)),
 }
 # Where nothing is wrong.
-FINE = ("good", "a_dr_by_its_address", "never_to_the_source_tree")
+FINE = ("good", "good_without_loopbacks", "a_dr_by_its_address", "never_to_the_source_tree")
 
 
 def numbers_came(lines, place):

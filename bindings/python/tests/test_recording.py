@@ -66,7 +66,7 @@ class Recordings(unittest.TestCase):
             self.router.set_older_hosts(1, "all")
             self.use()
         told = recording.read(f"{self.path}.0")
-        head = b"VQRC" + struct.pack(">HIQ", 3, 0, len(told.state))
+        head = b"VQRC" + struct.pack(">HIQ", 4, 0, len(told.state))
         head += struct.pack(">I", zlib.crc32(head)) + told.state
         written = b"".join(map(self.text_of, told.records))
         self.assertEqual(Path(f"{self.path}.0").read_bytes(), head + written)
@@ -86,7 +86,7 @@ class Recordings(unittest.TestCase):
             limit, robustness, *times, stays = struct.unpack(">6I", record.data[:24])
             given += struct.pack(">IB4I", limit, stays, robustness, *times)
             at = 24
-            for count, width in zip(record.numbers, (20, 24, 12)):
+            for count, width in zip(record.numbers, (20, 4, 24, 12)):
                 given += struct.pack(">Q", count) + record.data[at:at + count * width]
                 at += count * width
         given += struct.pack(">II", record.answer, record.total)
@@ -144,12 +144,12 @@ class Recordings(unittest.TestCase):
         with Recorder(self.router, self.path):
             self.router.up(0)
             links = [("10.0.0.3", 24, 7, 400, 2400), *LINKS[1:], ("10.0.2.1", 24)]
-            self.router.reload(links, stays_on_shared_tree=True)
+            self.router.reload(links, stays_on_shared_tree=True, addresses=["10.255.0.1", "10.255.0.2"])
             self.assertTrue(self.router.packets())
             self.assertRaises(Refused, self.router.reload, [])
         differ, told = self.played(f"{self.path}.0")
         self.assertEqual((differ, [record.name for record in told.records]), ([], ["up", "reload", "reload"]))
-        self.assertEqual([record.numbers for record in told.records[1:]], [(3, 0, 0), (0, 0, 0)])
+        self.assertEqual([record.numbers for record in told.records[1:]], [(3, 2, 0, 0), (0, 0, 0, 0)])
         self.assertEqual([record.answer for record in told.records[1:]], [Answer.DONE, Answer.INTERFACE_COUNT])
         cut = told.records[1]._replace(data=told.records[1].data[:-4])
         with Router.restore(told.state) as router:
@@ -198,7 +198,7 @@ class Recordings(unittest.TestCase):
         path.write_bytes(data[:-1])
         cut = recording.read(path)
         self.assertEqual((cut.records, recording.read(path).rest), (whole[:-1], len(self.text_of(whole[-1])) - 1))
-        for given in (b"", data[:10], b"other" + data, data[:4] + struct.pack(">H", 4) + data[6:]):
+        for given in (b"", data[:10], b"other" + data, data[:4] + struct.pack(">H", 5) + data[6:]):
             path.write_bytes(given)
             self.assertRaises(recording.Unreadable, recording.read, path)
         path.write_bytes(data + b"?")
@@ -209,9 +209,27 @@ class Recordings(unittest.TestCase):
             self.use()
         told = recording.read(f"{self.path}.0")
         head = b"VQRC" + struct.pack(">HIQ", 2, 0, len(told.state)) + told.state
-        self.path.write_bytes(head + b"".join(self.text_of(record)[:-4] for record in told.records))
+        self.path.write_bytes(head + b"".join(self.text_before(record) for record in told.records))
         differ, again = self.played(self.path)
         self.assertEqual((differ, again), ([], told._replace(version=2)))
+
+    def test_version_3_is_read_and_played(self):
+        with Recorder(self.router, self.path):
+            self.use()
+        told = recording.read(f"{self.path}.0")
+        head = recording.summed(b"VQRC" + struct.pack(">HIQ", 3, 0, len(told.state))) + told.state
+        self.path.write_bytes(head + b"".join(recording.summed(self.text_before(record)) for record in told.records))
+        differ, again = self.played(self.path)
+        self.assertEqual((differ, again), ([], told._replace(version=3)))
+
+    def text_before(self, record):
+        """A record without its sum, as before version 4: a reload had no list of addresses."""
+        text = self.text_of(record)[:-4]
+        if record.name != "reload":
+            return text
+        at = 1 + 4 + 21 + 8 + 20 * record.numbers[0]
+        self.assertEqual(text[at:at + 8], bytes(8))
+        return text[:at] + text[at + 8:]
 
     def test_a_length_that_is_damaged(self):
         with Recorder(self.router, self.path):

@@ -92,7 +92,8 @@ class Routers(unittest.TestCase):
     def test_kinds_of_answers(self):
         """As `include/viqeshor/viqeshor.h` tells them by their numbers."""
         for answer in Answer:
-            self.assertEqual((answer.is_refused, answer.is_ignored), (1 <= answer <= 39, answer > 100), answer)
+            is_refused = 1 <= answer <= 39 or answer == 70
+            self.assertEqual((answer.is_refused, answer.is_ignored), (is_refused, answer > 100), answer)
 
     def test_another_configuration_that_is_refused(self):
         router = self.joined()
@@ -107,6 +108,26 @@ class Routers(unittest.TestCase):
         self.assertEqual((len(sent), router.save(), router.packets()), (5, before, []))
         with self.assertRaises(TypeError):
             router.reload(INTERFACES, limits=7)
+
+    def test_addresses_of_no_interface(self):
+        """They are the router's, and no interface has them."""
+        own, group, to_it = "10.255.0.1", "225.1.1.1", [("10.255.0.1/32", "10.0.0.1", 0, 110, 20)]
+        router = Router(INTERFACES, [("224.0.0.0/4", own)], to_it, addresses=[own])
+        self.addCleanup(router.end)
+        router.up(0)
+        self.assertEqual((router.tree(group).rp, router.tree(group).path), (own, None))
+        for addresses in ([own, own], ["0.0.0.0"], ["239.1.1.1"], ["10.0.1.1"], ["10.0.1.9"],
+                          [f"10.255.0.{n}" for n in range(1, 18)]):
+            for call in (Router, router.reload):
+                with self.assertRaises(Refused) as caught:
+                    call(INTERFACES, [("224.0.0.0/4", own)], to_it, addresses=addresses)
+                self.assertEqual(caught.exception.answer, Answer.OWN_ADDRESSES)
+                self.assertTrue(caught.exception.answer.is_refused)
+        elsewhere = [("10.8.0.0/16", "10.9.0.1", 0, 110, 20)]
+        with self.assertRaisesRegex(Refused, r"number 0, its next hop is the router's own \(37\)"):
+            router.reload(INTERFACES, RANGES, elsewhere, addresses=["10.9.0.1"])
+        router.reload(INTERFACES, [("224.0.0.0/4", own)], to_it)
+        self.assertEqual(router.tree(group).path.iface, 0)
 
     def test_which_item_of_a_configuration_is_refused(self):
         to_itself = ("10.1.0.0/16", "10.0.1.1", 0, 110, 20)

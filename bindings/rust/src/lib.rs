@@ -42,7 +42,7 @@ pub use trees::{Hop, LanDelay, Link, Neighbour, Path, Querier, Querying, Rpf, Rp
 /// The most bytes that a packet has.
 pub const MOST_BYTES: usize = 1528;
 /// What this crate and the library have to agree on: `VIQ_ABI` of `viqeshor.h`.
-pub const ABI: u32 = 6;
+pub const ABI: u32 = 7;
 
 const DONE: u32 = 0;
 const MEMORY: u32 = 40;
@@ -219,9 +219,8 @@ pub enum QueryVersion {
     Three = 3,
 }
 
-/// What a configuration has beside its lists; `Settings::default()` is what is usual.
-#[repr(C)]
-#[derive(Clone, Copy, Debug, PartialEq, Eq)]
+/// What a configuration has beside its interfaces, routes and ranges; `Settings::default()` is what is usual.
+#[derive(Clone, Debug, PartialEq, Eq)]
 pub struct Settings {
     /// Of facts.
     pub limit: u32,
@@ -235,6 +234,29 @@ pub struct Settings {
     pub last_member_query_interval: u32,
     /// The router never changes to a source's tree.
     pub stays_on_shared_tree: bool,
+    /// The router's own that are of no interface, as a loopback's: at most 16, each a host's, none twice, none of an
+    /// interface or in its subnet.
+    pub addresses: Vec<Ipv4Addr>,
+}
+
+impl Settings {
+    fn given_addresses(&self) -> Vec<u32> {
+        self.addresses.iter().map(|address| (*address).into()).collect()
+    }
+
+    // With these addresses, which have to live as long.
+    fn given(&self, addresses: &[u32]) -> raw::Settings {
+        raw::Settings {
+            limit: self.limit,
+            robustness: self.robustness,
+            query_interval: self.query_interval,
+            query_response_interval: self.query_response_interval,
+            last_member_query_interval: self.last_member_query_interval,
+            stays_on_shared_tree: self.stays_on_shared_tree,
+            addresses: addresses.as_ptr(),
+            address_count: addresses.len(),
+        }
+    }
 }
 
 impl Default for Settings {
@@ -246,6 +268,7 @@ impl Default for Settings {
             query_response_interval: 100,
             last_member_query_interval: 10,
             stays_on_shared_tree: false,
+            addresses: Vec::new(),
         }
     }
 }
@@ -345,6 +368,8 @@ numbered! {
         NotQuiet = 68,
         /// The saved state is damaged: its sum is another one.
         Damaged = 69,
+        /// Own addresses that can't stand.
+        OwnAddresses = 70,
     }
 }
 
@@ -467,15 +492,25 @@ impl fmt::Display for RefusedAt {
     }
 }
 
-/// Which route is refused to a router with these interfaces, and why: after `Refusal::ConfiguredRoutes` or
+/// Which route is refused to a router with these settings and interfaces, and why: after `Refusal::ConfiguredRoutes` or
 /// `Refusal::BadRoutes`. `None` where all can stand.
-pub fn refused_route(interfaces: &[Interface], routes: &[Route]) -> Option<RefusedAt> {
+pub fn refused_route(settings: &Settings, interfaces: &[Interface], routes: &[Route]) -> Option<RefusedAt> {
+    let addresses = settings.given_addresses();
     let interfaces: Vec<_> = interfaces.iter().map(Interface::given).collect();
     let routes: Vec<_> = routes.iter().map(Route::given).collect();
     let mut at = raw::RefusedAt::default();
     // SAFETY: each list is passed as its pointer and its length.
-    let is_refused =
-        unsafe { viq_routes_refused_at(interfaces.as_ptr(), interfaces.len(), routes.as_ptr(), routes.len(), &mut at) };
+    let is_refused = unsafe {
+        viq_routes_refused_at(
+            interfaces.as_ptr(),
+            interfaces.len(),
+            addresses.as_ptr(),
+            addresses.len(),
+            routes.as_ptr(),
+            routes.len(),
+            &mut at,
+        )
+    };
     is_refused.then_some(RefusedAt { index: at.index, reason: at.reason })
 }
 
@@ -773,6 +808,18 @@ mod raw {
     }
 
     #[repr(C)]
+    pub struct Settings {
+        pub limit: u32,
+        pub robustness: u32,
+        pub query_interval: u32,
+        pub query_response_interval: u32,
+        pub last_member_query_interval: u32,
+        pub stays_on_shared_tree: bool,
+        pub addresses: *const u32,
+        pub address_count: usize,
+    }
+
+    #[repr(C)]
     pub struct Route {
         pub prefix: u32,
         pub length: u32,
@@ -829,6 +876,8 @@ extern "C" {
     fn viq_routes_refused_at(
         interfaces: *const raw::Interface,
         interface_count: usize,
+        addresses: *const u32,
+        address_count: usize,
         routes: *const raw::Route,
         count: usize,
         at: *mut raw::RefusedAt,
@@ -849,7 +898,7 @@ extern "C" {
     fn viq_new(
         router: *mut *mut c_void,
         abi: u32,
-        settings: *const Settings,
+        settings: *const raw::Settings,
         interfaces: *const raw::Interface,
         interface_count: usize,
         routes: *const raw::Route,
@@ -859,7 +908,7 @@ extern "C" {
     ) -> u32;
     fn viq_reload(
         router: *mut c_void,
-        settings: *const Settings,
+        settings: *const raw::Settings,
         interfaces: *const raw::Interface,
         interface_count: usize,
         routes: *const raw::Route,
@@ -955,6 +1004,7 @@ impl Router {
         ranges: &[Range],
     ) -> Result<Router, Error> {
         let mut made = null_mut();
+        let addresses = settings.given_addresses();
         let interfaces: Vec<_> = interfaces.iter().map(Interface::given).collect();
         let routes: Vec<_> = routes.iter().map(Route::given).collect();
         let ranges: Vec<_> = ranges.iter().map(Range::given).collect();
@@ -963,7 +1013,7 @@ impl Router {
             viq_new(
                 &mut made,
                 ABI,
-                settings,
+                &settings.given(&addresses),
                 interfaces.as_ptr(),
                 interfaces.len(),
                 routes.as_ptr(),
@@ -990,6 +1040,7 @@ impl Router {
         ranges: &[Range],
         draw: u32,
     ) -> Result<(), Error> {
+        let addresses = settings.given_addresses();
         let interfaces: Vec<_> = interfaces.iter().map(Interface::given).collect();
         let routes: Vec<_> = routes.iter().map(Route::given).collect();
         let ranges: Vec<_> = ranges.iter().map(Range::given).collect();
@@ -997,7 +1048,7 @@ impl Router {
         done(unsafe {
             viq_reload(
                 self.at_mut(),
-                settings,
+                &settings.given(&addresses),
                 interfaces.as_ptr(),
                 interfaces.len(),
                 routes.as_ptr(),

@@ -52,7 +52,7 @@ extern "C" {
     ) -> u32;
     fn viq_record_reload(
         call: *const Call,
-        settings: *const Settings,
+        settings: *const raw::Settings,
         interfaces: *const raw::Interface,
         interface_count: usize,
         routes: *const raw::Route,
@@ -117,15 +117,16 @@ impl Call {
         ranges: &[Range],
         to: &mut Vec<u8>,
     ) -> Result<(), Error> {
+        let addresses = settings.given_addresses();
         let interfaces: Vec<_> = interfaces.iter().map(Interface::given).collect();
         let routes: Vec<_> = routes.iter().map(Route::given).collect();
         let ranges: Vec<_> = ranges.iter().map(Range::given).collect();
-        put(to, 20 * interfaces.len() + 24 * routes.len() + 12 * ranges.len() + 128, |room, size| {
+        put(to, 20 * interfaces.len() + 24 * routes.len() + 12 * ranges.len() + 192, |room, size| {
             // SAFETY: each list and the room are passed as their pointers and their lengths.
             unsafe {
                 viq_record_reload(
                     self,
-                    settings,
+                    &settings.given(&addresses),
                     interfaces.as_ptr(),
                     interfaces.len(),
                     routes.as_ptr(),

@@ -82,12 +82,39 @@ fn configurations_that_are_refused() {
 
 #[test]
 fn which_item_is_refused() {
-    assert_eq!((refused_route(&interfaces(), &routes()), refused_range(&ranges())), (None, None));
+    let usual = Settings::default();
+    assert_eq!((refused_route(&usual, &interfaces(), &routes()), refused_range(&ranges())), (None, None));
     let to_itself = Route { next_hop: address([10, 0, 1, 1]), ..routes()[1] };
-    let at = refused_route(&interfaces(), &[routes()[0], to_itself]).unwrap();
+    let at = refused_route(&usual, &interfaces(), &[routes()[0], to_itself]).unwrap();
     assert_eq!(at, RefusedAt { index: 1, reason: 5 });
+    let own = Settings { addresses: vec![routes()[0].next_hop], ..usual };
+    assert_eq!(refused_route(&own, &interfaces(), &routes()), Some(RefusedAt { index: 0, reason: 5 }));
     assert_eq!(at.to_string(), "number 1, its next hop is the router's own");
     assert_eq!(refused_range(&[ranges()[0]; 2]), Some(RefusedAt { index: 1, reason: 8 }));
+}
+
+/// They are the router's, and no interface has them.
+#[test]
+fn addresses_of_no_interface() {
+    let own = address([10, 255, 0, 1]);
+    let of = |addresses: &[Ipv4Addr]| Settings { addresses: addresses.to_vec(), ..Settings::default() };
+    let ranges = [Range::new(address([224, 0, 0, 0]), 4, own)];
+    let mut router = Router::new(&of(&[own]), &interfaces(), &routes(), &ranges).unwrap();
+    assert_eq!(router.up(0, 0), DONE);
+    router.clear();
+    let towards_rp = |router: &Router| router.tree(address([225, 1, 1, 1])).unwrap().path.map(|path| path.iface);
+    assert_eq!(router.tree(address([225, 1, 1, 1])).unwrap().rp, Some(own));
+    assert_eq!(towards_rp(&router), None);
+    let refused = Err(Error::Refused(Refusal::OwnAddresses));
+    for addresses in [&[own, own][..], &[address([0; 4])], &[interfaces()[1].address], &[address([10, 0, 1, 9])]] {
+        assert_eq!(router.reload(&of(addresses), &interfaces(), &routes(), &ranges, 7), refused);
+        assert_eq!(Router::new(&of(addresses), &interfaces(), &routes(), &ranges).map(|_| ()), refused);
+    }
+    // No route leads to itself, and one leads to an RP that is another router.
+    let to_it = [Route::new(own, 32, address([10, 0, 0, 1]), 0)];
+    assert_eq!((router.set_routes(&to_it, 0), towards_rp(&router)), (DONE, None));
+    router.reload(&of(&[]), &interfaces(), &to_it, &ranges, 7).unwrap();
+    assert_eq!(towards_rp(&router), Some(0));
 }
 
 #[test]
@@ -398,8 +425,9 @@ fn what_is_recorded() {
     wanted.extend(summed(&[vec![b'g'], words(&[7, 0, 1]), words(&range), end.clone()].concat()));
     wanted.extend(summed(&[vec![b'r'], words(&[7, 0, 20]), words(&route).repeat(20), end.clone()].concat()));
     assert_eq!(put, wanted);
-    call.put_reload(&Settings::default(), &interfaces(), &routes(), &ranges(), &mut put).unwrap();
-    assert_eq!(put.len() - wanted.len(), 1 + 4 + 21 + 8 + 3 * 20 + 8 + 2 * 24 + 8 + 12 + 8 + 4);
+    let settings = Settings { addresses: vec![address([10, 255, 0, 1])], ..Settings::default() };
+    call.put_reload(&settings, &interfaces(), &routes(), &ranges(), &mut put).unwrap();
+    assert_eq!(put.len() - wanted.len(), 1 + 4 + 21 + 8 + 3 * 20 + 8 + 4 + 8 + 2 * 24 + 8 + 12 + 8 + 4);
     assert_eq!(put[wanted.len()..][..5], [b'c', 0, 0, 0, 7]);
 }
 

@@ -57,6 +57,7 @@ fn config(
         last_member_query_interval: Config::DEFAULT_LAST_MEMBER_QUERY_INTERVAL,
         routes,
         rps,
+        addresses: Series::new(alloc),
     })
 }
 

@@ -2,7 +2,7 @@
 ghost use Rattle.std.specs.Prelude.{◌≡◌, IfOk, map};
 ghost use Rattle.pim_guard.specs.Guard.{is_stopped};
 ghost use Rattle.lab_stations.specs.Queries.{bytes_heard, hears_queries, kind_heard};
-ghost use Rattle.lab_stations.specs.Stations.{nobody_behind};
+ghost use Rattle.lab_stations.specs.Stations.{nobody_behind, own_addresses};
 
 use crate::line::{GuardedLine, MoveLine, PacketLine, Way};
 use igmp_older::{OlderHosts, Presence, QueryVersion, ResponseTimes, cut_query, give_query};
@@ -46,7 +46,7 @@ pub struct Station {
     name: String,
     /// The link of each interface.
     pub links: Series<Link>,
-    /// The address of each interface.
+    /// The address of each interface, and then those of no interface.
     pub addresses: Series<Addr>,
     /// What the router's front knows of older hosts. Where none are heard the front changes nothing.
     pub presence: Presence,
@@ -67,7 +67,7 @@ impl Station {
         front: FrontText,
     ) -> Result<Station, AllocError>
         ensures links { IfOk result (λ station. station.links ≡ links) }
-        ensures addresses { IfOk result (λ station. station.addresses ≡ map (λ i. i.address) config.now.interfaces) }
+        ensures addresses { IfOk result (λ station. station.addresses ≡ own_addresses config.now) }
         ensures presence { IfOk result (λ station. station.presence ≡ nobody_behind config.now front.older_hosts) }
     {
         let addresses = addresses_of(alloc, config)?;
@@ -299,11 +299,12 @@ fn is_same(left: OlderHosts, right: OlderHosts) -> bool {
 }
 
 fn addresses_of(alloc: Global, config: &Config) -> Result<Series<Addr>, AllocError>
-    ensures { IfOk result (λ addresses. addresses ≡ map (λ i. i.address) config.now.interfaces) }
+    ensures { IfOk result (λ addresses. addresses ≡ own_addresses config.now) }
 {
-    let mut addresses = Series::new(alloc);
+    let mut addresses = Vec::new(alloc);
     for interface in config.interfaces.as_slice() {
         addresses.push(interface.address)?;
     }
-    Ok(addresses)
+    addresses.extend_from_slice(config.addresses.as_slice())?;
+    Ok(Series::from_vec(addresses))
 }

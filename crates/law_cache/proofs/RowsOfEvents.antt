@@ -16,7 +16,7 @@ unfolding is_source_named
 unnamed_fact g src o a e = grind (arith, both_of, not_false, flags)
 
 module _ (o : State) (change : State × List Message) (w : ℕ) (is : IsConfigured o change.0)
-    (few : length o.configured ≤ most_ifaces) (c : Cache) (held : IsCached c o) where
+    (few : length o.configured.interfaces ≤ most_ifaces) (c : Cache) (held : IsCached c o) where
   abbrev after : State
   after = (clear o change.0).0
 
@@ -40,20 +40,20 @@ module _ (o : State) (change : State × List Message) (w : ℕ) (is : IsConfigur
 
 -- ---- events and firings
 
-pub event_keeps_cache : (s : State) (w : ℕ) (a : Accepted) (c : Cache) → length s.configured ≤ most_ifaces → IsCached c s
+pub event_keeps_cache : (s : State) (w : ℕ) (a : Accepted) (c : Cache) → length s.configured.interfaces ≤ most_ifaces → IsCached c s
     → IsCached (refreshed (named_by s (change s w a).state) (done s w (change s w a)).state c)
     (done s w (change s w a)).state
 unfolding done
 event_keeps_cache s w a c few held =
     settled_cached s ((change s w a).state, (change s w a).messages) w (change_configured s w a) few c held
 
-pub firing_keeps_cache : (s : State) (w : ℕ) (e : Ending) (c : Cache) → length s.configured ≤ most_ifaces → IsCached c s
+pub firing_keeps_cache : (s : State) (w : ℕ) (e : Ending) (c : Cache) → length s.configured.interfaces ≤ most_ifaces → IsCached c s
     → IsCached (refreshed (named_by s (own_firing s e)) (fire_once w s e).0 c) (fire_once w s e).0
 unfolding fire_once own_firing
 firing_keeps_cache s w e c few held = grind (arith, settled_cached, firing_configured)
 
 -- where the present alone moves
-pub present_keeps_cache : (s : State) (m : ℕ) (c : Cache) → length s.configured ≤ most_ifaces → IsCached c s
+pub present_keeps_cache : (s : State) (m : ℕ) (c : Cache) → length s.configured.interfaces ≤ most_ifaces → IsCached c s
     → IsCached c (record s { present = m })
 unfolding touching cached
 present_keeps_cache s m c few held g src =

@@ -1,25 +1,25 @@
 -- The rows are kept at any events, of a router from its opening on.
 use Rattle.std.{proofs.Common.{◌≡◌, Bool, true, List, [], ◌∷◌, Ok, Option, is_some, length, ◌≤◌, refl, ap, subst, ◌∙◌, arith}}
 use Rattle.pim_ip.{specs.Ipv4.Packet}
-use Rattle.pim_types.{specs.declared.{config.{Config.Config, InterfaceConfig.InterfaceConfig}, event.Event.Event}}
-use Rattle.pim_model.{specs.{Cache.Plain, declared.accepted.Accepted.Accepted, Full.is_full, Judging.Judged, Limits.{config_test, most_ifaces}, Plain.IsPlainEvent, State.{State, opening}, Step.{ran, state_after, step, taken}, Tables.has_row}}
+use Rattle.pim_types.{specs.declared.{config.Config.Config, event.Event.Event}}
+use Rattle.pim_model.{specs.{Cache.Plain, declared.accepted.Accepted.Accepted, Full.is_full, Judging.Judged, Limits.{config_test, most_ifaces}, Plain.IsPlainEvent, State.{Addressing, State, opening}, Step.{ran, state_after, step, taken}, Tables.has_row}}
 use Rattle.law_settled.{proofs.Accepted.few_interfaces}
 use Rattle.law_scope.{specs.Rest.IsAtRest}
 use Rattle.law_named.{specs.Named.named_of}
 use Rattle.law_cache.{specs.{Decided.{IsDecided, decided_by_answers}, Kept.{Cache, IsCached, cache_after, cache_at_end, cache_concluded, cache_taken, cache_unless_full, is_listed, no_rows, refreshed}}, proofs.{PlainEvents.plain_is_decided, PlainNames.plain_names_none, PlainPackets.known_is_not_full, RowsOfSteps.{opening_is_cached, step_keeps_cache, step_stays_configured}}}
 
-pub run_keeps_cache : (s : State) (events : List Event) (c : Cache) → length s.configured ≤ most_ifaces → IsCached c s
+pub run_keeps_cache : (s : State) (events : List Event) (c : Cache) → length s.configured.interfaces ≤ most_ifaces → IsCached c s
     → IsCached (cache_at_end s events c) (state_after s events)
 unfolding state_after ran cache_at_end
 run_keeps_cache s [] c few held = held
 run_keeps_cache s (e ∷ es) c few held =
     run_keeps_cache (step s e).state es (cache_after s e c)
-    (subst (λ (cs : List InterfaceConfig). length cs ≤ most_ifaces) (step_stays_configured s e) few)
+    (subst (λ (cs : Addressing). length cs.interfaces ≤ most_ifaces) (step_stays_configured s e) few)
     (step_keeps_cache s e c few held)
 
 -- ---- the opening
 
-pub few_opening : (c : Config) → config_test c ≡ Ok tt → length (opening c).configured ≤ most_ifaces
+pub few_opening : (c : Config) → config_test c ≡ Ok tt → length (opening c).configured.interfaces ≤ most_ifaces
 unfolding opening
 few_opening c e = few_interfaces c e
 

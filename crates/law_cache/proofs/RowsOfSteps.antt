@@ -45,7 +45,7 @@ module _ (w : ℕ) where
   -- ---- the rows, firing by firing
 
   abbrev pub IsHeld : Held → Type 0
-  IsHeld h = (length (h.state).configured ≤ most_ifaces) × IsCached h.cache h.state
+  IsHeld h = (length (h.state).configured.interfaces ≤ most_ifaces) × IsCached h.cache h.state
 
   once_keeps : (h : Held) (e : Ending) → IsHeld h → IsHeld (held_once w h e).0
   unfolding held_once
@@ -65,12 +65,12 @@ module _ (w : ℕ) where
 
 -- ---- any event
 
-advance_keeps : (s : State) (w moment : ℕ) (c : Cache) → length s.configured ≤ most_ifaces → IsCached c s
+advance_keeps : (s : State) (w moment : ℕ) (c : Cache) → length s.configured.interfaces ≤ most_ifaces → IsCached c s
     → IsCached (cache_taken s w (Accepted.Advance moment) c) (taken s w (Accepted.Advance moment)).state
 unfolding cache_taken taken advanced
 advance_keeps s w moment c few held = grind (arith, all_keep, held_fires, present_keeps_cache)
 
-pub taken_keeps_cache : (s : State) (w : ℕ) (a : Accepted) (c : Cache) → length s.configured ≤ most_ifaces → IsCached c s
+pub taken_keeps_cache : (s : State) (w : ℕ) (a : Accepted) (c : Cache) → length s.configured.interfaces ≤ most_ifaces → IsCached c s
     → IsCached (cache_taken s w a c) (taken s w a).state
 unfolding cache_taken taken named_of
 taken_keeps_cache s w a c few held = grind (arith, advance_keeps, event_keeps_cache)
@@ -78,7 +78,7 @@ taken_keeps_cache s w a c few held = grind (arith, advance_keeps, event_keeps_ca
 stopped_stays : (P : State → Type 0) (s : State) (stop : Stop) → P s → P (stopped s stop).state
 stopped_stays P s stop f = grind arith
 
-module _ (s : State) (w : ℕ) (c : Cache) (few : length s.configured ≤ most_ifaces) (held : IsCached c s) where
+module _ (s : State) (w : ℕ) (c : Cache) (few : length s.configured.interfaces ≤ most_ifaces) (held : IsCached c s) where
   unless_full : (a : Accepted) (b : Bool)
       → IsCached (cache_unless_full b c (cache_taken s w a c)) (full_or_taken s w a b).state
   unless_full a b = grind (arith, taken_keeps_cache)
@@ -89,7 +89,7 @@ module _ (s : State) (w : ℕ) (c : Cache) (few : length s.configured ≤ most_i
   unfolding taken_unless_full
   concluded_keeps j = grind (arith, stopped_stays, unless_full)
 
-pub step_keeps_cache : (s : State) (e : Event) (c : Cache) → length s.configured ≤ most_ifaces → IsCached c s
+pub step_keeps_cache : (s : State) (e : Event) (c : Cache) → length s.configured.interfaces ≤ most_ifaces → IsCached c s
     → IsCached (cache_after s e c) (step s e).state
 unfolding cache_after step
 step_keeps_cache s e c few held = concluded_keeps s e.draw c few held (judged s e.kind)

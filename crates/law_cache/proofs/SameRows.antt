@@ -26,7 +26,7 @@ facts_same a b x y e same = grind arith
 
 -- ---- answers
 
-module _ (g src : ℕ) (o a : State) (config : IsConfigured o a) (few : length o.configured ≤ most_ifaces)
+module _ (g src : ℕ) (o a : State) (config : IsConfigured o a) (few : length o.configured.interfaces ≤ most_ifaces)
     (kept : KeepsAnswers g src o a) where
   some_state : (r : Option RegisterRow) → is_some (option_map (λ (x : RegisterRow). x.state) r) ≡ is_some r
   some_state r = grind arith

@@ -9,13 +9,13 @@ use Rattle.law_cache.{specs.{Decided.{IsDecided, decided_by_answers}, Kept.{Cach
 
 -- After an event other than Advance, whose named rows are evaluated again, all rows are those of the state.
 abbrev pub EventKeepsCache : Type 0
-EventKeepsCache = (s : State) (w : ℕ) (a : Accepted) (c : Cache) → length s.configured ≤ most_ifaces → IsCached c s
+EventKeepsCache = (s : State) (w : ℕ) (a : Accepted) (c : Cache) → length s.configured.interfaces ≤ most_ifaces → IsCached c s
     → IsCached (refreshed (named_by s (change s w a).state) (done s w (change s w a)).state c)
     (done s w (change s w a)).state
 
 -- After the expiry of a timer, whose named rows are evaluated again, all rows are those of the state.
 abbrev pub FiringKeepsCache : Type 0
-FiringKeepsCache = (s : State) (w : ℕ) (e : Ending) (c : Cache) → length s.configured ≤ most_ifaces → IsCached c s
+FiringKeepsCache = (s : State) (w : ℕ) (e : Ending) (c : Cache) → length s.configured.interfaces ≤ most_ifaces → IsCached c s
     → IsCached (refreshed (named_by s (own_firing s e)) (fire_once w s e).0 c) (fire_once w s e).0
 
 -- The states after each timer that expires one by one lead to the state after the Advance.
@@ -28,17 +28,17 @@ HeldEmits = (w moment : ℕ) (h : Held) → (held_all w moment h).1 ≡ (fire_al
 
 -- The cache's rows are those of the state after each timer that expires in an Advance.
 abbrev pub HeldIsCached : Type 0
-HeldIsCached = (w moment : ℕ) (h : Held) → length (h.state).configured ≤ most_ifaces → IsCached h.cache h.state
+HeldIsCached = (w moment : ℕ) (h : Held) → length (h.state).configured.interfaces ≤ most_ifaces → IsCached h.cache h.state
     → IsCached ((held_all w moment h).0).cache ((held_all w moment h).0).state
 
 -- The cache's rows are those of the state after any accepted event.
 abbrev pub TakenKeepsCache : Type 0
-TakenKeepsCache = (s : State) (w : ℕ) (a : Accepted) (c : Cache) → length s.configured ≤ most_ifaces → IsCached c s
+TakenKeepsCache = (s : State) (w : ℕ) (a : Accepted) (c : Cache) → length s.configured.interfaces ≤ most_ifaces → IsCached c s
     → IsCached (cache_taken s w a c) (taken s w a).state
 
 -- The cache's rows are those of the state after any event.
 abbrev pub StepKeepsCache : Type 0
-StepKeepsCache = (s : State) (e : Event) (c : Cache) → length s.configured ≤ most_ifaces → IsCached c s
+StepKeepsCache = (s : State) (e : Event) (c : Cache) → length s.configured.interfaces ≤ most_ifaces → IsCached c s
     → IsCached (cache_after s e c) (step s e).state
 
 -- No event changes what is configured.
@@ -64,7 +64,7 @@ PlainLeavesRows = (s : State) (e : Event) (p : Packet) (how : Plain) → IsAtRes
 
 -- The cache's rows are those of the state after any list of events.
 abbrev pub RunKeepsCache : Type 0
-RunKeepsCache = (s : State) (events : List Event) (c : Cache) → length s.configured ≤ most_ifaces → IsCached c s
+RunKeepsCache = (s : State) (events : List Event) (c : Cache) → length s.configured.interfaces ≤ most_ifaces → IsCached c s
     → IsCached (cache_at_end s events c) (state_after s events)
 
 -- A router's rows, none at the opening, are those of its state after any list of events.

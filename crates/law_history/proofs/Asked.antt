@@ -2,7 +2,7 @@
 use Rattle.std.{proofs.Common.{ℕ, ◌+◌, List, [], ◌∷◌, refl, sym, subst}}
 use Rattle.pim_types.{specs.declared.{config.Config.Config, event.Event.Event}}
 use Rattle.law_scope.{specs.Rest.IsAtRest, proofs.Rest.{opening_is_at_rest, step_is_at_rest}}
-use Rattle.pim_model.{specs.{Cause.{OutcomesAreAsked, Past, past_after}, Registers.keepalive_period, State.{State, opening}, Step.{ran, rps_replaced, run, state_after, step}}}
+use Rattle.pim_model.{specs.{Cause.{OutcomesAreAsked, Past, past_after}, Registers.keepalive_period, State.{addressing_of, State, opening}, Step.{ran, rps_replaced, run, state_after, step}}}
 use Rattle.law_causes.{proofs.{Asks.IsAsked, Fired.{all_same, settled_asked}, Past.CausedBy, Same.Same, Steps.{opening_asked, step_asked}}}
 use Rattle.law_plane.{specs.Keeping.{keep, kept_until}, proofs.Keeps.{keep_by, keep_is_at_rest}}
 use Rattle.law_reloaded.{specs.Reloading.{hellos_anew, reload, removals, replaced, under}, proofs.Rest.reload_leaves_rest}
@@ -40,7 +40,7 @@ unfolding reload replaced state_after
 reload_asked past s c w f rest =
     let after : Past = past_after past s (removals s c w) in
     let t : State = state_after s (removals s c w) in
-    settled_asked (CausedBy after) t (under t c, hellos_anew t c.interfaces) w
+    settled_asked (CausedBy after) t (under t c, hellos_anew t (addressing_of c)) w
     (all_same (CausedBy after) t (under t c) (under_same t c) (run_asked (removals s c w) past s f rest))
 
 -- ---- what a plane reports

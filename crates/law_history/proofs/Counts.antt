@@ -4,7 +4,7 @@ use Rattle.pim_types.{specs.{Keys.source_key, declared.{config.Config.Config, ev
 use Rattle.law_scope.{specs.Rest.IsAtRest, proofs.Rest.{opening_is_at_rest, step_is_at_rest}}
 use Rattle.law_settled.{specs.Ready.IsSettled, proofs.{ListLaws.each_filter, StepLaws.kept_by_run}}
 use Rattle.law_restored.{specs.Reload.config_of}
-use Rattle.pim_model.{specs.{Full.counted, Limits.config_test, Registers.keepalive_period, State.{State, iface_count, opening}, Step.{rps_replaced, state_after, step}, Tables.{has_row}}}
+use Rattle.pim_model.{specs.{Full.counted, Limits.config_test, Registers.keepalive_period, State.{addressing_of, State, iface_count, opening}, Step.{rps_replaced, state_after, step}, Tables.{has_row}}}
 use Rattle.law_promises.{specs.Bounded.counted_beside_asserts, proofs.{Few.{Covered, Holds, Named, Spread, asserts_few, configured_some, holds_on, opening_holds}, Keyed.{Kept, kept_sources, settled_kept, under_put}, KeyedEvents.row_under}}
 use Rattle.law_plane.{specs.Keeping.{keep, kept_until}, proofs.Keeps.{keep_by, keep_is_at_rest, running, running_there}}
 use Rattle.law_reloaded.{specs.Reloading.{asserts_under, hellos_anew, is_won_before, reload, removals, replaced, under}, proofs.{Ground.reload_is_under, Rest.reload_leaves_rest}}
@@ -41,7 +41,7 @@ module _ (n limit : ℕ) (some : 1 ≤ n) where
   under_few : (s : State) (c : Config) (ks : List Key) → Kept (Named n ks) (Spread n ks) s → Kept (Named n ks) (Spread n ks) (under s c)
   unfolding under rps_replaced asserts_under
   under_few s c ks f = record {
-    asserts = each_filter (λ e. Named n ks e.0) (λ e. not (is_won_before s c.interfaces e)) s.asserts f.asserts;
+    asserts = each_filter (λ e. Named n ks e.0) (λ e. not (is_won_before s (addressing_of c) e)) s.asserts f.asserts;
     downstream = f.downstream;
     groups = f.groups;
     sources = f.sources;
@@ -60,7 +60,7 @@ module _ (n limit : ℕ) (some : 1 ≤ n) where
   replaced_few s c w f = record {
     keys = f.keys;
     short = f.short;
-    kept = settled_kept (Named n f.keys) (Spread n f.keys) s (under s c, hellos_anew s c.interfaces) w (under_few s c f.keys f.kept);
+    kept = settled_kept (Named n f.keys) (Spread n f.keys) s (under s c, hellos_anew s (addressing_of c)) w (under_few s c f.keys f.kept);
   }
 
   reload_covered : (s : State) (c : Config) (w : ℕ) → Few s → Covered n limit (reload s c w).0

@@ -3,7 +3,7 @@ use Rattle.std.{proofs.Common.{◌≡◌, ⊎_elim, ◌+◌, ◌≤◌, ℕ, max
 use Rattle.pim_types.{specs.{Keys.source_key, declared.{config.{Config.Config, Settings.Settings}, event.Event.Event, outcome.Stop.Stop}}}
 use Rattle.law_scope.{specs.Rest.IsAtRest, proofs.Rest.{opening_is_at_rest, step_is_at_rest}}
 use Rattle.law_settled.{proofs.{RisingKeys.up_of_sorted, UnchangedLaws.full_or_taken}}
-use Rattle.pim_model.{specs.{declared.accepted.Accepted.Accepted, Full.{counted, is_full}, Judging.{Judged, judged}, State.{State, opening, settings_of}, Registers.keepalive_period, Sets.spt_bit, Step.{concluded, ran, rps_replaced, state_after, step, taken, taken_unless_full}, Tables.has_row}}
+use Rattle.pim_model.{specs.{declared.accepted.Accepted.Accepted, Full.{counted, is_full}, Judging.{Judged, judged}, State.{addressing_of, State, opening, settings_of}, Registers.keepalive_period, Sets.spt_bit, Step.{concluded, ran, rps_replaced, state_after, step, taken, taken_unless_full}, Tables.has_row}}
 use Rattle.law_promises.{specs.Bounded.{AddsAtMost, AddsNone, counted_beside_asserts, needed_by, needed_of}, proofs.{Bounded.{adds_what_is_needed, has_room}, Counting.put_there, Fewer.settled_none, Within.room}}
 use Rattle.law_plane.{specs.Keeping.{keep, keepalive_end, kept_until}, proofs.Keeps.{keep_by, keep_is_at_rest, running, running_there}}
 use Rattle.law_reloaded.{specs.Reloading.{hellos_anew, reload, removals, replaced, under}, proofs.Rest.reload_leaves_rest}
@@ -92,7 +92,7 @@ greater a b = omega arith
 replaced_under : (limit : ℕ) (s : State) (c : Config) (w : ℕ) → IsUnder limit s → IsUnder (max limit c.limit) (replaced s c w).0
 unfolding replaced
 replaced_under limit s c w f =
-    let none : AddsNone (under s c) (replaced s c w).0 = settled_none s (under s c, hellos_anew s c.interfaces) w in
+    let none : AddsNone (under s c) (replaced s c w).0 = settled_none s (under s c, hellos_anew s (addressing_of c)) w in
     record {
       facts = no_longer (max limit c.limit) (under s c) (replaced s c w).0 none
           (subst (λ (n : ℕ). n ≤ max limit c.limit) (sym (moved_facts s c)) (lower limit c.limit s f).facts);

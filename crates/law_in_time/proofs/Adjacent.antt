@@ -1,9 +1,9 @@
 -- A router whose Hellos come in time stays a neighbour: by Refresh, the Hello timer and the neighbour's row.
 use Rattle.std.{proofs.{Common.{◌≡◌, ◌∙◌, ℕ, ◌+◌, ◌*◌, ◌<◌, ◌≤◌, nat_le, true, false, List, [], ◌∷◌, ◌⊎◌, inl, inr, Option, Some, None, Ok, is_some, refl, sym, ap, subst, arith}, lemmas.Bool.{Decides.nat_tests}}}
 use Rattle.pim_ip.{specs.Addr.addr}
-use Rattle.pim_types.{specs.{Keys.{iface_key}, declared.{config.{IfaceId.IfaceId, InterfaceConfig.InterfaceConfig}, event.{Event.Event, EventKind.EventKind}, fact.InterfaceRow.InterfaceRow}}}
+use Rattle.pim_types.{specs.{Keys.{iface_key}, declared.{config.IfaceId.IfaceId, event.{Event.Event, EventKind.EventKind}, fact.InterfaceRow.InterfaceRow}}}
 use Rattle.pim_wire.{specs.Hellos.hello_holdtime}
-use Rattle.pim_model.{specs.{declared.accepted.Accepted.Accepted, Cause.done_as, Full.{hello_is_full, is_full}, Judging.judged, Network.{Move, Network, Station, frame_at, moved, station_at}, State.{State, address_among, is_up}, Step.step, Tables.{has_row, row_at}}}
+use Rattle.pim_model.{specs.{declared.accepted.Accepted.Accepted, Cause.done_as, Full.{hello_is_full, is_full}, Judging.judged, Network.{Move, Network, Station, frame_at, moved, station_at}, State.{Addressing, State, address_among, is_up}, Step.step, Tables.{has_row, row_at}}}
 use Rattle.law_scope.{specs.Rest.IsAtRest}
 use Rattle.law_promises.{specs.Copies.happens, proofs.Settings.step_configured}
 use Rattle.law_served.{proofs.{Deliveries.{IsNewOn, IsStepped, is_delivered}, Passes.done_if}}
@@ -66,7 +66,7 @@ module _ (d : ℕ) (started : ℕ → ℕ) (c : Adjacent) (few : d < 37500) wher
   abbrev Outlasts : ℕ → Network → Move → Type 0
   Outlasts l n m = Unit {0}
 
-  module _ (cs : List InterfaceConfig) (generation number sent : ℕ) (own : address_among cs c.iface ≡ c.address) (readable : IsReadable cs c.iface) where
+  module _ (cs : Addressing) (generation number sent : ℕ) (own : address_among cs c.iface ≡ c.address) (readable : IsReadable cs c.iface) where
     abbrev framed_at : Network → Type 0
     framed_at n = frame_at n number ≡ Some (record { link = Some c.link; bytes = hello_of cs c.iface generation })
 
@@ -185,11 +185,11 @@ module _ (d : ℕ) (started : ℕ → ℕ) (c : Adjacent) (few : d < 37500) wher
       t = record st { state = (step s w.event).state }
 
       own_then : address_among ((step s w.event).state).configured c.iface ≡ c.address
-      own_then = ap (λ (cs : List InterfaceConfig). address_among cs c.iface) (sym (step_configured s w.event).configured) ∙ here.own
+      own_then = ap (λ (cs : Addressing). address_among cs c.iface) (sym (step_configured s w.event).configured) ∙ here.own
 
       readable_then : IsReadable ((step s w.event).state).configured c.iface
       readable_then =
-          subst (λ (cs : List InterfaceConfig). IsReadable cs c.iface) (step_configured s w.event).configured here.readable
+          subst (λ (cs : Addressing). IsReadable cs c.iface) (step_configured s w.event).configured here.readable
 
       told : (generation : ℕ) → (new : IsNewOn n after c.link (hello_of ((step s w.event).state).configured c.iface generation))
           → HelloComesBy d started c (new.on).number (time_at started c.lower t) after ms

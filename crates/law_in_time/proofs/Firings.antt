@@ -1,7 +1,7 @@
 -- Time at the lower router: its Join timer ends no later, or a Join leaves, and then it ends within 60 s.
 use Rattle.std.{proofs.Common.{◌≡◌, ◌∙◌, ℕ, ◌+◌, ◌≤◌, ◌&&◌, Bool, true, false, List, [], ◌⊎◌, inl, inr, take, filter, Option, Some, None, refl, sym, ap, subst, arith}, specs.{List.Contains, Option.option_map_or}}
-use Rattle.pim_types.{specs.{Keys.{neighbour_key, same_key, source_key, star_key}, declared.{config.InterfaceConfig.InterfaceConfig, fact.{JoinTimerRow.JoinTimerRow, Key.Key, NeighbourRow.NeighbourRow}, outcome.Emission.Emission, path.{Hop.Hop, Path.Path}, timer.TimerKind.TimerKind}}, proofs.Keys.equal_keys}
-use Rattle.pim_model.{specs.{Desires.rpf_star, Downstream.downstream_expired, Firing.{fire_once, fire_row, fired, keepalive_due, settled}, Hellos.{hello_due, neighbour_due}, Messages.Message, Neighbours.{nbr, nbr_among}, Querier.{general_query_due, group_record_due, group_repeat_due, other_querier_gone, querying_on, source_record_due, source_repeat_due, sources_sent}, Reach.own_firing, Records.{with_members, with_repeats_of_rows}, Registers.register_due, Sets.{assert_star, is_loser}, State.{State, address_among, my_address}, Tables.{Table, has_row, row_at}, Timers.{Ending, ending}, Unicast.{rp_of, rp_route, rpf_interface_rp}, Upstream.{fact_keys, is_pruned_with_star, join_timer_due, most_pruned, override_timer_due, periodic_end, pruned_with_star, sources_of}, Writing.on_link}}
+use Rattle.pim_types.{specs.{Keys.{neighbour_key, same_key, source_key, star_key}, declared.{fact.{JoinTimerRow.JoinTimerRow, Key.Key, NeighbourRow.NeighbourRow}, outcome.Emission.Emission, path.{Hop.Hop, Path.Path}, timer.TimerKind.TimerKind}}, proofs.Keys.equal_keys}
+use Rattle.pim_model.{specs.{Desires.rpf_star, Downstream.downstream_expired, Firing.{fire_once, fire_row, fired, keepalive_due, settled}, Hellos.{hello_due, neighbour_due}, Messages.Message, Neighbours.{nbr, nbr_among}, Querier.{general_query_due, group_record_due, group_repeat_due, other_querier_gone, querying_on, source_record_due, source_repeat_due, sources_sent}, Reach.own_firing, Records.{with_members, with_repeats_of_rows}, Registers.register_due, Sets.{assert_star, is_loser}, State.{Addressing, State, address_among, my_address}, Tables.{Table, has_row, row_at}, Timers.{Ending, ending}, Unicast.{rp_of, rp_route, rpf_interface_rp}, Upstream.{fact_keys, is_pruned_with_star, join_timer_due, most_pruned, override_timer_due, periodic_end, pruned_with_star, sources_of}, Writing.on_link}}
 use Rattle.law_settled.{proofs.{RowLaws.{has_row_without, row_change_away}, LawfulFiring.one_firing_is_lawful, Unsettled.settling_leaves}, specs.Ready.IsLawful}
 use Rattle.law_scope.{specs.Locality.IsQuiet, proofs.Rest.one_firing_quiets}
 use Rattle.law_promises.{proofs.Lasting.{assert_lasting, pending_lasting}}
@@ -232,7 +232,7 @@ module _ (join : Join) (g m from : ℕ) (hop : Hop) (b : State) (own : my_addres
   abbrev Has : List Emission → Type 0
   Has sent = SendsJoin join g from hop sent
 
-  by_address : (cs : List InterfaceConfig) (sent : List Emission) (pruned : List ℕ) → cs ≡ b.configured
+  by_address : (cs : Addressing) (sent : List Emission) (pruned : List ℕ) → cs ≡ b.configured
       → Contains sent (on_link hop.iface.number (join_packet (address_among cs hop.iface.number) hop.address.bits g (entry_of join) (prunes_of pruned)))
       → Has sent
   by_address cs sent pruned same c = grind arith

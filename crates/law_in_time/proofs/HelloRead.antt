@@ -2,9 +2,9 @@
 use Rattle.std.{proofs.{Common.{◌≡◌, ◌∙◌, ℕ, ◌+◌, ◌*◌, ◌≤◌, ◌^◌, ◌%◌, nat_lt, true, false, List, [], length, Some, Ok, refl, sym, ap, subst, arith, append-nil}, lemmas.Bool.Decides.nat_tests}, specs.Int.byte_at}
 use Rattle.pim_ip.{specs.{declared.addr.Addr.Addr, Checksum.with_checksum, Ipv4.{Packet, all_pim_routers, frame_limit, header_text, ipv4_reading, is_source, packet_limit, pim_packet_text, protocol_pim}, View.written_packet}, proofs.ViewLemmas.written_reads}
 use Rattle.byteorder.{specs.Endian.big_bytes}
-use Rattle.pim_types.{specs.declared.{config.{IfaceId.IfaceId, InterfaceConfig.InterfaceConfig}, event.{Event.Event}}}
+use Rattle.pim_types.{specs.declared.{config.IfaceId.IfaceId, event.{Event.Event}}}
 use Rattle.pim_wire.{specs.{Encoded.pim_text, Hellos.hello_text, Messages.pim_reading, declared.{hello.Hello.Hello as HelloValue, view.PimView.PimView}}, proofs.Laws.hello_reads}
-use Rattle.pim_model.{specs.{declared.accepted.Accepted.Accepted, Cause.done_as, Hellos.{hello_holdtime_of, hello_received, hello_triggered, neighbour_replaced, neighbour_restarted}, Judging.{frame_judged, hello_judged, judged, packet_judged, pim_judged, pim_message_judged}, Messages.Message, State.{State, address_among, value_among}, Step.{Answered, change, done, step}}}
+use Rattle.pim_model.{specs.{declared.accepted.Accepted.Accepted, Cause.done_as, Hellos.{hello_holdtime_of, hello_received, hello_triggered, neighbour_replaced, neighbour_restarted}, Judging.{frame_judged, hello_judged, judged, packet_judged, pim_judged, pim_message_judged}, Messages.Message, State.{Addressing, State, address_among, value_among}, Step.{Answered, change, done, step}}}
 use Rattle.law_settled.{proofs.Unsettled.{Unsettled, settling_leaves}}
 use Rattle.law_promises.{specs.Copies.happens, proofs.Made.step_taken}
 use Rattle.law_served.{proofs.{Leaves.taken_is_done, ReadBack.within_range}}
@@ -23,7 +23,7 @@ third g = omega arith
 fourth : (g : ℕ) → byte_at 3 g ≡ byte_at 3 (g % 2 ^ 32)
 fourth g = omega arith
 
-module _ (cs : List InterfaceConfig) (j generation : ℕ) (f : IsReadable cs j) where
+module _ (cs : Addressing) (j generation : ℕ) (f : IsReadable cs j) where
   abbrev from : ℕ
   from = address_among cs j
 

@@ -1,9 +1,9 @@
 -- No event and no firing changes the settings or what is configured, and none but new routes and RP ranges changes
 -- these.
 use Rattle.std.{proofs.Common.{◌≡◌, ℕ, suc, ◌≤◌, Bool, true, false, List, [], ◌∷◌, Some, max, refl, sym, ap, arith}, specs.List.list_any}
-use Rattle.pim_types.{specs.{declared.{config.{InterfaceConfig.InterfaceConfig, Route.Route, RpRange.RpRange, Settings.Settings}, fact.Key.Key, timer.TimerKind.TimerKind}, Keys.{group_in, star_key}}}
+use Rattle.pim_types.{specs.{declared.{config.{Route.Route, RpRange.RpRange, Settings.Settings}, fact.Key.Key, timer.TimerKind.TimerKind}, Keys.{group_in, star_key}}}
 use Rattle.pim_wire.{specs.declared.hello.Hello.Hello as HelloValue}
-use Rattle.pim_model.{specs.{declared.accepted.Accepted.Accepted, Firing.fired, Hellos.{hello_received, hello_triggered, neighbour_due, neighbour_replaced, neighbour_restarted}, Querier.{querier_up, querying}, Reach.own_firing, State.State, Step.{change, iface_down, iface_up, rps_replaced}, Timers.Ending}}
+use Rattle.pim_model.{specs.{declared.accepted.Accepted.Accepted, Firing.fired, Hellos.{hello_received, hello_triggered, neighbour_due, neighbour_replaced, neighbour_restarted}, Querier.{querier_up, querying}, Reach.own_firing, State.{Addressing, State}, Step.{change, iface_down, iface_up, rps_replaced}, Timers.Ending}}
 use Rattle.law_scope.{specs.{Events.touched_by_event, Locality.{AgreesBut, touching}, Scopes.{reads, scope}, Touches.{isnt_neighbour, touched_by}}, proofs.{EventLaws.change_touches, SilentEvents.timer_touches}}
 use Rattle.law_named.{proofs.Reached.IsConfigured}
 
@@ -30,7 +30,7 @@ untouched keys = none_read (beyond keys) keys (omega arith)
 -- what an event leaves, but for new routes and RP ranges
 pub record Ground : Type 0 where
   pub settings : Settings
-  pub configured : List InterfaceConfig
+  pub configured : Addressing
   pub routes : List Route
   pub ranges : List RpRange
 

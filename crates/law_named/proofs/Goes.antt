@@ -1,8 +1,8 @@
 -- What goes after a change of neighbours, and which registers are settled, is of the touched keys. With the neighbours
 -- that there were each state on the way agrees with the opening on all other keys.
 use Rattle.std.{proofs.{Common.{◌≡◌, ◌&&◌, ◌||◌, ℕ, Bool, true, false, not, cond, List, ◌++◌, Some, refl, sym, ap, ◌∙◌, eq-eqb, arith}, lemmas.List.Folds.{list_all-append, list_any-append}}, specs.{Cmp.{first_so, second_so, Derive.both_true}, List.list_all, Option.option_map_or}}
-use Rattle.pim_types.{specs.{declared.{config.InterfaceConfig.InterfaceConfig, fact.{AssertRow.AssertRow, Key.Key, NeighbourRow.NeighbourRow, SourceRow.SourceRow}, path.Path.Path}, Keys.{group_in, iface_in, is_star, source_in, source_key, star_key}}}
-use Rattle.pim_model.{specs.{Asserts.{assert_forgotten, without_spt_bit}, Clearing.{ClearAssert, ClearSptBit, Cleared, assert_must_go, assert_to_clear, clear, clear_all, clearable_count, cleared, spt_must_go, spt_to_clear, to_clear}, Neighbours.{is_dr, is_dr_among, is_neighbour}, Receivers.{is_exclude, local_receiver_include}, Registers.{could_register, settle_registers}, Sets.is_winner, State.{State, address_among, value_among}, Tables.{Table, keys_in, rows_on}, Unicast.route, Upstream.fact_keys}}
+use Rattle.pim_types.{specs.{declared.{fact.{AssertRow.AssertRow, Key.Key, NeighbourRow.NeighbourRow, SourceRow.SourceRow}, path.Path.Path}, Keys.{group_in, iface_in, is_star, source_in, source_key, star_key}}}
+use Rattle.pim_model.{specs.{Asserts.{assert_forgotten, without_spt_bit}, Clearing.{ClearAssert, ClearSptBit, Cleared, assert_must_go, assert_to_clear, clear, clear_all, clearable_count, cleared, spt_must_go, spt_to_clear, to_clear}, Neighbours.{is_dr, is_dr_among, is_neighbour}, Receivers.{is_exclude, local_receiver_include}, Registers.{could_register, settle_registers}, Sets.is_winner, State.{Addressing, State, address_among, value_among}, Tables.{Table, keys_in, rows_on}, Unicast.route, Upstream.fact_keys}}
 use Rattle.law_settled.{proofs.{ListLaws.{each_both, each_of_list, list_of_each}, TurnLaws.kept_to_the_end}}
 use Rattle.law_scope.{specs.{Locality.{AgreesBut, IsQuiet, is_register_settled, touched_assert, touched_clear, touched_registers, touched_spt, touched_to_clear, touching}, Scopes.{reads, scope}}, proofs.{Asserts.{assert_must_go_local, could_register_here, place_read, spt_must_go_local, stars_read}, Clearing.{all_agreed, found_narrowed, narrowed}, Registers.all_keys, SharedMacros.route_local, SourceMacros.{cut_kept, cut_register, local_include_local}, StarMacros.{cut_assert, is_exclude_local}, TouchedUpstream.reads_star, TouchedClearing.{chosen_is_touched, cleared_agrees}, Touches.touching_is_closed, Turns.same_repetition, UntoldKeys.same_by_scope, SameRows.{flags, flags_same}}}
 use Rattle.law_named.{proofs.{Configured.configured_beside, Fewer.{all_stay, in_three, others}, OtherNeighbours.{SameLinkDr, SameSourceDr, SameStarDr, could_at_so, could_register_so, desired_so, exclude_as, local_include_as, metric_at_so, route_as, rpf_at_so, tracking_at_so}, Registered.{Stays, idles, settled_of_touched, stays_all}}, specs.Adjacent.{AdjoinsAlone, has_link_dr, is_touched_where_link_differs, keeps_winner, with_neighbour_rows}}
@@ -42,7 +42,7 @@ module _ (keys : List Key) (o c : State) (quiet : IsQuiet o) (adjoins : AdjoinsA
   configured_as = (configured_beside keys o (before c) adjoins.agrees).configured
 
   module _ (t : State) (way : OnTheWay t) where
-    abbrev dr_of : List InterfaceConfig → Table NeighbourRow → ℕ → Bool
+    abbrev dr_of : Addressing → Table NeighbourRow → ℕ → Bool
     dr_of configs rows i =
         is_dr_among (value_among (λ c. c.priority) configs i) (address_among configs i) (rows_on i rows)
 

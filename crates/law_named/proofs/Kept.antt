@@ -144,13 +144,13 @@ narrower d e x z same = grind (arith, no_matter)
 
 -- ---- (*,G)
 
-module _ (g : ℕ) (o a : State) (config : IsConfigured o a) (few : length o.configured ≤ most_ifaces) where
+module _ (g : ℕ) (o a : State) (config : IsConfigured o a) (few : length o.configured.interfaces ≤ most_ifaces) where
   pub empty_same : (f h : Set) → ((i : ℕ) → Low i → f i ≡ h i) → is_empty o f ≡ is_empty a h
   unfolding is_empty
   empty_same f h same = grind (arith, any_same, nat_tests)
 
   my_address_same : (i : ℕ) → my_address o i ≡ my_address a i
-  my_address_same i = λ j. option_map_or (λ (c : InterfaceConfig). c.address.bits) (slice_get (config.configured j) i) 0
+  my_address_same i = λ j. option_map_or (λ (c : InterfaceConfig). c.address.bits) (slice_get (config.configured j).interfaces i) 0
 
   own_same : (x : ℕ) → is_own o x ≡ is_own a x
   own_same x = λ j. is_own_among (config.configured j) x
@@ -384,6 +384,6 @@ module _ (g : ℕ) (o a : State) (config : IsConfigured o a) (few : length o.con
     }
 
 pub unnamed_keeps : (g src : ℕ) (o a : State) → o.settings ≡ a.settings → o.configured ≡ a.configured
-    → length o.configured ≤ most_ifaces → is_source_named g src o a ≡ false → KeepsAnswers g src o a
+    → length o.configured.interfaces ≤ most_ifaces → is_source_named g src o a ≡ false → KeepsAnswers g src o a
 unfolding is_source_named is_same_beside
 unnamed_keeps g src o a settings configured few unnamed = grind (arith, both_of, not_false, keeps, same_source, flags)

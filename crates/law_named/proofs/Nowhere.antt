@@ -1,8 +1,8 @@
 -- A neighbour whose address is no next hop, no RP and no source with a fact: no path leads to it.
 use Rattle.std.{proofs.{Common.{◌≡◌, ◌==◌, ◌&&◌, ◌||◌, ℕ, Bool, true, false, List, [], ◌∷◌, filter, Option, Some, None, is_some, refl, arith}, Math.Bool.and-false}, specs.{List.{flat_map, list_any}, Option.option_map_or, Prelude.{if◌then◌else◌, option_and_then, option_map}}}
 use Rattle.pim_ip.{specs.{Ipv4.is_source_specific, Prefixes.{longer, longest_match}, declared.addr.Prefix.Prefix}}
-use Rattle.pim_types.{specs.{declared.{config.{InterfaceConfig.InterfaceConfig, Route.Route, RpRange.RpRange}, fact.{InterfaceRow.InterfaceRow, Key.Key}, path.Path.Path}, Keys.source_in}}
-use Rattle.pim_model.{specs.{State.State, Tables.Table, Unicast.{link_path, path_if_up, route, route_among, route_path, routed_among, rp_among, rp_of, rp_route}, Upstream.{fact_keys, groups_of, sources_of}}}
+use Rattle.pim_types.{specs.{declared.{config.{Route.Route, RpRange.RpRange}, fact.{InterfaceRow.InterfaceRow, Key.Key}, path.Path.Path}, Keys.source_in}}
+use Rattle.pim_model.{specs.{State.{Addressing, State}, Tables.Table, Unicast.{link_path, path_if_up, route, route_among, route_path, routed_among, rp_among, rp_of, rp_route}, Upstream.{fact_keys, groups_of, sources_of}}}
 use Rattle.law_settled.{proofs.{ListLaws.any_more, Numbers.any_ascending, TableLaws.{any_in_filter, any_of_map}}}
 use Rattle.law_named.{specs.Adjacent.{leads_to, led_keys, led_of_group, led_sources, may_lead}}
 
@@ -38,7 +38,7 @@ module _ {X : Type 0} (prefix_of : X → Prefix) (test : X → Bool) where
 
 -- ---- a route to another address
 
-module _ (configured : List InterfaceConfig) (up : Table InterfaceRow) (routes : List Route) (i address : ℕ)
+module _ (configured : Addressing) (up : Table InterfaceRow) (routes : List Route) (i address : ℕ)
     (no_hop : list_any (λ (r : Route). r.next_hop.bits == address) routes ≡ false) where
   over_interface : (r : Route) (b : Bool) → (r.next_hop.bits == address) ≡ false
       → leads_to i address (if b then Some (route_path r) else None) ≡ false

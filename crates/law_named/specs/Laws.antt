@@ -54,16 +54,16 @@ FiredAreFew = (s : State) (e : Ending) → is_calm s (own_firing s e) ≡ true
 -- a source that isn't named keeps its answers
 abbrev pub UnnamedKeeps : Type 0
 UnnamedKeeps = (g src : ℕ) (o a : State) → o.settings ≡ a.settings → o.configured ≡ a.configured
-    → length o.configured ≤ most_ifaces → is_source_named g src o a ≡ false → KeepsAnswers g src o a
+    → length o.configured.interfaces ≤ most_ifaces → is_source_named g src o a ≡ false → KeepsAnswers g src o a
 
 -- A source that isn't named keeps its answers to the end of an event, and through the expiry of a timer.
 abbrev pub EventKeeps : Type 0
-EventKeeps = (s : State) (w : ℕ) (a : Accepted) → length s.configured ≤ most_ifaces → (g src : ℕ)
+EventKeeps = (s : State) (w : ℕ) (a : Accepted) → length s.configured.interfaces ≤ most_ifaces → (g src : ℕ)
     → is_source_named g src s (clear s (change s w a).state).0 ≡ false
     → KeepsAnswers g src s (done s w (change s w a)).state
 
 abbrev pub FiringKeeps : Type 0
-FiringKeeps = (s : State) (w : ℕ) (e : Ending) → length s.configured ≤ most_ifaces → (g src : ℕ)
+FiringKeeps = (s : State) (w : ℕ) (e : Ending) → length s.configured.interfaces ≤ most_ifaces → (g src : ℕ)
     → is_source_named g src s (clear s (own_firing s e)).0 ≡ false → KeepsAnswers g src s (fire_once w s e).0
 
 -- From a quiet state, the sources that are named among those that an event touches are all that it names.

@@ -4,7 +4,7 @@ use Rattle.pim_types.{specs.{Keys.{is_on, same_key}, declared.{config.Config.Con
 use Rattle.pim_ip.{specs.Ipv4.Packet}
 use Rattle.pim_wire.{specs.{declared.{assert.Assert.Assert as AssertMessage, hello.Hello.Hello as HelloValue}, Values.{Encapsulated, JoinPrune, Null}}}
 use Rattle.igmp_wire.{specs.Values.{Query as QueryValue, Record}}
-use Rattle.pim_model.{specs.{declared.accepted.Accepted.Accepted, Asserts.{assert_as_loser, assert_as_winner, assert_at, assert_due, assert_forgotten, assert_in_no_info, assert_received, data_seen, loser_time, loses, loses_first, winner_time, wins, wins_again, with_spt_bit, without_spt_bit}, Clearing.clear, Downstream.{asserts_after_joins, downstream_expired, keys_taken, prune_pending_due, to_me}, Firing.{fire_row, fired, keepalive_due, settled}, Forwarding.{forwarded, list_chosen, register_at_rp, register_received, source_here, source_joined, spt_updated, stray, watched}, Hellos.{hello_due, hello_received, hello_triggered, neighbour_due, neighbour_replaced, neighbour_restarted}, Messages.Message, Querier.{general_query_due, group_record_due, group_repeat_due, is_querier, is_skipped, lower_group, lower_queried, lower_sources, other_querier_gone, querier_elected, querier_up, query_asked, query_group, query_seen, query_sources, querying, querying_on, record_seen, report_seen, send_sources, source_record_due, source_repeat_due, sources_sent}, Records.{Asked, with_members, with_record, with_repeats_of_rows}, Registers.{register_due, register_stop_seen, settle_register, settle_registers, with_keepalive}, Seen.{cancel_override_timer, lower_join_timer, lower_override_timer, raise_join_timer, seen}, State.{State, opening}, Step.{change, iface_down, iface_up, rps_replaced}, Tables.{Table, change_row, changed_entry, drop_at, drop_where, put, row_at}, Upstream.{join_timer_due, moved_join_timer, moved_override_timer, override_timer_due, upstream}, Writing.write_all}}
+use Rattle.pim_model.{specs.{declared.accepted.Accepted.Accepted, Asserts.{assert_as_loser, assert_as_winner, assert_at, assert_due, assert_forgotten, assert_in_no_info, assert_received, data_seen, loser_time, loses, loses_first, winner_time, wins, wins_again, with_spt_bit, without_spt_bit}, Clearing.clear, Downstream.{asserts_after_joins, downstream_expired, keys_taken, prune_pending_due, to_me}, Firing.{fire_row, fired, keepalive_due, settled}, Forwarding.{forwarded, list_chosen, register_at_rp, register_received, source_here, source_joined, spt_updated, stray, watched}, Hellos.{hello_due, hello_received, hello_triggered, neighbour_due, neighbour_replaced, neighbour_restarted}, Messages.Message, Querier.{general_query_due, group_record_due, group_repeat_due, is_querier, is_skipped, lower_group, lower_queried, lower_sources, other_querier_gone, querier_elected, querier_up, query_asked, query_group, query_seen, query_sources, querying, querying_on, record_seen, report_seen, send_sources, source_record_due, source_repeat_due, sources_sent}, Records.{Asked, with_members, with_record, with_repeats_of_rows}, Registers.{register_due, register_stop_seen, settle_register, settle_registers, with_keepalive}, Seen.{cancel_override_timer, lower_join_timer, lower_override_timer, raise_join_timer, seen}, State.{addressing_of, State, opening}, Step.{change, iface_down, iface_up, rps_replaced}, Tables.{Table, change_row, changed_entry, drop_at, drop_where, put, row_at}, Upstream.{join_timer_due, moved_join_timer, moved_override_timer, override_timer_due, upstream}, Writing.write_all}}
 use Rattle.law_settled.{proofs.{ListLaws.{by_cond, each_filter, each_filter_map, each_more, each_of_list, list_of_each}, RowLaws.each_put, SettlingLaws.{kept_by_clearing, kept_by_telling}, SeenLaws.kept_by_seen, TurnLaws.kept_in_turn}}
 use Rattle.law_promises.{proofs.{LiesUnder.row_fires, EndSoon.no_later}}
 use Rattle.law_reloaded.{specs.Reloading.{asserts_under, is_won_before, under}}
@@ -237,7 +237,7 @@ module _ (last : ℕ) where
 
   unders : (s : State) (c : Config) → IsBy s → IsBy (under s c)
   unfolding under rps_replaced asserts_under
-  unders s c f = record { now = f.now; ends = each_filter Fits (λ e. not (is_won_before s c.interfaces e)) s.asserts f.ends }
+  unders s c f = record { now = f.now; ends = each_filter Fits (λ e. not (is_won_before s (addressing_of c) e)) s.asserts f.ends }
 
   keeps : (s : State) (g src end : ℕ) → IsBy s → IsBy (kept_until s g src end)
   unfolding kept_until

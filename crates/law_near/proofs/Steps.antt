@@ -1,7 +1,7 @@
 -- What is kept by every change, by a moment to which time goes on: every event and reload keeps it at its own present.
 use Rattle.std.{proofs.Common.{◌≡◌, ℕ, ◌+◌, ◌≤◌, List, [], ◌∷◌, refl, sym, ap, subst}}
 use Rattle.pim_types.{specs.declared.{config.Config.Config, event.Event.Event, fact.Key.Key, timer.TimerKind.TimerKind}}
-use Rattle.pim_model.{specs.{declared.accepted.Accepted.Accepted, Firing.{fired, settled}, Messages.Message, Registers.keepalive_period, State.State, Step.{advanced, change, ran, rps_replaced, step}}}
+use Rattle.pim_model.{specs.{declared.accepted.Accepted.Accepted, Firing.{fired, settled}, Messages.Message, Registers.keepalive_period, State.{State, addressing_of}, Step.{advanced, change, ran, rps_replaced, step}}}
 use Rattle.law_settled.{proofs.Unsettled.{Unsettled, settling_leaves}}
 use Rattle.law_promises.{proofs.{Walks.{event_walks, time_walks}, EndSoon.{no_later, change_present, there}}}
 use Rattle.law_reloaded.{specs.Reloading.{hellos_anew, reload, removals, replaced, under}}
@@ -54,7 +54,7 @@ module _ (By : ℕ → State → Type 0)
   reload_now s c w f =
       let after : State = (ran s (removals s c w)).1 in
       let gone : Now after = ran_now (removals s c w) s f in
-      settled_now after (under after c, hellos_anew after c.interfaces) w
+      settled_now after (under after c, hellos_anew after (addressing_of c)) w
       (subst (λ (n : ℕ). By n (under after c)) (sym (under_present after c)) (unders after.present after c gone))
 
   kept_now : (s : State) (g src m : ℕ) → Now s → Now (keep s g src m)

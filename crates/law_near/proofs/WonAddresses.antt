@@ -1,10 +1,10 @@
 -- Each assert that the router won names the address of its interface.
 use Rattle.std.{proofs.{Common.{◌≡◌, ◌==◌, ◌&&◌, ◌||◌, ◌∙◌, ℕ, ◌+◌, ◌≤◌, not, Bool, true, false, cond, List, [], filter, Option, option_map, Some, None, refl, sym, ap, subst, arith, eqb-true, eq-eqb}}, specs.{Cmp.first_so, List.{AllByRecursion}, Option.option_map_or}}
-use Rattle.pim_types.{specs.{Keys.{group_in, iface_in, is_on, is_star, same_key, source_in}, declared.{config.{Config.Config, InterfaceConfig.InterfaceConfig}, fact.{AssertMetric.AssertMetric, AssertRole.AssertRole, AssertRow.AssertRow, DownstreamRow.DownstreamRow, Key.Key}, path.Path.Path, timer.TimerKind.TimerKind}}, proofs.Keys.equal_keys}
+use Rattle.pim_types.{specs.{Keys.{group_in, iface_in, is_on, is_star, same_key, source_in}, declared.{config.Config.Config, fact.{AssertMetric.AssertMetric, AssertRole.AssertRole, AssertRow.AssertRow, DownstreamRow.DownstreamRow, Key.Key}, path.Path.Path, timer.TimerKind.TimerKind}}, proofs.Keys.equal_keys}
 use Rattle.pim_ip.{specs.Ipv4.Packet}
 use Rattle.pim_wire.{specs.{declared.{assert.Assert.Assert as AssertMessage, hello.Hello.Hello as HelloValue}, Values.{Encapsulated, JoinPrune, Null}}}
 use Rattle.igmp_wire.{specs.Values.{Query as QueryValue, Record}}
-use Rattle.pim_model.{specs.{declared.accepted.Accepted.Accepted, AssertMacros.{could_assert, could_assert_star, my_metric, my_metric_star}, Asserts.{assert_as_loser, assert_as_winner, assert_at, assert_due, assert_forgotten, assert_in_no_info, assert_received, could_assert_at, data_seen, is_acceptable, is_challenge, is_inferior, is_of_tree, is_tracking_at, loses, loses_first, my_metric_at, winner_time, wins, wins_again, with_spt_bit, without_spt_bit}, Clearing.clear, Downstream.{asserts_after_joins, downstream_expired, keys_taken, prune_pending_due, to_me}, Firing.{fire_row, fired, keepalive_due, settled}, Forwarding.{forwarded, list_chosen, register_at_rp, register_received, source_here, source_joined, spt_updated, stray, watched}, Hellos.{hello_due, hello_received, hello_triggered, neighbour_due, neighbour_replaced, neighbour_restarted}, Messages.Message, Querier.{general_query_due, group_record_due, group_repeat_due, is_querier, is_skipped, lower_group, lower_queried, lower_sources, other_querier_gone, querier_elected, querier_up, query_asked, query_group, query_seen, query_sources, querying, querying_on, record_seen, report_seen, send_sources, source_record_due, source_repeat_due, sources_sent}, Records.{Asked, with_members, with_record, with_repeats_of_rows}, Registers.{register_due, register_stop_seen, settle_register, settle_registers, with_keepalive}, Seen.{cancel_override_timer, lower_join_timer, lower_override_timer, raise_join_timer, seen}, Sets.{is_better, is_winner, route_metric, rpt_metric, spt_metric}, State.{State, address_among, is_own, my_address, opening}, Step.{change, iface_down, iface_up, rps_replaced}, Tables.{Table, change_row, changed_entry, drop_at, drop_where, has_row, put, row_at}, Upstream.{join_timer_due, moved_join_timer, moved_override_timer, override_timer_due, upstream}, Unicast.{route, rp_route}, Writing.write_all}}
+use Rattle.pim_model.{specs.{declared.accepted.Accepted.Accepted, AssertMacros.{could_assert, could_assert_star, my_metric, my_metric_star}, Asserts.{assert_as_loser, assert_as_winner, assert_at, assert_due, assert_forgotten, assert_in_no_info, assert_received, could_assert_at, data_seen, is_acceptable, is_challenge, is_inferior, is_of_tree, is_tracking_at, loses, loses_first, my_metric_at, winner_time, wins, wins_again, with_spt_bit, without_spt_bit}, Clearing.clear, Downstream.{asserts_after_joins, downstream_expired, keys_taken, prune_pending_due, to_me}, Firing.{fire_row, fired, keepalive_due, settled}, Forwarding.{forwarded, list_chosen, register_at_rp, register_received, source_here, source_joined, spt_updated, stray, watched}, Hellos.{hello_due, hello_received, hello_triggered, neighbour_due, neighbour_replaced, neighbour_restarted}, Messages.Message, Querier.{general_query_due, group_record_due, group_repeat_due, is_querier, is_skipped, lower_group, lower_queried, lower_sources, other_querier_gone, querier_elected, querier_up, query_asked, query_group, query_seen, query_sources, querying, querying_on, record_seen, report_seen, send_sources, source_record_due, source_repeat_due, sources_sent}, Records.{Asked, with_members, with_record, with_repeats_of_rows}, Registers.{register_due, register_stop_seen, settle_register, settle_registers, with_keepalive}, Seen.{cancel_override_timer, lower_join_timer, lower_override_timer, raise_join_timer, seen}, Sets.{is_better, is_winner, route_metric, rpt_metric, spt_metric}, State.{Addressing, addressing_of, State, address_among, is_own, my_address, opening}, Step.{change, iface_down, iface_up, rps_replaced}, Tables.{Table, change_row, changed_entry, drop_at, drop_where, has_row, put, row_at}, Upstream.{join_timer_due, moved_join_timer, moved_override_timer, override_timer_due, upstream}, Unicast.{route, rp_route}, Writing.write_all}}
 use Rattle.law_settled.{proofs.{ListLaws.{by_cond, each_filter, each_filter_map, each_more, each_of_list, each_passing, list_of_each}, RowLaws.each_put, SettlingLaws.{kept_by_clearing, kept_by_telling}, SeenLaws.kept_by_seen, TableLaws.row_of_each, TurnLaws.kept_in_turn}}
 use Rattle.law_promises.{proofs.LiesUnder.row_fires}
 use Rattle.law_reloaded.{specs.Reloading.{asserts_under, is_won_before, under}}
@@ -13,7 +13,7 @@ use Rattle.law_near.{specs.Own.{WonStayOwn, names_own, won_are_own}, proofs.Step
 
 -- what is read
 pub record Read : Type 0 where
-  pub configured : List InterfaceConfig
+  pub configured : Addressing
   pub asserts : Table AssertRow
 
 abbrev pub read : State → Read
@@ -96,11 +96,11 @@ own_metric s k e = by_kind (is_star k) e where
 
 module _ (last : ℕ) where
   -- a row that was won names the address
-  abbrev pub FitsAt : List InterfaceConfig → Key → AssertRole → AssertRow → Type 0
+  abbrev pub FitsAt : Addressing → Key → AssertRole → AssertRow → Type 0
   FitsAt configured k AssertRole.Winner r = r.winner.address.bits ≡ address_among configured (iface_in k)
   FitsAt configured k AssertRole.Loser r = Unit {0}
 
-  abbrev pub Fits : List InterfaceConfig → Key × AssertRow → Type 0
+  abbrev pub Fits : Addressing → Key × AssertRow → Type 0
   Fits configured e = FitsAt configured e.0 (e.1).role e.1
 
   pub record By (r : Read) : Type 0 where
@@ -121,7 +121,7 @@ module _ (last : ℕ) where
   some_is a b e = cc
 
   -- the same winner, with another end
-  later_fits : (cs : List InterfaceConfig) (q k : Key) (r : AssertRow) (end : ℕ) (role : AssertRole) → r.role ≡ role → q ≡ k
+  later_fits : (cs : Addressing) (q k : Key) (r : AssertRow) (end : ℕ) (role : AssertRole) → r.role ≡ role → q ≡ k
       → FitsAt cs k role r → Fits cs (q, record r { end = end })
   later_fits cs q k r end role e key f =
       subst (λ (x : AssertRole). FitsAt cs q x (record r { end = end })) (sym e)
@@ -130,7 +130,7 @@ module _ (last : ℕ) where
         of_role AssertRole.Winner g = g
         of_role AssertRole.Loser g = g
 
-  changed_by : (cs : List InterfaceConfig) (k : Key) (r : AssertRow) (end : ℕ) → Fits cs (k, r) → (x y : Key × AssertRow) (b : Bool)
+  changed_by : (cs : Addressing) (k : Key) (r : AssertRow) (end : ℕ) → Fits cs (k, r) → (x y : Key × AssertRow) (b : Bool)
       → same_key k x.0 ≡ b
       → cond b (option_map (λ (q : AssertRow). let p : Key × AssertRow = (x.0, q) in p) (Some (record r { end = end }))) (Some x) ≡ Some y → Fits cs x → Fits cs y
   changed_by cs k r end by x y true is e f =
@@ -295,7 +295,7 @@ module _ (last : ℕ) where
   moves m le s f = record { ends = f.ends }
 
   -- where a row stays, the address of its interface is the same, or the router lost
-  stays_won : (s : State) (cs : List InterfaceConfig) (e : Key × AssertRow) (role : AssertRole) → (e.1).role ≡ role
+  stays_won : (s : State) (cs : Addressing) (e : Key × AssertRow) (role : AssertRole) → (e.1).role ≡ role
       → not (is_won_before s cs e) ≡ true → FitsAt s.configured e.0 role e.1 → FitsAt cs e.0 role e.1
   unfolding is_won_before
   stays_won s cs e AssertRole.Loser is stays f = tt
@@ -312,9 +312,9 @@ module _ (last : ℕ) where
   unders : (s : State) (c : Config) → IsBy s → IsBy (under s c)
   unfolding under rps_replaced asserts_under
   unders s c f = record {
-    ends = each_more (λ e. Fits s.configured e × (not (is_won_before s c.interfaces e) ≡ true)) (Fits c.interfaces)
-        (λ e g. stays_won s c.interfaces e (e.1).role refl g.1 g.0) (filter (λ e. not (is_won_before s c.interfaces e)) s.asserts)
-        (each_passing (Fits s.configured) (λ e. not (is_won_before s c.interfaces e)) s.asserts f.ends);
+    ends = each_more (λ e. Fits s.configured e × (not (is_won_before s (addressing_of c) e) ≡ true)) (Fits (addressing_of c))
+        (λ e g. stays_won s (addressing_of c) e (e.1).role refl g.1 g.0) (filter (λ e. not (is_won_before s (addressing_of c) e)) s.asserts)
+        (each_passing (Fits s.configured) (λ e. not (is_won_before s (addressing_of c) e)) s.asserts f.ends);
   }
 
   keeps : (s : State) (g src end : ℕ) → IsBy s → IsBy (kept_until s g src end)

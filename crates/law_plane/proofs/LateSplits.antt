@@ -18,8 +18,8 @@ module _ (x : Split) (r : State) (f : Follows x r) where
   again_early : again.present ≤ last_moment
   again_early = subst (λ (t : State). t.present ≤ last_moment) (sym passed.same) f.early
 
-  again_few : length again.configured ≤ most_ifaces
-  again_few = subst (λ (t : State). length t.configured ≤ most_ifaces) (sym passed.same) f.few
+  again_few : length again.configured.interfaces ≤ most_ifaces
+  again_few = subst (λ (t : State). length t.configured.interfaces ≤ most_ifaces) (sym passed.same) f.few
 
   again_told : AreTold x.rows again
   again_told g src = grind (arith, passed)

@@ -55,12 +55,12 @@ pub record Follows (x : Split) (r : State) : Type 0 where
   pub fresh : are_fresh x.now x.owed ≡ true
   pub early : x.now ≤ last_moment
   pub told : AreTold x.rows x.core
-  pub few : length (x.core).configured ≤ most_ifaces
+  pub few : length (x.core).configured.interfaces ≤ most_ifaces
 
 pub at_first : (s : State) (quiet : IsAtRest s) → Passed s quiet no_ends s.present s
 at_first s quiet = record { rests = quiet; same = sym (as_it_is s); rows = λ g src. refl; alike = λ g src. refl }
 
-pub whole_follows : (s : State) (rows : PlaneRows) → IsAtRest s → s.present ≤ last_moment → length s.configured ≤ most_ifaces
+pub whole_follows : (s : State) (rows : PlaneRows) → IsAtRest s → s.present ≤ last_moment → length s.configured.interfaces ≤ most_ifaces
     → AreTold rows s → Follows (whole s rows) s
 unfolding ended_by
 whole_follows s rows quiet early few told = record {
@@ -92,8 +92,8 @@ module _ (x : Split) (r : State) (f : Follows x r) where
   r_early : r.present ≤ last_moment
   r_early = subst (λ (n : ℕ). n ≤ last_moment) (sym moment_is) f.early
 
-  r_few : length r.configured ≤ most_ifaces
-  r_few = subst (λ (t : State). length t.configured ≤ most_ifaces) (sym (f.is).same) f.few
+  r_few : length r.configured.interfaces ≤ most_ifaces
+  r_few = subst (λ (t : State). length t.configured.interfaces ≤ most_ifaces) (sym (f.is).same) f.few
 
   r_told : AreTold x.rows r
   r_told g src = grind arith
@@ -339,7 +339,7 @@ run_goes (e ∷ es) x r f =
     ((λ j. first.1 j ∷ later.0 j), later.1)
 
 module _ (s : State) (rows : PlaneRows) (events : List Event) (rests : IsAtRest s) (early : s.present ≤ last_moment)
-    (few : length s.configured ≤ most_ifaces) (told : AreTold rows s) where
+    (few : length s.configured.interfaces ≤ most_ifaces) (told : AreTold rows s) where
   abbrev pub ran_so : ((split_ran (whole s rows) events).0 ≡ run s events)
       × Follows (split_ran (whole s rows) events).1 (state_after s events)
   ran_so = run_goes events (whole s rows) s (whole_follows s rows rests early few told)

@@ -1,7 +1,7 @@
 -- The rows of sources that aren't named stay, at any event.
 use Rattle.std.{proofs.{Common.{◌≡◌, ◌+◌, ◌-◌, ◌≤◌, ℕ, zero, suc, Bool, true, false, cond, List, [], ◌∷◌, ◌++◌, length, Ok, Err, Option, Some, None, nat_lt, option_map, refl, sym, ap, subst, arith}, lemmas.{Bool.or_parts, List.Folds.list_any-append}}}
-use Rattle.pim_types.{specs.declared.{config.{Config.Config, InterfaceConfig.InterfaceConfig}, event.Event.Event, fact.Key.Key, outcome.Emission.Emission}}
-use Rattle.pim_model.{specs.{Cache.{Answers, Plain, cached, plain}, declared.accepted.Accepted.Accepted, Firing.fire_once, Full.is_full, Judging.{Judged, judged}, Limits.most_ifaces, Reach.{own_firing, told_all, told_instant, told_once, where_accepted}, Repeat.{after_next, and_then, until_none}, State.{State, opening}, Step.{done, ran, state_after, step}, Timers.{Ending, next_due, timers}}}
+use Rattle.pim_types.{specs.declared.{config.Config.Config, event.Event.Event, fact.Key.Key, outcome.Emission.Emission}}
+use Rattle.pim_model.{specs.{Cache.{Answers, Plain, cached, plain}, declared.accepted.Accepted.Accepted, Firing.fire_once, Full.is_full, Judging.{Judged, judged}, Limits.most_ifaces, Reach.{own_firing, told_all, told_instant, told_once, where_accepted}, Repeat.{after_next, and_then, until_none}, State.{Addressing, State, opening}, Step.{done, ran, state_after, step}, Timers.{Ending, next_due, timers}}}
 use Rattle.law_named.{specs.Named.{event_named, named_by, named_of}, proofs.{Advance.same_end, Configured.{change_configured, firing_configured}, Settled.{settled_configured, settled_keeps}}}
 use Rattle.law_cache.{specs.Kept.{Cache, Held, SameAnswers, SameDecision, SameRow, cache_after, cache_concluded, cache_taken, cache_unless_full, held_all, held_instant, held_once, is_listed, refreshed}, proofs.{Decides.decide_same, RowsOfSteps.{opening_is_cached, step_keeps_cache, step_stays_configured}, SameRows.{kept_is_same, row_itself}, RowsOfRuns.few_opening}}
 use Rattle.law_plane.{specs.{Offload.{Handling, decision, handled, handling, handling_unknown, offload, told}, ToldLaws.{AreTold, DecideAlike, FiringAnswersStay, MoreMayBeTold, PlaneRows, RouterKeepsTold, StepKeepsTold, TimeAnswersStay, UnnamedAnswersStay, UnnamedRowStays, no_plane_rows, told_anew, told_at_end}}, proofs.{Decides.row_decides, Times.answers_later}}
@@ -117,7 +117,7 @@ unnamed_row_stays s e few g src out =
     rows_alike (cached s g src) (cached (step s e).state g src)
     (subst (λ (o : Option Answers). SameRow o (cached (step s e).state g src)) (event_out g src s e (cached s) out) kept)
 
-module _ (s : State) (e : Event) (rows : PlaneRows) (names : List Key) (few : length s.configured ≤ most_ifaces)
+module _ (s : State) (e : Event) (rows : PlaneRows) (names : List Key) (few : length s.configured.interfaces ≤ most_ifaces)
     (told_before : AreTold rows s)
     (all_named : (g src : ℕ) → is_listed names g src ≡ false → is_listed (event_named s e) g src ≡ false) (g src : ℕ) where
   one_row : (b : Bool) → is_listed names g src ≡ b
@@ -135,13 +135,13 @@ more_may_be_told s e rows names few before all_named g src = grind (arith, one_r
 pub step_keeps_told : StepKeepsTold
 step_keeps_told s e rows few before = more_may_be_told s e rows (event_named s e) few before (λ g src out. out)
 
-run_keeps_told : (s : State) (events : List Event) (rows : PlaneRows) → length s.configured ≤ most_ifaces → AreTold rows s
+run_keeps_told : (s : State) (events : List Event) (rows : PlaneRows) → length s.configured.interfaces ≤ most_ifaces → AreTold rows s
     → AreTold (told_at_end s events rows) (state_after s events)
 unfolding state_after ran told_at_end
 run_keeps_told s [] rows few before = before
 run_keeps_told s (e ∷ es) rows few before =
     run_keeps_told (step s e).state es (told_anew (event_named s e) (step s e).state rows)
-    (subst (λ (cs : List InterfaceConfig). length cs ≤ most_ifaces) (step_stays_configured s e) few)
+    (subst (λ (cs : Addressing). length cs.interfaces ≤ most_ifaces) (step_stays_configured s e) few)
     (step_keeps_told s e rows few before)
 
 pub opening_is_told : (c : Config) → AreTold no_plane_rows (opening c)

@@ -57,7 +57,7 @@ repeated_ran x r (e ∷ es) =
 
 abbrev pub LateSplitIsSound : Type 0
 LateSplitIsSound = (s : State) (rows : PlaneRows) (events : List Event) → IsAtRest s → s.present ≤ last_moment
-    → length s.configured ≤ most_ifaces → AreTold rows s
+    → length s.configured.interfaces ≤ most_ifaces → AreTold rows s
     → ((late_ran (whole s rows) events).0 ≡ (repeated_ran (whole s rows) s events).0)
     × (caught_up (late_ran (whole s rows) events).1 ≡ (repeated_ran (whole s rows) s events).1)
 

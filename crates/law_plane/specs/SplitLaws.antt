@@ -12,18 +12,18 @@ use Rattle.law_plane.{specs.{Split.{Notice, Split, advance_to, caught_up, replay
 -- Where the plane has the rows of a state, it has the same answers, emissions and counts, event by event.
 abbrev pub SplitSends : Type 0
 SplitSends = (s : State) (rows : PlaneRows) (events : List Event) → IsAtRest s → s.present ≤ last_moment
-    → length s.configured ≤ most_ifaces → AreTold rows s → (split_ran (whole s rows) events).0 ≡ run s events
+    → length s.configured.interfaces ≤ most_ifaces → AreTold rows s → (split_ran (whole s rows) events).0 ≡ run s events
 
 -- Once the core has heard of what is owed, it is in the same state.
 abbrev pub SplitCatchesUp : Type 0
 SplitCatchesUp = (s : State) (rows : PlaneRows) (events : List Event) → IsAtRest s → s.present ≤ last_moment
-    → length s.configured ≤ most_ifaces → AreTold rows s
+    → length s.configured.interfaces ≤ most_ifaces → AreTold rows s
     → caught_up (split_ran (whole s rows) events).1 ≡ state_after s events
 
 -- The plane has the rows of its core after each event.
 abbrev pub SplitIsTold : Type 0
 SplitIsTold = (s : State) (rows : PlaneRows) (events : List Event) → IsAtRest s → s.present ≤ last_moment
-    → length s.configured ≤ most_ifaces → AreTold rows s
+    → length s.configured.interfaces ≤ most_ifaces → AreTold rows s
     → AreTold ((split_ran (whole s rows) events).1).rows (state_after s events)
 
 -- The laws of a split data plane hold from the opening on, with no rows.
@@ -50,7 +50,7 @@ QuietBeforeNext = (m : ℕ) (s : State) → ends_after m s ≡ option_map_or (na
 -- What the core sends as it catches up are copies of packets, which the plane has sent.
 abbrev pub CatchesUpInCopies : Type 0
 CatchesUpInCopies = (s : State) (rows : PlaneRows) (events : List Event) → IsAtRest s → s.present ≤ last_moment
-    → length s.configured ≤ most_ifaces → AreTold rows s
+    → length s.configured.interfaces ≤ most_ifaces → AreTold rows s
     → (let x : Split = (split_ran (whole s rows) events).1 in
     AllByRecursion (λ (o : Outcome). o.copies ≡ length o.emissions) (run x.core (replayed x.now x.owed)))
 
@@ -65,7 +65,7 @@ caught_late x = state_after x.core (advance_to x.now ∷ packets_of x.owed)
 -- A core that hears late is in the state of a router to which these packets came once more.
 abbrev pub LateIsOnceMore : Type 0
 LateIsOnceMore = (s : State) (rows : PlaneRows) (events : List Event) → IsAtRest s → s.present ≤ last_moment
-    → length s.configured ≤ most_ifaces → AreTold rows s
+    → length s.configured.interfaces ≤ most_ifaces → AreTold rows s
     → (let x : Split = (split_ran (whole s rows) events).1 in
     caught_late x ≡ state_after (state_after s events) (packets_of x.owed))
 

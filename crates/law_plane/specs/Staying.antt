@@ -29,11 +29,11 @@ OfferStays = (s t : State) (g src : ℕ) → SourceStays g src s t → passes_li
 -- The fact and the answers of any source that isn't named are unchanged: by an event, by the expiry of a timer, and by
 -- the present time alone.
 abbrev pub UnnamedSourceStays : Type 0
-UnnamedSourceStays = (s : State) (w : ℕ) (a : Accepted) → length s.configured ≤ most_ifaces → (g src : ℕ)
+UnnamedSourceStays = (s : State) (w : ℕ) (a : Accepted) → length s.configured.interfaces ≤ most_ifaces → (g src : ℕ)
     → is_source_named g src s (clear s (change s w a).state).0 ≡ false → SourceStays g src s (done s w (change s w a)).state
 
 abbrev pub FiringSourceStays : Type 0
-FiringSourceStays = (s : State) (w : ℕ) (e : Ending) → length s.configured ≤ most_ifaces → (g src : ℕ)
+FiringSourceStays = (s : State) (w : ℕ) (e : Ending) → length s.configured.interfaces ≤ most_ifaces → (g src : ℕ)
     → is_source_named g src s (clear s (own_firing s e)).0 ≡ false → SourceStays g src s (fire_once w s e).0
 
 abbrev pub TimeSourceStays : Type 0

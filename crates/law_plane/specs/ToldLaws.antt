@@ -28,17 +28,17 @@ told_anew names s rows g src = if is_listed names g src then told s g src else r
 
 -- The row of a source that isn't named decides alike after an event.
 abbrev pub UnnamedRowStays : Type 0
-UnnamedRowStays = (s : State) (e : Event) → length s.configured ≤ most_ifaces → (g src : ℕ)
+UnnamedRowStays = (s : State) (e : Event) → length s.configured.interfaces ≤ most_ifaces → (g src : ℕ)
     → is_listed (event_named s e) g src ≡ false → DecideAlike (told s g src) (told (step s e).state g src)
 
 -- Where the named rows are given to the plane again, it has all rows.
 abbrev pub StepKeepsTold : Type 0
-StepKeepsTold = (s : State) (e : Event) (rows : PlaneRows) → length s.configured ≤ most_ifaces → AreTold rows s
+StepKeepsTold = (s : State) (e : Event) (rows : PlaneRows) → length s.configured.interfaces ≤ most_ifaces → AreTold rows s
     → AreTold (told_anew (event_named s e) (step s e).state rows) (step s e).state
 
 -- Giving the plane more rows than the named ones again does no harm.
 abbrev pub MoreMayBeTold : Type 0
-MoreMayBeTold = (s : State) (e : Event) (rows : PlaneRows) (names : List Key) → length s.configured ≤ most_ifaces → AreTold rows s
+MoreMayBeTold = (s : State) (e : Event) (rows : PlaneRows) (names : List Key) → length s.configured.interfaces ≤ most_ifaces → AreTold rows s
     → ((g src : ℕ) → is_listed names g src ≡ false → is_listed (event_named s e) g src ≡ false)
     → AreTold (told_anew names (step s e).state rows) (step s e).state
 
@@ -55,13 +55,13 @@ RouterKeepsTold = (c : Config) (events : List Event) → config_test c ≡ Ok tt
 -- The answers of any source that an event doesn't name are unchanged: also of a source without a fact, of which there
 -- is no row and none is named.
 abbrev pub UnnamedAnswersStay : Type 0
-UnnamedAnswersStay = (s : State) (w : ℕ) (a : Accepted) → length s.configured ≤ most_ifaces → (g src : ℕ)
+UnnamedAnswersStay = (s : State) (w : ℕ) (a : Accepted) → length s.configured.interfaces ≤ most_ifaces → (g src : ℕ)
     → is_source_named g src s (clear s (change s w a).state).0 ≡ false
     → SameAnswers (answers s g src) (answers (done s w (change s w a)).state g src)
 
 -- The answers of any source that isn't named are unchanged by the expiry of a timer, and by the present time alone.
 abbrev pub FiringAnswersStay : Type 0
-FiringAnswersStay = (s : State) (w : ℕ) (e : Ending) → length s.configured ≤ most_ifaces → (g src : ℕ)
+FiringAnswersStay = (s : State) (w : ℕ) (e : Ending) → length s.configured.interfaces ≤ most_ifaces → (g src : ℕ)
     → is_source_named g src s (clear s (own_firing s e)).0 ≡ false
     → SameAnswers (answers s g src) (answers (fire_once w s e).0 g src)
 

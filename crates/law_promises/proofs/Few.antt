@@ -1,9 +1,9 @@
 -- There are at most as many asserts as the limit on each interface.
 use Rattle.std.{proofs.{Common.{◌≡◌, ℕ, ◌+◌, ◌*◌, ◌<◌, ◌≤◌, ◌==◌, not, ◌&&◌, ⊎_elim, nat_le, Bool, true, false, cond, List, [], ◌∷◌, ◌++◌, length, Result, Ok, ap, subst, arith, length-append}, Math.Nat.{mul-add, mul-le-mul_left, mul-one, mul_comm, one-mul}, lemmas.{Nat.mul-le, Bool.{or_left, or_right, Decides.nat_tests}, List.Folds.list_any-append}}}
 use Rattle.pim_ip.{specs.{declared.refusal.Refusal.Refusal, Tests.{expect, ◌>>◌}}}
-use Rattle.pim_types.{specs.{Keys.{group_in, same_key, source_in, source_key, star_key}, declared.{config.{Config.Config, InterfaceConfig.InterfaceConfig, Settings.Settings}, event.Event.Event, fact.Key.Key}}, proofs.Keys.same_key_same}
+use Rattle.pim_types.{specs.{Keys.{group_in, same_key, source_in, source_key, star_key}, declared.{config.{Config.Config, Settings.Settings}, event.Event.Event, fact.Key.Key}}, proofs.Keys.same_key_same}
 use Rattle.pim_wire.{specs.{RegisterParts.{registered_group, registered_source}, declared.assert.Assert.Assert as AssertMessage}}
-use Rattle.pim_model.{specs.{declared.accepted.Accepted.Accepted, AssertMacros.is_infinite, Asserts.theirs_of, Downstream.{is_named, joined_keys, pruned_keys}, Full.{asserted_keys, counted, is_full, makeable_keys, needed, reported_groups}, Judging.{Judged, judged}, Limits.{config_test, most_ifaces}, State.{State, iface_count, opening, settings_of}, Step.{concluded, state_after, step, taken, taken_unless_full}, Tables.{Table, has_row, keys_in}, Unicast.is_rp}}
+use Rattle.pim_model.{specs.{declared.accepted.Accepted.Accepted, AssertMacros.is_infinite, Asserts.theirs_of, Downstream.{is_named, joined_keys, pruned_keys}, Full.{asserted_keys, counted, is_full, makeable_keys, needed, reported_groups}, Judging.{Judged, judged}, Limits.{config_test, most_ifaces}, State.{Addressing, State, iface_count, opening, settings_of}, Step.{concluded, state_after, step, taken, taken_unless_full}, Tables.{Table, has_row, keys_in}, Unicast.is_rp}}
 use Rattle.law_settled.{proofs.{ListLaws.{each_map, each_more}, StepLaws.kept_by_run, UnchangedLaws.full_or_taken, RisingKeys.up_of_sorted, Steps.{opening_is_settled, step_is_settled}}, specs.Ready.IsSettled}
 use Rattle.law_named.{proofs.Reached.IsConfigured}
 use Rattle.law_promises.{specs.Bounded.{AssertsStayBounded, CountedStayBounded, needed_by}, proofs.{Asserts.asserted, Bounded.{has_room, run_stays_within}, Counting.{no_longer, own, rising_apart}, Covered.{all_widened, all_widened_long, each_named, keys_long, keys_of, missing, missing_long, missing_named, named_left, named_right, none_missing, source_widened, spreads, spreads_long, spreads_named, star_widened}, Keyed.Kept, KeyedChanges.{Names, taken_kept}, KeyedEvents.row_under, Placed.{IsIn, IsPlaced, kind_is_placed}, Settings.step_configured, Within.room}}
@@ -278,7 +278,7 @@ module _ (n limit : ℕ) (positive : 1 ≤ n) where
       record {
         settled = step_is_settled s e f.settled;
         bound = subst (λ (x : Settings). x.limit ≤ limit) same.settings f.bound;
-        links = subst (λ (cs : List InterfaceConfig). length cs ≤ n) same.configured f.links;
+        links = subst (λ (cs : Addressing). length cs.interfaces ≤ n) same.configured f.links;
         covered = concluded_covered s f.settled f.bound e.draw f.covered (judged s e.kind)
             (kind_is_placed s n f.links e.kind);
       }

@@ -1,17 +1,17 @@
 -- Which tables what changes a state leaves alone: of IGMP's queries, and those that follow.
 use Rattle.std.{proofs.Common.{◌≡◌, ◌∙◌, ℕ, not, Bool, List, filter, refl, arith}}
 use Rattle.pim_ip.{specs.Ipv4.Packet}
-use Rattle.pim_types.{specs.declared.{config.InterfaceConfig.InterfaceConfig, fact.{AssertMetric.AssertMetric, AssertRow.AssertRow, DownstreamRow.DownstreamRow, InterfaceRow.InterfaceRow, JoinTimerRow.JoinTimerRow, Key.Key, NeighbourRow.NeighbourRow, OverrideTimerRow.OverrideTimerRow, RegisterRow.RegisterRow}}}
+use Rattle.pim_types.{specs.declared.{fact.{AssertMetric.AssertMetric, AssertRow.AssertRow, DownstreamRow.DownstreamRow, InterfaceRow.InterfaceRow, JoinTimerRow.JoinTimerRow, Key.Key, NeighbourRow.NeighbourRow, OverrideTimerRow.OverrideTimerRow, RegisterRow.RegisterRow}}}
 use Rattle.pim_wire.{specs.{Values.JoinPrune, declared.{assert.Assert.Assert as AssertMessage, hello.Hello.Hello as HelloValue}}}
 use Rattle.igmp_wire.{specs.Values.{Query as QueryValue, Record}}
-use Rattle.pim_model.{specs.{Asserts.{assert_as_loser, assert_as_winner, assert_at, assert_due, assert_forgotten, assert_in_no_info, assert_received, data_seen, loses, loses_first, wins, wins_again, with_spt_bit}, Downstream.{asserts_after_joins, keys_taken, prune_pending_due, to_me}, Firing.settled, Forwarding.{forwarded, list_chosen, register_at_rp, register_received, source_here, source_joined, spt_updated, stray, watched}, Hellos.{hello_received, hello_triggered, neighbour_replaced, neighbour_restarted}, Messages.Message, Querier.{is_querier, is_skipped, lower_group, lower_queried, lower_sources, querier_elected, query_asked, query_group, query_seen, query_sources, record_seen, report_seen, send_sources, sources_sent}, Records.{Asked, with_members, with_record, with_repeats_of_rows}, Registers.with_keepalive, Seen.{cancel_override_timer, lower_join_timer, lower_override_timer, raise_join_timer, seen}, State.State, Tables.Table}}
+use Rattle.pim_model.{specs.{Asserts.{assert_as_loser, assert_as_winner, assert_at, assert_due, assert_forgotten, assert_in_no_info, assert_received, data_seen, loses, loses_first, wins, wins_again, with_spt_bit}, Downstream.{asserts_after_joins, keys_taken, prune_pending_due, to_me}, Firing.settled, Forwarding.{forwarded, list_chosen, register_at_rp, register_received, source_here, source_joined, spt_updated, stray, watched}, Hellos.{hello_received, hello_triggered, neighbour_replaced, neighbour_restarted}, Messages.Message, Querier.{is_querier, is_skipped, lower_group, lower_queried, lower_sources, querier_elected, query_asked, query_group, query_seen, query_sources, record_seen, report_seen, send_sources, sources_sent}, Records.{Asked, with_members, with_record, with_repeats_of_rows}, Registers.with_keepalive, Seen.{cancel_override_timer, lower_join_timer, lower_override_timer, raise_join_timer, seen}, State.{Addressing, State}, Tables.Table}}
 use Rattle.law_settled.{proofs.{ListLaws.by_cond, TurnLaws.kept_in_turn, SeenLaws.kept_by_seen, Unsettled.settling_leaves}}
 use Rattle.law_promises.{proofs.Repeats.{Asking, asking}}
 
 -- what only interfaces, Hellos, registering and time change
 pub record Still : Type 0 where
   pub present : ℕ
-  pub configured : List InterfaceConfig
+  pub configured : Addressing
   pub interfaces : Table InterfaceRow
   pub neighbours : Table NeighbourRow
   pub registers : Table RegisterRow
@@ -119,7 +119,7 @@ seen_beside s w i m =
 pub record Unhailed : Type 0 where
   pub asking : Asking
   pub present : ℕ
-  pub configured : List InterfaceConfig
+  pub configured : Addressing
   pub registers : Table RegisterRow
   pub override_timers : Table OverrideTimerRow
 

@@ -42,3 +42,4 @@ pub mod EndSoon
 pub mod Wanted
 pub mod WantedRuns
 pub mod FewJoins
+pub mod Addresses

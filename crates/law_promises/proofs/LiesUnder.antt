@@ -1,8 +1,8 @@
 -- The facts that don't count lie under others: after each event, and after each firing.
 use Rattle.std.{proofs.Common.{◌≡◌, ◌∙◌, ℕ, ◌<◌, true, false, List, [], length, Option, Ok, refl, sym, ap, subst, lt-ltb, arith, ◌≤◌}, specs.{Cmp.{first_so, Derive.both_true}, Option.option_map_or}}
-use Rattle.pim_types.{specs.{Keys.{iface_in, iface_key, is_on, source_key}, declared.{config.{Config.Config, InterfaceConfig.InterfaceConfig}, event.Event.Event, fact.{AssertRow.AssertRow, DownstreamRow.DownstreamRow, GroupRepeatRow.GroupRepeatRow, InterfaceRow.InterfaceRow, Key.Key, QuerierRow.QuerierRow, RegisterRow.RegisterRow, RegisterState.RegisterState}, timer.TimerKind.TimerKind}}, proofs.Keys.{equal_keys, same_key_same}}
+use Rattle.pim_types.{specs.{Keys.{iface_in, iface_key, is_on, source_key}, declared.{config.Config.Config, event.Event.Event, fact.{AssertRow.AssertRow, DownstreamRow.DownstreamRow, GroupRepeatRow.GroupRepeatRow, InterfaceRow.InterfaceRow, Key.Key, QuerierRow.QuerierRow, RegisterRow.RegisterRow, RegisterState.RegisterState}, timer.TimerKind.TimerKind}}, proofs.Keys.{equal_keys, same_key_same}}
 use Rattle.pim_wire.{specs.{Values.{Encapsulated, Null}, declared.hello.Hello.Hello as HelloValue}}
-use Rattle.pim_model.{specs.{declared.accepted.Accepted.Accepted, Asserts.{assert_due, assert_forgotten, wins_again}, Downstream.{downstream_expired, prune_pending_due}, Firing.{fire_row, fired, keepalive_due, settled}, Forwarding.source_here, Hellos.{hello_due, hello_received, hello_triggered, hellos_triggered, neighbour_due, neighbour_replaced, neighbour_restarted}, Judging.judged, Limits.config_test, Messages.Message, Querier.{general_query_due, group_repeat_due, other_querier_gone, querier_up, querying, querying_on, source_repeat_due, sources_sent, group_record_due, source_record_due}, Records.{with_members, with_repeats_of_rows}, Registers.{register_due, register_stop_seen, registers_after_rps, settle_register, with_keepalive}, State.{State, iface_count, opening}, Step.{change, iface_down, iface_up, rps_replaced, state_after, step}, Tables.{Table, has_row}, Upstream.{join_timer_due, override_timer_due}}}
+use Rattle.pim_model.{specs.{declared.accepted.Accepted.Accepted, Asserts.{assert_due, assert_forgotten, wins_again}, Downstream.{downstream_expired, prune_pending_due}, Firing.{fire_row, fired, keepalive_due, settled}, Forwarding.source_here, Hellos.{hello_due, hello_received, hello_triggered, hellos_triggered, neighbour_due, neighbour_replaced, neighbour_restarted}, Judging.judged, Limits.config_test, Messages.Message, Querier.{general_query_due, group_repeat_due, other_querier_gone, querier_up, querying, querying_on, source_repeat_due, sources_sent, group_record_due, source_record_due}, Records.{with_members, with_repeats_of_rows}, Registers.{register_due, register_stop_seen, registers_after_rps, settle_register, with_keepalive}, State.{Addressing, State, iface_count, opening}, Step.{change, iface_down, iface_up, rps_replaced, state_after, step}, Tables.{Table, has_row}, Upstream.{join_timer_due, override_timer_due}}}
 use Rattle.law_settled.{proofs.{ListLaws.{any_more, by_cond, each_both, each_map, each_more, each_of_all, each_of_list, list_of_each}, RowLaws.has_row_any, StepLaws.kept_by_run, Steps.{opening_is_settled, step_is_settled}}, specs.{Laws.is_querier_entry, Ready.IsSettled}}
 use Rattle.law_promises.{specs.Uncounted.{EachLiesUnder, LiesUnder, is_of_interface}, proofs.{Keyed.{Kept, Under, fired_kept, settled_kept, under_changed, under_put, under_where}, KeyedChanges.{Names, change_kept}, Lasting.{Beside, Lasting, Unhailed, Whole, assert_whole, data_whole, hello_unhailed, query_lasting, register_whole, report_lasting, seen_beside, settled_asking, to_me_whole}, Placed.{IsIn, IsPlaced, kind_is_placed}, Registered.{OfIface, Own, Rests, is_kept, register_own, settled_rests}, Repeats.{Asking, Fits, FitsIn, asking, group_repeated, sources_repeated}, RepeatsKept.{down_fits, group_due_fits, query_fits, report_fits, source_due_fits}, Settings.step_configured, Walks.{event_walks, time_walks}}}
 
@@ -196,7 +196,7 @@ module _ (n : ℕ) where
   holds_on : (s : State) (e : Event) → Holds s → Holds (step s e).state
   holds_on s e f = record {
     settled = step_is_settled s e f.settled;
-    links = ap (λ (cs : List InterfaceConfig). length cs) (sym (step_configured s e).configured) ∙ f.links;
+    links = ap (λ (cs : Addressing). length cs.interfaces) (sym (step_configured s e).configured) ∙ f.links;
     between = event_walks Between (λ o t. Mid t) s e f.between
         (λ moment le. time_walks Between (λ o t. Mid t) moment (λ t m le g. moves t m g)
         (λ t m kind k le g. fires (record t { present = m }) kind k (moves t m g)) (λ o c w g h. follows o c w h) s e.draw moment

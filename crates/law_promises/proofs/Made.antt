@@ -1,9 +1,9 @@
 -- The copies that an event makes, as links and a text.
 use Rattle.std.{proofs.{Common.{◌≡◌, ◌∙◌, ℕ, ◌+◌, ◌-◌, ◌<◌, ◌==◌, Bool, true, false, cond, List, [], ◌++◌, length, Option, Some, Result, Ok, refl, sym, ap, subst, arith, length-append}, Math.{Nat.sub-zero, Seq.{drop-append_seam, drop-length}}, lemmas.{Bool.not-true, List.{append-nil, Elements.filter-append}}}, specs.{Cmp.second_so, List.{AllByRecursion, Sorted.IsStrictlySortedBy}, Ordering.nat_cmp}}
 use Rattle.pim_ip.{specs.{Ipv4.{Packet, copy_text}, declared.refusal.Refusal.Refusal}}
-use Rattle.pim_types.{specs.declared.{config.{IfaceId.IfaceId, InterfaceConfig.InterfaceConfig}, event.Event.Event, outcome.{Emission.Emission, Stop.Stop, Verdict.Verdict}}}
+use Rattle.pim_types.{specs.declared.{config.IfaceId.IfaceId, event.Event.Event, outcome.{Emission.Emission, Stop.Stop, Verdict.Verdict}}}
 use Rattle.pim_wire.{specs.{Registers.register_text, Values.Encapsulated}}
-use Rattle.pim_model.{specs.{declared.accepted.Accepted.Accepted, Asserts.{data_seen, wins, with_spt_bit}, Cause.{copies_in, done_as, if_done, is_on_link, packet_in}, Firing.settled, Forwarding.{Forwarded, forwarded, list_chosen, register_at_rp, register_received, source_here, source_joined, spt_updated, stray, watched}, Judging.{Judged, judged}, Registers.{settle_register, with_keepalive}, Sets.{Set, members}, State.{State, iface_count}, Step.{Answered, Change, advanced, change, concluded, done, outcome_of, packet_forwarded, step, stopped, taken, taken_unless_full}, Tables.below, Writing.{copies_of, leaves, pim_to, register_of_packet, tunnel_of}}}
+use Rattle.pim_model.{specs.{declared.accepted.Accepted.Accepted, Asserts.{data_seen, wins, with_spt_bit}, Cause.{copies_in, done_as, if_done, is_on_link, packet_in}, Firing.settled, Forwarding.{Forwarded, forwarded, list_chosen, register_at_rp, register_received, source_here, source_joined, spt_updated, stray, watched}, Judging.{Judged, judged}, Registers.{settle_register, with_keepalive}, Sets.{Set, members}, State.{Addressing, State, iface_count}, Step.{Answered, Change, advanced, change, concluded, done, outcome_of, packet_forwarded, step, stopped, taken, taken_unless_full}, Tables.below, Writing.{copies_of, leaves, pim_to, register_of_packet, tunnel_of}}}
 use Rattle.law_settled.{proofs.{ListLaws.{each_filter, each_more, each_passes}, UnchangedLaws.{full_or_taken, taken_done}}}
 use Rattle.law_promises.{specs.Copies.happens, proofs.{Messages.{Own, own_all, own_settled}, Links.{all_below, each_on_link, none_on_link, on_each, rising_below}}}
 
@@ -115,7 +115,7 @@ module _ (s t : State) (same : Configured s t) (p : Packet) (list : Set) where
   members_configured =
       each_filter (λ i. i < iface_count s) list (below (iface_count t))
       (subst (λ (n : ℕ). AllByRecursion (λ i. i < iface_count s) (below n))
-      (ap (λ (cs : List InterfaceConfig). length cs) (sym same)) (all_below (iface_count s)))
+      (ap (λ (cs : Addressing). length cs.interfaces) (sym same)) (all_below (iface_count s)))
 
   members_pass : AllByRecursion (λ i. list i ≡ true) (members t list)
   unfolding members

@@ -3,7 +3,7 @@ use Rattle.std.{proofs.{Common.{◌≡◌, ℕ, zero, suc, ◌+◌, ◌≤◌, n
 use Rattle.pim_ip.{specs.declared.lan.LanDelay.LanDelay}
 use Rattle.pim_types.{specs.{Keys.{is_on, rpt_key, same_key, source_key}, declared.{config.{IfaceId.IfaceId, InterfaceConfig.InterfaceConfig}, fact.{Key.Key, NeighbourRow.NeighbourRow, OverrideTimerRow.OverrideTimerRow}, timer.TimerKind.TimerKind, upstream.{SourceView.SourceView, TreeState.TreeState}}}}
 use Rattle.pim_wire.{specs.{Values.{Encapsulated, JoinPrune, Null}, declared.hello.Hello.Hello as HelloValue}}
-use Rattle.pim_model.{specs.{declared.accepted.Accepted.Accepted, Asserts.{assert_forgotten, without_spt_bit}, Clearing.clear, Downstream.downstream_expired, Firing.{fire_row, fired, keepalive_due, settled}, Forwarding.source_here, Hellos.{hello_due, hello_received, hello_triggered, neighbour_due, neighbour_replaced, neighbour_restarted, neighbours_replaced}, Messages.Message, Neighbours.{effective_delay, greatest_delay, override_interval_among, t_override, t_override_among}, Querier.{general_query_due, group_record_due, group_repeat_due, other_querier_gone, querier_up, querying, querying_on, source_record_due, source_repeat_due, sources_sent}, Records.{with_members, with_repeats_of_rows}, Registers.{register_due, register_stop_seen, settle_register, settle_registers, with_keepalive}, Seen.{cancel_override_timer, lower_join_timer, lower_override_timer, override_end, raise_join_timer, seen}, State.State, Step.{change, iface_down, iface_up, rps_replaced}, Tables.{Table, delay_in, drop_at, drop_where, row_at, rows_on, set_row}, Upstream.{TimerChange, Told, becomes_star, group_upstream, join_timer_due, moved_join_timer, moved_override_timer, override_on, override_timer_due, rpt_told, rpt_told_from, source_told, source_upstream, source_view, upstream, with_join_timer, with_override_timer}, Writing.write_all}}
+use Rattle.pim_model.{specs.{declared.accepted.Accepted.Accepted, Asserts.{assert_forgotten, without_spt_bit}, Clearing.clear, Downstream.downstream_expired, Firing.{fire_row, fired, keepalive_due, settled}, Forwarding.source_here, Hellos.{hello_due, hello_received, hello_triggered, neighbour_due, neighbour_replaced, neighbour_restarted, neighbours_replaced}, Messages.Message, Neighbours.{effective_delay, greatest_delay, override_interval_among, t_override, t_override_among}, Querier.{general_query_due, group_record_due, group_repeat_due, other_querier_gone, querier_up, querying, querying_on, source_record_due, source_repeat_due, sources_sent}, Records.{with_members, with_repeats_of_rows}, Registers.{register_due, register_stop_seen, settle_register, settle_registers, with_keepalive}, Seen.{cancel_override_timer, lower_join_timer, lower_override_timer, override_end, raise_join_timer, seen}, State.{Addressing, State}, Step.{change, iface_down, iface_up, rps_replaced}, Tables.{Table, delay_in, drop_at, drop_where, row_at, rows_on, set_row}, Upstream.{TimerChange, Told, becomes_star, group_upstream, join_timer_due, moved_join_timer, moved_override_timer, override_on, override_timer_due, rpt_told, rpt_told_from, source_told, source_upstream, source_view, upstream, with_join_timer, with_override_timer}, Writing.write_all}}
 use Rattle.law_settled.{proofs.{ListLaws.{by_cond, each_filter}, RowLaws.each_put, SettlingLaws.{IsFair, kept_by_clearing, moved_override_row}, TableLaws.row_of_each, TurnLaws.kept_in_turn, SeenLaws.kept_by_seen, Unsettled.{Unsettled, clearing_leaves, settling_leaves}}}
 use Rattle.law_promises.{specs.Uncounted.longest_override, proofs.{LiesUnder.row_fires, Lasting.{Beside, Lasting, Whole, assert_lasting, assert_whole, data_whole, pending_lasting, query_lasting, register_whole, report_lasting, seen_beside, to_me_whole}}}
 
@@ -45,8 +45,8 @@ value_short (c ∷ cs) zero f = f.0
 value_short (c ∷ cs) (suc i) f = value_short cs i f.1
 
 -- no more is announced, or configured
-pub record IsBrief (configured : List InterfaceConfig) (neighbours : Table NeighbourRow) : Type 0 where
-  pub mine : AreConfiguredShort configured
+pub record IsBrief (configured : Addressing) (neighbours : Table NeighbourRow) : Type 0 where
+  pub mine : AreConfiguredShort configured.interfaces
   pub theirs : AreShort neighbours
 
 abbrev pub Brief : State → Type 0
@@ -70,7 +70,7 @@ module _ (last : ℕ) where
   abbrev EndBy : Table OverrideTimerRow → Type 0
   EndBy t = AllByRecursion (λ e. IsBy (e.1).end) t
 
-  pub record Soon (present : ℕ) (configured : List InterfaceConfig) (neighbours : Table NeighbourRow) (timers : Table OverrideTimerRow) : Type 0 where
+  pub record Soon (present : ℕ) (configured : Addressing) (neighbours : Table NeighbourRow) (timers : Table OverrideTimerRow) : Type 0 where
     pub now : present ≤ last
     pub brief : IsBrief configured neighbours
     pub ends : EndBy timers

@@ -1,9 +1,9 @@
 -- What an event answers itself, in numbers.
 use Rattle.std.{proofs.{Common.{◌≡◌, ℕ, ◌≤◌, ◌==◌, not, ◌&&◌, ◌||◌, ◌⊎◌, inl, inr, Bool, true, false, cond, List, [], ◌++◌, length, Option, is_some, refl, ap, arith, length-append}, lemmas.List.{length-map, FromFn.length-range_with_len}}, specs.List.range_with_len}
 use Rattle.pim_ip.{specs.Ipv4.Packet}
-use Rattle.pim_types.{specs.declared.{config.InterfaceConfig.InterfaceConfig, fact.{AssertMetric.AssertMetric, AssertRow.AssertRow, Key.Key}, outcome.Emission.Emission}}
+use Rattle.pim_types.{specs.declared.{fact.{AssertMetric.AssertMetric, AssertRow.AssertRow, Key.Key}, outcome.Emission.Emission}}
 use Rattle.pim_wire.{specs.{Values.{Encapsulated, Null}, declared.assert.Assert.Assert as AssertMessage}}
-use Rattle.pim_model.{specs.{Asserts.{assert_as_winner, assert_at, assert_in_no_info, assert_received, data_seen, wins, wins_again}, Forwarding.{Forwarded, forwarded, list_chosen, register_at_rp, register_received, source_here, source_joined, spt_updated, stray, watched}, Messages.Message, Sets.{Set, inherited_olist, inherited_olist_rpt, members, spt_bit, tunnel}, State.{State, iface_count}, Step.{change, packet_forwarded}, Tables.has_row, Unicast.{is_rpf_interface, is_rpf_interface_rp}, Writing.{copies_of, leaves, register_of_packet, tunnel_of}}}
+use Rattle.pim_model.{specs.{Asserts.{assert_as_winner, assert_at, assert_in_no_info, assert_received, data_seen, wins, wins_again}, Forwarding.{Forwarded, forwarded, list_chosen, register_at_rp, register_received, source_here, source_joined, spt_updated, stray, watched}, Messages.Message, Sets.{Set, inherited_olist, inherited_olist_rpt, members, spt_bit, tunnel}, State.{Addressing, State, iface_count}, Step.{change, packet_forwarded}, Tables.has_row, Unicast.{is_rpf_interface, is_rpf_interface_rp}, Writing.{copies_of, leaves, register_of_packet, tunnel_of}}}
 use Rattle.law_settled.{proofs.{ListLaws.{by_cond, filter_shorter}, RowLaws.row_put}}
 use Rattle.law_scope.{proofs.Differing.none_left}
 use Rattle.law_promises.{specs.Answers.{AssertGivesOne, CopiesOrAssert, DataGivesCopiesOrAssert, OthersGiveNone, RegisterGivesCopiesAndStop}, proofs.Made.{Configured, forwarded_configured, register_configured}}
@@ -28,7 +28,7 @@ unfolding tunnel_of
 no_tunnel s p to_tunnel e = rw e refl
 
 same_count : (s t : State) → Configured s t → iface_count t ≡ iface_count s
-same_count s t e = ap (λ (cs : List InterfaceConfig). length cs) e
+same_count s t e = ap (λ (cs : Addressing). length cs.interfaces) e
 
 few_of_same : (n m k : ℕ) → m ≡ k → n ≤ m → n ≤ k
 few_of_same n m k e le = omega (arith, e, le)

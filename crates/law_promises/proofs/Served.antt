@@ -1,8 +1,8 @@
 -- Who is served.
 use Rattle.std.{proofs.Common.{◌≡◌, ◌∙◌, ℕ, ◌==◌, ◌<◌, ◌||◌, Bool, true, false, List, length, refl, sym, ap, subst, arith, lt-ltb, inl, inr}, specs.List.Contains}
 use Rattle.pim_ip.{specs.Ipv4.{Packet, copy_text}}
-use Rattle.pim_types.{specs.declared.{config.{IfaceId.IfaceId, InterfaceConfig.InterfaceConfig}, event.Event.Event, outcome.Emission.Emission}}
-use Rattle.pim_model.{specs.{declared.accepted.Accepted.Accepted, Asserts.with_spt_bit, Cause.copies_in, Forwarding.{Forwarded, forwarded, list_chosen, source_here, source_joined, spt_updated}, Neighbours.is_dr, Receivers.{is_exclude, local_receiver_exclude, local_receiver_include}, Registers.{settle_register, with_keepalive}, Sets.{Set, assert_source, assert_star, inherited_olist, inherited_olist_rpt, is_loser, is_winner, joins, joins_star, lost_assert, lost_assert_rpt, lost_assert_star, members, pim_exclude, pim_include, pim_include_star, prunes, serves, serves_star}, State.{State, iface_count}, Step.outcome_of, Tables.below, Writing.on_link}}
+use Rattle.pim_types.{specs.declared.{config.IfaceId.IfaceId, event.Event.Event, outcome.Emission.Emission}}
+use Rattle.pim_model.{specs.{declared.accepted.Accepted.Accepted, Asserts.with_spt_bit, Cause.copies_in, Forwarding.{Forwarded, forwarded, list_chosen, source_here, source_joined, spt_updated}, Neighbours.is_dr, Receivers.{is_exclude, local_receiver_exclude, local_receiver_include}, Registers.{settle_register, with_keepalive}, Sets.{Set, assert_source, assert_star, inherited_olist, inherited_olist_rpt, is_loser, is_winner, joins, joins_star, lost_assert, lost_assert_rpt, lost_assert_star, members, pim_exclude, pim_include, pim_include_star, prunes, serves, serves_star}, State.{Addressing, State, iface_count}, Step.outcome_of, Tables.below, Writing.on_link}}
 use Rattle.law_promises.{specs.{Copies.copies_at, Served.{Came, IsListOf, IsMember, IsServed, IsSourceJoined, IsSourceMember, ListIsServed, MemberIsServed, OfGroup, OfSource, OnATree, OnSharedTree, OnShortestPath, ServedHere, SourceIsServed, renewed}}, proofs.{Links.{contains_mapped, contains_passing, is_below}, Made.{data_copies, forwarded_configured, step_taken}}}
 
 -- ---- the list that is chosen
@@ -29,7 +29,7 @@ unfolding members
 list_is_served s e i p list j came of within on off =
     let f : Forwarded = forwarded s p.destination p.source i.number in
     let same : iface_count f.state ≡ iface_count s =
-    ap (λ (cs : List InterfaceConfig). length cs) (forwarded_configured s p.destination p.source i.number) in
+    ap (λ (cs : Addressing). length cs.interfaces) (forwarded_configured s p.destination p.source i.number) in
     let there : Contains (below (iface_count f.state)) j =
     subst (λ (n : ℕ). Contains (below n) j) (sym same) (is_below (iface_count s) j within) in
     subst (λ (es : List Emission). Contains es (on_link j (copy_text p)))
@@ -56,7 +56,7 @@ renewed_same s g src iif = grind arith
 -- who is served before is served after
 module _ (s t : State) (g src j : ℕ) (same : SameFacts s t) where
   configured_after : j < iface_count s → j < iface_count t
-  configured_after within = subst (λ (cs : List InterfaceConfig). j < length cs) (sym same.configured) within
+  configured_after within = subst (λ (cs : Addressing). j < length cs.interfaces) (sym same.configured) within
 
   served_after : IsServed s g src j → IsServed t g src j
   unfolding prunes

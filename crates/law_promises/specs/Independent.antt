@@ -19,12 +19,12 @@ pub record NamesAlone (g : ℕ) (s : State) (e : Event) : Type 0 where
 -- An event that names one group leaves the answers about each source of another group unchanged; an event that is
 -- refused or ignored changes nothing at all.
 abbrev pub OtherGroupsKeep : Type 0
-OtherGroupsKeep = (s : State) (e : Event) (g : ℕ) → IsQuiet s → length s.configured ≤ most_ifaces → NamesAlone g s e
+OtherGroupsKeep = (s : State) (e : Event) (g : ℕ) → IsQuiet s → length s.configured.interfaces ≤ most_ifaces → NamesAlone g s e
     → (h src : ℕ) → (h == g) ≡ false → KeepsAnswers h src s (step s e).state
 
 -- The expiry of a timer of one group (any but a neighbour's) leaves the answers about each source of another group
 -- unchanged.
 abbrev pub OtherGroupsOutlast : Type 0
-OtherGroupsOutlast = (s : State) (w : ℕ) (e : Ending) → IsQuiet s → length s.configured ≤ most_ifaces
+OtherGroupsOutlast = (s : State) (w : ℕ) (e : Ending) → IsQuiet s → length s.configured.interfaces ≤ most_ifaces
     → isnt_neighbour e.timer.kind ≡ true
     → (h src : ℕ) → (h == group_in e.timer.key) ≡ false → KeepsAnswers h src s (fire_once w s e).0

@@ -8,3 +8,4 @@ pub mod Answers
 pub mod Hops
 pub mod NetHops
 pub mod Uncounted
+pub mod Addresses

@@ -1,5 +1,6 @@
 //! Laws of the definitions, each the contract of a function with nothing to do.
 
+ghost use Rattle.law_promises.specs.Addresses.{NoneIsAccepted, OthersAreOfInterfaces, OwnIsOffLink};
 ghost use Rattle.law_promises.specs.Answers.{AnswersAreBounded, AssertGivesOne, DataGivesCopiesOrAssert, HelloAgainIsSilent, OneSourceFollows, OthersGiveNone, RecordAsksFew, RegisterGivesCopiesAndStop, SeenIsSilent};
 ghost use Rattle.law_promises.specs.Bounded.{AddsWhatIsNeeded, AssertsStayBounded, CountedStayBounded, NothingNewAddsNone, RunStaysWithin, StepStaysWithin, TimeAddsNone};
 ghost use Rattle.law_promises.specs.Brought.{PacketIsBrought};
@@ -223,4 +224,20 @@ pub fn other_groups_keep()
 /// sources of other groups unchanged.
 pub fn other_groups_outlast()
     ensures { OtherGroupsOutlast }
+{}
+
+/// An own address of no interface, as a loopback's, lies on no link after any events, whichever interfaces are up, and no
+/// route leads to it.
+pub fn own_is_off_link()
+    ensures { OwnIsOffLink }
+{}
+
+/// Where a router has no own address of no interface, its own addresses are those of its interfaces.
+pub fn others_are_of_interfaces()
+    ensures { OthersAreOfInterfaces }
+{}
+
+/// A configuration without own addresses of no interface isn't refused for them.
+pub fn none_is_accepted()
+    ensures { NoneIsAccepted }
 {}

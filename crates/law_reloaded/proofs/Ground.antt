@@ -1,7 +1,7 @@
 -- A reload leaves the state under its configuration, at rest.
 use Rattle.std.{proofs.Common.{◌≡◌, ℕ, refl, ap, ◌∙◌}}
 use Rattle.pim_types.{specs.declared.config.Config.Config}
-use Rattle.pim_model.{specs.{State.{State, settings_of}, Step.{ran, rps_replaced}}}
+use Rattle.pim_model.{specs.{State.{State, addressing_of, settings_of}, Step.{ran, rps_replaced}}}
 use Rattle.law_named.{proofs.Configured.ground}
 use Rattle.law_restored.{specs.Reload.config_of, proofs.Accepted.{settled_ground, config_by}}
 use Rattle.law_reloaded.{specs.{Laws.ReloadIsUnder, Reloading.{hellos_anew, reload, removals, replaced, under}}}
@@ -13,7 +13,7 @@ ground_under s c = refl
 replaced_is_under : (s : State) (c : Config) (w : ℕ) → config_of (replaced s c w).0 ≡ c
 unfolding replaced config_of
 replaced_is_under s c w =
-    ap config_by (settled_ground s (under s c, hellos_anew s c.interfaces) w) ∙ ground_under s c
+    ap config_by (settled_ground s (under s c, hellos_anew s (addressing_of c)) w) ∙ ground_under s c
 
 pub reload_is_under : ReloadIsUnder
 unfolding reload

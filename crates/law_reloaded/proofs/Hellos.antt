@@ -3,7 +3,7 @@ use Rattle.std.{proofs.{Common.{◌≡◌, ℕ, zero, suc, ◌&&◌, not, cond, 
 use Rattle.pim_ip.{specs.declared.addr.Addr.Addr}
 use Rattle.pim_types.{specs.{declared.{config.InterfaceConfig.InterfaceConfig, fact.{InterfaceRow.InterfaceRow, Key.Key}, outcome.Emission.Emission, path.Hop.Hop, upstream.{SourceView.SourceView, StarView.StarView, TreeState.TreeState}}, Keys.{iface_key, is_on, same_key}}}
 use Rattle.pim_wire.{specs.declared.join_prune.Entry.Entry}
-use Rattle.pim_model.{specs.{Asserts.{assert_cancel, assert_forgotten, assert_message, without_spt_bit}, Clearing.{ClearAssert, ClearSptBit, Cleared, clear, clear_all, clearable_count, cleared, to_clear}, Firing.settled, Messages.Message, Querier.each_in_turn, Registers.settle_registers, Repeat.{after_next, and_then, until_none}, Sets.is_winner, State.{InterfaceTable, State, iface_config, interfaces_of, is_up}, Tables.{Table, row_at, same_address, same_hop}, Upstream.{TimerChange, Told, becomes_star, group_upstream, if_neighbour, is_due_to_assert, join_prune_to, join_star_to, moved_join_timer, moved_override_timer, prune_star_to, rpt_told, rpt_told_from, source_stays, source_told, source_upstream, source_view, sources_of, star_stays, star_told, star_view, upstream}, Writing.{all_written, hello_emission, hello_paid, hellos_paid, pim_on_link, write_all, written}}}
+use Rattle.pim_model.{specs.{Asserts.{assert_cancel, assert_forgotten, assert_message, without_spt_bit}, Clearing.{ClearAssert, ClearSptBit, Cleared, clear, clear_all, clearable_count, cleared, to_clear}, Firing.settled, Messages.Message, Querier.each_in_turn, Registers.settle_registers, Repeat.{after_next, and_then, until_none}, Sets.is_winner, State.{Addressing, InterfaceTable, State, iface_config, interfaces_of, is_up}, Tables.{Table, row_at, same_address, same_hop}, Upstream.{TimerChange, Told, becomes_star, group_upstream, if_neighbour, is_due_to_assert, join_prune_to, join_star_to, moved_join_timer, moved_override_timer, prune_star_to, rpt_told, rpt_told_from, source_stays, source_told, source_upstream, source_view, sources_of, star_stays, star_told, star_view, upstream}, Writing.{all_written, hello_emission, hello_paid, hellos_paid, pim_on_link, write_all, written}}}
 use Rattle.law_settled.{proofs.{ListLaws.by_cond, SettlingLaws.{kept_by_clearing, kept_by_telling}}}
 use Rattle.law_reloaded.{specs.{Laws.{HellosLeaveFirst, NoOtherHello, UntoldSaysSame, is_hello, told_anew}, Reloading.{hellos_anew, replaced, says_other, says_same, tells_anew, under}}}
 
@@ -224,8 +224,8 @@ not_false : (b : Bool) → not b ≡ false → b ≡ true
 not_false true e = refl
 not_false false e = cc
 
-as_same : (s : State) (configured : List InterfaceConfig) (i : ℕ) (a b : InterfaceConfig) → iface_config s i ≡ Some a
-    → slice_get configured i ≡ Some b → is_up s i ≡ true → tells_anew s configured i ≡ false → says_same a b ≡ true
+as_same : (s : State) (configured : Addressing) (i : ℕ) (a b : InterfaceConfig) → iface_config s i ≡ Some a
+    → slice_get configured.interfaces i ≡ Some b → is_up s i ≡ true → tells_anew s configured i ≡ false → says_same a b ≡ true
 unfolding tells_anew
 as_same s configured i a b of_a of_b up e =
     not_false (says_same a b)

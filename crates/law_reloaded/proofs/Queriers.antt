@@ -1,7 +1,7 @@
 -- Queriers under other settings: the table stays settled, and under the same settings it is the same.
 use Rattle.std.{proofs.{Common.{◌≡◌, ◌==◌, ◌&&◌, ◌∙◌, ℕ, ◌+◌, ◌*◌, ◌<◌, ◌≤◌, min, nat_le, nat_lt, Bool, true, false, List, [], ◌∷◌, map, refl, sym, ap, subst, arith, eqb-true, eq-eqb, lt-ltb, ltb-true}, lemmas.Bool.Decides.nat_tests}, specs.{Cmp.{first_so, second_so}, List.list_all}}
 use Rattle.pim_types.{specs.{declared.{config.{Config.Config, Settings.Settings}, fact.{Key.Key, QuerierRole.QuerierRole, QuerierRow.QuerierRow}}, Keys.{iface_in, iface_key, same_key}}}
-use Rattle.pim_model.{specs.{Asserts.{assert_forgotten, without_spt_bit}, Clearing.clear, Firing.settled, Messages.Message, Registers.settle_registers, State.{State, is_up, settings_of}, Step.{ran, rps_replaced}, Tables.Table, Timers.next_query, Upstream.{moved_join_timer, moved_override_timer}, Writing.write_all}}
+use Rattle.pim_model.{specs.{Asserts.{assert_forgotten, without_spt_bit}, Clearing.clear, Firing.settled, Messages.Message, Registers.settle_registers, State.{State, addressing_of, is_up, settings_of}, Step.{ran, rps_replaced}, Tables.Table, Timers.next_query, Upstream.{moved_join_timer, moved_override_timer}, Writing.write_all}}
 use Rattle.law_settled.{specs.{Laws.is_querier_entry, Ready.IsSettled}, proofs.{FineStates.{Good, GoodQuerier, Runs, rows_fine}, FineTables.{fine_map}, Parts.Queriers, SettledStates.{fine_is_settled, settled_is_fine}, SettlingLaws.{kept_by_clearing, kept_by_telling}}}
 use Rattle.law_restored.{specs.Reload.IsSetting}
 use Rattle.law_reloaded.{specs.{Laws.{NextQueryIsNearAnew, is_near_by, next_query_is_near}, Reloading.{hellos_anew, queriers_under, reload, removals, replaced, row_under, under}}}
@@ -135,4 +135,4 @@ pub next_query_is_near_anew : NextQueryIsNearAnew
 unfolding next_query_is_near reload replaced
 next_query_is_near_anew s c w =
     let after : State = (ran s (removals s c w)).1 in
-    ap near_of (settled_asked after (under after c, hellos_anew after c.interfaces) w) ∙ under_near after c
+    ap near_of (settled_asked after (under after c, hellos_anew after (addressing_of c)) w) ∙ under_near after c

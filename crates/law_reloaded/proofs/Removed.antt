@@ -2,7 +2,7 @@
 use Rattle.std.{proofs.{Common.{◌≡◌, ◌==◌, ℕ, zero, suc, ◌<◌, ◌≤◌, ◌+◌, ◌-◌, ◌⊎◌, inl, inr, ⊎_elim, nat_le, nat_lt, ◌&&◌, not, cond, Bool, true, false, List, [], length, map, Ok, refl, sym, ap, ◌∙◌, arith, lt-ltb, ltb-true}, lemmas.Bool.{cases_lt, eqb-false, eqb-true, Decides.nat_tests}}, specs.List.{list_all, range_with_len}}
 use Rattle.pim_ip.{specs.declared.refusal.Refusal.Refusal}
 use Rattle.pim_types.{specs.{declared.{config.Config.Config, fact.{InterfaceRow.InterfaceRow, Key.Key}, outcome.Ignored.Ignored}, Keys.{iface_in, iface_key, is_on}}}
-use Rattle.pim_model.{specs.{declared.accepted.Accepted.Accepted, Asserts.{assert_forgotten, without_spt_bit}, Clearing.clear, Firing.settled, Full.is_full, Judging.{down_judged, ignore_if, judged, refuse_if, ◌>>◌}, Messages.Message, Registers.settle_registers, State.{State, iface_count, interfaces_of, is_up}, Step.{Answered, change, concluded, done, iface_down, ran, rps_replaced, step, taken, taken_unless_full}, Tables.{Table, has_row}, Upstream.{moved_join_timer, moved_override_timer, upstream}, Writing.{hellos_paid, write_all}}}
+use Rattle.pim_model.{specs.{declared.accepted.Accepted.Accepted, Asserts.{assert_forgotten, without_spt_bit}, Clearing.clear, Firing.settled, Full.is_full, Judging.{down_judged, ignore_if, judged, refuse_if, ◌>>◌}, Messages.Message, Registers.settle_registers, State.{addressing_of, State, iface_count, interfaces_of, is_up}, Step.{Answered, change, concluded, done, iface_down, ran, rps_replaced, step, taken, taken_unless_full}, Tables.{Table, has_row}, Upstream.{moved_join_timer, moved_override_timer, upstream}, Writing.{hellos_paid, write_all}}}
 use Rattle.law_settled.{proofs.{ListLaws.all_more, RowLaws.{has_row_dropped, has_row_map}, SettlingLaws.{kept_by_clearing, kept_by_telling, kept_by_writing}}, specs.Ready.IsTidy}
 use Rattle.law_named.{proofs.Configured.Ground}
 use Rattle.law_restored.{specs.Reload.config_of, proofs.Accepted.settled_ground}
@@ -53,7 +53,7 @@ module _ (s : State) (w i : ℕ) where
   taken_downs : Downs (taken s w (Accepted.Down (record { number = i })))
   unfolding taken done change iface_down
   taken_downs =
-      (ap (λ (g : Ground). length g.configured) (settled_ground s (iface_down s i, []) w), down_up s w i)
+      (ap (λ (g : Ground). length g.configured.interfaces) (settled_ground s (iface_down s i, []) w), down_up s w i)
 
   full_downs : Downs (taken_unless_full s w (Accepted.Down (record { number = i })))
   unfolding taken_unless_full is_full
@@ -142,7 +142,7 @@ module _ (s : State) (c : Config) (w : ℕ) where
 
   replaced_up : (j : ℕ) → is_up (reload s c w).0 j ≡ is_up after j
   unfolding reload replaced under rps_replaced
-  replaced_up j = settled_up after (under after c, hellos_anew after c.interfaces) w j
+  replaced_up j = settled_up after (under after c, hellos_anew after (addressing_of c)) w j
 
   none_left : iface_count s ≤ length c.interfaces → iface_count s - length c.interfaces ≡ 0
   none_left h = omega (arith, h)

@@ -29,12 +29,12 @@ and_false false = refl
 none_tells : (s : State) (i : ℕ) → tells_anew s s.configured i ≡ false
 unfolding tells_anew iface_config
 none_tells s i =
-    ap (λ (b : Bool). is_up s i && b) (same_is_not_other (slice_get s.configured i)) ∙ and_false (is_up s i)
+    ap (λ (b : Bool). is_up s i && b) (same_is_not_other (slice_get s.configured.interfaces i)) ∙ and_false (is_up s i)
 
 pub no_hello : (s : State) → hellos_anew s s.configured ≡ []
 unfolding hellos_anew
 no_hello s =
-    ap (map Message.Hello) (none_left (tells_anew s s.configured) (none_tells s) (below (length s.configured)))
+    ap (map Message.Hello) (none_left (tells_anew s s.configured) (none_tells s) (below (length s.configured.interfaces)))
 
 -- ---- no change of registers
 

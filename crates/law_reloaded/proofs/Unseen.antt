@@ -1,12 +1,12 @@
 -- Interfaces that are appended are down, so that no macro sees them; and none but the timers' spans sees delays.
 use Rattle.std.{proofs.{Common.{◌≡◌, ◌==◌, ℕ, zero, suc, ◌<◌, ◌≤◌, ◌+◌, ◌-◌, ⊎_elim, ◌&&◌, ◌||◌, not, cond, Bool, true, false, List, [], ◌∷◌, ◌++◌, Option, Some, None, option_map, is_some, append-nil, length, length-append, map, filter, refl, sym, ap, ◌∙◌, arith, eqb-true, ltb-true}, lemmas.{Bool.cases_lt, List.Folds.list_any-append}}, specs.{List.{AllByRecursion, find, list_all, list_any, range_with_len}, Option.{option_map_or, option_or}, Prelude.{if◌then◌else◌, option_and_then, slice_get}}}
 use Rattle.pim_types.{specs.{declared.{config.InterfaceConfig.InterfaceConfig, fact.{AssertRow.AssertRow, Key.Key, NeighbourRow.NeighbourRow, RegisterRow.RegisterRow, SourceRow.SourceRow, GroupRecordRow.GroupRecordRow}, path.Path.Path, outcome.{Emission.Emission, Outcome.Outcome}, upstream.{SourceView.SourceView, TreeState.TreeState}}, Keys.{group_in, iface_in, is_of_group, is_on, is_star, rpt_key, source_in, source_key, star_key}}}
-use Rattle.pim_model.{specs.{Asserts.{could_assert_at, is_tracking_at, my_metric_at}, Clearing.{assert_must_go, assert_to_clear, clear, clear_all, clearable_count, cleared, first_by, is_rpf_at, spt_must_go, spt_to_clear, to_clear}, Firing.settled, Messages.Message, Querier.each_in_turn, Registers.{could_register, has_other_rp, settle_registers}, Step.{ran, rps_replaced}, Writing.{all_written, write_all}, AssertMacros.{could_assert, could_assert_star, forwarding_set, infinite, is_tracking_desired, is_tracking_desired_star, my_metric, my_metric_star}, Desires.{is_immediate_empty, is_inherited_empty, join_desired, join_desired_star, prune_desired, rpf_rpt, rpf_source, rpf_star, tree_state, winner_hop}, Neighbours.{is_dr, is_dr_among, is_neighbour, nbr, nbr_among, neighbours_on}, Receivers.{is_exclude, is_exclude_among, local_receiver_exclude, local_receiver_include, local_receiver_include_among, source_record_among}, Sets.{assert_source, assert_star, immediate_olist, immediate_olist_star, inherited_olist, inherited_olist_rpt, is_beaten, is_better, is_empty, is_kept_alive, is_loser, is_winner, joins, joins_star, lost_assert, lost_assert_rpt, lost_assert_star, pim_exclude, pim_include, pim_include_star, prunes, route_metric, rpt_metric, serves, serves_star, spt_bit, spt_metric, tunnel}, State.{State, address_among, iface_config, iface_count, is_own, is_own_among, is_up, my_address, my_priority, settings_of}, Tables.{Table, below, has_row, keys_in, row_at, rows_on, same_bool, same_hop, same_option}, Unicast.{is_on_link_among, link_among, route, route_among, routed_among, rp_of, rp_route, rpf_interface, rpf_interface_rp, link_path, subnet}, Upstream.{Told, fact_keys, group_upstream, groups_of, nothing_told, rpt_told, source_told, source_upstream, source_view, sources_of, star_told, star_view, upstream, with_join_timer, with_override_timer}}}
-use Rattle.pim_ip.{specs.{Addr.addr, Prefixes.contains}}
+use Rattle.pim_model.{specs.{Asserts.{could_assert_at, is_tracking_at, my_metric_at}, Clearing.{assert_must_go, assert_to_clear, clear, clear_all, clearable_count, cleared, first_by, is_rpf_at, spt_must_go, spt_to_clear, to_clear}, Firing.settled, Messages.Message, Querier.each_in_turn, Registers.{could_register, has_other_rp, settle_registers}, Step.{ran, rps_replaced}, Writing.{all_written, write_all}, AssertMacros.{could_assert, could_assert_star, forwarding_set, infinite, is_tracking_desired, is_tracking_desired_star, my_metric, my_metric_star}, Desires.{is_immediate_empty, is_inherited_empty, join_desired, join_desired_star, prune_desired, rpf_rpt, rpf_source, rpf_star, tree_state, winner_hop}, Neighbours.{is_dr, is_dr_among, is_neighbour, nbr, nbr_among, neighbours_on}, Receivers.{is_exclude, is_exclude_among, local_receiver_exclude, local_receiver_include, local_receiver_include_among, source_record_among}, Sets.{assert_source, assert_star, immediate_olist, immediate_olist_star, inherited_olist, inherited_olist_rpt, is_beaten, is_better, is_empty, is_kept_alive, is_loser, is_winner, joins, joins_star, lost_assert, lost_assert_rpt, lost_assert_star, pim_exclude, pim_include, pim_include_star, prunes, route_metric, rpt_metric, serves, serves_star, spt_bit, spt_metric, tunnel}, State.{Addressing, State, address_among, iface_config, iface_count, is_own, is_own_among, is_up, my_address, my_priority, settings_of}, Tables.{Table, below, has_row, keys_in, row_at, rows_on, same_bool, same_hop, same_option}, Unicast.{is_on_link_among, link_among, route, route_among, routed_among, rp_of, rp_route, rpf_interface, rpf_interface_rp, link_path, subnet}, Upstream.{Told, fact_keys, group_upstream, groups_of, nothing_told, rpt_told, source_told, source_upstream, source_view, sources_of, star_told, star_view, upstream, with_join_timer, with_override_timer}}}
+use Rattle.pim_ip.{specs.{Addr.addr, Prefixes.contains, declared.addr.Addr.Addr}}
 use Rattle.law_settled.{proofs.{ListLaws.{any_among_all, any_of_filter, each_both, each_more, each_of_list, list_of_each}, Numbers.any_ascending, TableLaws.{any_of_map, row_is_there}, TurnLaws.same_when_none}, specs.Ready.IsTidy}
 use Rattle.law_scope.{specs.{Locality.{IsQuiet, is_register_settled, touched_registers, touching}, Rest.IsAtRest}, proofs.{Differing.none_left, Registers.registers_of_touched, Touches.touching_is_closed, Turns.turns_filtered, UntoldKeys.{source_untold_where_agreed, star_untold_where_agreed}}}
 use Rattle.law_restored.{specs.Reload.config_of}
-use Rattle.law_reloaded.{specs.{Laws.{AppendedMoveNothing, AreConfigured, AreNew, DelaysMoveNothing, next_query_is_near, with_interfaces, with_more, without_delays}, Reloading.{down_event, goodbyes, hellos_anew, reload, removals, replaced, says_other, sent_by, tells_anew, under}}, proofs.{Goodbyes.none_say, Queriers.same_queriers, WonAsserts.{SameAt, same_asserts}, Settings.{and_false, same_is_not_other, same_ranges}}}
+use Rattle.law_reloaded.{specs.{Laws.{AppendedMoveNothing, AreConfigured, AreNew, DelaysMoveNothing, appended, next_query_is_near, with_addressing, with_more, without_delays}, Reloading.{down_event, goodbyes, hellos_anew, reload, removals, replaced, says_other, sent_by, tells_anew, under}}, proofs.{Goodbyes.none_say, Queriers.same_queriers, WonAsserts.{SameAt, same_asserts}, Settings.{and_false, same_is_not_other, same_ranges}}}
 
 -- ---- lists with more behind
 
@@ -53,17 +53,17 @@ module _ (p q : ℕ → Bool) where
 -- ---- the state with more interfaces
 
 -- an address is the router's by the one and not by the other
-abbrev pub is_moved : List InterfaceConfig → List InterfaceConfig → ℕ → Bool
+abbrev pub is_moved : Addressing → Addressing → ℕ → Bool
 is_moved before after a = not (same_bool (is_own_among after a) (is_own_among before a))
 
 -- The interfaces are configured alike, as far as macros read it, and more may follow.
-pub record IsAlike (s : State) (after : List InterfaceConfig) : Type 0 where
-  pub longer : iface_count s ≤ length after
+pub record IsAlike (s : State) (after : Addressing) : Type 0 where
+  pub longer : iface_count s ≤ length after.interfaces
   pub priority : (i : ℕ) → i < iface_count s → my_priority (record s { configured = after }) i ≡ my_priority s i
   pub address : (i : ℕ) → i < iface_count s → my_address (record s { configured = after }) i ≡ my_address s i
   pub link : (i a : ℕ) → i < iface_count s
-      → option_map_or (λ (c : InterfaceConfig). contains (subnet c) a) (slice_get after i) false
-      ≡ option_map_or (λ (c : InterfaceConfig). contains (subnet c) a) (slice_get s.configured i) false
+      → option_map_or (λ (c : InterfaceConfig). contains (subnet c) a) (slice_get after.interfaces i) false
+      ≡ option_map_or (λ (c : InterfaceConfig). contains (subnet c) a) (slice_get s.configured.interfaces i) false
   pub rps : (g rp : ℕ) → rp_of s g ≡ Some rp → is_own_among after rp ≡ is_own_among s.configured rp
   pub sources : list_any (λ k. is_moved s.configured after (source_in k)) (fact_keys s) ≡ false
 
@@ -73,7 +73,7 @@ both_same true false e = cc
 both_same false true e = cc
 both_same false false e = refl
 
-module _ (s : State) (cs : List InterfaceConfig) (tidy : IsTidy s) (are : AreConfigured s) (alike : IsAlike s cs) where
+module _ (s : State) (cs : Addressing) (tidy : IsTidy s) (are : AreConfigured s) (alike : IsAlike s cs) where
   abbrev x : State
   x = record s { configured = cs }
 
@@ -714,15 +714,23 @@ same_itself : (b : Bool) → same_bool b b ≡ true
 same_itself true = refl
 same_itself false = refl
 
-module _ (s : State) (more : List InterfaceConfig) (new : AreNew s more) where
-  own_front : (a : ℕ) → is_own_among more a ≡ false → is_own_among (s.configured ++ more) a ≡ is_own_among s.configured a
+module _ (s : State) (more : Addressing) (new : AreNew s more) where
+  both_in_turn : (p q r t : Bool) → (r || t) ≡ false → ((p || r) || (q || t)) ≡ (p || q)
+  both_in_turn p q true t e = cc
+  both_in_turn p q false true e = cc
+  both_in_turn true q false false e = refl
+  both_in_turn false q false false e = or_false q false refl
+
+  own_front : (a : ℕ) → is_own_among more a ≡ false → is_own_among (appended s.configured more) a ≡ is_own_among s.configured a
   unfolding is_own_among
   own_front a free =
-      list_any-append (λ (c : InterfaceConfig). c.address.bits == a) s.configured more
-      ∙ or_false (list_any (λ (c : InterfaceConfig). c.address.bits == a) s.configured) _ free
+      (λ j. (list_any-append (λ (c : InterfaceConfig). c.address.bits == a) s.configured.interfaces more.interfaces j)
+      || (list_any-append (λ (b : Addr). b.bits == a) s.configured.addresses more.addresses j))
+      ∙ both_in_turn (list_any (λ (c : InterfaceConfig). c.address.bits == a) s.configured.interfaces)
+      (list_any (λ (b : Addr). b.bits == a) s.configured.addresses) _ _ free
 
   none_moves : (k : Key) → is_own_among more (source_in k) ≡ false
-      → is_moved s.configured (s.configured ++ more) (source_in k) ≡ false
+      → is_moved s.configured (appended s.configured more) (source_in k) ≡ false
   none_moves k free =
       (λ j. not (same_bool (own_front (source_in k) free j) (is_own_among s.configured (source_in k))))
       ∙ ap not (same_itself (is_own_among s.configured (source_in k)))
@@ -738,37 +746,37 @@ module _ (s : State) (more : List InterfaceConfig) (new : AreNew s more) where
       moved_step false true c d f g e = cc
       moved_step false false c d f g e = rw (f refl, g refl) refl
 
-  pub appended_alike : IsAlike s (s.configured ++ more)
+  pub appended_alike : IsAlike s (appended s.configured more)
   appended_alike = record {
-    longer = (let counted : length (s.configured ++ more) ≡ iface_count s + length more = length-append s.configured more in omega (arith, counted));
-    priority = λ i low. ap (λ (o : Option InterfaceConfig). option_map_or (λ (c : InterfaceConfig). c.priority) o 0) (slice_front s.configured more i low);
-    address = λ i low. ap (λ (o : Option InterfaceConfig). option_map_or (λ (c : InterfaceConfig). c.address.bits) o 0) (slice_front s.configured more i low);
-    link = λ i a low. ap (λ (o : Option InterfaceConfig). option_map_or (λ (c : InterfaceConfig). contains (subnet c) a) o false) (slice_front s.configured more i low);
+    longer = (let counted : length (s.configured.interfaces ++ more.interfaces) ≡ iface_count s + length more.interfaces = length-append s.configured.interfaces more.interfaces in omega (arith, counted));
+    priority = λ i low. ap (λ (o : Option InterfaceConfig). option_map_or (λ (c : InterfaceConfig). c.priority) o 0) (slice_front s.configured.interfaces more.interfaces i low);
+    address = λ i low. ap (λ (o : Option InterfaceConfig). option_map_or (λ (c : InterfaceConfig). c.address.bits) o 0) (slice_front s.configured.interfaces more.interfaces i low);
+    link = λ i a low. ap (λ (o : Option InterfaceConfig). option_map_or (λ (c : InterfaceConfig). contains (subnet c) a) o false) (slice_front s.configured.interfaces more.interfaces i low);
     rps = λ g rp e. own_front rp (new.rps g rp e);
-    sources = moved_among (λ k. is_own_among more (source_in k)) (λ k. is_moved s.configured (s.configured ++ more) (source_in k)) none_moves (fact_keys s) new.sources;
+    sources = moved_among (λ k. is_own_among more (source_in k)) (λ k. is_moved s.configured (appended s.configured more) (source_in k)) none_moves (fact_keys s) new.sources;
   }
 
 -- ---- a reload
 
-module _ (s : State) (more : List InterfaceConfig) (w : ℕ) where
-  abbrev all : List InterfaceConfig
-  all = s.configured ++ more
+module _ (s : State) (more : Addressing) (w : ℕ) where
+  abbrev all : Addressing
+  all = appended s.configured more
 
-  none_gone : iface_count s - length all ≡ 0
-  none_gone = let counted : length all ≡ iface_count s + length more = length-append s.configured more in omega (arith, counted)
+  none_gone : iface_count s - length all.interfaces ≡ 0
+  none_gone = let counted : length all.interfaces ≡ iface_count s + length more.interfaces = length-append s.configured.interfaces more.interfaces in omega (arith, counted)
 
   none_removed : removals s (with_more s more) w ≡ []
   unfolding removals
-  none_removed = ap (λ (m : ℕ). map (down_event w) (range_with_len (length all) m)) none_gone
+  none_removed = ap (λ (m : ℕ). map (down_event w) (range_with_len (length all.interfaces) m)) none_gone
 
   none_tells : (i : ℕ) → tells_anew s all i ≡ false
   unfolding tells_anew iface_config
   none_tells i =
-      ap (λ (b : Bool). is_up s i && b) (front_says_same s.configured more i) ∙ and_false (is_up s i)
+      ap (λ (b : Bool). is_up s i && b) (front_says_same s.configured.interfaces more.interfaces i) ∙ and_false (is_up s i)
 
   no_hello : hellos_anew s all ≡ []
   unfolding hellos_anew
-  no_hello = ap (map Message.Hello) (none_left (tells_anew s all) none_tells (below (length all)))
+  no_hello = ap (map Message.Hello) (none_left (tells_anew s all) none_tells (below (length all.interfaces)))
 
   is_longer : next_query_is_near s ≡ true → AllByRecursion (SameAt s all) s.asserts → under s (with_more s more) ≡ record s { configured = all }
   unfolding under settings_of config_of
@@ -777,16 +785,16 @@ module _ (s : State) (more : List InterfaceConfig) (w : ℕ) where
       ∙ same_ranges (record s { configured = all })
 
 -- more interfaces leave the address of each that is up
-front_address : (s : State) (more : List InterfaceConfig) → AreConfigured s → (i : ℕ) → is_up s i ≡ true
-    → address_among s.configured i ≡ address_among (s.configured ++ more) i
+front_address : (s : State) (more : Addressing) → AreConfigured s → (i : ℕ) → is_up s i ≡ true
+    → address_among s.configured i ≡ address_among (appended s.configured more) i
 front_address s more are i up =
     ap (λ (o : Option InterfaceConfig). option_map_or (λ (c : InterfaceConfig). c.address.bits) o 0)
-    (sym (slice_front s.configured more i (ltb-true i (iface_count s) (are i up))))
+    (sym (slice_front s.configured.interfaces more.interfaces i (ltb-true i (iface_count s) (are i up))))
 
-kept_addresses : (s : State) (more : List InterfaceConfig) → IsTidy s → AreConfigured s
-    → AllByRecursion (SameAt s (s.configured ++ more)) s.asserts
+kept_addresses : (s : State) (more : Addressing) → IsTidy s → AreConfigured s
+    → AllByRecursion (SameAt s (appended s.configured more)) s.asserts
 kept_addresses s more tidy are =
-    each_more (λ (e : Key × AssertRow). is_up s (iface_in e.0) ≡ true) (SameAt s (s.configured ++ more))
+    each_more (λ (e : Key × AssertRow). is_up s (iface_in e.0) ≡ true) (SameAt s (appended s.configured more))
     (λ e up. front_address s more are (iface_in e.0) up)
     s.asserts (each_of_list (λ (e : Key × AssertRow). is_up s (iface_in e.0)) s.asserts tidy.asserts)
 
@@ -795,21 +803,22 @@ unfolding reload replaced ran sent_by write_all all_written each_in_turn
 appended_move_nothing s more w h near are new =
     (λ j. (let gone : List Outcome × State = ran s (none_removed s more w j) in
     let after : State × List Emission = replaced gone.1 (with_more s more) w in
-    (after.0, sent_by gone.0 ++ (goodbyes gone.1 (s.configured ++ more) ++ after.1))))
+    (after.0, sent_by gone.0 ++ (goodbyes gone.1 (appended s.configured more) ++ after.1))))
     ∙ ((λ j. (let after : State × List Emission = settled s (is_longer s more w near (kept_addresses s more h.settled.tidy are) j, no_hello s more w j) w in
-    (after.0, none_say s (s.configured ++ more) (front_address s more are) j ++ after.1)))
-    ∙ none_follows s (s.configured ++ more) h.settled.tidy are (appended_alike s more new) h.quiet w [])
+    (after.0, none_say s (appended s.configured more) (front_address s more are) j ++ after.1)))
+    ∙ none_follows s (appended s.configured more) h.settled.tidy are (appended_alike s more new) h.quiet w [])
 
 -- ---- other delays
 
-module _ (s : State) (cs : List InterfaceConfig) (same : map without_delays cs ≡ map without_delays s.configured) where
+module _ (s : State) (cs : Addressing) (same : map without_delays cs.interfaces ≡ map without_delays s.configured.interfaces)
+    (own : cs.addresses ≡ s.configured.addresses) where
   bare_at : (i : ℕ) (xs : List InterfaceConfig) → slice_get (map without_delays xs) i ≡ option_map without_delays (slice_get xs i)
   bare_at i [] = refl
   bare_at zero (c ∷ xs) = refl
   bare_at (suc i) (c ∷ xs) = bare_at i xs
 
-  at_same : (i : ℕ) → option_map without_delays (slice_get cs i) ≡ option_map without_delays (slice_get s.configured i)
-  at_same i = sym (bare_at i cs) ∙ (ap (λ (xs : List InterfaceConfig). slice_get xs i) same ∙ bare_at i s.configured)
+  at_same : (i : ℕ) → option_map without_delays (slice_get cs.interfaces i) ≡ option_map without_delays (slice_get s.configured.interfaces i)
+  at_same i = sym (bare_at i cs.interfaces) ∙ (ap (λ (xs : List InterfaceConfig). slice_get xs i) same ∙ bare_at i s.configured.interfaces)
 
   -- a value that doesn't read delays
   value_bare : {X : Type 0} (f : InterfaceConfig → X) (d : X) → ((c : InterfaceConfig) → f (without_delays c) ≡ f c)
@@ -818,11 +827,11 @@ module _ (s : State) (cs : List InterfaceConfig) (same : map without_delays cs �
   value_bare f d reads (Some c) = reads c
 
   value_same : {X : Type 0} (f : InterfaceConfig → X) (d : X) → ((c : InterfaceConfig) → f (without_delays c) ≡ f c)
-      → (i : ℕ) → option_map_or f (slice_get cs i) d ≡ option_map_or f (slice_get s.configured i) d
+      → (i : ℕ) → option_map_or f (slice_get cs.interfaces i) d ≡ option_map_or f (slice_get s.configured.interfaces i) d
   value_same f d reads i =
-      sym (value_bare f d reads (slice_get cs i))
+      sym (value_bare f d reads (slice_get cs.interfaces i))
       ∙ (ap (λ (o : Option InterfaceConfig). option_map_or f o d) (at_same i)
-      ∙ value_bare f d reads (slice_get s.configured i))
+      ∙ value_bare f d reads (slice_get s.configured.interfaces i))
 
   any_bare : (a : ℕ) (xs : List InterfaceConfig)
       → list_any (λ (c : InterfaceConfig). c.address.bits == a) (map without_delays xs) ≡ list_any (λ (c : InterfaceConfig). c.address.bits == a) xs
@@ -832,15 +841,16 @@ module _ (s : State) (cs : List InterfaceConfig) (same : map without_delays cs �
   own_bare : (a : ℕ) → is_own_among cs a ≡ is_own_among s.configured a
   unfolding is_own_among
   own_bare a =
-      sym (any_bare a cs)
-      ∙ (ap (list_any (λ (c : InterfaceConfig). c.address.bits == a)) same ∙ any_bare a s.configured)
+      let of_interfaces = sym (any_bare a cs.interfaces)
+      ∙ (ap (list_any (λ (c : InterfaceConfig). c.address.bits == a)) same ∙ any_bare a s.configured.interfaces) in
+      λ j. of_interfaces j || list_any (λ (b : Addr). b.bits == a) (own j)
 
   length_bare : (xs : List InterfaceConfig) → length (map without_delays xs) ≡ length xs
   length_bare [] = refl
   length_bare (c ∷ xs) = ap suc (length_bare xs)
 
-  same_length : length cs ≡ length s.configured
-  same_length = sym (length_bare cs) ∙ (ap (λ (xs : List InterfaceConfig). length xs) same ∙ length_bare s.configured)
+  same_length : length cs.interfaces ≡ length s.configured.interfaces
+  same_length = sym (length_bare cs.interfaces) ∙ (ap (λ (xs : List InterfaceConfig). length xs) same ∙ length_bare s.configured.interfaces)
 
   none_own : (keys : List Key) → list_any (λ k. is_moved s.configured cs (source_in k)) keys ≡ false
   none_own [] = refl
@@ -859,33 +869,33 @@ module _ (s : State) (cs : List InterfaceConfig) (same : map without_delays cs �
   }
 
   module _ (w : ℕ) where
-    no_fewer : iface_count s - length cs ≡ 0
+    no_fewer : iface_count s - length cs.interfaces ≡ 0
     no_fewer = let counted = same_length in omega (arith, counted)
 
-    no_removal : removals s (with_interfaces s cs) w ≡ []
+    no_removal : removals s (with_addressing s cs) w ≡ []
     unfolding removals
-    no_removal = ap (λ (m : ℕ). map (down_event w) (range_with_len (length cs) m)) no_fewer
+    no_removal = ap (λ (m : ℕ). map (down_event w) (range_with_len (length cs.interfaces) m)) no_fewer
 
     each_address : (rows : Table AssertRow) → AllByRecursion (SameAt s cs) rows
     each_address [] = tt
     each_address (e ∷ rows) = (sym (value_same (λ c. c.address.bits) 0 (λ c. refl) (iface_in e.0)), each_address rows)
 
-    is_delayed : next_query_is_near s ≡ true → under s (with_interfaces s cs) ≡ record s { configured = cs }
+    is_delayed : next_query_is_near s ≡ true → under s (with_addressing s cs) ≡ record s { configured = cs }
     unfolding under settings_of config_of
     is_delayed near =
         (λ i. rps_replaced (record s { configured = cs; queriers = same_queriers s near i; asserts = same_asserts s cs (each_address s.asserts) i }) s.ranges)
         ∙ same_ranges (record s { configured = cs })
 
     pub delays_written : IsAtRest s → next_query_is_near s ≡ true → AreConfigured s
-        → reload s (with_interfaces s cs) w ≡ write_all (record s { configured = cs }) (hellos_anew s cs)
+        → reload s (with_addressing s cs) w ≡ write_all (record s { configured = cs }) (hellos_anew s cs)
     unfolding reload replaced ran sent_by
     delays_written h near are =
         (λ j. (let gone : List Outcome × State = ran s (no_removal j) in
-        let after : State × List Emission = replaced gone.1 (with_interfaces s cs) w in
+        let after : State × List Emission = replaced gone.1 (with_addressing s cs) w in
         (after.0, sent_by gone.0 ++ (goodbyes gone.1 cs ++ after.1))))
         ∙ ((λ j. (let after : State × List Emission = settled s (is_delayed near j, hellos_anew s cs) w in
         (after.0, none_say s cs (λ i up. sym (value_same (λ c. c.address.bits) 0 (λ c. refl) i)) j ++ after.1)))
         ∙ none_follows s cs h.settled.tidy are delays_alike h.quiet w (hellos_anew s cs))
 
 pub delays_move_nothing : DelaysMoveNothing
-delays_move_nothing s cs w same h near are = delays_written s cs same w h near are
+delays_move_nothing s cs w same own h near are = delays_written s cs same own w h near are

@@ -1,11 +1,11 @@
 -- Asserts under other interfaces: the table stays settled, and where no address changes it is the same.
 use Rattle.std.{proofs.Common.{◌≡◌, ◌==◌, ◌&&◌, not, nat_lt, Bool, true, false, List, [], ◌∷◌, Some, filter, refl, ap, eq-eqb}, specs.List.{AllByRecursion}}
-use Rattle.pim_types.{specs.{declared.{config.InterfaceConfig.InterfaceConfig, fact.{AssertRow.AssertRow, Key.Key}}, Keys.iface_in}}
-use Rattle.pim_model.{specs.{Sets.is_winner, State.{State, address_among, is_up}, Tables.Table}}
+use Rattle.pim_types.{specs.{declared.{fact.{AssertRow.AssertRow, Key.Key}}, Keys.iface_in}}
+use Rattle.pim_model.{specs.{Sets.is_winner, State.{Addressing, State, address_among, is_up}, Tables.Table}}
 use Rattle.law_settled.{specs.Ready.IsSettled, proofs.{FineStates.{Good, rows_fine}, FineTables.{fine_filter}, Parts.Asserts, SettledStates.{fine_is_settled, settled_is_fine}}}
 use Rattle.law_reloaded.{specs.Reloading.{asserts_under, is_won_before}}
 
-pub asserts_settled : (s : State) (configured : List InterfaceConfig) → IsSettled s
+pub asserts_settled : (s : State) (configured : Addressing) → IsSettled s
     → IsSettled (record s { asserts = asserts_under s configured })
 unfolding asserts_under
 asserts_settled s configured h =
@@ -15,14 +15,14 @@ asserts_settled s configured h =
     (fine_filter (Good (nat_lt s.present) (is_up s) Asserts) (λ e. not (is_won_before s configured e)) s.asserts (f.tables Asserts)))
 
 -- the address of each assert's interface is the same
-abbrev pub SameAt : State → List InterfaceConfig → Key × AssertRow → Type 0
+abbrev pub SameAt : State → Addressing → Key × AssertRow → Type 0
 SameAt s configured e = address_among s.configured (iface_in e.0) ≡ address_among configured (iface_in e.0)
 
 none_won : (w b : Bool) → b ≡ true → not (w && not b) ≡ true
 none_won true b e = ap (λ (x : Bool). not (not x)) e
 none_won false b e = refl
 
-module _ (s : State) (configured : List InterfaceConfig) where
+module _ (s : State) (configured : Addressing) where
   stays : (e : Key × AssertRow) → SameAt s configured e → not (is_won_before s configured e) ≡ true
   unfolding is_won_before
   stays e same =

@@ -2,7 +2,7 @@
 use Rattle.std.{specs.{List.{list_all, list_any}, Prelude.{Bool, List, None, Ok, Some, [], false, filter, length, map, nat_le, nat_lt, not, slice_get, take, true, ℕ, ◌&&◌, ◌*◌, ◌++◌, ◌+◌, ◌==◌, ◌≡◌}}}
 use Rattle.pim_types.{specs.{declared.{config.{Config.Config, InterfaceConfig.InterfaceConfig, Settings.Settings}, fact.{AssertRow.AssertRow, DownstreamRow.DownstreamRow, GroupRecordRow.GroupRecordRow, GroupRepeatRow.GroupRepeatRow, Key.Key, NeighbourRow.NeighbourRow, QuerierRole.QuerierRole, QuerierRow.QuerierRow, SendingRow.SendingRow, SourceRecordRow.SourceRecordRow, SourceRepeatRow.SourceRepeatRow}}, Keys.{iface_in, source_in}}}
 use Rattle.pim_wire.{specs.{Messages.pim_reading, declared.view.PimView.PimView}}
-use Rattle.pim_model.{specs.{Clearing.clear, Limits.config_test, Messages.Message, State.{State, iface_config, iface_count, interfaces_of, is_own_among, is_up}, Tables.below, Unicast.rp_of, Upstream.{fact_keys, upstream}, Writing.{hello_emission, write_all}}}
+use Rattle.pim_model.{specs.{Clearing.clear, Limits.config_test, Messages.Message, State.{Addressing, State, addressing_of, iface_config, iface_count, interfaces_of, is_own_among, is_up}, Tables.below, Unicast.rp_of, Upstream.{fact_keys, upstream}, Writing.{hello_emission, write_all}}}
 use Rattle.law_scope.{specs.Rest.IsAtRest}
 use Rattle.law_restored.{specs.Reload.config_of}
 use Rattle.law_reloaded.{specs.Reloading.{goodbye_text, hellos_anew, queriers_under, reload, replaced, tells_anew, under}}
@@ -37,7 +37,7 @@ SameReloadChangesNothing = (s : State) (w : ℕ) → IsAtRest s → next_query_i
 -- intervals of IGMP
 abbrev pub with_settings : State → Settings → Config
 with_settings s t = record {
-  interfaces = s.configured;
+  interfaces = s.configured.interfaces;
   limit = t.limit;
   spt = t.spt;
   robustness = t.robustness;
@@ -46,6 +46,7 @@ with_settings s t = record {
   last_member_query_interval = t.last_member_query_interval;
   routes = s.routes;
   rps = s.ranges;
+  addresses = s.configured.addresses;
 }
 
 -- Other settings move no fact but what queriers go by, and send nothing, whatever the limit and however many facts there
@@ -101,7 +102,7 @@ NoneOfRemoved = (s : State) (c : Config) (w : ℕ) → config_test c ≡ Ok tt �
 
 -- the interfaces whose Hello says something else, ascending
 abbrev pub told_anew : State → Config → List ℕ
-told_anew s c = filter (tells_anew s c.interfaces) (below (length c.interfaces))
+told_anew s c = filter (tells_anew s (addressing_of c)) (below (length c.interfaces))
 
 -- After the configuration is replaced the Hellos of these interfaces leave first, one each, as the new configuration has
 -- them.
@@ -120,8 +121,8 @@ NoOtherHello = (o a : State) (w : ℕ) → list_all (λ m. not (is_hello m)) ((c
 
 -- An interface on which a reload sends no Hello would send the same bytes by both configurations.
 abbrev pub UntoldSaysSame : Type 0
-UntoldSaysSame = (s : State) (configured : List InterfaceConfig) (i : ℕ) (a b : InterfaceConfig)
-    → iface_config s i ≡ Some a → slice_get configured i ≡ Some b → is_up s i ≡ true
+UntoldSaysSame = (s : State) (configured : Addressing) (i : ℕ) (a b : InterfaceConfig)
+    → iface_config s i ≡ Some a → slice_get configured.interfaces i ≡ Some b → is_up s i ≡ true
     → tells_anew s configured i ≡ false
     → hello_emission (record { configured = configured; rows = s.interfaces }) i ≡ hello_emission (interfaces_of s) i
 
@@ -132,22 +133,31 @@ GoodbyeReads = pim_reading goodbye_text
 
 -- ---- appended interfaces
 
--- Interfaces may be appended: their addresses are those of no RP, and of no source that has a fact.
-pub record AreNew (s : State) (more : List InterfaceConfig) : Type 0 where
+-- Interfaces, and own addresses of no interface, may be appended: they are those of no RP, and of no source that has a
+-- fact.
+pub record AreNew (s : State) (more : Addressing) : Type 0 where
   pub rps : (g rp : ℕ) → rp_of s g ≡ Some rp → is_own_among more rp ≡ false
   pub sources : list_any (λ k. is_own_among more (source_in k)) (fact_keys s) ≡ false
 
--- the configuration of a state with other interfaces, or with more
-abbrev pub with_interfaces : State → List InterfaceConfig → Config
-with_interfaces s configured = record (config_of s) { interfaces = configured }
+-- the configuration of a state with other interfaces and own addresses, or with more
+abbrev pub with_addressing : State → Addressing → Config
+with_addressing s configured =
+    record (config_of s) { interfaces = configured.interfaces; addresses = configured.addresses }
 
-abbrev pub with_more : State → List InterfaceConfig → Config
-with_more s more = with_interfaces s (s.configured ++ more)
+abbrev pub appended : Addressing → Addressing → Addressing
+appended first more = record {
+  interfaces = first.interfaces ++ more.interfaces;
+  addresses = first.addresses ++ more.addresses;
+}
 
--- Interfaces that are appended move no fact, and nothing is sent: they are down. The next general queries are near.
+abbrev pub with_more : State → Addressing → Config
+with_more s more = with_addressing s (appended s.configured more)
+
+-- Interfaces that are appended move no fact, and nothing is sent: they are down. Nor do own addresses of no interface. The
+-- next general queries are near.
 abbrev pub AppendedMoveNothing : Type 0
-AppendedMoveNothing = (s : State) (more : List InterfaceConfig) (w : ℕ) → IsAtRest s → next_query_is_near s ≡ true
-    → AreConfigured s → AreNew s more → reload s (with_more s more) w ≡ (record s { configured = s.configured ++ more }, [])
+AppendedMoveNothing = (s : State) (more : Addressing) (w : ℕ) → IsAtRest s → next_query_is_near s ≡ true
+    → AreConfigured s → AreNew s more → reload s (with_more s more) w ≡ (record s { configured = appended s.configured more }, [])
 
 -- ---- a configuration with other delays
 
@@ -156,7 +166,7 @@ without_delays c = record c { propagation_delay = 0; override_interval = 0 }
 
 -- Other delays alone move no fact, and nothing is sent but their Hellos. The next general queries are near.
 abbrev pub DelaysMoveNothing : Type 0
-DelaysMoveNothing = (s : State) (configured : List InterfaceConfig) (w : ℕ)
-    → map without_delays configured ≡ map without_delays s.configured → IsAtRest s → next_query_is_near s ≡ true
-    → AreConfigured s
-    → reload s (with_interfaces s configured) w ≡ write_all (record s { configured = configured }) (hellos_anew s configured)
+DelaysMoveNothing = (s : State) (configured : Addressing) (w : ℕ)
+    → map without_delays configured.interfaces ≡ map without_delays s.configured.interfaces
+    → configured.addresses ≡ s.configured.addresses → IsAtRest s → next_query_is_near s ≡ true → AreConfigured s
+    → reload s (with_addressing s configured) w ≡ write_all (record s { configured = configured }) (hellos_anew s configured)

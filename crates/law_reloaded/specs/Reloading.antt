@@ -3,7 +3,7 @@
 use Rattle.std.{specs.{List.{flat_map, range_with_len}, Prelude.{Bool, List, Option, Some, [], false, filter, length, map, min, not, slice_get, ℕ, ◌&&◌, ◌*◌, ◌++◌, ◌+◌, ◌-◌, ◌==◌, ◌∷◌}}}
 use Rattle.pim_types.{specs.{Keys.iface_in, declared.{config.{Config.Config, InterfaceConfig.InterfaceConfig, Settings.Settings}, fact.{AssertRow.AssertRow, Key.Key, QuerierRole.QuerierRole, QuerierRow.QuerierRow}, event.{Event.Event, EventKind.EventKind}, outcome.{Emission.Emission, Outcome.Outcome}}}}
 use Rattle.pim_wire.{specs.{Encoded.pim_text, Hellos.{holdtime_option, option_text}}}
-use Rattle.pim_model.{specs.{Firing.settled, Messages.Message, Sets.is_winner, State.{State, address_among, iface_config, iface_count, interfaces_of, is_up, settings_of}, Step.{ran, rps_replaced}, Tables.{Table, below}, Writing.pim_on_link}}
+use Rattle.pim_model.{specs.{Firing.settled, Messages.Message, Sets.is_winner, State.{Addressing, State, address_among, addressing_of, iface_config, iface_count, interfaces_of, is_up, settings_of}, Step.{ran, rps_replaced}, Tables.{Table, below}, Writing.pim_on_link}}
 
 -- ---- what is removed
 
@@ -35,16 +35,16 @@ queriers_under s t = map (λ (e : Key × QuerierRow). (e.0, row_under s.present 
 -- ---- asserts
 
 -- The interface has another address by the other configuration.
-abbrev pub is_readdressed : State → List InterfaceConfig → ℕ → Bool
+abbrev pub is_readdressed : State → Addressing → ℕ → Bool
 is_readdressed s configured i = not (address_among s.configured i == address_among configured i)
 
 -- An assert that the router won on such an interface. Its metric names the address of before.
-unfoldable pub is_won_before : State → List InterfaceConfig → Key × AssertRow → Bool
+unfoldable pub is_won_before : State → Addressing → Key × AssertRow → Bool
 is_won_before s configured e = is_winner (Some e.1) && is_readdressed s configured (iface_in e.0)
 
 -- It is forgotten, as where an interface goes down: the next packet that comes there, or the next Assert, makes another one
 -- from the new address (4.6.1, 4.6.2). Nothing is sent for it: the others forget it at the goodbye.
-unfoldable pub asserts_under : State → List InterfaceConfig → Table AssertRow
+unfoldable pub asserts_under : State → Addressing → Table AssertRow
 asserts_under s configured = filter (λ e. not (is_won_before s configured e)) s.asserts
 
 -- ---- what is replaced
@@ -56,10 +56,10 @@ under s c =
     rps_replaced
     (record s {
       settings = settings_of c;
-      configured = c.interfaces;
+      configured = addressing_of c;
       routes = c.routes;
       queriers = queriers_under s (settings_of c);
-      asserts = asserts_under s c.interfaces;
+      asserts = asserts_under s (addressing_of c);
     })
     c.rps
 
@@ -74,15 +74,15 @@ unfoldable pub goodbye : State → ℕ → Emission
 goodbye s i = pim_on_link (interfaces_of s) i goodbye_text
 
 -- The interface is up, and has another address by the other configuration.
-unfoldable pub leaves_address : State → List InterfaceConfig → ℕ → Bool
+unfoldable pub leaves_address : State → Addressing → ℕ → Bool
 leaves_address s configured i = is_up s i && is_readdressed s configured i
 
 -- "Before an interface goes down or changes primary IP address, a Hello message with a zero HoldTime should be sent
 -- immediately (with the old IP address if the IP address changed)" (4.3.1): the others forget the neighbour of that
 -- address, and what they lost to it.
 -- here: not where the interface is removed
-unfoldable pub goodbyes : State → List InterfaceConfig → List Emission
-goodbyes s configured = map (goodbye s) (filter (leaves_address s configured) (below (length configured)))
+unfoldable pub goodbyes : State → Addressing → List Emission
+goodbyes s configured = map (goodbye s) (filter (leaves_address s configured) (below (length configured.interfaces)))
 
 -- ---- Hellos
 
@@ -98,21 +98,21 @@ says_other (Some a) (Some b) = not (says_same a b)
 says_other _ _ = false
 
 -- The interface is up, and its Hello says something else when these are the configured interfaces.
-unfoldable pub tells_anew : State → List InterfaceConfig → ℕ → Bool
-tells_anew s configured i = is_up s i && says_other (iface_config s i) (slice_get configured i)
+unfoldable pub tells_anew : State → Addressing → ℕ → Bool
+tells_anew s configured i = is_up s i && says_other (iface_config s i) (slice_get configured.interfaces i)
 
 -- "After an interface has changed its IP address, it MUST send a Hello message with its new IP address" (4.3.1): the
 -- Hello leaves at once. "The Hello Timer should not be reset except when it expires" (4.3.1): it isn't.
 -- here: the same for another priority or delay, so that the neighbours elect the DR (4.3.2) and take the delays (4.3.3)
 -- by what the router goes by
-unfoldable pub hellos_anew : State → List InterfaceConfig → List Message
-hellos_anew s configured = map Message.Hello (filter (tells_anew s configured) (below (length configured)))
+unfoldable pub hellos_anew : State → Addressing → List Message
+hellos_anew s configured = map Message.Hello (filter (tells_anew s configured) (below (length configured.interfaces)))
 
 -- ---- a whole reload
 
 -- The state after the configuration is replaced, with what follows of that, and what that sends.
 unfoldable pub replaced : State → Config → ℕ → State × List Emission
-replaced s c w = settled s (under s c, hellos_anew s c.interfaces) w
+replaced s c w = settled s (under s c, hellos_anew s (addressing_of c)) w
 
 -- what outcomes sent, in their order
 unfoldable pub sent_by : List Outcome → List Emission
@@ -124,4 +124,4 @@ unfoldable pub reload : State → Config → ℕ → State × List Emission
 reload s c w =
     let gone : List Outcome × State = ran s (removals s c w) in
     let after : State × List Emission = replaced gone.1 c w in
-    (after.0, sent_by gone.0 ++ (goodbyes gone.1 c.interfaces ++ after.1))
+    (after.0, sent_by gone.0 ++ (goodbyes gone.1 (addressing_of c) ++ after.1))

@@ -62,7 +62,8 @@ pub fn untold_says_same()
     ensures { UntoldSaysSame }
 {}
 
-/// Interfaces that are appended move no fact, and nothing is sent, where the next general queries are near.
+/// Interfaces that are appended, and own addresses of no interface, move no fact, and nothing is sent, where the next general
+/// queries are near.
 pub fn appended_move_nothing()
     ensures { AppendedMoveNothing }
 {}

@@ -132,7 +132,7 @@ any_way = record { keeps = λ n. true; draw = 0 }
 to_core_same : (h k : Handling) → SameDecision (decision h) (decision k) → is_to_core h ≡ is_to_core k
 to_core_same h k same = grind arith
 
-module _ (x : Split) (few : length (x.core).configured ≤ most_ifaces) (guests : PlaneRows) (held : AreHeld guests x.core) where
+module _ (x : Split) (few : length (x.core).configured.interfaces ≤ most_ifaces) (guests : PlaneRows) (held : AreHeld guests x.core) where
   judged_same : (j : Judged) → judged_for_core x guests j ≡ judged_the_cores x j
   judged_same j = grind (arith, to_core_same, handled_same)
 
@@ -223,7 +223,7 @@ module _ (x : Split) (r : State) (f : Follows x r) (near : EndsNear x.core) (apa
     fresh = refl;
     early = f.early;
     told = told_r;
-    few = subst (λ (t : State). length t.configured ≤ most_ifaces) (sym (f.is).same) f.few;
+    few = subst (λ (t : State). length t.configured.interfaces ≤ most_ifaces) (sym (f.is).same) f.few;
   }
     where
       told_r : AreTold x.rows r

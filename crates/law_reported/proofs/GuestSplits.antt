@@ -75,7 +75,7 @@ module _ (x : Split) (r : State) (f : Follows x r) where
 
 -- ---- a packet
 
-module _ (w : Way) (x : Split) (few : length (x.core).configured ≤ most_ifaces) where
+module _ (w : Way) (x : Split) (few : length (x.core).configured.interfaces ≤ most_ifaces) where
   module _ (e : Event) (p : Packet) where
     alike_sent : (a b : Set) → ((n : ℕ) → nat_lt n most_ifaces ≡ true → a n ≡ b n) → sent x.core p a ≡ sent x.core p b
     unfolding copies_of members

@@ -2,7 +2,7 @@
 use Rattle.std.{proofs.Common.{◌≡◌, ℕ, ◌+◌, ◌-◌, Bool, true, false, not, List, [], length, Ok, Err, refl, sym, ap, subst, ◌∙◌}, specs.{List.list_all, Prelude.Result}}
 use Rattle.pim_ip.{specs.{Ipv4.is_unicast, Tests.{expect, ◌>>◌}, declared.refusal.Refusal.Refusal}}
 use Rattle.pim_types.{specs.{Keys.star_key, declared.{config.{Config.Config, InterfaceConfig.InterfaceConfig, Route.Route, RpRange.RpRange}, event.{Event.Event, EventKind.EventKind}, outcome.Stop.Stop}}}
-use Rattle.pim_model.{specs.{Clearing.clear, Firing.{fire_all, fire_instant, fire_once, fired, settled}, Full.is_full, Judging.{Judged, judged, refuse_if, routes_judged, rps_judged, ◌>>◌ as ◌>>>◌}, Limits.{are_apart, are_routes, are_rps, config_test, is_between, is_delay_config, is_querier_config, most_ifaces}, Messages.Message, Reach.own_firing, State.{State, opening, settings_of}, Step.{Answered, advanced, change, concluded, done, step, stopped, taken, taken_unless_full}, Timers.{Ending, next_due, timers}, Upstream.upstream, declared.accepted.Accepted.Accepted}}
+use Rattle.pim_model.{specs.{Clearing.clear, Firing.{fire_all, fire_instant, fire_once, fired, settled}, Full.is_full, Judging.{Judged, judged, refuse_if, routes_judged, rps_judged, ◌>>◌ as ◌>>>◌}, Limits.{are_apart, are_own_addresses, are_routes, are_rps, config_test, is_between, is_delay_config, is_querier_config, most_ifaces}, Messages.Message, Reach.own_firing, State.{State, opening, settings_of}, Step.{Answered, advanced, change, concluded, done, step, stopped, taken, taken_unless_full}, Timers.{Ending, next_due, timers}, Upstream.upstream, declared.accepted.Accepted.Accepted}}
 use Rattle.law_settled.{proofs.{TurnLaws.kept_to_the_end, StepLaws.kept_by_run, UnchangedLaws.full_or_taken, Judgements.IsJudged}}
 use Rattle.law_scope.{specs.{Locality.{AgreesBut, touching}, Scopes.scope}, proofs.{QuietStates.{frame_packets, frame_upstream}, Touches.agrees_then}}
 use Rattle.law_named.{proofs.{Configured.{Ground, change_ground, firing_ground, ground, ground_after}, Reached.{Keeps, clearing_keeps}}}
@@ -50,7 +50,7 @@ module _ (s : State) (w : ℕ) where
 -- the configuration that a ground says
 abbrev pub config_by : Ground → Config
 config_by g = record {
-  interfaces = g.configured;
+  interfaces = g.configured.interfaces;
   limit = g.settings.limit;
   spt = g.settings.spt;
   robustness = g.settings.robustness;
@@ -59,48 +59,51 @@ config_by g = record {
   last_member_query_interval = g.settings.last_member_query_interval;
   routes = g.routes;
   rps = g.ranges;
+  addresses = g.configured.addresses;
 }
 
 abbrev IsFine : Ground → Type 0
 IsFine g = config_test (config_by g) ≡ Ok tt
 
--- the nine tests
-abbrev tests : Bool → Bool → Bool → Bool → Bool → Bool → Bool → Bool → Bool → Result (Unit {0}) Refusal
-tests a b c d e f g h i = expect a Refusal.InterfaceCount >> expect b Refusal.InterfaceAddress >> expect c Refusal.InterfaceLength >> expect d Refusal.Overlap >> expect e Refusal.BadLimit >> expect f Refusal.BadQuerier >> expect g Refusal.BadDelay >> expect h Refusal.ConfiguredRoutes >> expect i Refusal.ConfiguredRps
+-- the ten tests
+abbrev tests : Bool → Bool → Bool → Bool → Bool → Bool → Bool → Bool → Bool → Bool → Result (Unit {0}) Refusal
+tests a b c d e f g h i n = expect a Refusal.InterfaceCount >> expect b Refusal.InterfaceAddress >> expect c Refusal.InterfaceLength >> expect d Refusal.Overlap >> expect e Refusal.BadLimit >> expect f Refusal.BadQuerier >> expect g Refusal.BadDelay >> expect h Refusal.ConfiguredRoutes >> expect i Refusal.ConfiguredRps >> expect n Refusal.OwnAddresses
 
-eighth : (a b c d e f g h i j : Bool) → tests a b c d e f g h i ≡ Ok tt → j ≡ true → tests a b c d e f g j i ≡ Ok tt
-eighth false b c d e f g h i j ok t = absurd cc
-eighth true false c d e f g h i j ok t = absurd cc
-eighth true true false d e f g h i j ok t = absurd cc
-eighth true true true false e f g h i j ok t = absurd cc
-eighth true true true true false f g h i j ok t = absurd cc
-eighth true true true true true false g h i j ok t = absurd cc
-eighth true true true true true true false h i j ok t = absurd cc
-eighth true true true true true true true false i j ok t = absurd cc
-eighth true true true true true true true true false j ok t = absurd cc
-eighth true true true true true true true true true j ok t = ap (λ (k : Bool). tests true true true true true true true k true) t
+eighth : (a b c d e f g h i n j : Bool) → tests a b c d e f g h i n ≡ Ok tt → j ≡ true → tests a b c d e f g j i n ≡ Ok tt
+eighth false b c d e f g h i n j ok t = absurd cc
+eighth true false c d e f g h i n j ok t = absurd cc
+eighth true true false d e f g h i n j ok t = absurd cc
+eighth true true true false e f g h i n j ok t = absurd cc
+eighth true true true true false f g h i n j ok t = absurd cc
+eighth true true true true true false g h i n j ok t = absurd cc
+eighth true true true true true true false h i n j ok t = absurd cc
+eighth true true true true true true true false i n j ok t = absurd cc
+eighth true true true true true true true true false n j ok t = absurd cc
+eighth true true true true true true true true true false j ok t = absurd cc
+eighth true true true true true true true true true true j ok t = ap (λ (k : Bool). tests true true true true true true true k true true) t
 
-ninth : (a b c d e f g h i j : Bool) → tests a b c d e f g h i ≡ Ok tt → j ≡ true → tests a b c d e f g h j ≡ Ok tt
-ninth false b c d e f g h i j ok t = absurd cc
-ninth true false c d e f g h i j ok t = absurd cc
-ninth true true false d e f g h i j ok t = absurd cc
-ninth true true true false e f g h i j ok t = absurd cc
-ninth true true true true false f g h i j ok t = absurd cc
-ninth true true true true true false g h i j ok t = absurd cc
-ninth true true true true true true false h i j ok t = absurd cc
-ninth true true true true true true true false i j ok t = absurd cc
-ninth true true true true true true true true false j ok t = absurd cc
-ninth true true true true true true true true true j ok t = ap (λ (k : Bool). tests true true true true true true true true k) t
+ninth : (a b c d e f g h i n j : Bool) → tests a b c d e f g h i n ≡ Ok tt → j ≡ true → tests a b c d e f g h j n ≡ Ok tt
+ninth false b c d e f g h i n j ok t = absurd cc
+ninth true false c d e f g h i n j ok t = absurd cc
+ninth true true false d e f g h i n j ok t = absurd cc
+ninth true true true false e f g h i n j ok t = absurd cc
+ninth true true true true false f g h i n j ok t = absurd cc
+ninth true true true true true false g h i n j ok t = absurd cc
+ninth true true true true true true false h i n j ok t = absurd cc
+ninth true true true true true true true false i n j ok t = absurd cc
+ninth true true true true true true true true false n j ok t = absurd cc
+ninth true true true true true true true true true false j ok t = absurd cc
+ninth true true true true true true true true true true j ok t = ap (λ (k : Bool). tests true true true true true true true true k true) t
 
 with_routes : (g : Ground) (rs : List Route) → IsFine g → are_routes g.configured rs ≡ true → IsFine (record g { routes = rs })
 unfolding config_test is_querier_config
 with_routes g rs fine e =
-    eighth (is_between 1 most_ifaces (length g.configured)) (list_all (λ (x : InterfaceConfig). is_unicast x.address.bits) g.configured) (list_all (λ (x : InterfaceConfig). is_between 1 31 x.length) g.configured) (are_apart g.configured) (is_between 1 1000000 g.settings.limit) (is_querier_config (config_by g)) (list_all is_delay_config g.configured) (are_routes g.configured g.routes) (are_rps g.ranges) (are_routes g.configured rs) fine e
+    eighth (is_between 1 most_ifaces (length g.configured.interfaces)) (list_all (λ (x : InterfaceConfig). is_unicast x.address.bits) g.configured.interfaces) (list_all (λ (x : InterfaceConfig). is_between 1 31 x.length) g.configured.interfaces) (are_apart g.configured.interfaces) (is_between 1 1000000 g.settings.limit) (is_querier_config (config_by g)) (list_all is_delay_config g.configured.interfaces) (are_routes g.configured g.routes) (are_rps g.ranges) (are_own_addresses g.configured) (are_routes g.configured rs) fine e
 
 with_ranges : (g : Ground) (rs : List RpRange) → IsFine g → are_rps rs ≡ true → IsFine (record g { ranges = rs })
 unfolding config_test is_querier_config
 with_ranges g rs fine e =
-    ninth (is_between 1 most_ifaces (length g.configured)) (list_all (λ (x : InterfaceConfig). is_unicast x.address.bits) g.configured) (list_all (λ (x : InterfaceConfig). is_between 1 31 x.length) g.configured) (are_apart g.configured) (is_between 1 1000000 g.settings.limit) (is_querier_config (config_by g)) (list_all is_delay_config g.configured) (are_routes g.configured g.routes) (are_rps g.ranges) (are_rps rs) fine e
+    ninth (is_between 1 most_ifaces (length g.configured.interfaces)) (list_all (λ (x : InterfaceConfig). is_unicast x.address.bits) g.configured.interfaces) (list_all (λ (x : InterfaceConfig). is_between 1 31 x.length) g.configured.interfaces) (are_apart g.configured.interfaces) (is_between 1 1000000 g.settings.limit) (is_querier_config (config_by g)) (list_all is_delay_config g.configured.interfaces) (are_routes g.configured g.routes) (are_rps g.ranges) (are_own_addresses g.configured) (are_rps rs) fine e
 
 module _ (s : State) (w : ℕ) (fine : IsFine (ground s)) where
   abbrev Fine : Answered → Type 0

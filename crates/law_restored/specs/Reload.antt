@@ -1,7 +1,7 @@
 -- A state under another configuration.
 use Rattle.std.{specs.Prelude.{List, Ok, [], nat_lt, true, ℕ, ◌≡◌}}
 use Rattle.pim_types.{specs.declared.{config.{Config.Config, Settings.Settings}, outcome.Emission.Emission}}
-use Rattle.pim_model.{specs.{Firing.settled, Limits.config_test, State.{State, settings_of}}}
+use Rattle.pim_model.{specs.{Firing.settled, Limits.config_test, State.{State, addressing_of, settings_of}}}
 use Rattle.law_scope.{specs.Rest.IsAtRest}
 
 -- The settings have no robustness and no interval that is 0.
@@ -17,7 +17,7 @@ FreshSettingsKeepRest = (s : State) (t : Settings) → IsSetting t → IsAtRest 
 
 -- a state with all its facts, under another configuration
 unfoldable pub reconfigured : State → Config → State
-reconfigured s c = record s { settings = settings_of c; configured = c.interfaces; routes = c.routes; ranges = c.rps }
+reconfigured s c = record s { settings = settings_of c; configured = addressing_of c; routes = c.routes; ranges = c.rps }
 
 -- The state after a new configuration, with what follows of the change, as of any event, and what that sends.
 unfoldable pub reloaded : State → Config → ℕ → State × List Emission
@@ -30,7 +30,7 @@ ReloadIsAtRest = (s : State) (c : Config) (w : ℕ) → config_test c ≡ Ok tt 
 -- the configuration that a state is under
 unfoldable pub config_of : State → Config
 config_of s = record {
-  interfaces = s.configured;
+  interfaces = s.configured.interfaces;
   limit = s.settings.limit;
   spt = s.settings.spt;
   robustness = s.settings.robustness;
@@ -39,6 +39,7 @@ config_of s = record {
   last_member_query_interval = s.settings.last_member_query_interval;
   routes = s.routes;
   rps = s.ranges;
+  addresses = s.configured.addresses;
 }
 
 -- Under its own configuration a state at rest is unchanged, and nothing is sent: a restart is a reload that changes

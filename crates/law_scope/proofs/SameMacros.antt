@@ -21,7 +21,7 @@ by_winner mine o = grind arith
 module _ (g : ℕ) (s t : State) (same : SeesStar g s t) where
   pub is_empty_same : (a b : Set) → a ≡ b → is_empty s a ≡ is_empty t b
   unfolding is_empty
-  is_empty_same a b e = λ j. not (list_any (e j) (below (length (same.configured j))))
+  is_empty_same a b e = λ j. not (list_any (e j) (below (length (same.configured j).interfaces)))
 
   is_own_same : (a : ℕ) → is_own s a ≡ is_own t a
   is_own_same a = λ j. is_own_among (same.configured j) a

@@ -1,20 +1,20 @@
 -- What all groups share: routes, neighbours, the designated router. It is the same in every scope.
 use Rattle.std.{proofs.{Common.{◌≡◌, ℕ, Bool, false, ◌&&◌, List, length, map, Option, None, option_map, option_and_then, refl, ap, ◌∙◌, arith, rules}, lemmas.List.Folds.list_all-map}, specs.{List.find, Option.option_map_or, Prelude.slice_get}}
 use Rattle.pim_ip.{specs.Prefixes.contains}
-use Rattle.pim_types.{specs.{declared.{config.{InterfaceConfig.InterfaceConfig, Route.Route}, fact.{InterfaceRow.InterfaceRow, Key.Key, NeighbourRow.NeighbourRow}, path.Path.Path}, Keys.{iface_key, neighbour_key}}}
-use Rattle.pim_model.{specs.{Neighbours.{all_have_priority, is_better_dr, is_dr, is_dr_among, is_neighbour, nbr, nbr_among}, State.{State, my_address, my_priority}, Tables.{Table, below, has_row, rows_on}, Unicast.{is_on_link_among, link_among, route, route_among, routed_among, rp_of, rp_route, rpf_interface, rpf_interface_rp, subnet}}}
+use Rattle.pim_types.{specs.{declared.{config.Route.Route, fact.{InterfaceRow.InterfaceRow, Key.Key, NeighbourRow.NeighbourRow}, path.Path.Path}, Keys.{iface_key, neighbour_key}}}
+use Rattle.pim_model.{specs.{Neighbours.{all_have_priority, is_better_dr, is_dr, is_dr_among, is_neighbour, nbr, nbr_among}, State.{Addressing, State, my_address, my_priority}, Tables.{Table, below, has_row, rows_on}, Unicast.{is_on_link_among, link_among, route, route_among, routed_among, rp_of, rp_route, rpf_interface, rpf_interface_rp, subnet}}}
 use Rattle.law_settled.{proofs.{TableLaws.any_of_map, RowLaws.has_row_map}}
 use Rattle.law_scope.{specs.Scopes.{only_priority, only_up, scope}, proofs.Rows.rows_on_cut}
 
 is_up_cut : (k : Key) (t : Table InterfaceRow) → has_row (map only_up t) k ≡ has_row t k
 is_up_cut k t = has_row_map k only_up (λ e. refl) t
 
-module _ (configured : List InterfaceConfig) (t : Table InterfaceRow) (address : ℕ) where
+module _ (configured : Addressing) (t : Table InterfaceRow) (address : ℕ) where
   link_cut : link_among configured (map only_up t) address ≡ link_among configured t address
   unfolding link_among is_on_link_among
   link_cut =
       λ j. find (λ i. is_up_cut (iface_key i) t j && option_map_or (λ c. contains (subnet c) address)
-      (slice_get configured i) false) (below (length configured))
+      (slice_get configured.interfaces i) false) (below (length configured.interfaces))
 
   routed_cut : (routes : List Route) → routed_among (map only_up t) routes address ≡ routed_among t routes address
   unfolding routed_among

@@ -1,9 +1,9 @@
 -- A host's report is an event by which a group comes to be wanted.
 use Rattle.std.{proofs.Common.{◌≡◌, ◌∙◌, ℕ, ◌+◌, ◌<◌, ◌≤◌, ◌&&◌, ◌||◌, inr, Bool, true, false, List, [], ◌∷◌, filter, filter_map, length, Option, Some, None, Result, Ok, Err, refl, sym, ap, subst, arith, eq-eqb}}
 use Rattle.pim_ip.{specs.{Ipv4.is_source_specific, declared.refusal.Refusal.Refusal}}
-use Rattle.pim_types.{specs.{declared.{outcome.{Stop.Stop, Verdict.Verdict}, config.InterfaceConfig.InterfaceConfig, event.Event.Event, fact.SourceRecordRow.SourceRecordRow}, Keys.{source_key, star_key}}}
+use Rattle.pim_types.{specs.{declared.{outcome.{Stop.Stop, Verdict.Verdict}, event.Event.Event, fact.SourceRecordRow.SourceRecordRow}, Keys.{source_key, star_key}}}
 use Rattle.igmp_wire.{specs.{Values.Record, declared.report.RecordType.RecordType}}
-use Rattle.pim_model.{specs.{declared.accepted.Accepted.Accepted, Asserts.{assert_forgotten, without_spt_bit}, Cause.{done_as, if_done}, Downstream.is_named, Clearing.clear, Desires.{join_desired_star, rpf_star}, Firing.settled, Full.{distinct, needed, once_more, passes_limit, reported_groups, reported_sources}, Judging.{Judged, judged}, Messages.Message, Neighbours.{is_dr, nbr}, Receivers.{is_exclude, is_exclude_among, local_receiver_exclude, local_receiver_exclude_among}, Registers.settle_registers, Step.{change, done, step}, Unicast.{route, rp_of, rp_route}, Upstream.is_pruned_with_star, Querier.{each_in_turn, group_membership_interval, is_excluding, query_asked, query_sources, record_seen, report_seen}, Records.{AskSources, Asked, Absent, GroupRecord, apply_record, from_exclude, from_include, in_both, is_at_group, member_of, named_not_excluded, record_with, sources_of_both, with_members, with_record, with_repeats_of_rows}, Sets.{Set, assert_source, assert_star, immediate_olist_star, inherited_olist_rpt, is_loser, lost_assert_rpt, lost_assert_star, pim_exclude, pim_include_star, serves_star, spt_bit}, State.{State, iface_count, is_own_among, is_up}, Tables.{Table, drop_where, has_row, is_among, put, row_at}}}
+use Rattle.pim_model.{specs.{declared.accepted.Accepted.Accepted, Asserts.{assert_forgotten, without_spt_bit}, Cause.{done_as, if_done}, Downstream.is_named, Clearing.clear, Desires.{join_desired_star, rpf_star}, Firing.settled, Full.{distinct, needed, once_more, passes_limit, reported_groups, reported_sources}, Judging.{Judged, judged}, Messages.Message, Neighbours.{is_dr, nbr}, Receivers.{is_exclude, is_exclude_among, local_receiver_exclude, local_receiver_exclude_among}, Registers.settle_registers, Step.{change, done, step}, Unicast.{route, rp_of, rp_route}, Upstream.is_pruned_with_star, Querier.{each_in_turn, group_membership_interval, is_excluding, query_asked, query_sources, record_seen, report_seen}, Records.{AskSources, Asked, Absent, GroupRecord, apply_record, from_exclude, from_include, in_both, is_at_group, member_of, named_not_excluded, record_with, sources_of_both, with_members, with_record, with_repeats_of_rows}, Sets.{Set, assert_source, assert_star, immediate_olist_star, inherited_olist_rpt, is_loser, lost_assert_rpt, lost_assert_star, pim_exclude, pim_include_star, serves_star, spt_bit}, State.{Addressing, State, iface_count, is_own_among, is_up}, Tables.{Table, drop_where, has_row, is_among, put, row_at}}}
 use Rattle.law_settled.{proofs.{RowLaws.{has_row_dropped, row_put}, SettlingLaws.kept_by_clearing}}
 use Rattle.law_scope.{specs.Scopes.reads, proofs.{SharedMacros.is_dr_local, UntoldKeys.same_by_scope, JoinPrunes.none_there}}
 use Rattle.law_causes.{proofs.Same.{Rows, settled_same}}
@@ -246,7 +246,7 @@ module _ (g rp link : ℕ) (p : Place) (e : Event) (type : RecordType) (excludin
         (on_asked (λ x. is_dr x i ≡ true) can.is_dr)
 
     within : (j : ℕ) → j < iface_count s → j < iface_count t
-    within j low = subst (λ (cs : List InterfaceConfig). j < length cs) (sym configured) low
+    within j low = subst (λ (cs : Addressing). j < length cs.interfaces) (sym configured) low
 
     wanted : join_desired_star t g ≡ true
     wanted = wanted_star t g i (within i can.down_configured) (host_listed t g i wants still_dr (unlost i))
@@ -289,7 +289,7 @@ module _ (g rp link : ℕ) (p : Place) (e : Event) (type : RecordType) (excludin
     passes = record {
       configured = within (up_iface p) (can.can_carry).configured;
       is_up = up_still (up_iface p) ∙ (can.can_carry).is_up;
-      foreign = ap (λ (cs : List InterfaceConfig). is_own_among cs src) configured ∙ (can.can_carry).foreign;
+      foreign = ap (λ (cs : Addressing). is_own_among cs src) configured ∙ (can.can_carry).foreign;
       on_tree = on_the_tree t g p.next next;
       unset = unset src;
       room = has_room t g src room;

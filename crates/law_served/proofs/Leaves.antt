@@ -1,9 +1,9 @@
 -- A Join that leaves: where a group or a source comes to be wanted it is sent upstream, and what is told is written.
 use Rattle.std.{proofs.{Common.{◌≡◌, ◌∙◌, ℕ, suc, zero, ◌<◌, ◌==◌, ◌||◌, Bool, true, false, List, [], ◌∷◌, ◌++◌, filter, length, map, take, Some, option_map, refl, sym, ap, subst, arith, eqb-true, get_or}, lemmas.{Bool.{both_ways, or_right}, List.{Folds.list_any-append, Elements.{Contains-append_left, Contains-append_right}}}}, specs.List.{AllByRecursion, Contains, list_any}}
 use Rattle.pim_ip.{specs.{Addr.addr, Ipv4.{all_pim_routers, pim_packet_text}}}
-use Rattle.pim_types.{specs.{Keys.{group_in, is_of_group, source_key, star_key}, declared.{config.InterfaceConfig.InterfaceConfig, fact.Key.Key, outcome.Emission.Emission, path.Hop.Hop, upstream.StarView.StarView}}}
+use Rattle.pim_types.{specs.{Keys.{group_in, is_of_group, source_key, star_key}, declared.{fact.Key.Key, outcome.Emission.Emission, path.Hop.Hop, upstream.StarView.StarView}}}
 use Rattle.pim_wire.{specs.{JoinPrunes.join_prune_text, declared.join_prune.{Entry.Entry, EntryKind.EntryKind}}}
-use Rattle.pim_model.{specs.{declared.accepted.Accepted.Accepted, Clearing.clear, Desires.{join_desired_star, rpf_star}, Firing.{fire_once, settled}, Messages.{Message, entry}, Querier.each_in_turn, State.{InterfaceTable, State, address_among, my_address}, Step.{change, done, step, taken}, Sets.is_empty, Unicast.rp_of, Upstream.{fact_keys, group_upstream, groups_of, is_pruned_with_star, join_prune_to, join_star_to, most_pruned, pruned_with_star, sources_of, star_told, star_view, upstream}, Writing.{all_written, emission_of, hello_paid, on_link, pim_on_link, with_owed_hello, write_all, written}}}
+use Rattle.pim_model.{specs.{declared.accepted.Accepted.Accepted, Clearing.clear, Desires.{join_desired_star, rpf_star}, Firing.{fire_once, settled}, Messages.{Message, entry}, Querier.each_in_turn, State.{Addressing, InterfaceTable, State, address_among, my_address}, Step.{change, done, step, taken}, Sets.is_empty, Unicast.rp_of, Upstream.{fact_keys, group_upstream, groups_of, is_pruned_with_star, join_prune_to, join_star_to, most_pruned, pruned_with_star, sources_of, star_told, star_view, upstream}, Writing.{all_written, emission_of, hello_paid, on_link, pim_on_link, with_owed_hello, write_all, written}}}
 use Rattle.law_settled.{proofs.{AbsentGroups.absent_is_undesired, ListLaws.{each_more, each_passes}, Numbers.any_ascending, TableLaws.any_of_map, Unsettled.{Untold, cleared_in_the_end, telling_leaves}}}
 use Rattle.law_scope.{specs.{Locality.{AgreesBut, touching}, Scopes.{reads, scope}}, proofs.{Asserts.{place_read, stars_read}, QuietStates.{frame_packets, frame_upstream}, SourceMacros.{ReadsSource, inherited_olist_rpt_local, rpf_rpt_local, rpf_source_local, spt_bit_local}, StarMacros.rpf_star_local, Touches.agrees_then, UntoldKeys.{same_by_scope, star_view_local}}}
 use Rattle.law_promises.{proofs.Made.step_taken}
@@ -27,7 +27,7 @@ module _ {S M : Type 0} (change : S → ℕ → S × List M) (m : M) (x : ℕ) (
 
 -- ---- what is told is written
 
-module _ (cs : List InterfaceConfig) (i up g : ℕ) (js ps : List Entry) where
+module _ (cs : Addressing) (i up g : ℕ) (js ps : List Entry) where
   abbrev told : Message
   told = Message.JoinPrune i up g js ps
 

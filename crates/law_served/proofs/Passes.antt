@@ -1,9 +1,9 @@
 -- A router that takes a Join(*,G) and sends its own.
 use Rattle.std.{proofs.{Common.{◌≡◌, ◌∙◌, ℕ, ◌<◌, ◌≤◌, ◌&&◌, Bool, true, false, not, List, [], ◌∷◌, filter, length, map, Option, Some, None, is_some, Ok, refl, sym, ap, subst, arith, eq-eqb}, lemmas.{Bool.{both_ways, Decides.nat_tests}, List.Elements.All-nil}}, specs.List.{AllByRecursion, Contains}}
 use Rattle.pim_ip.{specs.Ipv4.is_source_specific}
-use Rattle.pim_types.{specs.{Keys.{iface_key, source_key, star_key}, declared.{config.{IfaceId.IfaceId, InterfaceConfig.InterfaceConfig}, event.{Event.Event, EventKind.EventKind}, fact.{AssertRow.AssertRow, Key.Key}, outcome.Emission.Emission, path.Hop.Hop}}, proofs.Keys.{equal_keys, same_key_same}}
+use Rattle.pim_types.{specs.{Keys.{iface_key, source_key, star_key}, declared.{config.IfaceId.IfaceId, event.{Event.Event, EventKind.EventKind}, fact.{AssertRow.AssertRow, Key.Key}, outcome.Emission.Emission, path.Hop.Hop}}, proofs.Keys.{equal_keys, same_key_same}}
 use Rattle.pim_wire.{specs.{Values.JoinPrune, declared.join_prune.EntryKind.EntryKind}}
-use Rattle.pim_model.{specs.{declared.accepted.Accepted.Accepted, Asserts.{assert_forgotten, without_spt_bit}, Cause.done_as, Clearing.clear, Desires.{rpf_rpt, rpf_star, winner_hop}, Downstream.{accepted_joins, accepted_prunes, asserts_after_joins, is_accepted, is_named, joined_keys, keys_taken, pruned_keys, to_me}, Firing.settled, Full.{counted, distinct, is_full, join_prune_is_full, keys_are_full, makeable_keys, needed, once_more, passes_limit}, Judging.judged, Messages.{Message, entry}, Neighbours.nbr, Registers.settle_registers, Sets.{assert_source, assert_star, inherited_olist_rpt, is_loser, joins_star, lost_assert_rpt, lost_assert_star, prunes, spt_bit}, State.{State, address_among, iface_count, is_up, my_address}, Step.{change, done, step, taken_unless_full}, Tables.{Table, has_row, row_at}, Unicast.{route, rp_among, rp_of, rp_route}, Upstream.{is_pruned_with_star, upstream}, Writing.{on_link, write_all}}}
+use Rattle.pim_model.{specs.{declared.accepted.Accepted.Accepted, Asserts.{assert_forgotten, without_spt_bit}, Cause.done_as, Clearing.clear, Desires.{rpf_rpt, rpf_star, winner_hop}, Downstream.{accepted_joins, accepted_prunes, asserts_after_joins, is_accepted, is_named, joined_keys, keys_taken, pruned_keys, to_me}, Firing.settled, Full.{counted, distinct, is_full, join_prune_is_full, keys_are_full, makeable_keys, needed, once_more, passes_limit}, Judging.judged, Messages.{Message, entry}, Neighbours.nbr, Registers.settle_registers, Sets.{assert_source, assert_star, inherited_olist_rpt, is_loser, joins_star, lost_assert_rpt, lost_assert_star, prunes, spt_bit}, State.{Addressing, State, address_among, iface_count, is_up, my_address}, Step.{change, done, step, taken_unless_full}, Tables.{Table, has_row, row_at}, Unicast.{route, rp_among, rp_of, rp_route}, Upstream.{is_pruned_with_star, upstream}, Writing.{on_link, write_all}}}
 use Rattle.law_settled.{proofs.{ListLaws.{each_passes, filter_shorter}, RowLaws.has_row_map, SettlingLaws.kept_by_clearing, TableLaws.row_of_each, UnchangedLaws.{full_or_taken, taken_done}, Unsettled.{Unsettled, Untold, settling_leaves, telling_leaves}}, specs.Ready.IsSettled}
 use Rattle.law_scope.{specs.Scopes.{only_up, reads, scope}, proofs.{Asserts.stars_read, StarMacros.nbr_rp_local, UntoldKeys.same_by_scope}}
 use Rattle.law_promises.{specs.{Copies.happens, Bounded.{AddsAtMost, needed_by, needed_of}}, proofs.{Bounded.adds_what_is_needed, Counting.shorter_at, Fewer.{le_both, no_less}, Made.step_taken, Within.none_passes}}
@@ -287,7 +287,7 @@ module _ (g rp from to link : ℕ) (p : Place) (isg : IsGroup g rp) (can : CanTa
         let h : SendsStar t g rp p.next (step s join_event).emissions =
         subst (λ (x : State). SendsStar x g rp p.next (step s join_event).emissions) is_settled f in
         let alone : h.pruned ≡ [] = no_prunes h.pruned h.to_prune in
-        subst (λ (cs : List InterfaceConfig). Contains (step s join_event).emissions
+        subst (λ (cs : Addressing). Contains (step s join_event).emissions
         (on_link (up_iface p) (join_packet (address_among cs (up_iface p)) (p.next).address.bits g (entry EntryKind.Star rp) [])))
         kept_configured
         (subst (λ (ns : List ℕ). Contains (step s join_event).emissions (join_to t p.next g (entry EntryKind.Star rp) (map (entry EntryKind.SourceRpt) ns)))

@@ -1,8 +1,8 @@
 -- Who asks is served.
 use Rattle.std.{proofs.{Common.{◌≡◌, ◌∙◌, ℕ, suc, ◌+◌, ◌<◌, true, false, List, [], ◌∷◌, length, map, Some, refl, sym, ap, subst, eq-eqb, arith}, lemmas.Bool.both_ways}, specs.List.{AllByRecursion, Contains}}
-use Rattle.pim_types.{specs.declared.{config.InterfaceConfig.InterfaceConfig, event.Event.Event, path.Hop.Hop}}
+use Rattle.pim_types.{specs.declared.{event.Event.Event, path.Hop.Hop}}
 use Rattle.pim_wire.{specs.declared.join_prune.EntryKind.EntryKind}
-use Rattle.pim_model.{specs.{Downstream.{accepted_prunes, is_named, pruned_keys}, Full.{distinct, needed, once_more, passes_limit, source_is_full}, Messages.entry, Neighbours.{nbr, nbr_among}, Network.{At, Network, moved, network_ran, station_at}, State.{State, address_among}, Step.step, Tables.has_row, Unicast.{is_rpf_interface_rp, rp_route, rpf_interface_rp}, Upstream.is_pruned_with_star, Writing.on_link}}
+use Rattle.pim_model.{specs.{Downstream.{accepted_prunes, is_named, pruned_keys}, Full.{distinct, needed, once_more, passes_limit, source_is_full}, Messages.entry, Neighbours.{nbr, nbr_among}, Network.{At, Network, moved, network_ran, station_at}, State.{Addressing, State, address_among}, Step.step, Tables.has_row, Unicast.{is_rpf_interface_rp, rp_route, rpf_interface_rp}, Upstream.is_pruned_with_star, Writing.on_link}}
 use Rattle.law_promises.{proofs.{Settings.step_configured, Within.none_passes}}
 use Rattle.law_served.{specs.{Flows.{IsCarried, IsChannel, IsFlowed, PassesOn, top_link}, Joins.{SendsStar, join_packet, join_to}, Served.{Asks, CanCarry, WhoAsksIsServed, became, carriers, root_link}, Ways.{AreApart, CanGoOn, CanTake, HasTaken, IsClimbed, IsGroup, IsNotAmong, IsOnLink, IsWay, Place, StandIn, state_of, up_address, up_iface}}, proofs.{Climbs.{join_climbs, still_stand}, Comes.data_flows, Deliveries.{IsStepped, is_moved}, Leaves.star_join_leaves}}
 
@@ -96,7 +96,7 @@ module _ (g rp src : ℕ) where
         let f : SendsStar t g rp p.next (step s e).emissions =
         star_join_leaves s e asks.accepted g rp p.next asks.done asks.timeless asks.comes in
         let alone : f.pruned ≡ [] = no_prunes f.pruned f.to_prune in
-        subst (λ (cs : List InterfaceConfig). Contains (step s e).emissions
+        subst (λ (cs : Addressing). Contains (step s e).emissions
         (on_link (up_iface p) (join_packet (address_among cs (up_iface p)) (p.next).address.bits g (entry EntryKind.Star rp) [])))
         (sym (step_configured s e).configured)
         (subst (λ (ns : List ℕ). Contains (step s e).emissions (join_to t p.next g (entry EntryKind.Star rp) (map (entry EntryKind.SourceRpt) ns)))

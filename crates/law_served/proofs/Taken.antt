@@ -1,8 +1,8 @@
 -- A Join(*,G) that comes: its row, the assert that it ends, the prunes that it takes back.
 use Rattle.std.{proofs.{Common.{◌≡◌, ◌∙◌, ℕ, ◌<◌, ◌==◌, ◌&&◌, ◌||◌, Bool, true, false, not, List, [], ◌∷◌, ◌++◌, fold, length, Option, Some, None, is_some, is_none, option_map, refl, sym, ap, subst, arith, eq-eqb}, lemmas.{Bool.{or_left, or_right, both_ways}, List.Folds.list_any-append}}, specs.{List.{Contains, list_any}, Option.option_map_or}}
-use Rattle.pim_types.{specs.{Keys.{group_in, iface_in, is_on, rpt_key, same_key, source_key, star_key}, declared.{config.InterfaceConfig.InterfaceConfig, fact.{DownstreamRow.DownstreamRow, Key.Key, SourceRow.SourceRow}}}, proofs.Keys.{equal_keys, same_key_same}}
+use Rattle.pim_types.{specs.{Keys.{group_in, iface_in, is_on, rpt_key, same_key, source_key, star_key}, declared.{fact.{DownstreamRow.DownstreamRow, Key.Key, SourceRow.SourceRow}}}, proofs.Keys.{equal_keys, same_key_same}}
 use Rattle.pim_wire.{specs.Values.JoinPrune}
-use Rattle.pim_model.{specs.{declared.accepted.Accepted.Accepted, Asserts.{assert_forgotten, without_spt, without_spt_bit}, Clearing.clear, Desires.{is_immediate_empty, join_desired, join_desired_star}, Downstream.{asserts_after_joins, holdtime_end, is_named, joined_keys, joined_row, keys_taken, pruned_keys, row_after, rpt_rows_joined, to_me, touched_keys}, Firing.settled, Messages.Message, Registers.settle_registers, Sets.{Set, assert_source, assert_star, immediate_olist, immediate_olist_star, is_empty, is_loser, joins, joins_star, lost_assert, lost_assert_star, prunes, spt_bit}, State.{State, iface_count, ifaces}, Step.{change, done}, Tables.{Table, drop_at, has_row, keys_in, later_end, row_at, rows_where, set_row}}}
+use Rattle.pim_model.{specs.{declared.accepted.Accepted.Accepted, Asserts.{assert_forgotten, without_spt, without_spt_bit}, Clearing.clear, Desires.{is_immediate_empty, join_desired, join_desired_star}, Downstream.{asserts_after_joins, holdtime_end, is_named, joined_keys, joined_row, keys_taken, pruned_keys, row_after, rpt_rows_joined, to_me, touched_keys}, Firing.settled, Messages.Message, Registers.settle_registers, Sets.{Set, assert_source, assert_star, immediate_olist, immediate_olist_star, is_empty, is_loser, joins, joins_star, lost_assert, lost_assert_star, prunes, spt_bit}, State.{Addressing, State, iface_count, ifaces}, Step.{change, done}, Tables.{Table, drop_at, has_row, keys_in, later_end, row_at, rows_where, set_row}}}
 use Rattle.law_settled.{proofs.{ListLaws.each_passes, RowLaws.{has_row_any, has_row_without, row_drop_away, row_put_away, still_absent}, SettlingLaws.kept_by_clearing, TableLaws.{any_in_filter, any_of_map, row_of_each}, TurnLaws.kept_by_fold, Unsettled.{Unsettled, settling_leaves}}}
 use Rattle.law_scope.{specs.Scopes.{reads, scope}, proofs.{Asserts.{place_read, stars_read}, Rows.{row_at_cut, row_in_scope}, SourceMacros.spt_bit_local, StarMacros.{cut_assert, loser_cut}, UntoldKeys.same_by_scope, JoinPrunes.{none_there, set_here}}}
 use Rattle.law_causes.{proofs.Same.{Rows, settled_same}}
@@ -265,7 +265,7 @@ takes_star s w i g m f =
       listed = listed;
       wanted = λ within.
           wanted_star t g i
-          (subst (λ (cs : List InterfaceConfig). i < length cs) (sym (still_configured s c w ∙ to_me_configured)) within) listed;
+          (subst (λ (cs : Addressing). i < length cs.interfaces) (sym (still_configured s c w ∙ to_me_configured)) within) listed;
     }
   where
     to_me_configured : (to_me s i m).configured ≡ s.configured
@@ -296,7 +296,7 @@ takes_source s w i g src m f =
       listed = listed;
       wanted = λ within.
           wanted_source t g src i
-          (subst (λ (cs : List InterfaceConfig). i < length cs) (sym (still_configured s c w ∙ to_me_configured)) within) listed;
+          (subst (λ (cs : Addressing). i < length cs.interfaces) (sym (still_configured s c w ∙ to_me_configured)) within) listed;
     }
   where
     to_me_configured : (to_me s i m).configured ≡ s.configured

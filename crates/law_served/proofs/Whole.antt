@@ -1,7 +1,7 @@
 -- The whole way.
 use Rattle.std.{proofs.Common.{◌≡◌, ◌∙◌, ℕ, ◌+◌, ◌<◌, ◌==◌, false, List, [], ◌∷◌, length, Some, refl, sym, ap, subst, arith, slice_get}, specs.List.AllByRecursion}
-use Rattle.pim_types.{specs.declared.{config.InterfaceConfig.InterfaceConfig, event.Event.Event}}
-use Rattle.pim_model.{specs.{Network.{At, Network, moved, network_ran, station_at}, Sets.{assert_source, is_loser}, State.iface_count}}
+use Rattle.pim_types.{specs.declared.event.Event.Event}
+use Rattle.pim_model.{specs.{Network.{At, Network, moved, network_ran, station_at}, Sets.{assert_source, is_loser}, State.{Addressing, iface_count}}}
 use Rattle.law_served.{specs.{Flows.IsFlowed, Roots.IsBrought, Served.{IsServedBy, carriers, root_link}, Ways.{AreApart, HasTaken, IsNotAmong, IsWay, Place, state_of, up_address}, Whole.{EachPacketIsServed, root_of}}, proofs.{Deliveries.{IsStepped, is_moved}, Roots.root_sends, Serves.who_asks_is_served}}
 
 module _ (g rp src : ℕ) where
@@ -59,7 +59,7 @@ module _ (g rp src : ℕ) where
         (did.beside p.router (root_apart p.router q qs apart.0), still_there joined m last.router did.beside q qs refl apart.1)
         payload lives some
         (root_sends joined g rp src (root_link p.next_link (q ∷ qs)) (lives + length (p ∷ carriers (q ∷ qs))) payload last d root
-        (subst (λ (cs : List InterfaceConfig). last.down < length cs) (sym ((root).goes_on).configured) at.within)
+        (subst (λ (cs : Addressing). last.down < length cs.interfaces) (sym ((root).goes_on).configured) at.within)
         (((root).goes_on).unlost src last.down unlost) at.linked (omega arith) b)
 
 pub each_packet_is_served : EachPacketIsServed

@@ -1,9 +1,9 @@
 -- A router that takes a Join(S,G) and sends its own.
 use Rattle.std.{proofs.{Common.{◌≡◌, ◌∙◌, ℕ, ◌^◌, ◌<◌, ◌||◌, Bool, true, false, not, cond, List, [], ◌∷◌, Option, Some, None, Ok, refl, sym, ap, subst, arith}, lemmas.List.Elements.All-nil}, specs.List.Contains}
 use Rattle.pim_ip.{specs.Ipv4.is_source_specific}
-use Rattle.pim_types.{specs.{Keys.{neighbour_key, source_key}, declared.{config.{IfaceId.IfaceId, InterfaceConfig.InterfaceConfig}, event.{Event.Event, EventKind.EventKind}, fact.{AssertRow.AssertRow, NeighbourRow.NeighbourRow}, outcome.Emission.Emission, path.{Hop.Hop, Path.Path}}}, proofs.Keys.same_key_same}
+use Rattle.pim_types.{specs.{Keys.{neighbour_key, source_key}, declared.{config.IfaceId.IfaceId, event.{Event.Event, EventKind.EventKind}, fact.{AssertRow.AssertRow, NeighbourRow.NeighbourRow}, outcome.Emission.Emission, path.{Hop.Hop, Path.Path}}}, proofs.Keys.same_key_same}
 use Rattle.pim_wire.{specs.{Values.JoinPrune, declared.join_prune.EntryKind.EntryKind}}
-use Rattle.pim_model.{specs.{declared.accepted.Accepted.Accepted, Cause.done_as, Desires.{rpf_source, winner_hop}, Downstream.{accepted_joins, accepted_prunes, is_accepted, is_named, joined_keys, keys_taken, pruned_keys, to_me}, Full.{distinct, is_full, join_prune_is_full, keys_are_full, makeable_keys, needed, once_more, passes_limit}, Judging.judged, Messages.entry, Neighbours.{nbr, nbr_among}, Sets.{assert_source, is_loser}, State.{State, address_among, my_address}, Step.{change, done, step}, Tables.{Table, has_row}, Unicast.{route, rpf_interface}, Writing.on_link}}
+use Rattle.pim_model.{specs.{declared.accepted.Accepted.Accepted, Cause.done_as, Desires.{rpf_source, winner_hop}, Downstream.{accepted_joins, accepted_prunes, is_accepted, is_named, joined_keys, keys_taken, pruned_keys, to_me}, Full.{distinct, is_full, join_prune_is_full, keys_are_full, makeable_keys, needed, once_more, passes_limit}, Judging.judged, Messages.entry, Neighbours.{nbr, nbr_among}, Sets.{assert_source, is_loser}, State.{Addressing, State, address_among, my_address}, Step.{change, done, step}, Tables.{Table, has_row}, Unicast.{route, rpf_interface}, Writing.on_link}}
 use Rattle.law_promises.{specs.Copies.happens, proofs.{Made.step_taken, Within.none_passes}}
 use Rattle.law_settled.{proofs.Unsettled.{Unsettled, settling_leaves}}
 use Rattle.law_served.{specs.{Joins.{ComesToWantSource, JoinsSource, TakesSource, join_packet, join_to, join_value}, Ways.{Place, state_of, up_address, up_iface}}, proofs.{Leaves.taken_is_done, Passes.done_if, ReadBack.join_is_read, Sources.source_join_leaves, Taken.source_join_is_taken}}
@@ -160,6 +160,6 @@ module _ (g src from to link : ℕ) (p : Place) (isg : IsSource g src) (can : Ca
     pub sends : Contains (step s join_event).emissions own_join
     unfolding join_to
     sends =
-        subst (λ (cs : List InterfaceConfig). Contains (step s join_event).emissions
+        subst (λ (cs : Addressing). Contains (step s join_event).emissions
         (on_link (up_iface p) (join_packet (address_among cs (up_iface p)) (p.next).address.bits g (entry EntryKind.Source src) [])))
         (ground).configured (source_join_leaves s join_event a g src p.next is_done refl comes)

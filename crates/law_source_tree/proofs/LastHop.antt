@@ -1,8 +1,8 @@
 -- The last hop sets SPTbit, and keeps it while its keepalive timer runs and it serves who is there.
 use Rattle.std.{proofs.{Common.{◌≡◌, ◌∙◌, ℕ, ◌<◌, ◌&&◌, ◌||◌, Bool, true, false, not, List, length, Option, Some, inl, inr, is_some, None, refl, sym, ap, subst, arith}, lemmas.Bool.{both_ways, or_left}}, specs.{Cmp.{first_so, second_so, Derive.both_true}, List.Contains, Option.option_map_or, Prelude.option_and_then}}
 use Rattle.pim_ip.{specs.Ipv4.{Packet, copy_text}}
-use Rattle.pim_types.{specs.{Keys.{group_in, rpt_key, same_key, source_in, source_key, star_key}, declared.{config.InterfaceConfig.InterfaceConfig, event.Event.Event, fact.{AssertRow.AssertRow, DownstreamRow.DownstreamRow, Key.Key, NeighbourRow.NeighbourRow, RegisterRow.RegisterRow, SourceRow.SourceRow}}}, proofs.Keys.equal_keys}
-use Rattle.pim_model.{specs.{declared.accepted.Accepted.Accepted, Asserts.{assert_forgotten, with_spt_bit, without_spt, without_spt_bit}, Clearing.{ClearAssert, ClearSptBit, Cleared, clear, clear_all, clearable_count, cleared, to_clear}, Desires.{is_immediate_empty, is_inherited_empty, join_desired}, Forwarding.{forwarded, list_chosen, source_here, source_joined, when}, Neighbours.is_dr, Receivers.{is_exclude, local_receiver_exclude}, Registers.{settle_register, settle_registers, with_keepalive}, Sets.{assert_source, assert_star, inherited_olist, inherited_olist_rpt, is_kept_alive, is_loser, joins, joins_star, lost_assert, lost_assert_rpt, lost_assert_star, pim_exclude, pim_include_star, prunes, serves_star, spt_bit}, State.{State, iface_count, is_own_among}, Step.{change, done, step}, Tables.{Table, change_row, has_row, row_at}, Unicast.is_rpf_interface, Writing.on_link}}
+use Rattle.pim_types.{specs.{Keys.{group_in, rpt_key, same_key, source_in, source_key, star_key}, declared.{event.Event.Event, fact.{AssertRow.AssertRow, DownstreamRow.DownstreamRow, Key.Key, NeighbourRow.NeighbourRow, RegisterRow.RegisterRow, SourceRow.SourceRow}}}, proofs.Keys.equal_keys}
+use Rattle.pim_model.{specs.{declared.accepted.Accepted.Accepted, Asserts.{assert_forgotten, with_spt_bit, without_spt, without_spt_bit}, Clearing.{ClearAssert, ClearSptBit, Cleared, clear, clear_all, clearable_count, cleared, to_clear}, Desires.{is_immediate_empty, is_inherited_empty, join_desired}, Forwarding.{forwarded, list_chosen, source_here, source_joined, when}, Neighbours.is_dr, Receivers.{is_exclude, local_receiver_exclude}, Registers.{settle_register, settle_registers, with_keepalive}, Sets.{assert_source, assert_star, inherited_olist, inherited_olist_rpt, is_kept_alive, is_loser, joins, joins_star, lost_assert, lost_assert_rpt, lost_assert_star, pim_exclude, pim_include_star, prunes, serves_star, spt_bit}, State.{Addressing, State, iface_count, is_own_among}, Step.{change, done, step}, Tables.{Table, change_row, has_row, row_at}, Unicast.is_rpf_interface, Writing.on_link}}
 use Rattle.law_settled.{proofs.{ListLaws.by_cond, RowLaws.{row_change_away, row_put}, TurnLaws.kept_to_the_end, Steps.step_is_settled, Unsettled.{Unsettled, Untold, cleared_in_the_end, settling_leaves}}}
 use Rattle.law_promises.{specs.{Copies.copies_at, Served.{Came, renewed}}, proofs.{Made.step_taken, Served.{member_is_served, served_here, source_is_served}}}
 use Rattle.law_served.{proofs.{Leaves.taken_is_done, Taken.{apart_keys, not_empty}}}
@@ -114,7 +114,7 @@ module _ (by : Receiver) (c : State) (g src i : ℕ) (within : i < iface_count c
   unfolding is_kept_alive
   wanted u f =
       is_desired u g src i
-      (subst (λ (cs : List InterfaceConfig). i < length cs) (sym (ap (λ (v : State). v.configured) f.is_with)) within)
+      (subst (λ (cs : Addressing). i < length cs.interfaces) (sym (ap (λ (v : State). v.configured) f.is_with)) within)
       (is_listed by u g src i
       (ap (λ (v : State). served by v g src i) f.is_with ∙ (served_with by c u.sources u.registers u.asserts g src i ∙ asked)) f.group f.source)
       (alive_of_both (row_at u.sources (source_key 0 g src)) f.both)
@@ -164,7 +164,7 @@ chosen_is x g src up e = rw e refl
 dr_by : (x y : State) (j : ℕ) → x.configured ≡ y.configured → x.neighbours ≡ y.neighbours → is_dr x j ≡ is_dr y j
 unfolding is_dr
 dr_by x y j same rows =
-    ap (λ (cs : List InterfaceConfig). is_dr (record x { configured = cs }) j) same
+    ap (λ (cs : Addressing). is_dr (record x { configured = cs }) j) same
     ∙ ap (λ (ns : Table NeighbourRow). is_dr (record y { neighbours = ns }) j) rows
 
 matched_so : (by : Receiver) → AreMatched Tree.Source by
@@ -182,7 +182,7 @@ module _ (by : Receiver) (s : State) (g src up down : ℕ) (f : CanChange by s g
   wanted_met : join_desired (met s g src up) g src ≡ true
   wanted_met =
       is_desired (met s g src up) g src down
-      (subst (λ (cs : List InterfaceConfig). down < length cs) (sym (met_alike s g src up).configured) (f.goes_out).configured)
+      (subst (λ (cs : Addressing). down < length cs.interfaces) (sym (met_alike s g src up).configured) (f.goes_out).configured)
       (is_listed by (met s g src up) g src down asked_met
       (ap (λ (t : Table AssertRow). is_loser (row_at t (star_key down g))) (met_alike s g src up).asserts ∙ (f.goes_out).group)
       (ap (λ (t : Table AssertRow). is_loser (row_at t (source_key down g src))) (met_alike s g src up).asserts ∙ (f.goes_out).source))
@@ -250,7 +250,7 @@ module _ (by : Receiver) (s : State) (e : Event) (p : Packet) (up down : ℕ) (f
   source_then = still_unlost (source_key down g src) s e.draw a tt (f.goes_out).source
 
   within : down < iface_count c
-  within = subst (λ (cs : List InterfaceConfig). down < length cs) (sym (first).configured) (f.goes_out).configured
+  within = subst (λ (cs : Addressing). down < length cs.interfaces) (sym (first).configured) (f.goes_out).configured
 
   set_now : spt_bit t g src ≡ true
   unfolding done spt_bit
@@ -307,13 +307,13 @@ module _ (by : Receiver) (s : State) (e : Event) (p : Packet) (up down : ℕ) (f
     settled = step_is_settled s e f.settled;
     matched = matched_so by;
     comes_in = record {
-      configured = subst (λ (cs : List InterfaceConfig). up < length cs) (sym (ground).configured) f.configured;
+      configured = subst (λ (cs : Addressing). up < length cs.interfaces) (sym (ground).configured) f.configured;
       is_up = (ground).up up ∙ f.is_up;
-      foreign = ap (λ (cs : List InterfaceConfig). is_own_among cs src) (ground).configured ∙ f.foreign;
+      foreign = ap (λ (cs : Addressing). is_own_among cs src) (ground).configured ∙ f.foreign;
       on = both_true (same_interface s t ground src up ∙ f.way) set_now;
     };
     goes_out = record {
-      configured = subst (λ (cs : List InterfaceConfig). down < length cs) (sym (ground).configured) (f.goes_out).configured;
+      configured = subst (λ (cs : Addressing). down < length cs.interfaces) (sym (ground).configured) (f.goes_out).configured;
       group = (follows).group group_then;
       source = (follows).source source_then;
       wanted = wanted_then by (f.goes_out).wanted f.serving;

@@ -1,8 +1,8 @@
 -- A packet on the way to its source sets SPTbit, and the router passes the stream on the source's tree from then on.
 use Rattle.std.{proofs.Common.{◌≡◌, ◌∙◌, ℕ, ◌<◌, ◌&&◌, ◌||◌, Bool, true, false, not, Option, Some, inr, is_some, length, List, refl, sym, ap, subst}, specs.{Cmp.{second_so, Derive.both_true}, List.{Contains, list_any}, Option.option_map_or}}
 use Rattle.pim_ip.{specs.Ipv4.{Packet, copy_text}}
-use Rattle.pim_types.{specs.{Keys.{source_key, star_key}, declared.{config.InterfaceConfig.InterfaceConfig, event.Event.Event, fact.{DownstreamRow.DownstreamRow, Key.Key, RegisterRow.RegisterRow, SourceRow.SourceRow}}}}
-use Rattle.pim_model.{specs.{declared.accepted.Accepted.Accepted, Asserts.with_spt_bit, Desires.{join_desired, rpf_source, rpf_star}, Forwarding.{forwarded, is_spt_reached, source_here, source_joined, spt_updated, when}, Neighbours.{is_dr, nbr}, Receivers.{is_exclude, local_receiver_exclude}, Registers.{settle_register, with_keepalive}, Sets.{Set, assert_source, inherited_olist_rpt, is_empty, is_loser, joins_star, lost_assert_rpt, lost_assert_star, pim_exclude, pim_include_star, prunes, serves_star, spt_bit}, State.{State, ifaces, is_own_among}, Step.{change, done, step}, Tables.{Table, has_row, row_at, same_hop, same_option}, Unicast.{is_connected, is_rpf_interface, is_rpf_interface_rp, route, rp_of, rp_route, rpf_interface, rpf_interface_rp}, Writing.on_link}}
+use Rattle.pim_types.{specs.{Keys.{source_key, star_key}, declared.{event.Event.Event, fact.{DownstreamRow.DownstreamRow, Key.Key, RegisterRow.RegisterRow, SourceRow.SourceRow}}}}
+use Rattle.pim_model.{specs.{declared.accepted.Accepted.Accepted, Asserts.with_spt_bit, Desires.{join_desired, rpf_source, rpf_star}, Forwarding.{forwarded, is_spt_reached, source_here, source_joined, spt_updated, when}, Neighbours.{is_dr, nbr}, Receivers.{is_exclude, local_receiver_exclude}, Registers.{settle_register, with_keepalive}, Sets.{Set, assert_source, inherited_olist_rpt, is_empty, is_loser, joins_star, lost_assert_rpt, lost_assert_star, pim_exclude, pim_include_star, prunes, serves_star, spt_bit}, State.{Addressing, State, ifaces, is_own_among}, Step.{change, done, step}, Tables.{Table, has_row, row_at, same_hop, same_option}, Unicast.{is_connected, is_rpf_interface, is_rpf_interface_rp, route, rp_of, rp_route, rpf_interface, rpf_interface_rp}, Writing.on_link}}
 use Rattle.law_settled.{proofs.{ListLaws.by_cond, RowLaws.row_put, Steps.step_is_settled}}
 use Rattle.law_promises.{specs.{Copies.copies_at, Served.{Came, renewed}}, proofs.{Made.step_taken, Served.source_is_served}}
 use Rattle.law_served.{proofs.{Leaves.taken_is_done, Taken.{listed_source, wanted_source}}}
@@ -110,7 +110,7 @@ module _ (s : State) (g src up down : ℕ) (f : CanTurn s g src up down) where
   wanted : join_desired (met s g src up) g src ≡ true
   wanted =
       wanted_source (met s g src up) g src down
-      (subst (λ (cs : List InterfaceConfig). down < length cs) (sym (alike).configured) (f.goes_out).configured)
+      (subst (λ (cs : Addressing). down < length cs.interfaces) (sym (alike).configured) (f.goes_out).configured)
       (listed_source (met s g src up) g src down there
       (ap (λ x. is_loser (row_at x (source_key down g src))) (alike).asserts ∙ (f.goes_out).source))
 
@@ -167,7 +167,7 @@ module _ (s : State) (e : Event) (p : Packet) (up down : ℕ) (f : CanTurn s p.d
   set_now =
       ap (λ (x : State). spt_bit x g src) is_so
       ∙ join_keeps_spt_bit s (c, (change s e.draw a).messages) e.draw g src down (record {
-        configured = subst (λ (cs : List InterfaceConfig). down < length cs) (sym (first).configured) (f.goes_out).configured;
+        configured = subst (λ (cs : Addressing). down < length cs.interfaces) (sym (first).configured) (f.goes_out).configured;
         joined = ap is_some row_then;
         unlost = unlost;
       }) set_then
@@ -177,13 +177,13 @@ module _ (s : State) (e : Event) (p : Packet) (up down : ℕ) (f : CanTurn s p.d
     settled = step_is_settled s e f.settled;
     matched = tt;
     comes_in = record {
-      configured = subst (λ (cs : List InterfaceConfig). up < length cs) (sym (ground).configured) f.configured;
+      configured = subst (λ (cs : Addressing). up < length cs.interfaces) (sym (ground).configured) f.configured;
       is_up = (ground).up up ∙ f.is_up;
-      foreign = ap (λ (cs : List InterfaceConfig). is_own_among cs src) (ground).configured ∙ f.foreign;
+      foreign = ap (λ (cs : Addressing). is_own_among cs src) (ground).configured ∙ f.foreign;
       on = both_true (same_interface s t ground src up ∙ f.way) set_now;
     };
     goes_out = record {
-      configured = subst (λ (cs : List InterfaceConfig). down < length cs) (sym (ground).configured) (f.goes_out).configured;
+      configured = subst (λ (cs : Addressing). down < length cs.interfaces) (sym (ground).configured) (f.goes_out).configured;
       group = (follows).group (still_unlost (star_key down g) s e.draw a tt (f.goes_out).group);
       source = (follows).source unlost;
       wanted = record {

@@ -1,8 +1,8 @@
 -- A Join(*,G) begins a stream.
 use Rattle.std.{proofs.Common.{◌≡◌, ◌∙◌, ℕ, ◌<◌, ◌&&◌, false, not, List, [], length, Option, Some, None, refl, sym, ap, subst, arith}}
-use Rattle.pim_types.{specs.{Keys.{rpt_key, source_key}, declared.{config.{IfaceId.IfaceId, InterfaceConfig.InterfaceConfig}, event.Event.Event}}}
+use Rattle.pim_types.{specs.{Keys.{rpt_key, source_key}, declared.{config.IfaceId.IfaceId, event.Event.Event}}}
 use Rattle.pim_wire.{specs.{Values.JoinPrune, declared.join_prune.EntryKind.EntryKind}}
-use Rattle.pim_model.{specs.{declared.accepted.Accepted.Accepted, Downstream.{accepted_prunes, is_named, pruned_keys}, Messages.entry, Network.Station, Sets.{assert_source, is_loser, prunes, spt_bit}, State.{State, is_own_among, my_address}, Step.{change, done, step}, Unicast.is_rpf_interface}}
+use Rattle.pim_model.{specs.{declared.accepted.Accepted.Accepted, Downstream.{accepted_prunes, is_named, pruned_keys}, Messages.entry, Network.Station, Sets.{assert_source, is_loser, prunes, spt_bit}, State.{Addressing, State, is_own_among, my_address}, Step.{change, done, step}, Unicast.is_rpf_interface}}
 use Rattle.law_settled.{proofs.Steps.step_is_settled, specs.Ready.IsSettled}
 use Rattle.law_promises.{proofs.Made.step_taken}
 use Rattle.law_served.{specs.{Joins.{JoinsStar, TakesStar, join_value}, Served.became, Ways.{CanTake, IsGroup, Place, state_of, up_iface}}, proofs.{Deliveries.IsStepped, Leaves.taken_is_done, Passes.{goes_on_with, is_done, join_event, joins_it, takes}, Serves.has_room, Taken.tree_gone}}
@@ -75,7 +75,7 @@ module _ (g rp from to link src : ℕ) (p : Place) (isg : IsGroup g rp) (can : C
     settled = step_is_settled s e on.settled;
     matched = tt;
     comes_in = record {
-      configured = subst (λ (cs : List InterfaceConfig). up_iface p < length cs) (sym same_configured) on.configured;
+      configured = subst (λ (cs : Addressing). up_iface p < length cs.interfaces) (sym same_configured) on.configured;
       is_up = ((follows).ground).up (up_iface p) ∙ ((first).up (up_iface p) ∙ on.is_up);
       foreign = ap (λ cs. is_own_among cs src) same_configured ∙ on.foreign;
       on = record {

@@ -1,7 +1,7 @@
 -- While a router joins the source nothing that follows of a change clears its SPTbit.
 use Rattle.std.{proofs.{Common.{◌≡◌, ◌∙◌, ℕ, ◌<◌, not, Bool, true, false, List, [], ◌∷◌, find, length, Option, option_map, Some, refl, sym, ap, subst, arith}, lemmas.Bool.both_ways}}
-use Rattle.pim_types.{specs.{Keys.{group_in, same_key, source_in, source_key}, declared.{config.InterfaceConfig.InterfaceConfig, fact.{AssertRow.AssertRow, DownstreamRow.DownstreamRow, Key.Key}}}, proofs.Keys.equal_keys}
-use Rattle.pim_model.{specs.{Asserts.{assert_forgotten, without_spt, without_spt_bit}, Clearing.{ClearAssert, ClearSptBit, Cleared, assert_to_clear, clear, clear_all, clearable_count, cleared, spt_to_clear, to_clear}, Desires.join_desired, Registers.settle_registers, Sets.{assert_source, is_loser, spt_bit}, State.State, Tables.{Table, change_row, has_row, row_at}}}
+use Rattle.pim_types.{specs.{Keys.{group_in, same_key, source_in, source_key}, declared.{fact.{AssertRow.AssertRow, DownstreamRow.DownstreamRow, Key.Key}}}, proofs.Keys.equal_keys}
+use Rattle.pim_model.{specs.{Asserts.{assert_forgotten, without_spt, without_spt_bit}, Clearing.{ClearAssert, ClearSptBit, Cleared, assert_to_clear, clear, clear_all, clearable_count, cleared, spt_to_clear, to_clear}, Desires.join_desired, Registers.settle_registers, Sets.{assert_source, is_loser, spt_bit}, State.{Addressing, State}, Tables.{Table, change_row, has_row, row_at}}}
 use Rattle.law_settled.{proofs.{RowLaws.row_change_away, TurnLaws.kept_to_the_end, Unsettled.{Untold, cleared_in_the_end}}}
 use Rattle.law_served.{proofs.Taken.{apart_keys, listed_source, wanted_source}}
 use Rattle.law_stream.{specs.Bits.JoinKeepsSptBit, proofs.{Rows.dropped_good, Settles.bit_of}}
@@ -26,7 +26,7 @@ pub unwanted : (o u : State) (k : Key) → to_clear o u ≡ Some (ClearSptBit k)
 unfolding to_clear assert_to_clear
 unwanted o u k e = grind (arith, bit_is_unwanted, no_assert)
 
-module _ (g src i : ℕ) (cs : List InterfaceConfig) (rows : Table DownstreamRow) (within : i < length cs)
+module _ (g src i : ℕ) (cs : Addressing) (rows : Table DownstreamRow) (within : i < length cs.interfaces)
     (there : has_row rows (source_key i g src) ≡ true) where
   record Kept (u : State) : Type 0 where
     configured : u.configured ≡ cs
@@ -36,7 +36,7 @@ module _ (g src i : ℕ) (cs : List InterfaceConfig) (rows : Table DownstreamRow
 
   wanted : (u : State) → Kept u → join_desired u g src ≡ true
   wanted u f =
-      wanted_source u g src i (subst (λ (xs : List InterfaceConfig). i < length xs) (sym f.configured) within)
+      wanted_source u g src i (subst (λ (xs : Addressing). i < length xs.interfaces) (sym f.configured) within)
       (listed_source u g src i (ap (λ (t : Table DownstreamRow). has_row t (source_key i g src)) f.downstream ∙ there) f.unlost)
 
   one_cleared : (o u : State) (x : Cleared) → Kept u → to_clear o u ≡ Some x → Kept (cleared u x).0

@@ -1,8 +1,8 @@
 -- A stream goes on to pass at one router.
 use Rattle.std.{proofs.{Common.{◌≡◌, ◌∙◌, ℕ, ◌<◌, ◌==◌, ◌&&◌, Bool, true, false, not, List, [], ◌∷◌, length, Option, Some, is_some, refl, sym, ap, subst, arith}, lemmas.Grind.common_steps}, specs.Cmp.{first_so, second_so, Derive.both_true}}
 use Rattle.pim_ip.{specs.Ipv4.Packet}
-use Rattle.pim_types.{specs.{Keys.{group_in, rpt_key, same_key, source_in, source_key, star_key}, declared.{config.{InterfaceConfig.InterfaceConfig, RpRange.RpRange, IfaceId.IfaceId}, event.Event.Event}}, proofs.Keys.equal_keys}
-use Rattle.pim_model.{specs.{declared.accepted.Accepted.Accepted, Cause.done_as, Sets.{assert_source, assert_star, is_loser, prunes, spt_bit}, State.{State, is_own_among}, Step.{advanced, change, done, ran, rps_replaced, state_after, step, taken}, Tables.{has_row, row_at}, Unicast.{is_rpf_interface, route, rpf_interface}, Forwarding.forwarded}}
+use Rattle.pim_types.{specs.{Keys.{group_in, rpt_key, same_key, source_in, source_key, star_key}, declared.{config.{RpRange.RpRange, IfaceId.IfaceId}, event.Event.Event}}, proofs.Keys.equal_keys}
+use Rattle.pim_model.{specs.{declared.accepted.Accepted.Accepted, Cause.done_as, Sets.{assert_source, assert_star, is_loser, prunes, spt_bit}, State.{Addressing, State, is_own_among}, Step.{advanced, change, done, ran, rps_replaced, state_after, step, taken}, Tables.{has_row, row_at}, Unicast.{is_rpf_interface, route, rpf_interface}, Forwarding.forwarded}}
 use Rattle.law_settled.{proofs.{SettledStates.settled_is_lawful, Steps.step_is_settled}, specs.Ready.IsSettled}
 use Rattle.law_promises.{specs.{Copies.happens, Served.renewed}}
 use Rattle.law_named.{proofs.Configured.change_configured}
@@ -203,7 +203,7 @@ module _ (tree : Tree) (by : Receiver) (g src up down : ℕ) where
         join_keeps_spt_bit s ((change s w a).state, (change s w a).messages) w g src down
         (record {
           configured =
-              subst (λ (cs : List InterfaceConfig). down < length cs) (change_configured s w a).configured (f.goes_out).configured;
+              subst (λ (cs : Addressing). down < length cs.interfaces) (change_configured s w a).configured (f.goes_out).configured;
           joined = ap is_some (source_rejoined s g src down j w (t w a) a (follows w a).downstream up off).found;
           unlost = still_unlost (source_key down g src) s w a other (f.goes_out).source;
         })
@@ -247,13 +247,13 @@ module _ (tree : Tree) (by : Receiver) (g src up down : ℕ) where
         let configured : (t w a).configured ≡ s.configured = same_configured w a in
         record {
           comes_in = record {
-            configured = subst (λ (cs : List InterfaceConfig). up < length cs) (sym configured) (f.comes_in).configured;
+            configured = subst (λ (cs : Addressing). up < length cs.interfaces) (sym configured) (f.comes_in).configured;
             is_up = ((follows w a).ground).up up ∙ still_up s w up a (isnt_down (t w a) a off) (f.comes_in).is_up;
             foreign = ap (λ cs. is_own_among cs src) configured ∙ (f.comes_in).foreign;
             on = on_after tree by (f.comes_in).on (f.goes_out).wanted w a off left other;
           };
           goes_out = record {
-            configured = subst (λ (cs : List InterfaceConfig). down < length cs) (sym configured) (f.goes_out).configured;
+            configured = subst (λ (cs : Addressing). down < length cs.interfaces) (sym configured) (f.goes_out).configured;
             group = unlost.group;
             source = unlost.source;
             wanted = wanted_after by (f.goes_out).wanted w a off other;
@@ -309,13 +309,13 @@ module _ (tree : Tree) (by : Receiver) (g src up down : ℕ) where
           let h : Goes g src down s later = goes in
           record {
             comes_in = record {
-              configured = subst (λ (cs : List InterfaceConfig). up < length cs) (sym (h.ground).configured) (f.comes_in).configured;
+              configured = subst (λ (cs : Addressing). up < length cs.interfaces) (sym (h.ground).configured) (f.comes_in).configured;
               is_up = (h.ground).up up ∙ (f.comes_in).is_up;
               foreign = ap (λ cs. is_own_among cs src) (h.ground).configured ∙ (f.comes_in).foreign;
               on = time_on tree by (f.comes_in).on (f.goes_out).wanted left other;
             };
             goes_out = record {
-              configured = subst (λ (cs : List InterfaceConfig). down < length cs) (sym (h.ground).configured) (f.goes_out).configured;
+              configured = subst (λ (cs : Addressing). down < length cs.interfaces) (sym (h.ground).configured) (f.goes_out).configured;
               group = h.group;
               source = h.source;
               wanted = time_wanted by (f.goes_out).wanted other;

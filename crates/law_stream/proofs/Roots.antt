@@ -1,9 +1,9 @@
 -- What comes to the last router of a way leaves, and comes down.
 use Rattle.std.{proofs.Common.{◌≡◌, ◌∙◌, ℕ, ◌+◌, ◌<◌, true, false, List, [], ◌∷◌, length, map, Option, Some, Ok, refl, sym, ap, subst, arith, eq-eqb}, specs.Prelude.slice_get}
 use Rattle.pim_ip.{specs.{Ipv4.{copy_text, is_link_local}, View.copied}}
-use Rattle.pim_types.{specs.{Keys.{rpt_key, star_key}, declared.{config.InterfaceConfig.InterfaceConfig, event.{Event.Event, EventKind.EventKind}}}}
+use Rattle.pim_types.{specs.{Keys.{rpt_key, star_key}, declared.{event.{Event.Event, EventKind.EventKind}}}}
 use Rattle.pim_wire.{specs.Values.Encapsulated}
-use Rattle.pim_model.{specs.{declared.accepted.Accepted.Accepted, Cause.done_as, Full.{is_full, source_is_full}, Judging.{judged, pim_to_me_judged, register_judged, unicast_judged, unicast_packet_judged}, Network.{At, Network, moved, network_ran, station_at}, Sets.{assert_source, assert_star, is_loser, prunes, spt_bit}, State.{State, is_own}, Step.{advanced, change, done, ran, state_after, step, taken}, Tables.{has_row, row_at}, Unicast.{is_rp, rp_of}, Writing.on_link}}
+use Rattle.pim_model.{specs.{declared.accepted.Accepted.Accepted, Cause.done_as, Full.{is_full, source_is_full}, Judging.{judged, pim_to_me_judged, register_judged, unicast_judged, unicast_packet_judged}, Network.{At, Network, moved, network_ran, station_at}, Sets.{assert_source, assert_star, is_loser, prunes, spt_bit}, State.{Addressing, State, is_own}, Step.{advanced, change, done, ran, state_after, step, taken}, Tables.{has_row, row_at}, Unicast.{is_rp, rp_of}, Writing.on_link}}
 use Rattle.law_causes.{specs.Networks.events_in, proofs.Networks.runs_alone}
 use Rattle.law_settled.{proofs.{SettledStates.settled_is_lawful, Steps.step_is_settled}, specs.Ready.IsSettled}
 use Rattle.law_promises.{specs.{Copies.happens, Served.IsServed}}
@@ -54,7 +54,7 @@ module _ (g src down : ℕ) where
         let same : (t w a).downstream ≡ (c w a).downstream = (follows w a).downstream in
         record {
           configured =
-              subst (λ (cs : List InterfaceConfig). down < length cs)
+              subst (λ (cs : Addressing). down < length cs.interfaces)
               (sym (((follows w a).ground).configured ∙ sym (change_configured s w a).configured)) f.configured;
           group = unlost.group;
           source = unlost.source;
@@ -73,7 +73,7 @@ module _ (g src down : ℕ) where
           time_goes g src down s w m s
           (record { ground = ground_itself s; group = f.group; source = f.source; spt = λ e. e }) in
           record {
-            configured = subst (λ (cs : List InterfaceConfig). down < length cs) (sym (h.ground).configured) f.configured;
+            configured = subst (λ (cs : Addressing). down < length cs.interfaces) (sym (h.ground).configured) f.configured;
             group = h.group;
             source = h.source;
             wanted = record {

@@ -1,7 +1,7 @@
 -- While a router joins a source no time clears its SPTbit.
 use Rattle.std.{proofs.Common.{◌≡◌, ℕ, ◌+◌, ◌-◌, ◌<◌, ◌≤◌, false, true, List, length, Some, is_some, sym, ap, subst, arith}}
-use Rattle.pim_types.{specs.{Keys.source_key, declared.{config.InterfaceConfig.InterfaceConfig, fact.{DownstreamRow.DownstreamRow, Key.Key}}}}
-use Rattle.pim_model.{specs.{Firing.{fire_all, fire_instant, fire_once, fired}, Messages.Message, Sets.{assert_source, assert_star, is_loser, spt_bit}, State.{State, iface_count}, Step.advanced, Tables.{has_row, row_at}, Timers.{Ending, next_due, timers}}}
+use Rattle.pim_types.{specs.{Keys.source_key, declared.{fact.{DownstreamRow.DownstreamRow, Key.Key}}}}
+use Rattle.pim_model.{specs.{Firing.{fire_all, fire_instant, fire_once, fired}, Messages.Message, Sets.{assert_source, assert_star, is_loser, spt_bit}, State.{Addressing, State, iface_count}, Step.advanced, Tables.{has_row, row_at}, Timers.{Ending, next_due, timers}}}
 use Rattle.law_settled.{proofs.{TimerLaws.{IsNext, is_next}, TurnLaws.kept_to_the_end, Ends.{Ends, shows}}, specs.Ready.IsLawful}
 use Rattle.law_stream.{specs.{Bits.FiringKeepsSptBit, Passing.{ends_by, has_expired}}, proofs.{Bits.join_keeps_spt_bit, Fires.{Goes, fired_on, once_goes, own_goes}, JoinTimes.{Kept, fired_keeps, never_expires, never_pends, once_keeps, row_ends}, Tests.Two, Ways.ground_itself}}
 
@@ -33,7 +33,7 @@ module _ (g src down w m : ℕ) (b : State) (within : down < iface_count b) (row
         set =
             join_keeps_spt_bit t c w g src down
             (record {
-              configured = subst (λ (cs : List InterfaceConfig). down < length cs) (sym (own.ground).configured) within;
+              configured = subst (λ (cs : Addressing). down < length cs.interfaces) (sym (own.ground).configured) within;
               joined =
                   ap is_some
                   (fired_keeps key m (λ o. o ≡ Some row) (never_pends m row ends.second) (never_expires m row ends.first) t d.timer.kind d.timer.key d.end low (f.kept).lawful shown (f.kept).there);

@@ -1,17 +1,17 @@
 -- The way to an address is the same where routes, ranges and the interfaces that are up are.
 use Rattle.std.{proofs.Common.{◌≡◌, ℕ, Bool, false, ◌&&◌, List, length, Option, Some, None, refl, arith}, specs.{Option.option_map_or, Prelude.{find, if◌then◌else◌, option_and_then, slice_get}}}
 use Rattle.pim_ip.{specs.Prefixes.{contains, longest_match}}
-use Rattle.pim_types.{specs.declared.{config.{InterfaceConfig.InterfaceConfig, Route.Route}, path.Path.Path}}
-use Rattle.pim_model.{specs.{State.{State, is_own_among, is_up}, Tables.below, Unicast.{is_on_link_among, is_rpf_interface, is_rpf_interface_rp, link_among, link_path, route, route_among, route_path, routed_among, rp_of, rp_route, rpf_interface, rpf_interface_rp, subnet}}}
+use Rattle.pim_types.{specs.declared.{config.Route.Route, path.Path.Path}}
+use Rattle.pim_model.{specs.{State.{Addressing, State, is_own_among, is_up}, Tables.below, Unicast.{is_on_link_among, is_rpf_interface, is_rpf_interface_rp, link_among, link_path, route, route_among, route_path, routed_among, rp_of, rp_route, rpf_interface, rpf_interface_rp, subnet}}}
 
 -- the route by a test of which interfaces are up
 unfoldable path_by : (ℕ → Bool) → Path → Option Path
 path_by up p = if up p.iface.number then Some p else None
 
-unfoldable route_by : List InterfaceConfig → (ℕ → Bool) → List Route → ℕ → Option Path
+unfoldable route_by : Addressing → (ℕ → Bool) → List Route → ℕ → Option Path
 route_by configured up routes address =
     let over_link : Option ℕ =
-    find (λ i. up i && option_map_or (λ c. contains (subnet c) address) (slice_get configured i) false) (below (length configured)) in
+    find (λ i. up i && option_map_or (λ c. contains (subnet c) address) (slice_get configured.interfaces i) false) (below (length configured.interfaces)) in
     let over_route : Option Path =
     option_and_then (λ r. path_by up (route_path r)) (longest_match (λ (r : Route). r.prefix) routes address) in
     if is_own_among configured address then None

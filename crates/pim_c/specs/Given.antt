@@ -29,9 +29,10 @@ route_of g = record {
 abbrev pub range_of : GivenRange → RpRange
 range_of g = record { prefix = given_prefix g.prefix g.length; rp = addr g.rp }
 
-abbrev pub config_of : GivenSettings → List GivenInterface → List GivenRoute → List GivenRange → Config
-config_of g interfaces routes ranges = record {
+abbrev pub config_of : GivenSettings → List ℕ → List GivenInterface → List GivenRoute → List GivenRange → Config
+config_of g addresses interfaces routes ranges = record {
   interfaces = map interface_of interfaces;
+  addresses = map addr addresses;
   limit = g.limit;
   spt = if g.stays_on_shared_tree then SptSwitch.Never else SptSwitch.Always;
   robustness = g.robustness;

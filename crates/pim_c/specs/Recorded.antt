@@ -64,7 +64,7 @@ settings_in c = record {
 
 abbrev pub reload_record : GivenCall → Config → Record
 reload_record c given = record {
-  call = Reloaded c.draw (settings_in given) given.interfaces given.routes given.rps;
+  call = Reloaded c.draw (settings_in given) given.interfaces given.addresses given.routes given.rps;
   answered = answered_of c;
 }
 

@@ -35,13 +35,14 @@ pub extern "C" fn viq_core_new(
     alloc: Global,
     router: &mut Handle,
     settings: &GivenSettings,
+    addresses: &[u32],
     interfaces: &[GivenInterface],
     routes: &[GivenRoute],
     ranges: &[GivenRange],
 ) -> u32
-    ensures { Made router.old.place.inside (config_of settings.now interfaces.now routes.now ranges.now) result router.new.place.inside }
+    ensures { Made router.old.place.inside (config_of settings.now addresses.now interfaces.now routes.now ranges.now) result router.new.place.inside }
 {
-    match given::config(alloc, settings, interfaces, routes, ranges) {
+    match given::config(alloc, settings, addresses, interfaces, routes, ranges) {
         Ok(config) => router.make(alloc, config),
         Err(_) => MEMORY,
     }
@@ -54,14 +55,15 @@ pub extern "C" fn viq_core_reload(
     router: &mut Handle,
     draw: u32,
     settings: &GivenSettings,
+    addresses: &[u32],
     interfaces: &[GivenInterface],
     routes: &[GivenRoute],
     ranges: &[GivenRange],
 ) -> u32
-    ensures { ReloadedCopy router.old.place.inside (config_of settings.now interfaces.now routes.now ranges.now) draw result
+    ensures { ReloadedCopy router.old.place.inside (config_of settings.now addresses.now interfaces.now routes.now ranges.now) draw result
         router.new.place.inside }
 {
-    let config = given::config(alloc, settings, interfaces, routes, ranges);
+    let config = given::config(alloc, settings, addresses, interfaces, routes, ranges);
     router.reload_copied(alloc, draw, config)
 }
 
@@ -572,16 +574,17 @@ pub extern "C" fn viq_core_record_reload(
     alloc: Global,
     call: &GivenCall,
     settings: &GivenSettings,
+    addresses: &[u32],
     interfaces: &[GivenInterface],
     routes: &[GivenRoute],
     ranges: &[GivenRange],
     room: &mut [u8],
     size: &mut usize,
 ) -> u32
-    ensures { Written (reload_text call.now (config_of settings.now interfaces.now routes.now ranges.now))
+    ensures { Written (reload_text call.now (config_of settings.now addresses.now interfaces.now routes.now ranges.now))
         result size.old size.new room.old room.new }
 {
-    let Ok(config) = given::config(alloc, settings, interfaces, routes, ranges) else {
+    let Ok(config) = given::config(alloc, settings, addresses, interfaces, routes, ranges) else {
         return MEMORY;
     };
     recorded::tell(recorded::reload_record(alloc, call, &config), room, size)

@@ -1,5 +1,6 @@
 //! What a program passes in: the parts of a configuration, and events.
 ghost use Rattle.std.specs.Prelude.{◌≡◌, IfOk, map};
+ghost use Rattle.pim_ip.specs.Addr.{addr};
 ghost use Rattle.pim_c.specs.Given.{config_of, given_event, interface_of, range_of, route_of};
 ghost use Rattle.pim_types.specs.declared.event.EventKind.{EventKind};
 
@@ -43,7 +44,7 @@ pub struct GivenRange {
     pub rp: u32,
 }
 
-/// A configuration without its lists. The ranges of its values are those of `pim_types::Config`.
+/// A configuration without its lists, as C's settings begin. The ranges of its values are those of `pim_types::Config`.
 #[repr(C)]
 #[derive(Drop)]
 pub struct GivenSettings {
@@ -106,6 +107,17 @@ fn range(given: &GivenRange) -> RpRange
     }
 }
 
+// The own addresses of no interface of the configuration that C gives.
+fn addresses(alloc: Global, given: &[u32]) -> Result<Series<Addr>, AllocError>
+    ensures { IfOk result (λ all. all ≡ map addr given.now) }
+{
+    let mut all = Series::new(alloc);
+    for one in given {
+        all.push(Addr { bits: *one })?;
+    }
+    Ok(all)
+}
+
 // The interfaces of the configuration that C gives.
 fn interfaces(
     alloc: Global,
@@ -146,14 +158,16 @@ pub fn ranges(alloc: Global, given: &[GivenRange]) -> Result<Series<RpRange>, Al
 pub fn config(
     alloc: Global,
     settings: &GivenSettings,
+    given_addresses: &[u32],
     given_interfaces: &[GivenInterface],
     given_routes: &[GivenRoute],
     given_ranges: &[GivenRange],
 ) -> Result<Config, AllocError>
     ensures { IfOk result (λ config. config
-        ≡ config_of settings.now given_interfaces.now given_routes.now given_ranges.now) }
+        ≡ config_of settings.now given_addresses.now given_interfaces.now given_routes.now given_ranges.now) }
 {
     let interfaces = interfaces(alloc, given_interfaces)?;
+    let addresses = addresses(alloc, given_addresses)?;
     let routes = routes(alloc, given_routes)?;
     let rps = ranges(alloc, given_ranges)?;
     let spt = if settings.stays_on_shared_tree {
@@ -163,6 +177,7 @@ pub fn config(
     };
     Ok(Config {
         interfaces,
+        addresses,
         limit: settings.limit,
         spt,
         robustness: settings.robustness,

@@ -128,6 +128,7 @@ pub fn reload_record(
         call.draw,
         settings(config),
         config.interfaces.as_slice(),
+        config.addresses.as_slice(),
         config.routes.as_slice(),
         config.rps.as_slice(),
         answered(call),

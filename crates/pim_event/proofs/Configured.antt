@@ -154,8 +154,8 @@ module _ (s : State) where
   brings kind a table heard of = of_event kind a table (accepted_of kind (judged s kind) a refl heard).1 of
 
   pub data_below : (kind : EventKind) (i : IfaceId) (p : Packet) → judged s kind ≡ Ok (Accepted.Data i p)
-      → (lent : InterfaceTable) → lent ≡ interfaces_of s → length lent.configured ≤ 120 → i.number < 120
+      → (lent : InterfaceTable) → lent ≡ interfaces_of s → length lent.configured.interfaces ≤ 120 → i.number < 120
   data_below kind i p heard lent lends few =
       let below : i.number < iface_count s = configured kind (judged s kind) (Accepted.Data i p) refl heard in
-      let within : length s.configured ≤ 120 = subst (λ (x : InterfaceTable). length x.configured ≤ 120) lends few in
+      let within : length s.configured.interfaces ≤ 120 = subst (λ (x : InterfaceTable). length x.configured.interfaces ≤ 120) lends few in
       omega (arith, below, within)

@@ -138,7 +138,7 @@ module _ (s : State) (e : Event) where
   unfolding step taken_unless_full taken is_full
   rps_done ranges heard = ap (λ (j : Judged). (concluded s (taken_unless_full s e.draw) j).state) heard
 
-  module _ (t : State) (rest : IsAtRest s) (few : length s.configured ≤ 120) (is : t ≡ (step s e).state) (g src : ℕ) where
+  module _ (t : State) (rest : IsAtRest s) (few : length s.configured.interfaces ≤ 120) (is : t ≡ (step s e).state) (g src : ℕ) where
     room_stays : same_bool (passes_limit s 1) (passes_limit (step s e).state 1) ≡ true
         → passes_limit s 1 ≡ passes_limit t 1
     room_stays room =
@@ -176,7 +176,7 @@ module _ (s : State) (e : Event) where
         (same_rps_stay s rest.quiet few e.draw g src ranges there)) (room_stays room))
 
 offers_stay : (s t : State) (e : Event) (touched : Touched) (replaced : Replaced) → IsAtRest s
-    → length s.configured ≤ 120 → t ≡ (step s e).state → UntouchedOffersStay touched s t → replaced ≡ event_replaced s e
+    → length s.configured.interfaces ≤ 120 → t ≡ (step s e).state → UntouchedOffersStay touched s t → replaced ≡ event_replaced s e
     → OffersStay (record { touched = touched; replaced = replaced }) s t
 unfolding may_differ differs_by
 offers_stay s t e touched NoneReplaced rest few is stays replaces g src out = stays g src out
@@ -186,7 +186,7 @@ offers_stay s t e touched (RangesReplaced before) rest few is stays replaces g s
     ranges_offer s e t rest few is g src before replaces (not_false _ out)
 
 pub offers_stay_after : {A E : Type 0} (r : Result A E) (s t : State) (e : Event) (touched : Touched)
-    (replaced : Replaced) → IsAtRest s → length s.configured ≤ 120 → OnOk r (t ≡ (step s e).state)
+    (replaced : Replaced) → IsAtRest s → length s.configured.interfaces ≤ 120 → OnOk r (t ≡ (step s e).state)
     → OnOk r (UntouchedOffersStay touched s t) → OnOk r (replaced ≡ event_replaced s e)
     → OnOk r (OffersStay (record { touched = touched; replaced = replaced }) s t)
 offers_stay_after (Ok x) s t e touched replaced rest few is stays replaces =

@@ -114,7 +114,7 @@ module _ (o c : State) (is : IsRerouted o c) (messages : List Message) (w : ℕ)
   unnamed_where_same quiet g src same =
       rerouted_unnamed o c (around_rerouted o c is) (rerouted_beside o c is) quiet g src same
 
-module _ (s : State) (quiet : IsQuiet s) (few : length s.configured ≤ 120) (w g src : ℕ) where
+module _ (s : State) (quiet : IsQuiet s) (few : length s.configured.interfaces ≤ 120) (w g src : ℕ) where
   pub same_routes_stay : (routes : List Route)
       → (let end : State = (done s w (change s w (Accepted.Routes routes))).state in
       has_same_routes g src end (record end { routes = s.routes }) ≡ true → SourceStays g src s end)

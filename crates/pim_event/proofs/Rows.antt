@@ -67,11 +67,11 @@ named_timeless s w a timeless = refl
 module _ (s : State) (w : ℕ) (a : Accepted) (timeless : (m : ℕ) → ¬ (a ≡ Accepted.Advance m)) (touched : Touched)
     (names : List SourceGroup) (are : AreNames s (change s w a).state touched (keys_of names)) where
   pub rows_after : (t : State) (old new : Table SourceAnswers) (lent : InterfaceTable)
-      → IsQuiet s → lent ≡ interfaces_of s → length lent.configured ≤ 120 → t ≡ (taken s w a).state
+      → IsQuiet s → lent ≡ interfaces_of s → length lent.configured.interfaces ≤ 120 → t ≡ (taken s w a).state
       → Refreshes (keys_of names) t old new → ShowsRows old (cached s) → ShowsRows new (cached t)
   rows_after t old new lent quiet lends few is refreshes shows =
       let same : t ≡ (done s w (change s w a)).state = is ∙ ap (λ x. x.state) (taken_is_done s w a timeless) in
-      let within : length s.configured ≤ 120 = subst (λ (x : InterfaceTable). length x.configured ≤ 120) lends few in
+      let within : length s.configured.interfaces ≤ 120 = subst (λ (x : InterfaceTable). length x.configured.interfaces ≤ 120) lends few in
       subst (λ (u : State). ShowsRows new (cached u)) (sym same)
       (event_shows_rows s quiet within w a touched are.covers new
       (subst (λ (u : State). ShowsRows new (refreshed (named_among s (clear s (change s w a).state).0 touched) u (cached s)))
@@ -93,10 +93,10 @@ module _ (s : State) (w : ℕ) (a : Accepted) (timeless : (m : ℕ) → ¬ (a �
 module _ (s : State) (w : ℕ) (e : Ending) (touched : Touched) (names : List SourceGroup)
     (are : AreNames s (own_firing s e) touched (keys_of names)) where
   pub rows_fired : (t : State) (old new : Table SourceAnswers) (lent : InterfaceTable)
-      → IsQuiet s → lent ≡ interfaces_of s → length lent.configured ≤ 120 → t ≡ (fire_once w s e).0
+      → IsQuiet s → lent ≡ interfaces_of s → length lent.configured.interfaces ≤ 120 → t ≡ (fire_once w s e).0
       → Refreshes (keys_of names) t old new → ShowsRows old (cached s) → ShowsRows new (cached t)
   rows_fired t old new lent quiet lends few is refreshes shows =
-      let within : length s.configured ≤ 120 = subst (λ (x : InterfaceTable). length x.configured ≤ 120) lends few in
+      let within : length s.configured.interfaces ≤ 120 = subst (λ (x : InterfaceTable). length x.configured.interfaces ≤ 120) lends few in
       subst (λ (u : State). ShowsRows new (cached u)) (sym is)
       (firing_shows_rows s quiet within w e touched are.covers new
       (subst (λ (u : State). ShowsRows new (refreshed (named_among s (clear s (own_firing s e)).0 touched) u (cached s))) is
@@ -111,10 +111,10 @@ module _ (s : State) (w : ℕ) (e : Ending) (touched : Touched) (names : List So
 
 -- where the present alone moves
 pub rows_present : (s t : State) (m : ℕ) (rows : Table SourceAnswers) (lent : InterfaceTable)
-    → lent ≡ interfaces_of s → length lent.configured ≤ 120 → t ≡ record s { present = m }
+    → lent ≡ interfaces_of s → length lent.configured.interfaces ≤ 120 → t ≡ record s { present = m }
     → ShowsRows rows (cached s) → ShowsRows rows (cached t)
 rows_present s t m rows lent lends few is shows =
-    let within : length s.configured ≤ 120 = subst (λ (x : InterfaceTable). length x.configured ≤ 120) lends few in
+    let within : length s.configured.interfaces ≤ 120 = subst (λ (x : InterfaceTable). length x.configured.interfaces ≤ 120) lends few in
     subst (λ (u : State). ShowsRows rows (cached u)) (sym is) (present_shows_rows s m within rows shows)
 
 -- ---- what is named of what was accepted

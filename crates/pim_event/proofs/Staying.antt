@@ -43,16 +43,16 @@ not_disturbed all touched g src out = go all out
 
 -- ---- an event, the expiry of a timer, and the present alone
 
-pub few_of : (s : State) (lent : InterfaceTable) → lent ≡ interfaces_of s → length lent.configured ≤ 120
-    → length s.configured ≤ 120
-few_of s lent lends few = subst (λ (x : InterfaceTable). length x.configured ≤ 120) lends few
+pub few_of : (s : State) (lent : InterfaceTable) → lent ≡ interfaces_of s → length lent.configured.interfaces ≤ 120
+    → length s.configured.interfaces ≤ 120
+few_of s lent lends few = subst (λ (x : InterfaceTable). length x.configured.interfaces ≤ 120) lends few
 
 either_way : {A B C : Type 0} → A ⊎ B → (A → C) → (B → C) → C
 either_way (inl a) first second = first a
 either_way (inr b) first second = second b
 
 -- a change of neighbours
-module _ (s c : State) (quiet : IsQuiet s) (few : length s.configured ≤ 120) (keys : List Key)
+module _ (s c : State) (quiet : IsQuiet s) (few : length s.configured.interfaces ≤ 120) (keys : List Key)
     (adjoins : AdjoinsAlone keys s c) (same_dr : (i : ℕ) → is_dr s i ≡ is_dr c i) (messages : List Message) (w g src : ℕ)
     (out : touching keys (source_key 0 g src) ≡ false) where
   abbrev last : State
@@ -91,7 +91,7 @@ module _ (s c : State) (quiet : IsQuiet s) (few : length s.configured ≤ 120) (
         (kept_is_same g src s before before_configured few before_keeps);
   }
 
-adjoined_event_stays : (s : State) (w : ℕ) (a : Accepted) → IsQuiet s → length s.configured ≤ 120 → (touched : Touched)
+adjoined_event_stays : (s : State) (w : ℕ) (a : Accepted) → IsQuiet s → length s.configured.interfaces ≤ 120 → (touched : Touched)
     → Adjoins touched s (change s w a).state → ((i : ℕ) → is_dr s i ≡ is_dr (change s w a).state i) → (g src : ℕ)
     → is_disturbed touched g src ≡ false
     → SourceStays g src s (done s w (change s w a)).state
@@ -100,7 +100,7 @@ adjoined_event_stays s w a quiet few Touched.All none same_dr g src out = absurd
 adjoined_event_stays s w a quiet few (Touched.Keys keys) adjoins same_dr g src out =
     adjoined_stays s (change s w a).state quiet few keys adjoins same_dr (change s w a).messages w g src out
 
-adjoined_firing_stays : (s : State) (w : ℕ) (e : Ending) → IsQuiet s → length s.configured ≤ 120 → (touched : Touched)
+adjoined_firing_stays : (s : State) (w : ℕ) (e : Ending) → IsQuiet s → length s.configured.interfaces ≤ 120 → (touched : Touched)
     → Adjoins touched s (own_firing s e) → ((i : ℕ) → is_dr s i ≡ is_dr (own_firing s e) i) → (g src : ℕ)
     → is_disturbed touched g src ≡ false
     → SourceStays g src s (fire_once w s e).0
@@ -112,7 +112,7 @@ adjoined_firing_stays s w e quiet few (Touched.Keys keys) adjoins same_dr g src 
 
 pub stays_after : (o s t : State) (w : ℕ) (a : Accepted) → ((m : ℕ) → ¬ (a ≡ Accepted.Advance m)) → (touched : Touched)
     → Contains touched s (change s w a).state → IsQuiet s → (lent : InterfaceTable) → lent ≡ interfaces_of s
-    → length lent.configured ≤ 120 → t ≡ (taken s w a).state → (before after : Touched)
+    → length lent.configured.interfaces ≤ 120 → t ≡ (taken s w a).state → (before after : Touched)
     → after ≡ joined before (disturbed_by s a touched) → StaysBeside before o s → StaysBeside after o t
 stays_after o s t w a timeless touched covers quiet lent lends few is before after joins stays g src out =
     let parts = not_joined before (disturbed_by s a touched) g src
@@ -130,7 +130,7 @@ stays_after o s t w a timeless touched covers quiet lent lends few is before aft
     calm.1)))
 
 pub stays_fired : (o s t : State) (w : ℕ) (e : Ending) (touched : Touched) → Contains touched s (own_firing s e)
-    → IsQuiet s → (lent : InterfaceTable) → lent ≡ interfaces_of s → length lent.configured ≤ 120
+    → IsQuiet s → (lent : InterfaceTable) → lent ≡ interfaces_of s → length lent.configured.interfaces ≤ 120
     → t ≡ (fire_once w s e).0 → (moves : Bool) → moves ≡ end_moves_dr s e.timer.kind e.timer.key
     → (before after : Touched) → after ≡ joined before (if moves then Touched.All else touched)
     → StaysBeside before o s → StaysBeside after o t

@@ -13,7 +13,7 @@ use Rattle.pim_fanout.{specs.{Contains.Contains, Named.named_among}, proofs.List
 abbrev HasOne : ℕ → ℕ → State → Table SourceRow → Type 0
 HasOne g src o t = (has_row o.sources (source_key 0 g src) || has_row t (source_key 0 g src)) ≡ true
 
-pub unnamed_sources_keep_their_answers : (s : State) → IsQuiet s → length s.configured ≤ most_ifaces → (w : ℕ) (a : Accepted)
+pub unnamed_sources_keep_their_answers : (s : State) → IsQuiet s → length s.configured.interfaces ≤ most_ifaces → (w : ℕ) (a : Accepted)
     → (touched : Touched) → Contains touched s (change s w a).state → (g src : ℕ) → HasOne g src s (done s w (change s w a)).state.sources
     → is_listed (named_among s (clear s (change s w a).state).0 touched) g src ≡ false
     → KeepsAnswers g src s (done s w (change s w a)).state
@@ -21,7 +21,7 @@ unnamed_sources_keep_their_answers s quiet few w a touched covers g src known e 
     event_keeps s w a few g src
     (unlisted_is_unnamed s (change s w a).state quiet touched covers g src (rw (event_facts s w a) known) e)
 
-pub expiry_keeps_unnamed_sources : (s : State) → IsQuiet s → length s.configured ≤ most_ifaces → (w : ℕ) (e : Ending)
+pub expiry_keeps_unnamed_sources : (s : State) → IsQuiet s → length s.configured.interfaces ≤ most_ifaces → (w : ℕ) (e : Ending)
     → (touched : Touched) → Contains touched s (own_firing s e) → (g src : ℕ)
     → HasOne g src s (fire_once w s e).0.sources
     → is_listed (named_among s (clear s (own_firing s e)).0 touched) g src ≡ false

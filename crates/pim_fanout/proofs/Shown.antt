@@ -21,7 +21,7 @@ unfolding refreshed
 same_refreshed xs ys s c same is g src =
     subst (λ l. SameRow (cond l (cached s g src) (c g src)) (cached s g src)) (sym (same g src)) (is g src)
 
-event_cached : (s : State) → IsQuiet s → length s.configured ≤ most_ifaces → (w : ℕ) (a : Accepted) (touched : Touched)
+event_cached : (s : State) → IsQuiet s → length s.configured.interfaces ≤ most_ifaces → (w : ℕ) (a : Accepted) (touched : Touched)
     → Contains touched s (change s w a).state → IsCached
     (refreshed (named_among s (clear s (change s w a).state).0 touched) (done s w (change s w a)).state (cached s)) (done s w (change s w a)).state
 event_cached s quiet few w a touched covers =
@@ -30,7 +30,7 @@ event_cached s quiet few w a touched covers =
     (λ g src. names_are_named s (change s w a).state quiet g src touched covers)
     (event_keeps_cache s w a (cached s) few (own_rows s))
 
-firing_cached : (s : State) → IsQuiet s → length s.configured ≤ most_ifaces → (w : ℕ) (e : Ending) (touched : Touched)
+firing_cached : (s : State) → IsQuiet s → length s.configured.interfaces ≤ most_ifaces → (w : ℕ) (e : Ending) (touched : Touched)
     → Contains touched s (own_firing s e) → IsCached (refreshed (named_among s (clear s (own_firing s e)).0 touched)
     (fire_once w s e).0 (cached s)) (fire_once w s e).0
 firing_cached s quiet few w e touched covers =
@@ -38,7 +38,7 @@ firing_cached s quiet few w e touched covers =
     (fire_once w s e).0 (cached s) (λ g src. names_are_named s (own_firing s e) quiet g src touched covers)
     (firing_keeps_cache s w e (cached s) few (own_rows s))
 
-pub event_shows_rows : (s : State) → IsQuiet s → length s.configured ≤ most_ifaces → (w : ℕ) (a : Accepted)
+pub event_shows_rows : (s : State) → IsQuiet s → length s.configured.interfaces ≤ most_ifaces → (w : ℕ) (a : Accepted)
     → (touched : Touched) → Contains touched s (change s w a).state → (rows : Table SourceAnswers)
     → ShowsRows rows (refreshed (named_among s (clear s (change s w a).state).0 touched) (done s w (change s w a)).state
     (cached s)) → ShowsRows rows (cached (done s w (change s w a)).state)
@@ -47,7 +47,7 @@ event_shows_rows s quiet few w a touched covers rows shows =
     (done s w (change s w a)).state (cached s)) (done s w (change s w a)).state shows
     (event_cached s quiet few w a touched covers)
 
-pub firing_shows_rows : (s : State) → IsQuiet s → length s.configured ≤ most_ifaces → (w : ℕ) (e : Ending)
+pub firing_shows_rows : (s : State) → IsQuiet s → length s.configured.interfaces ≤ most_ifaces → (w : ℕ) (e : Ending)
     → (touched : Touched) → Contains touched s (own_firing s e) → (rows : Table SourceAnswers)
     → ShowsRows rows (refreshed (named_among s (clear s (own_firing s e)).0 touched) (fire_once w s e).0 (cached s))
     → ShowsRows rows (cached (fire_once w s e).0)
@@ -55,7 +55,7 @@ firing_shows_rows s quiet few w e touched covers rows shows =
     refreshed_are_shown rows (refreshed (named_among s (clear s (own_firing s e)).0 touched) (fire_once w s e).0
     (cached s)) (fire_once w s e).0 shows (firing_cached s quiet few w e touched covers)
 
-pub present_shows_rows : (s : State) (m : ℕ) → length s.configured ≤ most_ifaces → (rows : Table SourceAnswers)
+pub present_shows_rows : (s : State) (m : ℕ) → length s.configured.interfaces ≤ most_ifaces → (rows : Table SourceAnswers)
     → ShowsRows rows (cached s) → ShowsRows rows (cached (record s { present = m }))
 present_shows_rows s m few rows shows =
     refreshed_are_shown rows (cached s) (record s { present = m }) shows

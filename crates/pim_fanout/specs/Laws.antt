@@ -59,14 +59,14 @@ HasFact g src o a =
 -- A source with a fact that an event doesn't name keeps SPTbit, CouldRegister, the states of its register fact and of
 -- both its asserts, and every macro, to the end of the event.
 abbrev pub UnnamedSourcesKeepTheirAnswers : Type 0
-UnnamedSourcesKeepTheirAnswers = (s : State) → IsQuiet s → length s.configured ≤ most_ifaces → (w : ℕ) (a : Accepted) (touched : Touched)
+UnnamedSourcesKeepTheirAnswers = (s : State) → IsQuiet s → length s.configured.interfaces ≤ most_ifaces → (w : ℕ) (a : Accepted) (touched : Touched)
     → Contains touched s (change s w a).state → (g src : ℕ) → HasFact g src s (done s w (change s w a)).state
     → is_listed (names_of s (change s w a).state touched) g src ≡ false
     → KeepsAnswers g src s (done s w (change s w a)).state
 
 -- A source with a fact that the expiry of a timer doesn't name keeps what `UnnamedSourcesKeepTheirAnswers` lists.
 abbrev pub ExpiryKeepsUnnamedSources : Type 0
-ExpiryKeepsUnnamedSources = (s : State) → IsQuiet s → length s.configured ≤ most_ifaces → (w : ℕ) (e : Ending) (touched : Touched)
+ExpiryKeepsUnnamedSources = (s : State) → IsQuiet s → length s.configured.interfaces ≤ most_ifaces → (w : ℕ) (e : Ending) (touched : Touched)
     → Contains touched s (own_firing s e) → (g src : ℕ) → HasFact g src s (fire_once w s e).0
     → is_listed (names_of s (own_firing s e) touched) g src ≡ false → KeepsAnswers g src s (fire_once w s e).0
 
@@ -78,7 +78,7 @@ OpeningShowsRows = (c : Config) → ShowsRows [] (cached (opening c))
 
 -- Where the named rows of the state before an event are evaluated again, the rows are those of the state after it.
 abbrev pub EventShowsRows : Type 0
-EventShowsRows = (s : State) → IsQuiet s → length s.configured ≤ most_ifaces → (w : ℕ) (a : Accepted)
+EventShowsRows = (s : State) → IsQuiet s → length s.configured.interfaces ≤ most_ifaces → (w : ℕ) (a : Accepted)
     → (touched : Touched) → Contains touched s (change s w a).state → (rows : Table SourceAnswers)
     → (let after : State = (done s w (change s w a)).state in
     ShowsRows rows (refreshed (names_of s (change s w a).state touched) after (cached s))
@@ -87,7 +87,7 @@ EventShowsRows = (s : State) → IsQuiet s → length s.configured ≤ most_ifac
 -- Where the named rows of the state before the expiry of a timer are evaluated again, the rows are those of the state
 -- after it.
 abbrev pub FiringShowsRows : Type 0
-FiringShowsRows = (s : State) → IsQuiet s → length s.configured ≤ most_ifaces → (w : ℕ) (e : Ending)
+FiringShowsRows = (s : State) → IsQuiet s → length s.configured.interfaces ≤ most_ifaces → (w : ℕ) (e : Ending)
     → (touched : Touched) → Contains touched s (own_firing s e) → (rows : Table SourceAnswers)
     → (let after : State = (fire_once w s e).0 in
     ShowsRows rows (refreshed (names_of s (own_firing s e) touched) after (cached s)) → ShowsRows rows (cached after))
@@ -99,5 +99,5 @@ PlainShowsRows = (s : State) (e : Event) (p : Packet) (how : Plain) → IsAtRest
 
 -- The cache's rows are those of the state after the present time alone changed.
 abbrev pub PresentShowsRows : Type 0
-PresentShowsRows = (s : State) (m : ℕ) → length s.configured ≤ most_ifaces → (rows : Table SourceAnswers)
+PresentShowsRows = (s : State) (m : ℕ) → length s.configured.interfaces ≤ most_ifaces → (rows : Table SourceAnswers)
     → ShowsRows rows (cached s) → ShowsRows rows (cached (record s { present = m }))

@@ -2,7 +2,7 @@
 use Rattle.std.{proofs.{Common.{◌≡◌, ◌==◌, ◌&&◌, ◌||◌, ◌++◌, ℕ, Bool, true, false, append-nil, find, List, [], ◌∷◌, filter, map, Option, Some, None, is_some, length, refl, sym, ap, ◌∙◌, eqb-true}, Math.Bool.or_assoc, lemmas.List.Folds.list_any-append}, specs.{Cmp.second_so, List.{flat_map, list_any}, Option.option_map_or, Prelude.{if◌then◌else◌, option_and_then, slice_get}}}
 use Rattle.pim_ip.{specs.{Prefixes.{contains, longest_match}, declared.addr.Prefix.Prefix}}
 use Rattle.pim_types.{specs.{declared.{config.{InterfaceConfig.InterfaceConfig, Route.Route}, fact.{InterfaceRow.InterfaceRow, Key.Key}, path.Path.Path}, Keys.{iface_key, is_of_group, source_in}}}
-use Rattle.pim_model.{specs.{State.{State, is_own_among}, Tables.{Table, below, has_row, keys_in}, Unicast.{is_on_link_among, link_among, link_path, path_if_up, route, route_among, route_path, routed_among, subnet}, Upstream.{fact_keys, groups_of, sources_of}}}
+use Rattle.pim_model.{specs.{State.{Addressing, State, is_own_among}, Tables.{Table, below, has_row, keys_in}, Unicast.{is_on_link_among, link_among, link_path, path_if_up, route, route_among, route_path, routed_among, subnet}, Upstream.{fact_keys, groups_of, sources_of}}}
 use Rattle.law_settled.{proofs.{ListLaws.any_more, Numbers.any_ascending, TableLaws.{any_in_filter, any_of_map}}}
 use Rattle.law_named.{specs.Adjacent.{is_linked, linked_of_group, linked_sources}}
 use Rattle.pim_state.{proofs.GatheredSources.{both_are_all, member_keys, stored_keys}}
@@ -65,10 +65,10 @@ found_passes test (m ∷ ns) n e = go (test m) refl (found_passes test ns n) e
     go false is rest e = rest e
 
 -- the interface has the address in its subnet
-abbrev has_address : List InterfaceConfig → ℕ → ℕ → Bool
-has_address configured i a = option_map_or (λ c. contains (subnet c) a) (slice_get configured i) false
+abbrev has_address : Addressing → ℕ → ℕ → Bool
+has_address configured i a = option_map_or (λ c. contains (subnet c) a) (slice_get configured.interfaces i) false
 
-module _ (configured : List InterfaceConfig) (up : Table InterfaceRow) (routes : List Route) (i a : ℕ)
+module _ (configured : Addressing) (up : Table InterfaceRow) (routes : List Route) (i a : ℕ)
     (outside : has_address configured i a ≡ false) where
   unlinked_route : (best : Option Route) → is_linked i (option_and_then (λ r. path_if_up up (route_path r)) best) ≡ false
   unlinked_route None = refl
@@ -93,7 +93,7 @@ module _ (configured : List InterfaceConfig) (up : Table InterfaceRow) (routes :
       → is_linked i (option_map_or (λ j. Some (link_path a j)) link path) ≡ false
   unfolding link_among
   by_link None is path none = none
-  by_link (Some j) is path none = on_other j (found_passes (is_on_link_among configured up a) (below (length configured)) j is)
+  by_link (Some j) is path none = on_other j (found_passes (is_on_link_among configured up a) (below (length configured.interfaces)) j is)
 
   unlinked : is_linked i (route_among configured up routes a) ≡ false
   unfolding route_among routed_among
@@ -118,7 +118,7 @@ module _ (s : State) (i : ℕ) (none : may_link s i ≡ false) where
 
   none_in : list_any (λ k. is_some k.source && within (source_in k)) (fact_keys s) ≡ false
   unfolding may_link
-  none_in = go (slice_get s.configured i) none
+  none_in = go (slice_get s.configured.interfaces i) none
     where
       never : (ks : List Key) → list_any (λ (k : Key). is_some k.source && false) ks ≡ false
       never [] = refl

@@ -11,4 +11,4 @@ is_within p k = is_some k.source && contains p (source_in k)
 -- The source of a fact is in the interface's subnet. There is none of an interface that isn't configured.
 unfoldable pub may_link : State → ℕ → Bool
 may_link s i =
-    option_map_or (λ c. list_any (is_within (subnet c)) (fact_keys s)) (slice_get s.configured i) false
+    option_map_or (λ c. list_any (is_within (subnet c)) (fact_keys s)) (slice_get s.configured.interfaces i) false

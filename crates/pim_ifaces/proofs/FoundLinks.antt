@@ -2,7 +2,7 @@
 use Rattle.std.{proofs.{Common.{◌≡◌, ◌<◌, ◌≤◌, ◌+◌, ◌-◌, ◌/◌, ◌^◌, ◌==◌, ◌&&◌, ◌||◌, ℕ, zero, suc, Bool, true, false, List, [], ◌∷◌, None, Option, Some, length, refl, sym, ap, ◌∙◌, subst, arith, eq-eqb, eqb-true, ⊎_elim}, lemmas.Bool.{or_left, or_right, Decides.nat_tests}}, specs.{List.{find, list_any, range_with_len, slice_get}, Option.option_map_or, Prelude.IfSome}}
 use Rattle.pim_ip.{specs.Prefixes.contains}
 use Rattle.pim_types.{specs.{declared.{config.InterfaceConfig.InterfaceConfig, fact.InterfaceRow.InterfaceRow}, Keys.iface_key}}
-use Rattle.pim_model.{specs.{State.{InterfaceTable, is_own_among}, Tables.{Table, has_row}, Unicast.{is_on_link_among, link_among, subnet}}}
+use Rattle.pim_model.{specs.{State.{Addressing, InterfaceTable}, Tables.{Table, has_row}, Unicast.{is_on_link_among, link_among, subnet}}}
 use Rattle.pim_ifaces.{specs.Subnets.{Finds, lies_in}}
 
 -- ---- the one number that passes
@@ -30,41 +30,41 @@ module _ (test : ℕ → Bool) where
 
 -- ---- links
 
-module _ (cs : List InterfaceConfig) (rows : Table InterfaceRow) (a : ℕ) where
-  if_lies : (i : ℕ) → is_on_link_among cs rows a i ≡ (has_row rows (iface_key i) && lies_in cs a i)
+module _ (cs : Addressing) (rows : Table InterfaceRow) (a : ℕ) where
+  if_lies : (i : ℕ) → is_on_link_among cs rows a i ≡ (has_row rows (iface_key i) && lies_in cs.interfaces a i)
   unfolding is_on_link_among
   if_lies i = refl
 
   -- where an address lies in the one subnet, no other interface passes
-  only_one : (n : ℕ) → Finds cs a (Some n) → (i : ℕ) → is_on_link_among cs rows a i ≡ true → i ≡ n
+  only_one : (n : ℕ) → Finds cs.interfaces a (Some n) → (i : ℕ) → is_on_link_among cs rows a i ≡ true → i ≡ n
   only_one n found i e = ap (λ (o : Option ℕ). option_map_or (λ x. x) o 0) (sym (found.only i (both (has_row rows (iface_key i)) _ (sym (if_lies i) ∙ e)))) where
     both : (b d : Bool) → (b && d) ≡ true → d ≡ true
     both b d e = grind arith
 
-  pub nowhere : Finds cs a None → link_among cs rows a ≡ None
+  pub nowhere : Finds cs.interfaces a None → link_among cs rows a ≡ None
   unfolding link_among
-  nowhere found = none_found (is_on_link_among cs rows a) 0 (length cs) (λ i. if_lies i ∙ fails (has_row rows (iface_key i)) i (lies_in cs a i) refl) where
-    fails : (b : Bool) (i : ℕ) (d : Bool) → lies_in cs a i ≡ d → (b && d) ≡ false
+  nowhere found = none_found (is_on_link_among cs rows a) 0 (length cs.interfaces) (λ i. if_lies i ∙ fails (has_row rows (iface_key i)) i (lies_in cs.interfaces a i) refl) where
+    fails : (b : Bool) (i : ℕ) (d : Bool) → lies_in cs.interfaces a i ≡ d → (b && d) ≡ false
     fails b i true e = let f = found.only i e in let no : ⊥ = cc in absurd no
     fails true i false e = refl
     fails false i false e = refl
 
-  pub one_up : (n : ℕ) → Finds cs a (Some n) → has_row rows (iface_key n) ≡ true → n < length cs
+  pub one_up : (n : ℕ) → Finds cs.interfaces a (Some n) → has_row rows (iface_key n) ≡ true → n < length cs.interfaces
       → link_among cs rows a ≡ Some n
   unfolding link_among
   one_up n found up within =
-      one_found (is_on_link_among cs rows a) n 0 (length cs) (omega arith) (omega (arith, within))
+      one_found (is_on_link_among cs rows a) n 0 (length cs.interfaces) (omega arith) (omega (arith, within))
       (if_lies n ∙ rw (up, found.lies) refl) (only_one n found)
 
-  pub one_down : (n : ℕ) → Finds cs a (Some n) → has_row rows (iface_key n) ≡ false → link_among cs rows a ≡ None
+  pub one_down : (n : ℕ) → Finds cs.interfaces a (Some n) → has_row rows (iface_key n) ≡ false → link_among cs rows a ≡ None
   unfolding link_among
   one_down n found down =
-      none_found (is_on_link_among cs rows a) 0 (length cs) (λ i. by_test i (is_on_link_among cs rows a i) refl) where
+      none_found (is_on_link_among cs rows a) 0 (length cs.interfaces) (λ i. by_test i (is_on_link_among cs rows a i) refl) where
         by_test : (i : ℕ) (b : Bool) → is_on_link_among cs rows a i ≡ b → is_on_link_among cs rows a i ≡ false
         by_test i false e = e
         by_test i true e =
             ap (is_on_link_among cs rows a) (only_one n found i e)
-            ∙ (if_lies n ∙ ap (λ (b : Bool). b && lies_in cs a n) down)
+            ∙ (if_lies n ∙ ap (λ (b : Bool). b && lies_in cs.interfaces a n) down)
 
 -- ---- own addresses
 
@@ -89,15 +89,13 @@ module _ (cs : List InterfaceConfig) (a : ℕ) where
   own_lies None e = cc
   own_lies (Some c) e = eq-eqb _ _ (ap (λ n. n / 2 ^ (32 - c.length)) (sym (eqb-true _ _ e)))
 
-  pub own_nowhere : Finds cs a None → is_own_among cs a ≡ false
-  unfolding is_own_among
+  pub own_nowhere : Finds cs a None → list_any has cs ≡ false
   own_nowhere found = none_passes has cs (λ i. by_test i (option_map_or has (slice_get cs i) false) refl) where
     by_test : (i : ℕ) (b : Bool) → option_map_or has (slice_get cs i) false ≡ b → option_map_or has (slice_get cs i) false ≡ false
     by_test i false e = e
     by_test i true e = let f = found.only i (own_lies (slice_get cs i) e) in let no : ⊥ = cc in absurd no
 
-  pub own_at : (n : ℕ) → Finds cs a (Some n) → option_map_or has (slice_get cs n) false ≡ is_own_among cs a
-  unfolding is_own_among
+  pub own_at : (n : ℕ) → Finds cs a (Some n) → option_map_or has (slice_get cs n) false ≡ list_any has cs
   own_at n found = by_own (option_map_or has (slice_get cs n) false) refl where
     by_test : (i : ℕ) (b : Bool) → option_map_or has (slice_get cs n) false ≡ false
         → option_map_or has (slice_get cs i) false ≡ b → option_map_or has (slice_get cs i) false ≡ false
@@ -111,7 +109,7 @@ module _ (cs : List InterfaceConfig) (a : ℕ) where
     by_own true e = sym (one_passes has cs n e)
     by_own false e = sym (none_passes has cs (λ i. by_test i (option_map_or has (slice_get cs i) false) e refl))
 
-pub seen : (held now : InterfaceTable) (a : ℕ) (r x : Option ℕ) → held ≡ now → r ≡ x → Finds held.configured a r
-    → Finds now.configured a x
+pub seen : (held now : InterfaceTable) (a : ℕ) (r x : Option ℕ) → held ≡ now → r ≡ x
+    → Finds held.configured.interfaces a r → Finds now.configured.interfaces a x
 seen held now a r x e f found =
-    subst (λ (t : InterfaceTable). Finds t.configured a x) e (subst (Finds held.configured a) f found)
+    subst (λ (t : InterfaceTable). Finds t.configured.interfaces a x) e (subst (Finds held.configured.interfaces a) f found)

@@ -1,4 +1,5 @@
 pub mod Apart
+pub mod Once
 pub mod Rows
 mod Tested
 mod UpKeys

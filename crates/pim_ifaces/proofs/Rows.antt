@@ -1,7 +1,7 @@
 -- The rows of interfaces, by rising number.
 use Rattle.std.{proofs.{Common.{◌≡◌, ℕ, ◌+◌, ◌<◌, ◌≤◌, Bool, true, false, cond, not, List, [], ◌∷◌, length, map, min, Some, None, Result, Ok, Err, OnOk, OnErr, is_some, refl, sym, ap, ◌∙◌, arith, eqb}, lemmas.Grind.common_steps}, specs.{List.cons_option, Map.lookup, BTreeMap.{insert_entry, is_at}, declared.cmp.Ordering.{Ordering, TheVariants.{Less, Equal, Greater}}, Ordering.{is_eq, match_ordering, nat_cmp, ordering_then}}}
 use Rattle.pim_types.{specs.{declared.{config.InterfaceConfig.InterfaceConfig, fact.{InterfaceRow.InterfaceRow, Key.Key}}, Keys.{addr_cmp, iface_in, iface_key, is_on, key_cmp, same_key}}}
-use Rattle.pim_model.{specs.{Tables.{Table, change_row, changed_entry, drop_at, drop_where, has_row, put, row_at}, State.InterfaceTable, Hellos.hellos_triggered, Writing.hellos_paid}}
+use Rattle.pim_model.{specs.{Tables.{Table, change_row, changed_entry, drop_at, drop_where, has_row, put, row_at}, State.{Addressing, InterfaceTable}, Hellos.hellos_triggered, Writing.hellos_paid}}
 use Rattle.pim_ifaces.{specs.Interfaces.{InterfacesRise, IsHeld}}
 
 -- keys of interfaces compare as the numbers do
@@ -317,7 +317,7 @@ module _ (k : Key) (row : InterfaceRow) where
   }
 
 -- the rows as those of a table of interfaces
-pub with_rows : (configured : List InterfaceConfig) (E : Type 0) (r : Result (Unit {0}) E)
+pub with_rows : (configured : Addressing) (E : Type 0) (r : Result (Unit {0}) E)
     (new wanted : Table InterfaceRow)
     → OnOk r (new ≡ wanted)
     → let table : Table InterfaceRow → InterfaceTable = λ rows. record { configured = configured; rows = rows } in

@@ -1,8 +1,8 @@
 //! The interfaces of a router.
-ghost use Rattle.std.specs.List.{list_all};
+ghost use Rattle.std.specs.List.{list_all, list_any};
 ghost use Rattle.std.specs.List.Sorted.{IsStrictlySortedBy};
 ghost use Rattle.std.specs.Option.{option_map_or};
-ghost use Rattle.std.specs.Prelude.{◌≡◌, ◌<◌, ◌≤◌, ◌==◌, false, [], length, nat_lt, slice_get, option_map, true, IfSome, IsTrue, Ok, OnOk, OnErr, Some};
+ghost use Rattle.std.specs.Prelude.{◌≡◌, ◌<◌, ◌≤◌, ◌==◌, false, [], length, nat_lt, slice_get, option_map, true, IfOk, IfSome, IsTrue, Ok, OnOk, OnErr, Some};
 ghost use Rattle.pim_model.specs.Hellos.{hellos_triggered};
 ghost use Rattle.pim_model.specs.State.{is_own_among};
 ghost use Rattle.pim_model.specs.Clearing.{first_by};
@@ -24,9 +24,11 @@ use std::alloc::{AllocError, Global};
 use std::collections::btree_map::Iter;
 use std::marker::Model;
 
-/// The configured interfaces, and the rows of those that are up.
+/// The configured interfaces, the own addresses of no interface, and the rows of the interfaces that are up.
 pub struct Interfaces {
     configured: Configured,
+    // The own addresses that are of no interface.
+    addresses: Vec<Addr>,
     rows: Timed<InterfaceRow>,
 }
 
@@ -35,6 +37,7 @@ impl Drop for Interfaces {
     fn drop(self) {
         let Interfaces {
             configured: _,
+            addresses: _,
             rows: _,
         } = self;
     }
@@ -46,26 +49,40 @@ impl Model for Interfaces {
 
     ghost Value = { InterfaceTable };
 
-    ghost view = { λ a. record { configured = a.configured; rows = a.rows } };
+    ghost view = { λ a. record {
+      configured = record { interfaces = a.configured; addresses = a.addresses.items };
+      rows = a.rows;
+    } };
 
     ghost invariant = { λ a. IsHeld a.configured a.rows };
 }
 
 impl Interfaces {
-    /// The given interfaces, all down. Takes no memory.
-    pub fn new(alloc: Global, configured: &[InterfaceConfig]) -> Self
+    /// The given interfaces, all down, and own addresses of no interface. Takes memory only for the latter, and the error
+    /// is want of it.
+    pub fn new(
+        alloc: Global,
+        configured: &[InterfaceConfig],
+        addresses: &[Addr],
+    ) -> Result<Self, AllocError>
         requires { interfaces_test configured.now ≡ Ok tt }
-        ensures { result ≡ record { configured = configured.now; rows = [] } }
+        ensures { IfOk result (λ made. made ≡ record {
+          configured = record { interfaces = configured.now; addresses = addresses.now };
+          rows = [];
+        }) }
     {
-        Interfaces {
+        let mut own = Vec::new(alloc);
+        own.extend_from_slice(addresses)?;
+        Ok(Interfaces {
             configured: Configured::new(configured),
+            addresses: own,
             rows: Timed::new(alloc),
-        }
+        })
     }
 
     /// How many interfaces are configured.
     pub fn count(&self) -> u32
-        ensures count { result ≡ length self.now.configured }
+        ensures count { result ≡ length self.now.configured.interfaces }
         ensures within { result ≤ MOST_INTERFACES }
     {
         self.configured.as_slice().len() as u32
@@ -74,23 +91,30 @@ impl Interfaces {
     /// For the proof: at most 120 interfaces are configured, so a configured interface has a number below 120. Does
     /// nothing when it runs.
     pub fn proof_few(&self)
-        ensures { length self.now.configured ≤ MOST_INTERFACES }
+        ensures { length self.now.configured.interfaces ≤ MOST_INTERFACES }
     {
         let _ = &self.configured;
     }
 
     /// For the proof: each row is under the key of an interface that is configured. Does nothing when it runs.
     pub fn proof_kinds(&self)
-        ensures { IsTrue (list_all (λ e. is_up_key (length self.now.configured) e.0) self.now.rows) }
+        ensures { IsTrue (list_all (λ e. is_up_key (length self.now.configured.interfaces) e.0) self.now.rows) }
     {
         let _ = &self.rows;
     }
 
     /// The configured interfaces, by their numbers.
     pub fn configured(&self) -> &[InterfaceConfig]
-        ensures { result.now ≡ self.now.configured }
+        ensures { result.now ≡ self.now.configured.interfaces }
     {
         self.configured.as_slice()
+    }
+
+    /// The own addresses that are of no interface, in the order in which they were given.
+    pub fn addresses(&self) -> &[Addr]
+        ensures { result.now ≡ self.now.configured.addresses }
+    {
+        self.addresses.as_slice()
     }
 
     /// The rows of the interfaces that are up, by rising number.
@@ -104,7 +128,7 @@ impl Interfaces {
 
     /// What is configured of the interface. There is none past the last.
     pub fn config(&self, iface: IfaceId) -> Option<InterfaceConfig>
-        ensures { result ≡ slice_get self.now.configured iface.number }
+        ensures { result ≡ slice_get self.now.configured.interfaces iface.number }
     {
         self.configured().get(iface.number as usize).copied()
     }
@@ -112,7 +136,7 @@ impl Interfaces {
     /// Whether the interface is up.
     pub fn is_up(&self, iface: IfaceId) -> bool
         ensures up { result ≡ has_row self.now.rows (iface_key iface.number) }
-        ensures configured { IsTrue result → iface.number < length self.now.configured }
+        ensures configured { IsTrue result → iface.number < length self.now.configured.interfaces }
     {
         self.rows.contains(Key::iface(iface))
     }
@@ -131,10 +155,24 @@ impl Interfaces {
         self.rows.get(key)
     }
 
-    /// Whether the address is one of the router's, its interface being up or not.
+    /// Whether the address is one of the router's: an interface's, which may be up or not, or one of no interface.
     #[tactic(auto, unfolding(pim_model::specs::State::is_own_among))]
     pub fn is_own(&self, address: Addr) -> bool
         ensures { result ≡ is_own_among self.now.configured address.bits }
+    {
+        self.is_of_interface(address) || self.is_of_none(address)
+    }
+
+    // Whether the address is one of the router's that are of no interface.
+    fn is_of_none(&self, address: Addr) -> bool
+        ensures { result ≡ list_any (λ own. own.bits == address.bits) self.now.configured.addresses }
+    {
+        self.addresses().iter().any(|own| *own == address)
+    }
+
+    // Whether the address is that of an interface.
+    fn is_of_interface(&self, address: Addr) -> bool
+        ensures { result ≡ list_any (λ c. c.address.bits == address.bits) self.now.configured.interfaces }
     {
         match self.configured.around(address) {
             Some(number) => self.has_address(number, address),
@@ -144,7 +182,7 @@ impl Interfaces {
 
     // Whether the address is that of the interface.
     fn has_address(&self, number: u32, address: Addr) -> bool
-        ensures { result ≡ option_map_or (λ c. c.address.bits == address.bits) (slice_get self.now.configured number) false }
+        ensures { result ≡ option_map_or (λ c. c.address.bits == address.bits) (slice_get self.now.configured.interfaces number) false }
     {
         match self.configured().get(number as usize) {
             Some(interface) => interface.address == address,
@@ -156,7 +194,7 @@ impl Interfaces {
     #[tactic(auto, unfolding(pim_model::specs::Unicast::link_among))]
     pub fn link_to(&self, address: Addr) -> Option<IfaceId>
         ensures first { option_map (λ i. i.number) result ≡ link_among self.now.configured self.now.rows address.bits }
-        ensures configured { IfSome result (λ i. i.number < length self.now.configured) }
+        ensures configured { IfSome result (λ i. i.number < length self.now.configured.interfaces) }
     {
         let number = self.configured.around(address)?;
         let iface = IfaceId { number };
@@ -175,7 +213,7 @@ impl Interfaces {
 
     /// Makes the interface up, with this row. An error is want of memory, and changes nothing.
     pub fn set_up(&mut self, iface: IfaceId, row: InterfaceRow) -> Result<(), AllocError>
-        requires { iface.number < length self.old.configured }
+        requires { iface.number < length self.old.configured.interfaces }
         ensures ok { OnOk result (self.new ≡ record self.old { rows = put self.old.rows (iface_key iface.number) row }) }
         ensures err { OnErr result (self.new ≡ self.old) }
     {
@@ -191,16 +229,19 @@ impl Interfaces {
         self.rows.change(key, row)
     }
 
-    /// Takes the configured interfaces of another, each row being of one that the other has. The rows stay.
+    /// Takes the configured interfaces and own addresses of another, each row being of an interface that the other has. The
+    /// rows stay.
     pub fn reconfigure(&mut self, other: Interfaces)
-        requires { list_all (λ e. nat_lt (iface_in e.0) (length other.configured)) self.old.rows ≡ true }
+        requires { list_all (λ e. nat_lt (iface_in e.0) (length other.configured.interfaces)) self.old.rows ≡ true }
         ensures { self.new ≡ record self.old { configured = other.configured } }
     {
         let Interfaces {
             configured,
+            addresses,
             rows: _,
         } = other;
         self.configured = configured;
+        self.addresses = addresses;
     }
 
     /// Makes the interface down: its row goes, if it has one.

@@ -6,4 +6,4 @@ pub mod interfaces;
 pub mod limits;
 
 pub use interfaces::Interfaces;
-pub use limits::{MOST_INTERFACES, test_delays, test_interfaces};
+pub use limits::{MOST_INTERFACES, are_own_addresses, test_delays, test_interfaces};

@@ -1,12 +1,12 @@
 //! Which interfaces a router can be configured with.
-ghost use Rattle.std.specs.Prelude.{◌≡◌};
+ghost use Rattle.std.specs.Prelude.{◌≡◌, ◌==◌};
 ghost use Rattle.std.specs.List.{list_all, list_any};
 ghost use Rattle.pim_ip.specs.Ipv4.{is_unicast};
-ghost use Rattle.pim_model.specs.Limits.{are_apart, is_between, is_delay_config, overlaps};
+ghost use Rattle.pim_model.specs.Limits.{are_apart, are_once, are_own_addresses, is_apart, is_between, is_delay_config, is_in_subnet, overlaps};
 ghost use Rattle.pim_model.specs.Unicast.{subnet};
 ghost use Rattle.pim_ifaces.specs.Interfaces.{interfaces_test, delays_test};
 
-use pim_types::{InterfaceConfig, Prefix, Refusal};
+use pim_types::{Addr, InterfaceConfig, Prefix, Refusal};
 
 /// The most interfaces of a router.
 pub const MOST_INTERFACES: usize = 120;
@@ -45,6 +45,66 @@ pub fn test_delays(configured: &[InterfaceConfig]) -> Result<(), Refusal>
         }
     }
     Ok(())
+}
+
+// The most own addresses of no interface.
+const MOST_ADDRESSES: usize = 16;
+
+/// Whether a router with these interfaces can have these own addresses beside: at most 16, each one that a host can have, in
+/// the subnet of no interface, none twice.
+#[tactic(auto, unfolding(pim_model::specs::Limits::are_own_addresses))]
+pub fn are_own_addresses(configured: &[InterfaceConfig], addresses: &[Addr]) -> bool
+    ensures { result ≡ are_own_addresses (record { interfaces = configured.now; addresses = addresses.now }) }
+{
+    addresses.len() <= MOST_ADDRESSES && are_beside(configured, addresses) && are_once(addresses)
+}
+
+// Whether each address is one that a host can have, in the subnet of no interface.
+fn are_beside(configured: &[InterfaceConfig], addresses: &[Addr]) -> bool
+    ensures { result ≡ list_all (is_apart configured.now) addresses.now }
+{
+    for address in addresses {
+        if !address.is_unicast() || is_in_subnet(configured, *address) {
+            return false;
+        }
+    }
+    true
+}
+
+// Whether the address is in the subnet of an interface.
+fn is_in_subnet(configured: &[InterfaceConfig], address: Addr) -> bool
+    ensures { result ≡ is_in_subnet configured.now address.bits }
+{
+    for interface in configured {
+        if subnet(*interface).contains(address) {
+            return true;
+        }
+    }
+    false
+}
+
+// Whether no address is listed twice.
+fn are_once(addresses: &[Addr]) -> bool
+    ensures { result ≡ are_once addresses.now }
+{
+    for (number, address) in addresses.iter().enumerate() {
+        if is_listed(*address, &addresses[number + 1..]) {
+            return false;
+        }
+    }
+    true
+}
+
+// Whether the address is one of the others.
+fn is_listed(address: Addr, others: &[Addr]) -> bool
+    ensures { result ≡ list_any (λ other. address.bits == other.bits) others.now }
+{
+    for other in others {
+        if address == *other {
+            return true;
+        }
+    }
+    false
 }
 
 // Whether each address is one that a host can have.

@@ -1,6 +1,6 @@
 -- The numbers by which refusals are known in scenarios and printed lines.
 use Rattle.std.{specs.Prelude.ℕ}
-use Rattle.pim_ip.{specs.declared.refusal.Refusal.{Refusal, TheVariants.{Short, BadVersion, BadChecksum, BadLength, BadAddress, NotMulticast, OldVersion, UnknownType, Fragment, MomentBack, MomentFar, NoInterface, InterfaceDown, Full, BadRoutes, BadRps, BadMove, InterfaceCount, InterfaceAddress, InterfaceLength, Overlap, BadLimit, BadQuerier, BadDelay, ConfiguredRoutes, ConfiguredRps, BadScenario}}}
+use Rattle.pim_ip.{specs.declared.refusal.Refusal.{Refusal, TheVariants.{Short, BadVersion, BadChecksum, BadLength, BadAddress, NotMulticast, OldVersion, UnknownType, Fragment, MomentBack, MomentFar, NoInterface, InterfaceDown, Full, BadRoutes, BadRps, BadMove, InterfaceCount, InterfaceAddress, InterfaceLength, Overlap, BadLimit, BadQuerier, BadDelay, ConfiguredRoutes, ConfiguredRps, BadScenario, OwnAddresses}}}
 
 -- the number under which a refusal is printed and told to C
 abbrev pub refusal_number : Refusal → ℕ
@@ -31,3 +31,4 @@ refusal_number BadDelay = 36
 refusal_number ConfiguredRoutes = 37
 refusal_number ConfiguredRps = 38
 refusal_number BadScenario = 39
+refusal_number OwnAddresses = 70

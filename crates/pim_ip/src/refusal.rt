@@ -5,7 +5,7 @@ use thiserror::Error;
 /// Why input was refused. A refused event, list of routes or configuration has changed nothing.
 ///
 /// 1 to 9 are about the bytes of a packet, 20 to 26 about an event, 27 about a move between
-/// routers, 30 to 38 about a configuration and 39 about a scenario.
+/// routers, 30 to 38 and 70 about a configuration and 39 about a scenario.
 #[derive(Clone, Copy, PartialEq, Eq, Debug, Error)]
 pub enum Refusal {
     Short = 1,
@@ -35,6 +35,7 @@ pub enum Refusal {
     ConfiguredRoutes = 37,
     ConfiguredRps = 38,
     BadScenario = 39,
+    OwnAddresses = 70,
 }
 
 impl Refusal {
@@ -78,6 +79,7 @@ impl Refusal {
             Refusal::ConfiguredRoutes => "the configured routes are wrong",
             Refusal::ConfiguredRps => "the configured RP ranges are wrong",
             Refusal::BadScenario => "the scenario is wrong",
+            Refusal::OwnAddresses => "the router's own addresses are wrong",
         }
     }
 }

@@ -1,7 +1,7 @@
 //! The routers of a scenario, as the lab and the network have them.
-ghost use Rattle.std.specs.Prelude.{◌≡◌, IfOk, map};
+ghost use Rattle.std.specs.Prelude.{◌≡◌, IfOk};
 ghost use Rattle.pim_net.specs.Showing.{node_of};
-ghost use Rattle.lab_stations.specs.Stations.{nobody_behind};
+ghost use Rattle.lab_stations.specs.Stations.{nobody_behind, own_addresses};
 ghost use Rattle.pim_lab.specs.Statuses.{router_node};
 
 use lab_stations::{Reloaded, Station, link_numbers};
@@ -14,7 +14,7 @@ use std::alloc::{AllocError, Global};
 pub(crate) fn station_of(alloc: Global, text: RouterText) -> Result<(Station, Node), AllocError>
     ensures node { IfOk result (λ made. node_of made.1 ≡ router_node text) }
     ensures links { IfOk result (λ made. made.0.links ≡ text.links) }
-    ensures addresses { IfOk result (λ made. made.0.addresses ≡ map (λ i. i.address) text.config.interfaces) }
+    ensures addresses { IfOk result (λ made. made.0.addresses ≡ own_addresses text.config) }
     ensures presence { IfOk result (λ made. made.0.presence ≡ nobody_behind text.config text.front.older_hosts) }
 {
     let RouterText {

@@ -1,8 +1,8 @@
 -- The configurations, routes and RP ranges that are accepted.
 use Rattle.std.{specs.{List.{list_all, list_any}, Prelude.{Bool, List, Result, [], length, map, nat_le, nat_lt, not, true, ℕ, ◌&&◌, ◌*◌, ◌==◌, ◌||◌, ◌∷◌}}}
-use Rattle.pim_ip.{specs.{Ipv4.{is_multicast, is_unicast}, Prefixes.{contains, is_host_clear}, Tests.{expect, ◌>>◌}, declared.{addr.Prefix.Prefix, refusal.Refusal.Refusal}}}
+use Rattle.pim_ip.{specs.{Ipv4.{is_multicast, is_unicast}, Prefixes.{contains, is_host_clear}, Tests.{expect, ◌>>◌}, declared.{addr.{Addr.Addr, Prefix.Prefix}, refusal.Refusal.Refusal}}}
 use Rattle.pim_types.{specs.declared.config.{Config.Config, InterfaceConfig.InterfaceConfig, Route.Route, RpRange.RpRange}}
-use Rattle.pim_model.{specs.{State.is_own_among, Unicast.subnet}}
+use Rattle.pim_model.{specs.{State.{Addressing, addressing_of, is_own_among}, Unicast.subnet}}
 
 -- ---- routes and RP ranges
 
@@ -20,10 +20,10 @@ abbrev pub is_prefix : Prefix → Bool
 is_prefix p = nat_le p.length 32 && is_host_clear p
 
 -- a route that is accepted: its next hop is a unicast address, and none of the router's
-unfoldable pub is_route : List InterfaceConfig → Route → Bool
+unfoldable pub is_route : Addressing → Route → Bool
 is_route configured r =
     is_prefix r.prefix
-    && nat_lt r.iface.number (length configured)
+    && nat_lt r.iface.number (length configured.interfaces)
     && is_unicast r.next_hop.bits
     && not (is_own_among configured r.next_hop.bits)
     && nat_le r.preference 0x7FFF_FFFE
@@ -33,7 +33,7 @@ abbrev pub most_routes : ℕ
 most_routes = 100000
 
 -- a list of routes is accepted
-unfoldable pub are_routes : List InterfaceConfig → List Route → Bool
+unfoldable pub are_routes : Addressing → List Route → Bool
 are_routes configured routes =
     nat_le (length routes) most_routes && list_all (is_route configured) routes
     && are_distinct (map (λ (r : Route). r.prefix) routes)
@@ -86,6 +86,29 @@ is_querier_config c =
 abbrev pub is_delay_config : InterfaceConfig → Bool
 is_delay_config c = nat_le c.propagation_delay 32767 && nat_le c.override_interval 65535
 
+-- the most own addresses of no interface
+abbrev pub most_addresses : ℕ
+most_addresses = 16
+
+-- the address is in the subnet of an interface
+abbrev pub is_in_subnet : List InterfaceConfig → ℕ → Bool
+is_in_subnet interfaces address = list_any (λ (c : InterfaceConfig). contains (subnet c) address) interfaces
+
+-- an own address of no interface: a host's, in no interface's subnet
+abbrev pub is_apart : List InterfaceConfig → Addr → Bool
+is_apart interfaces a = is_unicast a.bits && not (is_in_subnet interfaces a.bits)
+
+-- no address is listed twice
+unfoldable pub are_once : List Addr → Bool
+are_once [] = true
+are_once (a ∷ others) = not (list_any (λ (b : Addr). a.bits == b.bits) others) && are_once others
+
+-- the own addresses that are of no interface
+unfoldable pub are_own_addresses : Addressing → Bool
+are_own_addresses configured =
+    nat_le (length configured.addresses) most_addresses
+    && list_all (is_apart configured.interfaces) configured.addresses && are_once configured.addresses
+
 -- the tests of a configuration, in their order
 unfoldable pub config_test : Config → Result (Unit {0}) Refusal
 config_test c =
@@ -96,5 +119,6 @@ config_test c =
     >> expect (is_between 1 1000000 c.limit) Refusal.BadLimit
     >> expect (is_querier_config c) Refusal.BadQuerier
     >> expect (list_all is_delay_config c.interfaces) Refusal.BadDelay
-    >> expect (are_routes c.interfaces c.routes) Refusal.ConfiguredRoutes
+    >> expect (are_routes (addressing_of c) c.routes) Refusal.ConfiguredRoutes
     >> expect (are_rps c.rps) Refusal.ConfiguredRps
+    >> expect (are_own_addresses (addressing_of c)) Refusal.OwnAddresses

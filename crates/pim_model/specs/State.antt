@@ -1,14 +1,20 @@
 -- The state of the specification: plain facts (RFC 7761, sections 4.1.1 to 4.1.4; RFC 3376, section 6.2). It has no
 -- upstream state and no RPF neighbour, since these follow from the facts.
-use Rattle.std.{specs.{List.list_any, Option.option_map_or, Prelude.{Bool, List, Option, [], length, slice_get, ℕ, ◌==◌}}}
+use Rattle.std.{specs.{List.list_any, Option.option_map_or, Prelude.{Bool, List, Option, [], length, slice_get, ℕ, ◌==◌, ◌||◌}}}
+use Rattle.pim_ip.{specs.declared.addr.Addr.Addr}
 use Rattle.pim_types.{specs.{Keys.iface_key, declared.{config.{Config.Config, InterfaceConfig.InterfaceConfig, Route.Route, RpRange.RpRange, Settings.Settings}, fact.{AssertRow.AssertRow, DownstreamRow.DownstreamRow, GroupRecordRow.GroupRecordRow, GroupRepeatRow.GroupRepeatRow, InterfaceRow.InterfaceRow, JoinTimerRow.JoinTimerRow, NeighbourRow.NeighbourRow, OverrideTimerRow.OverrideTimerRow, QuerierRow.QuerierRow, RegisterRow.RegisterRow, SendingRow.SendingRow, SourceRecordRow.SourceRecordRow, SourceRepeatRow.SourceRepeatRow, SourceRow.SourceRow}}}}
 use Rattle.pim_model.{specs.Tables.{Table, below, has_row}}
+
+-- what is configured of the router's addresses: of each interface, in the order of their numbers, and the own addresses
+-- that are of no interface, as a loopback's, which have no link
+pub record Addressing : Type 0 where
+  pub interfaces : List InterfaceConfig
+  pub addresses : List Addr
 
 -- the whole state of a router: its configuration, its present time, and its facts in tables
 pub record State : Type 0 where
   pub settings : Settings
-  -- what is configured of each interface, in the order of their numbers
-  pub configured : List InterfaceConfig
+  pub configured : Addressing
   pub present : ℕ
   pub routes : List Route
   pub ranges : List RpRange
@@ -46,11 +52,15 @@ settings_of c = record {
   last_member_query_interval = c.last_member_query_interval;
 }
 
+-- the addressing of a configuration
+abbrev pub addressing_of : Config → Addressing
+addressing_of c = record { interfaces = c.interfaces; addresses = c.addresses }
+
 -- the state at the opening: timestamp 0, all interfaces down, the configured routes and RP ranges
 unfoldable pub opening : Config → State
 opening c = record {
   settings = settings_of c;
-  configured = c.interfaces;
+  configured = addressing_of c;
   present = 0;
   routes = c.routes;
   ranges = c.rps;
@@ -72,7 +82,7 @@ opening c = record {
 
 -- how many interfaces are configured
 abbrev pub iface_count : State → ℕ
-iface_count s = length s.configured
+iface_count s = length s.configured.interfaces
 
 -- the numbers of the configured interfaces, ascending
 abbrev pub ifaces : State → List ℕ
@@ -80,14 +90,14 @@ ifaces s = below (iface_count s)
 
 -- what is configured of an interface
 unfoldable pub iface_config : State → ℕ → Option InterfaceConfig
-iface_config s i = slice_get s.configured i
+iface_config s i = slice_get s.configured.interfaces i
 
 -- a value of an interface's configuration; 0 for an interface that isn't configured
-abbrev pub value_among : (InterfaceConfig → ℕ) → List InterfaceConfig → ℕ → ℕ
-value_among field configured i = option_map_or field (slice_get configured i) 0
+abbrev pub value_among : (InterfaceConfig → ℕ) → Addressing → ℕ → ℕ
+value_among field configured i = option_map_or field (slice_get configured.interfaces i) 0
 
 -- the address of an interface; 0 for an interface that isn't configured
-abbrev pub address_among : List InterfaceConfig → ℕ → ℕ
+abbrev pub address_among : Addressing → ℕ → ℕ
 address_among configured i = value_among (λ c. c.address.bits) configured i
 
 -- my_ip_address(I)
@@ -106,9 +116,9 @@ my_propagation_delay s i = value_among (λ c. c.propagation_delay) s.configured 
 abbrev pub my_override_interval : State → ℕ → ℕ
 my_override_interval s i = value_among (λ c. c.override_interval) s.configured i
 
--- what is configured of the interfaces, and the rows of those that are up
+-- what is configured of the router's addresses, and the rows of the interfaces that are up
 pub record InterfaceTable : Type 0 where
-  pub configured : List InterfaceConfig
+  pub configured : Addressing
   pub rows : Table InterfaceRow
 
 -- the interface table of a state
@@ -119,9 +129,11 @@ interfaces_of s = record { configured = s.configured; rows = s.interfaces }
 abbrev pub is_up : State → ℕ → Bool
 is_up s i = has_row s.interfaces (iface_key i)
 
--- the address is one of the router's, whether its interface is up or not
-unfoldable pub is_own_among : List InterfaceConfig → ℕ → Bool
-is_own_among configured address = list_any (λ c. c.address.bits == address) configured
+-- the address is one of the router's: an interface's, whether that is up or not, or one of no interface
+unfoldable pub is_own_among : Addressing → ℕ → Bool
+is_own_among configured address =
+    list_any (λ c. c.address.bits == address) configured.interfaces
+    || list_any (λ a. a.bits == address) configured.addresses
 
 -- the address is one of the router's, in a state
 abbrev pub is_own : State → ℕ → Bool

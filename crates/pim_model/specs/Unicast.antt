@@ -3,7 +3,7 @@
 use Rattle.std.{specs.{Option.option_map_or, Prelude.{Bool, None, Option, Some, false, find, if◌then◌else◌, option_and_then, option_map, true, ℕ, ◌&&◌, List, length, slice_get}}}
 use Rattle.pim_ip.{specs.{Addr.addr, Ipv4.is_source_specific, Prefixes.{contains, longest_match}, declared.addr.Prefix.Prefix}}
 use Rattle.pim_types.{specs.{Keys.iface_key, declared.{config.{InterfaceConfig.InterfaceConfig, Route.Route, RpRange.RpRange}, fact.InterfaceRow.InterfaceRow, path.Path.Path}}}
-use Rattle.pim_model.{specs.{State.{State, is_own_among}, Tables.{same_option, Table, has_row, below}}}
+use Rattle.pim_model.{specs.{State.{Addressing, State, is_own_among}, Tables.{same_option, Table, has_row, below}}}
 
 -- the prefix of an interface's link
 abbrev pub subnet : InterfaceConfig → Prefix
@@ -13,13 +13,13 @@ subnet c = record { address = c.address; length = c.length }
 -- ranges; `route` and `rp_of` are those of a state.
 
 -- the address is in the subnet of the interface, and the interface is up
-unfoldable pub is_on_link_among : List InterfaceConfig → Table InterfaceRow → ℕ → ℕ → Bool
+unfoldable pub is_on_link_among : Addressing → Table InterfaceRow → ℕ → ℕ → Bool
 is_on_link_among configured up address i =
-    has_row up (iface_key i) && option_map_or (λ c. contains (subnet c) address) (slice_get configured i) false
+    has_row up (iface_key i) && option_map_or (λ c. contains (subnet c) address) (slice_get configured.interfaces i) false
 
 -- the first interface whose link the address is on
-unfoldable pub link_among : List InterfaceConfig → Table InterfaceRow → ℕ → Option ℕ
-link_among configured up address = find (is_on_link_among configured up address) (below (length configured))
+unfoldable pub link_among : Addressing → Table InterfaceRow → ℕ → Option ℕ
+link_among configured up address = find (is_on_link_among configured up address) (below (length configured.interfaces))
 
 -- the route to a directly connected address (4.2): over the link itself, with preference and metric 0
 abbrev pub link_path : ℕ → ℕ → Path
@@ -52,7 +52,7 @@ routed_among up routes address =
 
 -- the route to A: RPF_interface(A) (4.2), MRIB.next_hop(A) (4.1.5), MRIB.pref(A) and MRIB.metric(A) (4.6.3)
 -- here: none to an address of the router; else over the link that A is on; else the route with the longest prefix
-unfoldable pub route_among : List InterfaceConfig → Table InterfaceRow → List Route → ℕ → Option Path
+unfoldable pub route_among : Addressing → Table InterfaceRow → List Route → ℕ → Option Path
 route_among configured up routes address =
     let over_link : Option ℕ = link_among configured up address in
     let over_route : Option Path = routed_among up routes address in

@@ -1,8 +1,8 @@
 -- Which lists of routes and of RP ranges are accepted.
 use Rattle.std.{proofs.Common.{◌≡◌, Bool, true, false, ◌&&◌, List, [], ◌∷◌, length, map, refl, ap}, specs.{List.list_all, Prelude.nat_le}}
-use Rattle.pim_types.{specs.declared.config.{InterfaceConfig.InterfaceConfig, Route.Route, RpRange.RpRange}}
+use Rattle.pim_types.{specs.declared.config.{Route.Route, RpRange.RpRange}}
 use Rattle.pim_trie.{specs.Entries.is_canonical}
-use Rattle.pim_model.{specs.Limits.{are_distinct, are_routes, are_rps, is_route, is_rp_range, most_routes, most_rps}}
+use Rattle.pim_model.{specs.{Limits.{are_distinct, are_routes, are_rps, is_route, is_rp_range, most_routes, most_rps}, State.Addressing}}
 
 pub and_first : (a b : Bool) → (a && b) ≡ true → a ≡ true
 and_first true b e = refl
@@ -19,7 +19,7 @@ all_pass strict test weaker [] h = refl
 all_pass strict test weaker (x ∷ xs) h =
     rw (weaker x (and_first (strict x) _ h), all_pass strict test weaker xs (and_second (strict x) _ h)) refl
 
-module _ (configured : List InterfaceConfig) where
+module _ (configured : Addressing) where
   -- the tests of each route, and the one of all together
   abbrev pub pass_each : List Route → Bool
   pass_each routes = nat_le (length routes) most_routes && list_all (is_route configured) routes

@@ -1,8 +1,8 @@
 -- The preferences of routes have 31 bits.
 use Rattle.std.{proofs.{Common.{◌≡◌, ◌<◌, ◌^◌, ℕ, Bool, true, false, List, [], ◌∷◌, Option, Some, None, ap, ◌∙◌, arith}, lemmas.Bool.Decides.nat_tests}, specs.{List.list_all, Option.{IfSome, option_map_or}, Prelude.{nat_le, nat_lt, if◌then◌else◌, option_and_then}}}
 use Rattle.pim_ip.{specs.{declared.addr.Prefix.Prefix, Prefixes.{contains, longer, longest_match}}}
-use Rattle.pim_types.{specs.{declared.{config.{InterfaceConfig.InterfaceConfig, Route.Route}, fact.InterfaceRow.InterfaceRow, path.Path.Path}, Keys.iface_key}}
-use Rattle.pim_model.{specs.{State.is_own_among, Tables.{Table, has_row}, Limits.is_route, Unicast.{link_among, link_path, path_if_up, route_among, route_path, routed_among}}}
+use Rattle.pim_types.{specs.{declared.{config.Route.Route, fact.InterfaceRow.InterfaceRow, path.Path.Path}, Keys.iface_key}}
+use Rattle.pim_model.{specs.{State.{Addressing, is_own_among}, Tables.{Table, has_row}, Limits.is_route, Unicast.{link_among, link_path, path_if_up, route_among, route_path, routed_among}}}
 use Rattle.pim_mrib.{specs.Routes.are_preferred, proofs.Accepted.{all_pass, and_first, and_second, pass_each}}
 
 -- what passes a test that all members pass
@@ -37,7 +37,7 @@ IsShort path = IfSome path (λ (p : Path). p.preference < 2 ^ 31)
 short : (n : ℕ) → nat_le n 0x7FFF_FFFE ≡ true → n < 2 ^ 31
 short n within = grind (arith, nat_tests)
 
-module _ (configured : List InterfaceConfig) (up : Table InterfaceRow) (routes : List Route) (address : ℕ)
+module _ (configured : Addressing) (up : Table InterfaceRow) (routes : List Route) (address : ℕ)
     (all : are_preferred routes ≡ true) where
   up_is_short : (r : Route) (b : Bool) → nat_le r.preference 0x7FFF_FFFE ≡ true
       → IsShort (if b then Some (route_path r) else None)
@@ -71,7 +71,7 @@ module _ (configured : List InterfaceConfig) (up : Table InterfaceRow) (routes :
       (link_is_short (link_among configured up address) (routed_among up routes address) routed_is_short)
 
 -- the routes that are accepted
-module _ (configured : List InterfaceConfig) where
+module _ (configured : Addressing) where
   route_is_preferred : (r : Route) → is_route configured r ≡ true → nat_le r.preference 0x7FFF_FFFE ≡ true
   unfolding is_route
   route_is_preferred r is = and_second _ _ is

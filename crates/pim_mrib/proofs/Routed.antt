@@ -1,12 +1,12 @@
 -- Routes and RPs, by what was found on the way, and the nodes that were visited.
 use Rattle.std.{proofs.Common.{◌≡◌, ℕ, true, false, List, Option, Some, None, option_map, refl, arith}}
 use Rattle.pim_ip.{specs.{Prefixes.longest_match, Ipv4.is_source_specific}}
-use Rattle.pim_types.{specs.{declared.{config.{InterfaceConfig.InterfaceConfig, Route.Route, RpRange.RpRange}, fact.InterfaceRow.InterfaceRow}, Keys.iface_key}}
+use Rattle.pim_types.{specs.{declared.{config.{Route.Route, RpRange.RpRange}, fact.InterfaceRow.InterfaceRow}, Keys.iface_key}}
 use Rattle.pim_trie.{specs.Meter.raised}
-use Rattle.pim_model.{specs.{State.is_own_among, Tables.{Table, has_row}, Unicast.{link_among, link_path, route_among, route_path, routed_among, rp_among}}}
+use Rattle.pim_model.{specs.{State.{Addressing, is_own_among}, Tables.{Table, has_row}, Unicast.{link_among, link_path, route_among, route_path, routed_among, rp_among}}}
 use Rattle.pim_mrib.{specs.{Index.nodes_visited, Routes.{route_nodes, rp_nodes}}}
 
-module _ (configured : List InterfaceConfig) (up : Table InterfaceRow) (routes : List Route) (address : ℕ) where
+module _ (configured : Addressing) (up : Table InterfaceRow) (routes : List Route) (address : ℕ) where
   pub route_own : is_own_among configured address ≡ true → route_among configured up routes address ≡ None
   unfolding route_among
   route_own own = rw own refl

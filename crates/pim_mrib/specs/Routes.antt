@@ -1,7 +1,7 @@
 -- The routes and the RP ranges as one value, and how many trie nodes a look-up visits.
 use Rattle.std.{specs.{List.list_all, Prelude.{Bool, ℕ, List, if◌then◌else◌, is_some, nat_le, ◌||◌}}}
-use Rattle.pim_types.{specs.declared.{config.{InterfaceConfig.InterfaceConfig, Route.Route, RpRange.RpRange}, fact.InterfaceRow.InterfaceRow}}
-use Rattle.pim_model.{specs.{State.is_own_among, Tables.Table, Unicast.link_among}}
+use Rattle.pim_types.{specs.declared.{config.{Route.Route, RpRange.RpRange}, fact.InterfaceRow.InterfaceRow}}
+use Rattle.pim_model.{specs.{State.{Addressing, is_own_among}, Tables.Table, Unicast.link_among}}
 use Rattle.pim_ip.{specs.Ipv4.is_source_specific}
 use Rattle.pim_mrib.{specs.Index.nodes_visited}
 
@@ -15,7 +15,7 @@ abbrev pub are_preferred : List Route → Bool
 are_preferred routes = list_all (λ (r : Route). nat_le r.preference 0x7FFF_FFFE) routes
 
 -- The nodes of a route: none for an address of the router and for one on a link, since no route is looked up.
-unfoldable pub route_nodes : List InterfaceConfig → Table InterfaceRow → List Route → ℕ → ℕ
+unfoldable pub route_nodes : Addressing → Table InterfaceRow → List Route → ℕ → ℕ
 route_nodes configured up routes address =
     if is_own_among configured address || is_some (link_among configured up address) then 0
     else nodes_visited (λ (r : Route). r.prefix) routes address

@@ -9,7 +9,7 @@ ghost use Rattle.pim_model.specs.Unicast.{link_path, route_among, route_path, rp
 ghost use Rattle.pim_mrib.specs.Hops.{AreNextHops};
 ghost use Rattle.pim_mrib.specs.Routes.{route_nodes, rp_nodes};
 ghost use Rattle.pim_model.specs.Tables.{Table};
-ghost use Rattle.pim_types.specs.declared.config.InterfaceConfig.{InterfaceConfig};
+ghost use Rattle.pim_model.specs.State.{Addressing};
 ghost use Rattle.pim_types.specs.declared.fact.InterfaceRow.{InterfaceRow};
 
 use crate::limits::{each_is_route, each_is_rp_range};
@@ -253,7 +253,7 @@ impl Mrib {
 
     /// The preference of every route has 31 bits, whichever interfaces are up.
     pub fn proof_short_preferences(&self)
-        ensures { (configured : List InterfaceConfig) (up : Table InterfaceRow) (address : ℕ)
+        ensures { (configured : Addressing) (up : Table InterfaceRow) (address : ℕ)
             → IfSome (route_among configured up self.now.routes address) (λ path. path.preference < 2 ^ 31) }
     {
         // For the proof: what is known of the routes.

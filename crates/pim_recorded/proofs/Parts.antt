@@ -17,8 +17,9 @@ four_fields o l a b c d t o1 o2 o3 o4 o5 r e1 e2 e3 e4 e5 e6 =
     let more = e5 ∙ ap (λ (x : List ℕ). x ++ d) (e4 ∙ ap (λ (x : List ℕ). x ++ c) front) in
     e6 ∙ ap (λ (x : List ℕ). x ++ t) more ∙ simp append_assoc
 
-pub five_fields : (o l a b c d f t o1 o2 o3 o4 o5 o6 r : List ℕ) → o1 ≡ o ++ l → o2 ≡ o1 ++ a → o3 ≡ o2 ++ b → o4 ≡ o3 ++ c → o5 ≡ o4 ++ d → o6 ≡ o5 ++ f → r ≡ o6 ++ t → r ≡ o ++ ((l ++ (a ++ (b ++ (c ++ (d ++ f))))) ++ t)
-five_fields o l a b c d f t o1 o2 o3 o4 o5 o6 r e1 e2 e3 e4 e5 e6 e7 =
+pub six_fields : (o l a b c d f g t o1 o2 o3 o4 o5 o6 o7 r : List ℕ) → o1 ≡ o ++ l → o2 ≡ o1 ++ a → o3 ≡ o2 ++ b → o4 ≡ o3 ++ c → o5 ≡ o4 ++ d → o6 ≡ o5 ++ f → o7 ≡ o6 ++ g → r ≡ o7 ++ t → r ≡ o ++ ((l ++ (a ++ (b ++ (c ++ (d ++ (f ++ g)))))) ++ t)
+six_fields o l a b c d f g t o1 o2 o3 o4 o5 o6 o7 r e1 e2 e3 e4 e5 e6 e7 e8 =
     let front = e3 ∙ ap (λ (x : List ℕ). x ++ b) (e2 ∙ ap (λ (x : List ℕ). x ++ a) e1) in
     let more = e5 ∙ ap (λ (x : List ℕ). x ++ d) (e4 ∙ ap (λ (x : List ℕ). x ++ c) front) in
-    e7 ∙ ap (λ (x : List ℕ). x ++ t) (e6 ∙ ap (λ (x : List ℕ). x ++ f) more) ∙ simp append_assoc
+    let most = e7 ∙ ap (λ (x : List ℕ). x ++ g) (e6 ∙ ap (λ (x : List ℕ). x ++ f) more) in
+    e8 ∙ ap (λ (x : List ℕ). x ++ t) most ∙ simp append_assoc

@@ -68,7 +68,7 @@ taken = (
             (
               kind_takes (drawn (λ (ranges : List RpRange). EventKind.Rps ranges)) (both word (list range)) 103 (λ p. refl) (λ p f. f),
               (
-                kind_takes (λ (p : Configured). Reloaded p.0 p.1.0 p.1.1.0 p.1.1.1.0 p.1.1.1.1) (both word (both settings (both (list interface) (both (list route) (list range))))) 99 (λ p. refl) (λ p f. f),
+                kind_takes (λ (p : Configured). Reloaded p.0 p.1.0 p.1.1.0 p.1.1.1.0 p.1.1.1.1.0 p.1.1.1.1.1) (both word (both settings (both (list interface) (both (list address) (both (list route) (list range)))))) 99 (λ p. refl) (λ p f. f),
                 (
                   kind_takes (λ (p : ℕ × (IfaceId × (Addr × Addr))). Seen p.0 p.1.0 p.1.1.0 p.1.1.1) (both word (both iface (both address address))) 115 (λ p. refl) (λ p f. f),
                   (
@@ -118,7 +118,7 @@ event_again draw (EventKind.Rps ranges) rest fits = kind_again (drawn (λ (range
 
 call_again : (c : Call) (rest : List ℕ) → FitsCall c → call_at (call_text c ++ rest) ≡ Ok (c, rest)
 call_again (Happened event) rest fits = event_again event.draw event.kind rest fits
-call_again (Reloaded draw s interfaces routes ranges) rest fits = kind_again (λ (p : Configured). Reloaded p.0 p.1.0 p.1.1.0 p.1.1.1.0 p.1.1.1.1) (both word (both settings (both (list interface) (both (list route) (list range))))) (draw, (s, (interfaces, (routes, ranges)))) rest fits
+call_again (Reloaded draw s interfaces addresses routes ranges) rest fits = kind_again (λ (p : Configured). Reloaded p.0 p.1.0 p.1.1.0 p.1.1.1.0 p.1.1.1.1.0 p.1.1.1.1.1) (both word (both settings (both (list interface) (both (list address) (both (list route) (list range)))))) (draw, (s, (interfaces, (addresses, (routes, ranges))))) rest fits
 call_again (Seen draw i source group) rest fits = kind_again (λ (p : ℕ × (IfaceId × (Addr × Addr))). Seen p.0 p.1.0 p.1.1.0 p.1.1.1) (both word (both iface (both address address))) (draw, (i, (source, group))) rest fits
 call_again (Kept source group m) rest fits = kind_again (λ (p : Addr × (Addr × ℕ)). Kept p.0 p.1.0 p.1.1) (both address (both address moment)) (source, (group, m)) rest fits
 call_again (Hosts i hosts) rest fits = kind_again (λ (p : IfaceId × ℕ). Hosts p.0 p.1) (both iface word) (i, hosts) rest fits

@@ -18,9 +18,9 @@ FitsEvent draw (EventKind.Rps ranges) = FitsWord draw × FitsList FitsRange rang
 
 abbrev pub FitsCall : Call → Type 0
 FitsCall (Happened event) = FitsEvent event.draw event.kind
-FitsCall (Reloaded draw settings interfaces routes ranges) =
-    FitsWord draw × (FitsSettings settings × (FitsList FitsInterface interfaces × (FitsList FitsRoute routes
-    × FitsList FitsRange ranges)))
+FitsCall (Reloaded draw settings interfaces addresses routes ranges) =
+    FitsWord draw × (FitsSettings settings × (FitsList FitsInterface interfaces × (FitsList FitsAddress addresses
+    × (FitsList FitsRoute routes × FitsList FitsRange ranges))))
 FitsCall (Seen draw iface source group) =
     FitsWord draw × (FitsWord iface.number × (FitsAddress source × FitsAddress group))
 FitsCall (Kept source group moment) = FitsAddress source × (FitsAddress group × FitsMoment moment)

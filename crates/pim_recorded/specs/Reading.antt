@@ -20,7 +20,7 @@ event_at kind what bytes = made (drawn kind) (in_turn word_at what) bytes
 
 -- a draw and a configuration
 abbrev pub Configured : Type 0
-Configured = ℕ × (Settings × (List InterfaceConfig × (List Route × List RpRange)))
+Configured = ℕ × (Settings × (List InterfaceConfig × (List Addr × (List Route × List RpRange))))
 
 -- each kind of call: its letter, and what is behind it
 abbrev pub kinds : List (ℕ × Reader Call)
@@ -32,7 +32,7 @@ kinds =
     ∷ (45, event_at (λ (i : IfaceId). EventKind.Down i) iface_at)
     ∷ (114, event_at (λ (routes : List Route). EventKind.Routes routes) (list_at route_at))
     ∷ (103, event_at (λ (ranges : List RpRange). EventKind.Rps ranges) (list_at range_at))
-    ∷ (99, made (λ (p : Configured). Reloaded p.0 p.1.0 p.1.1.0 p.1.1.1.0 p.1.1.1.1) (in_turn word_at (in_turn settings_at (in_turn (list_at interface_at) (in_turn (list_at route_at) (list_at range_at))))))
+    ∷ (99, made (λ (p : Configured). Reloaded p.0 p.1.0 p.1.1.0 p.1.1.1.0 p.1.1.1.1.0 p.1.1.1.1.1) (in_turn word_at (in_turn settings_at (in_turn (list_at interface_at) (in_turn (list_at address_at) (in_turn (list_at route_at) (list_at range_at)))))))
     ∷ (115, made (λ (p : ℕ × (IfaceId × (Addr × Addr))). Seen p.0 p.1.0 p.1.1.0 p.1.1.1) (in_turn word_at (in_turn iface_at (in_turn address_at address_at))))
     ∷ (107, made (λ (p : Addr × (Addr × ℕ)). Kept p.0 p.1.0 p.1.1) (in_turn address_at (in_turn address_at moment_at)))
     ∷ (111, made (λ (p : IfaceId × ℕ). Hosts p.0 p.1) (in_turn iface_at word_at))

@@ -11,7 +11,7 @@ pub data Call : Type 0 where
   -- an event
   Happened : (event : Event) → Call
   -- a reload with another configuration
-  Reloaded : (draw : ℕ) (settings : Settings) (interfaces : List InterfaceConfig) (routes : List Route) (ranges : List RpRange) → Call
+  Reloaded : (draw : ℕ) (settings : Settings) (interfaces : List InterfaceConfig) (addresses : List Addr) (routes : List Route) (ranges : List RpRange) → Call
   -- a data plane saw a packet on an interface
   Seen : (draw : ℕ) (iface : IfaceId) (source group : Addr) → Call
   -- a data plane forwarded its last packet of (S,G) at a timestamp
@@ -44,9 +44,9 @@ event_text draw (EventKind.Rps ranges) = 103 ∷ (word_text draw then list_text 
 -- the bytes of a call in a record
 abbrev pub call_text : Call → List ℕ
 call_text (Happened event) = event_text event.draw event.kind
-call_text (Reloaded draw settings interfaces routes ranges) =
+call_text (Reloaded draw settings interfaces addresses routes ranges) =
     99 ∷ (word_text draw then settings_text settings then list_text interface_text interfaces
-    then list_text route_text routes then list_text range_text ranges)
+    then list_text address_text addresses then list_text route_text routes then list_text range_text ranges)
 call_text (Seen draw iface source group) =
     115 ∷ (word_text draw then word_text iface.number then address_text source then address_text group)
 call_text (Kept source group moment) = 107 ∷ (address_text source then address_text group then moment_text moment)

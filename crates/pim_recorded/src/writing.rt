@@ -153,20 +153,22 @@ pub fn write_reloaded(
     draw: u32,
     settings: Settings,
     interfaces: &[InterfaceConfig],
+    addresses: &[Addr],
     routes: &[Route],
     ranges: &[RpRange],
     answered: Answered,
     out: &mut Vec<u8>,
 ) -> Result<(), AllocError>
     ensures ok { OnOk result (out.new.items ≡ out.old.items ++ front_text
-        (record { call = Reloaded draw settings interfaces.now routes.now ranges.now; answered = answered })) }
+        (record { call = Reloaded draw settings interfaces.now addresses.now routes.now ranges.now; answered = answered })) }
     ensures fitting { OnOk result (FitsRecord
-        (record { call = Reloaded draw settings interfaces.now routes.now ranges.now; answered = answered })) }
+        (record { call = Reloaded draw settings interfaces.now addresses.now routes.now ranges.now; answered = answered })) }
 {
     out.push(b'c')?;
     draw.write(out)?;
     settings.write(out)?;
     write_list(interfaces, out)?;
+    write_list(addresses, out)?;
     write_list(routes, out)?;
     write_list(ranges, out)?;
     answered.write(out)?;

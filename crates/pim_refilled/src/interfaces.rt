@@ -2,18 +2,19 @@
 ghost use Rattle.std.specs.List.{list_all};
 ghost use Rattle.std.specs.Prelude.{◌≡◌, ◌&&◌, IfOk, IfSome, IsTrue, is_ok, is_some, length};
 ghost use Rattle.pim_ifaces.specs.Interfaces.{interfaces_test, is_up_key};
+ghost use Rattle.pim_model.specs.Limits.{are_own_addresses};
 ghost use Rattle.pim_model.specs.Tables.{put};
 ghost use Rattle.pim_store.specs.PimTables.{Rises};
 ghost use Rattle.pim_refilled.specs.Refilled.{refilled};
 
-use pim_ifaces::{Interfaces, test_interfaces};
+use pim_ifaces::{Interfaces, are_own_addresses, test_interfaces};
 use pim_types::fact::InterfaceRow;
-use pim_types::{InterfaceConfig, Key};
+use pim_types::{Addr, InterfaceConfig, Key};
 use std::alloc::{AllocError, Global};
 
 // Puts one; or answers no where it is of no configured interface.
 fn put_up(interfaces: &mut Interfaces, key: Key, row: InterfaceRow) -> Result<bool, AllocError>
-    ensures test { IfOk result (λ fits. fits ≡ is_up_key (length interfaces.old.configured) key) }
+    ensures test { IfOk result (λ fits. fits ≡ is_up_key (length interfaces.old.configured.interfaces) key) }
     ensures put { IfOk result (λ fits. IsTrue fits → interfaces.new ≡ record interfaces.old { rows = put interfaces.old.rows key row }) }
 {
     if key.rpt || key.source.is_some() || key.group.bits != 0 {
@@ -28,7 +29,7 @@ fn put_up(interfaces: &mut Interfaces, key: Key, row: InterfaceRow) -> Result<bo
 
 // Puts row after row; or answers no where one is of no configured interface.
 fn put_ups(interfaces: &mut Interfaces, rows: &[(Key, InterfaceRow)]) -> Result<bool, AllocError>
-    ensures test { IfOk result (λ fits. fits ≡ list_all (λ e. is_up_key (length interfaces.old.configured) e.0) rows.now) }
+    ensures test { IfOk result (λ fits. fits ≡ list_all (λ e. is_up_key (length interfaces.old.configured.interfaces) e.0) rows.now) }
     ensures put { IfOk result (λ fits. IsTrue fits
         → interfaces.new ≡ record interfaces.old { rows = refilled interfaces.old.rows rows.now }) }
 {
@@ -40,22 +41,28 @@ fn put_ups(interfaces: &mut Interfaces, rows: &[(Key, InterfaceRow)]) -> Result<
     Ok(true)
 }
 
-/// Configured interfaces with the given rows; none where a row can't be held.
+/// Configured interfaces with the given rows, and own addresses of no interface; none where a row can't be held.
 pub(crate) fn interfaces_of(
     alloc: Global,
     configured: &[InterfaceConfig],
+    addresses: &[Addr],
     rows: &[(Key, InterfaceRow)],
 ) -> Result<Option<Interfaces>, AllocError>
     ensures made { IfOk result (λ made. IfSome made (λ interfaces. Rises rows.now
-        → interfaces ≡ record { configured = configured.now; rows = rows.now })) }
-    ensures shown { IfOk result (λ made. IfSome made (λ interfaces. interfaces.configured ≡ configured.now)) }
+        → interfaces ≡ record {
+          configured = record { interfaces = configured.now; addresses = addresses.now };
+          rows = rows.now;
+        })) }
+    ensures shown { IfOk result (λ made. IfSome made (λ interfaces. interfaces.configured
+        ≡ record { interfaces = configured.now; addresses = addresses.now })) }
     ensures none { IfOk result (λ made. is_some made
-        ≡ (is_ok (interfaces_test configured.now) && list_all (λ e. is_up_key (length configured.now) e.0) rows.now)) }
+        ≡ ((is_ok (interfaces_test configured.now)
+        && are_own_addresses (record { interfaces = configured.now; addresses = addresses.now })) && list_all (λ e. is_up_key (length configured.now) e.0) rows.now)) }
 {
-    if test_interfaces(configured).is_err() {
+    if test_interfaces(configured).is_err() || !are_own_addresses(configured, addresses) {
         return Ok(None);
     }
-    let mut interfaces = Interfaces::new(alloc, configured);
+    let mut interfaces = Interfaces::new(alloc, configured, addresses)?;
     if !put_ups(&mut interfaces, rows)? {
         return Ok(None);
     }

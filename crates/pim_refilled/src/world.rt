@@ -52,7 +52,13 @@ fn world_of_rows(
 {
     let ground = &state.ground;
     let links = &state.links;
-    let Some(interfaces) = interfaces_of(alloc, &ground.configured, &links.interfaces)? else {
+    let Some(interfaces) = interfaces_of(
+        alloc,
+        &ground.configured,
+        &state.addresses,
+        &links.interfaces,
+    )?
+    else {
         return Ok(None);
     };
     let Some(mrib) = mrib_of(alloc, &interfaces, &ground.routes, &ground.ranges, meter)? else {

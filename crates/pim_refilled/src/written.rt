@@ -5,7 +5,7 @@ ghost use Rattle.pim_saved.specs.Fits.{FitsEntry, FitsGround, FitsJoinTimer, Fit
 ghost use Rattle.pim_saved.specs.Text.{entry_text, front_text, ground_text, join_timer_text, links_text, records_text, source_text, table_text, text, trees_text};
 ghost use Rattle.pim_saved.specs.Parts.{ground_of, links_of, records_of, trees_of};
 
-use pim_saver::{MAGIC, Saved, VERSION, write_entry, write_list, write_sum, write_table};
+use pim_saver::{MAGIC, Saved, write_addresses, write_entry, write_list, write_sum, write_table};
 use pim_state::{Meter, World};
 use pim_store::{JoinTimerRows, Store};
 use pim_tables::PlacedRows;
@@ -126,7 +126,7 @@ fn write_front(world: &World, out: &mut Vec<u8>, meter: &mut Meter) -> Result<()
     ensures fitting { OnOk result (FitsState world.now) }
 {
     MAGIC.write(out)?;
-    VERSION.write(out)?;
+    write_addresses(world.interfaces().addresses(), out)?;
     write_ground(world, out)?;
     write_links(world, out)?;
     write_records(world, out)?;

@@ -80,10 +80,10 @@ module _ (n : ℕ) (t : State) (kinds : Kinds t) (low : (i : ℕ) → is_up t i 
 -- ---- after the removals
 
 pub left_below : (s t next : State) (w : ℕ) → Kinds s → Kinds t → t ≡ state_after s (removals s (config_of next) w)
-    → list_all (λ (e : Key × InterfaceRow). nat_lt (iface_in e.0) (length next.configured)) t.interfaces ≡ true
+    → list_all (λ (e : Key × InterfaceRow). nat_lt (iface_in e.0) (length next.configured.interfaces)) t.interfaces ≡ true
 unfolding state_after config_of
 left_below s t next w before after is =
-    rows_low (length next.configured) t after
+    rows_low (length next.configured.interfaces) t after
     (λ i up. left_low s (config_of next) w (are_configured s before) i (ap (λ (x : State). is_up x i) (sym is) ∙ up))
 
 -- the removals, by how many interfaces both have

@@ -1,7 +1,7 @@
 -- What follows of another configuration, by what was opened.
 use Rattle.std.{proofs.Common.{◌≡◌, ◌++◌, List, [], inl, not, refl, sym, subst, ap, ◌∙◌}}
 use Rattle.pim_types.{specs.{declared.config.Config.Config, Keys.{is_of_group, names_source}}}
-use Rattle.pim_model.{specs.{Messages.Message, State.{State, settings_of}, Upstream.fact_keys}}
+use Rattle.pim_model.{specs.{Messages.Message, State.{addressing_of, State, settings_of}, Upstream.fact_keys}}
 use Rattle.law_settled.{proofs.{FewerFacts.{IsFewer, fewer_both, no_other, rows_left, table_fewer}, Parts.Asserts}}
 use Rattle.law_scope.{specs.Rest.IsAtRest}
 use Rattle.pim_store.{specs.PimTables.{AreKeyed, pim_tables}}
@@ -22,20 +22,20 @@ module _ (o : State) (c : Config) where
   abbrev moved : State
   moved = record o {
     settings = settings_of c;
-    configured = c.interfaces;
+    configured = addressing_of c;
     routes = c.routes;
     queriers = queriers_under o (settings_of c);
-    asserts = asserts_under o c.interfaces;
+    asserts = asserts_under o (addressing_of c);
   }
 
   forgetful : State
-  forgetful = record o { asserts = asserts_under o c.interfaces }
+  forgetful = record o { asserts = asserts_under o (addressing_of c) }
 
   forgetful_leaves_facts : IsFewer o forgetful
   unfolding forgetful asserts_under
   forgetful_leaves_facts =
-      table_fewer Asserts o (asserts_under o c.interfaces)
-      (rows_left (λ e. not (is_won_before o c.interfaces e)) o.asserts)
+      table_fewer Asserts o (asserts_under o (addressing_of c))
+      (rows_left (λ e. not (is_won_before o (addressing_of c) e)) o.asserts)
 
   moved_leaves_facts : IsFewer o moved
   unfolding fact_keys forgetful

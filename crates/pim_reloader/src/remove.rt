@@ -81,7 +81,7 @@ pub(crate) fn remove(
 ) -> Result<Vec<Emission>, Fault>
     requires { Rests core.old }
     ensures removes { Removes core.old (removals core.old.world (config_of next.now) draw) result core.new }
-    ensures below { OnOk result (list_all (λ e. nat_lt (iface_in e.0) (length next.now.configured)) core.new.world.interfaces
+    ensures below { OnOk result (list_all (λ e. nat_lt (iface_in e.0) (length next.now.configured.interfaces)) core.new.world.interfaces
         ≡ true) }
 {
     proof_kinds(&core.world);

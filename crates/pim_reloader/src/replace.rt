@@ -35,7 +35,7 @@ fn reconfigure(
     meter: &mut Meter,
     next: World,
 ) -> Result<(), AllocError>
-    requires below { list_all (λ e. nat_lt (iface_in e.0) (length next.configured)) world.old.interfaces ≡ true }
+    requires below { list_all (λ e. nat_lt (iface_in e.0) (length next.configured.interfaces)) world.old.interfaces ≡ true }
     ensures state { OnOk result (world.new ≡ under world.old (config_of next)) }
     ensures messages { OnOk result (turn.new ≡ saying turn.old (hellos_anew world.old next.configured)) }
 {
@@ -60,7 +60,7 @@ fn follow(
 ) -> Result<Vec<Emission>, Fault>
     requires rest { IsAtRest world.old }
     requires begun { turn.old.messages ≡ [] }
-    requires below { list_all (λ e. nat_lt (iface_in e.0) (length next.configured)) world.old.interfaces ≡ true }
+    requires below { list_all (λ e. nat_lt (iface_in e.0) (length next.configured.interfaces)) world.old.interfaces ≡ true }
     ensures state { OnOk result (world.new ≡ (replaced world.old (config_of next) turn.old.draw).0) }
     ensures sent { IfOk result (λ sent. sent.items ≡ (replaced world.old (config_of next) turn.old.draw).1) }
     ensures fault { IsOkUnless result Fault.Memory }
@@ -110,7 +110,7 @@ pub(crate) fn replace(
     requires rest { IsAtRest core.old.world }
     requires shown { ShowsRows core.old.cache.mfc.rows (cached core.old.world) }
     requires begun { turn.old.messages ≡ [] }
-    requires below { list_all (λ e. nat_lt (iface_in e.0) (length next.configured)) core.old.world.interfaces ≡ true }
+    requires below { list_all (λ e. nat_lt (iface_in e.0) (length next.configured.interfaces)) core.old.world.interfaces ≡ true }
     ensures state { OnOk result (core.new.world ≡ (replaced core.old.world (config_of next) turn.old.draw).0) }
     ensures sent { IfOk result (λ sent. sent.items ≡ (replaced core.old.world (config_of next) turn.old.draw).1) }
     ensures shown { OnOk result (ShowsRows core.new.cache.mfc.rows (cached core.new.world)) }

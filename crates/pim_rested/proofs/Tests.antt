@@ -3,7 +3,7 @@ use Rattle.std.{proofs.Common.{◌≡◌, ◌&&◌, ◌∙◌, Bool, true, false
 use Rattle.pim_ip.{specs.{Tests.{expect, ◌>>◌}, declared.refusal.Refusal.Refusal}}
 use Rattle.pim_ifaces.{specs.Interfaces.{interfaces_test, is_up_key}}
 use Rattle.law_scope.{specs.Locality.IsQuiet}
-use Rattle.pim_model.{specs.{Limits.{are_routes, are_rps, config_test}, State.State}}
+use Rattle.pim_model.{specs.{Limits.{are_own_addresses, are_routes, are_rps, config_test}, State.State}}
 use Rattle.law_settled.{specs.Ready.IsOrdered}
 use Rattle.pim_refilled.{proofs.SettledTests.settled_is_decided, specs.{Rows.can_hold, Settled.is_settled}}
 use Rattle.law_restored.{specs.{Reload.config_of, Resting.all_pass}}
@@ -51,21 +51,24 @@ quiet_so s h = all_four _ _ _ _ h.clear.asserts h.clear.sources h.sources_settle
 
 module _ (s : State) where
   abbrev up : Bool
-  up = list_all (λ e. is_up_key (length s.configured) e.0) s.interfaces
+  up = list_all (λ e. is_up_key (length s.configured.interfaces) e.0) s.interfaces
 
   accepted_is : can_hold s ≡ true → are_settings_accepted s ≡ true → config_test (config_of s) ≡ Ok tt
   unfolding config_of
   accepted_is held settings =
-      let tables = (halves (is_ok (interfaces_test s.configured) && up) _ held).1 in
+      let split = halves ((is_ok (interfaces_test s.configured.interfaces) && are_own_addresses s.configured) && up) _ held in
+      let tables = split.1 in
+      let addresses = (halves (is_ok (interfaces_test s.configured.interfaces)) _ (halves _ up split.0).0).1 in
       let mrib = halves (are_routes s.configured s.routes) (are_rps s.ranges) (halves _ _ tables).0 in
-      all_accepted (config_of s) (is_done (settings_test (config_of s)) settings) mrib.0 mrib.1
+      all_accepted (config_of s) (is_done (settings_test (config_of s)) settings) mrib.0 mrib.1 addresses
 
   settings_so : config_test (config_of s) ≡ Ok tt → are_settings_accepted s ≡ true
   unfolding config_of
   settings_so accepted =
       ap is_ok (first (settings_test (config_of s))
       (expect (are_routes s.configured s.routes) Refusal.ConfiguredRoutes
-      >> expect (are_rps s.ranges) Refusal.ConfiguredRps) (sym (in_two_parts (config_of s)) ∙ accepted))
+      >> expect (are_rps s.ranges) Refusal.ConfiguredRps
+      >> expect (are_own_addresses s.configured) Refusal.OwnAddresses) (sym (in_two_parts (config_of s)) ∙ accepted))
 
 -- ---- all tests
 

@@ -70,6 +70,7 @@ base = record {
   last_member_query_interval = 10;
   routes = base_routes;
   rps = rp_for all_groups rp ∷ [];
+  addresses = [];
 }
 
 -- ---- the opening

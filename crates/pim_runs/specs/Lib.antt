@@ -1,6 +1,7 @@
 pub mod Words
 pub mod Packets
 pub mod Base
+pub mod Addresses
 pub mod Joins
 pub mod Neighbours
 pub mod Membership

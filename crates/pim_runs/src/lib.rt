@@ -3,6 +3,7 @@
 //! nothing to do.
 #![tactic(auto)]
 
+pub mod addresses;
 pub mod asserts;
 pub mod cached;
 pub mod causes;

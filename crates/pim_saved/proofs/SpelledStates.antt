@@ -1,8 +1,9 @@
 -- Tables, and the whole state.
-use Rattle.std.{proofs.{Common.{Some, ◌≡◌, ℕ, arith, Bool, true, false, cond, eqb, List, [], ◌∷◌, ◌++◌, ◌&&◌, Ok, Err, refl, sym, ap, subst, ◌∙◌, append_assoc}, lemmas.{Bool.eqb-true, List.append-nil}}, specs.{List.{AllByRecursion, Sorted.IsStrictlySortedBy}, Ordering.is_lt, declared.cmp.Ordering.Ordering, Cmp.IsTotalOrder}}
+use Rattle.std.{proofs.{Common.{Some, ◌≡◌, ℕ, arith, Bool, true, false, cond, eqb, List, [], ◌∷◌, ◌++◌, ◌&&◌, ◌||◌, Ok, Err, refl, sym, ap, subst, ◌∙◌, append_assoc}, lemmas.{Bool.eqb-true, List.append-nil}}, specs.{List.{AllByRecursion, Sorted.IsStrictlySortedBy}, Ordering.is_lt, declared.cmp.Ordering.Ordering, Cmp.IsTotalOrder}}
+use Rattle.pim_ip.{specs.declared.addr.Addr.Addr}
 use Rattle.pim_types.{specs.{FieldOrder.fields_total, Keys.{addr_cmp, key_cmp}, declared.fact.Key.Key}}
 use Rattle.pim_model.{specs.{State.State, Tables.{Table, keys_in}}}
-use Rattle.pim_saved.{specs.{declared.refusal.SavedRefusal.SavedRefusal, Crc.crc32, Fits.{FitsEntry, FitsGround, FitsLink, FitsList, FitsRecord, FitsState, FitsTable, FitsTree, FitsWord}, Laws.{AreBytes, ReadingIsText, TextIsRead}, Parts.{parts_of, state_of}, Reading.{Reader, ◌>>=◌, at_end, ground_at, half_at, in_order, in_turn, key_at, links_at, list_at, made, magic_at, parts_at, reading, records_at, rise, rise_after, table_at, trees_at, undamaged, version_at, word_at}, Text.{body_text, front_text, ground_text, half_text, links_text, magic, records_text, table_text, text, trees_text, version, word_text}}, proofs.{Summed.{is_summed, sum_fits, sum_of_front}, Spelled.{IsSpelled, Takes, bind_ok, both, half, list, made_of, moment, ok_is, passed, word}, SpelledRows.{asserted, downstream, group_record, group_repeat, interface, join_timer, key, neighbour, override_timer, querier, range, register, route, sending, settings, source, source_record, source_repeat, up}}}
+use Rattle.pim_saved.{specs.{declared.refusal.SavedRefusal.SavedRefusal, Crc.crc32, Fits.{FitsAddress, FitsEntry, FitsGround, FitsLink, FitsList, FitsRecord, FitsState, FitsTable, FitsTree, FitsWord}, Laws.{AreBytes, ReadingIsText, TextIsRead}, Parts.{ground_of, links_of, parts_of, records_of, state_of, trees_of}, Reading.{Reader, ◌>>=◌, address_at, addresses_at, addresses_by, at_end, ground_at, half_at, in_order, in_turn, is_version, key_at, links_at, list_at, made, magic_at, parts_at, reading, records_at, rise, rise_after, some_listed, table_at, trees_at, undamaged, version_at, word_at}, Text.{address_text, addresses_text, body_text, front_text, ground_text, half_text, links_text, list_text, magic, records_text, table_text, text, trees_text, version, version_with_addresses, word_text}}, proofs.{Summed.{is_summed, sum_fits, sum_of_front}, Spelled.{IsSpelled, Takes, Takes-then, bind_ok, both, half, list, made_of, moment, ok_is, passed, word}, SpelledRows.{address, asserted, downstream, group_record, group_repeat, interface, join_timer, key, neighbour, override_timer, querier, range, register, route, sending, settings, source, source_record, source_repeat, up}}}
 
 -- ---- keys that rise
 
@@ -88,9 +89,99 @@ trees : IsSpelled FitsTree trees_text trees_at
 unfolding trees_text trees_at
 trees = both (table downstream) (both (table asserted) (both (table join_timer) (both (table override_timer) (both (table source) (table register)))))
 
+version_takes : (bytes : List ℕ) (x : ℕ × List ℕ) → AreBytes bytes → version_at bytes ≡ Ok x → Takes bytes (half_text x.0) x.1 × (is_version x.0 ≡ true)
+unfolding version_at
+version_takes bytes x fits e =
+    let m = bind_ok (half_at bytes) (λ m. cond (is_version m.0) (Ok m) (Err SavedRefusal.OtherVersion)) x e in
+    let g = passed (is_version m.0.0) SavedRefusal.OtherVersion m.0 x m.2 in
+    let one = half.takes bytes m.0 fits m.1 in
+    subst (λ (y : ℕ × List ℕ). Takes bytes (half_text y.0) y.1 × (is_version y.0 ≡ true)) g.1 (one.0, g.0)
+
+second_again : (rest : List ℕ) → version_at (half_text version ++ rest) ≡ Ok (version, rest)
+unfolding version_at
+second_again rest = rw (half.again version rest (omega arith)) refl
+
+third_again : (rest : List ℕ) → version_at (half_text version_with_addresses ++ rest) ≡ Ok (version_with_addresses, rest)
+unfolding version_at
+third_again rest = rw (half.again version_with_addresses rest (omega arith)) refl
+
+-- ---- the own addresses of no interface
+
+listed : IsSpelled (FitsList FitsAddress) (list_text address_text) (list_at address_at)
+listed = list address
+
+other_of : (b c : Bool) → b ≡ false → (b || c) ≡ true → c ≡ true
+other_of true c e f = cc
+other_of false c e f = f
+
+module _ (bytes : List ℕ) (x : List Addr × List ℕ) where
+  abbrev Spells : List Addr × List ℕ → Type 0
+  Spells y = Takes bytes (addresses_text y.0) y.1 × FitsList FitsAddress y.0
+
+  some : (given : List Addr) (behind : List ℕ) → some_listed given behind ≡ Ok x
+      → Takes bytes (half_text version_with_addresses ++ list_text address_text given) behind
+      → FitsList FitsAddress given → Spells x
+  unfolding addresses_text
+  some [] behind e t fits = absurd cc
+  some (a ∷ more) behind e t fits = subst Spells (ok_is (a ∷ more, behind) x e) (t, fits)
+
+  by_version : (n : ℕ) (rest : List ℕ) (b : Bool) → eqb n version ≡ b → is_version n ≡ true → Takes bytes (half_text n) rest
+      → addresses_by b rest ≡ Ok x → Spells x
+  unfolding addresses_text
+  by_version n rest true is known t e =
+      subst Spells (ok_is ([], rest) x e)
+      (subst (λ (m : ℕ). Takes bytes (half_text m) rest) (eqb-true n version is) t, (omega arith, tt))
+  by_version n rest false is known t e =
+      let third : n ≡ version_with_addresses =
+      eqb-true n version_with_addresses (other_of (eqb n version) (eqb n version_with_addresses) is known) in
+      let l = bind_ok (list_at address_at rest) (λ a. some_listed a.0 a.1) x e in
+      let behind = listed.takes rest l.0 t.rest_fits l.1 in
+      some l.0.0 l.0.1 l.2
+      (Takes-then bytes (half_text version_with_addresses) rest (list_text address_text l.0.0) l.0.1
+      (subst (λ (m : ℕ). Takes bytes (half_text m) rest) third t) behind.0)
+      behind.1
+
+own_takes : (bytes : List ℕ) (x : List Addr × List ℕ) → AreBytes bytes → addresses_at bytes ≡ Ok x
+    → Takes bytes (addresses_text x.0) x.1 × FitsList FitsAddress x.0
+unfolding addresses_at
+own_takes bytes x fits e =
+    let v = bind_ok (version_at bytes) (λ v. addresses_by (eqb v.0 version) v.1) x e in
+    let one = version_takes bytes v.0 fits v.1 in
+    by_version bytes x v.0.0 v.0.1 (eqb v.0.0 version) refl one.1 one.0 v.2
+
+own_again : (given : List Addr) (rest : List ℕ) → FitsList FitsAddress given
+    → addresses_at (addresses_text given ++ rest) ≡ Ok (given, rest)
+unfolding addresses_at addresses_text
+own_again [] rest fits = rw (second_again rest) refl
+own_again (a ∷ more) rest fits =
+    let text : List ℕ = list_text address_text (a ∷ more) in
+    ap (λ (bytes : List ℕ). version_at bytes >>= λ v. addresses_by (eqb v.0 version) v.1)
+    (append_assoc (half_text version_with_addresses) text rest)
+    ∙ rw (third_again (text ++ rest), listed.again (a ∷ more) rest fits) refl
+
+own : IsSpelled (FitsList FitsAddress) addresses_text addresses_at
+own = record { takes = own_takes; again = own_again }
+
+-- the version is read before the sum is compared
+abbrev version_of : List Addr → ℕ
+version_of [] = version
+version_of (a ∷ more) = version_with_addresses
+
+abbrev behind_version : List Addr → List ℕ → List ℕ
+behind_version [] rest = rest
+behind_version (a ∷ more) rest = list_text address_text (a ∷ more) ++ rest
+
+is_known : (given : List Addr) (rest : List ℕ)
+    → version_at (addresses_text given ++ rest) ≡ Ok (version_of given, behind_version given rest)
+unfolding addresses_text
+is_known [] rest = second_again rest
+is_known (a ∷ more) rest =
+    let text : List ℕ = list_text address_text (a ∷ more) in
+    ap version_at (append_assoc (half_text version_with_addresses) text rest) ∙ third_again (text ++ rest)
+
 state : IsSpelled FitsState (λ (s : State). body_text s) (made state_of parts_at)
 unfolding body_text parts_at
-state = made_of state_of parts_of (λ p. refl) (λ s. refl) (both ground (both links (both records trees)))
+state = made_of state_of parts_of (λ p. refl) (λ s. refl) (both own (both ground (both links (both records trees))))
 
 magic_takes : (bytes : List ℕ) (x : ℕ × List ℕ) → AreBytes bytes → magic_at bytes ≡ Ok x → Takes bytes (word_text x.0) x.1 × (x.0 ≡ magic)
 magic_takes bytes x fits e =
@@ -105,40 +196,25 @@ magic_again n rest e = subst (λ (m : ℕ). magic_at (word_text m ++ rest) ≡ O
 ours : IsSpelled (λ (n : ℕ). n ≡ magic) word_text magic_at
 ours = record { takes = magic_takes; again = magic_again }
 
-version_takes : (bytes : List ℕ) (x : ℕ × List ℕ) → AreBytes bytes → version_at bytes ≡ Ok x → Takes bytes (half_text x.0) x.1 × (x.0 ≡ version)
-version_takes bytes x fits e =
-    let m = bind_ok (half_at bytes) (λ m. cond (eqb m.0 version) (Ok m) (Err SavedRefusal.OtherVersion)) x e in
-    let g = passed (eqb m.0.0 version) SavedRefusal.OtherVersion m.0 x m.2 in
-    let one = half.takes bytes m.0 fits m.1 in
-    subst (λ (y : ℕ × List ℕ). Takes bytes (half_text y.0) y.1 × (y.0 ≡ version)) g.1 (one.0, eqb-true m.0.0 version g.0)
-
-version_again : (n : ℕ) (rest : List ℕ) → n ≡ version → version_at (half_text n ++ rest) ≡ Ok (n, rest)
-version_again n rest e = subst (λ (m : ℕ). version_at (half_text m ++ rest) ≡ Ok (m, rest)) (sym e) (rw (half.again version rest (omega arith)) refl)
-
-this_version : IsSpelled (λ (n : ℕ). n ≡ version) half_text version_at
-this_version = record { takes = version_takes; again = version_again }
-
-head : IsSpelled (λ (p : ℕ × ℕ). (p.0 ≡ magic) × (p.1 ≡ version)) (λ (p : ℕ × ℕ). word_text p.0 ++ half_text p.1) (in_turn magic_at version_at)
-head = both ours this_version
-
 tail : IsSpelled (λ (p : State × ℕ). FitsState p.0 × FitsWord p.1) (λ (p : State × ℕ). body_text p.0 ++ word_text p.1) (in_turn (made state_of parts_at) word_at)
 tail = both state word
 
--- the parts of a text: its head, its body, and its sum
-parted : (a b c d : List ℕ) → (a ++ (b ++ c)) ++ d ≡ (a ++ b) ++ (c ++ d)
-parted a b c d = simp append_assoc
-
 pub text_is_read : TextIsRead
-unfolding text reading front_text
+unfolding text reading front_text body_text
 text_is_read s fits =
     let sum : ℕ = crc32 (front_text s) in
-    let first : in_turn magic_at version_at (text s) ≡ Ok ((magic, version), body_text s ++ word_text sum) =
-    ap (in_turn magic_at version_at) (parted (word_text magic) (half_text version) (body_text s) (word_text sum))
-    ∙ head.again (magic, version) (body_text s ++ word_text sum) (refl, refl) in
+    let rest : List ℕ = ground_text (ground_of s) ++ (links_text (links_of s) ++ (records_text (records_of s) ++ trees_text (trees_of s))) in
+    let first : magic_at (text s) ≡ Ok (magic, body_text s ++ word_text sum) =
+    ap magic_at (append_assoc (word_text magic) (body_text s) (word_text sum))
+    ∙ ours.again magic (body_text s ++ word_text sum) refl in
+    let known : version_at (body_text s ++ word_text sum)
+    ≡ Ok (version_of s.configured.addresses, behind_version s.configured.addresses (rest ++ word_text sum)) =
+    ap version_at (append_assoc (addresses_text s.configured.addresses) rest (word_text sum))
+    ∙ is_known s.configured.addresses (rest ++ word_text sum) in
     let last : in_turn (made state_of parts_at) word_at (body_text s ++ word_text sum) ≡ Ok ((s, sum), []) =
     ap (in_turn (made state_of parts_at) word_at) (sym (append-nil (body_text s ++ word_text sum)))
     ∙ tail.again (s, sum) [] (fits, sum_fits (front_text s)) in
-    rw (first, is_summed (front_text s), last) refl
+    rw (first, known, is_summed (front_text s), last) refl
 
 ended : (s t : State) (rest : List ℕ) → at_end s rest ≡ Ok t → (rest ≡ []) × (s ≡ t)
 ended s t [] e = (refl, ok_is s t e)
@@ -147,20 +223,20 @@ ended s t (b ∷ rest) e = absurd cc
 pub reading_is_text : ReadingIsText
 unfolding text reading front_text
 reading_is_text bytes s fits e =
-    let a = bind_ok (in_turn magic_at version_at bytes) (λ h. undamaged bytes >>= λ u. in_turn (made state_of parts_at) word_at h.1 >>= λ x. at_end x.0.0 x.1) s e in
-    let u = bind_ok (undamaged bytes) (λ u. in_turn (made state_of parts_at) word_at a.0.1 >>= λ x. at_end x.0.0 x.1) s a.2 in
+    let a = bind_ok (magic_at bytes) (λ m. version_at m.1 >>= λ v. undamaged bytes >>= λ u. in_turn (made state_of parts_at) word_at m.1 >>= λ x. at_end x.0.0 x.1) s e in
+    let v = bind_ok (version_at a.0.1) (λ v. undamaged bytes >>= λ u. in_turn (made state_of parts_at) word_at a.0.1 >>= λ x. at_end x.0.0 x.1) s a.2 in
+    let u = bind_ok (undamaged bytes) (λ u. in_turn (made state_of parts_at) word_at a.0.1 >>= λ x. at_end x.0.0 x.1) s v.2 in
     let b = bind_ok (in_turn (made state_of parts_at) word_at a.0.1) (λ x. at_end x.0.0 x.1) s u.2 in
     let last = ended b.0.0.0 s b.0.1 b.2 in
-    let h = head.takes bytes a.0 fits a.1 in
+    let h = ours.takes bytes a.0 fits a.1 in
     let t = tail.takes a.0.1 b.0 h.0.rest_fits b.1 in
     let front : List ℕ = front_text b.0.0.0 in
     let behind_head : a.0.1 ≡ body_text b.0.0.0 ++ word_text b.0.0.1 =
     t.0.parts ∙ ap (λ (r : List ℕ). (body_text b.0.0.0 ++ word_text b.0.0.1) ++ r) last.0 ∙ append-nil (body_text b.0.0.0 ++ word_text b.0.0.1) in
     let written : bytes ≡ front ++ word_text b.0.0.1 =
-    h.0.parts ∙ ap (λ (r : List ℕ). (word_text a.0.0.0 ++ half_text a.0.0.1) ++ r) behind_head
-    ∙ ap (λ (m : ℕ). (word_text m ++ half_text a.0.0.1) ++ (body_text b.0.0.0 ++ word_text b.0.0.1)) h.1.0
-    ∙ ap (λ (v : ℕ). (word_text magic ++ half_text v) ++ (body_text b.0.0.0 ++ word_text b.0.0.1)) h.1.1
-    ∙ sym (parted (word_text magic) (half_text version) (body_text b.0.0.0) (word_text b.0.0.1)) in
+    h.0.parts ∙ ap (λ (r : List ℕ). word_text a.0.0 ++ r) behind_head
+    ∙ ap (λ (m : ℕ). word_text m ++ (body_text b.0.0.0 ++ word_text b.0.0.1)) h.1
+    ∙ sym (append_assoc (word_text magic) (body_text b.0.0.0) (word_text b.0.0.1)) in
     let sum : b.0.0.1 ≡ crc32 front = sum_of_front front b.0.0.1 u.0 t.1.1 (ap undamaged (sym written) ∙ u.1) in
     let as_ours : bytes ≡ text b.0.0.0 = written ∙ ap (λ (n : ℕ). front ++ word_text n) sum in
     subst (λ (z : State). (text z ≡ bytes) × FitsState z) last.1 (sym as_ours, t.1.0)

@@ -1,9 +1,9 @@
 -- Bytes read as a state from left to right, with the first fault that is met.
-use Rattle.std.{specs.{Int.{Width, byte_len, from_be_bytes, w16, w32, w64}, Option.option_map_or, Ordering.is_lt, Prelude.{Bool, Err, List, None, Ok, Option, Result, Some, [], drop, false, if◌then◌else◌, length, nat_lt, suc, take, true, zero, ℕ, ◌&&◌, ◌-◌, ◌==◌, ◌∷◌}}}
+use Rattle.std.{specs.{Int.{Width, byte_len, from_be_bytes, w16, w32, w64}, Option.option_map_or, Ordering.is_lt, Prelude.{Bool, Err, List, None, Ok, Option, Result, Some, [], drop, false, if◌then◌else◌, length, nat_lt, suc, take, true, zero, ℕ, ◌&&◌, ◌-◌, ◌==◌, ◌||◌, ◌∷◌}}}
 use Rattle.pim_ip.{specs.declared.{addr.{Addr.Addr, Prefix.Prefix}, lan.LanDelay.LanDelay}}
 use Rattle.pim_types.{specs.{Keys.key_cmp, declared.{config.{IfaceId.IfaceId, InterfaceConfig.InterfaceConfig, Route.Route, RpRange.RpRange, Settings.Settings, SptSwitch.SptSwitch}, fact.{AssertMetric.AssertMetric, AssertRole.AssertRole, AssertRow.AssertRow, DownstreamRow.DownstreamRow, GroupRecordRow.GroupRecordRow, GroupRepeatRow.GroupRepeatRow, InterfaceRow.InterfaceRow, JoinTimerRow.JoinTimerRow, Key.Key, NeighbourRow.NeighbourRow, OverrideTimerRow.OverrideTimerRow, QuerierRole.QuerierRole, QuerierRow.QuerierRow, RegisterRow.RegisterRow, RegisterState.RegisterState, SendingRow.SendingRow, SourceRecordRow.SourceRecordRow, SourceRepeatRow.SourceRepeatRow, SourceRow.SourceRow}}}}
 use Rattle.pim_model.{specs.{State.State, Tables.{Table, keys_in}}}
-use Rattle.pim_saved.{specs.{Crc.crc32, Parts.{GroundParts, LinkParts, RecordParts, StateParts, TreeParts, state_of}, Text.{magic, version}, declared.refusal.SavedRefusal.SavedRefusal}}
+use Rattle.pim_saved.{specs.{Crc.crc32, Parts.{GroundParts, LinkParts, RecordParts, StateParts, TreeParts, state_of}, Text.{magic, version, version_with_addresses}, declared.refusal.SavedRefusal.SavedRefusal}}
 
 infixl 10 ◌>>=◌
 abbrev pub ◌>>=◌ : {A B : Type 0} → Result A SavedRefusal → (A → Result B SavedRefusal) → Result B SavedRefusal
@@ -256,8 +256,25 @@ table_at row bytes = list_at (in_turn key_at row) bytes >>= λ t. in_order t.0 t
 abbrev pub magic_at : Reader ℕ
 magic_at bytes = word_at bytes >>= λ m. if m.0 == magic then Ok m else Err SavedRefusal.NotOurs
 
-abbrev pub version_at : Reader ℕ
-version_at bytes = half_at bytes >>= λ v. if v.0 == version then Ok v else Err SavedRefusal.OtherVersion
+-- a version that is read
+abbrev pub is_version : ℕ → Bool
+is_version n = (n == version) || (n == version_with_addresses)
+
+unfoldable pub version_at : Reader ℕ
+version_at bytes = half_at bytes >>= λ v. if is_version v.0 then Ok v else Err SavedRefusal.OtherVersion
+
+-- version 3 has at least one
+abbrev pub some_listed : List Addr → List ℕ → Result (List Addr × List ℕ) SavedRefusal
+some_listed [] rest = Err SavedRefusal.OutOfRange
+some_listed (a ∷ more) rest = Ok (a ∷ more, rest)
+
+-- the own addresses of no interface, by the version
+abbrev pub addresses_by : Bool → Reader (List Addr)
+addresses_by true bytes = Ok ([], bytes)
+addresses_by false bytes = list_at address_at bytes >>= λ a. some_listed a.0 a.1
+
+unfoldable pub addresses_at : Reader (List Addr)
+addresses_at bytes = version_at bytes >>= λ v. addresses_by (v.0 == version) v.1
 
 unfoldable pub ground_at : Reader GroundParts
 ground_at bytes =
@@ -279,7 +296,7 @@ trees_at bytes =
     (table_at override_timer_at) (in_turn (table_at source_at) (table_at register_at))))) bytes
 
 unfoldable pub parts_at : Reader StateParts
-parts_at bytes = in_turn ground_at (in_turn links_at (in_turn records_at trees_at)) bytes
+parts_at bytes = in_turn addresses_at (in_turn ground_at (in_turn links_at (in_turn records_at trees_at))) bytes
 
 abbrev pub at_end : State → List ℕ → Result State SavedRefusal
 at_end s [] = Ok s
@@ -295,5 +312,5 @@ undamaged bytes =
 -- bytes is compared, before anything else is read.
 unfoldable pub reading : List ℕ → Result State SavedRefusal
 reading bytes =
-    in_turn magic_at version_at bytes >>= λ h. undamaged bytes
-    >>= λ u. in_turn (made state_of parts_at) word_at h.1 >>= λ x. at_end x.0.0 x.1
+    magic_at bytes >>= λ m. version_at m.1 >>= λ v. undamaged bytes
+    >>= λ u. in_turn (made state_of parts_at) word_at m.1 >>= λ x. at_end x.0.0 x.1

@@ -1,12 +1,17 @@
 -- What a document has to say for a scenario to be read from it.
 use Rattle.std.{specs.{Prelude.{◌≡◌, ◌≢◌, ◌≤◌, ◌++◌, ◌⊎◌, ℕ, Bool, true, false, String, List, [], ◌∷◌, codes, length, Option, Some, None, option_and_then, option_map, if◌then◌else◌, string_bytes, position, ◌==◌}, List.{All, AllPairs, AllZip, fold}, Option.is_some, Str.bytes_eq}}
 use Rattle.toml.{specs.{Parse.parse_document, Data.{Data, Members, as_str, as_table}}}
+use Rattle.pim_ip.{specs.declared.addr.Addr.Addr}
 use Rattle.pim_types.{specs.declared.{config.{Config.Config, InterfaceConfig.InterfaceConfig, Route.Route, RpRange.RpRange, SptSwitch.{SptSwitch, TheVariants.{Always, Never}}}, event.EventKind.EventKind}}
 use Rattle.igmp_older.{specs.declared.setting.{OlderHosts.OlderHosts, QueryVersion.QueryVersion}}
 use Rattle.pim_scenario.{specs.{declared.scenario.{ConfigText.ConfigText, FrontText.FrontText, Link.Link, RouterText.RouterText, ScenarioMove.{ScenarioMove, TheVariants.{Event, Deliver, Carry, Reload, Restart, Settle}}, Scenario.Scenario}, Fields.{has_only, table_at, text_at, optional_text, number_at, number_or, moment_at, list_at, list_or_empty}, Texts.{IsNumberText, IsAddressText, IsPrefixText, hex_of}, Words.AreWords}}
 use Rattle.pim_types.specs.declared.event.EventKind.TheVariants as event
 
--- ---- routes and RP ranges
+-- ---- own addresses, routes and RP ranges
+
+-- the value is a text, which writes the address
+abbrev pub WritesAddress : Data → Addr → Type 0
+WritesAddress d a = (text : List ℕ) × (as_str d ≡ Some text) × IsAddressText text a
 
 -- `prefix nexthop iface preference metric`
 pub record IsRouteOf (prefix next_hop iface preference metric : List ℕ) (r : Route) : Type 0 where
@@ -79,6 +84,7 @@ pub record IsConfig (ms : Members) (c : Config) : Type 0 where
   pub query_interval : number_or 125 (codes "qi") ms ≡ Some c.query_interval
   pub query_response_interval : number_or 100 (codes "qri") ms ≡ Some c.query_response_interval
   pub last_member_query_interval : number_or 10 (codes "lmqi") ms ≡ Some c.last_member_query_interval
+  pub addresses : AreRead WritesAddress (list_or_empty (codes "addresses") ms) c.addresses
   pub routes : AreRead (IsText AreRouteWords) (list_or_empty (codes "routes") ms) c.routes
   pub rps : AreRead (IsText AreRpWords) (list_or_empty (codes "rps") ms) c.rps
 
@@ -119,7 +125,8 @@ front_at ms =
 abbrev pub router_keys : List (List ℕ)
 router_keys =
     codes "name" ∷ codes "iface" ∷ codes "limit" ∷ codes "spt" ∷ codes "rv" ∷ codes "qi" ∷ codes "qri"
-    ∷ codes "lmqi" ∷ codes "older_hosts" ∷ codes "query_version" ∷ codes "guard" ∷ codes "routes" ∷ codes "rps" ∷ []
+    ∷ codes "lmqi" ∷ codes "older_hosts" ∷ codes "query_version" ∷ codes "guard"
+    ∷ codes "addresses" ∷ codes "routes" ∷ codes "rps" ∷ []
 
 -- A table `router` is a router with its name, its links and its configuration.
 pub record IsRouter (ms : Members) (r : RouterText) : Type 0 where
@@ -136,7 +143,8 @@ pub record IsRouter (ms : Members) (r : RouterText) : Type 0 where
 abbrev pub config_keys : List (List ℕ)
 config_keys =
     codes "iface" ∷ codes "limit" ∷ codes "spt" ∷ codes "rv" ∷ codes "qi" ∷ codes "qri" ∷ codes "lmqi"
-    ∷ codes "older_hosts" ∷ codes "query_version" ∷ codes "guard" ∷ codes "routes" ∷ codes "rps" ∷ []
+    ∷ codes "older_hosts" ∷ codes "query_version" ∷ codes "guard" ∷ codes "addresses" ∷ codes "routes"
+    ∷ codes "rps" ∷ []
 
 abbrev pub NamesLink : {Z : Type 0} → Members → String Z → Type 0
 NamesLink ms name = text_at (codes "link") ms ≡ Some (string_bytes name)

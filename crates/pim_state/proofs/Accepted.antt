@@ -1,57 +1,63 @@
 -- The tests of a configuration, in two parts.
-use Rattle.std.{proofs.{Common.{◌≡◌, ◌≤◌, arith, Bool, true, false, Result, Ok, Err, [], refl, ap, ◌∙◌}, lemmas.Bool.Decides.nat_tests}, specs.{List.list_all, Prelude.{if◌then◌else◌, is_err, length}}}
-use Rattle.pim_ip.{specs.{declared.refusal.Refusal.Refusal, Ipv4.is_unicast, Tests.{expect, ◌>>◌}}}
+use Rattle.std.{proofs.{Common.{◌≡◌, ◌≤◌, arith, Bool, true, false, Result, Ok, Err, [], List, refl, sym, ap, ◌∙◌}, lemmas.Bool.Decides.nat_tests}, specs.{List.list_all, Prelude.{if◌then◌else◌, is_err, length}}}
+use Rattle.pim_ip.{specs.{declared.{addr.Addr.Addr, refusal.Refusal.Refusal}, Ipv4.is_unicast, Tests.{expect, ◌>>◌}}}
 use Rattle.pim_types.{specs.declared.config.{Config.Config, InterfaceConfig.InterfaceConfig, Settings.Settings}}
-use Rattle.pim_model.{specs.{Limits.{are_apart, are_routes, are_rps, config_test, is_between, is_delay_config, is_querier_config, most_ifaces}, State.{opening, settings_of, InterfaceTable}}}
+use Rattle.pim_model.{specs.{Limits.{are_apart, are_own_addresses, are_routes, are_rps, config_test, is_between, is_delay_config, is_querier_config, most_ifaces}, State.{addressing_of, opening, settings_of, InterfaceTable}}}
 use Rattle.pim_ifaces.{specs.Interfaces.{delays_test, interfaces_test}}
 use Rattle.pim_mrib.{specs.Routes.RouteTable}
 use Rattle.pim_state.{specs.Configurations.{settings_test, without_facts}}
 
-nine : (a b c d e f g h i : Bool)
+ten : (a b c d e f g h i j : Bool)
     → (expect a Refusal.InterfaceCount >> expect b Refusal.InterfaceAddress >> expect c Refusal.InterfaceLength >>
     expect d Refusal.Overlap
     >> expect e Refusal.BadLimit >> expect f Refusal.BadQuerier >> expect g Refusal.BadDelay >> expect h
-    Refusal.ConfiguredRoutes >> expect i Refusal.ConfiguredRps)
+    Refusal.ConfiguredRoutes >> expect i Refusal.ConfiguredRps >> expect j Refusal.OwnAddresses)
     ≡ (((expect a Refusal.InterfaceCount >> expect b Refusal.InterfaceAddress >> expect c Refusal.InterfaceLength >>
     expect d Refusal.Overlap)
     >> expect e Refusal.BadLimit >> expect f Refusal.BadQuerier >> expect g Refusal.BadDelay) >> expect h
-    Refusal.ConfiguredRoutes >> expect i Refusal.ConfiguredRps)
-nine false b c d e f g h i = refl
-nine true false c d e f g h i = refl
-nine true true false d e f g h i = refl
-nine true true true false e f g h i = refl
-nine true true true true false f g h i = refl
-nine true true true true true false g h i = refl
-nine true true true true true true false h i = refl
-nine true true true true true true true false i = refl
-nine true true true true true true true true i = refl
+    Refusal.ConfiguredRoutes >> expect i Refusal.ConfiguredRps >> expect j Refusal.OwnAddresses)
+ten false b c d e f g h i j = refl
+ten true false c d e f g h i j = refl
+ten true true false d e f g h i j = refl
+ten true true true false e f g h i j = refl
+ten true true true true false f g h i j = refl
+ten true true true true true false g h i j = refl
+ten true true true true true true false h i j = refl
+ten true true true true true true true false i j = refl
+ten true true true true true true true true false j = refl
+ten true true true true true true true true true j = refl
 
 pub in_two_parts : (c : Config) → config_test c
-    ≡ (settings_test c >> expect (are_routes c.interfaces c.routes) Refusal.ConfiguredRoutes >> expect
-    (are_rps c.rps) Refusal.ConfiguredRps)
+    ≡ (settings_test c >> expect (are_routes (addressing_of c) c.routes) Refusal.ConfiguredRoutes >> expect
+    (are_rps c.rps) Refusal.ConfiguredRps >> expect (are_own_addresses (addressing_of c)) Refusal.OwnAddresses)
 unfolding config_test settings_test interfaces_test delays_test
 in_two_parts c =
-    nine (is_between 1 most_ifaces (length c.interfaces))
+    ten (is_between 1 most_ifaces (length c.interfaces))
     (list_all (λ (i : InterfaceConfig). is_unicast i.address.bits) c.interfaces)
     (list_all (λ (i : InterfaceConfig). is_between 1 31 i.length) c.interfaces) (are_apart c.interfaces)
     (is_between 1 1000000 c.limit)
-    (is_querier_config c) (list_all is_delay_config c.interfaces) (are_routes c.interfaces c.routes) (are_rps c.rps)
+    (is_querier_config c) (list_all is_delay_config c.interfaces) (are_routes (addressing_of c) c.routes) (are_rps c.rps)
+    (are_own_addresses (addressing_of c))
 
 pub settings_refused : (c : Config) (refusal : Refusal) → settings_test c ≡ Err refusal → config_test c ≡ Err refusal
 settings_refused c refusal e = in_two_parts c ∙ rw e refl
 
-pub routes_refused : (c : Config) → settings_test c ≡ Ok tt → are_routes c.interfaces c.routes ≡ false
+pub routes_refused : (c : Config) → settings_test c ≡ Ok tt → are_routes (addressing_of c) c.routes ≡ false
     → config_test c ≡ Err Refusal.ConfiguredRoutes
 routes_refused c e r = in_two_parts c ∙ rw e (rw r refl)
 
-pub rps_refused : (c : Config) → settings_test c ≡ Ok tt → are_routes c.interfaces c.routes ≡ true
+pub rps_refused : (c : Config) → settings_test c ≡ Ok tt → are_routes (addressing_of c) c.routes ≡ true
     → are_rps c.rps ≡ false
     → config_test c ≡ Err Refusal.ConfiguredRps
 rps_refused c e r q = in_two_parts c ∙ rw e (rw r (rw q refl))
 
-pub all_accepted : (c : Config) → settings_test c ≡ Ok tt → are_routes c.interfaces c.routes ≡ true
-    → are_rps c.rps ≡ true → config_test c ≡ Ok tt
-all_accepted c e r q = in_two_parts c ∙ rw e (rw r (rw q refl))
+pub addresses_refused : (c : Config) → settings_test c ≡ Ok tt → are_routes (addressing_of c) c.routes ≡ true
+    → are_rps c.rps ≡ true → are_own_addresses (addressing_of c) ≡ false → config_test c ≡ Err Refusal.OwnAddresses
+addresses_refused c e r q a = in_two_parts c ∙ rw e (rw r (rw q (rw a refl)))
+
+pub all_accepted : (c : Config) → settings_test c ≡ Ok tt → are_routes (addressing_of c) c.routes ≡ true
+    → are_rps c.rps ≡ true → are_own_addresses (addressing_of c) ≡ true → config_test c ≡ Ok tt
+all_accepted c e r q a = in_two_parts c ∙ rw e (rw r (rw q (rw a refl)))
 
 first_ok : (a b : Result (Unit {0}) Refusal) → (a >> b) ≡ Ok tt → a ≡ Ok tt
 first_ok (Ok done) b h = refl
@@ -75,8 +81,19 @@ pub chosen : {A : Type 0} (b : Bool) (x a d : A) → x ≡ (if b then a else d) 
 chosen true x a d e f = e
 chosen false x a d e f = cc
 
+-- the interfaces as they were made of a configuration
+pub from_given : (c : Config) (t : InterfaceTable) (xs : List InterfaceConfig) (own : List Addr)
+    → t ≡ record { configured = record { interfaces = xs; addresses = own }; rows = [] } → xs ≡ c.interfaces
+    → own ≡ c.addresses → t ≡ record { configured = addressing_of c; rows = [] }
+from_given c t xs own is a b = is ∙ rw (a, b) refl
+
+pub own_from_given : (c : Config) (xs : List InterfaceConfig) (own : List Addr) (b d : Bool)
+    → b ≡ are_own_addresses (record { interfaces = xs; addresses = own }) → b ≡ d → xs ≡ c.interfaces
+    → own ≡ c.addresses → are_own_addresses (addressing_of c) ≡ d
+own_from_given c xs own b d is e f g = rw (← f, ← g) (sym is ∙ e)
+
 pub opens : (c : Config) (settings : Settings) (interfaces : InterfaceTable) (mrib : RouteTable)
-    → settings ≡ settings_of c → interfaces ≡ record { configured = c.interfaces; rows = [] }
+    → settings ≡ settings_of c → interfaces ≡ record { configured = addressing_of c; rows = [] }
     → mrib ≡ record { routes = c.routes; ranges = c.rps } → without_facts settings interfaces mrib ≡ opening c
 unfolding opening
 opens c settings interfaces mrib a b d = rw (a, b, d) refl

@@ -1,9 +1,9 @@
 -- The set of the interfaces on which the router is the DR, after a change of the neighbours on one of them.
 use Rattle.std.{proofs.{Common.{◌≡◌, ℕ, Bool, true, false, cond, not, filter, List, [], ◌∷◌, nat_lt, ◌==◌, ◌&&◌, Option, None, refl, sym, ap, eqb-true, subst, ◌∙◌, arith}, lemmas.Bool.Decides.nat_tests}, specs.Prelude.if◌then◌else◌}
 use Rattle.pim_ifset.{specs.Members.{Members, has}}
-use Rattle.pim_types.{specs.{declared.{config.InterfaceConfig.InterfaceConfig, fact.{Key.Key, NeighbourRow.NeighbourRow}}, Keys.{iface_in, is_on, neighbour_key}}}
+use Rattle.pim_types.{specs.{declared.{fact.{Key.Key, NeighbourRow.NeighbourRow}}, Keys.{iface_in, is_on, neighbour_key}}}
 use Rattle.pim_wire.{specs.declared.hello.Hello.Hello as HelloValue}
-use Rattle.pim_model.{specs.{Hellos.neighbours_replaced, State.{address_among, value_among}, Neighbours.is_dr_among, Tables.{Table, drop_at, drop_where, rows_on, rows_where, set_row}}}
+use Rattle.pim_model.{specs.{Hellos.neighbours_replaced, State.{Addressing, address_among, value_among}, Neighbours.is_dr_among, Tables.{Table, drop_at, drop_where, rows_on, rows_where, set_row}}}
 use Rattle.law_settled.{proofs.{ListLaws.filter_within, RowChanges.set_elsewhere}}
 use Rattle.pim_state.{specs.Shown.{Shows, is_dr_on}}
 
@@ -13,7 +13,7 @@ other_rows : (k : Key) (i : ℕ) → (iface_in k == i) ≡ false → (t : Table 
 unfolding rows_on rows_where
 other_rows k i other t row = set_elsewhere (is_on i) k other t row
 
-module _ (configured : List InterfaceConfig) (k : Key) (before after : Members) (old : Table NeighbourRow)
+module _ (configured : Addressing) (k : Key) (before after : Members) (old : Table NeighbourRow)
     (row : Option NeighbourRow) (b : Bool) where
   at : (i : ℕ) (same : Bool) → (iface_in k == i) ≡ same → b ≡ is_dr_on configured (set_row old k row) (iface_in k)
       → has before i ≡ (nat_lt i 120 && is_dr_on configured old i)
@@ -35,13 +35,13 @@ and_true true = refl
 and_true false = refl
 
 -- where there are no neighbours it is the DR
-pub elected_alone : (configured : List InterfaceConfig) (set : Members) → ((i : ℕ) → has set i ≡ nat_lt i 120)
+pub elected_alone : (configured : Addressing) (set : Members) → ((i : ℕ) → has set i ≡ nat_lt i 120)
     → Shows set (is_dr_on configured [])
 unfolding is_dr_among rows_on
 elected_alone configured set all i = all i ∙ and_true (nat_lt i 120)
 
 -- after the Hello of a neighbour
-pub elected_after_hello : (configured : List InterfaceConfig) (before after : Members) (old new : Table NeighbourRow)
+pub elected_after_hello : (configured : Addressing) (before after : Members) (old new : Table NeighbourRow)
     (i address present : ℕ) (h : HelloValue) (b : Bool) → new ≡ neighbours_replaced present i address h old
     → Shows before (is_dr_on configured old) → b ≡ is_dr_on configured new i
     → ((q : ℕ) → has after q ≡ (if i == q then nat_lt q 120 && b else has before q))
@@ -53,7 +53,7 @@ elected_after_hello configured before after old new i address present h b is sho
     (elected ∙ ap (λ (t : Table NeighbourRow). is_dr_on configured t i) is) member)
 
 -- after a neighbour's end
-pub elected_after_end : (configured : List InterfaceConfig) (before after : Members) (old new : Table NeighbourRow)
+pub elected_after_end : (configured : Addressing) (before after : Members) (old new : Table NeighbourRow)
     (k : Key) (b : Bool) → new ≡ drop_at old k → Shows before (is_dr_on configured old)
     → b ≡ is_dr_on configured new (iface_in k)
     → ((q : ℕ) → has after q ≡ (if iface_in k == q then nat_lt q 120 && b else has before q))
@@ -84,7 +84,7 @@ module _ (i : ℕ) where
   unfolding rows_on drop_where
   elsewhere q other t = filter_within (λ e. is_on q e.0) (λ e. not (is_on i e.0)) (apart q other) t
 
-  module _ (configured : List InterfaceConfig) (before after : Members) (old : Table NeighbourRow) where
+  module _ (configured : Addressing) (before after : Members) (old : Table NeighbourRow) where
     left_at : (q : ℕ) (same : Bool) → (i == q) ≡ same → has before q ≡ (nat_lt q 120 && is_dr_on configured old q)
         → (if same then nat_lt q 120 && true else has before q)
         ≡ (nat_lt q 120 && is_dr_on configured (drop_where (is_on i) old) q)

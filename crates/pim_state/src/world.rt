@@ -16,7 +16,7 @@ ghost use Rattle.pim_state.specs.Lending.{LendsMembership, LendsStore, membershi
 use crate::parts::elected;
 use crate::settings::{settings_of, test_settings};
 use igmp_membership::Membership;
-use pim_ifaces::Interfaces;
+use pim_ifaces::{Interfaces, are_own_addresses};
 use pim_ifset::IfSet;
 use pim_mrib::Mrib;
 use pim_neighbours::Neighbours;
@@ -108,7 +108,9 @@ impl World {
         if let Err(refusal) = test_settings(config) {
             return Ok(Err(refusal));
         }
-        let interfaces = Interfaces::new(alloc, config.interfaces.as_slice());
+        let given = config.interfaces.as_slice();
+        let own = config.addresses.as_slice();
+        let interfaces = Interfaces::new(alloc, given, own)?;
         let mut mrib = Mrib::new(alloc);
         if mrib
             .replace(&interfaces, config.routes.as_slice(), meter)?
@@ -118,6 +120,9 @@ impl World {
         }
         if mrib.replace_rps(config.rps.as_slice(), meter)?.is_err() {
             return Ok(Err(Refusal::ConfiguredRps));
+        }
+        if !are_own_addresses(given, own) {
+            return Ok(Err(Refusal::OwnAddresses));
         }
         let world = World::without_facts(alloc, settings_of(config), interfaces, mrib)?;
         Ok(Ok(world))
@@ -251,7 +256,7 @@ impl World {
     /// interface that is up being one that the other has. All facts stay. The table that comes back has the RP ranges of
     /// the other.
     pub fn reconfigure(&mut self, other: World) -> Mrib
-        requires below { list_all (λ e. nat_lt (iface_in e.0) (length other.configured)) self.old.interfaces ≡ true }
+        requires below { list_all (λ e. nat_lt (iface_in e.0) (length other.configured.interfaces)) self.old.interfaces ≡ true }
         ensures new { self.new ≡ record self.old {
           settings = other.settings;
           configured = other.configured;

@@ -100,6 +100,9 @@ pub struct Config {
     pub last_member_query_interval: u32,
     pub routes: Series<Route>,
     pub rps: Series<RpRange>,
+    /// The router's own addresses that are of no interface, as a loopback's: at most 16, none twice, none in the subnet
+    /// of an interface.
+    pub addresses: Series<Addr>,
 }
 
 // Written out, so that it is proved once (docs/PROOF_NOTES.md, Drops).
@@ -115,6 +118,7 @@ impl Drop for Config {
             last_member_query_interval: _,
             routes: _,
             rps: _,
+            addresses: _,
         } = self;
     }
 }

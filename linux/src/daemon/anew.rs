@@ -3,7 +3,8 @@
 //! The new router learns again from Hellos, Joins and reports, which it asks for at once. Meanwhile the kernel forwards as
 //! it did: its entries stay until the new router has had the time to learn.
 use super::{Core, Daemon, Event, Fatal};
-use crate::ports::{Port, Standing};
+use crate::core::Given;
+use crate::ports::Standing;
 use crate::show::rp_of;
 use log::{error, info, warn};
 use std::net::Ipv4Addr;
@@ -27,14 +28,13 @@ impl Daemon {
     pub(super) fn make_anew(&mut self, why: &str) -> Result<(), Fatal> {
         let (addresses, said) = self.addresses();
         said.iter().for_each(|line| warn!("{line}"));
-        let before: Vec<_> = self.ports.iter().map(|port| port.subnet).collect();
-        self.set_subnets(addresses);
-        let told: Vec<_> = self.ports.iter().map(Port::told).collect();
-        let mut core = match Core::new(&self.settings, &told) {
+        let before: Vec<_> = self.ports.iter().map(|port| port.own).collect();
+        self.set_addresses(addresses);
+        let mut core = match Core::new(&self.settings, &Given::of(&self.ports)) {
             Ok(core) => core,
             Err(Fatal::Settings(refusal)) => {
                 error!("the router can't be made anew, and stays as it was: {refusal}");
-                self.set_subnets(before);
+                self.set_addresses(before);
                 return Ok(());
             }
             Err(fatal) => return Err(fatal),

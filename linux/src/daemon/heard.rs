@@ -35,7 +35,7 @@ impl Daemon {
         // Behind a short packet a card puts what the link wants.
         let bytes = Packet::read(frame).map_or(frame, Packet::bytes);
         let number = match self.port_of_index(index) {
-            Some(port) if port.standing.is_up() => port.number,
+            Some(port) if port.standing.is_up() && !port.own.is_apart => port.number,
             _ => return Ok(()),
         };
         self.catch_up()?;
@@ -46,7 +46,8 @@ impl Daemon {
     pub(super) fn heard_own(&mut self, bytes: &[u8]) -> Result<(), Fatal> {
         let from = Packet::read(bytes).filter(|packet| is_of_host(*packet)).map(Packet::source);
         // Another router's interface may have the same address, in another VRF.
-        let indices = || self.ports.iter().filter_map(|port| port.index);
+        let linked = || self.ports.iter().filter(|port| !port.own.is_apart);
+        let indices = || linked().filter_map(|port| port.index);
         let index = from.and_then(|from| indices().find(|index| self.machine.has(*index, from)));
         if let Some(index) = index {
             self.counters.own_reports += 1;

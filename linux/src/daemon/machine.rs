@@ -41,10 +41,15 @@ impl Daemon {
     /// Gives an interface a virtual one, where it has none and is to have one.
     fn add_vif(&mut self, number: usize) -> Result<(), String> {
         let taken: Vec<_> = self.ports.iter().filter_map(|port| port.vif).collect();
-        let link = self.machine.link(&self.ports[number].settings.name);
         let port = &mut self.ports[number];
-        port.is_loopback = link.map_or(false, |link| link.is_loopback);
-        if port.is_loopback || port.vif.is_some() {
+        if port.own.is_apart {
+            // One that the router before this one had.
+            if let Some(vif) = port.vif.take() {
+                let _ = self.kernel.remove_vif(vif);
+            }
+            return Ok(());
+        }
+        if port.vif.is_some() {
             return Ok(());
         }
         let free = (0..REGISTER_VIF).find(|vif| !taken.contains(vif));
@@ -67,6 +72,10 @@ impl Daemon {
         self.ports[number].standing = Standing::Up;
         self.ports[number].since = self.now();
         self.keeping.changed();
+        if let Some(address) = self.ports[number].apart() {
+            info!("{name} goes up: {address} is the router's, on no link");
+            return Ok(());
+        }
         info!("{name} goes up, with {}", self.ports[number].told_subnet());
         if self.kernel.is_filter_strict(&name) {
             warn!(
@@ -92,7 +101,7 @@ impl Daemon {
             // The kernel has let it go by itself where the link is gone.
             let _ = self.kernel.remove_vif(vif);
         }
-        if was_up {
+        if was_up && !self.ports[number].own.is_apart {
             self.place_all();
             self.advance()?;
             self.neighbours.are_stale = true;
@@ -132,11 +141,12 @@ impl Daemon {
                 return None;
             }
         };
-        let there = self.ports.iter().filter_map(|port| Some((port.index?, port)));
+        let linked = self.ports.iter().filter(|port| !port.own.is_apart);
+        let there = linked.filter_map(|port| Some((port.index?, port)));
         let (up, down): (Vec<_>, Vec<_>) = there.partition(|(_, port)| port.standing.is_up());
         let numbers = up.iter().map(|(index, port)| (*index, port.number)).collect();
         let down = down.iter().map(|(index, _)| *index).collect();
-        let subnets = self.ports.iter().map(Port::told_subnet).collect();
+        let subnets = self.ports.iter().map(Port::covered).collect();
         Some(routes::taken(&kernel, &Ours { numbers, down, subnets }, &self.settings.routes))
     }
 

@@ -1,9 +1,9 @@
 //! Another configuration in the library's router, where its interfaces, their addresses or its settings change. The router
 //! goes on with what it knows, and so do the streams: the library does what follows of the change.
 use super::{Answer, Daemon, Fatal};
+use crate::core::Given;
 use crate::packet::with_holdtime;
-use crate::ports::{self, Port};
-use crate::settings::Subnet;
+use crate::ports::{self, Own, Port};
 use log::{debug, error, info, warn};
 use viqeshor::Refusal;
 
@@ -11,13 +11,13 @@ use viqeshor::Refusal;
 const SETTLE: u64 = 1_000;
 
 impl Daemon {
-    pub(super) fn addresses(&self) -> (Vec<Option<Subnet>>, Vec<String>) {
+    pub(super) fn addresses(&self) -> (Vec<Own>, Vec<String>) {
         ports::addresses(&self.ports, &self.machine)
     }
 
     /// The addresses of the interfaces aren't those of the router any more.
     fn are_addresses_old(&self) -> bool {
-        self.addresses().0.iter().zip(&self.ports).any(|(wanted, port)| *wanted != port.subnet)
+        self.addresses().0.iter().zip(&self.ports).any(|(wanted, port)| *wanted != port.own)
     }
 
     /// Has the router take them soon, where an interface has another address.
@@ -36,8 +36,8 @@ impl Daemon {
         Ok(())
     }
 
-    pub(super) fn set_subnets(&mut self, subnets: Vec<Option<Subnet>>) {
-        self.ports.iter_mut().zip(subnets).for_each(|(port, subnet)| port.subnet = subnet);
+    pub(super) fn set_addresses(&mut self, addresses: Vec<Own>) {
+        self.ports.iter_mut().zip(addresses).for_each(|(port, own)| port.own = own);
     }
 
     /// Has the library's router go on with the settings and the machine as they are. Interfaces keep their numbers: one
@@ -49,14 +49,15 @@ impl Daemon {
         self.advance()?;
         let (addresses, said) = self.addresses();
         said.iter().for_each(|line| warn!("{line}"));
+        self.end_turned(&addresses)?;
         let moved = self.moved(&addresses);
         self.leave_sessions(&moved);
         self.neighbours.are_stale = true;
-        let before = self.ports.iter().map(|port| port.subnet).collect();
-        self.set_subnets(addresses);
+        let before = self.ports.iter().map(|port| port.own).collect();
+        self.set_addresses(addresses);
         if let Answer::Refused(refusal) = self.tell_configuration()? {
             error!("the router refuses the settings, and stays as it was: {}", viqeshor::Error::Refused(refusal));
-            self.set_subnets(before);
+            self.set_addresses(before);
             return Ok(());
         }
         info!("the router goes on with other settings ({why})");
@@ -82,9 +83,20 @@ impl Daemon {
         Ok(())
     }
 
+    /// Interfaces that were on a link and are to be on none, or the other way, go down as what they were.
+    fn end_turned(&mut self, addresses: &[Own]) -> Result<(), Fatal> {
+        let turns = |(port, own): &(&Port, &Own)| port.standing.is_up() && port.own.is_apart != own.is_apart;
+        let turned: Vec<_> = self.ports.iter().zip(addresses).filter(turns).map(|(port, _)| port.number).collect();
+        for number in turned {
+            self.say_goodbye_on(number);
+            self.goes_down(number as usize, "its address is of another kind now".to_string())?;
+        }
+        Ok(())
+    }
+
     /// The interfaces that are up and go on with another address.
-    fn moved(&self, addresses: &[Option<Subnet>]) -> Vec<u32> {
-        let moves = |(port, wanted): &(&Port, &Option<Subnet>)| port.standing.is_up() && port.subnet != **wanted;
+    fn moved(&self, addresses: &[Own]) -> Vec<u32> {
+        let moves = |(port, wanted): &(&Port, &Own)| port.standing.is_up() && port.own != **wanted;
         self.ports.iter().zip(addresses).filter(moves).map(|(port, _)| port.number).collect()
     }
 
@@ -110,7 +122,7 @@ impl Daemon {
 
     /// Tells the library the configuration, with the routes of the moment; where these are refused, with those that it has.
     fn tell_configuration(&mut self) -> Result<Answer, Fatal> {
-        let told: Vec<_> = self.ports.iter().map(Port::told).collect();
+        let told = Given::of(&self.ports);
         if let Some((routes, _)) = self.routes_of_kernel() {
             let answer = self.core.reload(&self.settings, &told, &routes)?;
             match answer {

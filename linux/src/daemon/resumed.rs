@@ -5,7 +5,7 @@
 //! an event like another, and other settings are taken as while the router runs. Where the router can't be restored it
 //! is made anew: it learns again, and the kernel forwards as before meanwhile.
 use super::{Core, Daemon, Event, Fatal, Machine, Neighbour};
-use crate::core::{ranges_of, told_of};
+use crate::core::{ranges_of, told_of, Given};
 use crate::kernel::Kernel;
 use crate::left::{boot, Left, LeftEntry, LeftNeighbour, LeftSession};
 use crate::ports::{self, Port, Standing};
@@ -71,7 +71,7 @@ impl Daemon {
         let numbered = (0..).zip(left.ports.iter().cloned());
         let mut ports: Vec<_> = numbered.map(|(number, port)| Port::resumed(number, port)).collect();
         ports::take_settings(&mut ports, &settings.interfaces);
-        let told: Vec<_> = ports.iter().map(Port::told).collect();
+        let told = Given::of(&ports);
         let (core, why) = match Core::restore(saved, left.told.clone()) {
             Ok(core) => (core, None),
             Err(Fatal::Settings(error)) => {

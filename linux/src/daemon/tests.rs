@@ -56,8 +56,10 @@ impl Cache for Handle {
     }
 }
 
+const LO: u32 = 1;
 const ETH0: u32 = 2;
 const ETH1: u32 = 3;
+const DUMMY: u32 = 4;
 
 impl Kernel for Handle {
     fn now(&self) -> u64 {
@@ -100,10 +102,11 @@ impl Kernel for Handle {
             name: name.to_string(),
             mtu: 1500,
             is_running: index != ETH0 || !self.0.is_down.get(),
-            is_loopback: false,
+            is_loopback: index == LO,
+            is_dummy: index == DUMMY,
             vrf_table: None,
         };
-        Ok(vec![link(ETH0, "eth0"), link(ETH1, "eth1")])
+        Ok(vec![link(LO, "lo"), link(ETH0, "eth0"), link(ETH1, "eth1"), link(DUMMY, "dummy0")])
     }
 
     fn addresses(&mut self) -> io::Result<Vec<(u32, Subnet)>> {
@@ -247,8 +250,12 @@ fn data(from: Ipv4Addr, group: Ipv4Addr, flags: u16, length: usize) -> Vec<u8> {
 }
 
 fn register(inner: &[u8]) -> (Source, kernel::Event) {
+    register_to([10, 1, 0, 1].into(), inner)
+}
+
+fn register_to(rp: Ipv4Addr, inner: &[u8]) -> (Source, kernel::Event) {
     let content = [summed(&[0x21, 0, 0, 0, 0, 0, 0, 0]), inner.to_vec()].concat();
-    (Source::Unicasts, kernel::Event::Unicast(packet(PIM, [10, 1, 0, 2].into(), [10, 1, 0, 1].into(), &content)))
+    (Source::Unicasts, kernel::Event::Unicast(packet(PIM, [10, 1, 0, 2].into(), rp, &content)))
 }
 
 fn no_cache(vif: u16, key: Key) -> (Source, kernel::Event) {
@@ -290,6 +297,54 @@ fn a_join_to_a_running_stream_has_its_first_packet() {
     assert_eq!(fake.copies()[0].0, ETH1);
 }
 
+/// What becomes of an address of a link.
+fn moves(index: u32, from: Option<Subnet>, to: Option<Subnet>) -> (Source, kernel::Event) {
+    let gone = from.map(|subnet| Change::AddressGone { index, subnet });
+    let there = to.map(|subnet| Change::Address { index, subnet });
+    (Source::Changes, kernel::Event::Changes(gone.into_iter().chain(there).collect()))
+}
+
+#[test]
+fn an_address_on_no_link_is_the_routers() {
+    let of_lo = "[[interface]]\nname = \"lo\"\n[[rp]]\ngroups = \"239.3.0.0/16\"\naddress = \"10.255.0.1\"\n";
+    let own = Ipv4Addr::new(10, 255, 0, 1);
+    let (mut daemon, fake) = begun(&format!("{of_lo}{TWO}"), &[(LO, own.octets()), both()[0], both()[1]]);
+    assert_eq!((daemon.ports[0].vif, daemon.ports[0].standing.is_up()), (None, true));
+    assert_eq!((&*fake.vifs.borrow(), &daemon.core.told.addresses), (&vec![0, 1], &vec![own]));
+    assert!(!daemon.core.link(0).expect("it is told").is_up);
+    let stream = key(FAR, [239, 3, 1, 1]);
+    happens(&mut daemon, &fake, report(ETH1, [10, 5, 0, 77], stream.group));
+    happens(&mut daemon, &fake, register_to(own, &data(FAR, stream.group, 0, 40)));
+    assert_eq!(fake.copies().iter().map(|(index, _)| *index).collect::<Vec<_>>(), [ETH1]);
+    // Another one takes its place.
+    let other = subnet([10, 255, 0, 9]);
+    happens(&mut daemon, &fake, moves(LO, Some(subnet(own.octets())), Some(other)));
+    passes(&mut daemon, &fake, 1_100);
+    assert_eq!((daemon.core.told.addresses.as_slice(), daemon.ports[0].standing.is_up()), (&[other.address][..], true));
+    happens(&mut daemon, &fake, register_to(own, &data(FAR, stream.group, 0, 40)));
+    assert_eq!(fake.copies().len(), 1);
+}
+
+#[test]
+fn a_dummy_leaves_its_link_and_has_one_again() {
+    let settings = format!("{TWO}[[interface]]\nname = \"dummy0\"\n");
+    let (mut daemon, fake) = begun(&settings, &[both()[0], both()[1], (DUMMY, [10, 8, 0, 1])]);
+    let on_link = subnet([10, 8, 0, 1]);
+    let alone = Subnet { length: 32, ..on_link };
+    let is = |daemon: &Daemon| {
+        let port = &daemon.ports[2];
+        (port.vif, port.standing.is_up(), daemon.core.told.addresses.len(), daemon.core.link(2).map(|link| link.is_up))
+    };
+    assert_eq!(is(&daemon), (Some(2), true, 0, Some(true)));
+    happens(&mut daemon, &fake, moves(DUMMY, Some(on_link), Some(alone)));
+    passes(&mut daemon, &fake, 1_100);
+    assert_eq!(is(&daemon), (None, true, 1, Some(false)));
+    happens(&mut daemon, &fake, moves(DUMMY, Some(alone), Some(on_link)));
+    passes(&mut daemon, &fake, 1_100);
+    assert_eq!(is(&daemon), (Some(2), true, 0, Some(true)));
+    assert_eq!((daemon.counters.reloaded, daemon.counters.made_anew), (2, 0));
+}
+
 #[test]
 fn memory_that_the_kernel_lacks_costs_its_entry_alone() {
     let (mut daemon, fake) = begun(TWO, &both());
@@ -308,7 +363,7 @@ fn memory_that_the_kernel_lacks_costs_its_entry_alone() {
 #[test]
 fn an_address_that_comes_late_is_taken() {
     let (mut daemon, fake) = begun(TWO, &both()[..1]);
-    assert_eq!((daemon.ports[1].subnet, daemon.ports[1].standing.is_up()), (None, false));
+    assert_eq!((daemon.ports[1].own.subnet, daemon.ports[1].standing.is_up()), (None, false));
     let stream = key(FAR, [239, 1, 1, 1]);
     happens(&mut daemon, &fake, report(ETH0, [10, 1, 0, 77], stream.group));
     let late = subnet([10, 5, 0, 1]);
@@ -319,7 +374,7 @@ fn an_address_that_comes_late_is_taken() {
         (Source::Changes, kernel::Event::Changes(vec![Change::Address { index: ETH1, subnet: late }])),
     );
     passes(&mut daemon, &fake, 1_100);
-    assert_eq!((daemon.ports[1].subnet, daemon.ports[1].standing.is_up()), (Some(late), true));
+    assert_eq!((daemon.ports[1].own.subnet, daemon.ports[1].standing.is_up()), (Some(late), true));
     assert_eq!((daemon.counters.reloaded, daemon.counters.made_anew), (1, 0));
     // The router goes on with what it knew.
     assert_eq!((daemon.neighbours.known.len(), daemon.core.rows(Table::Groups).expect("it tells").len()), (1, 1));

@@ -27,7 +27,8 @@ class Run {
       if (shape >= 0) this.changes[router].push({ at: at + 1, shape, ends: told });
       else if (told.length) this.patches[router].push({ at: at + 1, told });
     });
-    this.owners = new Map(this.routers.flatMap((router, n) => router.ifaces.map(([, address]) => [address, n])));
+    this.owners = new Map(this.routers.flatMap((router, n) =>
+      [...router.ifaces.map(([, address]) => address), ...router.addresses].map(address => [address, n])));
     this.dull = [false, ...this.moves.map((_, n) => this.isDull(n))];
     this.odd = [false, ...this.moves.map(move => this.range(move).some(step => step[8]))];
     this.ports = new Map(this.links.map(([link]) => [link, []]));

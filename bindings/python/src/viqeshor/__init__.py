@@ -93,7 +93,7 @@ Buffer: TypeAlias = bytes | bytearray | memoryview
 Interface: TypeAlias = str | IPv4Interface | tuple[Any, ...]
 
 # What this package and the library have to agree on: VIQ_ABI of viqeshor.h.
-ABI = 6
+ABI = 7
 NEVER, NO_INTERFACE, MOST_BYTES = 2**64 - 1, 2**32 - 1, 1528
 # The letters of the tables.
 TABLES = "NGSDAURF"
@@ -150,6 +150,7 @@ class Answer(enum.IntEnum):
     NOT_SETTLED = 67
     NOT_QUIET = 68
     DAMAGED = 69
+    OWN_ADDRESSES = 70
     OWN = 101
     NOT_FOR_ME = 102
     OTHER_TYPE = 103
@@ -174,7 +175,7 @@ class Answer(enum.IntEnum):
 
     @property
     def is_refused(self) -> bool:
-        return Answer.DONE < self < Answer.MEMORY
+        return Answer.DONE < self < Answer.MEMORY or self == Answer.OWN_ADDRESSES
 
 
 class Error(Exception):
@@ -238,6 +239,8 @@ class Settings(Structure):
     _fields_ = [
         *numbers("limit", "robustness", "query_interval", "query_response_interval", "last_member_query_interval"),
         ("stays_on_shared_tree", c_bool),
+        ("addresses", POINTER(c_uint32)),
+        ("address_count", c_size_t),
     ]
 
 
@@ -405,7 +408,7 @@ def load(path: str) -> ctypes.CDLL:
         call.restype = c_uint32
     library.viq_new.argtypes = [POINTER(c_void_p), c_uint32, POINTER(Settings), *LIST, *LIST, *LIST]
     library.viq_restore.argtypes = [POINTER(c_void_p), c_uint32, c_char_p, c_size_t]
-    library.viq_routes_refused_at.argtypes = [*LIST, *LIST, POINTER(RefusedAt)]
+    library.viq_routes_refused_at.argtypes = [*LIST, *LIST, *LIST, POINTER(RefusedAt)]
     library.viq_ranges_refused_at.argtypes = [*LIST, POINTER(RefusedAt)]
     for name in ("routes_refused_at", "ranges_refused_at"):
         getattr(library, f"viq_{name}").restype = c_bool
@@ -501,12 +504,15 @@ def configuration(
     query_response_interval: int = 100,
     last_member_query_interval: int = 10,
     stays_on_shared_tree: bool = False,
+    addresses: Iterable[str] = (),
 ) -> tuple[Any, ...]:
-    """A configuration as C takes it: the settings, and then three lists, each with its length."""
+    """A configuration as C takes it: the settings, and then three lists, each with its length. `addresses` are the
+    router's own that are of no interface."""
     times = (query_interval, query_response_interval, last_member_query_interval)
     whole = [number(value, 32, name) for value, (name, _) in zip((limit, robustness, *times), Settings._fields_)]
     given = array(ToldInterface, [interface_of(row) for row in interfaces])
-    return Settings(*whole, bool(stays_on_shared_tree)), *given, *routes_of(routes), *ranges_of(ranges)
+    own = array(c_uint32, [address(text) for text in addresses])
+    return Settings(*whole, bool(stays_on_shared_tree), *own), *given, *routes_of(routes), *ranges_of(ranges)
 
 
 def bytes_of(packet: Buffer) -> bytes:
@@ -534,9 +540,9 @@ class Router:
     ) -> None:
         """The settings, each by its name, are those of `configuration`, with their usual values."""
         self._begin(library)
-        first, *lists = configuration(interfaces, ranges, routes, **settings)
+        values = configuration(interfaces, ranges, routes, **settings)
         made = c_void_p()
-        self._must(self._library.viq_new(byref(made), ABI, byref(first), *lists), lists)
+        self._must(self._library.viq_new(byref(made), ABI, byref(values[0]), *values[1:]), values)
         self._keep(made)
 
     def reload(
@@ -555,7 +561,7 @@ class Router:
         changes nothing, where a new router would be refused."""
         bits = random.getrandbits(32) if draw is None else number(draw, 32, "a draw")
         values = configuration(interfaces, ranges, routes, **settings)
-        self._must(self._recorded("reload", bits, values, Draw(bits)), values[1:])
+        self._must(self._recorded("reload", bits, values, Draw(bits)), values)
 
     @classmethod
     def restore(cls, saved: Buffer, *, library: str | os.PathLike[str] | None = None) -> Self:
@@ -585,22 +591,28 @@ class Router:
     def __exit__(self, *_: object) -> None:
         self.end()
 
-    def _raise(self, answer: Answer, lists: Sequence[Any] = ()) -> None:
+    def _raise(self, answer: Answer, given: Sequence[Any] = ()) -> None:
         text = self._library.viq_answer_text(answer).decode()
-        raise RAISED.get(answer, Refused)(answer, text + self._item(answer, lists))
+        raise RAISED.get(answer, Refused)(answer, text + self._item(answer, given))
 
-    def _item(self, answer: Answer, lists: Sequence[Any]) -> str:
+    def _item(self, answer: Answer, given: Sequence[Any]) -> str:
         """Which route or range of a configuration is refused, and why, as more of a text."""
         told, library = RefusedAt(), self._library
+
+        def is_route_found() -> bool:
+            settings, *lists = given
+            own = (settings.addresses, settings.address_count)
+            return library.viq_routes_refused_at(*lists[:2], *own, *lists[2:4], byref(told))
+
         is_found = {
-            Answer.CONFIGURED_ROUTES: lambda: library.viq_routes_refused_at(*lists[:4], byref(told)),
-            Answer.CONFIGURED_RANGES: lambda: library.viq_ranges_refused_at(*lists[4:], byref(told)),
+            Answer.CONFIGURED_ROUTES: is_route_found,
+            Answer.CONFIGURED_RANGES: lambda: library.viq_ranges_refused_at(*given[5:], byref(told)),
         }.get(answer, lambda: False)
         return f": number {told.index}, {library.viq_refused_text(told.reason).decode()}" if is_found() else ""
 
-    def _must(self, answer: int, lists: Sequence[Any] = ()) -> None:
+    def _must(self, answer: int, given: Sequence[Any] = ()) -> None:
         if answer:
-            self._raise(Answer(answer), lists)
+            self._raise(Answer(answer), given)
 
     def _call(self, name: str, *values: Any) -> Any:
         with self.lock:

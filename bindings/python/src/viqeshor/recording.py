@@ -13,16 +13,16 @@ import os
 import struct
 import zlib
 from contextlib import suppress
-from ctypes import CDLL, byref, c_size_t, create_string_buffer
+from ctypes import CDLL, Structure, byref, c_size_t, c_uint32, create_string_buffer
 from io import FileIO
 from itertools import accumulate
 from operator import mul
 from pathlib import Path
 from typing import Any, BinaryIO, NamedTuple, Self
 
-from . import Answer, Draw, Error, GivenCall, Router, Settings, ToldInterface, ToldRange, ToldRoute
+from . import Answer, Draw, Error, GivenCall, Router, Settings, ToldInterface, ToldRange, ToldRoute, array
 
-MAGIC, VERSION = b"VQRC", 3
+MAGIC, VERSION = b"VQRC", 4
 # Of each kind of record: its letter, and the numbers that it has behind its draw. Bytes and lists follow these.
 KINDS: dict[str, tuple[str, tuple[str, ...]]] = {
     "advance": ("a", ("moment",)),
@@ -42,9 +42,17 @@ NAMES = {letter: name for name, (letter, _) in KINDS.items()}
 # These are no events: they have no draw, and send nothing.
 QUIET = ("keep", "older", "query_version")
 LISTS: dict[str, Any] = {"routes": ToldRoute, "ranges": ToldRange}
+
+
+class ToldAddress(Structure):
+    _fields_ = [("bits", c_uint32)]
+
+
 # The settings of a reload in their order, and what follows them: so many of each as its numbers say.
-SETTINGS = [name for name, *_ in Settings._fields_]
-PARTS: tuple[Any, ...] = (ToldInterface, ToldRoute, ToldRange)
+SETTINGS = [name for name, *_ in Settings._fields_ if name not in ("addresses", "address_count")]
+PARTS: tuple[Any, ...] = (ToldInterface, ToldAddress, ToldRoute, ToldRange)
+# Before version 4 there were no addresses of no interface.
+OLDER_PARTS: tuple[Any, ...] = (ToldInterface, ToldRoute, ToldRange)
 KIND_BYTES = {"frame": b"f", "copy": b"c", "unicast": b"u"}
 
 
@@ -251,7 +259,7 @@ class _Reader:
         return struct.unpack(f">{form}", self.bytes(struct.calcsize(f">{form}")))
 
     def check(self) -> None:
-        """What was read is followed by its sum, in version 3."""
+        """What was read is followed by its sum, from version 3 on."""
         wanted = self.sum
         if self.version > 2 and self.numbers("I") != (wanted,):
             raise Unreadable("the recording is damaged")
@@ -289,7 +297,7 @@ class _Reader:
             limit, stays, *times = self.numbers("IBIIII")
             if stays > 1:
                 raise Unreadable(f"no setting of the shared tree is {stays}")
-            counts, lists = zip(*map(self.list, PARTS))
+            counts, lists = zip(*map(self.list_before, PARTS) if self.version < 4 else map(self.list, PARTS))
             return draw, counts, struct.pack(">6I", limit, *times, stays) + b"".join(lists)
         return draw, numbers, b""
 
@@ -298,13 +306,19 @@ class _Reader:
         count, = self.numbers("Q")
         return count, self.bytes(count * 4 * len(kind._fields_))
 
+    def list_before(self, kind: Any) -> tuple[int, bytes]:
+        """The same before version 4, which has no addresses of no interface."""
+        return self.list(kind) if kind in OLDER_PARTS else (0, b"")
+
     def given_version_1(self, name: str) -> tuple[int, tuple[int, ...], bytes]:
         draw, *numbers, length = self.numbers(f"I{'III' if name == 'reload' else form_of(name)}I")
-        widths = [4 * len(kind._fields_) for kind in PARTS]
+        widths = [4 * len(kind._fields_) for kind in OLDER_PARTS]
         if name in LISTS and length % (4 * len(LISTS[name]._fields_)):
             raise Unreadable("a list isn't whole")
-        if name == "reload" and length != 4 * len(SETTINGS) + sum(map(mul, numbers, widths)):
-            raise Unreadable("a configuration isn't whole")
+        if name == "reload":
+            if length != 4 * len(SETTINGS) + sum(map(mul, numbers, widths)):
+                raise Unreadable("a configuration isn't whole")
+            numbers[1:1] = [0]
         return draw, tuple(numbers), self.bytes(length)
 
 
@@ -352,7 +366,7 @@ def list_of(kind: Any, data: bytes) -> tuple[Any, int]:
 
 
 def parts_of(record: Record) -> tuple[bytes, ...]:
-    """The settings of a reload, and its three lists, as bytes."""
+    """The settings of a reload, and its four lists, as bytes."""
     widths = [4 * len(SETTINGS), *(count * 4 * len(kind._fields_) for count, kind in zip(record.numbers, PARTS))]
     if len(record.data) != sum(widths):
         raise Unreadable("a configuration isn't whole")
@@ -362,10 +376,11 @@ def parts_of(record: Record) -> tuple[bytes, ...]:
 
 def configuration_of(record: Record) -> tuple[Any, ...]:
     """The configuration of a reload as C takes it."""
-    first, *lists = parts_of(record)
+    first, interfaces, addresses, *lists = parts_of(record)
     settings = struct.unpack(f">{len(SETTINGS)}I", first)
-    given = (list_of(kind, data) for kind, data in zip(PARTS, lists))
-    return Settings(*settings), *(value for pair in given for value in pair)
+    own = struct.unpack(f">{len(addresses) // 4}I", addresses)
+    given = (list_of(kind, data) for kind, data in zip(OLDER_PARTS, (interfaces, *lists)))
+    return Settings(*settings, *array(c_uint32, list(own))), *(value for pair in given for value in pair)
 
 
 def values_of(record: Record) -> tuple[Any, ...]:

@@ -68,6 +68,7 @@ fn router_in<'a>(
             "older_hosts",
             "query_version",
             "guard",
+            "addresses",
             "routes",
             "rps",
         ],
@@ -139,6 +140,7 @@ pub(super) fn config_in(
             "lmqi",
             Config::DEFAULT_LAST_MEMBER_QUERY_INTERVAL,
         )?,
+        addresses: routes::addresses_in(alloc, field::list_or_empty(table, "addresses")?)?,
         routes: routes::routes_in(alloc, field::list_or_empty(table, "routes")?)?,
         rps: routes::rps_in(alloc, field::list_or_empty(table, "rps")?)?,
     })

@@ -1,14 +1,25 @@
-//! Routes and RP ranges: the texts of the lists `routes` and `rps`.
+//! Own addresses, routes and RP ranges: the texts of the lists `addresses`, `routes` and `rps`.
 ghost use Rattle.std.specs.Prelude.{map};
 ghost use Rattle.std.specs.List.{AllZip};
 ghost use Rattle.toml.specs.View.{view};
-ghost use Rattle.pim_scenario.specs.Scenario.{AreRouteWords, AreRpWords, IsText};
+ghost use Rattle.pim_scenario.specs.Scenario.{AreRouteWords, AreRpWords, IsText, WritesAddress};
 ghost use Rattle.pim_scenario.specs.Texts.{ReadsExactly};
 
 use super::{Unread, address, field, words};
-use pim_types::{IfaceId, Route, RpRange, Series};
+use pim_types::{Addr, IfaceId, Route, RpRange, Series};
 use std::alloc::Global;
 use toml::Value;
+
+/// The addresses that texts write.
+pub(super) fn addresses_in(alloc: Global, texts: &[Value]) -> Result<Series<Addr>, Unread>
+    ensures { ReadsExactly (AllZip WritesAddress (map view texts.now)) result }
+{
+    let mut addresses = Series::new(alloc);
+    for text in texts {
+        addresses.push(address::read_address(field::text_of(text)?)?)?;
+    }
+    Ok(addresses)
+}
 
 /// The routes that texts write.
 pub(super) fn routes_in(alloc: Global, texts: &[Value]) -> Result<Series<Route>, Unread>

@@ -283,6 +283,7 @@ fn state(alloc: Global) -> Result<SavedState, AllocError> {
     let records = records(alloc)?;
     let trees = trees(alloc)?;
     Ok(SavedState {
+        addresses: Vec::new(alloc),
         ground,
         links,
         records,
@@ -402,5 +403,39 @@ fn each_front_is_refused(rt: HostRuntime) -> Result<(), Fail> {
                 || is_refused(alloc, &bytes, SavedRefusal::OutOfRange)
         );
     }
+    Ok(())
+}
+
+// The state with these own addresses of no interface, in version 3: their number, each in four bytes, and the rest.
+fn with_addresses(alloc: Global, addresses: &[u8]) -> Result<Vec<u8>, Fail> {
+    let mut front = Vec::new(alloc);
+    front.extend_from_slice(&STATE[..5])?;
+    front.extend_from_slice(&[3, 0, 0, 0, 0, 0, 0, 0])?;
+    front.push((addresses.len() / 4) as u8)?;
+    front.extend_from_slice(addresses)?;
+    front.extend_from_slice(&STATE[6..SUM])?;
+    summed(alloc, &front)
+}
+
+#[test]
+fn own_addresses_make_version_3(rt: HostRuntime) -> Result<(), Fail> {
+    let alloc = rt.alloc();
+    let expected = with_addresses(alloc, &[10, 255, 1, 1, 10, 255, 1, 2])?;
+    let mut state = state(alloc)?;
+    state.addresses.push(Addr { bits: 0x0AFF_0101 })?;
+    state.addresses.push(Addr { bits: 0x0AFF_0102 })?;
+    let mut bytes = Vec::new(alloc);
+    write_state(&state, &mut bytes)?;
+    assert_eq!(rt; bytes.as_slice(), expected.as_slice());
+    let again = read_state(alloc, &expected).ok().ok_or("it is read")?;
+    assert!(rt; again.addresses.as_slice() == state.addresses.as_slice());
+    Ok(())
+}
+
+#[test]
+fn version_3_without_addresses_is_refused(rt: HostRuntime) -> Result<(), Fail> {
+    let alloc = rt.alloc();
+    let bytes = with_addresses(alloc, &[])?;
+    refuses(&rt, alloc, &bytes, SavedRefusal::OutOfRange);
     Ok(())
 }

@@ -84,7 +84,7 @@ fn another_address_is_told_at_once_and_the_old_one_is_left() {
     takes(&mut daemon, &TWO.replace("\"eth1\"\n", "\"eth1\"\naddress = \"10.5.9.1/24\"\n"));
     let found: Vec<_> = hellos(&fake, ETH1).into_iter().map(|(from, _, holdtime)| (from, holdtime)).collect();
     assert_eq!(found[..2], [([10, 5, 0, 1].into(), 0), ([10, 5, 9, 1].into(), 105)]);
-    assert!(daemon.ports[1].standing.is_up() && daemon.ports[1].subnet == Some(other));
+    assert!(daemon.ports[1].standing.is_up() && daemon.ports[1].own.subnet == Some(other));
     assert_eq!((daemon.counters.reloaded, daemon.counters.made_anew), (1, 0));
     // The source isn't on the link any more.
     assert_ne!(fake.entry(stream), FLOWS);
@@ -110,12 +110,12 @@ fn it_is_recorded() {
     daemon.core.flush_record();
     let files = std::fs::read_dir(&folder).expect("it is there").filter_map(Result::ok);
     let written = files.filter_map(|file| std::fs::read(file.path()).ok()).max_by_key(Vec::len).expect("one is there");
-    // A record of a reload behind its draw (docs/LIBRARY.md, "A recording"): the settings, two interfaces, one route and
-    // two ranges, as docs/SAVED.md has them, and the answer.
+    // A record of a reload behind its draw (docs/LIBRARY.md, "A recording"): the settings, two interfaces, no address of
+    // none, one route and two ranges, as docs/SAVED.md has them, and the answer.
     let words = |numbers: &[u32]| numbers.iter().flat_map(|number| number.to_be_bytes()).collect::<Vec<_>>();
     let mut wanted = [words(&[1000]), vec![0], words(&[2, 125, 100, 10])].concat();
     wanted.extend(words(&[0, 2, 0x0a01_0001, 24, 1, 500, 2500, 0x0a05_0001, 24, 1, 500, 2500]));
-    wanted.extend(words(&[0, 1, 0x0a09_0000, 16, 0x0a01_0002, 0, 110, 1]));
+    wanted.extend(words(&[0, 0, 0, 1, 0x0a09_0000, 16, 0x0a01_0002, 0, 110, 1]));
     wanted.extend(words(&[0, 2, 0xef01_0000, 16, 0x0a01_0001, 0xef02_0000, 16, 0x0a09_0001, 0]));
     assert!(written.windows(wanted.len()).any(|it| it == wanted));
     std::fs::remove_dir_all(&folder).expect("it is there");

@@ -31,6 +31,7 @@ REFUSALS = {
     37: "ConfiguredRoutes",
     38: "ConfiguredRps",
     39: "BadScenario",
+    70: "OwnAddresses",
 }
 # The numbers of reasons to ignore.
 IGNORED = {

@@ -1,7 +1,7 @@
 """What is wrong with a scenario file: every fault with its line, and the number with which `pimlab` refuses it.
 
-The rules are those of docs/SCENARIOS.md. 39 is anything that keeps the file from being read as a scenario; 30 to 38 are
-the tests of a router's configuration, in this order, of one router after the other.
+The rules are those of docs/SCENARIOS.md. 39 is anything that keeps the file from being read as a scenario; 30 to 38 and
+70 are the tests of a router's configuration, in this order, of one router after the other.
 """
 import re
 import sys
@@ -15,10 +15,11 @@ from viqeshor.lab import toml_lines
 from viqeshor.lab.addresses import BELOW, address_in, dotted, is_group, is_host, mask, number_in, prefix_in, words_in
 from viqeshor.lab.facts import DELAYS, SETTINGS, USUAL
 
-MOST_ROUTERS, MOST_IFACES, MOST_ROUTES, MOST_RPS = 64, 120, 100_000, 256
+MOST_ROUTERS, MOST_IFACES, MOST_ROUTES, MOST_RPS, MOST_ADDRESSES = 64, 120, 100_000, 256, 16
 
 CONFIG_KEYS = [
-    "iface", "limit", "spt", "rv", "qi", "qri", "lmqi", "older_hosts", "query_version", "guard", "routes", "rps"
+    "iface", "limit", "spt", "rv", "qi", "qri", "lmqi", "older_hosts", "query_version", "guard", "addresses", "routes",
+    "rps",
 ]
 ROUTER_KEYS = ["name", *CONFIG_KEYS]
 IFACE_KEYS = ["link", "address", "priority", "propagation", "override"]
@@ -38,6 +39,7 @@ MOVE_KEYS = {
 }
 ROUTE_FORM = '"PREFIX NEXTHOP IFACE PREFERENCE METRIC", as "10.1.0.0/24 10.0.0.1 0 110 20"'
 RP_FORM = '"PREFIX RP", as "239.0.0.0/8 10.0.0.1"'
+ADDRESS_FORM = '"ADDRESS", as "10.255.0.1"'
 FORMS = {
     "name": 'a text, as name = "edge"',
     "iface of a router": 'a list of interfaces, as iface = [{ link = "lan", address = "10.0.0.1/24" }]',
@@ -51,6 +53,7 @@ FORMS = {
     "hex": "an IPv4 packet in hexadecimal, two digits a byte and no blanks",
     "draw": "a whole number from 0",
     "config": "a table with the keys of a router but its name",
+    "list of addresses": f"a list of the router's own addresses of no interface, each {ADDRESS_FORM}",
     "list of routes": f"a list of routes, each {ROUTE_FORM}",
     "list of rps": f"a list of RP ranges, each {RP_FORM}",
 }
@@ -85,6 +88,13 @@ class Route:
     next_hop: int
     iface: int = 0
     preference: int = 0
+
+
+@dataclass(frozen=True)
+class Own:
+    """An own address of no interface."""
+    line: int
+    address: int
 
 
 # ---- words
@@ -234,6 +244,7 @@ class Judge:
         version = table.get("query_version")
         if version is not None and self.number(table, "query_version", 3, where) not in (2, 3, None):
             self.fault(version.line, where, f"`query_version` is {found(version)}, and wanted is 2 or 3")
+        made["addresses"] = self.texts(table, "addresses", where, self.own, FORMS["list of addresses"], False)
         made["routes"] = self.texts(table, "routes", where, self.route, FORMS["list of routes"], False)
         made["rps"] = self.texts(table, "rps", where, self.rp, FORMS["list of rps"], False)
         return made
@@ -277,10 +288,10 @@ class Judge:
         table: toml_lines.Value,
         key: str,
         where: str,
-        read: Callable[[list[str], toml_lines.Value, str], Route | None],
+        read: Callable[[list[str], toml_lines.Value, str], Route | Own | None],
         form: str,
         must: bool,
-    ) -> list[Route]:
+    ) -> list[Any]:
         """The texts of a list, each read by `read`."""
         value = table.get(key)
         if value is None and not must:
@@ -300,6 +311,13 @@ class Judge:
         for word, name in zip(words, names):
             if number_in(word) is None:
                 self.fault(inner.line, place, f'"{inner.held}": the {name} `{word}` is no whole number below 2^32')
+
+    def own(self, _: list[str], inner: toml_lines.Value, place: str) -> Own | None:
+        address = address_in(inner.held)
+        if address is None:
+            more = "write it without a length" if prefix_in(inner.held) is not None else why_no_address(inner.held)
+            return self.fault(inner.line, place, f'"{inner.held}" is no address: {more}')
+        return Own(inner.line, address)
 
     def route(self, words: list[str], inner: toml_lines.Value, place: str) -> Route | None:
         if len(words) != 5:
@@ -401,12 +419,12 @@ class Judge:
             self.fault(table.get("hex").line, where, f"`hex` has {len(text)} digits, which is odd: each byte has two")
 
 
-# ---- a router's configuration: refusals 30 to 38
+# ---- a router's configuration: refusals 30 to 38, and 70
 
 
-def route_fault(route: Route, ifaces: list[Iface]) -> str | None:
+def route_fault(route: Route, router: dict[str, Any]) -> str | None:
     """Why a route is refused, or None."""
-    prefix = f"{dotted(route.address)}/{route.length}"
+    ifaces, prefix = router["ifaces"], f"{dotted(route.address)}/{route.length}"
     if route.length > 32:
         return f"the prefix length of {prefix} is above 32"
     if route.address & ~mask(route.length) & (BELOW - 1):
@@ -415,7 +433,7 @@ def route_fault(route: Route, ifaces: list[Iface]) -> str | None:
         return f"there is no interface {route.iface}: the router has {len(ifaces)}, counted from 0"
     if not is_host(route.next_hop):
         return f"the next hop {dotted(route.next_hop)} is no host's address"
-    if route.next_hop in [iface.address for iface in ifaces]:
+    if route.next_hop in [own.address for own in (*ifaces, *router["addresses"])]:
         return f"the next hop {dotted(route.next_hop)} is an address of the router itself"
     return f"the preference {route.preference} is above 2147483646" if route.preference > 0x7FFF_FFFE else None
 
@@ -463,7 +481,8 @@ def iface_faults(router: dict[str, Any]) -> Iterator[tuple[int, int, str, str]]:
             why = f"{dotted(iface.address)} is no host's address: 0.0.0.0, or 224.0.0.0 and above"
             yield 31, iface.line, place, why
         if not 1 <= iface.length <= 31:
-            way = f"; write {dotted(iface.address)}/31 for an address alone" if iface.length == 32 else ""
+            way = f"; an address alone, as a loopback's, is one of `addresses`: \"{dotted(iface.address)}\""
+            way = way if iface.length == 32 else ""
             yield 32, iface.line, place, f"the prefix length of {shown} isn't supported: 1 to 31 are{way}"
         for before, other in enumerate(ifaces[:at]):
             if 1 <= iface.length <= 31 and 1 <= other.length <= 31 and overlaps(iface, other):
@@ -472,6 +491,29 @@ def iface_faults(router: dict[str, Any]) -> Iterator[tuple[int, int, str, str]]:
         for key, (value, line), most in zip(DELAYS, iface.delays, (32767, 65535)):
             if value > most:
                 yield 36, line, place, f"`{key}` is {value} ms, and at most {most} is allowed"
+
+
+def own_faults(router: dict[str, Any]) -> Iterator[tuple[int, str]]:
+    """What is wrong with own addresses of no interface, as (line, text)."""
+    own, lines = router["addresses"], {}
+    if len(own) > MOST_ADDRESSES:
+        yield own[MOST_ADDRESSES].line, f"there are {len(own)}, and at most {MOST_ADDRESSES} are allowed"
+    for each in own:
+        shown, near = dotted(each.address), next((it for it in router["ifaces"] if is_in(each.address, it)), None)
+        if not is_host(each.address):
+            yield each.line, f"{shown} is no host's address: 0.0.0.0, or 224.0.0.0 and above"
+        elif near is not None and near.address == each.address:
+            yield each.line, f"{shown} is the address of an interface, in line {near.line}, and is the router's by that"
+        elif near is not None:
+            prefix = f"{dotted(near.address & mask(near.length))}/{near.length}"
+            yield each.line, f"{shown} is in {prefix}, the subnet of an interface, in line {near.line}"
+        if each.address in lines:
+            yield each.line, f"{shown} stands twice: in line {lines[each.address]} already"
+        lines.setdefault(each.address, each.line)
+
+
+def is_in(address: int, iface: Iface) -> bool:
+    return (address ^ iface.address) & mask(iface.length) == 0
 
 
 def value_faults(router: dict[str, Any]) -> Iterator[tuple[int, int, str, str]]:
@@ -489,13 +531,15 @@ def value_faults(router: dict[str, Any]) -> Iterator[tuple[int, int, str, str]]:
 
 
 def configuration_faults(router: dict[str, Any]) -> Iterator[tuple[int, int, str, str]]:
-    where, ifaces = router["where"], router["ifaces"]
+    where = router["where"]
     yield from iface_faults(router)
     yield from value_faults(router)
-    for line, what in list_faults(router["routes"], MOST_ROUTES, lambda route: route_fault(route, ifaces)):
+    for line, what in list_faults(router["routes"], MOST_ROUTES, lambda route: route_fault(route, router)):
         yield 37, line, f"{where}, `routes`", what
     for line, what in list_faults(router["rps"], MOST_RPS, rp_fault):
         yield 38, line, f"{where}, `rps`", what
+    for line, what in own_faults(router):
+        yield 70, line, f"{where}, `addresses`", what
 
 
 # ---- the whole

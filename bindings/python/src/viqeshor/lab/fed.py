@@ -32,7 +32,7 @@ def interfaces(table: dict[str, Any]) -> Iterator[tuple[str, int, int, int, int]
 
 def settings(table: dict[str, Any]) -> dict[str, Any]:
     given = {name: table.get(key, USUAL[key]) for key, name in SETTINGS.items()}
-    return given | {"stays_on_shared_tree": table.get("spt") == "never"}
+    return given | {"stays_on_shared_tree": table.get("spt") == "never", "addresses": table.get("addresses", [])}
 
 
 def routes(texts: Iterable[str]) -> Iterator[tuple[str | int, ...]]:

@@ -202,7 +202,7 @@ class Network:
 
     def owner(self, address: str) -> Router:
         """The router that has an address."""
-        return next(router for router in self.routers.values() for port in router.ports if port.address == address)
+        return next(router for router in self.routers.values() if router.has(address))
 
     def written(self, router: Router) -> dict[str, Any]:
         """A router's table in the scenario file."""

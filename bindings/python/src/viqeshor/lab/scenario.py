@@ -34,12 +34,13 @@ class Interface:
 @dataclass
 class Router:
     """`table` is the router's table in the file. The interfaces are those of the table, by their numbers, and then
-    those that moves `reload` add."""
+    those that moves `reload` add; so are `addresses`, its own of no interface."""
     name: str
     interfaces: list
     table: dict
     routes: list = field(default_factory=list)
     rps: list = field(default_factory=list)
+    addresses: list = field(default_factory=list)
 
     def on(self, link: str) -> list[Interface]:
         """Its interfaces on a link."""
@@ -52,8 +53,12 @@ class Router:
     def address(self, number: int) -> str | None:
         return None if number >= len(self.interfaces) else self.interfaces[number].address
 
+    def where(self, address: str) -> str:
+        """Where it has an address, in words."""
+        return next((f"on {each.link}" for each in self.interfaces if each.address == address), "on no link")
+
     def has(self, address: str | None) -> bool:
-        return any(interface.address == address for interface in self.interfaces)
+        return address in self.addresses or any(interface.address == address for interface in self.interfaces)
 
 
 @dataclass
@@ -89,8 +94,8 @@ class Scenario:
         """The first router that has each address."""
         found = {}
         for router in self.routers:
-            for interface in router.interfaces:
-                found.setdefault(interface.address, router.name)
+            for address in (*(interface.address for interface in router.interfaces), *router.addresses):
+                found.setdefault(address, router.name)
         return found
 
     def router(self, name: str) -> Router:
@@ -130,14 +135,15 @@ def later_interfaces(config: dict[str, Any]) -> list[Interface]:
 
 def router_of(table: dict[str, Any]) -> Router:
     lists = routes_of(table.get("routes", [])), ranges_of(table.get("rps", []))
-    return Router(table["name"], interfaces_of(table), table, *lists)
+    return Router(table["name"], interfaces_of(table), table, *lists, list(table.get("addresses", [])))
 
 
 def add_interfaces(router: Router, moves: list[dict[str, Any]]) -> None:
-    """Gives a router the interfaces that moves add."""
+    """Gives a router the interfaces and addresses that moves add."""
     for did in moves:
         if did["do"] == "reload" and did["router"] == router.name:
             router.interfaces += later_interfaces(did["config"])[len(router.interfaces):]
+            router.addresses += [each for each in did["config"].get("addresses", []) if each not in router.addresses]
 
 
 def scenario_of(tables: dict[str, Any]) -> Scenario:

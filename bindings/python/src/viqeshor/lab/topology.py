@@ -52,6 +52,9 @@ class Router:
             raise Mistake(f"{self.name} is not on the link {link.name}")
         return found
 
+    def has(self, address: str) -> bool:
+        return address in self.options.get("addresses", ()) or any(port.address == address for port in self.ports)
+
     def rows(self, kind: type[R] | str, **values: object) -> list[R]:
         """The rows of a table, as of the end of the last `run`, that have these values: a class as `Neighbour`, or its
         letter, as "N"."""
@@ -221,17 +224,22 @@ def onwards(router: Router, way: Way) -> Iterator[tuple[Router, Way]]:
 
 
 def routes(origin: Router) -> list[str]:
-    """A router's routes as the scenario file has them: to each link that isn't its own. None leads to an address of
-    itself."""
-    best = {}
+    """A router's routes as the scenario file has them: to each link that isn't its own, and to each address of another
+    router that is on no link. None leads to an address of itself."""
+    best, apart = {}, []
     for router, way in ways(origin).items():
+        if way.links:
+            apart += [(f"{address}/32", way, way.distance) for address in router.options.get("addresses", ())]
         for port in router.ports:
             metric = way.distance + port.link.cost
             if way.links and port.is_up() and metric < best.get(port.link, (way, metric + 1))[1]:
                 best[port.link] = way, metric
     own, addresses = {port.link for port in origin.ports}, {port.address for port in origin.ports}
+    links = sorted(best.items(), key=lambda pair: pair[0].order)
+    rows = [(link.prefix, *found) for link, found in links if link not in own]
+    rows += sorted(apart, key=lambda row: row[0])
     return [
-        f"{link.prefix} {way.hop} {way.port.number} {PREFERENCE} {metric}"
-        for link, (way, metric) in sorted(best.items(), key=lambda pair: pair[0].order)
-        if link not in own and way.hop not in addresses
+        f"{prefix} {way.hop} {way.port.number} {PREFERENCE} {metric}"
+        for prefix, way, metric in rows
+        if way.hop not in addresses
     ]

@@ -5,6 +5,7 @@ from collections.abc import Iterable
 from typing import TYPE_CHECKING, Any
 
 from viqeshor.lab import packets, printed
+from viqeshor.lab.facts import REFUSALS
 from viqeshor.lab.older import older_of
 from viqeshor.lab.packets import RECORD_KINDS, Refused
 
@@ -12,14 +13,6 @@ if TYPE_CHECKING:
     from viqeshor.lab.scenario import Router, Scenario
     from viqeshor.lab.story import Sent, Step
 
-REFUSALS = {
-    1: "Short", 2: "BadVersion", 3: "BadChecksum", 4: "BadLength", 5: "BadAddress", 6: "NotMulticast", 7: "OldVersion",
-    8: "UnknownType", 9: "Fragment", 20: "MomentBack", 21: "MomentFar", 22: "NoInterface", 23: "InterfaceDown",
-        24: "Full",
-    25: "BadRoutes", 26: "BadRps", 27: "BadMove", 30: "InterfaceCount", 31: "InterfaceAddress", 32: "InterfaceLength",
-    33: "Overlap", 34: "BadLimit", 35: "BadQuerier", 36: "BadDelay", 37: "ConfiguredRoutes", 38: "ConfiguredRps",
-    39: "BadScenario",
-}
 PIM_KINDS = {4: "Bootstrap", 6: "Graft", 7: "Graft-Ack", 8: "Candidate-RP-Advertisement"}
 PROTOCOLS = {1: "ICMP", 2: "IGMP", 6: "TCP", 17: "UDP", 103: "PIM"}
 NO_GROUP = "0.0.0.0"

@@ -7,7 +7,7 @@ pub returns-clause-copies : goal.returns-clause-copies
 returns-clause-copies c =
     let s = c.args.world.now in
     let counted : c.count-count.result ≡ iface_count s =
-    c.count-count.ensures.count ∙ ap (λ (t : InterfaceTable). length t.configured) c.interfaces.ensures in
+    c.count-count.ensures.count ∙ ap (λ (t : InterfaceTable). length t.configured.interfaces) c.interfaces.ensures in
     all_copied s c.args.packet.now c.args.list c.without_tunnel-list.result c.members.result
     (λ test shown. c.members.ensures s test counted shown)
     (λ copies. copies.items) c.copies_on.result c.leaves.result c.leaves.ensures c.if-not-leaves.false
@@ -17,7 +17,7 @@ pub returns-clause-limit : goal.returns-clause-limit
 returns-clause-limit c =
     let s = c.args.world.now in
     let counted : c.count-count.result ≡ iface_count s =
-    c.count-count.ensures.count ∙ ap (λ (t : InterfaceTable). length t.configured) c.interfaces.ensures in
+    c.count-count.ensures.count ∙ ap (λ (t : InterfaceTable). length t.configured.interfaces) c.interfaces.ensures in
     copies_few s c.args.packet.now c.args.list c.without_tunnel-list.result c.members.result
     (λ test shown. c.members.ensures s test counted shown)
     (λ copies. copies.items) c.copies_on.result

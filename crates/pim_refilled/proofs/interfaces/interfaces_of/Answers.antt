@@ -10,5 +10,5 @@ with_rows t rows = record t { rows = rows }
 pub returns-clause-made : goal.returns-clause-made
 returns-clause-made c = λ rise.
     c.in_ok-put_ups.ensures.put c.if-not-branch.false
-    ∙ ap (λ (t : InterfaceTable). with_rows t (refilled t.rows c.args.rows.now)) c.new-interfaces.ensures
-    ∙ ap (with_rows (record { configured = c.args.configured.now; rows = c.args.rows.now })) (filled c.args.rows.now rise)
+    ∙ ap (λ (t : InterfaceTable). with_rows t (refilled t.rows c.args.rows.now)) c.in_ok-interfaces.ensures
+    ∙ ap (with_rows (record { configured = record { interfaces = c.args.configured.now; addresses = c.args.addresses.now }; rows = c.args.rows.now })) (filled c.args.rows.now rise)

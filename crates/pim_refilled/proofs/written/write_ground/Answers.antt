@@ -6,7 +6,7 @@ pub returns-clause-ok : goal.returns-clause-ok
 unfolding ground_text
 returns-clause-ok c =
     five_parts c.args.out.now.items (settings_text c.args.world.now.settings)
-    (list_text interface_text c.args.world.now.configured) (moment_text c.args.world.now.present)
+    (list_text interface_text c.args.world.now.configured.interfaces) (moment_text c.args.world.now.present)
     (list_text route_text c.args.world.now.routes) (list_text range_text c.args.world.now.ranges)
     c.write.new.out.items c.write_list.new.out.items c.write-2.new.out.items c.write_list-2.new.out.items
     c.write_list-3.new.out.items (rw c.settings.ensures.value at c.in_ok-write.ensures.ok)

@@ -21,7 +21,7 @@ invariant_of-self c = (changed c).held
 pub returns-clause-ok : goal.returns-clause-ok
 returns-clause-ok c =
     rw (← c.self.view_is)
-    (with_rows c.self.inside.configured _ c.change.result c.change.new.self _ (changed c).ok)
+    (with_rows _ _ c.change.result c.change.new.self _ (changed c).ok)
 
 pub returns-in_default : goal.returns-in_default
 returns-in_default c =
@@ -30,7 +30,6 @@ returns-in_default c =
     rw (← c.self.view_is)
     (record {
       err = tt;
-      ok = ap (λ (rows : Table InterfaceRow). let t : InterfaceTable = record
-          { configured = c.self.inside.configured; rows = rows } in t)
+      ok = ap (λ (rows : Table InterfaceRow). let t : InterfaceTable = record { configured = record { interfaces = c.self.inside.configured; addresses = c.self.inside.addresses.items }; rows = rows } in t)
           (paid_missing _ c.args.iface.number c.self.inside.rows c.self.invariant missing);
     })

@@ -16,5 +16,4 @@ invariant_of-self c = (changed c).held
 pub returns : goal.returns
 returns c =
     rw (← c.self.view_is)
-    (ap (λ (rows : Table InterfaceRow). let t : InterfaceTable = record
-    { configured = c.self.inside.configured; rows = rows } in t) (changed c).same)
+    (ap (λ (rows : Table InterfaceRow). let t : InterfaceTable = record { configured = record { interfaces = c.self.inside.configured; addresses = c.self.inside.addresses.items }; rows = rows } in t) (changed c).same)

@@ -14,7 +14,7 @@ returns-clause-sight c =
     let rows = ap (λ (f : PimTables). f.downstream) c.store.ensures in
     let asserts = ap (λ (f : PimTables). f.asserts) c.store.ensures in
     let count : c.count.result ≡ iface_count s =
-    c.count.ensures.count ∙ ap (λ (t : InterfaceTable). length t.configured) c.interfaces.ensures in
+    c.count.ensures.count ∙ ap (λ (t : InterfaceTable). length t.configured.interfaces) c.interfaces.ensures in
     let few : iface_count s ≤ 120 = omega (arith, count, c.count.ensures.within) in
     record {
       rp = search rules;

@@ -4,5 +4,5 @@ use Rattle.pim_state.proofs.world.World.reconfigure.Goals as goal
 
 pub reconfigure-requires : goal.reconfigure-requires
 reconfigure-requires c =
-    (λ j. list_all (λ e. nat_lt (iface_in e.0) (length (c.other.view_is j).configured)) (c.self.view_is j).interfaces)
+    (λ j. list_all (λ e. nat_lt (iface_in e.0) (length (c.other.view_is j).configured.interfaces)) (c.self.view_is j).interfaces)
     ∙ c.requires.below

@@ -1,7 +1,6 @@
 use Rattle.std.{proofs.Common.{◌≡◌, ◌≤◌, ◌^◌, List, Ok, Err, OnOk, Result, ap, subst, sym, ◌∙◌}}
 use Rattle.pim_ip.{specs.declared.fault.Fault.Fault}
-use Rattle.pim_types.{specs.declared.config.InterfaceConfig.InterfaceConfig}
-use Rattle.pim_model.{specs.{Messages.Message, State.{InterfaceTable, State, interfaces_of}, Writing.{all_written, write_all}}}
+use Rattle.pim_model.{specs.{Messages.Message, State.{Addressing, InterfaceTable, State, interfaces_of}, Writing.{all_written, write_all}}}
 use Rattle.pim_state.{specs.{contracts.world.World.the_view, Shown.{Shows, is_dr_on}}, proofs.Written.keeps_configured}
 use Rattle.pim_state.proofs.world.World.write.Goals as goal
 
@@ -14,7 +13,7 @@ unfolding write_all
 leaves (Ok done) t s ms e =
     let rows = (all_written (interfaces_of s) ms).0.rows in
     ap (with_interfaces s) e
-    ∙ ap (λ (cs : List InterfaceConfig). let u : State = record s { configured = cs; interfaces = rows } in u)
+    ∙ ap (λ (cs : Addressing). let u : State = record s { configured = cs; interfaces = rows } in u)
     (keeps_configured (interfaces_of s) ms)
 leaves (Err fault) t s ms e = tt
 
@@ -26,5 +25,5 @@ returns-clause-state c =
 pub invariant_of-self : goal.invariant_of-self
 invariant_of-self c =
     let w = c.self.inside in
-    subst (λ (cs : List InterfaceConfig). (w.present ≤ 2 ^ 62) × (2 ≤ w.settings.robustness) × (w.settings.robustness ≤ 7)
+    subst (λ (cs : Addressing). (w.present ≤ 2 ^ 62) × (2 ≤ w.settings.robustness) × (w.settings.robustness ≤ 7)
     × Shows w.dr (is_dr_on cs w.neighbours) × (w.settings.query_interval ≤ 31744)) (sym c.write.ensures.configured) c.self.invariant
