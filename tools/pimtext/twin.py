@@ -92,6 +92,7 @@ def new_router(table: dict[str, Any], path: Path) -> viqeshor.Router:
         library=path,
         **fed.settings(table)
     )
+    router.set_guard(fed.has_guard(table))
     for iface, _ in enumerate(table["iface"]):
         if "older_hosts" in table:
             router.set_older_hosts(iface, table["older_hosts"])
@@ -125,6 +126,7 @@ def reload(router: viqeshor.Router, event: fed.Event, before: dict[str, Any]) ->
         router.reload(*lists, draw=event.draw, **fed.settings(config))
     except viqeshor.Refused as refused:
         return refused.answer
+    router.set_guard(fed.has_guard(config))
     was, hosts = (table.get("older_hosts", "none") for table in (before, config))
     for iface in range(0 if hosts != was else len(before["iface"]), len(config["iface"])):
         router.set_older_hosts(iface, hosts)
@@ -194,6 +196,7 @@ class Twin:
         if self.taken:
             state, self.table = self.saved[self.taken]
             self.router = viqeshor.Router.restore(state, library=shared())
+            self.router.set_guard(fed.has_guard(self.table))
         else:
             self.table = self.first
             self.router = new_router(self.table, shared())
@@ -209,4 +212,6 @@ class Twin:
 
     def copy(self, count: int) -> viqeshor.Router:
         """Another router after so many events, which may take others from then on."""
-        return viqeshor.Router.restore(self.after(count).save(), library=shared())
+        router = viqeshor.Router.restore(self.after(count).save(), library=shared())
+        router.set_guard(fed.has_guard(self.table))
+        return router
