@@ -92,6 +92,8 @@ static void without_a_router(void) {
     is("its row", row.table, 7);
     is("older hosts without a router", viq_older(NULL, 0, VIQ_OLDER_ALL), VIQ_NO_ROUTER);
     is("no setting of them without a router", viq_older(NULL, 0, 3), VIQ_NO_SETTING);
+    is("a guard without a router", viq_guard(NULL, 1), VIQ_NO_ROUTER);
+    is("no setting of it without a router", viq_guard(NULL, 2), VIQ_NO_SETTING);
     is("version 2 without a router", viq_query_version(NULL, 0, 2), VIQ_NO_ROUTER);
     is("groups in an older mode without a router", viq_older_read(NULL), VIQ_NO_ROUTER);
     is("how many without a router", viq_older_rows(NULL), 0);
@@ -670,6 +672,80 @@ static void many_interfaces(void) {
     viq_end(router);
 }
 
+/* ---- the guard */
+
+enum { IGMP = 2, UDP = 17, PIM = 103, OURS = 0xe1010101, LINK_LOCAL = 0xe0000005 };
+
+/* A packet of 28 bytes of the source 10.0.3.5. */
+static void put_packet(uint8_t *bytes, uint8_t protocol, uint32_t group) {
+    const uint8_t packet[] = {0x45, 0, 0, 28, 0, 0, 0, 0, 64, protocol, 0, 0, 10, 0, 3, 5, (uint8_t)(group >> 24),
+                              (uint8_t)(group >> 16), (uint8_t)(group >> 8), (uint8_t)group, 1, 2, 3, 4, 5, 6, 7, 8};
+    memcpy(bytes, packet, sizeof packet);
+    set_sum(bytes, 20, 10);
+}
+
+/* A Register of such a packet, from 10.0.3.1 to 10.0.1.1. */
+static uint32_t registered(struct viq_router *router, uint8_t protocol, uint32_t group) {
+    uint8_t bytes[56] = {0x45, 0, 0, 56, 0, 0, 0, 0, 60, PIM, 0, 0, 10, 0, 3, 1, 10, 0, 1, 1, 0x21, 0, 0xde, 0xff};
+    set_sum(bytes, 20, 10);
+    put_packet(bytes + 28, protocol, group);
+    return viq_unicast(router, bytes, sizeof bytes, viq_draw(0));
+}
+
+/* The packet itself on interface 0, towards its source. */
+static uint32_t forwarded(struct viq_router *router, uint8_t protocol, uint32_t group) {
+    uint8_t bytes[28];
+    put_packet(bytes, protocol, group);
+    return viq_frame(router, 0, bytes, sizeof bytes, viq_draw(0));
+}
+
+static void on_guard(struct viq_router *router) {
+    is("a Register of data", registered(router, UDP, OURS), VIQ_DONE);
+    is("its copy", viq_copies(router) == 1 && viq_changed(router) > 0, true);
+    is("while its packets are untaken", (viq_unicast)(router, NULL, 0, viq_draw(0)), VIQ_UNTAKEN);
+    is("a Register of IGMP", registered(router, IGMP, OURS), VIQ_GUARDED);
+    is("is ignored", viq_is_ignored(VIQ_GUARDED), true);
+    is("nothing is sent of it", viq_packets(router) + viq_copies(router) + viq_changed(router) + viq_touched(router), 0);
+    is("a Register of PIM", registered(router, PIM, OURS), VIQ_GUARDED);
+    is("a Register for a link alone", registered(router, UDP, LINK_LOCAL), VIQ_GUARDED);
+    is("nothing is sent of them", viq_packets(router), 0);
+    is("PIM on a link, to another group", forwarded(router, PIM, OURS), VIQ_GUARDED);
+    is("nothing is sent of that", viq_packets(router), 0);
+}
+
+static void off_guard(struct viq_router *router) {
+    is("a Register of IGMP, unguarded", registered(router, IGMP, OURS), VIQ_DONE);
+    is("its copy", viq_copies(router), 1);
+    is("a Register of PIM, unguarded", registered(router, PIM, OURS), VIQ_DONE);
+    is("its copy too", viq_copies(router), 1);
+    is("a Register for a link alone, unguarded", registered(router, UDP, LINK_LOCAL), VIQ_LINK_LOCAL);
+}
+
+static void guarded(void) {
+    static const struct viq_range own[] = {{0xe0000000, 4, 0x0a000101}};
+    struct viq_router *router = NULL, *other = NULL;
+    uint8_t report[40], saved[4096];
+    size_t size = 0;
+    is("new with a guard", viq_new(&router, VIQ_ABI, &usual, three, COUNT(three), two, COUNT(two), own, COUNT(own)), VIQ_DONE);
+    for (uint32_t iface = 0; iface < COUNT(three); iface++) is("up", viq_up(router, iface, viq_draw(7)), VIQ_DONE);
+    is("a host's report", viq_report(0x0a000209, VIQ_TO_EX, OURS, NULL, 0, report, sizeof report), 40);
+    is("its group", viq_frame(router, 2, report, 40, viq_draw(0)), VIQ_DONE);
+    on_guard(router);
+    is("neither on nor off", viq_guard(router, 2), VIQ_NO_SETTING);
+    is("it stays on", registered(router, IGMP, OURS), VIQ_GUARDED);
+    is("off", viq_guard(router, 0), VIQ_DONE);
+    is("put under the same configuration", viq_reload(router, &usual, three, COUNT(three), two, COUNT(two), own, COUNT(own), viq_draw(7)), VIQ_DONE);
+    is("saved", viq_save(router, saved, sizeof saved, &size) == VIQ_DONE && size <= sizeof saved, true);
+    is("restored", viq_restore(&other, VIQ_ABI, saved, size), VIQ_DONE);
+    is("which has a guard", registered(other, IGMP, OURS), VIQ_GUARDED);
+    viq_end(other);
+    off_guard(router);
+    is("on again", viq_guard(router, 1), VIQ_DONE);
+    is("a Register of IGMP again", registered(router, IGMP, OURS), VIQ_GUARDED);
+    is("data on a link", forwarded(router, UDP, OURS) == VIQ_DONE && viq_copies(router) == 1, true);
+    viq_end(router);
+}
+
 /* ---- hosts and routers of older versions */
 
 /* A message of eight bytes on an interface, from 10.0.IFACE.HOST. */
@@ -1158,10 +1234,10 @@ static void texts(void) {
     is("done", strcmp(viq_answer_text(VIQ_DONE), "done"), 0);
     is("no answer", strcmp(viq_answer_text(10), "no answer of this library"), 0);
     is("refused", viq_is_refused(VIQ_FULL) && viq_is_refused(38) && !viq_is_refused(VIQ_DONE) && !viq_is_refused(VIQ_MEMORY), true);
-    is("ignored", viq_is_ignored(VIQ_OWN) && viq_is_ignored(VIQ_ALREADY) && !viq_is_ignored(VIQ_NO_TIMER) && !viq_is_ignored(VIQ_NOT_QUIET) && !viq_is_ignored(VIQ_IGNORED), true);
+    is("ignored", viq_is_ignored(VIQ_OWN) && viq_is_ignored(VIQ_ALREADY) && viq_is_ignored(VIQ_GUARDED) && !viq_is_ignored(VIQ_NO_TIMER) && !viq_is_ignored(VIQ_NOT_QUIET) && !viq_is_ignored(VIQ_IGNORED), true);
     is("untaken", viq_is_refused(VIQ_UNTAKEN) || viq_is_ignored(VIQ_UNTAKEN) || viq_is_lost(VIQ_UNTAKEN), false);
     is("lost", viq_is_lost(VIQ_LOST) && viq_is_lost(VIQ_FAILED) && !viq_is_lost(VIQ_MEMORY), true);
-    is("the last reason", strcmp(viq_answer_text(VIQ_ALREADY), viq_answer_text(VIQ_ALREADY + 1)) != 0, true);
+    is("the last reason", strcmp(viq_answer_text(VIQ_GUARDED), viq_answer_text(VIQ_GUARDED + 1)) != 0, true);
 }
 
 int main(void) {
@@ -1181,6 +1257,7 @@ int main(void) {
     plane();
     full();
     moved_sources();
+    guarded();
     older_versions();
     reloads();
     saved_routers();

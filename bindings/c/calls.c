@@ -165,6 +165,8 @@ uint32_t viq_query_version(struct viq_router *router, uint32_t iface, uint32_t v
     return viq_core_query_version(CORE(router), iface, version);
 }
 
+uint32_t viq_guard(struct viq_router *router, uint32_t on) { return viq_core_guard(CORE(router), on); }
+
 uint32_t viq_older_read(struct viq_router *router) { return viq_core_older_read(CORE(router)); }
 
 size_t viq_older_rows(const struct viq_router *router) { return viq_core_older_rows(CORE(router)); }

@@ -62,6 +62,7 @@ size_t viq_core_rows(struct viq_core *router);
 bool viq_core_row(struct viq_core *router, size_t index, struct viq_core_row *row);
 uint32_t viq_core_older(struct viq_core *router, uint32_t iface, uint32_t hosts);
 uint32_t viq_core_query_version(struct viq_core *router, uint32_t iface, uint32_t version);
+uint32_t viq_core_guard(struct viq_core *router, uint32_t on);
 uint32_t viq_core_older_read(struct viq_core *router);
 size_t viq_core_older_rows(struct viq_core *router);
 bool viq_core_older_row(struct viq_core *router, size_t index, struct viq_older_row *row);

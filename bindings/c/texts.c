@@ -65,6 +65,7 @@ const char *viq_answer_text(uint32_t answer) {
     case VIQ_NO_NEIGHBOUR: return "ignored: the sender is no neighbour";
     case VIQ_NOT_RP: return "ignored: the sender isn't the RP";
     case VIQ_ALREADY: return "ignored: it is so already";
+    case VIQ_GUARDED: return "ignored: the guard stopped IGMP or PIM that would be forwarded as data";
     default: return "no answer of this library";
     }
 }

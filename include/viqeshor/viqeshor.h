@@ -154,7 +154,8 @@ enum {
     VIQ_LINK_LOCAL = 105,
     VIQ_NO_NEIGHBOUR = 106,
     VIQ_NOT_RP = 107,
-    VIQ_ALREADY = 108
+    VIQ_ALREADY = 108,
+    VIQ_GUARDED = 109
 };
 
 /* Whether an event was refused; whether it was ignored; whether the router is lost, by this event or an earlier one. */
@@ -288,16 +289,16 @@ void viq_end(struct viq_router *router);
  * where nothing is written.
  *
  * These aren't saved, and a program keeps what it needs of them: what the clock showed at time 0, the source of draws,
- * packets that are untaken, rows that were read, and what viq_older and viq_query_version set and the groups in an
- * older mode. */
+ * packets that are untaken, rows that were read, what viq_guard set, and what viq_older and viq_query_version set and
+ * the groups in an older mode. */
 VIQ_READ_ANSWER VIQ_NOT_NULL(4)
 uint32_t viq_save(const struct viq_router *router, uint8_t *room, size_t room_length, size_t *size);
 
 /* Makes a router of saved bytes, which goes on from their state as the router that was saved: the same events and draws
- * bring the same answers and packets. It has nothing to send and no rows that were read, and hears no older version of
- * IGMP. All that viq_save wrote is restored, by a library that writes the same version of the format. Bytes may be
- * anything: all others are refused. The second argument is VIQ_ABI. It answers VIQ_DONE, a refusal of 60 to 69,
- * VIQ_MEMORY or VIQ_OTHER_ABI. It writes what `router` points to as viq_new does. */
+ * bring the same answers and packets. It has nothing to send and no rows that were read, its guard is on, and it hears
+ * no older version of IGMP. All that viq_save wrote is restored, by a library that writes the same version of the
+ * format. Bytes may be anything: all others are refused. The second argument is VIQ_ABI. It answers VIQ_DONE, a refusal
+ * of 60 to 69, VIQ_MEMORY or VIQ_OTHER_ABI. It writes what `router` points to as viq_new does. */
 VIQ_READ_ANSWER VIQ_NOT_NULL(1)
 uint32_t viq_restore(struct viq_router **router, uint32_t abi, const uint8_t *bytes, size_t length);
 
@@ -683,6 +684,19 @@ VIQ_READ_ANSWER
 size_t viq_report(uint32_t host, uint32_t kind, uint32_t group, const uint32_t *sources, size_t count, uint8_t *room,
                   size_t room_length);
 
+/* ---- the guard before a router
+ *
+ * RFC 7761 forwards what a Register brings, whatever it is: one packet by unicast to an RP would put a query or reports
+ * on the RP's links, which hosts and routers there take for their own. So a new router, or a restored one, has a guard.
+ * It stops a Register whose packet inside is of IGMP or PIM, or is for 224.0.0.0/24, and on a link PIM to a group
+ * outside 224.0.0.0/24: viq_unicast or viq_frame then answers VIQ_GUARDED. No copy of viq_take is IGMP or PIM.
+ *
+ * Sets the guard: 1 on, 0 off. It is no event: what is to be sent, the costs, what changed and the present are unchanged
+ * by it. It may be called at any time, and viq_reload leaves the guard as it is. It answers VIQ_DONE, VIQ_NO_SETTING,
+ * VIQ_FAILED or VIQ_NO_ROUTER. */
+VIQ_READ_ANSWER
+uint32_t viq_guard(struct viq_router *router, uint32_t on);
+
 /* ---- older versions of IGMP (RFC 3376, section 7.3)
  *
  * A new router hears no older version: it refuses each message of one by VIQ_OLD_VERSION. The calls of this part are no
@@ -747,15 +761,16 @@ struct viq_call {
     uint32_t iface;
     uint32_t source; /* of viq_seen and viq_keep, as the next one */
     uint32_t group;
-    uint32_t value;  /* what viq_older or viq_query_version set */
+    uint32_t value;  /* what viq_older, viq_query_version or viq_guard set */
     uint32_t answer;
     uint32_t sum;    /* viq_sum after an event that answered VIQ_DONE, else 0 */
 };
 
 /* Writes the record of a call: 'a' viq_advance, 'f' viq_frame, 'u' viq_unicast, '+' viq_up, '-' viq_down, 's' viq_seen,
- * 'k' viq_keep, 'o' viq_older, 'q' viq_query_version. The packet is that of viq_frame and viq_unicast, and isn't read
- * for another. `size` gets how many bytes there are, 0 for another letter. As many of them as room_length allows are
- * written into `room`, and the rest of `room` is unchanged. It answers VIQ_DONE; VIQ_MEMORY, where nothing is written. */
+ * 'k' viq_keep, 'o' viq_older, 'q' viq_query_version, 'd' viq_guard. The packet is that of viq_frame and viq_unicast,
+ * and isn't read for another. `size` gets how many bytes there are, 0 for another letter. As many of them as room_length
+ * allows are written into `room`, and the rest of `room` is unchanged. It answers VIQ_DONE; VIQ_MEMORY, where nothing is
+ * written. */
 VIQ_READ_ANSWER VIQ_NOT_NULL(1) VIQ_NOT_NULL(6)
 uint32_t viq_record(const struct viq_call *call, const uint8_t *packet, size_t length, uint8_t *room,
                     size_t room_length, size_t *size);

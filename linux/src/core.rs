@@ -15,8 +15,8 @@ use rand::{Rng, RngCore, SeedableRng};
 use std::collections::BTreeMap;
 use std::net::Ipv4Addr;
 use viqeshor::{
-    Error, Link, NeighbourRow, OlderRow, Range, Refusal, Route, Router, SourceTree, Table, TableRow, Target, Tree,
-    Verdict,
+    Error, Link, NeighbourRow, OlderRow, Range, Reason, Refusal, Route, Router, SourceTree, Table, TableRow, Target,
+    Tree, Verdict,
 };
 
 /// A Hello that an event triggers leaves after a part of Triggered_Hello_Delay, in ms (RFC 7761, 4.3.1 and 4.11), which
@@ -58,6 +58,8 @@ impl Event<'_> {
 pub enum Answer {
     Done,
     Ignored,
+    /// The guard stopped it.
+    Guarded,
     Refused(Refusal),
 }
 
@@ -70,6 +72,8 @@ pub struct Core {
     draws: StdRng,
     /// What the router was told of how its interfaces speak IGMP.
     speech: BTreeMap<u32, Speech>,
+    /// Whether its guard is on.
+    has_guard: bool,
     /// How often memory was refused for a table that was to be read.
     pub refused_memory: u64,
     recorder: Option<Recorder>,
@@ -137,6 +141,7 @@ impl Core {
             told,
             draws: StdRng::from_rng(OsRng)?,
             speech: BTreeMap::new(),
+            has_guard: true,
             refused_memory: 0,
             recorder: None,
             next: None,
@@ -162,7 +167,7 @@ impl Core {
         }
         self.recorder = None;
         if let Some(place) = place {
-            match Recorder::begin(place, &mut self.router, &self.speech, now) {
+            match Recorder::begin(place, &mut self.router, &self.speech, self.has_guard, now) {
                 Ok(recorder) => {
                     info!("events are recorded in {}", place.folder.display());
                     self.recorder = Some(recorder);
@@ -174,9 +179,11 @@ impl Core {
 
     /// After a turn, at a moment in ms, what was recorded is written where it has waited for long.
     pub fn end_turn(&mut self, now: u64) {
-        let Core { router, recorder, speech, .. } = self;
-        let written = recorder.as_mut().map_or(Ok(()), |recorder| recorder.end_turn(router, speech, now));
-        self.was_recorded(written);
+        let Core { router, recorder, speech, has_guard, .. } = self;
+        if let Some(recorder) = recorder {
+            let written = recorder.end_turn(router, speech, *has_guard, now);
+            self.was_recorded(written);
+        }
     }
 
     /// When it is to be written, in ms.
@@ -223,6 +230,17 @@ impl Core {
             Ok(()) => *told = wanted,
             Err(Error::Refused(Refusal::BadInterface)) => {}
             Err(error) => return Err(Fatal::Router(error)),
+        }
+        Ok(())
+    }
+
+    /// From here on IGMP and PIM are stopped that would be forwarded as data, or aren't.
+    pub fn set_guard(&mut self, is_on: bool) -> Result<(), Fatal> {
+        if self.has_guard != is_on {
+            self.router.set_guard(is_on).map_err(Fatal::Router)?;
+            self.has_guard = is_on;
+            let written = self.recorder.as_mut().map_or(Ok(()), |it| it.set(b'd', 0, is_on.into(), 0));
+            self.was_recorded(written);
         }
         Ok(())
     }
@@ -284,6 +302,7 @@ impl Core {
         }
         match verdict {
             Ok(Verdict::Done) => Ok(Answer::Done),
+            Ok(Verdict::Ignored(Reason::Guarded)) => Ok(Answer::Guarded),
             Ok(Verdict::Ignored(_)) => Ok(Answer::Ignored),
             Err(Error::Refused(refusal)) => Ok(Answer::Refused(refusal)),
             Err(error) => Err(Fatal::Router(error)),

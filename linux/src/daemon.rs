@@ -22,7 +22,7 @@ use crate::older::Version;
 use crate::packed::Packing;
 use crate::packet::{is_pim, message_of, says_goodbye, with_holdtime, Packet, HELLO};
 use crate::plane::{Placed, Plane, Row, Ways};
-use crate::policy::{Books, Gate, Policy};
+use crate::policy::{Books, Cause, Gate, Policy};
 use crate::ports::{self, Machine, Port};
 use crate::routes::Counts;
 use crate::said::Said;
@@ -252,8 +252,9 @@ impl Daemon {
         }
     }
 
-    /// The library's router speaks IGMP as the settings say.
+    /// The library's router has a guard and speaks IGMP as the settings say.
     fn speak(&mut self) -> Result<(), Fatal> {
+        self.core.set_guard(self.settings.guard)?;
         self.ports.iter().try_for_each(|port| self.core.speak(port.number, port.settings.speech))
     }
 
@@ -317,10 +318,22 @@ impl Daemon {
                 self.follow();
             }
             Answer::Ignored => self.counters.ignored += 1,
+            Answer::Guarded => self.note_guarded(event),
             Answer::Refused(refusal) => *self.counters.refused.entry(refusal as u32).or_default() += 1,
         }
         self.counters.took.note(began.elapsed());
         Ok(answer)
+    }
+
+    /// The guard stopped a packet.
+    fn note_guarded(&mut self, event: Event) {
+        let (place, bytes) = match event {
+            Event::Frame(iface, bytes) => (self.name(iface).to_string(), bytes),
+            Event::Unicast(bytes) => ("Registers".to_string(), bytes),
+            _ => return,
+        };
+        self.counters.ignored += 1;
+        self.policy.refusals.note(self.now(), Cause::Guard, &place, &words::of(bytes));
     }
 
     /// Before a packet time passes, unless it did just now: what is due is seen to after the turn.

@@ -89,7 +89,7 @@ fn refused(error: Error) -> io::Error {
     io::Error::new(io::ErrorKind::Other, error)
 }
 
-/// A setting of older versions, by its letter.
+/// A setting, by its letter.
 fn setting(letter: u8, iface: u32, value: u32, answer: u32) -> Call {
     Call { letter: letter.into(), iface, value, answer, ..Call::default() }
 }
@@ -108,12 +108,18 @@ impl Place {
 
 impl Recorder {
     /// Begins with the state that the router has, at a moment in ms. The file is written that wasn't the last one before.
-    pub fn begin(place: &Place, router: &mut Router, speech: &BTreeMap<u32, Speech>, now: u64) -> io::Result<Recorder> {
+    pub fn begin(
+        place: &Place,
+        router: &mut Router,
+        speech: &BTreeMap<u32, Speech>,
+        has_guard: bool,
+        now: u64,
+    ) -> io::Result<Recorder> {
         // So that the moments of the records can be told as times.
         let began = OffsetDateTime::now_utc() - Duration::from_millis(now);
         std::fs::write(place.folder.join(format!("{}.clock", place.name)), wall_time(began) + "\n")?;
         let number = 1 - place.newest();
-        let (file, written) = Recorder::file(place, number, router, speech)?;
+        let (file, written) = Recorder::file(place, number, router, speech, has_guard)?;
         let (place, waiting) = (place.clone(), Vec::with_capacity(2 * ROOM));
         let mut recorder = Recorder { place, number, file, written, waiting, full: 0, overfull: 0, due: None };
         recorder.set_sizes();
@@ -126,6 +132,7 @@ impl Recorder {
         number: usize,
         router: &mut Router,
         speech: &BTreeMap<u32, Speech>,
+        has_guard: bool,
     ) -> io::Result<(File, u64)> {
         let older = router.older_rows().map_err(refused)?.len() as u32;
         let state = router.save().map_err(refused)?;
@@ -137,6 +144,9 @@ impl Recorder {
         for (iface, set) in speech {
             setting(b'o', *iface, set.older_hosts as u32, DONE).put(&[], &mut bytes).map_err(refused)?;
             setting(b'q', *iface, set.queries as u32, DONE).put(&[], &mut bytes).map_err(refused)?;
+        }
+        if !has_guard {
+            setting(b'd', 0, 0, DONE).put(&[], &mut bytes).map_err(refused)?;
         }
         let beside = place.folder.join(format!("{}.new", place.name));
         let mut file = File::create(&beside)?;
@@ -213,7 +223,7 @@ impl Recorder {
         self.was_put()
     }
 
-    /// A setting of older versions, by its letter.
+    /// A setting, by its letter.
     pub fn set(&mut self, letter: u8, iface: u32, value: u32, answer: u32) -> io::Result<()> {
         setting(letter, iface, value, answer).put(&[], &mut self.waiting).map_err(refused)?;
         self.was_put()
@@ -234,7 +244,13 @@ impl Recorder {
     }
 
     /// After a turn, at a moment in ms: what waits for long is written, and where the file is full the other one begins.
-    pub fn end_turn(&mut self, router: &mut Router, speech: &BTreeMap<u32, Speech>, now: u64) -> io::Result<()> {
+    pub fn end_turn(
+        &mut self,
+        router: &mut Router,
+        speech: &BTreeMap<u32, Speech>,
+        has_guard: bool,
+        now: u64,
+    ) -> io::Result<()> {
         if !self.waiting.is_empty() && *self.due.get_or_insert(now + WAITS) <= now {
             self.flush()?;
         }
@@ -244,7 +260,7 @@ impl Recorder {
         if is_full {
             self.flush()?;
             self.number = 1 - self.number;
-            (self.file, self.written) = Recorder::file(&self.place, self.number, router, speech)?;
+            (self.file, self.written) = Recorder::file(&self.place, self.number, router, speech, has_guard)?;
             self.set_sizes();
         }
         Ok(())
@@ -289,7 +305,7 @@ mod tests {
         let (place, mut router) = (place("form", 1 << 20), router());
         let speech = BTreeMap::from([(0, Speech::NEW)]);
         let state = router.save().unwrap();
-        let mut recorder = Recorder::begin(&place, &mut router, &speech, 0).unwrap();
+        let mut recorder = Recorder::begin(&place, &mut router, &speech, true, 0).unwrap();
         let answer = answer_of(&router.up(0, 7));
         let (sent, sum) = taken(&mut router);
         assert_ne!(sum, 0);
@@ -308,9 +324,9 @@ mod tests {
         let (sent, sum_then) = taken(&mut router);
         assert_ne!(sum_then, 0);
         recorder.reload(sent.since(0), &given, 9, DONE).unwrap();
-        recorder.end_turn(&mut router, &speech, 0).unwrap();
+        recorder.end_turn(&mut router, &speech, true, 0).unwrap();
         assert_eq!(recorder.due(), Some(WAITS));
-        recorder.end_turn(&mut router, &speech, WAITS).unwrap();
+        recorder.end_turn(&mut router, &speech, true, WAITS).unwrap();
         assert_eq!(recorder.due(), None);
         let summed = |bytes: Vec<u8>| [&bytes[..], &crc32fast::hash(&bytes).to_be_bytes()].concat();
         let head = [b"VQRC\0\x04\0\0\0\0".as_slice(), &(state.len() as u64).to_be_bytes()].concat();
@@ -336,11 +352,11 @@ mod tests {
     fn two_files_are_written_in_turn_and_bounded() {
         let (place, mut router) = (place("ring", 4_000), router());
         let speech = BTreeMap::new();
-        let mut recorder = Recorder::begin(&place, &mut router, &speech, 0).unwrap();
+        let mut recorder = Recorder::begin(&place, &mut router, &speech, true, 0).unwrap();
         for moment in 1..1_000 {
             let answer = answer_of(&router.advance(moment, 0));
             recorder.event(taken(&mut router).0.since(0), &Event::Advance(moment), 0, answer).unwrap();
-            recorder.end_turn(&mut router, &speech, moment).unwrap();
+            recorder.end_turn(&mut router, &speech, true, moment).unwrap();
             let sizes = [0, 1].map(|number| std::fs::metadata(place.path(number)).map_or(0, |it| it.len()));
             assert!(sizes.iter().sum::<u64>() <= 4_100, "{sizes:?}");
         }
@@ -349,7 +365,7 @@ mod tests {
         drop(recorder);
         std::thread::sleep(std::time::Duration::from_millis(20));
         let before = std::fs::read(place.path(last)).unwrap();
-        assert_eq!(Recorder::begin(&place, &mut router, &speech, 999).unwrap().number, 1 - last);
+        assert_eq!(Recorder::begin(&place, &mut router, &speech, true, 999).unwrap().number, 1 - last);
         let clock = std::fs::read_to_string(place.folder.join("router.clock")).unwrap();
         assert!(clock < wall_time(OffsetDateTime::now_utc()) && clock.ends_with("Z\n"));
         assert_eq!(std::fs::read(place.path(last)).unwrap(), before);

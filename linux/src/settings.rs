@@ -197,6 +197,8 @@ pub struct Settings {
     pub metrics: Option<SocketAddr>,
     /// Join/Prunes to a neighbour leave together.
     pub packs: bool,
+    /// IGMP and PIM are stopped that would be forwarded as data.
+    pub guard: bool,
     pub restart: RestartSettings,
     /// Where events are recorded.
     pub recorder: Option<recorder::Place>,
@@ -229,6 +231,7 @@ struct File {
     socket_group: Option<String>,
     socket_mode: Text,
     pack: Option<bool>,
+    guard: Option<bool>,
     #[serde(default)]
     metrics: MetricsTable,
     #[serde(default)]
@@ -806,6 +809,7 @@ impl Check<'_> {
             control: self.control(file, &domain),
             metrics: self.listen(&file.metrics.listen),
             packs: file.pack.unwrap_or(true),
+            guard: file.guard.unwrap_or(true),
             restart: self.restart(&file.restart),
             recorder: self.recorder(&file.recorder, &domain),
             domain,
@@ -956,7 +960,7 @@ mod tests {
             (it.limit, it.robustness, it.query_interval, it.query_response, it.last_member_query),
             (65536, 2, 125, 100, 10)
         );
-        assert!(!it.stays_on_shared_tree && it.packs);
+        assert!(!it.stays_on_shared_tree && it.packs && it.guard);
         let eth0 = &it.interfaces[0];
         assert_eq!(
             (eth0.priority, eth0.propagation, eth0.override_interval, eth0.address, eth0.line),
@@ -991,13 +995,14 @@ mod tests {
 
     #[test]
     fn all_that_can_be_said_is_taken() {
-        let text = "limit = 9\nspt = \"never\"\nlog = \"debug\"\nsocket = \"/run/x\"\nsocket_group = \"adm\"\npack = false\n[metrics]\nlisten = \"[::1]:9791\"\n[igmp]\nrobustness = 3\n\
+        let text = "limit = 9\nspt = \"never\"\nlog = \"debug\"\nsocket = \"/run/x\"\nsocket_group = \"adm\"\npack = false\nguard = false\n[metrics]\nlisten = \"[::1]:9791\"\n[igmp]\nrobustness = 3\n\
             query_interval = 20\nquery_response = 1.5\nlast_member_query = 2\nolder_hosts = \"none\"\n\
             [routes]\ntable = 7\npreference = 5\n[routes.preferences]\nstatic = 1\n\
             [[interface]]\nname = \"a\"\naddress = \"10.0.0.1/24\"\npriority = 7\npropagation = 1\noverride = 2\nhello_interval = 0.3\nhello_holdtime = 1\nbfd = true\nbfd_interval = 100\n\
             [[rp]]\ngroups = \"239.0.0.0/8\"\naddress = \"10.0.0.1\"\n";
         let it = read(text).unwrap();
-        assert_eq!((it.limit, it.stays_on_shared_tree, it.level, it.packs), (9, true, LevelFilter::Debug, false));
+        assert_eq!((it.limit, it.stays_on_shared_tree, it.level), (9, true, LevelFilter::Debug));
+        assert!(!it.packs && !it.guard);
         let control = Place { path: "/run/x".into(), group: Some("adm".to_string()), mode: 0o660 };
         assert_eq!((it.control, it.metrics.map(|at| at.to_string())), (control, Some("[::1]:9791".to_string())));
         assert_eq!((it.robustness, it.query_interval, it.query_response, it.last_member_query), (3, 20, 15, 20));
@@ -1012,7 +1017,7 @@ mod tests {
             bfd: Some(Times { interval: 100, multiplier: 3 }),
             speech: Speech { older_hosts: OlderHosts::Nobody, queries: QueryVersion::Three },
             policy: it.interfaces[0].policy.clone(),
-            line: 21,
+            line: 22,
         };
         assert_eq!(it.interfaces, [a]);
         assert_eq!((it.routes.table, it.routes.preference_of(196), it.routes.preference_of(188)), (Some(7), 1, 5));

@@ -294,6 +294,33 @@ def list_of_registers(net: Network) -> str:
     return said
 
 
+def igmp_in_registers(net: Network) -> str:
+    """a query and a report inside Registers come to no link of the RP's unless `guard` is off, and a stream does"""
+    group, times = "239.2.7.4", 5
+
+    def carried() -> int:
+        words = [sys.executable, SENDER, "to-router", HOST, "heard", 3]
+        listener = net.start("hosts", *words, stdout=subprocess.PIPE)
+        listener.stdout.readline()
+        send(net, "source", "to-first", SOURCE, "carried", "10.5.0.1", group, times)
+        return int(listener.communicate()[0])
+
+    receiver = net.receive("hosts", group, HOST, 40, 60)
+    until("the router has the report", 10, lambda: "to-hosts" in net.entry("*", group)["outgoing"])
+    guarded = carried()
+    said = is_refused(net, "`guard` doesn't let", "the Registers")
+    net.send("source", group, SOURCE, 40, 10).wait()
+    came, of, _ = received(receiver)
+    receiver = net.receive("hosts", group, HOST, 40, 60)
+    net.reload("guard = false\n" + net.settings)
+    unguarded = carried()
+    net.reload(net.settings)
+    ended(receiver)
+    if (guarded, unguarded) != (0, 2 * times) or came < of - 3:
+        raise Failed(f"{guarded} came, and {unguarded} without the guard; {came} of {of} of the stream")
+    return f"{said}; {came} of {of} of the stream came; {unguarded} of {2 * times} without the guard"
+
+
 def fragments_of_a_report(net: Network) -> str:
     """a report in fragments is heard: the kernel makes it whole"""
     groups = [f"239.2.13.{number}" for number in range(250)] + [f"239.2.14.{number}" for number in range(50)]
@@ -345,5 +372,5 @@ def check_says_quotas(net: Network) -> None:
 
 TRIALS = [check_says_quotas, older_hosts_that_are_not_heard, fragments_of_a_report, hello_of_a_host, pim_of_strangers,
           ingress_rule, forwarders_are_said, lines_are_bounded, neighbours_that_are_believed, list_of_joins,
-          list_of_senders, list_of_registers, flood_of_neighbours, flood_of_groups, flood_of_older_groups,
-          flood_of_sources, flood_of_registers]
+          list_of_senders, list_of_registers, igmp_in_registers, flood_of_neighbours, flood_of_groups,
+          flood_of_older_groups, flood_of_sources, flood_of_registers]

@@ -16,6 +16,9 @@
     sender.py INTERFACE ADDRESS joins TO RP FROM COUNT TIMES  a Hello, and a Join(*,G) of each of COUNT groups, from
                                                         239.2.64.0 and so many more on, so many times
     sender.py INTERFACE ADDRESS registers RP GROUP COUNT  a Register of each of COUNT sources
+    sender.py INTERFACE ADDRESS carried RP GROUP TIMES  a Register with a query inside, and one with a report for 180
+                                                        groups, both of 1.0.0.1, so many times
+    sender.py INTERFACE ADDRESS heard SECONDS           it prints a line, and then how many packets of 1.0.0.1 came
 """
 import socket
 import struct
@@ -27,6 +30,8 @@ from asker import ALL_PIM_ROUTERS, PIM, checksum
 IGMP = 2
 ALL_IGMP_ROUTERS = bytes([224, 0, 0, 22])
 RECORDS = 183
+# Of what is carried in Registers: lower than any router's, so that its queries are the querier's.
+LOWEST = bytes([1, 0, 0, 1])
 TO_EX = 4
 MTU = 1500
 
@@ -70,9 +75,34 @@ def flaps(link: "Link", routers: list[bytes], seconds: float) -> int:
     return count
 
 
+def register_of(packet: bytes) -> bytes:
+    return summed(bytes([0x21, 0, 0, 0, 0, 0, 0, 0])) + packet
+
+
 def register(source: bytes, group: bytes) -> bytes:
     data = ip(source, group, 17, struct.pack("!HHHH", 5004, 5004, 12, 0) + b"data", ttl=9)
-    return summed(bytes([0x21, 0, 0, 0, 0, 0, 0, 0])) + data
+    return register_of(data)
+
+
+def carried(group: bytes) -> list[bytes]:
+    """Registers with IGMP inside."""
+    query = summed(bytes([0x11, 10, 0, 0, 0, 0, 0, 0, 2, 125, 0, 0]))
+    messages = query, report([numbered("239.2.16.0", number) for number in range(180)])
+    return [register_of(ip(LOWEST, group, IGMP, message, ttl=9)) for message in messages]
+
+
+def heard(interface: str, seconds: float) -> int:
+    link = socket.socket(socket.AF_PACKET, socket.SOCK_DGRAM, socket.htons(0x0800))
+    link.bind((interface, 0x0800))
+    link.settimeout(0.2)
+    print("listens", flush=True)
+    end, count = time.monotonic() + seconds, 0
+    while time.monotonic() < end:
+        try:
+            count += link.recv(65535)[12:16] == LOWEST
+        except socket.timeout:
+            continue
+    return count
 
 
 def numbered(first: str, number: int) -> bytes:
@@ -151,6 +181,13 @@ def main() -> None:
             link.send(packets[number % count])
             if number % 64 == 63:
                 time.sleep(0.004)
+    elif what == "heard":
+        print(heard(interface, float(rest[0])))
+    elif what == "carried":
+        rp, group = rest[0], socket.inet_aton(rest[1])
+        out = socket.socket(socket.AF_INET, socket.SOCK_RAW, PIM)
+        for packet in carried(group) * int(rest[2]):
+            out.sendto(packet, (rp, 0))
     elif what == "registers":
         rp, group = socket.inet_aton(rest[0]), socket.inet_aton(rest[1])
         out = socket.socket(socket.AF_INET, socket.SOCK_RAW, PIM)

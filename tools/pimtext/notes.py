@@ -16,8 +16,6 @@ if TYPE_CHECKING:
     from viqeshor.lab.lines import Line
     from pimtext.run import Run
 
-# The answer of a guard before a router, which is no reason of the router's own.
-GUARDED = "Guarded"
 ETHERNET = {b"\x08\x00": 14, b"\x81\x00": 18}
 
 
@@ -119,8 +117,6 @@ class Notes:
         size = ethernet_bytes(bytes.fromhex(did.get("hex", ""))) if len(cause) == 1 else 0
         if size:
             return f"the bytes begin with an Ethernet header: leave out its {size} bytes, the first {2 * size} digits"
-        if cause == GUARDED:
-            return "the router's `guard` stops IGMP or PIM that would be forwarded as data"
         return MEANINGS[cause] + (f", and it has {count}" if cause == "22" else "")
 
     def present(self, step: story.Step) -> int:

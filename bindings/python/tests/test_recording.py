@@ -44,7 +44,7 @@ class Recordings(unittest.TestCase):
     def played(self, path):
         """The records that differ where a file is played."""
         told = recording.read(path)
-        with Router.restore(told.state) as router:
+        with recording.restored(told) as router:
             return [
                 record for record in told.records if recording.take(router, record) != (record.answer, record.total)
             ], told
@@ -53,12 +53,13 @@ class Recordings(unittest.TestCase):
         with Recorder(self.router, self.path):
             self.router.set_older_hosts(1, "all")
             self.router.set_query_version(1, 2)
+            self.router.set_guard(False)
             self.use()
         self.router.up(0)
         differ, told = self.played(f"{self.path}.0")
-        self.assertEqual((differ, len(told.records), told.older_groups), ([], 14, 0))
+        self.assertEqual((differ, len(told.records), told.older_groups), ([], 15, 0))
         self.assertEqual({record.name for record in told.records}, set(recording.KINDS))
-        self.assertEqual(told.records[4].answer, Answer.DONE)
+        self.assertEqual(told.records[5].answer, Answer.DONE)
         self.assertTrue(any(record.total for record in told.records))
 
     def test_the_library_writes_what_is_read(self):
@@ -203,6 +204,22 @@ class Recordings(unittest.TestCase):
             self.assertRaises(recording.Unreadable, recording.read, path)
         path.write_bytes(data + b"?")
         self.assertEqual((recording.read(path).records, recording.read(path).rest), (whole, 1))
+
+    def test_the_guard_is_as_it_was(self):
+        """A recording begins with a router that has a guard, unless it says otherwise or is of a version before 4."""
+        stopped = hosts.ipv4(103, "10.0.1.5", GROUP, 9, bytes(8))
+        with Recorder(self.router, self.path, most=4096):
+            self.router.set_guard(False)
+            self.use(200)
+        for path in recording.newest(self.path):
+            differ, told = self.played(path)
+            self.assertEqual((differ, told.records[0][:3]), ([], ("guard", 0, (0,))))
+        for version, has_guard in ((4, True), (3, False)):
+            with recording.restored(told._replace(version=version)) as router:
+                self.assertEqual(router.has_guard, has_guard)
+                self.assertEqual(router.frame(1, stopped) == Answer.GUARDED, has_guard)
+                recording.take(router, told.records[0])
+                self.assertFalse(router.has_guard)
 
     def test_version_2_is_read_and_played(self):
         with Recorder(self.router, self.path):

@@ -368,6 +368,34 @@ class Routers(unittest.TestCase):
         self.assertEqual(router.frame(2, hosts.leave("10.0.2.7", "225.1.1.1")), Answer.DONE)
         self.assertEqual([row.end for row in router.rows("G")], [2000])
 
+    def test_the_guard_stops_igmp_and_pim(self):
+        """A Register with IGMP or PIM inside, or for 224.0.0.0/24, and PIM on a link to another group."""
+        def registered(protocol, group):
+            inner = hosts.ipv4(protocol, "10.0.3.5", group, 9, bytes(8))
+            return hosts.ipv4(103, "10.0.3.1", "10.0.1.1", 60, b"\x21\0\xde\xff\0\0\0\0" + inner)
+
+        links = [("10.0.0.2", 24), ("10.0.1.1", 24)]
+        router = Router(links, [("224.0.0.0/4", "10.0.1.1")], [("10.0.3.0/24", "10.0.0.1", 0, 110, 20)])
+        self.addCleanup(router.end)
+        router.up(0), router.up(1)
+        router.frame(1, hosts.join("10.0.1.9", "225.1.1.1"))
+        router.packets()
+        stopped = [(2, "225.1.1.1"), (103, "225.1.1.1"), (17, "224.0.0.5")]
+        on_link = hosts.ipv4(103, "10.0.3.5", "225.1.1.1", 9, bytes(8))
+        answers = [router.unicast(registered(*each)) for each in stopped] + [router.frame(0, on_link)]
+        self.assertEqual((answers, router.packets(), router.changed()), ([Answer.GUARDED] * 4, [], []))
+        self.assertTrue(Answer.GUARDED.is_ignored)
+        router.set_guard(False)
+        self.assertFalse(router.has_guard)
+        self.assertEqual([router.unicast(registered(*each)) for each in stopped],
+                         [Answer.DONE, Answer.DONE, Answer.LINK_LOCAL])
+        copies = [one.packet[9] for one in router.packets() if one.kind == "copy"]
+        self.assertEqual(copies, [2, 103])
+        router.set_guard(True)
+        self.assertEqual(router.unicast(registered(2, "225.1.1.1")), Answer.GUARDED)
+        self.assertEqual(router.unicast(registered(17, "225.1.1.1")), Answer.DONE)
+        self.assertEqual([one.kind for one in router.packets()], ["copy"])
+
     def test_hosts_of_older_versions(self):
         router, group = self.router(), "239.1.1.1"
         router.up(2)

@@ -392,6 +392,8 @@ numbered! {
         NotRp = 107,
         /// It is so already.
         Already = 108,
+        /// The guard stopped IGMP or PIM that would be forwarded as data.
+        Guarded = 109,
     }
 }
 
@@ -937,6 +939,7 @@ extern "C" {
     fn viq_row(router: *const c_void, index: usize, row: *mut rows::raw::Row) -> bool;
     fn viq_older(router: *mut c_void, iface: u32, hosts: u32) -> u32;
     fn viq_query_version(router: *mut c_void, iface: u32, version: u32) -> u32;
+    fn viq_guard(router: *mut c_void, on: u32) -> u32;
     fn viq_older_read(router: *mut c_void) -> u32;
     fn viq_older_rows(router: *const c_void) -> usize;
     fn viq_older_row(router: *const c_void, index: usize, row: *mut raw::OlderRow) -> bool;
@@ -1061,8 +1064,8 @@ impl Router {
     }
 
     /// Makes a router that goes on from the state that `save` returned: the same events and draws bring the same answers
-    /// and packets. It has nothing to send, and hears no older version of IGMP. Bytes that are no saved state of a
-    /// router are refused, whatever they are.
+    /// and packets. It has nothing to send, its guard is on, and it hears no older version of IGMP. Bytes that are no
+    /// saved state of a router are refused, whatever they are.
     pub fn restore(saved: &[u8]) -> Result<Router, Error> {
         let mut made = null_mut();
         // SAFETY: the bytes are passed as their pointer and their length, and what points to the router is only written.
@@ -1078,8 +1081,8 @@ impl Router {
     }
 
     /// The state of the router as bytes, of which `restore` makes a router that goes on from it. What isn't in them:
-    /// what the clock showed at timestamp 0, packets that are untaken, and what `set_older_hosts` and
-    /// `set_query_version` set and the groups in an older mode.
+    /// what the clock showed at timestamp 0, packets that are untaken, what `set_guard` set, and what `set_older_hosts`
+    /// and `set_query_version` set and the groups in an older mode.
     pub fn save(&self) -> Result<Vec<u8>, Error> {
         let size = self.save_into(&mut [])?;
         let mut saved = vec![0; size];
@@ -1277,6 +1280,14 @@ impl Router {
         let mut told = trees::raw::Neighbour::default();
         // SAFETY: the router is there.
         unsafe { viq_neighbour(self.at(), iface, address.into(), &mut told) }.then(|| Neighbour::told(told))
+    }
+
+    /// Sets whether the guard is on, as it is in a new router. It stops by `Reason::Guarded` what would be forwarded as
+    /// data though hosts and routers read it as IGMP or PIM: a Register whose packet inside is of these, or is for
+    /// 224.0.0.0/24, and on a link PIM to a group outside 224.0.0.0/24. It is no event.
+    pub fn set_guard(&mut self, is_on: bool) -> Result<(), Error> {
+        // SAFETY: the router is there and borrowed alone.
+        done(unsafe { viq_guard(self.at_mut(), is_on.into()) })
     }
 
     // ---- older versions of IGMP

@@ -488,6 +488,31 @@ fn texts() {
     assert_eq!(viqeshor::answer_text(0), "done");
 }
 
+/// To 10.0.1.1, of 10.0.3.5 to 225.1.1.1: a query of IGMPv3, and data.
+const REGISTER_OF_A_QUERY: &str =
+    "45c0003c000000003c67659a0a0003010a0001012100deff00000000450000200000000040028bd50a000305e101010111010afbe1010101\
+     02010000";
+const REGISTER_OF_DATA: &str =
+    "45c00038000000003c67659e0a0003010a0001012100deff000000004500001c0000000040118bca0a000305e10101010001000200080000";
+
+#[test]
+fn the_guard_stops_igmp_in_a_register() {
+    let mut router = joined();
+    let guarded = Ok(Verdict::Ignored(Reason::Guarded));
+    assert_eq!(router.unicast(&bytes_of(REGISTER_OF_A_QUERY), 0), guarded);
+    assert_eq!((router.packet_count(), router.changed(), Reason::Guarded as u32), (0, vec![], 109));
+    assert_eq!(router.unicast(&bytes_of(REGISTER_OF_DATA), 0), DONE);
+    // The RP is another router.
+    assert_eq!(only(taken(&mut router)).target, Target::Unicast(address([10, 0, 3, 1])));
+    assert_eq!(router.set_guard(false), Ok(()));
+    assert_eq!(router.unicast(&bytes_of(REGISTER_OF_A_QUERY), 0), DONE);
+    assert_eq!(only(taken(&mut router)).target, Target::Unicast(address([10, 0, 3, 1])));
+    let saved = router.save().unwrap();
+    assert_eq!(Router::restore(&saved).unwrap().unicast(&bytes_of(REGISTER_OF_A_QUERY), 0), guarded);
+    assert_eq!(router.set_guard(true), Ok(()));
+    assert_eq!(router.unicast(&bytes_of(REGISTER_OF_A_QUERY), 0), guarded);
+}
+
 /// Of 10.0.1.9, about 239.1.1.1.
 const REPORT_OF_TWO: &str = "4600002000000000010229CD0A000109EF010101940400001600F9FCEF010101";
 const LEAVE_OF_TWO: &str = "4600002000000000010239CD0A000109E0000002940400001700F8FCEF010101";

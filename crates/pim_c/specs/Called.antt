@@ -12,14 +12,15 @@ use Rattle.pim_event.{specs.{Costs.IsCheap, Disturbing.event_disturbed, Listing.
 use Rattle.pim_rested.{specs.{Refused.restore_refusal_number, Resuming.{IsResumable, restore_test}, declared.refusal.RestoreRefusal.RestoreRefusal}}
 use Rattle.pim_saved.{specs.{Fits.FitsState, Reading.reading, Text.text}}
 use Rattle.pim_router.{specs.{Asked.{LeadsOn, SentIsAsked}, Standing.{Standing, begun, nothing_shown, standing, with_state}}}
-use Rattle.pim_session.{specs.{Front.{emissions_left, front_after, given, hosts_set, interface_test, is_sure, older_rows, version_set}, Leaving.{GoesOnFrom, LeftIsAsked}, Session.ShownSession, Untaken.has_untaken}}
+use Rattle.pim_guard.{specs.Guard.is_stopped}
+use Rattle.pim_session.{specs.{Front.{emissions_left, front_after, given, hosts_set, interface_test, is_sure, older_rows, version_set}, Leaving.{GoesOnFrom, LeftIsAsked}, Session.ShownSession, Untaken.{IsStill, has_untaken}}}
 use Rattle.igmp_older.{specs.declared.{mode.OlderRow.OlderRow, setting.{OlderHosts.OlderHosts, QueryVersion.QueryVersion}}}
 use Rattle.pim_types.{specs.declared.{config.Config.Config, event.Event.Event, fact.Key.Key, outcome.Emission.Emission}}
 use Rattle.pim_c.{specs.{Told.{answer_number, bytes_in, kept_number, name_of, no_interface_number, older_group_of, set_number, told_packet, written_into}, declared.told.{Forwarding.Forwarding, Interfaces.Interfaces, NamedSource.NamedSource, OlderGroup.OlderGroup, Packet.Packet, PlaneRow.PlaneRow}}}
 
--- What a session shows of a router that goes on from a state: nothing stands before it, and nothing is kept.
+-- What a session shows of a router that goes on from a state: the guard alone stands before it, and nothing is kept.
 abbrev pub restored_shown : State → ShownSession
-restored_shown s = record { router = begun s; front = None; sent = []; rows = []; older_rows = [] }
+restored_shown s = record { router = begun s; front = None; guard = true; sent = []; rows = []; older_rows = [] }
 
 -- What a session shows of a new router.
 abbrev pub new_shown : Config → ShownSession
@@ -38,7 +39,7 @@ Went s r e left = (left.router.standing ≡ Some (standing (step r.state e)))
     × ListsSame left.router.changed (event_named r.state e)
     × (left.router.disturbed ≡ event_disturbed r.state e)
     × OffersStay left.router.disturbed r.state (step r.state e).state
-    × (left.rows ≡ s.rows) × (left.older_rows ≡ s.older_rows)
+    × (left.guard ≡ s.guard) × (left.rows ≡ s.rows) × (left.older_rows ≡ s.older_rows)
 
 -- An event goes to the router as it came: no front for older hosts stands before the router. Each copy that leaves has
 -- its cause in what led to the router's state.
@@ -58,15 +59,27 @@ abbrev pub UnlessUntaken : Bool → ShownSession → ℕ → ShownSession → Ty
 UnlessUntaken true s answer left taken = (answer ≡ 55) × (left ≡ s)
 UnlessUntaken false s answer left taken = taken
 
+-- What a session shows after an event that its guard stopped: its router is in the same state and lists nothing as
+-- changed, nothing is to be sent, and all else is as it was.
+abbrev pub Stayed : ShownSession → ShownSession → Type 0
+Stayed s left = IsStill s.router left.router × (left.front ≡ s.front) × (left.guard ≡ s.guard) × (left.sent ≡ s.sent)
+    × (left.rows ≡ s.rows) × (left.older_rows ≡ s.older_rows)
+
+-- An event that the guard stops doesn't come to the router.
+abbrev pub UnlessGuarded : Bool → ShownSession → ℕ → ShownSession → Type 0 → Type 0
+UnlessGuarded true s answer left taken = (answer ≡ 109) × Stayed s left
+UnlessGuarded false s answer left taken = taken
+
 abbrev pub SteppedFrom : ShownSession → Option Standing → Event → ℕ → ShownSession → Type 0
 SteppedFrom s None e answer left = (answer ≡ 41) × (left ≡ lost s)
 SteppedFrom s (Some r) e answer left = UnlessUntaken (has_untaken s) s answer left (
+    UnlessGuarded (is_stopped s.guard e.kind) s answer left (
     ((answer ≡ answer_number (step r.state (given s.front r.state e)).answer)
     × TakenBehind s r e (given s.front r.state e) left)
-    ⊎ ((answer ≡ 43) × (left ≡ lost s) × (is_sure s.front r.state e ≡ false)))
+    ⊎ ((answer ≡ 43) × (left ≡ lost s) × (is_sure s.front r.state e ≡ false))))
 
--- The event was refused for untaken packets, or the router took it and the answer is the router's, or an allocation
--- failed.
+-- The event was refused for untaken packets, or the guard stopped it, or the router took it and the answer is the
+-- router's, or an allocation failed.
 abbrev pub Stepped : Option ShownSession → Event → ℕ → Option ShownSession → Type 0
 Stepped None e answer left = (answer ≡ 50) × (left ≡ None)
 Stepped (Some s) e answer (Some left) = SteppedFrom s s.router.standing e answer left
@@ -168,6 +181,21 @@ VersionSet (Some s) i version answer None = ⊥
 abbrev pub VersionSetBy : Option ShownSession → ℕ → Option QueryVersion → ℕ → Option ShownSession → Type 0
 VersionSetBy old i None answer left = (answer ≡ 54) × (left ≡ old)
 VersionSetBy old i (Some version) answer left = VersionSet old i version answer left
+
+abbrev pub GuardSetFrom : ShownSession → Option Standing → Bool → ℕ → ShownSession → Type 0
+GuardSetFrom s None is_on answer left = (answer ≡ 41) × (left ≡ s)
+GuardSetFrom s (Some r) is_on answer left = (answer ≡ 0) × (left ≡ record s { guard = is_on })
+
+-- The guard was set on or off.
+abbrev pub GuardSet : Option ShownSession → Bool → ℕ → Option ShownSession → Type 0
+GuardSet None is_on answer left = (answer ≡ 50) × (left ≡ None)
+GuardSet (Some s) is_on answer (Some left) = GuardSetFrom s s.router.standing is_on answer left
+GuardSet (Some s) is_on answer None = ⊥
+
+-- A number that says neither is refused, and nothing changes; else the guard is set.
+abbrev pub GuardSetBy : Option ShownSession → Option Bool → ℕ → Option ShownSession → Type 0
+GuardSetBy old None answer left = (answer ≡ 54) × (left ≡ old)
+GuardSetBy old (Some is_on) answer left = GuardSet old is_on answer left
 
 abbrev pub OlderReadFrom : ShownSession → Option Standing → ℕ → ShownSession → Type 0
 OlderReadFrom s None answer left = (answer ≡ 41) × (left ≡ s)

@@ -3,7 +3,7 @@ use Rattle.std.{specs.{Option.option_map_or, Prelude.{List, None, Option, Some, 
 use Rattle.pim_ifset.{specs.Members.iface_of}
 use Rattle.pim_ip.{specs.Addr.addr}
 use Rattle.pim_types.{specs.declared.{config.{Config.Config, Settings.Settings}, event.EventKind.EventKind}}
-use Rattle.pim_recorded.{specs.{Records.{Call, Hosts, Kept, Record, Reloaded, Seen, Version, event_record, front_text, record_text, summed}, declared.answered.Answered.Answered}}
+use Rattle.pim_recorded.{specs.{Records.{Call, Guard, Hosts, Kept, Record, Reloaded, Seen, Version, event_record, front_text, record_text, summed}, declared.answered.Answered.Answered}}
 use Rattle.pim_c.{specs.{Given.{range_of, route_of}, Told.written_into, declared.{given.{GivenRange.GivenRange, GivenRoute.GivenRoute}, recorded.GivenCall.GivenCall}}}
 
 abbrev pub answered_of : GivenCall → Answered
@@ -26,7 +26,8 @@ record_given c packet =
     else (if c.letter == 115 then called c (Seen c.draw (iface_of c.iface) (addr c.source) (addr c.group))
     else (if c.letter == 107 then called c (Kept (addr c.source) (addr c.group) c.moment)
     else (if c.letter == 111 then called c (Hosts (iface_of c.iface) c.value)
-    else (if c.letter == 113 then called c (Version (iface_of c.iface) c.value) else None))))))))
+    else (if c.letter == 113 then called c (Version (iface_of c.iface) c.value)
+    else (if c.letter == 100 then called c (Guard c.value) else None)))))))))
 
 -- the bytes of a recorded call without their sum; none where no kind has the letter
 abbrev pub given_front : GivenCall → List ℕ → List ℕ

@@ -20,7 +20,7 @@ PutUnder s r config draw left = (left.router.standing ≡ Some (beginning (reloa
     × IfSome left.router.standing (λ after. LeadsOn r.state (Given.Reload config draw) after.state)
     × ListsFacts r.state (reload r.state config draw).0 left.router.changed
     × (left.router.disturbed ≡ record { touched = Touched.All; replaced = NoneReplaced })
-    × (left.front ≡ front_reloaded (reload r.state config draw).0 s.front)
+    × (left.front ≡ front_reloaded (reload r.state config draw).0 s.front) × (left.guard ≡ s.guard)
     × (left.sent ≡ emissions_left s.front (reload r.state config draw).1)
     × (left.rows ≡ []) × (left.older_rows ≡ [])
 

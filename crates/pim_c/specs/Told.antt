@@ -42,6 +42,7 @@ loss_number Fault.Wire = 42
 -- The number of why an event wasn't taken.
 abbrev pub stop_number : Stop → ℕ
 stop_number Stop.Untaken = 55
+stop_number Stop.Guarded = 109
 stop_number (Stop.Fault fault) = loss_number fault
 
 -- The number that says whether a keepalive timer runs.
@@ -64,6 +65,10 @@ abbrev pub query_version_of : ℕ → Option QueryVersion
 query_version_of number =
     if number == 2 then Some QueryVersion.Two
     else (if number == 3 then Some QueryVersion.Three else None)
+
+-- what a number says of the guard: 0 off, 1 on
+abbrev pub guard_of : ℕ → Option Bool
+guard_of number = if number == 0 then Some false else (if number == 1 then Some true else None)
 
 abbrev pub mode_number : Mode → ℕ
 mode_number Mode.One = 1

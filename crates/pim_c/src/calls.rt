@@ -6,7 +6,7 @@ ghost use Rattle.pim_model.specs.Judging.{last_moment};
 ghost use Rattle.pim_model.specs.Timers.{next_moment};
 ghost use Rattle.law_plane.specs.Seen.{seen_event};
 ghost use Rattle.pim_types.specs.declared.event.EventKind.{EventKind};
-ghost use Rattle.pim_c.specs.Called.{CachedTold, Copied, HostsSetBy, KeepAnswered, Made, NameTold, OffloadTold, OlderRead, OlderTold, PacketTaken, ReadBy, Restored, Saved, Seen, Stepped, VersionSetBy, changed_in, cleared, may_differ_in, older_rows_in, packets_in, probes_in, rows_in, standing_in, touched_in};
+ghost use Rattle.pim_c.specs.Called.{CachedTold, Copied, GuardSetBy, HostsSetBy, KeepAnswered, Made, NameTold, OffloadTold, OlderRead, OlderTold, PacketTaken, ReadBy, Restored, Saved, Seen, Stepped, VersionSetBy, changed_in, cleared, may_differ_in, older_rows_in, packets_in, probes_in, rows_in, standing_in, touched_in};
 ghost use Rattle.pim_c.specs.Rows.{RowTold};
 ghost use Rattle.pim_c.specs.Trees.{ValueTold, link_in, link_of, neighbour_in, neighbour_of, source_tree_in, source_tree_of, tree_in, tree_of};
 ghost use Rattle.pim_ifset.specs.Members.{iface_of};
@@ -14,7 +14,7 @@ ghost use Rattle.pim_c.specs.Reloaded.{ReloadedCopy};
 ghost use Rattle.pim_c.specs.Given.{config_of, given_event, range_of, route_of};
 ghost use Rattle.pim_c.specs.Recorded.{Written, given_text, ranges_text, reload_text, routes_text};
 ghost use Rattle.pim_recorded.specs.Records.{sum_of};
-ghost use Rattle.pim_c.specs.Told.{never, older_hosts_of, query_version_of, table_of_letter};
+ghost use Rattle.pim_c.specs.Told.{guard_of, never, older_hosts_of, query_version_of, table_of_letter};
 
 use crate::given::{self, GivenInterface, GivenRange, GivenRoute, GivenSettings};
 use crate::handle::Handle;
@@ -296,6 +296,18 @@ pub extern "C" fn viq_core_query_version(
 {
     match told::query_version(version) {
         Some(version) => router.set_query_version(alloc, IfaceId { number: iface }, version),
+        None => NO_SETTING,
+    }
+}
+
+/// Sets the guard, which stops what would be forwarded as data though hosts and routers read it as IGMP or PIM: 0 off,
+/// 1 on.
+#[unsafe(no_mangle)]
+pub extern "C" fn viq_core_guard(alloc: Global, router: &mut Handle, on: u32) -> u32
+    ensures { GuardSetBy router.old.place.inside (guard_of on) result router.new.place.inside }
+{
+    match told::guard(on) {
+        Some(is_on) => router.set_guard(alloc, is_on),
         None => NO_SETTING,
     }
 }

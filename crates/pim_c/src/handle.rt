@@ -20,7 +20,7 @@ ghost use Rattle.pim_session.specs.Leaving.{GoesOnFrom};
 ghost use Rattle.pim_session.specs.Untaken.{has_untaken};
 ghost use Rattle.pim_c.specs.Told.{never};
 ghost use Rattle.pim_c.specs.Rows.{RowTold};
-ghost use Rattle.pim_c.specs.Called.{AnswersTold, CachedTold, HostsSet, HostsSetFrom, SourceKept, SourceKeptFrom, Made, NameTold, OfferTold, OffloadTold, OlderRead, OlderReadFrom, OlderTold, PacketTaken, PacketTold, Read, ReadFrom, Refused, Restored, Saved, SavedFrom, Seen, SeenFrom, Stepped, SteppedFrom, VersionSet, VersionSetFrom, changed_in, cleared, copies_in, is_copy, lost, may_differ_in, new_shown, older_rows_in, packets_in, probes_in, refused_number, restored_shown, rows_in, sent_left, standing_in, touched_in};
+ghost use Rattle.pim_c.specs.Called.{AnswersTold, CachedTold, GuardSet, GuardSetFrom, HostsSet, HostsSetFrom, SourceKept, SourceKeptFrom, Made, NameTold, OfferTold, OffloadTold, OlderRead, OlderReadFrom, OlderTold, PacketTaken, PacketTold, Read, ReadFrom, Refused, Restored, Saved, SavedFrom, Seen, SeenFrom, Stepped, SteppedFrom, VersionSet, VersionSetFrom, changed_in, cleared, copies_in, is_copy, lost, may_differ_in, new_shown, older_rows_in, packets_in, probes_in, refused_number, restored_shown, rows_in, sent_left, standing_in, touched_in};
 
 mod recorded;
 mod reloaded;
@@ -171,6 +171,18 @@ impl Handle {
             return NO_ROUTER;
         };
         let answer = set_query_version(alloc, session.as_mut(), iface, version);
+        self.put(session);
+        answer
+    }
+
+    /// Sets whether the guard is on. The result is the number of the answer.
+    pub fn set_guard(&mut self, alloc: Global, is_on: bool) -> u32
+        ensures { GuardSet self.old.place.inside is_on result self.new.place.inside }
+    {
+        let Some(mut session) = self.take(alloc) else {
+            return NO_ROUTER;
+        };
+        let answer = set_guard(session.as_mut(), is_on);
         self.put(session);
         answer
     }
@@ -684,6 +696,16 @@ fn set_query_version(
 {
     match session.set_query_version(alloc, iface, version) {
         Ok(answer) => set_number(answer),
+        Err(fault) => u32::from(fault.number()),
+    }
+}
+
+// Sets whether a session's guard is on.
+fn set_guard(session: &mut Session, is_on: bool) -> u32
+    ensures { GuardSetFrom session.old session.old.router.standing is_on result session.new }
+{
+    match session.set_guard(is_on) {
+        Ok(()) => DONE,
         Err(fault) => u32::from(fault.number()),
     }
 }

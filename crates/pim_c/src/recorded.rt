@@ -20,7 +20,7 @@ pub struct GivenCall {
     pub iface: u32,
     pub source: u32,
     pub group: u32,
-    /// What an interface was set to.
+    /// What was set.
     pub value: u32,
     pub answer: u32,
     /// The sum of what was to be sent.
@@ -54,6 +54,7 @@ fn write_call(call: &GivenCall, packet: &[u8], out: &mut Vec<u8>) -> Result<(), 
         107 => pim_recorded::write_kept(source, group, call.moment, answered, out),
         111 => pim_recorded::write_hosts(iface, call.value, answered, out),
         113 => pim_recorded::write_version(iface, call.value, answered, out),
+        100 => pim_recorded::write_guard(call.value, answered, out),
         _ => Ok(()),
     }
 }

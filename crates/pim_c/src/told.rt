@@ -11,7 +11,7 @@ ghost use Rattle.law_plane.specs.Offered.{Offered as OfferedValue};
 ghost use Rattle.pim_mfc.specs.Shown.{ShowsOffered};
 ghost use Rattle.pim_state.specs.Shown.{Shows};
 ghost use Rattle.pim_c.specs.Called.{forwarding_of, interface_bits, plane_row_of};
-ghost use Rattle.pim_c.specs.Told.{answer_number, bytes_in, iface_number, ignored_number, kept_number, link_kind, loss_number, mode_number, name_of, older_group_of, older_hosts_of, query_version_of, set_number, stop_number, told_packet, table_of_letter, verdict_number, written_into};
+ghost use Rattle.pim_c.specs.Told.{answer_number, bytes_in, guard_of, iface_number, ignored_number, kept_number, link_kind, loss_number, mode_number, name_of, older_group_of, older_hosts_of, query_version_of, set_number, stop_number, told_packet, table_of_letter, verdict_number, written_into};
 
 use igmp_older::{Mode, OlderHosts, OlderRow, QueryVersion};
 use pim_ifset::IfSet;
@@ -40,6 +40,8 @@ pub const NO_TIMER: u32 = 52;
 pub const NO_SETTING: u32 = 54;
 /// Packets of the event before are untaken, and nothing has changed.
 pub const UNTAKEN: u32 = 55;
+/// The guard stopped the event.
+pub const GUARDED: u32 = 109;
 /// A packet that leaves on an interface and is no copy.
 pub const FRAME: u32 = 1;
 /// A copy of a packet of data, which leaves on an interface.
@@ -96,6 +98,7 @@ pub fn stop_number(stop: Stop) -> u32
 {
     match stop {
         Stop::Untaken => UNTAKEN,
+        Stop::Guarded => GUARDED,
         Stop::Fault(fault) => loss_number(fault),
     }
 }
@@ -141,6 +144,17 @@ pub fn query_version(number: u32) -> Option<QueryVersion>
     match number {
         2 => Some(QueryVersion::Two),
         3 => Some(QueryVersion::Three),
+        _ => None,
+    }
+}
+
+/// What a number says of the guard, if it says anything: whether it is on.
+pub fn guard(number: u32) -> Option<bool>
+    ensures { result ≡ guard_of number }
+{
+    match number {
+        0 => Some(false),
+        1 => Some(true),
         _ => None,
     }
 }

@@ -233,7 +233,7 @@ empty_passes : is_unicast_stopped [] ≡ false
 unfolding is_unicast_stopped ipv4_reading
 empty_passes = refl
 
-guarded_passes : (stopped : Bool) (e : Event) → is_kind_stopped e.kind ≡ stopped → is_kind_stopped (guarded_if stopped e).kind ≡ false
+pub guarded_passes : (stopped : Bool) (e : Event) → is_kind_stopped e.kind ≡ stopped → is_kind_stopped (guarded_if stopped e).kind ≡ false
 guarded_passes true e is = empty_passes
 guarded_passes false e is = is
 

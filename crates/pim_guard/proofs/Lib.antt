@@ -1,2 +1,2 @@
-mod Passing
-mod Guarded
+pub mod Passing
+pub mod Guarded

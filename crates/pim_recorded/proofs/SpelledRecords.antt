@@ -3,7 +3,7 @@ use Rattle.std.{proofs.{Common.{◌≡◌, ℕ, ◌+◌, ◌≤◌, Bool, true, 
 use Rattle.pim_ip.{specs.declared.addr.Addr.Addr}
 use Rattle.pim_types.{specs.declared.{config.{IfaceId.IfaceId, Route.Route, RpRange.RpRange}, event.EventKind.EventKind}}
 use Rattle.pim_saved.{specs.{Crc.crc32, declared.refusal.SavedRefusal.SavedRefusal, Fits.FitsWord, Laws.AreBytes, Reading.{Reader, iface_at, made, moment_at, word_at}, Text.{moment_text, word_text}}, proofs.{Spelled.{AreBytes-rest, IsSpelled, Takes, Takes-then, bind_ok, both, guard_ok, list, made_of, moment, ok_is, word}, SpelledRows.{address, interface, range, route, settings}, Summed.sum_fits}}
-use Rattle.pim_recorded.{specs.{Fits.{FitsAnswered, FitsBytes, FitsCall, FitsEvent, FitsRecord}, Laws.{OneRecording, ReadingIsRecord, RecordIsRead}, Reading.{Configured, answered_at, by_letter, bytes_at, bytes_of_length, call_at, drawn, front_at, kinds, record_at, summed_at}, Records.{Call, Happened, Hosts, Kept, Record, Reloaded, Seen, Version, answered_text, bytes_text, call_text, event_text, front_text, record_text}, declared.answered.Answered.Answered}}
+use Rattle.pim_recorded.{specs.{Fits.{FitsAnswered, FitsBytes, FitsCall, FitsEvent, FitsRecord}, Laws.{OneRecording, ReadingIsRecord, RecordIsRead}, Reading.{Configured, answered_at, by_letter, bytes_at, bytes_of_length, call_at, drawn, front_at, kinds, record_at, summed_at}, Records.{Call, Guard, Happened, Hosts, Kept, Record, Reloaded, Seen, Version, answered_text, bytes_text, call_text, event_text, front_text, record_text}, declared.answered.Answered.Answered}}
 
 -- ---- bytes behind their count
 
@@ -77,7 +77,10 @@ taken = (
                       kind_takes (λ (p : IfaceId × ℕ). Hosts p.0 p.1) (both iface word) 111 (λ p. refl) (λ p f. f),
                       (
                         kind_takes (λ (p : IfaceId × ℕ). Version p.0 p.1) (both iface word) 113 (λ p. refl) (λ p f. f),
-                        tt,
+                        (
+                          kind_takes (λ (n : ℕ). Guard n) word 100 (λ n. refl) (λ n f. f),
+                          tt,
+                        ),
                       ),
                     ),
                   ),
@@ -123,6 +126,7 @@ call_again (Seen draw i source group) rest fits = kind_again (λ (p : ℕ × (If
 call_again (Kept source group m) rest fits = kind_again (λ (p : Addr × (Addr × ℕ)). Kept p.0 p.1.0 p.1.1) (both address (both address moment)) (source, (group, m)) rest fits
 call_again (Hosts i hosts) rest fits = kind_again (λ (p : IfaceId × ℕ). Hosts p.0 p.1) (both iface word) (i, hosts) rest fits
 call_again (Version i version) rest fits = kind_again (λ (p : IfaceId × ℕ). Version p.0 p.1) (both iface word) (i, version) rest fits
+call_again (Guard is_on) rest fits = kind_again (λ (n : ℕ). Guard n) word is_on rest fits
 
 -- ---- records
 

@@ -2,7 +2,7 @@
 use Rattle.std.{specs.Prelude.{List, length, ℕ, ◌<◌, ◌^◌}}
 use Rattle.pim_types.{specs.declared.event.EventKind.EventKind}
 use Rattle.pim_saved.{specs.Fits.{FitsAddress, FitsInterface, FitsList, FitsMoment, FitsRange, FitsRoute, FitsSettings, FitsWord}}
-use Rattle.pim_recorded.{specs.{Records.{Call, Happened, Hosts, Kept, Record, Reloaded, Seen, Version}, declared.answered.Answered.Answered}}
+use Rattle.pim_recorded.{specs.{Records.{Call, Guard, Happened, Hosts, Kept, Record, Reloaded, Seen, Version}, declared.answered.Answered.Answered}}
 
 abbrev pub FitsBytes : List ℕ → Type 0
 FitsBytes bytes = length bytes < 2 ^ 64
@@ -26,6 +26,7 @@ FitsCall (Seen draw iface source group) =
 FitsCall (Kept source group moment) = FitsAddress source × (FitsAddress group × FitsMoment moment)
 FitsCall (Hosts iface hosts) = FitsWord iface.number × FitsWord hosts
 FitsCall (Version iface version) = FitsWord iface.number × FitsWord version
+FitsCall (Guard is_on) = FitsWord is_on
 
 abbrev pub FitsAnswered : Answered → Type 0
 FitsAnswered a = FitsWord a.answer × FitsWord a.sum

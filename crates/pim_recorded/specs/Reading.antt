@@ -3,7 +3,7 @@ use Rattle.std.{specs.Prelude.{Err, List, Ok, [], drop, if◌then◌else◌, len
 use Rattle.pim_ip.{specs.declared.addr.Addr.Addr}
 use Rattle.pim_types.{specs.declared.{config.{IfaceId.IfaceId, InterfaceConfig.InterfaceConfig, Route.Route, RpRange.RpRange, Settings.Settings}, event.EventKind.EventKind}}
 use Rattle.pim_saved.{specs.{Crc.crc32, Reading.{Reader, address_at, iface_at, in_turn, interface_at, list_at, made, moment_at, range_at, route_at, settings_at, word_at, ◌>>=◌}, declared.refusal.SavedRefusal.SavedRefusal}}
-use Rattle.pim_recorded.{specs.{Records.{Call, Happened, Hosts, Kept, Record, Reloaded, Seen, Version, front_text}, declared.answered.Answered.Answered}}
+use Rattle.pim_recorded.{specs.{Records.{Call, Guard, Happened, Hosts, Kept, Record, Reloaded, Seen, Version, front_text}, declared.answered.Answered.Answered}}
 
 abbrev pub bytes_of_length : ℕ → Reader (List ℕ)
 bytes_of_length n bytes = if nat_lt (length bytes) n then Err SavedRefusal.CutShort else Ok (take n bytes, drop n bytes)
@@ -37,6 +37,7 @@ kinds =
     ∷ (107, made (λ (p : Addr × (Addr × ℕ)). Kept p.0 p.1.0 p.1.1) (in_turn address_at (in_turn address_at moment_at)))
     ∷ (111, made (λ (p : IfaceId × ℕ). Hosts p.0 p.1) (in_turn iface_at word_at))
     ∷ (113, made (λ (p : IfaceId × ℕ). Version p.0 p.1) (in_turn iface_at word_at))
+    ∷ (100, made (λ (n : ℕ). Guard n) word_at)
     ∷ []
 
 abbrev pub by_letter : List (ℕ × Reader Call) → ℕ → Reader Call

@@ -20,6 +20,8 @@ pub data Call : Type 0 where
   Hosts : (iface : IfaceId) (hosts : ℕ) → Call
   -- the version of the queries that an interface sends
   Version : (iface : IfaceId) (version : ℕ) → Call
+  -- whether the guard is on, by its number
+  Guard : (is_on : ℕ) → Call
 
 -- a record: a call, and what was answered
 pub record Record : Type 0 where
@@ -52,6 +54,7 @@ call_text (Seen draw iface source group) =
 call_text (Kept source group moment) = 107 ∷ (address_text source then address_text group then moment_text moment)
 call_text (Hosts iface hosts) = 111 ∷ (word_text iface.number then word_text hosts)
 call_text (Version iface version) = 113 ∷ (word_text iface.number then word_text version)
+call_text (Guard is_on) = 100 ∷ word_text is_on
 
 -- the bytes of an answer in a record: its number, and the sum of what was sent
 abbrev pub answered_text : Answered → List ℕ

@@ -2,7 +2,7 @@
 ghost use Rattle.std.specs.Prelude.{◌≡◌, ◌++◌, OnOk};
 ghost use Rattle.pim_types.specs.declared.event.EventKind.{EventKind as EventValue};
 ghost use Rattle.pim_recorded.specs.Fits.{FitsBytes, FitsRecord};
-ghost use Rattle.pim_recorded.specs.Records.{Hosts, Kept, Reloaded, Seen, Version, bytes_text, event_record, front_text, summed};
+ghost use Rattle.pim_recorded.specs.Records.{Guard, Hosts, Kept, Reloaded, Seen, Version, bytes_text, event_record, front_text, summed};
 
 use crate::answered::Answered;
 use pim_saver::{Saved, write_list, write_sum};
@@ -245,6 +245,17 @@ pub fn write_version(
     out.push(b'q')?;
     iface.write(out)?;
     version.write(out)?;
+    answered.write(out)?;
+    Ok(())
+}
+
+/// Puts the record of whether the guard is on, by its number, behind what is there.
+pub fn write_guard(is_on: u32, answered: Answered, out: &mut Vec<u8>) -> Result<(), AllocError>
+    ensures ok { OnOk result (out.new.items ≡ out.old.items ++ front_text (record { call = Guard is_on; answered = answered })) }
+    ensures fitting { OnOk result (FitsRecord (record { call = Guard is_on; answered = answered })) }
+{
+    out.push(b'd')?;
+    is_on.write(out)?;
     answered.write(out)?;
     Ok(())
 }

@@ -1,3 +1,4 @@
 pub mod FrontLaws
+pub mod Guarding
 pub mod Taking
 mod Leaving

@@ -1,7 +1,10 @@
 -- What holds of a session's machine: a router with what stands before it.
-use Rattle.std.{specs.{List.AllByRecursion, Prelude.{◌≡◌, ℕ, List, [], ◌∷◌, Option, None, Some, map}}}
+use Rattle.std.{specs.{List.{All, AllByRecursion}, Prelude.{◌≡◌, ℕ, List, [], ◌∷◌, Err, Option, None, Some, false, map, true}}}
+use Rattle.pim_ip.{specs.declared.refusal.Refusal.Refusal}
 use Rattle.pim_types.{specs.declared.{event.Event.Event, outcome.Outcome.Outcome}}
 use Rattle.pim_model.{specs.{State.State, Step.{Answered, outcome_of, run, state_after, step}}}
+use Rattle.law_promises.{specs.Copies.copies_at}
+use Rattle.pim_guard.{specs.{Guard.{guarded, is_kind_stopped}, Laws.IsOfData}}
 use Rattle.igmp_older.{specs.Joined.{joined, joined_step}}
 use Rattle.pim_session.{specs.Front.{Front, both, emissions_left, event_queried, front_after, given}}
 
@@ -43,3 +46,27 @@ SessionIsJoined =
     ≡ map (outcome_left (Some f)) (joined (both f s) (map (event_queried f) es)).0)
     × ((session_run (record { front = Some f; state = s }) es).1.state
     ≡ (joined (both f s) (map (event_queried f) es)).1.state)
+
+-- ---- behind the guard
+
+-- By each event of a list the copies that the router of a session sends are neither IGMP nor PIM, and don't go to
+-- 224.0.0.0/24.
+unfoldable pub CopiesAreData : Served → List Event → Type 0
+CopiesAreData x [] = Unit {0}
+CopiesAreData x (e ∷ es) =
+    let behind : Event = given x.front x.state e in
+    All (IsOfData x.state behind) (copies_at x.state behind) × CopiesAreData (session_step x e).1 es
+
+-- Whatever comes to a session whose guard is on, each copy that its router sends is of data. What else the router sends
+-- on links are its own messages (`OnlyCopiesAreData`).
+abbrev pub GuardedSessionCopiesData : Type 0
+GuardedSessionCopiesData = (x : Served) (es : List Event) → CopiesAreData x (map (guarded true) es)
+
+-- An event that the guard stops changes nothing of a session, and sends nothing.
+abbrev pub StoppedEventChangesNothing : Type 0
+StoppedEventChangesNothing = (x : Served) (e : Event) → is_kind_stopped e.kind ≡ true
+    → session_step x (guarded true e) ≡ (record { answer = Err Refusal.Short; emissions = []; copies = 0 }, x)
+
+-- A session whose guard is off takes each event as it came.
+abbrev pub WithoutGuardSessionStays : Type 0
+WithoutGuardSessionStays = (x : Served) (es : List Event) → session_run x (map (guarded false) es) ≡ session_run x es

@@ -1,5 +1,5 @@
 -- What a session shows: its router, what stands before it, and what its last calls returned.
-use Rattle.std.{specs.Prelude.{List, Option}}
+use Rattle.std.{specs.Prelude.{Bool, List, Option}}
 use Rattle.pim_types.{specs.declared.outcome.Emission.Emission}
 use Rattle.pim_rows.{specs.declared.table.Row.Row}
 use Rattle.pim_router.{specs.Standing.Shown as RouterShown}
@@ -12,6 +12,8 @@ pub record ShownSession : Type 0 where
   pub router : RouterShown
   -- none where no setting was made, and once an allocation failed
   pub front : Option Front
+  -- whether the guard is on, which stops what would be forwarded as data though it is IGMP or PIM
+  pub guard : Bool
   -- what is untaken of what the last event sent: the last of its packets, in their order
   pub sent : List Emission
   -- the rows of the table that was read last

@@ -1,5 +1,5 @@
 //! Laws of the definitions, each the contract of a function with nothing to do.
-ghost use Rattle.pim_session.specs.Laws.{SessionIsJoined, WithoutFrontNothingChanges};
+ghost use Rattle.pim_session.specs.Laws.{GuardedSessionCopiesData, SessionIsJoined, StoppedEventChangesNothing, WithoutFrontNothingChanges, WithoutGuardSessionStays};
 
 /// A session before whose router nothing stands is the router.
 #[tactic(auto, using(crate::proofs::FrontLaws::without_front))]
@@ -11,4 +11,22 @@ pub fn without_front_nothing_changes()
 #[tactic(auto, using(crate::proofs::FrontLaws::session_is_joined))]
 pub fn session_is_joined()
     ensures { SessionIsJoined }
+{}
+
+/// Behind the guard each copy that a session's router sends is of data.
+#[tactic(auto, using(crate::proofs::Guarding::guarded_session_copies_data))]
+pub fn guarded_session_copies_data()
+    ensures { GuardedSessionCopiesData }
+{}
+
+/// An event that the guard stops changes nothing.
+#[tactic(auto, using(crate::proofs::Guarding::stopped_event_changes_nothing))]
+pub fn stopped_event_changes_nothing()
+    ensures { StoppedEventChangesNothing }
+{}
+
+/// Without the guard each event comes to the session as it is.
+#[tactic(auto, using(crate::proofs::Guarding::without_guard_session_stays))]
+pub fn without_guard_session_stays()
+    ensures { WithoutGuardSessionStays }
 {}

@@ -28,7 +28,8 @@ ghost use Rattle.pim_event.specs.Staying.{OffersStay};
 ghost use Rattle.pim_rested.specs.Resuming.{IsResumable, restore_test};
 ghost use Rattle.law_history.specs.History.{Given};
 ghost use Rattle.pim_router.specs.Asked.{LeadsOn, SentIsAsked};
-ghost use Rattle.pim_session.specs.Untaken.{IsMemoryAlone, Stopped, has_untaken};
+ghost use Rattle.pim_session.specs.Untaken.{IsAnswered, IsMemoryAlone, IsMemoryUnless, Stopped, has_untaken, is_guarded};
+ghost use Rattle.pim_guard.specs.Guard.{is_stopped};
 ghost use Rattle.pim_session.specs.declared.stop.Stop.{Stop as StopValue};
 ghost use Rattle.pim_session.specs.Leaving.{GoesOnFrom, LeftIsAsked};
 ghost use Rattle.pim_router.specs.Standing.{begun, nothing_shown, standing, with_state};
@@ -38,6 +39,7 @@ ghost use Rattle.pim_saved.specs.Text.{text};
 ghost use Rattle.pim_types.specs.Keys.{key_cmp};
 ghost use Rattle.pim_session.specs.Front.{emissions_left, front_after, given, hosts_set, interface_test, is_sure, older_rows, version_set};
 
+mod guarded;
 mod reloaded;
 mod trees;
 
@@ -56,12 +58,14 @@ use std::mem;
 
 /// A router, what stands before it for hosts and routers of older versions of IGMP, the packets of the last event, and
 /// the rows that were read last. The packets are taken one by one, or cleared: until then the session takes no event.
-/// Nothing stands before a new session's router, which refuses each message of an older version.
+/// A new session's router refuses each message of an older version. Before it stands a guard, which stops what would be
+/// forwarded as data though hosts and routers read it as IGMP or PIM, as `pim_guard` says.
 pub struct Session {
     router: Box<Router>,
     // Whether an allocation failed, and with it the session.
     is_lost: bool,
     front: Option<Front>,
+    guard: bool,
     sent: Vec<Emission>,
     // How many of the packets were taken.
     taken: usize,
@@ -79,6 +83,7 @@ impl Model for Session {
     ghost view = { λ s. record {
       router = if s.is_lost then nothing_shown else s.router.value;
       front = if s.is_lost then None else s.front;
+      guard = s.guard;
       sent = drop s.taken s.sent.items;
       rows = s.rows.items;
       older_rows = s.older_rows.items;
@@ -94,6 +99,7 @@ impl Drop for Session {
             router: _,
             is_lost: _,
             front: _,
+            guard: _,
             sent: _,
             taken: _,
             rows: _,
@@ -107,7 +113,7 @@ impl Session {
     /// The fault is want of memory.
     pub fn new(alloc: Global, config: Config) -> Result<Result<Session, Refusal>, Fault>
         ensures accepted { IfOk result (λ made. IfOk made (λ s. (config_test config ≡ Ok tt)
-            × (s.router ≡ begun (opening config)) × (s.front ≡ None) × (s.sent ≡ []) × (s.rows ≡ [])
+            × (s.router ≡ begun (opening config)) × (s.front ≡ None) × (s.guard ≡ true) × (s.sent ≡ []) × (s.rows ≡ [])
             × (s.older_rows ≡ []))) }
         ensures refused { IfOk result (λ made. IfErr made (λ refusal. config_test config ≡ Err refusal)) }
         ensures memory { IfErr result (λ fault. fault ≡ Fault.Memory) }
@@ -118,14 +124,14 @@ impl Session {
         }
     }
 
-    /// A session of the router that is in the state that these bytes say, as `Router::restore` makes it. Nothing stands
-    /// before it, and no packets and no rows are kept. The fault is want of memory.
+    /// A session of the router that is in the state that these bytes say, as `Router::restore` makes it. No setting was
+    /// made of it, and no packets and no rows are kept. The fault is want of memory.
     pub fn restore(alloc: Global, bytes: &[u8]) -> Result<Result<Session, RestoreRefusal>, Fault>
         ensures restored { IfOk result (λ made. IfOk made (λ s. (state : State) → reading bytes.now ≡ Ok state
             → s.router ≡ begun state)) }
         ensures led { IfOk result (λ made. IfOk made (λ s. IfSome s.router.standing (λ r. GoesOnFrom bytes.now r.state))) }
         ensures tested { IfOk result (λ made. IfOk made (λ s. restore_test bytes.now ≡ Ok tt)) }
-        ensures rest { IfOk result (λ made. IfOk made (λ s. (s.front ≡ None) × (s.sent ≡ []) × (s.rows ≡ [])
+        ensures rest { IfOk result (λ made. IfOk made (λ s. (s.front ≡ None) × (s.guard ≡ true) × (s.sent ≡ []) × (s.rows ≡ [])
             × (s.older_rows ≡ []))) }
         ensures refused { IfOk result (λ made. IfErr made (λ refusal. restore_test bytes.now ≡ Err refusal)) }
         ensures memory { IfErr result (λ fault. fault ≡ Fault.Memory) }
@@ -138,13 +144,14 @@ impl Session {
 
     fn of(alloc: Global, router: Box<Router>) -> Session
         requires { IsSome router.value.standing }
-        ensures { (result.router ≡ router.value) × (result.front ≡ None) × (result.sent ≡ []) × (result.rows ≡ [])
+        ensures { (result.router ≡ router.value) × (result.front ≡ None) × (result.guard ≡ true) × (result.sent ≡ []) × (result.rows ≡ [])
             × (result.older_rows ≡ []) }
     {
         Session {
             router,
             is_lost: false,
             front: None,
+            guard: true,
             sent: Vec::new(alloc),
             taken: 0,
             rows: Vec::new(alloc),
@@ -154,10 +161,11 @@ impl Session {
 
     /// Takes one event, as `Router::step_lent` does, and keeps its packets. Where something stands before the router, the
     /// router is given what that makes of a packet, and its queries leave as the versions of the interfaces say. While
-    /// packets of the event before are untaken the answer is `Untaken`, and nothing changes. After a fault the session
-    /// answers `Failed` from then on. A session that hasn't failed, and has no untaken packets, takes an event that is
-    /// ignored, or is refused for its bytes, its timestamp or its interface, if its packet was given to the router as it
-    /// came.
+    /// packets of the event before are untaken the answer is `Untaken`, and nothing changes. Else, where the guard stops
+    /// the event, the answer is `Guarded`: the router is given an empty packet in its place, which it refuses, so that it
+    /// stays as it is, and lists nothing as changed. After a fault the session answers `Failed` from then on. A session
+    /// that hasn't failed, and has no untaken packets, answers an event that is stopped or ignored, or is refused for its
+    /// bytes, its timestamp or its interface, if its packet was given to the router as it came.
     pub fn step(
         &mut self,
         alloc: Global,
@@ -188,9 +196,14 @@ impl Session {
         ensures stopped { IfErr result (λ stop. Stopped stop self.old self.new) }
         ensures silent { OnErr result (self.new.sent ≡ self.old.sent) }
         ensures failed { (result ≡ Err (StopValue.Fault Fault.Failed)) ↔ (self.old.router.standing ≡ None) }
-        ensures fault { IfSome self.old.router.standing (λ r. IfErr result IsMemoryAlone) }
+        ensures guarded { IfSome self.old.router.standing (λ r.
+            (result ≡ Err StopValue.Guarded) ↔ IsTrue (is_guarded self.old event.now.kind)) }
+        ensures guard { self.new.guard ≡ self.old.guard }
+        ensures fault { IfSome self.old.router.standing (λ r.
+            IfErr result (IsMemoryUnless (is_stopped self.old.guard event.now.kind))) }
         ensures sure { IfSome self.old.router.standing (λ r. self.old.sent ≡ []
-            → IsTrue (is_sure self.old.front r.state event.now) → IsOk result) }
+            → IsTrue (is_sure self.old.front r.state event.now)
+            → IsAnswered (is_stopped self.old.guard event.now.kind) result) }
         ensures rows { (self.new.rows ≡ self.old.rows) × (self.new.older_rows ≡ self.old.older_rows) }
     {
         if self.is_lost {
@@ -198,6 +211,9 @@ impl Session {
         }
         if self.has_untaken() {
             return Err(Stop::Untaken);
+        }
+        if self.stops(event) {
+            return Err(self.stay(alloc, event.draw()));
         }
         match self.take(alloc, event) {
             Ok(answer) => Ok(answer),
@@ -228,6 +244,7 @@ impl Session {
         ensures stays { IfSome self.old.router.standing (λ r. OnOk result
             (OffersStay self.new.router.disturbed r.state (step r.state (given self.old.front r.state event.now)).state)) }
         ensures failing { OnErr result ((self.new.router ≡ nothing_shown) × (self.new.front ≡ None)) }
+        ensures guard { self.new.guard ≡ self.old.guard }
         ensures silent { OnErr result (self.new.sent ≡ self.old.sent) }
         ensures failed { (result ≡ Err Fault.Failed) ↔ (self.old.router.standing ≡ None) }
         ensures fault { IfSome self.old.router.standing (λ r. IsOkUnless result Fault.Memory) }
@@ -283,6 +300,7 @@ impl Session {
             (result ≡ Err StopValue.Untaken) ↔ IsTrue (has_untaken self.old)) }
         ensures stopped { IfErr result (λ stop. Stopped stop self.old self.new) }
         ensures front { OnOk result (self.new.front ≡ self.old.front) }
+        ensures guard { self.new.guard ≡ self.old.guard }
         ensures silent { OnErr result (self.new.sent ≡ self.old.sent) }
         ensures failed { (result ≡ Err (StopValue.Fault Fault.Failed)) ↔ (self.old.router.standing ≡ None) }
         ensures fault { IfSome self.old.router.standing (λ r. IfErr result IsMemoryAlone) }
@@ -320,7 +338,7 @@ impl Session {
         ensures front { OnOk result (self.new.front ≡ self.old.front) }
         ensures failed { (result ≡ Err Fault.Failed) ↔ (self.old.router.standing ≡ None) }
         ensures fault { IfSome self.old.router.standing (λ r. IsOkUnless result Fault.Memory) }
-        ensures rest { (self.new.sent ≡ self.old.sent) × (self.new.rows ≡ self.old.rows)
+        ensures rest { (self.new.guard ≡ self.old.guard) × (self.new.sent ≡ self.old.sent) × (self.new.rows ≡ self.old.rows)
             × (self.new.older_rows ≡ self.old.older_rows) }
     {
         if self.is_lost {
@@ -338,7 +356,7 @@ impl Session {
     // Keeps packets that were sent in place of those kept before, whose memory goes back to the router.
     fn keep_sent(&mut self, sent: Vec<Emission>)
         ensures sent { self.new.sent ≡ sent.items }
-        ensures rest { (self.new.router ≡ self.old.router) × (self.new.front ≡ self.old.front) × (self.new.rows ≡ self.old.rows)
+        ensures rest { (self.new.router ≡ self.old.router) × (self.new.guard ≡ self.old.guard) × (self.new.front ≡ self.old.front) × (self.new.rows ≡ self.old.rows)
             × (self.new.older_rows ≡ self.old.older_rows) }
     {
         let done = mem::replace(&mut self.sent, sent);
@@ -360,7 +378,7 @@ impl Session {
         ensures silent { OnErr result (self.new.rows ≡ self.old.rows) }
         ensures failed { (result ≡ Err Fault.Failed) ↔ (self.old.router.standing ≡ None) }
         ensures fault { IfSome self.old.router.standing (λ r. IsOkUnless result Fault.Memory) }
-        ensures rest { (self.new.router ≡ self.old.router) × (self.new.front ≡ self.old.front)
+        ensures rest { (self.new.router ≡ self.old.router) × (self.new.guard ≡ self.old.guard) × (self.new.front ≡ self.old.front)
             × (self.new.sent ≡ self.old.sent) × (self.new.older_rows ≡ self.old.older_rows) }
     {
         if self.is_lost {
@@ -403,7 +421,7 @@ impl Session {
         ensures silent { OnErr result (self.new.front ≡ self.old.front) }
         ensures failed { (result ≡ Err Fault.Failed) ↔ (self.old.router.standing ≡ None) }
         ensures fault { IfSome self.old.router.standing (λ r. IsOkUnless result Fault.Memory) }
-        ensures rest { (self.new.router ≡ self.old.router) × (self.new.sent ≡ self.old.sent) × (self.new.rows ≡ self.old.rows)
+        ensures rest { (self.new.router ≡ self.old.router) × (self.new.guard ≡ self.old.guard) × (self.new.sent ≡ self.old.sent) × (self.new.rows ≡ self.old.rows)
             × (self.new.older_rows ≡ self.old.older_rows) }
     {
         if self.is_lost {
@@ -430,7 +448,7 @@ impl Session {
         ensures silent { OnErr result (self.new.front ≡ self.old.front) }
         ensures failed { (result ≡ Err Fault.Failed) ↔ (self.old.router.standing ≡ None) }
         ensures fault { IfSome self.old.router.standing (λ r. IsOkUnless result Fault.Memory) }
-        ensures rest { (self.new.router ≡ self.old.router) × (self.new.sent ≡ self.old.sent) × (self.new.rows ≡ self.old.rows)
+        ensures rest { (self.new.router ≡ self.old.router) × (self.new.guard ≡ self.old.guard) × (self.new.sent ≡ self.old.sent) × (self.new.rows ≡ self.old.rows)
             × (self.new.older_rows ≡ self.old.older_rows) }
     {
         if self.is_lost {
@@ -450,7 +468,7 @@ impl Session {
         ensures silent { OnErr result (self.new.older_rows ≡ self.old.older_rows) }
         ensures failed { (result ≡ Err Fault.Failed) ↔ (self.old.router.standing ≡ None) }
         ensures fault { IfSome self.old.router.standing (λ r. IsOkUnless result Fault.Memory) }
-        ensures rest { (self.new.router ≡ self.old.router) × (self.new.front ≡ self.old.front)
+        ensures rest { (self.new.router ≡ self.old.router) × (self.new.guard ≡ self.old.guard) × (self.new.front ≡ self.old.front)
             × (self.new.sent ≡ self.old.sent) × (self.new.rows ≡ self.old.rows) }
     {
         if self.is_lost {
@@ -480,7 +498,7 @@ impl Session {
     /// Takes the first of the untaken packets away, if there is one.
     pub fn remove_first(&mut self)
         ensures sent { self.new.sent ≡ drop 1 self.old.sent }
-        ensures rest { (self.new.router ≡ self.old.router) × (self.new.front ≡ self.old.front) × (self.new.rows ≡ self.old.rows)
+        ensures rest { (self.new.router ≡ self.old.router) × (self.new.guard ≡ self.old.guard) × (self.new.front ≡ self.old.front) × (self.new.rows ≡ self.old.rows)
             × (self.new.older_rows ≡ self.old.older_rows) }
     {
         if self.has_untaken() {
@@ -491,7 +509,7 @@ impl Session {
     /// Takes all untaken packets away.
     pub fn clear(&mut self)
         ensures sent { self.new.sent ≡ [] }
-        ensures rest { (self.new.router ≡ self.old.router) × (self.new.front ≡ self.old.front) × (self.new.rows ≡ self.old.rows)
+        ensures rest { (self.new.router ≡ self.old.router) × (self.new.guard ≡ self.old.guard) × (self.new.front ≡ self.old.front) × (self.new.rows ≡ self.old.rows)
             × (self.new.older_rows ≡ self.old.older_rows) }
     {
         self.taken = self.sent.len();

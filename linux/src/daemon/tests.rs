@@ -462,6 +462,31 @@ fn a_register_of_a_long_packet_and_of_a_fragment_is_sent_on_as_it_is() {
     }
 }
 
+/// A query, whole and in fragments, and a Hello.
+#[test]
+fn a_register_of_igmp_or_pim_puts_nothing_on_a_link() {
+    let (mut daemon, fake) = begun(TWO, &both());
+    let group = Ipv4Addr::new(239, 1, 1, 1);
+    let bring = |daemon: &mut Daemon| {
+        for (protocol, flags) in [(IGMP, 0), (IGMP, 0x2000), (PIM, 0)] {
+            let mut inner = data(FAR, group, flags, 40);
+            inner[9] = protocol;
+            put_checksum(&mut inner[..20], 10);
+            happens(daemon, &fake, register(&inner));
+        }
+    };
+    let left = || fake.sent.borrow().iter().filter(|(_, bytes)| bytes[12..16] == FAR.octets()).count();
+    happens(&mut daemon, &fake, report(ETH1, [10, 5, 0, 77], group));
+    bring(&mut daemon);
+    assert_eq!((left(), daemon.policy.refusals.of(Cause::Guard), daemon.counters.ignored), (0, 3, 3));
+    happens(&mut daemon, &fake, register(&data(FAR, group, 0, 40)));
+    assert_eq!(left(), 1);
+    let unguarded = settings::read(&format!("guard = false\n{TWO}")).expect("they are in order");
+    daemon.take_settings(unguarded).expect("it goes on");
+    bring(&mut daemon);
+    assert_eq!((left(), daemon.policy.refusals.of(Cause::Guard)), (4, 3));
+}
+
 #[test]
 fn a_program_on_the_router_is_heard() {
     let (mut daemon, fake) = begun(TWO, &both());

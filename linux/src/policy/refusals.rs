@@ -24,6 +24,7 @@ pub enum Cause {
     Reserve,
     OlderHost,
     SourceSpecific,
+    Guard,
 }
 
 impl Cause {
@@ -47,6 +48,7 @@ impl Cause {
             Cause::Reserve => "limit",
             Cause::OlderHost => "older_hosts",
             Cause::SourceSpecific => "ssm",
+            Cause::Guard => "guard",
         }
     }
 }
@@ -71,6 +73,7 @@ impl fmt::Display for Cause {
             Cause::Reserve => "the rest of `limit` is kept for neighbours",
             Cause::OlderHost => "a message of IGMPv1 or IGMPv2 that `older_hosts` doesn't hear",
             Cause::SourceSpecific => "a message of IGMPv1 or IGMPv2 for an SSM group",
+            Cause::Guard => "IGMP or PIM that `guard` doesn't let be forwarded as data",
         })
     }
 }

@@ -159,6 +159,7 @@ class Answer(enum.IntEnum):
     NO_NEIGHBOUR = 106
     NOT_RP = 107
     ALREADY = 108
+    GUARDED = 109
 
     @classmethod
     def _missing_(cls, value: object) -> Self | None:
@@ -367,6 +368,7 @@ CALLS: dict[str, tuple[list[Any], Any]] = {
     "row": ([c_size_t, POINTER(ToldRow)], c_bool),
     "older": ([c_uint32, c_uint32], c_uint32),
     "query_version": ([c_uint32, c_uint32], c_uint32),
+    "guard": ([c_uint32], c_uint32),
     "older_read": ([], c_uint32),
     "older_rows": ([], c_size_t),
     "older_row": ([c_size_t, POINTER(ToldOlderRow)], c_bool),
@@ -566,8 +568,8 @@ class Router:
     @classmethod
     def restore(cls, saved: Buffer, *, library: str | os.PathLike[str] | None = None) -> Self:
         """A router that goes on from the state that `save` returned: the same events and draws bring the same answers
-        and packets. It has nothing to send, and hears no older version of IGMP. Raises `Refused` where the bytes are
-        no saved state of a router, whatever they are."""
+        and packets. It has nothing to send, its guard is on, and it hears no older version of IGMP. Raises `Refused`
+        where the bytes are no saved state of a router, whatever they are."""
         router, made, data = cls.__new__(cls), c_void_p(), bytes_of(saved)
         router._begin(library)
         router._must(router._library.viq_restore(byref(made), ABI, data, len(data)))
@@ -580,6 +582,7 @@ class Router:
 
     def _keep(self, made: c_void_p) -> None:
         self._router: c_void_p | None = made
+        self.has_guard = True
         self._sent: list[Sent] = []
         self._room = (c_uint8 * MOST_BYTES)()
         self._took: Callable[[str, int, tuple[Any, ...], Answer], None] | None = None
@@ -653,8 +656,8 @@ class Router:
 
     def save(self) -> bytes:
         """The state of the router as bytes, of which `restore` makes a router that goes on from it. What isn't in them:
-        what the clock showed at timestamp 0, packets that `packets` didn't return, and what `set_older_hosts` and
-        `set_query_version` set and the groups in an older mode."""
+        what the clock showed at timestamp 0, packets that `packets` didn't return, what `set_guard` set, and what
+        `set_older_hosts` and `set_query_version` set and the groups in an older mode."""
         size = c_size_t()
         with self.lock:
             self._must(self._call("save", None, 0, byref(size)))
@@ -793,6 +796,14 @@ class Router:
         told = trees.ToldNeighbour()
         is_there = self._call("neighbour", number(iface, 32, "an interface"), address(at), byref(told))
         return trees.neighbour_of(told) if is_there else None
+
+    def set_guard(self, is_on: bool) -> None:
+        """Sets whether the guard is on, as it is in a new router. It stops by GUARDED what would be forwarded as data
+        though hosts and routers read it as IGMP or PIM: a Register whose packet inside is of these, or is for
+        224.0.0.0/24, and on a link PIM to a group outside 224.0.0.0/24. It is no event."""
+        with self.lock:
+            self._must(self._recorded("guard", 0, (int(is_on),)))
+            self.has_guard = is_on
 
     # ---- older versions of IGMP
 

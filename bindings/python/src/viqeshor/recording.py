@@ -37,10 +37,11 @@ KINDS: dict[str, tuple[str, tuple[str, ...]]] = {
     "keep": ("k", ("source", "group", "moment")),
     "older": ("o", ("iface", "value")),
     "query_version": ("q", ("iface", "value")),
+    "guard": ("d", ("value",)),
 }
 NAMES = {letter: name for name, (letter, _) in KINDS.items()}
 # These are no events: they have no draw, and send nothing.
-QUIET = ("keep", "older", "query_version")
+QUIET = ("keep", "older", "query_version", "guard")
 LISTS: dict[str, Any] = {"routes": ToldRoute, "ranges": ToldRange}
 
 
@@ -190,10 +191,12 @@ class Recorder:
             before.close()
 
     def _head(self) -> bytes:
-        """What a file begins with: the state that the router has, and the settings of older versions."""
+        """What a file begins with: the state that the router has, the settings of older versions, and the guard's."""
         state, older = self.router.save(), len(self.router.older_rows())
         library, kept = self.router._library, self._settings.items()
-        settings = (record_of(library, name, 0, (iface, value), 0, 0) for (name, iface), value in kept)
+        settings = [record_of(library, name, 0, (iface, value), 0, 0) for (name, iface), value in kept]
+        if not self.router.has_guard:
+            settings.append(record_of(library, "guard", 0, (0,), 0, 0))
         return head_of(older, state) + state + b"".join(settings)
 
     def took(self, name: str, draw: int, values: tuple[Any, ...], answer: int) -> None:
@@ -394,11 +397,21 @@ def values_of(record: Record) -> tuple[Any, ...]:
     return record.numbers
 
 
+def restored(told: Recording, library: str | os.PathLike[str] | None = None) -> Router:
+    """A router as it was at a recording's beginning. Before version 4 no router had a guard."""
+    router = Router.restore(told.state, library=library)
+    if told.version < 4:
+        router.set_guard(False)
+    return router
+
+
 def take(router: Router, record: Record, version: int = VERSION) -> tuple[int, int]:
     """Gives a router what was recorded; what it answers, and the sum of what it sends, as the version has it. The
     packets are cleared."""
     draw = [] if record.name in QUIET else [Draw(record.draw)]
     answer, total = Answer(router._call(record.name, *values_of(record), *draw)), 0
+    if record.name == "guard" and answer == Answer.DONE:
+        router.has_guard = record.numbers[0] == 1
     if draw and answer == Answer.DONE:
         total = sum_of(router, version)
         router._call("clear")

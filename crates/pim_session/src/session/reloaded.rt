@@ -50,6 +50,7 @@ impl Session {
             (ListsFacts r.state (reload r.state config.now draw).0 self.new.router.changed))) }
         ensures disturbed { IfOk result (λ answer. OnOk answer
             (self.new.router.disturbed ≡ record { touched = TouchedValue.All; replaced = NoneReplaced })) }
+        ensures guard { self.new.guard ≡ self.old.guard }
         ensures rows { IfOk result (λ answer. OnOk answer ((self.new.rows ≡ []) × (self.new.older_rows ≡ []))) }
         ensures refused { IfOk result (λ answer. IfErr answer (λ refusal. (config_test config.now ≡ Err refusal)
             × (self.new ≡ self.old))) }

@@ -43,6 +43,7 @@ IGNORED = {
     "NoNeighbour": 106,
     "NotRp": 107,
     "Already": 108,
+    "Guarded": 109,
 }
 # What the refusals of moves, by their numbers as texts, and the reasons to ignore them mean.
 MEANINGS = {
@@ -72,6 +73,8 @@ MEANINGS = {
                    "or is over",
     "NotRp": "a Register-Stop from another address than the group's RP: the router goes on registering",
     "Already": "`up` of an interface that is up, or `down` of one that is down",
+    "Guarded": "the guard stops a Register with IGMP or PIM inside, or for 224.0.0.0/24, and PIM on a link to another "
+               "group",
 }
 # ---- rows
 # The rows of the definitions: the first number of each, and its columns, each a kind with its words.

@@ -35,6 +35,11 @@ def settings(table: dict[str, Any]) -> dict[str, Any]:
     return given | {"stays_on_shared_tree": table.get("spt") == "never", "addresses": table.get("addresses", [])}
 
 
+def has_guard(table: dict[str, Any]) -> bool:
+    """Whether a guard stands before a router: in a scenario none does where none is said."""
+    return table.get("guard") == "on"
+
+
 def routes(texts: Iterable[str]) -> Iterator[tuple[str | int, ...]]:
     """Each route: prefix, next hop, interface, preference, metric."""
     return map(route_words, texts)
@@ -46,11 +51,10 @@ def ranges(texts: Iterable[str]) -> Iterator[tuple[str, str]]:
 
 
 def event(step: Step) -> Event | None:
-    """The event that a step was to its router; None where the move itself was refused, or a guard before the router
-    stopped the packet."""
+    """The event that a step was to its router; None where the move itself was refused."""
     did = step.did
     draw, kind = did.get("draw", 0), did["do"]
-    if (step.verdict, step.cause) in (("refused", "27"), ("ignored", "Guarded")):
+    if (step.verdict, step.cause) == ("refused", "27"):
         return None
     if step.brought is not None:
         return arrival(draw, None if kind == "carry" else step.iface, step.brought.data)

@@ -28,6 +28,7 @@ def new_router(table: dict[str, Any], library: str | PathLike[str] | None = None
         library=library,
         **fed.settings(table)
     )
+    router.set_guard(fed.has_guard(table))
     for iface, _ in enumerate(table["iface"]):
         if "older_hosts" in table:
             router.set_older_hosts(iface, table["older_hosts"])
@@ -61,6 +62,7 @@ def reload(router: viqeshor.Router, event: fed.Event, before: dict[str, Any]) ->
         router.reload(*lists, draw=event.draw, **fed.settings(config))
     except viqeshor.Refused as refused:
         return refused.answer
+    router.set_guard(fed.has_guard(config))
     was, hosts = (table.get("older_hosts", "none") for table in (before, config))
     for iface in range(0 if hosts != was else len(before["iface"]), len(config["iface"])):
         router.set_older_hosts(iface, hosts)
@@ -137,6 +139,7 @@ class Twin:
         if self.taken:
             state, self.table = self.saved[self.taken]
             self.router = viqeshor.Router.restore(state)
+            self.router.set_guard(fed.has_guard(self.table))
         else:
             self.table = self.first
             self.router = new_router(self.table)
@@ -152,4 +155,6 @@ class Twin:
 
     def copy(self, count: int) -> viqeshor.Router:
         """Another router after so many events, which may take others from then on."""
-        return viqeshor.Router.restore(self.after(count).save())
+        router = viqeshor.Router.restore(self.after(count).save())
+        router.set_guard(fed.has_guard(self.table))
+        return router
