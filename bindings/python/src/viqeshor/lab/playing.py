@@ -11,7 +11,7 @@ from collections.abc import Callable, Iterable
 from dataclasses import dataclass, replace
 from typing import TYPE_CHECKING, Any
 
-from viqeshor.lab import guard, scenario, story, twin
+from viqeshor.lab import scenario, story, twin
 from viqeshor.lab.known import begun, follow
 
 if TYPE_CHECKING:
@@ -19,8 +19,8 @@ if TYPE_CHECKING:
     from viqeshor import Answer, Router as Core
 
 
-# What is answered where the packet to deliver isn't there, and where a guard stops one.
-BAD_MOVE, GUARDED = ("refused", "27"), ("ignored", "Guarded")
+# What is answered where the packet to deliver isn't there.
+BAD_MOVE = ("refused", "27")
 
 
 class Action:
@@ -168,9 +168,7 @@ class Player:
     def answer(step: story.Step, core: Core, table: dict[str, Any]) -> tuple[str, str | None]:
         """What a router answers; no answer of it follows of a move `restart`, which is done."""
         event = twin.event_of(step)
-        if event is None:
-            return "done", None
-        return GUARDED if guard.stops(table, event) else words_of(twin.take(core, event, table))
+        return ("done", None) if event is None else words_of(twin.take(core, event, table))
 
     def wake(self, name: str, core: Core) -> None:
         """Keeps when time does something for a router that has changed."""
