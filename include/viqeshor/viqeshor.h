@@ -144,6 +144,7 @@ enum {
     VIQ_NOT_SETTLED = 67,
     VIQ_NOT_QUIET = 68,
     VIQ_DAMAGED = 69,
+    VIQ_NOT_NEAR = 72,
 
     VIQ_IGNORED = 100, /* no answer: the reasons to ignore an event are the numbers above it */
     VIQ_OWN = 101,

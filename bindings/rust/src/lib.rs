@@ -345,6 +345,8 @@ numbered! {
         NotQuiet = 68,
         /// The saved state is damaged: its sum is another one.
         Damaged = 69,
+        /// A timer of the saved state ends later than it may, or a fact lies where none can.
+        NotNear = 72,
     }
 }
 

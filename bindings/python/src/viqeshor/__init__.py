@@ -150,6 +150,7 @@ class Answer(enum.IntEnum):
     NOT_SETTLED = 67
     NOT_QUIET = 68
     DAMAGED = 69
+    NOT_NEAR = 72
     OWN = 101
     NOT_FOR_ME = 102
     OTHER_TYPE = 103
