@@ -42,11 +42,14 @@ def rows_of(data):
     made = []
     with mock.patch.object(by_document, "Reader", lambda given: made.append(Places(given)) or made[0]):
         state = by_document.read(data)
-    keys, times = iter(made[0].keys), iter(made[0].times[1:])
-    return state, [
-        (name, row, next(keys), [next(times) for column in TIMES.get(name, []) if row[column] is not None])
-        for name, table in state.tables.items() for _, row in table
-    ]
+    # The count of a list is read as a time is, here of interfaces, routes and ranges, and before each table.
+    keys, times, rows = iter(made[0].keys), iter(made[0].times[4:]), []
+    for name, table in state.tables.items():
+        next(times)
+        for _, row in table:
+            places = [next(times) for column in TIMES.get(name, []) if row[column] is not None]
+            rows.append((name, row, next(keys), places))
+    return state, rows
 
 
 def with_number(data, place, number, count):
@@ -70,15 +73,15 @@ class Restarted(unittest.TestCase):
         cls.tool = stored.tool("restarted")
         cls.library = Library(is_proved=False).shared()
         cls.runs = cls.tool.random_runs(cls.library, cls.asked)
+        cls.stored = cls.tool.stored(cls.library, sorted(cls.tool.STORED.glob("*.toml")))
 
     def test_random_runs(self):
         self.assertEqual((self.runs.wrong, self.runs.routers, self.runs.restarts), ([], 20, 1600))
 
     def test_the_routers_of_the_stored_scenarios(self):
-        came = self.tool.stored(self.library, sorted(self.tool.STORED.glob("*.toml")))
-        self.assertEqual(came.wrong, [])
-        self.assertGreater(came.routers, 150)
-        self.assertGreater(came.restarts, came.events * 0.99)
+        self.assertEqual(self.stored.wrong, [])
+        self.assertGreater(self.stored.routers, 150)
+        self.assertGreater(self.stored.restarts, self.stored.events * 0.99)
 
     def test_spoilt_bytes(self):
         for saved in self.runs.saved[:5]:
@@ -93,7 +96,7 @@ class Restarted(unittest.TestCase):
 
     def test_a_timer_past_its_period_is_told(self):
         seen = set()
-        for given in self.runs.saved:
+        for given in self.runs.saved + self.stored.saved:
             state, rows = rows_of(given)
             for name, row, _, places in rows:
                 for place in places if latest(name, row) else []:
@@ -104,14 +107,15 @@ class Restarted(unittest.TestCase):
         self.assertEqual(seen, {"up", "querier", "register", "assert"})
 
     def test_a_fact_where_none_can_be_is_told(self):
-        """The last neighbour with a group in its key, and the last source under a group without a record."""
+        """The last neighbour with a group in its key, and the last source under a group without a record, where no assert
+        or register goes by them."""
         seen = set()
         for given in self.runs.saved:
             for name, _, key, _ in {row[0]: row for row in rows_of(given)[1]}.values():
                 if name in ("neighbour", "source-record"):
-                    seen.add(name)
-                    self.assertEqual(self.tool.taken(self.library, with_number(given, key + 4, 0xEFFFFFFF, 4)), 72, name)
-        self.assertEqual(seen, {"neighbour", "source-record"})
+                    seen.add((name, self.tool.taken(self.library, with_number(given, key + 4, 0xEFFFFFFF, 4))))
+        self.assertLess({("neighbour", 72), ("source-record", 72)}, seen)
+        self.assertLessEqual({number for _, number in seen}, {68, 72})
 
     def test_an_older_state_is_noticed(self):
         """A router that is restored of what was saved before its last event."""

@@ -42,7 +42,7 @@ pub use trees::{Hop, LanDelay, Link, Neighbour, Path, Querier, Querying, Rpf, Rp
 /// The most bytes that a packet has.
 pub const MOST_BYTES: usize = 1528;
 /// What this crate and the library have to agree on: `VIQ_ABI` of `viqeshor.h`.
-pub const ABI: u32 = 6;
+pub const ABI: u32 = 7;
 
 const DONE: u32 = 0;
 const MEMORY: u32 = 40;

@@ -93,7 +93,7 @@ Buffer: TypeAlias = bytes | bytearray | memoryview
 Interface: TypeAlias = str | IPv4Interface | tuple[Any, ...]
 
 # What this package and the library have to agree on: VIQ_ABI of viqeshor.h.
-ABI = 6
+ABI = 7
 NEVER, NO_INTERFACE, MOST_BYTES = 2**64 - 1, 2**32 - 1, 1528
 # The letters of the tables.
 TABLES = "NGSDAURF"
@@ -103,7 +103,7 @@ OLDER_HOSTS = {"none": 0, "v2": 1, "all": 2}
 
 class Answer(enum.IntEnum):
     """What became of an event. `docs/SCENARIOS.md` has the refusals, 1 to 39, and the reasons to ignore, from 101.
-    Those of 40 to 51 and of 53 to 55 are raised as an `Error`, and so are the refusals of saved bytes, 60 to 69, which
+    Those of 40 to 51 and of 53 to 55 are raised as an `Error`, and so are the refusals of saved bytes, 60 to 72, which
     `docs/SAVED.md` has."""
     DONE = 0
     SHORT = 1
