@@ -38,7 +38,7 @@ class Places(by_document.Reader):
 
 
 def rows_of(data):
-    """The state of saved bytes, and for each row its table, what it says, where its key begins, and where its times do."""
+    """The state of saved bytes, and of each row its table, what it says, and where its key and its times begin."""
     made = []
     with mock.patch.object(by_document, "Reader", lambda given: made.append(Places(given)) or made[0]):
         state = by_document.read(data)
@@ -102,13 +102,13 @@ class Restarted(unittest.TestCase):
                 for place in places if latest(name, row) else []:
                     seen.add(name)
                     last = state.present + latest(name, row)
-                    self.assertEqual(self.tool.taken(self.library, with_number(given, place, last, 8)), 0, name)
-                    self.assertEqual(self.tool.taken(self.library, with_number(given, place, last + 1, 8)), 72, name)
+                    both = (with_number(given, place, end, 8) for end in (last, last + 1))
+                    self.assertEqual([self.tool.taken(self.library, other) for other in both], [0, 72], name)
         self.assertEqual(seen, {"up", "querier", "register", "assert"})
 
     def test_a_fact_where_none_can_be_is_told(self):
-        """The last neighbour with a group in its key, and the last source under a group without a record, where no assert
-        or register goes by them."""
+        """The last neighbour with a group in its key, and the last source under a group without a record, where no
+        assert or register goes by them."""
         seen = set()
         for given in self.runs.saved:
             for name, _, key, _ in {row[0]: row for row in rows_of(given)[1]}.values():
