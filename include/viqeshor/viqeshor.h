@@ -86,9 +86,9 @@ static inline struct viq_draw viq_draw(uint32_t bits) {
     return draw;
 }
 
-/* Answers. Refusals are 1 to 39 and 70, and those of saved bytes 60 to 69; reasons to ignore an event are above
- * VIQ_IGNORED. After all of these nothing has changed. SCENARIOS.md has each ("Refusals", "Reasons to ignore"), and
- * SAVED.md those of saved bytes ("What is refused"). */
+/* Answers. Refusals are 1 to 39 and 70, and those of saved bytes 60 to 69 and from 71 on; reasons to ignore an event are
+ * above VIQ_IGNORED. After all of these nothing has changed. SCENARIOS.md has each ("Refusals", "Reasons to ignore"),
+ * and SAVED.md those of saved bytes ("What is refused"). */
 enum {
     VIQ_DONE = 0,
 
@@ -145,6 +145,7 @@ enum {
     VIQ_NOT_QUIET = 68,
     VIQ_DAMAGED = 69,
     VIQ_OWN_ADDRESSES = 70,
+    VIQ_NOT_NEAR = 72,
 
     VIQ_IGNORED = 100, /* no answer: the reasons to ignore an event are the numbers above it */
     VIQ_OWN = 101,
@@ -297,8 +298,9 @@ uint32_t viq_save(const struct viq_router *router, uint8_t *room, size_t room_le
 /* Makes a router of saved bytes, which goes on from their state as the router that was saved: the same events and draws
  * bring the same answers and packets. It has nothing to send and no rows that were read, its guard is on, and it hears
  * no older version of IGMP. All that viq_save wrote is restored, by a library that writes the same version of the
- * format. Bytes may be anything: all others are refused. The second argument is VIQ_ABI. It answers VIQ_DONE, a refusal
- * of 60 to 69, VIQ_MEMORY or VIQ_OTHER_ABI. It writes what `router` points to as viq_new does. */
+ * format. Bytes may be anything: all others are refused that aren't of a state at rest with timers in their periods. The
+ * second argument is VIQ_ABI. It answers VIQ_DONE, a refusal of 60 to 69 or 72, VIQ_MEMORY or VIQ_OTHER_ABI. It writes
+ * what `router` points to as viq_new does. */
 VIQ_READ_ANSWER VIQ_NOT_NULL(1)
 uint32_t viq_restore(struct viq_router **router, uint32_t abi, const uint8_t *bytes, size_t length);
 

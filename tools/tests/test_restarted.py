@@ -7,10 +7,61 @@ import unittest
 from argparse import Namespace
 from unittest import mock
 
+from pimtext import saved as by_document
 from pimtext.library import Library
 from tests import stored
 
 CC = os.environ.get("CC", "cc")
+
+# Which numbers of a row are times, of the tables that have some.
+TIMES = {
+    "up": [1], "neighbour": [0], "querier": [1], "group-record": [0], "source-record": [0], "group-queries": [0],
+    "source-queries": [0], "downstream": [0, 1], "assert": [5], "join-timer": [0], "override-timer": [0], "source": [0],
+    "register": [1],
+}
+
+
+class Places(by_document.Reader):
+    """Reads as ever, and keeps where each key and each time begins."""
+
+    def __init__(self, data):
+        super().__init__(data)
+        self.keys, self.times = [], []
+
+    def key(self):
+        self.keys.append(self.at)
+        return super().key()
+
+    def time(self):
+        self.times.append(self.at)
+        return super().time()
+
+
+def rows_of(data):
+    """The state of saved bytes, and of each row its table, what it says, and where its key and its times begin."""
+    made = []
+    with mock.patch.object(by_document, "Reader", lambda given: made.append(Places(given)) or made[0]):
+        state = by_document.read(data)
+    # The count of a list is read as a time is, here of interfaces, routes and ranges, and before each table.
+    keys, times, rows = iter(made[0].keys), iter(made[0].times[4:]), []
+    for name, table in state.tables.items():
+        next(times)
+        for _, row in table:
+            places = [next(times) for column in TIMES.get(name, []) if row[column] is not None]
+            rows.append((name, row, next(keys), places))
+    return state, rows
+
+
+def with_number(data, place, number, count):
+    """The bytes with another number at a place, and with their sum."""
+    return by_document.summed(data[:place] + number.to_bytes(count, "big") + data[place + count:-4])
+
+
+def latest(name, row):
+    """The longest time that a timer of a row has, in ms; None for one of no known period."""
+    if name == "querier":
+        return None if row[0] else 1000 * row[-1]
+    return {"up": 30_000, "register": 85_000, "assert": 180_000}.get(name)
 
 
 @unittest.skipUnless(shutil.which(CC) and shutil.which("rt"), "there is no C compiler, or no kit")
@@ -22,15 +73,15 @@ class Restarted(unittest.TestCase):
         cls.tool = stored.tool("restarted")
         cls.library = Library(is_proved=False).shared()
         cls.runs = cls.tool.random_runs(cls.library, cls.asked)
+        cls.stored = cls.tool.stored(cls.library, sorted(cls.tool.STORED.glob("*.toml")))
 
     def test_random_runs(self):
         self.assertEqual((self.runs.wrong, self.runs.routers, self.runs.restarts), ([], 20, 1600))
 
     def test_the_routers_of_the_stored_scenarios(self):
-        came = self.tool.stored(self.library, sorted(self.tool.STORED.glob("*.toml")))
-        self.assertEqual(came.wrong, [])
-        self.assertGreater(came.routers, 150)
-        self.assertGreater(came.restarts, came.events * 0.99)
+        self.assertEqual(self.stored.wrong, [])
+        self.assertGreater(self.stored.routers, 150)
+        self.assertGreater(self.stored.restarts, self.stored.events * 0.99)
 
     def test_spoilt_bytes(self):
         for saved in self.runs.saved[:5]:
@@ -42,6 +93,29 @@ class Restarted(unittest.TestCase):
         draws = random.Random(2)
         for given in (self.tool.flipped(saved, draws) for saved in self.runs.saved[:10] for _ in range(1000)):
             self.assertNotEqual(self.tool.taken(self.library, given), 0)
+
+    def test_a_timer_past_its_period_is_told(self):
+        seen = set()
+        for given in self.runs.saved + self.stored.saved:
+            state, rows = rows_of(given)
+            for name, row, _, places in rows:
+                for place in places if latest(name, row) else []:
+                    seen.add(name)
+                    last = state.present + latest(name, row)
+                    both = (with_number(given, place, end, 8) for end in (last, last + 1))
+                    self.assertEqual([self.tool.taken(self.library, other) for other in both], [0, 72], name)
+        self.assertEqual(seen, {"up", "querier", "register", "assert"})
+
+    def test_a_fact_where_none_can_be_is_told(self):
+        """The last neighbour with a group in its key, and the last source under a group without a record, where no
+        assert or register goes by them."""
+        seen = set()
+        for given in self.runs.saved:
+            for name, _, key, _ in {row[0]: row for row in rows_of(given)[1]}.values():
+                if name in ("neighbour", "source-record"):
+                    seen.add((name, self.tool.taken(self.library, with_number(given, key + 4, 0xEFFFFFFF, 4))))
+        self.assertLess({("neighbour", 72), ("source-record", 72)}, seen)
+        self.assertLessEqual({number for _, number in seen}, {68, 72})
 
     def test_an_older_state_is_noticed(self):
         """A router that is restored of what was saved before its last event."""

@@ -370,6 +370,8 @@ numbered! {
         Damaged = 69,
         /// Own addresses that can't stand.
         OwnAddresses = 70,
+        /// A timer of the saved state ends later than it may, or a fact lies where none can.
+        NotNear = 72,
     }
 }
 

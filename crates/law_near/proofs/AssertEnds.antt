@@ -1,31 +1,32 @@
 -- Each Assert Timer expires within Assert_Time.
-use Rattle.std.{proofs.{Common.{◌≡◌, ◌∙◌, ℕ, ◌+◌, ◌≤◌, not, nat_le, Bool, true, false, cond, List, filter, option_map, Some, refl, sym, subst, arith}, lemmas.Bool.Decides.nat_tests}, specs.{List.{AllByRecursion}}}
-use Rattle.pim_types.{specs.{Keys.{is_on, same_key}, declared.{config.Config.Config, fact.{AssertMetric.AssertMetric, AssertRow.AssertRow, DownstreamRow.DownstreamRow, Key.Key}, timer.TimerKind.TimerKind}}}
+use Rattle.std.{proofs.{Common.{◌≡◌, ◌∙◌, ℕ, ◌+◌, ◌≤◌, not, Bool, true, false, List, filter, refl, sym, subst, arith}}, specs.{List.{AllByRecursion}}}
+use Rattle.pim_types.{specs.{Keys.{is_on, same_key}, declared.{config.{Config.Config, InterfaceConfig.InterfaceConfig}, fact.{AssertMetric.AssertMetric, AssertRow.AssertRow, DownstreamRow.DownstreamRow, Key.Key}, timer.TimerKind.TimerKind}}}
 use Rattle.pim_ip.{specs.Ipv4.Packet}
 use Rattle.pim_wire.{specs.{declared.{assert.Assert.Assert as AssertMessage, hello.Hello.Hello as HelloValue}, Values.{Encapsulated, JoinPrune, Null}}}
 use Rattle.igmp_wire.{specs.Values.{Query as QueryValue, Record}}
-use Rattle.pim_model.{specs.{declared.accepted.Accepted.Accepted, Asserts.{assert_as_loser, assert_as_winner, assert_at, assert_due, assert_forgotten, assert_in_no_info, assert_received, data_seen, loser_time, loses, loses_first, winner_time, wins, wins_again, with_spt_bit, without_spt_bit}, Clearing.clear, Downstream.{asserts_after_joins, downstream_expired, keys_taken, prune_pending_due, to_me}, Firing.{fire_row, fired, keepalive_due, settled}, Forwarding.{forwarded, list_chosen, register_at_rp, register_received, source_here, source_joined, spt_updated, stray, watched}, Hellos.{hello_due, hello_received, hello_triggered, neighbour_due, neighbour_replaced, neighbour_restarted}, Messages.Message, Querier.{general_query_due, group_record_due, group_repeat_due, is_querier, is_skipped, lower_group, lower_queried, lower_sources, other_querier_gone, querier_elected, querier_up, query_asked, query_group, query_seen, query_sources, querying, querying_on, record_seen, report_seen, send_sources, source_record_due, source_repeat_due, sources_sent}, Records.{Asked, with_members, with_record, with_repeats_of_rows}, Registers.{register_due, register_stop_seen, settle_register, settle_registers, with_keepalive}, Seen.{cancel_override_timer, lower_join_timer, lower_override_timer, raise_join_timer, seen}, State.{addressing_of, State, opening}, Step.{change, iface_down, iface_up, rps_replaced}, Tables.{Table, change_row, changed_entry, drop_at, drop_where, put, row_at}, Upstream.{join_timer_due, moved_join_timer, moved_override_timer, override_timer_due, upstream}, Writing.write_all}}
-use Rattle.law_settled.{proofs.{ListLaws.{by_cond, each_filter, each_filter_map, each_more, each_of_list, list_of_each}, RowLaws.each_put, SettlingLaws.{kept_by_clearing, kept_by_telling}, SeenLaws.kept_by_seen, TurnLaws.kept_in_turn}}
+use Rattle.pim_model.{specs.{declared.accepted.Accepted.Accepted, Asserts.{assert_as_loser, assert_as_winner, assert_at, assert_due, assert_forgotten, assert_in_no_info, assert_received, data_seen, loser_time, loses, loses_first, winner_time, wins, wins_again, with_spt_bit, without_spt_bit}, Clearing.clear, Downstream.{asserts_after_joins, downstream_expired, keys_taken, prune_pending_due, to_me}, Firing.{fire_row, fired, keepalive_due, settled}, Forwarding.{forwarded, list_chosen, register_at_rp, register_received, source_here, source_joined, spt_updated, stray, watched}, Hellos.{hello_due, hello_received, hello_triggered, neighbour_due, neighbour_replaced, neighbour_restarted}, Messages.Message, Querier.{general_query_due, group_record_due, group_repeat_due, is_querier, is_skipped, lower_group, lower_queried, lower_sources, other_querier_gone, querier_elected, querier_up, query_asked, query_group, query_seen, query_sources, querying, querying_on, record_seen, report_seen, send_sources, source_record_due, source_repeat_due, sources_sent}, Records.{Asked, with_members, with_record, with_repeats_of_rows}, Registers.{register_due, register_stop_seen, settle_register, settle_registers, with_keepalive}, Seen.{cancel_override_timer, lower_join_timer, lower_override_timer, raise_join_timer, seen}, State.{Addressing, addressing_of, State, opening}, Step.{change, iface_down, iface_up, rps_replaced}, Tables.{Table, drop_at, drop_where, put, row_at}, Upstream.{join_timer_due, moved_join_timer, moved_override_timer, override_timer_due, upstream}, Writing.write_all}}
+use Rattle.law_settled.{proofs.{ListLaws.{by_cond, each_filter, each_more}, RowLaws.each_put, SettlingLaws.{kept_by_clearing, kept_by_telling}, SeenLaws.kept_by_seen, TurnLaws.kept_in_turn}}
 use Rattle.law_promises.{proofs.{LiesUnder.row_fires, EndSoon.no_later}}
 use Rattle.law_reloaded.{specs.Reloading.{asserts_under, is_won_before, under}}
 use Rattle.law_plane.{specs.Keeping.kept_until}
-use Rattle.law_near.{specs.Ends.{AssertsStayNear, asserts_are_near}, proofs.Steps.{given_now, reload_now, step_now}}
+use Rattle.law_near.{specs.Ends.{AssertsStayNear, asserts_are_near}, proofs.{Bounds.{by_each, each_by, each_replaced}, Steps.kept_test}}
 
 -- what is read
 pub record Read : Type 0 where
   pub present : ℕ
+  pub configured : Addressing
   pub asserts : Table AssertRow
 
 abbrev pub read : State → Read
-read s = record { present = s.present; asserts = s.asserts }
+read s = record { present = s.present; configured = s.configured; asserts = s.asserts }
 
--- ---- what leaves both
+-- ---- what leaves all three
 
-query_read : (s : State) (i from : ℕ) (q : QueryValue) → read (query_seen s i from q) ≡ read s
+pub query_read : (s : State) (i from : ℕ) (q : QueryValue) → read (query_seen s i from q) ≡ read s
 unfolding query_seen lower_queried querier_elected lower_group lower_sources
 query_read s i from q = grind arith
 
-seen_read : (s : State) (w i : ℕ) (m : JoinPrune) → read (seen s w i m) ≡ read s
+pub seen_read : (s : State) (w i : ℕ) (m : JoinPrune) → read (seen s w i m) ≡ read s
 unfolding raise_join_timer lower_join_timer cancel_override_timer lower_override_timer
 seen_read s w i m =
     kept_by_seen (λ t. read t ≡ read s) s w i m (λ t k end f. f) (λ t k f. f) (λ t k f. f) (λ t k f. f) refl
@@ -40,33 +41,33 @@ record_read i s r =
     by_cond (λ (p : State × List Message). read p.0 ≡ read s) (is_querier s i) _ _
     (kept_in_turn (query_asked i r.group) (λ t. read t ≡ read s) (λ t a f. asked_read i r.group t a ∙ f) _ _ refl) refl
 
-report_read : (s : State) (i : ℕ) (records : List Record) → read (report_seen s i records).0 ≡ read s
+pub report_read : (s : State) (i : ℕ) (records : List Record) → read (report_seen s i records).0 ≡ read s
 unfolding report_seen
 report_read s i records =
     kept_in_turn (record_seen i) (λ t. read t ≡ read s) (λ t r f. record_read i t r ∙ f)
     (filter (λ r. not (is_skipped r)) records) s refl
 
-pending_read : (s : State) (k : Key) (r : DownstreamRow) → read (prune_pending_due s k r).0 ≡ read s
+pub pending_read : (s : State) (k : Key) (r : DownstreamRow) → read (prune_pending_due s k r).0 ≡ read s
 unfolding prune_pending_due
 pending_read s k r = grind arith
 
-register_read : (s : State) (p : Packet) (g src : ℕ) (is_null : Bool) → read (register_received s p g src is_null).state ≡ read s
+pub register_read : (s : State) (p : Packet) (g src : ℕ) (is_null : Bool) → read (register_received s p g src is_null).state ≡ read s
 unfolding register_received register_at_rp with_keepalive
 register_read s p g src is_null = grind arith
 
-here_read : (s : State) (g src iif : ℕ) → read (source_here s g src iif) ≡ read s
+pub here_read : (s : State) (g src iif : ℕ) → read (source_here s g src iif) ≡ read s
 unfolding source_here settle_register with_keepalive
 here_read s g src iif = grind arith
 
-updated_read : (s : State) (g src iif : ℕ) → read (spt_updated s g src iif) ≡ read s
+pub updated_read : (s : State) (g src iif : ℕ) → read (spt_updated s g src iif) ≡ read s
 unfolding spt_updated with_spt_bit
 updated_read s g src iif = grind arith
 
-joined_read : (s : State) (g src iif : ℕ) → read (source_joined s g src iif) ≡ read s
+pub joined_read : (s : State) (g src iif : ℕ) → read (source_joined s g src iif) ≡ read s
 unfolding source_joined with_keepalive
 joined_read s g src iif = grind arith
 
-watched_read : (s : State) (g src : ℕ) → read (watched s g src) ≡ read s
+pub watched_read : (s : State) (g src : ℕ) → read (watched s g src) ≡ read s
 unfolding watched with_keepalive
 watched_read s g src = grind arith
 
@@ -98,20 +99,11 @@ module _ (last : ℕ) where
   put_by : (s : State) (k : Key) (r : AssertRow) → r.end ≤ last + loser_time → IsBy s → IsBy (record s { asserts = put s.asserts k r })
   put_by s k r by f = record { now = f.now; ends = each_put k r Fits by s.asserts f.ends }
 
-  some_is : {A : Type 0} (a b : A) → Some a ≡ Some b → a ≡ b
-  some_is a b e = cc
-
-  changed_by : (r : AssertRow) → r.end ≤ last + loser_time → (x y : Key × AssertRow) (b : Bool)
-      → cond b (option_map (λ (q : AssertRow). let p : Key × AssertRow = (x.0, q) in p) (Some r)) (Some x) ≡ Some y → Fits x → Fits y
-  changed_by r by x y true e f = subst Fits (some_is (x.0, r) y e) by
-  changed_by r by x y false e f = subst Fits (some_is x y e) f
-
   again_by : (s : State) (k : Key) (r : AssertRow) → IsBy s → IsBy (wins_again s k r).0
-  unfolding wins_again change_row changed_entry
+  unfolding wins_again
   again_by s k r f = record {
     now = f.now;
-    ends = each_filter_map Fits Fits _
-        (λ x y e h. changed_by (record r { end = s.present + winner_time }) (won_by s.present f.now) x y (same_key k x.0) e h) s.asserts f.ends;
+    ends = each_replaced k (record r { end = s.present + winner_time }) Fits (λ q e. won_by s.present f.now) s.asserts f.ends;
   }
 
   forgotten_by : (s : State) (k : Key) → IsBy s → IsBy (assert_forgotten s k)
@@ -255,37 +247,22 @@ later a b le s f = record {
   ends = each_more (Fits a) (Fits b) (λ e h. further a b (e.1).end le h) s.asserts f.ends;
 }
 
-at_most : (a b : ℕ) → nat_le a b ≡ true → a ≤ b
-at_most a b e = grind (arith, nat_tests, e)
-
-le_so : (a b : ℕ) → a ≤ b → nat_le a b ≡ true
-le_so a b le = grind (arith, nat_tests, le)
-
 module _ (s : State) where
   tested : asserts_are_near s ≡ true → IsBy s.present s
   unfolding asserts_are_near
   tested e = record {
     now = no_later s.present;
-    ends = each_more (λ x. nat_le (x.1).end (s.present + loser_time) ≡ true) (Fits s.present)
-        (λ x g. at_most (x.1).end (s.present + loser_time) g) s.asserts
-        (each_of_list (λ (x : Key × AssertRow). nat_le (x.1).end (s.present + loser_time)) s.asserts e);
+    ends = each_by (λ (x : Key × AssertRow). (x.1).end) (s.present + loser_time) s.asserts e;
   }
 
   passes : IsBy s.present s → asserts_are_near s ≡ true
   unfolding asserts_are_near
-  passes f =
-      list_of_each (λ (x : Key × AssertRow). nat_le (x.1).end (s.present + loser_time)) s.asserts
-      (each_more (Fits s.present) (λ x. nat_le (x.1).end (s.present + loser_time) ≡ true)
-      (λ x g. le_so (x.1).end (s.present + loser_time) g) s.asserts f.ends)
+  passes f = by_each (λ (x : Key × AssertRow). (x.1).end) (s.present + loser_time) s.asserts f.ends
 
 opening_near : (c : Config) → asserts_are_near (opening c) ≡ true
 unfolding opening asserts_are_near
 opening_near c = refl
 
 pub asserts_stay_near : AssertsStayNear
-asserts_stay_near = record {
-  opening = opening_near;
-  step = λ s e f. passes _ (step_now IsBy later moves fires follows changes unders keeps s e (tested s f));
-  reload = λ s c w f. passes _ (reload_now IsBy later moves fires follows changes unders keeps s c w (tested s f));
-  given = λ s before f. passes _ (given_now IsBy later moves fires follows changes unders keeps before s (tested s f));
-}
+asserts_stay_near =
+    kept_test IsBy later moves fires follows changes unders keeps asserts_are_near tested passes opening_near

@@ -1,5 +1,8 @@
 pub mod AssertEnds
-pub mod HelloEnds
+pub mod Bounds
+pub mod Grouped
+pub mod Near
 pub mod NextQueries
 pub mod Steps
+pub mod StillEnds
 pub mod WonAddresses

@@ -495,7 +495,7 @@ pub next_query_stays_near : NextQueryStaysNear
 next_query_stays_near s e rest near =
     passes (step s e).state (step_now s e (settled_is_lawful s rest.settled) (tested s near))
 
-kept_near : (s : State) (g src m : ℕ) → next_query_is_near s ≡ true → next_query_is_near (keep s g src m) ≡ true
+pub kept_near : (s : State) (g src m : ℕ) → next_query_is_near s ≡ true → next_query_is_near (keep s g src m) ≡ true
 unfolding next_query_is_near kept_until
 kept_near s g src m near = keep_by s g src m (λ t. next_query_is_near t ≡ true) near (λ end e sooner. near)
 

@@ -1,12 +1,13 @@
 -- What is kept by every change, by a moment to which time goes on: every event and reload keeps it at its own present.
-use Rattle.std.{proofs.Common.{◌≡◌, ℕ, ◌+◌, ◌≤◌, List, [], ◌∷◌, refl, sym, ap, subst}}
+use Rattle.std.{proofs.Common.{◌≡◌, ℕ, ◌+◌, ◌≤◌, Bool, true, List, [], ◌∷◌, refl, sym, ap, subst}}
 use Rattle.pim_types.{specs.declared.{config.Config.Config, event.Event.Event, fact.Key.Key, timer.TimerKind.TimerKind}}
-use Rattle.pim_model.{specs.{declared.accepted.Accepted.Accepted, Firing.{fired, settled}, Messages.Message, Registers.keepalive_period, State.{State, addressing_of}, Step.{advanced, change, ran, rps_replaced, step}}}
+use Rattle.pim_model.{specs.{declared.accepted.Accepted.Accepted, Firing.{fired, settled}, Messages.Message, Registers.keepalive_period, State.{addressing_of, State, opening}, Step.{advanced, change, ran, rps_replaced, step}}}
 use Rattle.law_settled.{proofs.Unsettled.{Unsettled, settling_leaves}}
 use Rattle.law_promises.{proofs.{Walks.{event_walks, time_walks}, EndSoon.{no_later, change_present, there}}}
 use Rattle.law_reloaded.{specs.Reloading.{hellos_anew, reload, removals, replaced, under}}
 use Rattle.law_plane.{specs.Keeping.{keep, kept_until}, proofs.Keeps.keep_by}
 use Rattle.law_history.{specs.History.{Given, state_given}}
+use Rattle.law_near.{specs.Ends.IsKept}
 
 module _ (By : ℕ → State → Type 0)
     (later : (a b : ℕ) → a ≤ b → (s : State) → By a s → By b s)
@@ -67,3 +68,13 @@ module _ (By : ℕ → State → Type 0)
   given_now (Given.Happening e ∷ more) s f = given_now more (step s e).state (step_now s e f)
   given_now (Given.Reload c w ∷ more) s f = given_now more (reload s c w).0 (reload_now s c w f)
   given_now (Given.Kept g src m ∷ more) s f = given_now more (keep s g src m) (kept_now s g src m f)
+
+  -- a test that says so
+  pub kept_test : (test : State → Bool) → ((s : State) → test s ≡ true → Now s) → ((s : State) → Now s → test s ≡ true)
+      → ((c : Config) → test (opening c) ≡ true) → IsKept test
+  kept_test test tested passes opens = record {
+    opening = opens;
+    step = λ s e f. passes (step s e).state (step_now s e (tested s f));
+    reload = λ s c w f. passes (reload s c w).0 (reload_now s c w (tested s f));
+    given = λ s before f. passes (state_given s before) (given_now before s (tested s f));
+  }

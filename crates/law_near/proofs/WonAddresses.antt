@@ -1,74 +1,13 @@
 -- Each assert that the router won names the address of its interface.
-use Rattle.std.{proofs.{Common.{◌≡◌, ◌==◌, ◌&&◌, ◌||◌, ◌∙◌, ℕ, ◌+◌, ◌≤◌, not, Bool, true, false, cond, List, [], filter, Option, option_map, Some, None, refl, sym, ap, subst, arith, eqb-true, eq-eqb}}, specs.{Cmp.first_so, List.{AllByRecursion}, Option.option_map_or}}
-use Rattle.pim_types.{specs.{Keys.{group_in, iface_in, is_on, is_star, same_key, source_in}, declared.{config.Config.Config, fact.{AssertMetric.AssertMetric, AssertRole.AssertRole, AssertRow.AssertRow, DownstreamRow.DownstreamRow, Key.Key}, path.Path.Path, timer.TimerKind.TimerKind}}, proofs.Keys.equal_keys}
-use Rattle.pim_ip.{specs.Ipv4.Packet}
+use Rattle.std.{proofs.{Common.{◌≡◌, ◌==◌, ◌&&◌, ◌||◌, ◌∙◌, ℕ, ◌+◌, ◌≤◌, not, Bool, true, false, cond, List, [], filter, Option, Some, None, refl, sym, ap, subst, arith, eqb-true, eq-eqb}}, specs.{Cmp.first_so, List.{AllByRecursion}, Option.option_map_or}}
+use Rattle.pim_types.{specs.{Keys.{group_in, iface_in, is_on, is_star, same_key, source_in}, declared.{config.{Config.Config, InterfaceConfig.InterfaceConfig}, fact.{AssertMetric.AssertMetric, AssertRole.AssertRole, AssertRow.AssertRow, Key.Key}, path.Path.Path, timer.TimerKind.TimerKind}}, proofs.Keys.equal_keys}
 use Rattle.pim_wire.{specs.{declared.{assert.Assert.Assert as AssertMessage, hello.Hello.Hello as HelloValue}, Values.{Encapsulated, JoinPrune, Null}}}
-use Rattle.igmp_wire.{specs.Values.{Query as QueryValue, Record}}
-use Rattle.pim_model.{specs.{declared.accepted.Accepted.Accepted, AssertMacros.{could_assert, could_assert_star, my_metric, my_metric_star}, Asserts.{assert_as_loser, assert_as_winner, assert_at, assert_due, assert_forgotten, assert_in_no_info, assert_received, could_assert_at, data_seen, is_acceptable, is_challenge, is_inferior, is_of_tree, is_tracking_at, loses, loses_first, my_metric_at, winner_time, wins, wins_again, with_spt_bit, without_spt_bit}, Clearing.clear, Downstream.{asserts_after_joins, downstream_expired, keys_taken, prune_pending_due, to_me}, Firing.{fire_row, fired, keepalive_due, settled}, Forwarding.{forwarded, list_chosen, register_at_rp, register_received, source_here, source_joined, spt_updated, stray, watched}, Hellos.{hello_due, hello_received, hello_triggered, neighbour_due, neighbour_replaced, neighbour_restarted}, Messages.Message, Querier.{general_query_due, group_record_due, group_repeat_due, is_querier, is_skipped, lower_group, lower_queried, lower_sources, other_querier_gone, querier_elected, querier_up, query_asked, query_group, query_seen, query_sources, querying, querying_on, record_seen, report_seen, send_sources, source_record_due, source_repeat_due, sources_sent}, Records.{Asked, with_members, with_record, with_repeats_of_rows}, Registers.{register_due, register_stop_seen, settle_register, settle_registers, with_keepalive}, Seen.{cancel_override_timer, lower_join_timer, lower_override_timer, raise_join_timer, seen}, Sets.{is_better, is_winner, route_metric, rpt_metric, spt_metric}, State.{Addressing, addressing_of, State, address_among, is_own, my_address, opening}, Step.{change, iface_down, iface_up, rps_replaced}, Tables.{Table, change_row, changed_entry, drop_at, drop_where, has_row, put, row_at}, Upstream.{join_timer_due, moved_join_timer, moved_override_timer, override_timer_due, upstream}, Unicast.{route, rp_route}, Writing.write_all}}
-use Rattle.law_settled.{proofs.{ListLaws.{by_cond, each_filter, each_filter_map, each_more, each_of_list, each_passing, list_of_each}, RowLaws.each_put, SettlingLaws.{kept_by_clearing, kept_by_telling}, SeenLaws.kept_by_seen, TableLaws.row_of_each, TurnLaws.kept_in_turn}}
+use Rattle.pim_model.{specs.{declared.accepted.Accepted.Accepted, AssertMacros.{could_assert, could_assert_star, my_metric, my_metric_star}, Asserts.{assert_as_loser, assert_as_winner, assert_at, assert_due, assert_forgotten, assert_in_no_info, assert_received, could_assert_at, data_seen, is_acceptable, is_challenge, is_inferior, is_of_tree, is_tracking_at, loses, loses_first, my_metric_at, winner_time, wins, wins_again, with_spt_bit, without_spt_bit}, Clearing.clear, Downstream.{asserts_after_joins, downstream_expired, keys_taken, prune_pending_due, to_me}, Firing.{fire_row, fired, keepalive_due, settled}, Forwarding.{forwarded, list_chosen, source_here, source_joined, stray}, Hellos.{hello_due, hello_received, hello_triggered, neighbour_due, neighbour_replaced, neighbour_restarted}, Messages.Message, Querier.{general_query_due, group_record_due, group_repeat_due, other_querier_gone, querier_up, querying, querying_on, source_record_due, source_repeat_due, sources_sent}, Records.{with_members, with_repeats_of_rows}, Registers.{register_due, register_stop_seen, settle_registers}, Sets.{is_better, is_winner, route_metric, rpt_metric, spt_metric}, State.{Addressing, addressing_of, State, address_among, is_own, my_address, opening}, Step.{change, iface_down, iface_up, rps_replaced}, Tables.{drop_at, drop_where, has_row, put, row_at}, Upstream.{join_timer_due, moved_join_timer, moved_override_timer, override_timer_due, upstream}, Unicast.{route, rp_route}, Writing.write_all}}
+use Rattle.law_settled.{proofs.{ListLaws.{by_cond, each_filter, each_more, each_of_list, each_passing, list_of_each}, RowLaws.each_put, SettlingLaws.{kept_by_clearing, kept_by_telling}, TableLaws.row_of_each}}
 use Rattle.law_promises.{proofs.LiesUnder.row_fires}
 use Rattle.law_reloaded.{specs.Reloading.{asserts_under, is_won_before, under}}
 use Rattle.law_plane.{specs.Keeping.kept_until}
-use Rattle.law_near.{specs.Own.{WonStayOwn, names_own, won_are_own}, proofs.Steps.{given_now, reload_now, step_now}}
-
--- what is read
-pub record Read : Type 0 where
-  pub configured : Addressing
-  pub asserts : Table AssertRow
-
-abbrev pub read : State → Read
-read s = record { configured = s.configured; asserts = s.asserts }
-
--- ---- what leaves both
-
-query_read : (s : State) (i from : ℕ) (q : QueryValue) → read (query_seen s i from q) ≡ read s
-unfolding query_seen lower_queried querier_elected lower_group lower_sources
-query_read s i from q = grind arith
-
-seen_read : (s : State) (w i : ℕ) (m : JoinPrune) → read (seen s w i m) ≡ read s
-unfolding raise_join_timer lower_join_timer cancel_override_timer lower_override_timer
-seen_read s w i m =
-    kept_by_seen (λ t. read t ≡ read s) s w i m (λ t k end f. f) (λ t k f. f) (λ t k f. f) (λ t k f. f) refl
-
-asked_read : (i g : ℕ) (s : State) (a : Asked) → read (query_asked i g s a).0 ≡ read s
-unfolding query_asked query_group lower_group query_sources lower_sources send_sources sources_sent
-asked_read i g s a = grind arith
-
-record_read : (i : ℕ) (s : State) (r : Record) → read (record_seen i s r).0 ≡ read s
-unfolding record_seen with_record with_members with_repeats_of_rows
-record_read i s r =
-    by_cond (λ (p : State × List Message). read p.0 ≡ read s) (is_querier s i) _ _
-    (kept_in_turn (query_asked i r.group) (λ t. read t ≡ read s) (λ t a f. asked_read i r.group t a ∙ f) _ _ refl) refl
-
-report_read : (s : State) (i : ℕ) (records : List Record) → read (report_seen s i records).0 ≡ read s
-unfolding report_seen
-report_read s i records =
-    kept_in_turn (record_seen i) (λ t. read t ≡ read s) (λ t r f. record_read i t r ∙ f)
-    (filter (λ r. not (is_skipped r)) records) s refl
-
-pending_read : (s : State) (k : Key) (r : DownstreamRow) → read (prune_pending_due s k r).0 ≡ read s
-unfolding prune_pending_due
-pending_read s k r = grind arith
-
-register_read : (s : State) (p : Packet) (g src : ℕ) (is_null : Bool) → read (register_received s p g src is_null).state ≡ read s
-unfolding register_received register_at_rp with_keepalive
-register_read s p g src is_null = grind arith
-
-here_read : (s : State) (g src iif : ℕ) → read (source_here s g src iif) ≡ read s
-unfolding source_here settle_register with_keepalive
-here_read s g src iif = grind arith
-
-updated_read : (s : State) (g src iif : ℕ) → read (spt_updated s g src iif) ≡ read s
-unfolding spt_updated with_spt_bit
-updated_read s g src iif = grind arith
-
-joined_read : (s : State) (g src iif : ℕ) → read (source_joined s g src iif) ≡ read s
-unfolding source_joined with_keepalive
-joined_read s g src iif = grind arith
-
-watched_read : (s : State) (g src : ℕ) → read (watched s g src) ≡ read s
-unfolding watched with_keepalive
-watched_read s g src = grind arith
+use Rattle.law_near.{specs.Own.{WonStayOwn, names_own, won_are_own}, proofs.{AssertEnds.{Read, here_read, joined_read, pending_read, query_read, read, register_read, report_read, seen_read, updated_read, watched_read}, Bounds.each_replaced, Steps.kept_test}}
 
 -- ---- the address of a metric
 
@@ -117,9 +56,6 @@ module _ (last : ℕ) where
   put_by : (s : State) (k : Key) (r : AssertRow) → Fits s.configured (k, r) → IsBy s → IsBy (record s { asserts = put s.asserts k r })
   put_by s k r by f = record { ends = each_put k r (Fits s.configured) by s.asserts f.ends }
 
-  some_is : {A : Type 0} (a b : A) → Some a ≡ Some b → a ≡ b
-  some_is a b e = cc
-
   -- the same winner, with another end
   later_fits : (cs : Addressing) (q k : Key) (r : AssertRow) (end : ℕ) (role : AssertRole) → r.role ≡ role → q ≡ k
       → FitsAt cs k role r → Fits cs (q, record r { end = end })
@@ -130,18 +66,11 @@ module _ (last : ℕ) where
         of_role AssertRole.Winner g = g
         of_role AssertRole.Loser g = g
 
-  changed_by : (cs : Addressing) (k : Key) (r : AssertRow) (end : ℕ) → Fits cs (k, r) → (x y : Key × AssertRow) (b : Bool)
-      → same_key k x.0 ≡ b
-      → cond b (option_map (λ (q : AssertRow). let p : Key × AssertRow = (x.0, q) in p) (Some (record r { end = end }))) (Some x) ≡ Some y → Fits cs x → Fits cs y
-  changed_by cs k r end by x y true is e f =
-      subst (Fits cs) (some_is (x.0, record r { end = end }) y e) (later_fits cs x.0 k r end r.role refl (sym (equal_keys k x.0 is)) by)
-  changed_by cs k r end by x y false is e f = subst (Fits cs) (some_is x y e) f
-
   again_by : (s : State) (k : Key) (r : AssertRow) → Fits s.configured (k, r) → IsBy s → IsBy (wins_again s k r).0
-  unfolding wins_again change_row changed_entry
+  unfolding wins_again
   again_by s k r by f = record {
-    ends = each_filter_map (Fits s.configured) (Fits s.configured) _
-        (λ x y e h. changed_by s.configured k r (s.present + winner_time) by x y (same_key k x.0) refl e h) s.asserts f.ends;
+    ends = each_replaced k (record r { end = s.present + winner_time }) (Fits s.configured)
+        (λ q same. later_fits s.configured q k r (s.present + winner_time) r.role refl (sym (equal_keys k q same)) by) s.asserts f.ends;
   }
 
   forgotten_by : (s : State) (k : Key) → IsBy s → IsBy (assert_forgotten s k)
@@ -358,9 +287,5 @@ unfolding opening won_are_own
 opening_own c = refl
 
 pub won_stay_own : WonStayOwn
-won_stay_own = record {
-  opening = opening_own;
-  step = λ s e f. passes _ (step_now IsBy later moves fires follows changes unders keeps s e (tested s f));
-  reload = λ s c w f. passes _ (reload_now IsBy later moves fires follows changes unders keeps s c w (tested s f));
-  given = λ s before f. passes _ (given_now IsBy later moves fires follows changes unders keeps before s (tested s f));
-}
+won_stay_own =
+    kept_test IsBy later moves fires follows changes unders keeps won_are_own tested passes opening_own

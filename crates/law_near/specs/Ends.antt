@@ -1,7 +1,7 @@
 -- How far ahead timers expire at most: tests of a state, which every event and every reload keeps.
-use Rattle.std.{specs.{List.list_all, Prelude.{Bool, List, nat_le, true, ℕ, ◌+◌, ◌≡◌}}}
-use Rattle.pim_types.{specs.declared.{config.Config.Config, event.Event.Event, fact.{AssertRow.AssertRow, InterfaceRow.InterfaceRow, Key.Key}}}
-use Rattle.pim_model.{specs.{Asserts.loser_time, Hellos.hello_period, State.{State, opening}, Step.step}}
+use Rattle.std.{specs.{List.list_all, Prelude.{Bool, List, None, Option, Some, nat_le, true, ℕ, ◌+◌, ◌≡◌}}}
+use Rattle.pim_types.{specs.declared.{config.Config.Config, event.Event.Event, fact.{AssertRow.AssertRow, InterfaceRow.InterfaceRow, Key.Key, RegisterRow.RegisterRow}}}
+use Rattle.pim_model.{specs.{Asserts.loser_time, Hellos.hello_period, State.{State, opening}, Step.step, Timers.register_end}}
 use Rattle.law_reloaded.{specs.Reloading.reload}
 use Rattle.law_history.{specs.History.{Given, state_given}}
 
@@ -12,6 +12,20 @@ hellos_are_near s = list_all (λ (e : Key × InterfaceRow). nat_le (e.1).hello_e
 -- each Assert Timer expires within Assert_Time
 unfoldable pub asserts_are_near : State → Bool
 asserts_are_near s = list_all (λ (e : Key × AssertRow). nat_le (e.1).end (s.present + loser_time)) s.asserts
+
+-- Register_Suppression_Time, drawn up to 1.5 times, less Register_Probe_Time (RFC 7761, section 4.4.1), in ms
+abbrev pub longest_stop : ℕ
+longest_stop = 85000
+
+-- a timer that runs expires by a timestamp
+abbrev pub ends_by : ℕ → Option ℕ → Bool
+ends_by last None = true
+ends_by last (Some end) = nat_le end last
+
+-- each Register-Stop Timer expires within the longest time that is drawn for it
+unfoldable pub registers_are_near : State → Bool
+registers_are_near s =
+    list_all (λ (e : Key × RegisterRow). ends_by (s.present + longest_stop) (register_end (e.1).state)) s.registers
 
 -- A test that holds at the opening, and that each event and each reload keeps, of any state.
 pub record IsKept (test : State → Bool) : Type 0 where
@@ -25,3 +39,6 @@ HellosStayNear = IsKept hellos_are_near
 
 abbrev pub AssertsStayNear : Type 0
 AssertsStayNear = IsKept asserts_are_near
+
+abbrev pub RegistersStayNear : Type 0
+RegistersStayNear = IsKept registers_are_near

@@ -1,3 +1,5 @@
 pub mod Ends
+pub mod Kinds
+pub mod Near
 pub mod Own
 pub mod Queries

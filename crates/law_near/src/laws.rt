@@ -1,7 +1,9 @@
 //! The laws.
-ghost use Rattle.law_near.specs.Ends.{AssertsStayNear, HellosStayNear};
+ghost use Rattle.law_near.specs.Ends.{AssertsStayNear, HellosStayNear, RegistersStayNear};
+ghost use Rattle.law_near.specs.Kinds.{NeighboursStayKeyed, SourcesStayGrouped};
+ghost use Rattle.law_near.specs.Near.{LedStatesAreNear, NearStays};
 ghost use Rattle.law_near.specs.Own.{WonStayOwn};
-ghost use Rattle.law_near.specs.Queries.{LedQueriesAreNear, NextQueryStaysNear};
+ghost use Rattle.law_near.specs.Queries.{AppendedLeaveLed, DelaysLeaveLed, LedQueriesAreNear, NextQueryStaysNear, SameReloadLeavesLed};
 
 /// Every event leaves the next general query within the query interval.
 pub fn next_query_stays_near()
@@ -26,4 +28,44 @@ pub fn asserts_stay_near()
 /// Each assert that the router won names the address of its interface, after any events and reloads.
 pub fn won_stay_own()
     ensures { WonStayOwn }
+{}
+
+/// What holds beside rest (`is_near`) every event, every reload and what a plane reports keep.
+pub fn near_stays()
+    ensures { NearStays }
+{}
+
+/// After any events, reloads and reports of a plane `is_near` holds.
+pub fn led_states_are_near()
+    ensures { LedStatesAreNear }
+{}
+
+/// After any events and reloads a reload with the configuration that there is changes nothing, and sends nothing.
+pub fn same_reload_leaves_led()
+    ensures { SameReloadLeavesLed }
+{}
+
+/// After any events and reloads interfaces that are appended move no fact, and nothing is sent.
+pub fn appended_leave_led()
+    ensures { AppendedLeaveLed }
+{}
+
+/// After any events and reloads other delays alone move no fact, and nothing is sent but their Hellos.
+pub fn delays_leave_led()
+    ensures { DelaysLeaveLed }
+{}
+
+/// The record of each source lies beside that of its group, after any events and reloads.
+pub fn sources_stay_grouped()
+    ensures { SourcesStayGrouped }
+{}
+
+/// Each Register-Stop Timer expires within 85 s, the longest that is drawn for it, after any events and reloads.
+pub fn registers_stay_near()
+    ensures { RegistersStayNear }
+{}
+
+/// Each neighbour is under the key of its interface and address, after any events and reloads.
+pub fn neighbours_stay_keyed()
+    ensures { NeighboursStayKeyed }
 {}

@@ -1,4 +1,4 @@
--- The tests of a saved state decide whether a router can be in it.
+-- The tests of a saved state decide whether a router goes on from it.
 use Rattle.std.{proofs.Common.{◌≡◌, ◌&&◌, ◌∙◌, Bool, true, false, Ok, Err, ap, refl, sym, length}, specs.{List.list_all, Prelude.{Result, [], if◌then◌else◌, is_ok, ◌∷◌}}}
 use Rattle.pim_ip.{specs.{Tests.{expect, ◌>>◌}, declared.refusal.Refusal.Refusal}}
 use Rattle.pim_ifaces.{specs.Interfaces.{interfaces_test, is_up_key}}
@@ -7,6 +7,7 @@ use Rattle.pim_model.{specs.{Limits.{are_own_addresses, are_routes, are_rps, con
 use Rattle.law_settled.{specs.Ready.IsOrdered}
 use Rattle.pim_refilled.{proofs.SettledTests.settled_is_decided, specs.{Rows.can_hold, Settled.is_settled}}
 use Rattle.law_restored.{specs.{Reload.config_of, Resting.all_pass}}
+use Rattle.law_near.{specs.Near.is_near}
 use Rattle.pim_saved.{proofs.SpelledStates.text_is_read}
 use Rattle.pim_state.{proofs.Accepted.{all_accepted, in_two_parts}, specs.Configurations.settings_test}
 use Rattle.pim_rested.{specs.{Resuming.{IsResumable, ResumableIsDecided, SavedIsResumed, are_settings_accepted, is_quiet, read_test, resume_test}, declared.refusal.RestoreRefusal.RestoreRefusal}}
@@ -72,26 +73,31 @@ module _ (s : State) where
 
 -- ---- all tests
 
-abbrev outcome : (a b c d : Bool) → Result (Unit {0}) RestoreRefusal
-outcome a b c d =
-    if a && b then (if c then (if d then Ok tt else Err RestoreRefusal.NotQuiet) else Err RestoreRefusal.NotSettled)
+abbrev outcome : (a b c d e : Bool) → Result (Unit {0}) RestoreRefusal
+outcome a b c d e =
+    if a && b
+    then (if c then (if d then (if e then Ok tt else Err RestoreRefusal.NotNear) else Err RestoreRefusal.NotQuiet)
+    else Err RestoreRefusal.NotSettled)
     else Err RestoreRefusal.NotHeld
 
-passed : (a b c d : Bool) → outcome a b c d ≡ Ok tt → (a ≡ true) × ((b ≡ true) × ((c ≡ true) × (d ≡ true)))
-passed true true true true e = (refl, (refl, (refl, refl)))
-passed true true true false e = cc
-passed true true false d e = cc
-passed true false c d e = cc
-passed false b c d e = cc
+passed : (a b c d e : Bool) → outcome a b c d e ≡ Ok tt
+    → (a ≡ true) × ((b ≡ true) × ((c ≡ true) × ((d ≡ true) × (e ≡ true))))
+passed true true true true true h = (refl, (refl, (refl, (refl, refl))))
+passed true true true true false h = cc
+passed true true true false e h = cc
+passed true true false d e h = cc
+passed true false c d e h = cc
+passed false b c d e h = cc
 
 resumable_is : (s : State) → IsOrdered s → resume_test s ≡ Ok tt → IsResumable s
 unfolding resume_test
 resumable_is s ordered e =
-    let p = passed (can_hold s) (are_settings_accepted s) (is_settled s) (is_quiet s) e in
+    let p = passed (can_hold s) (are_settings_accepted s) (is_settled s) (is_quiet s) (is_near s) e in
     record {
       held = p.0;
       accepted = accepted_is s p.0 p.1.0;
-      rest = record { quiet = quiet_is s p.1.1.1; settled = (settled_is_decided s ordered).0 p.1.1.0 };
+      rest = record { quiet = quiet_is s p.1.1.1.0; settled = (settled_is_decided s ordered).0 p.1.1.0 };
+      near = p.1.1.1.1;
     }
 
 resumable_so : (s : State) → IsResumable s → resume_test s ≡ Ok tt
@@ -102,6 +108,7 @@ resumable_so s h =
       settings_so s h.accepted,
       (settled_is_decided s h.rest.settled.ordered).1 h.rest.settled,
       quiet_so s h.rest.quiet,
+      h.near,
     ) refl
 
 pub resumable_is_decided : ResumableIsDecided

@@ -9,3 +9,4 @@ restore_refusal_number (RestoreRefusal.Bytes refusal) = saved_refusal_number ref
 restore_refusal_number RestoreRefusal.NotHeld = 66
 restore_refusal_number RestoreRefusal.NotSettled = 67
 restore_refusal_number RestoreRefusal.NotQuiet = 68
+restore_refusal_number RestoreRefusal.NotNear = 72

@@ -6,15 +6,17 @@ use Rattle.pim_model.{specs.{Limits.config_test, State.State}}
 use Rattle.law_settled.{specs.Ready.IsOrdered}
 use Rattle.pim_refilled.{specs.{Rows.can_hold, Settled.is_settled}}
 use Rattle.law_restored.{specs.{Reload.config_of, Resting.{all_pass, quiet_tests}}}
+use Rattle.law_near.{specs.Near.is_near}
 use Rattle.pim_state.{specs.Configurations.settings_test}
 use Rattle.pim_rested.{specs.declared.refusal.RestoreRefusal.RestoreRefusal}
 
--- A router can be in this state: each fact is under a key of its kind, the configuration is accepted, and the state is at
--- rest.
+-- A router goes on from this state: each fact is under a key of its kind, the configuration is accepted, the state is at
+-- rest, and `is_near` holds, as in each state that events, reloads and reports of a plane lead to (`NearStays`).
 pub record IsResumable (s : State) : Type 0 where
   pub held : can_hold s ≡ true
   pub accepted : config_test (config_of s) ≡ Ok tt
   pub rest : IsAtRest s
+  pub near : is_near s ≡ true
 
 -- the configuration is accepted, but for its routes and RP ranges
 abbrev pub are_settings_accepted : State → Bool
@@ -28,7 +30,9 @@ is_quiet s = all_pass (quiet_tests s)
 unfoldable pub resume_test : State → Result (Unit {0}) RestoreRefusal
 resume_test s =
     if can_hold s && are_settings_accepted s
-    then (if is_settled s then (if is_quiet s then Ok tt else Err RestoreRefusal.NotQuiet) else Err RestoreRefusal.NotSettled)
+    then (if is_settled s
+    then (if is_quiet s then (if is_near s then Ok tt else Err RestoreRefusal.NotNear) else Err RestoreRefusal.NotQuiet)
+    else Err RestoreRefusal.NotSettled)
     else Err RestoreRefusal.NotHeld
 
 -- the test of what is read of saved bytes
@@ -40,10 +44,10 @@ read_test (Err refusal) = Err (RestoreRefusal.Bytes refusal)
 abbrev pub restore_test : List ℕ → Result (Unit {0}) RestoreRefusal
 restore_test bytes = read_test (reading bytes)
 
--- the tests pass exactly where a router can be in the state
+-- the tests pass exactly where a router goes on from the state
 abbrev pub ResumableIsDecided : Type 0
 ResumableIsDecided = (s : State) → IsOrdered s → (resume_test s ≡ Ok tt → IsResumable s) × (IsResumable s → resume_test s ≡ Ok tt)
 
--- what a router saves, which fits and is a state that a router can be in, is restored
+-- what a router saves, which fits and is a state from which one goes on, is restored
 abbrev pub SavedIsResumed : Type 0
 SavedIsResumed = (s : State) → FitsState s → IsResumable s → restore_test (text s) ≡ Ok tt

@@ -1,7 +1,7 @@
 //! What is proved of saved states that a router goes on from. Each law is the contract of a function with nothing to do.
 ghost use Rattle.pim_rested.specs.Resuming.{ResumableIsDecided, SavedIsResumed};
 
-/// Where the keys of each table rise, the tests pass exactly where a router can be in the state.
+/// Where the keys of each table rise, the tests pass exactly where a router goes on from the state.
 pub fn resumable_is_decided()
     ensures { ResumableIsDecided }
 {}

@@ -3,12 +3,14 @@
 #![tactic(auto)]
 
 mod law;
+mod near;
 mod quiet;
 mod refusal;
 mod resumed;
 mod settings;
 
 pub use law::{resumable_is_decided, saved_is_resumed};
+pub use near::is_near;
 pub use quiet::is_quiet;
 pub use refusal::RestoreRefusal;
 pub use resumed::{Resumed, proof_resumable, resume};

@@ -12,13 +12,17 @@ pub enum RestoreRefusal {
     NotSettled,
     /// An assert or an SPTbit must go, or a register isn't settled.
     NotQuiet,
+    /// A timer ends later than its period allows, an assert was won by an address that isn't the interface's, a neighbour
+    /// has a group, or a source has no record of its group.
+    NotNear,
 }
 
 impl RestoreRefusal {
     ghost use Rattle.std.specs.Prelude.{◌≡◌};
     ghost use Rattle.pim_rested.specs.Refused.{restore_refusal_number};
 
-    /// The number of the refusal, which is none of [`pim_ip::Refusal`]: 60 to 65 and 69 for bytes, 66, 67 and 68 for a state.
+    /// The number of the refusal, which is none of [`pim_ip::Refusal`]: 60 to 65 and 69 for bytes, 66 to 68 and
+    /// 72 for a state.
     #[tactic(auto, unfolding(crate::specs::Refused::restore_refusal_number))]
     pub fn number(self) -> u8
         ensures { result ≡ restore_refusal_number self }
@@ -28,6 +32,7 @@ impl RestoreRefusal {
             RestoreRefusal::NotHeld => 66,
             RestoreRefusal::NotSettled => 67,
             RestoreRefusal::NotQuiet => 68,
+            RestoreRefusal::NotNear => 72,
         }
     }
 }

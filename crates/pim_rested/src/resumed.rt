@@ -1,6 +1,7 @@
 //! The world and the forwarding cache of saved bytes.
-ghost use Rattle.std.specs.Prelude.{◌≡◌, Err, IfErr, IfOk, Ok};
+ghost use Rattle.std.specs.Prelude.{◌≡◌, Err, IfErr, IfOk, Ok, true};
 ghost use Rattle.law_scope.specs.Rest.{IsAtRest};
+ghost use Rattle.law_near.specs.Near.{is_near};
 ghost use Rattle.pim_model.specs.Limits.{config_test};
 ghost use Rattle.law_restored.specs.Reload.{config_of};
 ghost use Rattle.pim_fanout.specs.Refreshing.{IsUncounted};
@@ -12,6 +13,7 @@ ghost use Rattle.pim_saved.specs.Reading.{reading};
 ghost use Rattle.pim_saver.specs.Views.{state_view};
 ghost use Rattle.pim_rested.specs.Resuming.{IsResumable, restore_test, resume_test};
 
+use crate::near::is_near;
 use crate::quiet::is_quiet;
 use crate::refusal::RestoreRefusal;
 use crate::settings::are_settings_accepted;
@@ -29,7 +31,7 @@ pub struct Resumed {
     pub cache: Cache,
 }
 
-// The world of a state that was read, where a router can be in it; or the first test that fails.
+// The world of a state that was read, where it passes all tests; or the first test that fails.
 #[tactic(auto, unfolding(crate::specs::Resuming::resume_test))]
 fn tested_world(
     alloc: Global,
@@ -54,11 +56,14 @@ fn tested_world(
     if !is_quiet(&world, meter) {
         return Ok(Err(RestoreRefusal::NotQuiet));
     }
+    if !is_near(&world) {
+        return Ok(Err(RestoreRefusal::NotNear));
+    }
     Ok(Ok(world))
 }
 
-/// The world that a saved state's bytes say, with its forwarding cache, where a router can be in that state; or the
-/// first test that fails. The meter rises by the nodes visited. The fault is want of memory.
+/// The world that a saved state's bytes say, with its forwarding cache, where that state passes all tests; or the first
+/// test that fails. The meter rises by the nodes visited. The fault is want of memory.
 pub fn resume(
     alloc: Global,
     bytes: &[u8],
@@ -85,11 +90,12 @@ pub fn resume(
     Ok(Ok(Resumed { world, cache }))
 }
 
-/// For the proof: a world at rest under an accepted configuration is in a state that a router can be in. Does nothing
-/// when it runs.
+/// For the proof: a world at rest under an accepted configuration for which `is_near` holds is in a state that passes all
+/// tests. Does nothing when it runs.
 pub fn proof_resumable(world: &World)
     requires accepted { config_test (config_of world.now) ≡ Ok tt }
     requires rest { IsAtRest world.now }
+    requires near { is_near world.now ≡ true }
     ensures { IsResumable world.now }
 {
     proof_held(world);

@@ -1,12 +1,13 @@
--- A router stays under a configuration that is accepted.
-use Rattle.std.{proofs.{Common.{◌≡◌, ℕ, Err, Ok, Result, subst, sym}, lemmas.Result.on_ok_weaker}, specs.Prelude.OnOk}
+-- A router stays under a configuration that is accepted, and its timers end within their periods.
+use Rattle.std.{proofs.{Common.{◌≡◌, ℕ, Err, Ok, Result, true, subst, sym}, lemmas.Result.on_ok_weaker}, specs.Prelude.OnOk}
 use Rattle.pim_types.{specs.declared.{config.Config.Config, event.Event.Event}}
 use Rattle.law_scope.{specs.Rest.IsAtRest}
 use Rattle.pim_mfc.{specs.Laws.ShowsRows}
 use Rattle.pim_event.{specs.declared.parts.Core.Core}
 use Rattle.pim_router.{specs.Stepping.Stands}
 use Rattle.pim_model.{specs.{Cache.cached, Limits.config_test, State.{State, opening, settings_of}, Step.step}}
-use Rattle.law_plane.{specs.Keeping.kept_until}
+use Rattle.law_plane.{specs.Keeping.{keep, kept_until}}
+use Rattle.law_near.{specs.Near.is_near, proofs.Near.near_stays}
 use Rattle.law_restored.{proofs.Accepted.accepted_stays, specs.Reload.config_of}
 
 abbrev IsAccepted : State → Type 0
@@ -28,8 +29,25 @@ pub kept_accepted : (s : State) (g src end : ℕ) (n : State) → n ≡ kept_unt
 unfolding config_of kept_until
 kept_accepted s g src end n is accepted = subst IsAccepted (sym is) accepted
 
+-- ---- near
+
+abbrev IsNear : State → Type 0
+IsNear s = is_near s ≡ true
+
+pub opening_near : (c : Config) (s : State) → s ≡ opening c → IsNear s
+opening_near c s opens = subst IsNear (sym opens) (near_stays.opening c)
+
+pub near_next : {A E : Type 0} (s n : State) (e : Event) (r : Result A E) → IsAtRest s → IsNear s
+    → OnOk r (n ≡ (step s e).state) → OnOk r (IsNear n)
+near_next s n e r rest near is =
+    on_ok_weaker r (λ same. subst IsNear (sym same) (near_stays.step s e rest near)) is
+
+pub kept_near : (s : State) (g src m : ℕ) (n : State) → n ≡ keep s g src m → IsNear s → IsNear n
+kept_near s g src m n is near = subst IsNear (sym is) (near_stays.keep s g src m near)
+
 -- the parts of a router stand where all of this holds after what was taken
 pub stands_next : {A E : Type 0} (t : Core) (r : Result A E) → OnOk r (IsAtRest t.world)
-    → OnOk r (ShowsRows t.cache.mfc.rows (cached t.world)) → OnOk r (IsAccepted t.world) → OnOk r (Stands t)
-stands_next t (Ok x) rest shown accepted = record { rest = rest; shown = shown; accepted = accepted }
-stands_next t (Err e) rest shown accepted = tt
+    → OnOk r (ShowsRows t.cache.mfc.rows (cached t.world)) → OnOk r (IsAccepted t.world) → OnOk r (IsNear t.world)
+    → OnOk r (Stands t)
+stands_next t (Ok x) rest shown accepted near = record { rest = rest; shown = shown; accepted = accepted; near = near }
+stands_next t (Err e) rest shown accepted near = tt

@@ -1,9 +1,10 @@
 -- What a reload leaves in a router.
-use Rattle.std.{proofs.Common.{◌≡◌, ℕ, Ok, subst, sym, ap, ◌∙◌}}
+use Rattle.std.{proofs.Common.{◌≡◌, ℕ, Ok, true, subst, sym, ap, ◌∙◌}}
 use Rattle.pim_types.{specs.declared.config.Config.Config}
 use Rattle.law_scope.{specs.Rest.IsAtRest}
 use Rattle.pim_model.{specs.{Limits.config_test, State.{State, opening, settings_of}}}
 use Rattle.law_reloaded.{specs.Reloading.reload, proofs.{Ground.reload_is_under, Rest.reload_leaves_rest}}
+use Rattle.law_near.{specs.Near.is_near, proofs.Near.near_stays}
 use Rattle.law_restored.{specs.Reload.config_of}
 
 -- the configuration of an opening
@@ -21,3 +22,6 @@ module _ (s t n : State) (c : Config) (w : ℕ) (opens : n ≡ opening c) (is : 
   pub reloaded_accepted : config_test c ≡ Ok tt → config_test (config_of t) ≡ Ok tt
   reloaded_accepted accepted =
       subst (λ (d : Config). config_test d ≡ Ok tt) (sym (ap config_of reloaded_is ∙ reload_is_under s c w)) accepted
+
+  pub reloaded_near : is_near s ≡ true → is_near t ≡ true
+  reloaded_near near = subst (λ (u : State). is_near u ≡ true) (sym reloaded_is) (near_stays.reload s c w near)

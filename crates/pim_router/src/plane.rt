@@ -13,6 +13,7 @@ ghost use Rattle.law_plane.specs.Keeping.{keep, keepalive_end, kept_until};
 ghost use Rattle.law_plane.specs.Offered.{offered};
 ghost use Rattle.law_plane.specs.Seen.{bare_text};
 ghost use Rattle.pim_mfc.specs.Shown.{TellsOffload};
+ghost use Rattle.law_near.specs.Near.{is_near};
 ghost use Rattle.law_restored.specs.Reload.{config_of};
 
 use pim_fanout::Cache;
@@ -93,6 +94,7 @@ pub(crate) fn keep(
     ensures shown { (rows : Table SourceAnswers) → ShowsRows rows (cached world.old)
         → OnOk result (ShowsRows rows (cached world.new)) }
     ensures accepted { config_test (config_of world.old) ≡ Ok tt → OnOk result (config_test (config_of world.new) ≡ Ok tt) }
+    ensures near { is_near world.old ≡ true → OnOk result (is_near world.new ≡ true) }
     ensures unvisited { OnOk result (meter.new ≡ meter.old) }
 {
     match keepalive_end(world, name) {

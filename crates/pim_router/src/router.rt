@@ -78,13 +78,14 @@ pub struct Router {
 
 impl Model for Router {
     ghost use Rattle.std.specs.List.Sorted.{IsStrictlySortedBy};
-    ghost use Rattle.std.specs.Prelude.{Ok, Some, false, if◌then◌else◌, ◌≡◌};
+    ghost use Rattle.std.specs.Prelude.{Ok, Some, false, if◌then◌else◌, true, ◌≡◌};
     ghost use Rattle.pim_fanout.specs.Refreshing.{touches};
     ghost use Rattle.law_scope.specs.Rest.{IsAtRest};
     ghost use Rattle.pim_mfc.specs.Laws.{ShowsRows};
     ghost use Rattle.pim_model.specs.Cache.{cached};
     ghost use Rattle.pim_model.specs.Full.{counted};
     ghost use Rattle.pim_model.specs.Limits.{config_test};
+    ghost use Rattle.law_near.specs.Near.{is_near};
     ghost use Rattle.law_restored.specs.Reload.{config_of};
     ghost use Rattle.pim_router.specs.Standing.{Shown, nothing_shown};
     ghost use Rattle.pim_types.specs.Keys.{key_cmp};
@@ -101,7 +102,7 @@ impl Model for Router {
 
     ghost invariant = { λ r. r.failed ≡ false → IsAtRest r.core.world
         × ShowsRows r.core.cache.mfc.rows (cached r.core.world) × IsStrictlySortedBy key_cmp r.core.cache.changed
-        × (config_test (config_of r.core.world) ≡ Ok tt) };
+        × (config_test (config_of r.core.world) ≡ Ok tt) × (is_near r.core.world ≡ true) };
 }
 
 impl Router {

@@ -103,7 +103,7 @@ OLDER_HOSTS = {"none": 0, "v2": 1, "all": 2}
 
 class Answer(enum.IntEnum):
     """What became of an event. `docs/SCENARIOS.md` has the refusals, 1 to 39, and the reasons to ignore, from 101.
-    Those of 40 to 51 and of 53 to 55 are raised as an `Error`, and so are the refusals of saved bytes, 60 to 69, which
+    Those of 40 to 51 and of 53 to 55 are raised as an `Error`, and so are the refusals of saved bytes, 60 to 72, which
     `docs/SAVED.md` has."""
     DONE = 0
     SHORT = 1
@@ -151,6 +151,7 @@ class Answer(enum.IntEnum):
     NOT_QUIET = 68
     DAMAGED = 69
     OWN_ADDRESSES = 70
+    NOT_NEAR = 72
     OWN = 101
     NOT_FOR_ME = 102
     OTHER_TYPE = 103

@@ -1,4 +1,4 @@
-use Rattle.law_near.{proofs.HelloEnds.hellos_stay_near}
+use Rattle.law_near.{proofs.StillEnds.hellos_stay_near}
 use Rattle.law_near.proofs.laws.hellos_stay_near.Goals as goal
 
 pub returns : goal.returns

@@ -5,4 +5,5 @@ returns c = record {
   held = c.proof_held.ensures c.requires.accepted;
   accepted = c.requires.accepted;
   rest = c.requires.rest;
+  near = c.requires.near;
 }

@@ -1,5 +1,5 @@
 use Rattle.std.{proofs.Common.{ap, is_some, sym, ◌∙◌}}
-use Rattle.pim_router.{proofs.{Accepted.kept_accepted, Offering.{alive_by_end, keep_none, keep_sets, keep_stays, kept_rests, kept_rows, runs_there}}}
+use Rattle.pim_router.{proofs.{Accepted.{kept_accepted, kept_near}, Offering.{alive_by_end, keep_none, keep_sets, keep_stays, kept_rests, kept_rows, runs_there}}}
 use Rattle.pim_router.proofs.plane.keep.Goals as goal
 
 pub returns-in-None-clause-runs : goal.returns-in-None-clause-runs
@@ -57,3 +57,10 @@ pub returns-in_ok-keep_until-in-Some-clause-accepted : goal.returns-in_ok-keep_u
 returns-in_ok-keep_until-in-Some-clause-accepted c =
     kept_accepted c.args.world.now c.args.name.group.bits c.args.name.source.bits _ c.keep_until.new.world
     c.in_ok-keep_until-in-Some.ensures.state
+
+pub returns-in_ok-keep_until-in-Some-clause-near : goal.returns-in_ok-keep_until-in-Some-clause-near
+returns-in_ok-keep_until-in-Some-clause-near c =
+    kept_near c.args.world.now c.args.name.group.bits c.args.name.source.bits c.args.moment c.keep_until.new.world
+    (c.in_ok-keep_until-in-Some.ensures.state
+    ∙ keep_sets c.args.world.now c.args.name.group.bits c.args.name.source.bits c.args.moment c.in-Some.end
+    (sym c.in-Some.is ∙ c.keepalive_end.ensures) c.if-end-later.true)

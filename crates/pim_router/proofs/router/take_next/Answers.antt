@@ -1,7 +1,7 @@
 use Rattle.std.{proofs.{Common.ap, lemmas.Result.on_ok_weaker}}
 use Rattle.pim_fanout.{specs.Refreshing.CacheValue}
 use Rattle.pim_event.{proofs.Costs.none_touched}
-use Rattle.pim_router.{proofs.Accepted.{accepted_next, stands_next}}
+use Rattle.pim_router.{proofs.Accepted.{accepted_next, near_next, stands_next}}
 use Rattle.pim_router.proofs.router.take_next.Goals as goal
 
 pub take_in-requires-clause-begun : goal.take_in-requires-clause-begun
@@ -23,3 +23,5 @@ returns-clause-stands c =
     stands_next c.take_in.new.core c.take_in.result c.take_in.ensures.rest
     (on_ok_weaker c.take_in.result (λ after. after.shown) steps.cache)
     (accepted_next c.args.core.now.world c.take_in.new.core.world c.args.event.now c.take_in.result c.requires.accepted steps.state)
+    (near_next c.args.core.now.world c.take_in.new.core.world c.args.event.now c.take_in.result c.requires.rest c.requires.near
+    steps.state)

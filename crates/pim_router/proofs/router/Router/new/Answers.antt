@@ -4,7 +4,7 @@ use Rattle.pim_fanout.{specs.Refreshing.CacheValue, proofs.Shown.opening_shows_r
 use Rattle.pim_mfc.{specs.Laws.ShowsRows}
 use Rattle.pim_model.{specs.{Cache.cached, State.State}}
 use Rattle.law_scope.{proofs.Rest.opening_is_at_rest, specs.Rest.IsAtRest}
-use Rattle.pim_router.{proofs.Accepted.opening_accepted}
+use Rattle.pim_router.{proofs.Accepted.{opening_accepted, opening_near}}
 use Rattle.pim_router.proofs.router.Router.new.Goals as goal
 
 pub invariant_of-result : goal.invariant_of-result
@@ -16,4 +16,5 @@ invariant_of-result c = λ works.
           (subst (λ (x : State). ShowsRows [] (cached x)) (sym opens.1) (opening_shows_rows c.args.config)),
       subst (λ (k : CacheValue). IsStrictlySortedBy key_cmp k.changed) (sym c.new-in-Ok.ensures) tt,
       opening_accepted c.args.config c.in-Ok.world opens.0 opens.1,
+      opening_near c.args.config c.in-Ok.world opens.1,
     )

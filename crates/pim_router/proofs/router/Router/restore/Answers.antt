@@ -10,4 +10,5 @@ invariant_of-result c = λ works.
       rw c.in-Ok.is at c.in_ok-made.ensures.shown,
       subst (λ (ks : List Key). IsStrictlySortedBy key_cmp ks) (sym (rw c.in-Ok.is at c.in_ok-made.ensures.uncounted).1) tt,
       resumable.accepted,
+      resumable.near,
     )

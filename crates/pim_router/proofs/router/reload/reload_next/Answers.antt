@@ -1,7 +1,7 @@
 use Rattle.std.{proofs.{Common.subst, lemmas.Result.on_ok_weaker}}
 use Rattle.pim_types.{specs.declared.config.Config.Config}
 use Rattle.pim_reloader.{specs.Reloads.Reloads}
-use Rattle.pim_router.{proofs.{Accepted.stands_next, Reloaded.{opens_with, reloaded_accepted, reloaded_rests}}}
+use Rattle.pim_router.{proofs.{Accepted.stands_next, Reloaded.{opens_with, reloaded_accepted, reloaded_near, reloaded_rests}}}
 use Rattle.pim_router.proofs.router.reload.reload_next.Goals as goal
 
 pub reload-requires : goal.reload-requires
@@ -22,3 +22,6 @@ returns-clause-stands c =
     (on_ok_weaker c.reload.result
     (λ same. reloaded_accepted c.args.core.now.world c.reload.new.core.world c.args.next c.args.config.now c.args.draw
     c.requires.opens same c.requires.accepted) c.reload.ensures.state)
+    (on_ok_weaker c.reload.result
+    (λ same. reloaded_near c.args.core.now.world c.reload.new.core.world c.args.next c.args.config.now c.args.draw
+    c.requires.opens same c.requires.stands.near) c.reload.ensures.state)
