@@ -1,10 +1,10 @@
 -- Worked runs of a router that is the RP on an own address of no interface.
-use Rattle.std.{specs.Prelude.{Err, List, None, Some, [], ◌++◌, ◌≡◌, ◌∷◌}}
+use Rattle.std.{specs.Prelude.{Err, List, None, Some, [], map, ℕ, ◌++◌, ◌≡◌, ◌∷◌}}
 use Rattle.pim_ip.{specs.{Addr.addr, declared.{addr.Addr.Addr, refusal.Refusal.Refusal}}}
 use Rattle.pim_types.{specs.{Keys.star_key, declared.{config.Config.Config, event.Event.Event, outcome.Emission.Emission}}}
 use Rattle.pim_rows.{specs.{declared.table.{DownstreamState.DownstreamState, Row.Row, Table.Table}, Printed.rows}}
 use Rattle.pim_model.{specs.{Limits.config_test, State.{State, is_own, opening}, Step.{run, state_after}, Unicast.{link_among, route}}}
-use Rattle.pim_runs.{specs.{Base.{base, group, interface, route_by, rp, source_network}, Packets.{hello_of_10_0_0_1, hello_of_10_0_1_2, join_star}, Words.{address, done_with, done_with_copies, frame, hex, on, refused, routes_to, to, unicast, up}}}
+use Rattle.pim_runs.{specs.{Base.{base, group, interface, route_by, rp, source_network}, Packets.{hello_of_10_0_0_1, hello_of_10_0_1_2, join_star}, Words.{address, advance, done_with, done_with_copies, frame, hex, join_prunes, on, refused, routes_to, to, unicast, up}}}
 
 -- the base without interface 2, with the RP's address as its own, to which it has a route over 0
 abbrev pub at_rp : Config
@@ -17,13 +17,13 @@ at_rp = record base {
 abbrev pub begun : State
 begun = state_after (opening at_rp) (up 7 0 ∷ up 7 1 ∷ frame 0 hello_of_10_0_0_1 ∷ frame 1 hello_of_10_0_1_2 ∷ [])
 
--- A Join(*,G) that names the address is taken, and none goes up.
+-- A Join(*,G) that names the address is taken, and none goes up, nor a minute later.
 abbrev pub RpOfNoLinkIsJoined : Type 0
 RpOfNoLinkIsJoined =
     (run begun (frame 1 join_star ∷ []) ≡ done_with [] ∷ [])
     × (rows (state_after begun (frame 1 join_star ∷ [])) Table.Downstream
     ≡ Row.Downstream (star_key 1 group) DownstreamState.Join (Some 210000) None ∷ [])
-    × (rows (state_after begun (frame 1 join_star ∷ [])) Table.Upstream ≡ [])
+    × (map join_prunes (run (state_after begun (frame 1 join_star ∷ [])) (advance 60000 ∷ [])) ≡ [] ∷ [])
 
 -- the Register of 10.0.2.5's packet, from 10.0.2.1 to the address
 abbrev pub register_to_rp : List ℕ
