@@ -8,7 +8,7 @@ from collections.abc import Iterable, Iterator
 from pathlib import Path
 
 ROOT = Path(__file__).resolve().parent.parent.parent
-LAB = ROOT / "tools" / "definitions" / "Lab.antt"
+LAB = ROOT / "tools" / "definitions" / "Lab.antt.in"
 # The crates whose definitions are all taken, and the libraries of the kit that they name. Where files are named only
 # the types of these are left.
 WHOLE: dict[str, tuple[str, ...] | None] = {
