@@ -1,0 +1,37 @@
+//! The laws.
+ghost use Rattle.law_placed.specs.Laws.{FactsGoWithTheirLink, IdentityPlacesAreReload, NeighboursStayOrGo, PlacedReloadIsUnder, PlacedReloadLeavesRest, PlacesAreApart, PlacesAreThere};
+
+/// What a reload by places leaves is at rest.
+pub fn placed_reload_leaves_rest()
+    ensures { PlacedReloadLeavesRest }
+{}
+
+/// Where no two places are one, the fact of an interface is found at its other place, and no other fact is.
+pub fn facts_go_with_their_link()
+    ensures { FactsGoWithTheirLink }
+{}
+
+/// Each old place goes to an interface of the order between, and each of those to a place of the new configuration.
+pub fn places_are_there()
+    ensures { PlacesAreThere }
+{}
+
+/// A neighbour stays with its link, unless it is of one of the places whose neighbours go.
+pub fn neighbours_stay_or_go()
+    ensures { NeighboursStayOrGo }
+{}
+
+/// After a reload by places the router is under its configuration.
+pub fn placed_reload_is_under()
+    ensures { PlacedReloadIsUnder }
+{}
+
+/// Where each place stays at its number, and no interface gets another subnet, a reload by places is `reload`.
+pub fn identity_places_are_reload()
+    ensures { IdentityPlacesAreReload }
+{}
+
+/// By a map that has passed its tests no two places go to one.
+pub fn places_are_apart()
+    ensures { PlacesAreApart }
+{}
