@@ -326,6 +326,18 @@ mod tests {
         assert_eq!(LeftEntry::of(left.entries[0].key(), &entry), left.entries[0]);
     }
 
+    /// One that had every address on a link, and said of its loopback that it is one.
+    #[test]
+    fn what_an_older_daemon_left_is_read() {
+        let mut value = serde_json::to_value(left()).expect("it is JSON");
+        value["told"].as_object_mut().expect("it has fields").remove("addresses");
+        let port = value["ports"][0].as_object_mut().expect("it has fields");
+        port.remove("is_apart");
+        port.insert("is_loopback".to_string(), true.into());
+        let read: Left = serde_json::from_value(value).expect("it is read");
+        assert_eq!((read.told.addresses.len(), read.ports[0].is_apart), (0, false));
+    }
+
     #[test]
     fn what_is_spoilt_is_refused() {
         let bytes = left().bytes(b"of the library");
