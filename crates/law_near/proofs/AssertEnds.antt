@@ -1,6 +1,6 @@
 -- Each Assert Timer expires within Assert_Time.
 use Rattle.std.{proofs.{Common.{◌≡◌, ◌∙◌, ℕ, ◌+◌, ◌≤◌, not, Bool, true, false, List, filter, refl, sym, subst, arith}}, specs.{List.{AllByRecursion}}}
-use Rattle.pim_types.{specs.{Keys.{is_on, same_key}, declared.{config.{Config.Config, InterfaceConfig.InterfaceConfig}, fact.{AssertMetric.AssertMetric, AssertRow.AssertRow, DownstreamRow.DownstreamRow, Key.Key}, timer.TimerKind.TimerKind}}}
+use Rattle.pim_types.{specs.{Keys.{is_on, same_key}, declared.{config.{Config.Config}, fact.{AssertMetric.AssertMetric, AssertRow.AssertRow, DownstreamRow.DownstreamRow, Key.Key}, timer.TimerKind.TimerKind}}}
 use Rattle.pim_ip.{specs.Ipv4.Packet}
 use Rattle.pim_wire.{specs.{declared.{assert.Assert.Assert as AssertMessage, hello.Hello.Hello as HelloValue}, Values.{Encapsulated, JoinPrune, Null}}}
 use Rattle.igmp_wire.{specs.Values.{Query as QueryValue, Record}}

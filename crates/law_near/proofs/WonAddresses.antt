@@ -1,6 +1,6 @@
 -- Each assert that the router won names the address of its interface.
 use Rattle.std.{proofs.{Common.{◌≡◌, ◌==◌, ◌&&◌, ◌||◌, ◌∙◌, ℕ, ◌+◌, ◌≤◌, not, Bool, true, false, cond, List, [], filter, Option, Some, None, refl, sym, ap, subst, arith, eqb-true, eq-eqb}}, specs.{Cmp.first_so, List.{AllByRecursion}, Option.option_map_or}}
-use Rattle.pim_types.{specs.{Keys.{group_in, iface_in, is_on, is_star, same_key, source_in}, declared.{config.{Config.Config, InterfaceConfig.InterfaceConfig}, fact.{AssertMetric.AssertMetric, AssertRole.AssertRole, AssertRow.AssertRow, Key.Key}, path.Path.Path, timer.TimerKind.TimerKind}}, proofs.Keys.equal_keys}
+use Rattle.pim_types.{specs.{Keys.{group_in, iface_in, is_on, is_star, same_key, source_in}, declared.{config.{Config.Config}, fact.{AssertMetric.AssertMetric, AssertRole.AssertRole, AssertRow.AssertRow, Key.Key}, path.Path.Path, timer.TimerKind.TimerKind}}, proofs.Keys.equal_keys}
 use Rattle.pim_wire.{specs.{declared.{assert.Assert.Assert as AssertMessage, hello.Hello.Hello as HelloValue}, Values.{Encapsulated, JoinPrune, Null}}}
 use Rattle.pim_model.{specs.{declared.accepted.Accepted.Accepted, AssertMacros.{could_assert, could_assert_star, my_metric, my_metric_star}, Asserts.{assert_as_loser, assert_as_winner, assert_at, assert_due, assert_forgotten, assert_in_no_info, assert_received, could_assert_at, data_seen, is_acceptable, is_challenge, is_inferior, is_of_tree, is_tracking_at, loses, loses_first, my_metric_at, winner_time, wins, wins_again, with_spt_bit, without_spt_bit}, Clearing.clear, Downstream.{asserts_after_joins, downstream_expired, keys_taken, prune_pending_due, to_me}, Firing.{fire_row, fired, keepalive_due, settled}, Forwarding.{forwarded, list_chosen, source_here, source_joined, stray}, Hellos.{hello_due, hello_received, hello_triggered, neighbour_due, neighbour_replaced, neighbour_restarted}, Messages.Message, Querier.{general_query_due, group_record_due, group_repeat_due, other_querier_gone, querier_up, querying, querying_on, source_record_due, source_repeat_due, sources_sent}, Records.{with_members, with_repeats_of_rows}, Registers.{register_due, register_stop_seen, settle_registers}, Sets.{is_better, is_winner, route_metric, rpt_metric, spt_metric}, State.{Addressing, addressing_of, State, address_among, is_own, my_address, opening}, Step.{change, iface_down, iface_up, rps_replaced}, Tables.{drop_at, drop_where, has_row, put, row_at}, Upstream.{join_timer_due, moved_join_timer, moved_override_timer, override_timer_due, upstream}, Unicast.{route, rp_route}, Writing.write_all}}
 use Rattle.law_settled.{proofs.{ListLaws.{by_cond, each_filter, each_more, each_of_list, each_passing, list_of_each}, RowLaws.each_put, SettlingLaws.{kept_by_clearing, kept_by_telling}, TableLaws.row_of_each}}

@@ -1,10 +1,10 @@
 -- While the router is the querier of an interface, the next general query leaves within the query interval in force.
-use Rattle.std.{specs.Prelude.{List, [], map, true, ℕ, ◌++◌, ◌≡◌}}
-use Rattle.pim_types.{specs.declared.{config.{Config.Config, InterfaceConfig.InterfaceConfig}, event.Event.Event}}
-use Rattle.pim_model.{specs.{State.State, Step.step, Writing.write_all}}
+use Rattle.std.{specs.Prelude.{List, [], map, true, ℕ, ◌≡◌}}
+use Rattle.pim_types.{specs.declared.{config.{Config.Config}, event.Event.Event}}
+use Rattle.pim_model.{specs.{State.{Addressing, State}, Step.step, Writing.write_all}}
 use Rattle.law_scope.{specs.Rest.IsAtRest}
 use Rattle.law_restored.{specs.Reload.config_of}
-use Rattle.law_reloaded.{specs.{Laws.{AreConfigured, AreNew, next_query_is_near, with_addressing, with_more, without_delays}, Reloading.{hellos_anew, reload}}}
+use Rattle.law_reloaded.{specs.{Laws.{AreConfigured, AreNew, appended, next_query_is_near, with_addressing, with_more, without_delays}, Reloading.{hellos_anew, reload}}}
 use Rattle.law_history.{specs.History.{Given, IsLedTo}}
 
 -- Every event keeps it.
