@@ -1,7 +1,7 @@
 -- A reload in which each place stays at its number is the reload without a map.
 use Rattle.std.{proofs.{Common.{◌≡◌, ◌<◌, ◌≤◌, ◌-◌, ⊎_elim, ◌∙◌, ℕ, min, Ok, List, [], ◌∷◌, ◌++◌, length, map, refl, sym, ap, subst, arith, append_assoc}, lemmas.{Bool.cases_lt, List.{append-nil, FromFn.length-range_with_len}}}, specs.{List.{AllByRecursion, Sorted.IsStrictlySortedBy, range_with_len}, Ordering.ordering_reverse, declared.cmp.Ordering.Ordering}}
 use Rattle.pim_types.{specs.{Keys.{iface_in, key_cmp}, declared.{config.Config.Config, fact.{Key.Key, NeighbourRow.NeighbourRow}, outcome.{Emission.Emission}}}, proofs.Keys.key_cmp_total}
-use Rattle.pim_model.{specs.{Firing.settled, Limits.config_test, State.{State, iface_count, settings_of}, Step.ran, Tables.{Table, below, drop_where, is_among, keys_in, put}}}
+use Rattle.pim_model.{specs.{Firing.settled, Limits.config_test, State.{addressing_of, State, iface_count, settings_of}, Step.ran, Tables.{Table, below, drop_where, is_among, keys_in, put}}}
 use Rattle.law_settled.{specs.Ready.{IsOrdered, Rises}}
 use Rattle.law_scope.{specs.Rest.IsAtRest}
 use Rattle.law_restored.{specs.Reload.{config_of, reconfigured, reloaded}, proofs.Reloads.{same_configuration_changes_nothing}}
@@ -123,7 +123,7 @@ module _ (s : State) (c : Config) (w : ℕ) where
       λ j. (
         (replaced (ran s (map (down_event w) (ranges j))).1 c w).0,
         sent_by (ran s (map (down_event w) (ranges j))).0
-            ++ (goodbyes (ran s (map (down_event w) (ranges j))).1 c.interfaces
+            ++ (goodbyes (ran s (map (down_event w) (ranges j))).1 (addressing_of c)
             ++ (replaced (ran s (map (down_event w) (ranges j))).1 c w).1),
       )
     where
@@ -153,7 +153,7 @@ module _ (s : State) (c : Config) (w : ℕ) where
       kept : length (kept_places (each_to_itself k n)) ≡ min k n
       kept = ap (λ (l : List ℕ). length l) (kept_are k n) ∙ length-range_with_len 0 (min k n)
 
-  module _ (accepted : config_test c ≡ Ok tt) (kept : resubnetted (min k n) s.configured c.interfaces ≡ []) (rest : IsAtRest s) where
+  module _ (accepted : config_test c ≡ Ok tt) (kept : resubnetted (min k n) s.configured.interfaces c.interfaces ≡ []) (rest : IsAtRest s) where
     old_same : in_order (below k) (config_of s) ≡ config_of s
     unfolding config_of
     old_same = in_own_order (config_of s)

@@ -178,7 +178,7 @@ places_are_there s m c e =
     let low = first (list_all (λ j. nat_lt j (length c.interfaces)) (kept_places m)) _ (second (length m == iface_count s) _ e) in
     record {
       each = to_length m ∙ count;
-      there = to_low s.configured m count;
+      there = to_low s.configured.interfaces m count;
       again = interfaces_shorter c.interfaces (new_order m (length c.interfaces));
       back = new_low m (length c.interfaces) low;
     }

@@ -1,7 +1,7 @@
 -- What a reload by places leaves is at rest.
 use Rattle.std.{proofs.Common.{◌≡◌, ◌&&◌, ℕ, ◌-◌, Bool, true, false, List, [], length, map, nat_lt, Ok, refl, ap, subst, ◌∙◌}, specs.List.range_with_len}
 use Rattle.pim_types.{specs.{declared.{config.Config.Config, event.Event.Event, fact.{Key.Key, QuerierRow.QuerierRow}}, Keys.{group_in, iface_in, iface_key, same_key, source_in, source_key, star_key}}, proofs.Keys.{equal_keys, same_key_same}}
-use Rattle.pim_model.{specs.{declared.accepted.Accepted.Accepted, Limits.config_test, State.{State, is_up, settings_of}, Step.{change, ran, rps_replaced, state_after}, Tables.{is_among}}}
+use Rattle.pim_model.{specs.{declared.accepted.Accepted.Accepted, Limits.config_test, State.{addressing_of, State, is_up, settings_of}, Step.{change, ran, rps_replaced, state_after}, Tables.{is_among}}}
 use Rattle.law_settled.{specs.{Laws.{is_querier_entry}, Ready.IsSettled}, proofs.{Changes.change_fine, Parts.{Part, Interfaces, Neighbours, Queriers, GroupRecords, SourceRecords, GroupRepeats, SourceRepeats, Sendings, Downstreams, Asserts, JoinTimers, OverrideTimers, Sources, Registers}, FineStates.{Anyhow, FineAt, Good, IsFine, without_rows}, SettledStates.{fine_is_settled, settled_is_fine}, Steps.later_is_late}}
 use Rattle.law_scope.{specs.Rest.IsAtRest, proofs.Rest.run_is_at_rest}
 use Rattle.law_restored.{specs.Reload.{IsSetting, config_of}, proofs.{Settings.settled_under, Reloads.{accepted_setting, follows_at_rest}}}
@@ -112,16 +112,16 @@ under_settled_by : (s : State) (c : Config) → IsSetting (settings_of c) → Is
 unfolding under asserts_under is_won_before
 under_settled_by s c setting f =
     let asking : State = record s { queriers = queriers_under s (settings_of c) } in
-    let anew : State = record asking { asserts = asserts_under s c.interfaces } in
-    ranges_settled (record anew { settings = settings_of c; configured = c.interfaces; routes = c.routes }) c
-    (settled_under anew (settings_of c) c.interfaces c.routes s.ranges setting
-    (asserts_settled asking c.interfaces (queriers_settled s (settings_of c) setting f)))
+    let anew : State = record asking { asserts = asserts_under s (addressing_of c) } in
+    ranges_settled (record anew { settings = settings_of c; configured = addressing_of c; routes = c.routes }) c
+    (settled_under anew (settings_of c) (addressing_of c) c.routes s.ranges setting
+    (asserts_settled asking (addressing_of c) (queriers_settled s (settings_of c) setting f)))
 
 -- a configuration in the place of another leaves rest, where its intervals aren't 0
 replaced_rests : (s : State) (c : Config) (w : ℕ) → IsSetting (settings_of c) → IsAtRest s → IsAtRest (replaced s c w).0
 unfolding replaced
 replaced_rests s c w setting h =
-    follows_at_rest s (under s c) (hellos_anew s c.interfaces) w (under_settled_by s c setting h.settled)
+    follows_at_rest s (under s c) (hellos_anew s (addressing_of c)) w (under_settled_by s c setting h.settled)
 
 pub gone_on_rests : (s : State) (kept count : ℕ) (c : Config) (w : ℕ) → IsSetting (settings_of c) → IsAtRest s
     → IsAtRest (gone_on s kept count c w).0

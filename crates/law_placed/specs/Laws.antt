@@ -63,7 +63,7 @@ PlacedReloadIsUnder = (s : State) (m : Places) (c : Config) (w : ℕ) → config
 -- its subnet, a reload by places is the reload without a map.
 abbrev pub IdentityPlacesAreReload : Type 0
 IdentityPlacesAreReload = (s : State) (c : Config) (w : ℕ) → config_test c ≡ Ok tt
-    → resubnetted (min (iface_count s) (length c.interfaces)) s.configured c.interfaces ≡ [] → IsAtRest s
+    → resubnetted (min (iface_count s) (length c.interfaces)) s.configured.interfaces c.interfaces ≡ [] → IsAtRest s
     → reload_by s (each_to_itself (iface_count s) (length c.interfaces)) c w ≡ reload s c w
 
 -- By a map that has passed its tests no two old places go to one place of the order between, and no two of those to one new

@@ -2,7 +2,7 @@
 -- has, and the old interfaces that the map leaves out go down. Sections are those of RFC 7761.
 use Rattle.std.{specs.{List.{cons_option, list_all, range_with_len}, Option.{option_map_or}, Prelude.{Bool, List, None, Option, Some, [], false, filter, if◌then◌else◌, is_some, length, map, nat_lt, not, slice_get, true, ℕ, ◌&&◌, ◌++◌, ◌+◌, ◌-◌, ◌==◌, ◌∷◌}}}
 use Rattle.pim_types.{specs.{Keys.iface_in, declared.{config.{Config.Config, InterfaceConfig.InterfaceConfig, Route.Route}, fact.Key.Key, outcome.{Emission.Emission, Outcome.Outcome}}}}
-use Rattle.pim_model.{specs.{Firing.settled, State.{State, settings_of}, Step.ran, Tables.{Table, below, drop_where, is_among, put}}}
+use Rattle.pim_model.{specs.{Firing.settled, State.{addressing_of, State, settings_of}, Step.ran, Tables.{Table, below, drop_where, is_among, put}}}
 use Rattle.law_restored.{specs.Reload.config_of}
 use Rattle.law_reloaded.{specs.Reloading.{down_event, goodbyes, replaced, sent_by}}
 
@@ -115,7 +115,7 @@ module _ {R : Type 0} (places : List ℕ) where
 unfoldable pub placed_under : State → List ℕ → Config → State
 placed_under s places c = record s {
   settings = settings_of c;
-  configured = c.interfaces;
+  configured = addressing_of c;
   routes = c.routes;
   ranges = c.rps;
   interfaces = placed places s.interfaces;
@@ -168,7 +168,7 @@ unfoldable pub gone_on : State → ℕ → ℕ → Config → ℕ → State × L
 gone_on s kept count c w =
     let gone : List Outcome × State = ran s (map (down_event w) (range_with_len kept (count - kept))) in
     let after : State × List Emission = replaced gone.1 c w in
-    (after.0, sent_by gone.0 ++ (goodbyes gone.1 c.interfaces ++ after.1))
+    (after.0, sent_by gone.0 ++ (goodbyes gone.1 (addressing_of c) ++ after.1))
 
 -- The state after a reload by a map of places, and what leaves by it, each packet on the old interface of its link. The facts
 -- go to the order between, where neighbours of links with another subnet go. The old interfaces that the map leaves out go
