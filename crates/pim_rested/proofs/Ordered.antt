@@ -6,9 +6,9 @@ use Rattle.pim_saved.{proofs.SpelledStates.reading_is_text, specs.{Fits.FitsStat
 
 in_order : (s : State) → FitsState s → IsOrdered s
 in_order s h =
-    let links = h.1.0 in
-    let records = h.1.1.0 in
-    let trees = h.1.1.1 in
+    let links = h.1.1.0 in
+    let records = h.1.1.1.0 in
+    let trees = h.1.1.1.1 in
     record {
       interfaces = links.0.1;
       neighbours = links.1.0.1;
