@@ -10,6 +10,7 @@ import zlib
 from pathlib import Path
 
 from viqeshor import Answer, Refused, Router, hosts, recording
+from viqeshor.lab import packets
 from viqeshor.recording import Recorder
 
 LINKS = [("10.0.0.2", 24), ("10.0.1.1", 24)]
@@ -207,7 +208,7 @@ class Recordings(unittest.TestCase):
 
     def test_the_guard_is_as_it_was(self):
         """A recording begins with a router that has a guard, unless it says otherwise or is of a version before 4."""
-        stopped = hosts.ipv4(103, "10.0.1.5", GROUP, 9, bytes(8))
+        stopped = packets.write(103, "10.0.1.5", GROUP, 9, bytes(8))
         with Recorder(self.router, self.path, most=4096):
             self.router.set_guard(False)
             self.use(200)

@@ -14,6 +14,7 @@ from unittest import mock
 
 import viqeshor
 from viqeshor import Answer, Closed, DownstreamRow, NeighbourRow, Refused, Router, hosts
+from viqeshor.lab import packets
 
 HELLO_ABOVE = "45C0001E000000000167CEAB0A000001E000000D2000DFFC00010002FFFF"
 HELLO_BELOW = "45C0001E000000000167CDAA0A000102E000000D2000DFFC00010002FFFF"
@@ -371,8 +372,8 @@ class Routers(unittest.TestCase):
     def test_the_guard_stops_igmp_and_pim(self):
         """A Register with IGMP or PIM inside, or for 224.0.0.0/24, and PIM on a link to another group."""
         def registered(protocol, group):
-            inner = hosts.ipv4(protocol, "10.0.3.5", group, 9, bytes(8))
-            return hosts.ipv4(103, "10.0.3.1", "10.0.1.1", 60, b"\x21\0\xde\xff\0\0\0\0" + inner)
+            inner = packets.write(protocol, "10.0.3.5", group, 9, bytes(8))
+            return packets.write(103, "10.0.3.1", "10.0.1.1", 60, b"\x21\0\xde\xff\0\0\0\0" + inner)
 
         links = [("10.0.0.2", 24), ("10.0.1.1", 24)]
         router = Router(links, [("224.0.0.0/4", "10.0.1.1")], [("10.0.3.0/24", "10.0.0.1", 0, 110, 20)])
@@ -381,7 +382,7 @@ class Routers(unittest.TestCase):
         router.frame(1, hosts.join("10.0.1.9", "225.1.1.1"))
         router.packets()
         stopped = [(2, "225.1.1.1"), (103, "225.1.1.1"), (17, "224.0.0.5")]
-        on_link = hosts.ipv4(103, "10.0.3.5", "225.1.1.1", 9, bytes(8))
+        on_link = packets.write(103, "10.0.3.5", "225.1.1.1", 9, bytes(8))
         answers = [router.unicast(registered(*each)) for each in stopped] + [router.frame(0, on_link)]
         self.assertEqual((answers, router.packets(), router.changed()), ([Answer.GUARDED] * 4, [], []))
         self.assertTrue(Answer.GUARDED.is_ignored)
