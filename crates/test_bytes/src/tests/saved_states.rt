@@ -406,12 +406,12 @@ fn each_front_is_refused(rt: HostRuntime) -> Result<(), Fail> {
     Ok(())
 }
 
-// The state with these own addresses of no interface, in version 3: their number, each in four bytes, and the rest.
-fn with_addresses(alloc: Global, addresses: &[u8]) -> Result<Vec<u8>, Fail> {
+// The state with so many own addresses of no interface, in version 3: their number, each in four bytes, and the rest.
+fn with_addresses(alloc: Global, count: u8, addresses: &[u8]) -> Result<Vec<u8>, Fail> {
     let mut front = Vec::new(alloc);
     front.extend_from_slice(&STATE[..5])?;
     front.extend_from_slice(&[3, 0, 0, 0, 0, 0, 0, 0])?;
-    front.push((addresses.len() / 4) as u8)?;
+    front.push(count)?;
     front.extend_from_slice(addresses)?;
     front.extend_from_slice(&STATE[6..SUM])?;
     summed(alloc, &front)
@@ -420,7 +420,7 @@ fn with_addresses(alloc: Global, addresses: &[u8]) -> Result<Vec<u8>, Fail> {
 #[test]
 fn own_addresses_make_version_3(rt: HostRuntime) -> Result<(), Fail> {
     let alloc = rt.alloc();
-    let expected = with_addresses(alloc, &[10, 255, 1, 1, 10, 255, 1, 2])?;
+    let expected = with_addresses(alloc, 2, &[10, 255, 1, 1, 10, 255, 1, 2])?;
     let mut state = state(alloc)?;
     state.addresses.push(Addr { bits: 0x0AFF_0101 })?;
     state.addresses.push(Addr { bits: 0x0AFF_0102 })?;
@@ -435,7 +435,7 @@ fn own_addresses_make_version_3(rt: HostRuntime) -> Result<(), Fail> {
 #[test]
 fn version_3_without_addresses_is_refused(rt: HostRuntime) -> Result<(), Fail> {
     let alloc = rt.alloc();
-    let bytes = with_addresses(alloc, &[])?;
+    let bytes = with_addresses(alloc, 0, &[])?;
     refuses(&rt, alloc, &bytes, SavedRefusal::OutOfRange);
     Ok(())
 }
