@@ -8,8 +8,8 @@ from ipaddress import IPv4Network, ip_address
 from pathlib import Path
 from typing import TYPE_CHECKING, Any
 
+from viqeshor.lab.faults import MOST_ADDRESSES
 from pimtext import frr
-from pimtext.faults import MOST_ADDRESSES
 from pimtext.frr import IGMP_TIMES
 
 if TYPE_CHECKING:
