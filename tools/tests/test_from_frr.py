@@ -169,7 +169,7 @@ class Carried(unittest.TestCase):
         text = frr_lab.text_of(plan, "here")
         self.assertIn('net.router("b", addresses=["10.0.9.8", "10.0.8.8"])', text)
         net = from_frr.played(text)
-        self.assertIn("10.0.9.8/32 10.0.1.3 0 110 10", net.table(net.routers["a"])["routes"])
+        self.assertIn("10.0.9.8/32 10.0.1.3 0 110 10", net.written(net.routers["a"])["routes"])
 
     def test_more_addresses_than_a_router_has(self):
         loopback = "interface lo\n ip pim\n" + "".join(f" ip address 10.9.0.{n}/32\n" for n in range(1, 18))
