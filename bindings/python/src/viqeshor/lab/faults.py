@@ -513,7 +513,8 @@ def own_faults(router: dict[str, Any]) -> Iterator[tuple[int, str]]:
 
 
 def is_in(address: int, iface: Iface) -> bool:
-    return (address ^ iface.address) & mask(iface.length) == 0
+    """Whether an address is in the subnet of an interface; one of no supported length is told of by itself."""
+    return 1 <= iface.length <= 31 and (address ^ iface.address) & mask(iface.length) == 0
 
 
 def value_faults(router: dict[str, Any]) -> Iterator[tuple[int, int, str, str]]:
