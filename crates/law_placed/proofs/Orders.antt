@@ -26,7 +26,7 @@ all_joined p [] ys e f = f
 all_joined p (x ∷ xs) ys e f =
     both (p x) _ (first (p x) (list_all p xs) e) (all_joined p xs ys (second (p x) (list_all p xs) e) f)
 
-interfaces_shorter : (cs : List InterfaceConfig) (order : List ℕ) → length (interfaces_at cs order) ≤ length order
+pub interfaces_shorter : (cs : List InterfaceConfig) (order : List ℕ) → length (interfaces_at cs order) ≤ length order
 interfaces_shorter cs [] = omega arith
 interfaces_shorter cs (i ∷ order) = by (slice_get cs i) (interfaces_shorter cs order)
   where
@@ -67,7 +67,7 @@ new_low m new e =
 
 -- ---- each old place has a place in the order between
 
-old_low : (m : Places) → list_all (λ i. nat_lt i (length m)) (old_order m) ≡ true
+pub old_low : (m : Places) → list_all (λ i. nat_lt i (length m)) (old_order m) ≡ true
 unfolding old_order
 old_low m =
     all_joined (λ i. nat_lt i (length m)) (filter (is_kept m) (below (length m))) (filter (is_left_out m) (below (length m)))
@@ -87,7 +87,7 @@ one_found [] i None e less rest = absurd (none_below i less)
 one_found (c ∷ cs) zero None e less rest = cc
 one_found (c ∷ cs) (suc i) None e less rest = one_found cs i None e (lower i (length cs) less) rest
 
-all_found : (cs : List InterfaceConfig) (order : List ℕ) → list_all (λ i. nat_lt i (length cs)) order ≡ true
+pub all_found : (cs : List InterfaceConfig) (order : List ℕ) → list_all (λ i. nat_lt i (length cs)) order ≡ true
     → length (interfaces_at cs order) ≡ length order
 all_found cs [] e = refl
 all_found cs (i ∷ order) e =
