@@ -104,7 +104,7 @@ index_low n k (m ∷ ms) e = by (m == n) (index_low n (k + 1) ms) e
     by true f e = grind (arith, nat_tests)
     by false f e = let less = f e in grind (arith, nat_tests, less)
 
-in_range : (i n k : ℕ) → nat_lt i n ≡ true → list_any (λ x. x == k + i) (range_with_len k n) ≡ true
+pub in_range : (i n k : ℕ) → nat_lt i n ≡ true → list_any (λ x. x == k + i) (range_with_len k n) ≡ true
 in_range i zero k less = absurd (none_below i less)
 in_range zero (suc n) k less = ap (λ (b : Bool). b || list_any (λ x. x == k + 0) (range_with_len (k + 1) n)) (here k)
   where
@@ -117,7 +117,7 @@ in_range (suc i) (suc n) k less =
     shift : (a b : ℕ) → a + suc b ≡ (a + 1) + b
     shift a b = omega arith
 
-passes_there : (p : ℕ → Bool) (i : ℕ) → p i ≡ true → (ns : List ℕ) → list_any (λ x. x == i) ns ≡ true
+pub passes_there : (p : ℕ → Bool) (i : ℕ) → p i ≡ true → (ns : List ℕ) → list_any (λ x. x == i) ns ≡ true
     → list_any (λ x. x == i) (filter p ns) ≡ true
 passes_there p i passes ns there =
     in_filter ns
