@@ -191,9 +191,9 @@ module _ (n limit : ℕ) (some : 1 ≤ n) where
         (old_limit f.bound) in
         let links : iface_count (begun s m c w) ≤ n =
         subst (λ (a : ℕ). a ≤ n) (sym (begun_count s m c w are)) many in
-        let then : Few (state_after (begun s m c w) downs) =
+        let downed : Few (state_after (begun s m c w) downs) =
         run_few downs (begun s m c w) (record { settled = rests.settled; bound = bound; links = links; covered = first }) in
-        let next : Covered n limit (renewed s m c w) = replaced_few (gone s m c w) (new s m c w) w then.covered in
+        let next : Covered n limit (renewed s m c w) = replaced_few (gone s m c w) (new s m c w) w downed.covered in
         moved_few (order s m c w) apart.1 new_low (renewed s m c w) c [] w next
       where
         old_limit : s.settings.limit ≤ limit → (old s m c w).limit ≤ limit

@@ -167,12 +167,12 @@ module _ (limit : ℕ) (s : State) (m : Places) (c : Config) (w : ℕ) (f : IsUn
       let first : IsUnder limit (begun s m c w) =
       moved_under limit s (to_order m) (old s m c w)
       (resubnetted (kept s m c w) (old s m c w).interfaces (new s m c w).interfaces) w old_limit f in
-      let then : IsUnder limit (gone s m c w) =
+      let downed : IsUnder limit (gone s m c w) =
       run_under limit (map (down_event w) (range_with_len (kept s m c w) (length m - kept s m c w))) (begun s m c w) first
       (begun_rests s m c w led.accepted led.rest.settled) in
       let next : IsUnder (max limit c.limit) (renewed s m c w) =
       subst (λ (n : ℕ). IsUnder (max limit n) (renewed s m c w)) new_limit
-      (replaced_under limit (gone s m c w) (new s m c w) w then) in
+      (replaced_under limit (gone s m c w) (new s m c w) w downed) in
       moved_under (max limit c.limit) (renewed s m c w) (order s m c w) c [] w (greater limit c.limit) next
 
 -- ---- what a plane reports

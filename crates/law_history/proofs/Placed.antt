@@ -131,9 +131,9 @@ module _ (past : Past) (s : State) (m : Places) (c : Config) (w : ℕ)
       moved_asked (CausedBy past) Between s (to_order m) (old s m c w) apart.0 led.rest.settled
       (λ i up g src now h. (i, up_before s m c w are led.configured i up, refl, h))
       (resubnetted (kept s m c w) (old s m c w).interfaces (new s m c w).interfaces) w f in
-      let then : IsAsked Between (gone s m c w) =
+      let downed : IsAsked Between (gone s m c w) =
       downs_asked Between w (range_with_len (kept s m c w) (length m - kept s m c w)) (begun s m c w) first in
-      let next : IsAsked Between (renewed s m c w) = replaced_asked Between w (gone s m c w) (new s m c w) then in
+      let next : IsAsked Between (renewed s m c w) = replaced_asked Between w (gone s m c w) (new s m c w) downed in
       moved_asked Between (CausedBy after) (renewed s m c w) (order s m c w) c apart.1
       (renewed_rests s m c w led.accepted led.rest.settled is).settled
       (λ p up g src now h. comes p (renewed_low s m c w are led.configured p up) g src now h) [] w next

@@ -130,7 +130,12 @@ index_over x a (y ∷ xs) ys none there = by (y == x) none (λ e. index_over x (
 
 -- ---- of a whole map
 
-got_low : {X : Type 0} (xs : List X) (i : ℕ) (x : X) → slice_get xs i ≡ Some x → nat_lt i (length xs) ≡ true
+pub none_got : {X : Type 0} (xs : List X) (i : ℕ) → slice_get xs i ≡ None → nat_lt i (length xs) ≡ false
+none_got [] i e = grind (arith, nat_tests)
+none_got (x ∷ xs) zero e = cc
+none_got (x ∷ xs) (suc i) e = let over = none_got xs i e in grind (arith, nat_tests, over)
+
+pub got_low : {X : Type 0} (xs : List X) (i : ℕ) (x : X) → slice_get xs i ≡ Some x → nat_lt i (length xs) ≡ true
 got_low [] i x e = cc
 got_low (y ∷ ys) zero x e = grind (arith, nat_tests)
 got_low (y ∷ ys) (suc i) x e = let less = got_low ys i x e in grind (arith, nat_tests, less)
@@ -187,11 +192,6 @@ module _ (m : Places) where
       by : (o : Option (Option ℕ)) → slice_get m i ≡ o
           → o ≡ Some (Some (number_at (new_order m new) (number_at (to_order m) i)))
       by None e = absurd (cc (sym less ∙ none_got m i e))
-        where
-          none_got : (ms : Places) (k : ℕ) → slice_get ms k ≡ None → nat_lt k (length ms) ≡ false
-          none_got [] k e = grind (arith, nat_tests)
-          none_got (o ∷ ms) zero e = cc
-          none_got (o ∷ ms) (suc k) e = let over = none_got ms k e in grind (arith, nat_tests, over)
       by (Some None) e = absurd (stays (left_out_is_past i e))
       by (Some (Some j)) e = ap (λ (n : ℕ). Some (Some n)) (sym (goes_where_it_says i j new e))
 

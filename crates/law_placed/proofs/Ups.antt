@@ -132,7 +132,7 @@ module _ (s : State) (m : Places) (c : Config) (w : ℕ) where
     many : length m ≡ iface_count s
     many = as_many (iface_count s) (length c.interfaces) m are
 
-    old_many : length old.interfaces ≡ length m
+    pub old_many : length old.interfaces ≡ length m
     unfolding in_order config_of
     old_many =
         all_found s.configured.interfaces (old_order m)
