@@ -24,6 +24,7 @@ pub mod Split
 pub mod LastHop
 pub mod InTime
 pub mod History
+pub mod Placed
 pub mod Plane
 pub mod Registered
 pub mod WayInTime
