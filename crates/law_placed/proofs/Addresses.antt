@@ -4,7 +4,7 @@ use Rattle.pim_types.{specs.declared.config.{Config.Config, InterfaceConfig.Inte
 use Rattle.pim_model.{specs.State.{Addressing, State, address_among, addressing_of, iface_count}}
 use Rattle.law_restored.{specs.Reload.config_of}
 use Rattle.law_reloaded.{proofs.Ground.replaced_is_under}
-use Rattle.law_placed.{specs.Placing.{Places, are_places, in_order, index_from, index_of, interfaces_at, new_order, number_at, old_order, to_order}, proofs.{Apart.{at_high, first, new_count, old_count, second, to_at}, Mapped.{got_low, none_got}, Orders.{all_found, each_among, new_low, old_low as low_orders}, Ups.{as_many, each_low, each_once, gone, new, old, old_many, order, renewed}}}
+use Rattle.law_placed.{specs.{Laws.AddressesGoAlong, Placing.{Places, are_places, in_order, index_from, index_of, interfaces_at, new_order, number_at, old_order, to_order}}, proofs.{Apart.{at_high, first, new_count, old_count, second, to_at}, Mapped.{got_low, none_got}, Orders.{all_found, each_among, new_low, old_low as low_orders}, Ups.{as_many, each_low, each_once, gone, new, old_many, order, renewed}}}
 
 -- ---- interfaces in an order
 
@@ -69,7 +69,10 @@ KeepsAddresses s places c =
 abbrev address_in : List InterfaceConfig → ℕ → ℕ
 address_in cs i = option_map_or (λ (c : InterfaceConfig). c.address.bits) (slice_get cs i) 0
 
-module _ (s : State) (m : Places) (c : Config) (w : ℕ) (are : are_places (iface_count s) (length c.interfaces) m ≡ true) where
+module _ (s : State) (m : Places) (c : Config) (are : are_places (iface_count s) (length c.interfaces) m ≡ true) where
+  abbrev order : List ℕ
+  order = new_order m (length c.interfaces)
+
   past : (i n : ℕ) → nat_lt i n ≡ false → n ≤ i
   past i n e = grind (arith, nat_tests, e)
 
@@ -81,7 +84,7 @@ module _ (s : State) (m : Places) (c : Config) (w : ℕ) (are : are_places (ifac
       ap (λ (n : ℕ). list_all (λ x. nat_lt x n) (old_order m)) (sym (as_many (iface_count s) (length c.interfaces) m are))
       ∙ low_orders m
 
-  pub old_addresses : KeepsAddresses s (to_order m) (old s m c w)
+  pub old_addresses : KeepsAddresses s (to_order m) (in_order (old_order m) (config_of s))
   unfolding in_order index_of config_of
   old_addresses i = by (nat_lt i (length m)) refl
     where
@@ -101,45 +104,50 @@ module _ (s : State) (m : Places) (c : Config) (w : ℕ) (are : are_places (ifac
           let stays : number_at (to_order m) i ≡ i =
           to_at m i ∙ ap (λ (b : Bool). cond b (index_from 0 (0 + i) (old_order m)) i) e in
           let count : length m ≡ length cs = as_many (iface_count s) (length c.interfaces) m are in
-          let many : length (interfaces_at cs (old_order m)) ≡ length m = old_many s m c w are in
+          let many : length (interfaces_at cs (old_order m)) ≡ length m = old_many s m c 0 are in
           let le : length m ≤ i = past i (length m) e in
           ap (address_in (interfaces_at cs (old_order m))) stays
           ∙ ap (λ (o : Option InterfaceConfig). option_map_or (λ (c : InterfaceConfig). c.address.bits) o 0)
           (slice_get_past (interfaces_at cs (old_order m)) i (omega (arith, many, le))
           ∙ sym (slice_get_past cs i (omega (arith, count, le))))
 
-  new_all_low : list_all (λ x. nat_lt x (length c.interfaces)) (order s m c w) ≡ true
+  new_all_low : list_all (λ x. nat_lt x (length c.interfaces)) order ≡ true
   new_all_low = new_low m (length c.interfaces) (each_low (iface_count s) (length c.interfaces) m are)
 
-  many_new : length (order s m c w) ≡ length c.interfaces
+  many_new : length order ≡ length c.interfaces
   many_new =
       new_count m (length c.interfaces) (each_once (iface_count s) (length c.interfaces) m are)
       (each_low (iface_count s) (length c.interfaces) m are)
 
-  at_new : (p : ℕ) → address_in c.interfaces (number_at (order s m c w) p) ≡ address_in (interfaces_at c.interfaces (order s m c w)) p
+  at_new : (p : ℕ) → address_in c.interfaces (number_at order p) ≡ address_in (interfaces_at c.interfaces order) p
   unfolding number_at
-  at_new p = by (slice_get (order s m c w) p) refl
+  at_new p = by (slice_get order p) refl
     where
-      by : (o : Option ℕ) → slice_get (order s m c w) p ≡ o
-          → address_in c.interfaces (option_map_or (λ n. n) (slice_get (order s m c w) p) p)
-          ≡ address_in (interfaces_at c.interfaces (order s m c w)) p
+      by : (o : Option ℕ) → slice_get order p ≡ o
+          → address_in c.interfaces (option_map_or (λ n. n) (slice_get order p) p)
+          ≡ address_in (interfaces_at c.interfaces order) p
       by (Some x) e =
           ap (λ (o : Option ℕ). address_in c.interfaces (option_map_or (λ n. n) o p)) e
           ∙ ap (λ (o : Option InterfaceConfig). option_map_or (λ (c : InterfaceConfig). c.address.bits) o 0)
-          (sym (at_place c.interfaces p x (order s m c w) new_all_low e))
+          (sym (at_place c.interfaces p x order new_all_low e))
       by None e =
-          let le : length (order s m c w) ≤ p = past p (length (order s m c w)) (none_got (order s m c w) p e) in
-          let same : length (order s m c w) ≡ length c.interfaces = many_new in
-          let all : length (interfaces_at c.interfaces (order s m c w)) ≡ length (order s m c w) =
-          all_found c.interfaces (order s m c w) new_all_low in
+          let le : length order ≤ p = past p (length order) (none_got order p e) in
+          let same : length order ≡ length c.interfaces = many_new in
+          let all : length (interfaces_at c.interfaces order) ≡ length order =
+          all_found c.interfaces order new_all_low in
           ap (λ (o : Option ℕ). address_in c.interfaces (option_map_or (λ n. n) o p)) e
           ∙ ap (λ (o : Option InterfaceConfig). option_map_or (λ (c : InterfaceConfig). c.address.bits) o 0)
           (slice_get_past c.interfaces p (omega (arith, le, same))
-          ∙ sym (slice_get_past (interfaces_at c.interfaces (order s m c w)) p (omega (arith, le, all))))
+          ∙ sym (slice_get_past (interfaces_at c.interfaces order) p (omega (arith, le, all))))
 
-  renewed_interfaces : (renewed s m c w).configured.interfaces ≡ interfaces_at c.interfaces (order s m c w)
-  unfolding config_of in_order
-  renewed_interfaces = ap (λ (d : Config). d.interfaces) (replaced_is_under (gone s m c w) (new s m c w) w)
+pub addresses_go_along : AddressesGoAlong
+unfolding in_order
+addresses_go_along s m c are = (λ i. old_addresses s m c are i, λ p. at_new s m c are p)
 
-  pub new_addresses : KeepsAddresses (renewed s m c w) (order s m c w) c
-  new_addresses p = at_new p ∙ ap (λ (cs : List InterfaceConfig). address_in cs p) (sym renewed_interfaces)
+-- under the new configuration, before the second move
+pub new_addresses : (s : State) (m : Places) (c : Config) (w : ℕ) → are_places (iface_count s) (length c.interfaces) m ≡ true
+    → KeepsAddresses (renewed s m c w) (order s m c w) c
+unfolding config_of in_order
+new_addresses s m c w are p =
+    at_new s m c are p
+    ∙ ap (λ (d : Config). address_in d.interfaces p) (sym (replaced_is_under (gone s m c w) (new s m c w) w))

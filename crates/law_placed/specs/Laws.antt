@@ -1,7 +1,7 @@
 -- What a user expects of a reload by places.
 use Rattle.std.{specs.{List.list_all, Prelude.{List, None, Ok, Some, [], if◌then◌else◌, length, min, nat_lt, slice_get, true, ℕ, ◌≡◌, ◌≤◌}}}
 use Rattle.pim_types.{specs.{Keys.iface_in, declared.{config.Config.Config, fact.Key.Key}}}
-use Rattle.pim_model.{specs.{Limits.config_test, State.{State, iface_count}, Tables.{is_among, row_at}}}
+use Rattle.pim_model.{specs.{Limits.config_test, State.{State, address_among, addressing_of, iface_count}, Tables.{is_among, row_at}}}
 use Rattle.law_scope.{specs.Rest.IsAtRest}
 use Rattle.law_settled.{specs.Ready.IsOrdered}
 use Rattle.law_restored.{specs.Reload.config_of}
@@ -58,6 +58,14 @@ NeighboursStayOrGo = (s : State) (places : List ℕ) (c : Config) (apart : List 
 -- the state is under the configuration of the reload, and no other
 abbrev pub PlacedReloadIsUnder : Type 0
 PlacedReloadIsUnder = (s : State) (m : Places) (c : Config) (w : ℕ) → config_of (reload_by s m c w).0 ≡ c
+
+-- In the order between each interface has the address that it had, and in the new order the one that it has between.
+abbrev pub AddressesGoAlong : Type 0
+AddressesGoAlong = (s : State) (m : Places) (c : Config) → are_places (iface_count s) (length c.interfaces) m ≡ true
+    → ((i : ℕ) → address_among (addressing_of (in_order (old_order m) (config_of s))) (number_at (to_order m) i)
+    ≡ address_among s.configured i)
+    × ((p : ℕ) → address_among (addressing_of c) (number_at (new_order m (length c.interfaces)) p)
+    ≡ address_among (addressing_of (in_order (new_order m (length c.interfaces)) c)) p)
 
 -- After a reload by places only interfaces of the new configuration are up.
 abbrev pub PlacedAreConfigured : Type 0

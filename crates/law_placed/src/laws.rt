@@ -1,5 +1,5 @@
 //! The laws.
-ghost use Rattle.law_placed.specs.Laws.{FactsGoWithTheirLink, IdentityPlacesAreReload, NeighboursStayOrGo, PlacedAreConfigured, PlacedReloadIsUnder, PlacedReloadLeavesRest, PlacesAreApart, PlacesAreThere, PlacesGoByTheMap};
+ghost use Rattle.law_placed.specs.Laws.{AddressesGoAlong, FactsGoWithTheirLink, IdentityPlacesAreReload, NeighboursStayOrGo, PlacedAreConfigured, PlacedReloadIsUnder, PlacedReloadLeavesRest, PlacesAreApart, PlacesAreThere, PlacesGoByTheMap};
 
 /// What a reload by places leaves is at rest.
 pub fn placed_reload_leaves_rest()
@@ -24,6 +24,11 @@ pub fn neighbours_stay_or_go()
 /// After a reload by places the router is under its configuration.
 pub fn placed_reload_is_under()
     ensures { PlacedReloadIsUnder }
+{}
+
+/// In both moves each interface takes its address along.
+pub fn addresses_go_along()
+    ensures { AddressesGoAlong }
 {}
 
 /// After a reload by places only interfaces of the new configuration are up.
