@@ -83,7 +83,7 @@ module _ (By : ℕ → State → Type 0)
   placed_now s m c w are f =
       let first : Now (begun s m c w) =
       moved_now s (to_order m) (old s m c w) (resubnetted (kept s m c w) (old s m c w).interfaces (new s m c w).interfaces) w
-      (old_addresses s m c w are) f in
+      (old_addresses s m c are) f in
       let next : Now (renewed s m c w) =
       replaced_now (gone s m c w) (new s m c w) w
       (ran_now (map (down_event w) (range_with_len (kept s m c w) (length m - kept s m c w))) (begun s m c w) first) in

@@ -70,8 +70,8 @@ abbrev address_in : List InterfaceConfig → ℕ → ℕ
 address_in cs i = option_map_or (λ (c : InterfaceConfig). c.address.bits) (slice_get cs i) 0
 
 module _ (s : State) (m : Places) (c : Config) (are : are_places (iface_count s) (length c.interfaces) m ≡ true) where
-  abbrev order : List ℕ
-  order = new_order m (length c.interfaces)
+  abbrev given_order : List ℕ
+  given_order = new_order m (length c.interfaces)
 
   past : (i n : ℕ) → nat_lt i n ≡ false → n ≤ i
   past i n e = grind (arith, nat_tests, e)
@@ -111,34 +111,34 @@ module _ (s : State) (m : Places) (c : Config) (are : are_places (iface_count s)
           (slice_get_past (interfaces_at cs (old_order m)) i (omega (arith, many, le))
           ∙ sym (slice_get_past cs i (omega (arith, count, le))))
 
-  new_all_low : list_all (λ x. nat_lt x (length c.interfaces)) order ≡ true
+  new_all_low : list_all (λ x. nat_lt x (length c.interfaces)) given_order ≡ true
   new_all_low = new_low m (length c.interfaces) (each_low (iface_count s) (length c.interfaces) m are)
 
-  many_new : length order ≡ length c.interfaces
+  many_new : length given_order ≡ length c.interfaces
   many_new =
       new_count m (length c.interfaces) (each_once (iface_count s) (length c.interfaces) m are)
       (each_low (iface_count s) (length c.interfaces) m are)
 
-  at_new : (p : ℕ) → address_in c.interfaces (number_at order p) ≡ address_in (interfaces_at c.interfaces order) p
+  at_new : (p : ℕ) → address_in c.interfaces (number_at given_order p) ≡ address_in (interfaces_at c.interfaces given_order) p
   unfolding number_at
-  at_new p = by (slice_get order p) refl
+  at_new p = by (slice_get given_order p) refl
     where
-      by : (o : Option ℕ) → slice_get order p ≡ o
-          → address_in c.interfaces (option_map_or (λ n. n) (slice_get order p) p)
-          ≡ address_in (interfaces_at c.interfaces order) p
+      by : (o : Option ℕ) → slice_get given_order p ≡ o
+          → address_in c.interfaces (option_map_or (λ n. n) (slice_get given_order p) p)
+          ≡ address_in (interfaces_at c.interfaces given_order) p
       by (Some x) e =
           ap (λ (o : Option ℕ). address_in c.interfaces (option_map_or (λ n. n) o p)) e
           ∙ ap (λ (o : Option InterfaceConfig). option_map_or (λ (c : InterfaceConfig). c.address.bits) o 0)
-          (sym (at_place c.interfaces p x order new_all_low e))
+          (sym (at_place c.interfaces p x given_order new_all_low e))
       by None e =
-          let le : length order ≤ p = past p (length order) (none_got order p e) in
-          let same : length order ≡ length c.interfaces = many_new in
-          let all : length (interfaces_at c.interfaces order) ≡ length order =
-          all_found c.interfaces order new_all_low in
+          let le : length given_order ≤ p = past p (length given_order) (none_got given_order p e) in
+          let same : length given_order ≡ length c.interfaces = many_new in
+          let all : length (interfaces_at c.interfaces given_order) ≡ length given_order =
+          all_found c.interfaces given_order new_all_low in
           ap (λ (o : Option ℕ). address_in c.interfaces (option_map_or (λ n. n) o p)) e
           ∙ ap (λ (o : Option InterfaceConfig). option_map_or (λ (c : InterfaceConfig). c.address.bits) o 0)
           (slice_get_past c.interfaces p (omega (arith, le, same))
-          ∙ sym (slice_get_past (interfaces_at c.interfaces order) p (omega (arith, le, all))))
+          ∙ sym (slice_get_past (interfaces_at c.interfaces given_order) p (omega (arith, le, all))))
 
 pub addresses_go_along : AddressesGoAlong
 unfolding in_order
