@@ -162,19 +162,24 @@ module _ (n limit : ℕ) (some : 1 ≤ n) where
         ⊎_elim (λ (here : i < length c.interfaces). within_new here) (λ (past : length c.interfaces ≤ i). past_new past)
         (cases_lt i (length c.interfaces))
       where
-        once = each_once (iface_count s) (length c.interfaces) m are
-        all = each_low (iface_count s) (length c.interfaces) m are
-
         within_new : i < length c.interfaces → number_at (order s m c w) i < n
         within_new here =
+            let once = each_once (iface_count s) (length c.interfaces) m are in
+            let all = each_low (iface_count s) (length c.interfaces) m are in
             let a : number_at (order s m c w) i ≡ get_or (order s m c w) i 0 = at_low m (length c.interfaces) once all i here in
             let b : get_or (order s m c w) i 0 < length c.interfaces = value_low m (length c.interfaces) once all i here in
             omega (arith, a, b, among)
 
         past_new : length c.interfaces ≤ i → number_at (order s m c w) i < n
         past_new past =
+            let once = each_once (iface_count s) (length c.interfaces) m are in
+            let all = each_low (iface_count s) (length c.interfaces) m are in
             let a : number_at (order s m c w) i ≡ i = at_high m (length c.interfaces) once all i past in
             omega (arith, a, less)
+
+    old_limit : s.settings.limit ≤ limit → (old s m c w).limit ≤ limit
+    unfolding in_order config_of
+    old_limit e = e
 
     placed_covered : Covered n limit (reload_by s m c w).0
     unfolding reload_by gone_on state_after
@@ -195,10 +200,6 @@ module _ (n limit : ℕ) (some : 1 ≤ n) where
         run_few downs (begun s m c w) (record { settled = rests.settled; bound = bound; links = links; covered = first }) in
         let next : Covered n limit (renewed s m c w) = replaced_few (gone s m c w) (new s m c w) w downed.covered in
         moved_few (order s m c w) apart.1 new_low (renewed s m c w) c [] w next
-      where
-        old_limit : s.settings.limit ≤ limit → (old s m c w).limit ≤ limit
-        unfolding in_order config_of
-        old_limit e = e
 
     placed_few : Few (reload_by s m c w).0
     placed_few = record {

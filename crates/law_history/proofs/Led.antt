@@ -1,7 +1,7 @@
 -- What holds of a router between two calls, whatever it was given.
 use Rattle.std.{proofs.Common.{◌≡◌, ◌∙◌, ℕ, true, List, [], ◌∷◌, length, Ok, refl, sym, ap, subst}}
 use Rattle.pim_types.{specs.declared.{config.Config.Config, event.Event.Event}}
-use Rattle.pim_model.{specs.{Limits.config_test, State.{State, iface_count, opening, settings_of}, Step.step}}
+use Rattle.pim_model.{specs.{Limits.config_test, State.{State, iface_count, opening, settings_of}, Step.step, Tables.{has_row, row_at}}}
 use Rattle.law_scope.{specs.Rest.IsAtRest, proofs.Rest.{opening_is_at_rest, step_is_at_rest}}
 use Rattle.law_restored.{specs.Reload.config_of, proofs.Accepted.accepted_stays}
 use Rattle.law_plane.{specs.Keeping.{keep, kept_until}, proofs.Keeps.{keep_by, keep_is_at_rest}}
@@ -20,8 +20,8 @@ unfolding config_of opening settings_of
 opening_config c = refl
 
 none_up : (c : Config) → AreConfigured (opening c)
-unfolding opening
-none_up c i up = absurd cc
+unfolding opening has_row row_at
+none_up c i up = cc up
 
 pub opening_led : (c : Config) → config_test c ≡ Ok tt → Led (opening c)
 opening_led c e = record {

@@ -16,6 +16,9 @@ all_under zero s = tt
 all_under (suc c) s =
     (omega arith, each_more (λ i. i < (s + 1) + c) (λ i. i < s + suc c) (λ i less. omega (arith, less)) (range_with_len (s + 1) c) (all_under c (s + 1)))
 
+all_below : (n : ℕ) → AllByRecursion (λ i. i < n) (below n)
+all_below n = each_more (λ i. i < 0 + n) (λ i. i < n) (λ i less. omega (arith, less)) (below n) (all_under n 0)
+
 -- some place goes to a place
 abbrev pub GoesTo : List ℕ → ℕ → ℕ → Type 0
 GoesTo places n j = (i : ℕ) × (i < n) × (number_at places i ≡ j)
@@ -86,7 +89,7 @@ module _ (places : List ℕ) (n : ℕ) (apart : AreApart places) (low : (i : ℕ
         let le : length (map place_key (below n)) ≤ length (map iface_key others) =
         no_longer (map place_key (below n)) (map iface_key others) (keys_apart n 0)
         (each_map (λ i. (i < n) × ((number_at places i == j) ≡ false)) (λ k. is_named (map iface_key others) k ≡ true) place_key
-        (λ i f. goes_beside i f.0 f.1) (below n) (all_off (below n) none (all_under n 0))) in
+        (λ i f. goes_beside i f.0 f.1) (below n) (all_off (below n) none (all_below n))) in
         let a : length (map place_key (below n)) ≡ length (below n) = length-map (below n) place_key in
         let b : length (map iface_key others) ≡ length others = length-map others iface_key in
         let count : length (below n) ≡ n = length-range_with_len 0 n in
@@ -97,10 +100,12 @@ module _ (places : List ℕ) (n : ℕ) (apart : AreApart places) (low : (i : ℕ
         split false true e = cc
         split false false e = (refl, refl)
 
-        all_off : (xs : List ℕ) → list_any (λ i. number_at places i == j) xs ≡ false → AllByRecursion (λ i. i < 0 + n) xs
+        all_off : (xs : List ℕ) → list_any (λ i. number_at places i == j) xs ≡ false → AllByRecursion (λ i. i < n) xs
             → AllByRecursion (λ i. (i < n) × ((number_at places i == j) ≡ false)) xs
         all_off [] e f = tt
-        all_off (x ∷ xs) e f = ((f.0, (split _ _ e).0), all_off xs (split _ _ e).1 f.1)
+        all_off (x ∷ xs) e f =
+            let both = split (number_at places x == j) (list_any (λ i. number_at places i == j) xs) e in
+            ((f.0, both.0), all_off xs both.1 f.1)
 
     pub some_goes : GoesTo places n j
     some_goes = by (list_any (λ i. number_at places i == j) (below n)) refl
@@ -108,5 +113,5 @@ module _ (places : List ℕ) (n : ℕ) (apart : AreApart places) (low : (i : ℕ
         by : (b : Bool) → list_any (λ i. number_at places i == j) (below n) ≡ b → GoesTo places n j
         by false e = absurd (none_else e)
         by true e =
-            any_among_all (λ i. i < 0 + n) (λ i. number_at places i == j)
-            (λ i here same. (i, here, eqb-true (number_at places i) j same)) (below n) (all_under n 0) e
+            any_among_all (λ i. i < n) (λ i. number_at places i == j)
+            (λ i here same. (i, here, eqb-true (number_at places i) j same)) (below n) (all_below n) e
