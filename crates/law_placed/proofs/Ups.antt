@@ -1,7 +1,7 @@
 -- Which interfaces are up in a reload by a map of places: those that were, at their places, without those that are left out.
 use Rattle.std.{proofs.{Common.{◌≡◌, ◌<◌, ◌≤◌, ⊎_elim, inr, ◌+◌, ◌-◌, ◌&&◌, ◌||◌, ◌==◌, ◌∙◌, ℕ, get_or, nat_lt, Bool, true, false, cond, List, [], ◌∷◌, length, map, Option, Some, None, Ok, refl, sym, ap, arith, eqb-true, lt-ltb}, lemmas.Bool.{cases_lt, or_right, Decides.nat_tests}}, specs.List.{AllByRecursion, list_all, list_any, range_with_len}}
 use Rattle.pim_types.{specs.{declared.{config.Config.Config, fact.{InterfaceRow.InterfaceRow, Key.Key}}, Keys.{iface_in, iface_key, same_key}}, proofs.Keys.{equal_keys, same_key_same}}
-use Rattle.pim_model.{specs.{Limits.config_test, State.{addressing_of, State, iface_count, is_up}, Step.{ran, rps_replaced}, Tables.{Table, has_row, put}}}
+use Rattle.pim_model.{specs.{Limits.config_test, State.{addressing_of, State, iface_count, is_up}, Step.{ran, rps_replaced}, Tables.{Table, has_row, put, row_at}}}
 use Rattle.law_scope.{specs.Rest.IsAtRest}
 use Rattle.law_settled.{specs.Ready.IsSettled, proofs.{ListLaws.{any_among_all, each_more}, RowLaws.{has_row_any, has_row_put}}}
 use Rattle.law_restored.{specs.Reload.config_of}
@@ -43,12 +43,12 @@ each_there {R} (y ∷ t) = (
       (λ e there. or_right (same_key e.0 y.0) (list_any (λ (x : Key × R). same_key e.0 x.0) t) there) t (each_there t),
 )
 
-module _ {R : Type 0} (places : List ℕ) (k : Key) where
-  either_swapped : (a b c : Bool) → ((a || b) || c) ≡ (b || (a || c))
-  either_swapped true true c = refl
-  either_swapped true false c = refl
-  either_swapped false b c = refl
+either_swapped : (a b c : Bool) → ((a || b) || c) ≡ (b || (a || c))
+either_swapped true true c = refl
+either_swapped true false c = refl
+either_swapped false b c = refl
 
+module _ {R : Type 0} (places : List ℕ) (k : Key) where
   found_of : (t rows : Table R)
       → has_row (put_placed places t rows) k ≡ (has_row t k || list_any (λ (e : Key × R). same_key k (in_place places e.0)) rows)
   found_of t [] = sym (left_alone (has_row t k))
@@ -75,12 +75,18 @@ module _ (s : State) (places : List ℕ) (p : ℕ) where
       sym (λ j. record { iface = k.iface; group = (is j).group; source = (is j).source; rpt = (is j).rpt }) in
       (iface_in k, ap (λ (q : Key). iface_in q) is, ap (λ (q : Key). has_row s.interfaces q) key ∙ has_row_any k s.interfaces ∙ there)
 
+  none_yet : has_row {R = InterfaceRow} [] (iface_key p) ≡ false
+  unfolding has_row row_at
+  none_yet = refl
+
   pub came_from : (c : Config) → is_up (placed_under s places c) p ≡ true → CameFrom s places p
   unfolding placed_under
   came_from c up =
       any_among_all (λ (e : Key × InterfaceRow). list_any (λ (x : Key × InterfaceRow). same_key e.0 x.0) s.interfaces ≡ true)
       (λ (e : Key × InterfaceRow). same_key (iface_key p) (in_place places e.0)) (λ e there same. one_came e.0 there same)
-      s.interfaces (each_there s.interfaces) (sym (found_of places (iface_key p) [] s.interfaces) ∙ up)
+      s.interfaces (each_there s.interfaces)
+      (ap (λ (b : Bool). b || list_any (λ (e : Key × InterfaceRow). same_key (iface_key p) (in_place places e.0)) s.interfaces)
+      (sym none_yet) ∙ sym (found_of places (iface_key p) [] s.interfaces) ∙ up)
 
 pub moved_up : (s : State) (places : List ℕ) (c : Config) (apart : List ℕ) (w p : ℕ)
     → is_up (moved s places c apart w).0 p ≡ is_up (placed_under s places c) p
