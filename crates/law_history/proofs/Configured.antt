@@ -1,10 +1,10 @@
 -- Each interface that is up is configured, after any events and reloads.
-use Rattle.std.{proofs.Common.{◌≡◌, ◌∙◌, ℕ, ◌<◌, ◌≤◌, nat_lt, min, not, cond, ◌&&◌, ◌||◌, Bool, true, false, List, length, Ok, Some, refl, sym, ap, subst, lt-ltb, arith}, specs.Cmp.second_so}
+use Rattle.std.{proofs.Common.{◌≡◌, ◌∙◌, ◌+◌, ℕ, ◌<◌, ◌≤◌, nat_lt, min, not, cond, ◌&&◌, ◌||◌, Bool, true, false, List, length, Ok, Some, refl, sym, ap, subst, lt-ltb, arith}, specs.Cmp.second_so}
 use Rattle.pim_types.{specs.{Keys.{iface_in, iface_key, is_on, same_key}, declared.{config.Config.Config, event.Event.Event, fact.{InterfaceRow.InterfaceRow, Key.Key, RegisterState.RegisterState}, timer.TimerKind.TimerKind}}, proofs.Keys.equal_keys}
 use Rattle.pim_wire.{specs.{Values.{Encapsulated, Null}, declared.hello.Hello.Hello as HelloValue}}
 use Rattle.pim_model.{specs.{declared.accepted.Accepted.Accepted, Downstream.{downstream_expired, prune_pending_due}, Asserts.assert_due, Firing.{fire_row, fired, keepalive_due, settled}, Forwarding.source_here, Hellos.{hello_due, hello_period, hello_received, hello_triggered, hellos_triggered, neighbour_due, neighbour_replaced, neighbour_restarted}, Judging.judged, Messages.Message, Querier.{general_query_due, group_record_due, group_repeat_due, other_querier_gone, querier_up, querying, querying_on, source_record_due, source_repeat_due, sources_sent}, Records.{with_members, with_repeats_of_rows}, Registers.{register_due, register_stop_seen, settle_register, with_keepalive}, State.{Addressing, State, iface_count, is_up}, Step.{change, iface_down, iface_up, rps_replaced, step}, Tables.{Table, change_row, drop_where, has_row, put, row_at}, Upstream.{join_timer_due, override_timer_due}}}
 use Rattle.law_settled.{proofs.{ListLaws.either, RowLaws.{has_row_dropped, has_row_map, has_row_put, has_row_replaced}}}
-use Rattle.law_promises.{proofs.{Lasting.{Beside, Lasting, Still, Whole, assert_lasting, assert_whole, data_whole, pending_lasting, query_lasting, register_whole, report_lasting, seen_beside, still, to_me_whole, whole}, LiesUnder.row_fires, Placed.{IsIn, IsPlaced, kind_is_placed}, Settings.step_configured, Walks.{event_walks, time_walks}}}
+use Rattle.law_promises.{proofs.{Lasting.{Beside, Lasting, Whole, assert_lasting, assert_whole, data_whole, pending_lasting, query_lasting, register_whole, report_lasting, seen_beside, to_me_whole}, LiesUnder.row_fires, Placed.{IsIn, IsPlaced, kind_is_placed}, Settings.step_configured, Walks.{event_walks, time_walks}}}
 use Rattle.law_plane.{specs.Keeping.{keep, kept_until}, proofs.Keeps.keep_by}
 use Rattle.law_reloaded.{specs.Laws.AreConfigured, proofs.Removed.settled_up}
 
@@ -15,9 +15,6 @@ module _ (n : ℕ) where
 
   abbrev Low : State → Type 0
   Low s = LowIn s.interfaces
-
-  of_still : (s t : State) → still t ≡ still s → Low s → Low t
-  of_still s t e f = subst (λ (u : Still). LowIn u.interfaces) (sym e) f
 
   put_low : (t : Table InterfaceRow) (i : ℕ) (r : InterfaceRow) → i < n → LowIn t → LowIn (put t (iface_key i) r)
   put_low t i r less f = λ j up.
@@ -62,10 +59,10 @@ module _ (n : ℕ) where
       group_record_due source_record_due with_members with_repeats_of_rows
   fires s TimerKind.PrunePending k f =
       row_fires Low s (prune_pending_due s k) (row_at s.downstream k) f
-      (λ r. of_still s (prune_pending_due s k r).0 (ap (λ (u : Lasting). u.still) (pending_lasting s k r)) f)
+      (λ r. subst (λ (u : Lasting). LowIn (u.still).interfaces) (sym (pending_lasting s k r)) f)
   fires s TimerKind.Assert k f =
       row_fires Low s (assert_due s k) (row_at s.asserts k) f
-      (λ r. of_still s (assert_due s k r).0 (ap (λ (u : Lasting). u.still) (assert_lasting s k r)) f)
+      (λ r. subst (λ (u : Lasting). LowIn (u.still).interfaces) (sym (assert_lasting s k r)) f)
   fires s TimerKind.Register k f = row_fires Low s _ (row_at s.registers k) f (λ r. register_low s k r.state f)
   fires s TimerKind.Hello k f =
       row_fires Low s (hello_due s k) (row_at s.interfaces k) f
@@ -92,8 +89,14 @@ module _ (n : ℕ) where
   unfolding source_here settle_register with_keepalive
   here_low s g src iif f = grind arith
 
-  of_whole : (s t : State) → whole t ≡ whole s → Low s → Low t
-  of_whole s t e f = of_still s t (ap (λ (u : Whole). (u.lasting).still) e) f
+  abbrev OfLasting : Lasting → Type 0
+  OfLasting u = LowIn (u.still).interfaces
+
+  abbrev OfWhole : Whole → Type 0
+  OfWhole u = OfLasting u.lasting
+
+  abbrev OfBeside : Beside → Type 0
+  OfBeside u = LowIn (u.still).interfaces
 
   changes : (s : State) (w : ℕ) (a : Accepted) → IsIn n a → Low s → Low (change s w a).state
   unfolding change iface_up querier_up querying rps_replaced register_stop_seen iface_down
@@ -103,20 +106,18 @@ module _ (n : ℕ) where
   changes s w (Accepted.Routes routes) here f = f
   changes s w (Accepted.Rps ranges) here f = f
   changes s w (Accepted.Hello i from h) here f = hello_low s i.number from.bits h w f
-  changes s w (Accepted.JoinPruneToMe i m) here f = of_whole s _ (to_me_whole s i.number m) f
-  changes s w (Accepted.JoinPruneSeen i m) here f =
-      of_still s _ (ap (λ (u : Beside). u.still) (seen_beside s w i.number m)) f
-  changes s w (Accepted.Assert i from a) here f = of_whole s _ (assert_whole s i.number from.bits a) f
-  changes s w (Accepted.Query i from q) here f =
-      of_still s _ (ap (λ (u : Lasting). u.still) (query_lasting s i.number from.bits q)) f
-  changes s w (Accepted.Report i records) here f =
-      of_still s _ (ap (λ (u : Lasting). u.still) (report_lasting s i.number records)) f
+  changes s w (Accepted.JoinPruneToMe i m) here f = subst OfWhole (sym (to_me_whole s i.number m)) f
+  changes s w (Accepted.JoinPruneSeen i m) here f = subst OfBeside (sym (seen_beside s w i.number m)) f
+  changes s w (Accepted.Assert i from a) here f = subst OfWhole (sym (assert_whole s i.number from.bits a)) f
+  changes s w (Accepted.Query i from q) here f = subst OfLasting (sym (query_lasting s i.number from.bits q)) f
+  changes s w (Accepted.Report i records) here f = subst OfLasting (sym (report_lasting s i.number records)) f
   changes s w (Accepted.Data i p) here f =
-      of_whole (source_here s p.destination p.source i.number) _ (data_whole s p.destination p.source i.number)
+      subst OfWhole (sym (data_whole s p.destination p.source i.number))
       (here_low s p.destination p.source i.number f)
   changes s w (Accepted.Register p (Encapsulated inner)) here f =
-      of_whole s _ (register_whole s p inner.destination inner.source false) f
-  changes s w (Accepted.Register p (Null source group)) here f = of_whole s _ (register_whole s p group source true) f
+      subst OfWhole (sym (register_whole s p inner.destination inner.source false)) f
+  changes s w (Accepted.Register p (Null source group)) here f =
+      subst OfWhole (sym (register_whole s p group source true)) f
   changes s w (Accepted.RegisterStop from r) here f = f
 
   in_time : (a : ℕ) → a ≤ a
