@@ -67,10 +67,7 @@ def tests(alone: bool) -> Iterator[Part]:
 def benches() -> Iterator[Part]:
     """Each measurement of `tools/bench` on a small size: that it runs, and finds what it should; its figures say
     nothing."""
-    small = {
-        "events": "--facts 10", "forward": "--rows 10 --copies 1 --packets 640", "hostile": "--sizes 10",
-        "memory": "--facts 100", "plane": "--rows 10",
-    }
+    small = {"events": "--facts 10", "forward": "--rows 10 --copies 1 --packets 640"}
     for name, sizes in small.items():
         yield tool(f"bench/{name} --unproved {sizes}", f"bench_{name}")
     yield Part("bench_run", (sys.executable, "tools/bench/run", "--unproved", "1", "", "1000"), alone=True)
