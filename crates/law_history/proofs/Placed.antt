@@ -90,7 +90,7 @@ module _ (A : ℕ → ℕ → ℕ → ℕ → Type 0) (w : ℕ) where
   unfolding under rps_replaced
   under_same s c = refl
 
-  replaced_asked : (s : State) (c : Config) → IsAsked A s → IsAsked A (replaced s c w).0
+  pub replaced_asked : (s : State) (c : Config) → IsAsked A s → IsAsked A (replaced s c w).0
   unfolding replaced
   replaced_asked s c f =
       settled_asked A s (under s c, hellos_anew s (addressing_of c)) w (all_same A s (under s c) (under_same s c) f)
