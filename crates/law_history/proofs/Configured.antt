@@ -1,8 +1,8 @@
 -- Each interface that is up is configured, after any events and reloads.
-use Rattle.std.{proofs.Common.{◌≡◌, ◌∙◌, ◌+◌, ℕ, ◌<◌, ◌≤◌, nat_lt, min, not, cond, ◌&&◌, ◌||◌, Bool, true, false, List, length, Ok, Some, refl, sym, ap, subst, lt-ltb, arith}, specs.Cmp.second_so}
-use Rattle.pim_types.{specs.{Keys.{iface_in, iface_key, is_on, same_key}, declared.{config.Config.Config, event.Event.Event, fact.{InterfaceRow.InterfaceRow, Key.Key, RegisterState.RegisterState}, timer.TimerKind.TimerKind}}, proofs.Keys.equal_keys}
+use Rattle.std.{proofs.Common.{◌≡◌, ◌∙◌, ◌+◌, ℕ, ◌<◌, ◌≤◌, nat_lt, min, not, cond, Bool, true, false, List, length, Ok, Some, refl, sym, ap, subst, lt-ltb, arith}, specs.Cmp.second_so}
+use Rattle.pim_types.{specs.{Keys.{iface_in, iface_key, is_on, same_key}, declared.{event.Event.Event, fact.{InterfaceRow.InterfaceRow, Key.Key, RegisterState.RegisterState}, timer.TimerKind.TimerKind}}, proofs.Keys.equal_keys}
 use Rattle.pim_wire.{specs.{Values.{Encapsulated, Null}, declared.hello.Hello.Hello as HelloValue}}
-use Rattle.pim_model.{specs.{declared.accepted.Accepted.Accepted, Downstream.{downstream_expired, prune_pending_due}, Asserts.assert_due, Firing.{fire_row, fired, keepalive_due, settled}, Forwarding.source_here, Hellos.{hello_due, hello_period, hello_received, hello_triggered, hellos_triggered, neighbour_due, neighbour_replaced, neighbour_restarted}, Judging.judged, Messages.Message, Querier.{general_query_due, group_record_due, group_repeat_due, other_querier_gone, querier_up, querying, querying_on, source_record_due, source_repeat_due, sources_sent}, Records.{with_members, with_repeats_of_rows}, Registers.{register_due, register_stop_seen, settle_register, with_keepalive}, State.{Addressing, State, iface_count, is_up}, Step.{change, iface_down, iface_up, rps_replaced, step}, Tables.{Table, change_row, drop_where, has_row, put, row_at}, Upstream.{join_timer_due, override_timer_due}}}
+use Rattle.pim_model.{specs.{declared.accepted.Accepted.Accepted, Downstream.{downstream_expired, prune_pending_due}, Asserts.assert_due, Firing.{fire_row, fired, keepalive_due, settled}, Forwarding.source_here, Hellos.{hello_due, hello_period, hello_received, hello_triggered, hellos_triggered, neighbour_due, neighbour_replaced, neighbour_restarted}, Judging.judged, Messages.Message, Querier.{general_query_due, group_record_due, group_repeat_due, other_querier_gone, querier_up, querying, querying_on, source_record_due, source_repeat_due, sources_sent}, Records.{with_members, with_repeats_of_rows}, Registers.{register_due, register_stop_seen, settle_register, with_keepalive}, State.{Addressing, State, iface_count}, Step.{change, iface_down, iface_up, rps_replaced, step}, Tables.{Table, change_row, drop_where, has_row, put, row_at}, Upstream.{join_timer_due, override_timer_due}}}
 use Rattle.law_settled.{proofs.{ListLaws.either, RowLaws.{has_row_dropped, has_row_map, has_row_put, has_row_replaced}}}
 use Rattle.law_promises.{proofs.{Lasting.{Beside, Lasting, Whole, assert_lasting, assert_whole, data_whole, pending_lasting, query_lasting, register_whole, report_lasting, seen_beside, to_me_whole}, LiesUnder.row_fires, Placed.{IsIn, IsPlaced, kind_is_placed}, Settings.step_configured, Walks.{event_walks, time_walks}}}
 use Rattle.law_plane.{specs.Keeping.{keep, kept_until}, proofs.Keeps.keep_by}

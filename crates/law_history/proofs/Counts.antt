@@ -1,5 +1,5 @@
 -- All facts that count stay few, whatever reloads came and whatever a plane reported.
-use Rattle.std.{proofs.{Common.{◌≡◌, ◌∙◌, ⊎_elim, ℕ, ◌+◌, ◌-◌, ◌*◌, ◌<◌, ◌≤◌, ◌||◌, cond, get_or, max, nat_lt, List, [], ◌∷◌, length, map, Bool, Ok, true, false, not, refl, sym, ap, subst, arith}, Math.Nat.{mul-add, mul-one, mul_comm}, lemmas.{Bool.{cases_lt, or_left, or_right}, List.length-map}}, specs.List.{list_any, range_with_len}}
+use Rattle.std.{proofs.{Common.{◌≡◌, ◌∙◌, ⊎_elim, ℕ, ◌+◌, ◌-◌, ◌*◌, ◌<◌, ◌≤◌, cond, get_or, max, nat_lt, List, [], ◌∷◌, length, map, Bool, Ok, true, false, not, refl, sym, ap, subst, arith}, Math.Nat.{mul-add, mul-one, mul_comm}, lemmas.{Bool.{cases_lt, or_left, or_right}, List.length-map}}, specs.List.{list_any, range_with_len}}
 use Rattle.pim_types.{specs.{Keys.{group_in, same_key, source_in, source_key}, declared.{config.Config.Config, event.Event.Event, fact.Key.Key}}, proofs.Keys.{equal_keys, same_key_same}}
 use Rattle.law_scope.{specs.Rest.IsAtRest}
 use Rattle.law_settled.{specs.Ready.IsSettled, proofs.{ListLaws.{each_filter, each_more, either}, StepLaws.kept_by_run}}

@@ -1,14 +1,12 @@
 -- Rows that are asked for stay so in a reload by a map of places: each under the number that its interface has then.
-use Rattle.std.{proofs.Common.{◌≡◌, ◌<◌, ◌≤◌, ◌∙◌, ℕ, ◌-◌, nat_le, nat_lt, not, Bool, true, false, List, [], ◌∷◌, length, map, Option, Some, Ok, refl, sym, ap, arith}, specs.{List.{AllByRecursion, list_all, range_with_len}, Option.option_map_or}}
+use Rattle.std.{proofs.Common.{◌≡◌, ◌<◌, ◌≤◌, ◌∙◌, ℕ, ◌-◌, nat_le, nat_lt, not, Bool, true, false, List, [], ◌∷◌, length, map, Option, Some, Ok, refl, ap, arith}, specs.{List.{list_all, range_with_len}, Option.option_map_or}}
 use Rattle.pim_ip.{specs.declared.refusal.Refusal.Refusal}
-use Rattle.pim_types.{specs.{Keys.{group_in, iface_in, source_in, star_key}, declared.{config.Config.Config, event.Event.Event, fact.{DownstreamRow.DownstreamRow, GroupRecordRow.GroupRecordRow, Key.Key, SourceRecordRow.SourceRecordRow}, outcome.Ignored.Ignored}}}
+use Rattle.pim_types.{specs.{Keys.{group_in, iface_in, source_in, star_key}, declared.{config.Config.Config, fact.{Key.Key, SourceRecordRow.SourceRecordRow}, outcome.Ignored.Ignored}}}
 use Rattle.pim_model.{specs.{declared.accepted.Accepted.Accepted, Cause.{Passed, Past, has_cause, number_before}, Full.is_full, Judging.{down_judged, ignore_if, judged, refuse_if, ◌>>◌}, Limits.config_test, State.{addressing_of, State, iface_count, is_up}, Step.{change, concluded, done, iface_down, ran, rps_replaced, step, taken, taken_unless_full}, Tables.{Table, row_at}}}
-use Rattle.law_settled.{specs.Ready.{IsSettled, Rises}, proofs.{FineTables.Fine, ListLaws.{each_both, each_of_list}}}
-use Rattle.law_scope.{specs.Rest.IsAtRest}
+use Rattle.law_settled.{specs.Ready.{IsSettled}, proofs.{FineTables.Fine, ListLaws.{each_both, each_of_list}}}
 use Rattle.law_causes.{proofs.{Asks.{GroupAsked, IsAsked, JoinAsked, SourceAsked, down_more, ends_more, group_more, join_more}, Fired.{all_same, settled_asked}, Flows.is_timed_row, Past.CausedBy, Same.Same}}
-use Rattle.law_restored.{specs.Reload.config_of}
-use Rattle.law_reloaded.{specs.{Laws.AreConfigured, Reloading.{down_event, hellos_anew, replaced, under}}}
-use Rattle.law_placed.{specs.{Laws.AreApart, Placing.{Places, are_places, gone_on, in_place, kept_places, moved, new_order, number_at, placed, placed_under, reload_by, resubnetted, to_order, without_neighbours}}, proofs.{Apart.places_are_apart, Mapped.{number_was, stays_or_past}, Rows.{fine_placed, row_goes}, Ups.{begun, each_once, gone, kept, new, old, order, renewed, renewed_low, renewed_rests, up_before}}}
+use Rattle.law_reloaded.{specs.{Reloading.{down_event, hellos_anew, replaced, under}}}
+use Rattle.law_placed.{specs.{Laws.AreApart, Placing.{Places, are_places, gone_on, kept_places, moved, new_order, number_at, placed, placed_under, reload_by, resubnetted, to_order, without_neighbours}}, proofs.{Apart.places_are_apart, Mapped.{number_was, stays_or_past}, Rows.{fine_placed, row_goes}, Ups.{begun, each_once, gone, kept, new, old, order, renewed, renewed_low, renewed_rests, up_before}}}
 use Rattle.law_history.{proofs.Led.Led}
 
 -- ---- one move

@@ -1,10 +1,10 @@
 -- In each move of a reload by a map of places an interface has the address at its other place that it had before.
-use Rattle.std.{proofs.{Common.{◌≡◌, ◌<◌, ◌≤◌, ◌+◌, ◌||◌, ◌==◌, ◌∙◌, ℕ, zero, suc, nat_lt, Bool, true, false, cond, List, [], ◌∷◌, length, Option, Some, None, refl, sym, ap, arith, eqb-true}, lemmas.{Bool.{cases_lt, Decides.nat_tests}, Option.slice_get_past}}, specs.{List.{cons_option, list_all, list_any, slice_get}, Option.option_map_or}}
+use Rattle.std.{proofs.{Common.{◌≡◌, ◌≤◌, ◌+◌, ◌||◌, ◌==◌, ◌∙◌, ℕ, zero, suc, nat_lt, Bool, true, false, cond, List, [], ◌∷◌, length, Option, Some, None, refl, sym, ap, arith, eqb-true}, lemmas.{Bool.{Decides.nat_tests}, Option.slice_get_past}}, specs.{List.{cons_option, list_all, list_any, slice_get}, Option.option_map_or}}
 use Rattle.pim_types.{specs.declared.config.{Config.Config, InterfaceConfig.InterfaceConfig}}
-use Rattle.pim_model.{specs.State.{Addressing, State, address_among, addressing_of, iface_count}}
+use Rattle.pim_model.{specs.State.{State, address_among, addressing_of, iface_count}}
 use Rattle.law_restored.{specs.Reload.config_of}
 use Rattle.law_reloaded.{proofs.Ground.replaced_is_under}
-use Rattle.law_placed.{specs.{Laws.AddressesGoAlong, Placing.{Places, are_places, in_order, index_from, index_of, interfaces_at, new_order, number_at, old_order, to_order}}, proofs.{Apart.{at_high, first, new_count, old_count, second, to_at}, Mapped.{got_low, none_got}, Orders.{all_found, each_among, new_low, old_low as low_orders}, Ups.{as_many, each_low, each_once, gone, new, old_many, order, renewed}}}
+use Rattle.law_placed.{specs.{Laws.AddressesGoAlong, Placing.{Places, are_places, in_order, index_from, index_of, interfaces_at, new_order, number_at, old_order, to_order}}, proofs.{Apart.{first, new_count, second, to_at}, Mapped.{none_got}, Orders.{all_found, each_among, new_low, old_low as low_orders}, Ups.{as_many, each_low, each_once, gone, new, old_many, order, renewed}}}
 
 -- ---- interfaces in an order
 

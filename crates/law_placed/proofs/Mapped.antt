@@ -1,8 +1,8 @@
 -- Both moves of a reload by places together: an old place that stays goes where the map says, and the others go past all that
 -- stay in the order between.
-use Rattle.std.{proofs.{Common.{◌≡◌, ◌<◌, ◌≤◌, ◌+◌, ◌||◌, ◌==◌, ◌∙◌, ℕ, zero, suc, Bool, true, false, not, cond, List, [], ◌∷◌, ◌++◌, filter, length, nat_lt, Option, Some, None, is_some, refl, sym, ap, subst, arith, eqb-true}, lemmas.{Bool.{or_right, Decides.nat_tests}, List.Folds.list_any-append}}, specs.{List.{list_any, range_with_len, slice_get}, Option.option_map_or}}
+use Rattle.std.{proofs.{Common.{◌≡◌, ◌≤◌, ◌+◌, ◌||◌, ◌==◌, ◌∙◌, ℕ, zero, suc, Bool, true, false, not, cond, List, [], ◌∷◌, ◌++◌, filter, length, nat_lt, Option, Some, None, is_some, refl, sym, ap, subst, arith, eqb-true}, lemmas.{Bool.{or_right, Decides.nat_tests}, List.Folds.list_any-append}}, specs.{List.{list_any, range_with_len, slice_get}, Option.option_map_or}}
 use Rattle.pim_model.{specs.{Cause.number_before, Tables.{below, is_among}}}
-use Rattle.law_placed.{specs.{Laws.PlacesGoByTheMap, Placing.{Places, are_once, index_from, index_of, is_kept, is_left_out, is_new, kept_places, new_order, number_at, old_order, to_order}}, proofs.{Apart.{first, index_high, second, to_at}, Orders.each_among}}
+use Rattle.law_placed.{specs.{Laws.PlacesGoByTheMap, Placing.{Places, are_once, index_from, index_of, is_kept, is_left_out, kept_places, new_order, number_at, old_order, to_order}}, proofs.{Apart.{first, index_high, second, to_at}, Orders.each_among}}
 
 itself : (s : ℕ) → (s == s + 0) ≡ true
 itself s = grind (arith, nat_tests)

@@ -1,12 +1,12 @@
 -- Which interfaces are up in a reload by a map of places: those that were, at their places, without those that are left out.
-use Rattle.std.{proofs.{Common.{◌≡◌, ◌<◌, ◌≤◌, ⊎_elim, inr, ◌+◌, ◌-◌, ◌&&◌, ◌||◌, ◌==◌, ◌∙◌, ℕ, get_or, nat_lt, Bool, true, false, cond, List, [], ◌∷◌, length, map, Option, Some, None, Ok, refl, sym, ap, arith, eqb-true, lt-ltb}, lemmas.Bool.{cases_lt, or_right, Decides.nat_tests}}, specs.List.{AllByRecursion, list_all, list_any, range_with_len}}
+use Rattle.std.{proofs.{Common.{◌≡◌, ◌<◌, ◌≤◌, ⊎_elim, inr, ◌+◌, ◌-◌, ◌||◌, ◌==◌, ◌∙◌, ℕ, get_or, nat_lt, Bool, true, false, cond, List, [], ◌∷◌, length, map, Some, None, Ok, refl, sym, ap, arith, eqb-true, lt-ltb}, lemmas.Bool.{cases_lt, or_right}}, specs.List.{AllByRecursion, list_all, list_any, range_with_len}}
 use Rattle.pim_types.{specs.{declared.{config.Config.Config, fact.{InterfaceRow.InterfaceRow, Key.Key}}, Keys.{iface_in, iface_key, same_key}}, proofs.Keys.{equal_keys, same_key_same}}
 use Rattle.pim_model.{specs.{Limits.config_test, State.{addressing_of, State, iface_count, is_up}, Step.{ran, rps_replaced}, Tables.{Table, has_row, put, row_at}}}
 use Rattle.law_scope.{specs.Rest.IsAtRest}
 use Rattle.law_settled.{specs.Ready.IsSettled, proofs.{ListLaws.{any_among_all, each_more}, RowLaws.{has_row_any, has_row_put}}}
 use Rattle.law_restored.{specs.Reload.config_of}
 use Rattle.law_reloaded.{specs.{Laws.AreConfigured, Reloading.{down_event, hellos_anew, replaced, under}}, proofs.Removed.{gone_are_down, gone_keeps, settled_up}}
-use Rattle.law_placed.{specs.{Laws.PlacedAreConfigured, Placing.{Places, are_once, are_places, gone_on, in_order, in_place, index_of, kept_places, moved, new_order, number_at, old_order, placed, placed_under, put_placed, reload_by, resubnetted, to_order, without_neighbours}}, proofs.{Apart.{at_low, count_new, first, low, old_count, second, to_at, value_low}, Moved.{moved_is_under, placed_reload_is_under}, Orders.{all_found, old_low}, Rest.{gone_on_rests, moved_is_at_rest, ordered_setting}}}
+use Rattle.law_placed.{specs.{Laws.PlacedAreConfigured, Placing.{Places, are_once, are_places, gone_on, in_order, in_place, index_of, kept_places, moved, new_order, number_at, old_order, placed_under, put_placed, reload_by, resubnetted, to_order, without_neighbours}}, proofs.{Apart.{at_low, count_new, first, low, old_count, second, to_at, value_low}, Moved.{moved_is_under, placed_reload_is_under}, Orders.{all_found, old_low}, Rest.{gone_on_rests, moved_is_at_rest, ordered_setting}}}
 
 -- ---- what a map that has passed its tests is
 
