@@ -48,6 +48,10 @@
  *    viq_reload counts as an event for duties 1, 5 and 6. Interfaces keep their numbers: a row of the new router may
  *    name one that was added, and none that was removed.
  *
+ *    Before viq_save the plane reports its notes, and lets the router advance to the present, as duty 5 says. Beside a
+ *    router that viq_restore made it has no rows and no notes: no packet goes by a row that it had before until
+ *    viq_offload has given the row again, and viq_changed lists none.
+ *
  * 7. Dropping everything. After an answer of VIQ_LOST or VIQ_FAILED the plane drops all rows and notes.
  *    (Neglected: packets go by rows that nobody maintains.) */
 #ifndef VIQESHOR_PLANE_H

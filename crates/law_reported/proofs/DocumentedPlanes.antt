@@ -2,13 +2,13 @@
 use Rattle.std.{proofs.{Common.{◌≡◌, ◌≤◌, ℕ, Bool, true, false, ◌&&◌, cond, List, [], ◌∷◌, length, Option, nat_le, option_map, refl, sym, ap, subst, ◌∙◌, arith}, lemmas.{Bool.Decides.nat_tests, List.Sorted.{IsPermutation-refl, IsPermutation-sym}}}}
 use Rattle.pim_ip.{specs.Ipv4.Packet}
 use Rattle.pim_types.{specs.declared.{event.{Event.Event, EventKind.EventKind}, outcome.Outcome.Outcome}}
-use Rattle.pim_model.{specs.{Cache.Answers, Judging.{Judged, last_moment}, Limits.most_ifaces, State.{State, opening}, Step.{outcome_of, ran, run, state_after, step}}}
+use Rattle.pim_model.{specs.{Cache.{Answers, cached}, Judging.{Judged, last_moment}, Limits.most_ifaces, State.{State, opening}, Step.{outcome_of, ran, run, state_after, step}}}
 use Rattle.law_settled.{specs.Laws.ends_after, proofs.ListLaws.by_cond}
 use Rattle.law_scope.{proofs.Rest.{opening_is_at_rest, step_is_at_rest}}
 use Rattle.law_named.{specs.Named.event_named}
 use Rattle.law_cache.{specs.Kept.SameDecision, proofs.{RowsOfRuns.few_opening, RowsOfSteps.step_stays_configured}}
 use Rattle.law_plane.{specs.{Late.{is_the_cores, judged_the_cores, kind_is_the_cores}, Offered.offered, Offload.{Handling, decision, is_to_core, offload}, Split.{Notice, Split, advance_to, by_core, by_judgement, by_kind, by_plane, nothing_sent, split_step, time_goes, whole, with_notice}, SplitLaws.NamesEachOnce, Staying.OffersAlike, ToldLaws.{AreTold, DecideAlike, PlaneRows, no_plane_rows, told_anew}}, proofs.{Ends.{Ends, ends_later, no_ends}, Owing.noted_apart, Passes.{Passed, RisesTo, ended_by}, Splits.{Follows, Goes, at_first, opening_is_early, step_goes, step_stays_early, whole_follows}, ToldRows.{opening_is_told, step_keeps_told}}}
-use Rattle.law_reported.{specs.{Documented.{Act, AreRight, Doing, DocumentedPlaneIsSound, IsRight, IsTelling, PlainActsAreRight, act, acted, before, event_of, events_in, given, goes_at_once, is_for_core, judged_for_core, kind_for_core, known_then, plain_act, plain_acts, up_to_date}, Guests.{Plane, guest_kind, without}, Kept.{SeenRise, Way, is_kept, kept_up, told_notes}}, proofs.{AtOnce.advance_at_once, GuestSplits.{AreHeld, asked_held, core_offers, core_stays, guests_same, handled_same, held_through, none_held, offers_through, passed_offers, router_offers}, KeptOrders.{follows_in_order, told_so_far}, KeptSplits.{same_up, split_near, step_same}, KeptUp.{ToldBy, kept_follows}, NearEnds.{EndsNear, opening_near, step_near}}}
+use Rattle.law_reported.{specs.{Documented.{Act, AreRight, Doing, DocumentedPlaneIsSound, IsRight, IsTelling, PlainActsAreRight, act, acted, before, event_of, events_in, given, goes_at_once, is_for_core, judged_for_core, kind_for_core, known_then, plain_act, plain_acts, up_to_date}, Guests.{AreHeld, Plane, guest_kind, without}, Kept.{SeenRise, Way, is_kept, kept_up, told_notes}}, proofs.{AtOnce.advance_at_once, GuestSplits.{asked_held, core_offers, core_stays, guests_same, handled_same, held_through, none_held, offers_through, passed_offers, router_offers}, KeptOrders.{follows_in_order, told_so_far}, KeptSplits.{same_up, split_near, step_same}, KeptUp.{ToldBy, kept_follows}, NearEnds.{EndsNear, opening_near, step_near}}}
 
 -- ---- at most one note a source
 
@@ -116,6 +116,18 @@ module _ (x : Split) (r : State) (f : Follows x r) (near : EndsNear x.core) (apa
       (passed_offers x.core f.quiet (ended_by no_ends d.told) told_is.at told told_is.is g src)
       (subst (λ (b : State). OffersAlike (offered x.core g src) (offered b g src)) (sym up_is) (core_offers x r f g src))
 
+  pub before_rows : (g src : ℕ) → cached (before x d) g src ≡ cached x.core g src
+  before_rows g src =
+      before_is (λ b. cached b g src ≡ cached x.core g src) ((told_is.is).rows g src)
+      (subst (λ (b : State). cached b g src ≡ cached x.core g src) (sym up_is) ((f.is).rows g src))
+
+  pub before_few : length (before x d).configured.interfaces ≤ most_ifaces
+  before_few =
+      before_is (λ b. length b.configured.interfaces ≤ most_ifaces)
+      (subst (λ (b : State). length b.configured.interfaces ≤ most_ifaces) (sym (told_is.is).same) f.few)
+      (subst (λ (b : State). length b.configured.interfaces ≤ most_ifaces) (sym up_is)
+      (subst (λ (b : State). length b.configured.interfaces ≤ most_ifaces) (sym (f.is).same) f.few))
+
   given_core : ((given x d).0).core ≡ (step (before x d) e).state
   unfolding given
   given_core = refl
@@ -126,10 +138,10 @@ module _ (x : Split) (r : State) (f : Follows x r) (near : EndsNear x.core) (apa
 
 -- ---- whose an event is
 
-abbrev any_way : Way
+abbrev pub any_way : Way
 any_way = record { keeps = λ n. true; draw = 0 }
 
-to_core_same : (h k : Handling) → SameDecision (decision h) (decision k) → is_to_core h ≡ is_to_core k
+pub to_core_same : (h k : Handling) → SameDecision (decision h) (decision k) → is_to_core h ≡ is_to_core k
 to_core_same h k same = grind arith
 
 module _ (x : Split) (few : length (x.core).configured.interfaces ≤ most_ifaces) (guests : PlaneRows) (held : AreHeld guests x.core) where
@@ -146,25 +158,25 @@ module _ (x : Split) (few : length (x.core).configured.interfaces ≤ most_iface
 -- ---- events
 
 -- what an event leaves
-record Went (r : State) (d : Act) (guests : PlaneRows) (u : Split × Outcome) : Type 0 where
-  goes : Goes r (event_of d) u
-  near : EndsNear (u.0).core
-  apart : NamesEachOnce (u.0).owed
-  held : AreHeld (without (d.turn).differs guests) (u.0).core
+pub record Went (r : State) (d : Act) (guests : PlaneRows) (u : Split × Outcome) : Type 0 where
+  pub goes : Goes r (event_of d) u
+  pub near : EndsNear (u.0).core
+  pub apart : NamesEachOnce (u.0).owed
+  pub held : AreHeld (without (d.turn).differs guests) (u.0).core
 
 module _ (x : Split) (r : State) (f : Follows x r) (near : EndsNear x.core) (router_near : EndsNear r)
     (apart : NamesEachOnce x.owed) (d : Act) (guests : PlaneRows) (held : AreHeld guests x.core) where
-  abbrev event : Event
+  abbrev pub event : Event
   event = event_of d
 
-  abbrev differs : ℕ → ℕ → Bool
+  abbrev pub differs : ℕ → ℕ → Bool
   differs = (d.turn).differs
 
   if_not : (s : State) → ((g src : ℕ) → differs g src ≡ false → OffersAlike (offered x.core g src) (offered s g src))
       → AreHeld (without differs guests) s
   if_not s alike g src = grind (arith, held_through)
 
-  the_cores : IsRight x d → Went r d guests (given x d)
+  pub the_cores : IsRight x d → Went r d guests (given x d)
   the_cores right =
       let to : GoesTo x r f event (given x d) = given_goes x r f near apart d right in
       record {
@@ -188,7 +200,7 @@ module _ (x : Split) (r : State) (f : Follows x r) (near : EndsNear x.core) (rou
         (router_offers x r f g src)));
   }
 
-  went : (b : Bool) → is_for_core x guests event ≡ b → (is_for_core x guests event ≡ true → IsRight x d)
+  pub went : (b : Bool) → is_for_core x guests event ≡ b → (is_for_core x guests event ≡ true → IsRight x d)
       → Went r d guests (cond b (given x d) (guest_kind d.way x guests event event.kind))
   went true is right = the_cores (right is)
   went false is right =
@@ -200,13 +212,13 @@ module _ (x : Split) (r : State) (f : Follows x r) (near : EndsNear x.core) (rou
 
 module _ (x : Split) (r : State) (f : Follows x r) (near : EndsNear x.core) (apart : NamesEachOnce x.owed) (told : List Notice)
     (w : Way) (is : IsTelling x told w) where
-  abbrev heard : State
+  abbrev pub heard : State
   heard = state_after (told_notes w x.core told) (advance_to x.now ∷ [])
 
-  heard_is : heard ≡ r
+  pub heard_is : heard ≡ r
   heard_is = follows_in_order x r w told f near apart is.all (IsPermutation-sym x.owed told is.all) is.once is.rises
 
-  abbrev at : State → Split
+  abbrev pub at : State → Split
   at s = record x { core = s; owed = [] }
 
   present_is : r.present ≡ x.now
@@ -230,13 +242,13 @@ module _ (x : Split) (r : State) (f : Follows x r) (near : EndsNear x.core) (apa
       told_r g src =
           subst (λ (o : Option Answers). DecideAlike (x.rows g src) (option_map offload o)) (sym ((f.is).rows g src)) (f.told g src)
 
-  tells_goes : Follows (at heard) r
+  pub tells_goes : Follows (at heard) r
   tells_goes = subst (λ (s : State). Follows (at s) r) (sym heard_is) at_router
 
-  tells_near : EndsNear r → EndsNear heard
+  pub tells_near : EndsNear r → EndsNear heard
   tells_near h = subst EndsNear (sym heard_is) h
 
-  tells_held : (guests : PlaneRows) → AreHeld guests x.core → AreHeld guests heard
+  pub tells_held : (guests : PlaneRows) → AreHeld guests x.core → AreHeld guests heard
   tells_held guests held =
       subst (λ (s : State). AreHeld guests s) (sym heard_is)
       (λ g src. held_through (guests g src) (offered x.core g src) (offered r g src) (held g src) (core_offers x r f g src))
@@ -273,7 +285,7 @@ documented_plane_is_sound c acts w e right =
 
 -- ---- any events may come to one
 
-rise_so : (core : State) (now m last : ℕ) (ns : List Notice) → m ≤ last → RisesTo last now ns → SeenRise any_way core m ns
+pub rise_so : (core : State) (now m last : ℕ) (ns : List Notice) → m ≤ last → RisesTo last now ns → SeenRise any_way core m ns
 rise_so core now m last [] le rises = tt
 rise_so core now m last (n ∷ ns) le rises =
     let here : m ≤ n.moment = omega (arith, le, rises.0) in

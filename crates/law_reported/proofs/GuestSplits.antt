@@ -6,7 +6,7 @@ use Rattle.pim_model.{specs.{Cache.answers, Forwarding.no_interface, Full.{count
 use Rattle.law_scope.{specs.Rest.IsAtRest, proofs.Rest.opening_is_at_rest}
 use Rattle.law_cache.{specs.Kept.SameDecision, proofs.{RowsOfRuns.few_opening, SameRows.answers_itself}}
 use Rattle.law_plane.{specs.{Late.is_the_cores, Offered.{Offered, offered, unknown_row}, Offload.{Handling, Row, decision, handling, handling_unknown, is_to_core, offload, unknown_of}, Split.{Split, by_core, by_plane, handled_at, handled_by, nothing_sent, sent, split_step, time_goes, whole, with_notice}, Staying.OffersAlike, ToldLaws.{PlaneRows, no_plane_rows}}, proofs.{Ends.{Ends, no_ends, still_there}, OfferedRows.unknown_row_decides, Passes.{Passed, ended_by}, Planes.none_leave, Splits.{Follows, opening_is_early, step_goes, whole_follows, filters_same, as_many}, Staying.offer_stays, ToldRows.{opening_is_told, same_through, same_itself}}}
-use Rattle.law_reported.{specs.{Guests.{DeniesRightly, Plane, SplitRouterByOffersIsSound, Turn, asked, events_of, guest_handled, guest_judgement, guest_kind, guest_of, guest_ran, guest_step, without}, Kept.{Way, kept_judgement, kept_plane, kept_step, kept_up}}, proofs.{KeptSplits.{same_up, split_near, step_same}, KeptUp.kept_follows, NearEnds.{EndsNear, opening_near}}}
+use Rattle.law_reported.{specs.{Guests.{AreHeld, DeniesRightly, HoldsOf, Plane, SplitRouterByOffersIsSound, Turn, as_guest, asked, events_of, guest_handled, guest_judgement, guest_kind, guest_of, guest_ran, guest_step, without}, Kept.{Way, kept_judgement, kept_plane, kept_step, kept_up}}, proofs.{KeptSplits.{same_up, split_near, step_same}, KeptUp.kept_follows, NearEnds.{EndsNear, opening_near}}}
 
 -- ---- what is held is what is offered
 
@@ -19,16 +19,6 @@ offers_through (Some a) (Some b) (Some c) x y = (
   x.0 ∙ y.0,
   λ i low. same_through (decision (handling a.row i)) (decision (handling b.row i)) (decision (handling c.row i)) (x.1 i low) (y.1 i low),
 )
-
-abbrev pub as_guest : Row → Option Offered
-as_guest row = Some (record { is_known = false; row = row })
-
-abbrev pub HoldsOf : Option Row → Option Offered → Type 0
-HoldsOf None o = Unit {0}
-HoldsOf (Some row) o = OffersAlike (as_guest row) o
-
-abbrev pub AreHeld : PlaneRows → State → Type 0
-AreHeld guests s = (g src : ℕ) → HoldsOf (guests g src) (offered s g src)
 
 pub held_through : (held : Option Row) (a b : Option Offered) → HoldsOf held a → OffersAlike a b → HoldsOf held b
 held_through held a b x y = grind (arith, offers_through)
@@ -88,7 +78,7 @@ module _ (w : Way) (x : Split) (few : length (x.core).configured.interfaces ≤ 
     unfolding with_notice
     silent a e = grind arith
 
-    decide_same : (h k : Handling) → SameDecision (decision h) (decision k) → kept_plane w x e p h ≡ kept_plane w x e p k
+    pub decide_same : (h k : Handling) → SameDecision (decision h) (decision k) → kept_plane w x e p h ≡ kept_plane w x e p k
     decide_same h k same = grind (arith, alike_sent, silent, nothing_is)
 
   module _ (guests : PlaneRows) (held : AreHeld guests x.core) where

@@ -1,9 +1,9 @@
 -- A split router whose plane tells of sources by `keep`: step by step it is the one that replays their packets.
 use Rattle.std.{proofs.Common.{◌≡◌, Bool, cond, List, [], ◌∷◌, ℕ, refl, sym, ap, ◌∙◌, arith}}
 use Rattle.pim_ip.{specs.Ipv4.Packet}
-use Rattle.pim_types.{specs.declared.{config.Config.Config, event.{Event.Event, EventKind.EventKind}, outcome.Outcome.Outcome}}
+use Rattle.pim_types.{specs.declared.{event.{Event.Event, EventKind.EventKind}, outcome.Outcome.Outcome}}
 use Rattle.pim_model.{specs.{Judging.Judged, State.{State, opening}, Step.{state_after, step}}}
-use Rattle.law_scope.{specs.Rest.IsAtRest, proofs.Rest.opening_is_at_rest}
+use Rattle.law_scope.{proofs.Rest.opening_is_at_rest}
 use Rattle.law_cache.{proofs.RowsOfRuns.few_opening}
 use Rattle.law_plane.{specs.{Offload.Handling, Split.{Split, by_core, by_judgement, by_kind, by_plane, caught_up, nothing_sent, passes_quietly, replayed, split_ran, split_step, time_goes, whole, with_notice}, ToldLaws.no_plane_rows}, proofs.{Splits.{Follows, caught, opening_is_early, run_goes, split_router_is_sound, step_goes, whole_follows}, ToldRows.opening_is_told}}
 use Rattle.law_reported.{specs.Kept.{KeptIsCaughtUp, SplitRouterByKeepIsSound, Way, kept_core, kept_judgement, kept_kind, kept_plane, kept_ran, kept_step, kept_time, kept_up}, proofs.{KeptUp.kept_follows, NearEnds.{EndsNear, near_after, opening_near, step_near}}}

@@ -255,7 +255,7 @@ time_near s w moment le f =
     (λ t m kind k le g. fires_near moment (record t { present = m }) kind k (near_moves moment t m le g))
     (λ o c w g h. settled_near moment o c w h) s w moment (no_later moment) (near_later s.present moment le s f))
 
-settled_at : (o : State) (c : State × List Message) (w : ℕ) → EndsNear c.0 → EndsNear (settled o c w).0
+pub settled_at : (o : State) (c : State × List Message) (w : ℕ) → EndsNear c.0 → EndsNear (settled o c w).0
 settled_at o c w f =
     subst (λ (n : ℕ). IsNear n (settled o c w).0) (sym (ap (λ (u : Unsettled). u.present) (settling_leaves o c w)))
     (settled_near (c.0).present o c w f)
@@ -285,7 +285,7 @@ near_after events s f = ran_near events s f
 -- ---- as a test
 
 module _ (m : ℕ) where
-  tested : (o : Option ℕ) → IsBy m o → option_map_or (λ (end : ℕ). nat_le end (m + keepalive_period)) o true ≡ true
+  pub tested : (o : Option ℕ) → IsBy m o → option_map_or (λ (end : ℕ). nat_le end (m + keepalive_period)) o true ≡ true
   tested o f = grind (arith, nat_tests)
 
 pub each_keepalive_is_near : EachKeepaliveIsNear

@@ -30,6 +30,23 @@ asked asks s guests g src = if asks g src then guest_of s g src else guests g sr
 abbrev pub without : (ℕ → ℕ → Bool) → PlaneRows → PlaneRows
 without differs guests g src = if differs g src then None else guests g src
 
+-- ---- that they decide as what is offered
+
+-- The offer of a source without a fact.
+abbrev pub as_guest : Row → Option Offered
+as_guest row = Some (record { is_known = false; row = row })
+
+-- There is no row, or it decides as what is offered.
+abbrev pub HoldsOf : Option Row → Option Offered → Type 0
+HoldsOf None o = Unit {0}
+HoldsOf (Some row) o = OffersAlike (as_guest row) o
+
+-- Each row of a source without a fact that the plane holds decides as what the router offers.
+abbrev pub AreHeld : PlaneRows → State → Type 0
+AreHeld guests s = (g src : ℕ) → HoldsOf (guests g src) (offered s g src)
+
+-- ---- a packet
+
 -- How a packet is handled: by the row of a source with a fact, by the offer that the plane keeps of one without, or by
 -- the core's present offer.
 unfoldable pub guest_handled : Split → PlaneRows → IfaceId → Packet → Handling

@@ -1,6 +1,7 @@
 //! A plane that reports a source's last packet by `keep`. Laws of the definitions, each the contract of a function with
 //! nothing to do.
 
+ghost use Rattle.law_reported.specs.Anew.{DocumentedPlaneStaysSound, PlainStagesAreRight, ReloadRestoresRows, ReloadStaysFit, SoundPlaneStaysSound};
 ghost use Rattle.law_reported.specs.AtOnce.{AdvanceAtOnce, KeptAtOnce};
 ghost use Rattle.law_reported.specs.Documented.{DocumentedPlaneIsSound, PlainActsAreRight};
 ghost use Rattle.law_reported.specs.Guests.{SplitRouterByOffersIsSound};
@@ -61,6 +62,34 @@ pub fn documented_plane_is_sound()
 /// Any list of events is one of a plane as it is documented.
 pub fn plain_acts_are_right()
     ensures { PlainActsAreRight }
+{}
+
+/// Over events, reloads, saves and restores a plane as it is documented and its router send what the router alone sends.
+pub fn documented_plane_stays_sound()
+    ensures { DocumentedPlaneStaysSound }
+{}
+
+/// So they do from any state on in which events, reloads and reports leave a router, where each row that the plane holds
+/// decides as the router's.
+pub fn sound_plane_stays_sound()
+    ensures { SoundPlaneStaysSound }
+{}
+
+/// Once the rows of all sources with a fact before or after a reload are read again, each row that the plane holds
+/// decides as the router's.
+#[tactic(auto, using(crate::proofs::SoundRows::reload_restores_rows))]
+pub fn reload_restores_rows()
+    ensures { ReloadRestoresRows }
+{}
+
+/// A reload leaves a state from which a sound plane stays sound.
+pub fn reload_stays_fit()
+    ensures { ReloadStaysFit }
+{}
+
+/// Any events, reloads, saves and restores are those of a plane as it is documented.
+pub fn plain_stages_are_right()
+    ensures { PlainStagesAreRight }
 {}
 
 /// While notes are reported the router sends nothing.

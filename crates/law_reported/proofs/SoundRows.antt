@@ -1,0 +1,156 @@
+-- Rows that decide as the router's, those that the plane reads and lets go of, and after a reload those that it reads
+-- again.
+use Rattle.std.{proofs.{Common.{◌≡◌, ◌+◌, ◌≤◌, ℕ, Bool, true, false, ◌||◌, cond, List, [], ◌∷◌, length, Ok, Option, Some, None, nat_le, option_map, refl, sym, ap, subst, ◌∙◌, arith}, lemmas.Bool.{Decides.nat_tests, or_parts}}, specs.Option.option_map_or}
+use Rattle.pim_types.{specs.{declared.{config.Config.Config, event.Event.Event, fact.{Key.Key, SourceRow.SourceRow}}, Keys.source_key}}
+use Rattle.pim_model.{specs.{Cache.{answers, cached}, Judging.last_moment, Limits.{config_test, most_ifaces}, Messages.Message, Registers.keepalive_period, State.{State, addressing_of}, Step.{ran, rps_replaced, state_after, step}, Tables.has_row}}
+use Rattle.law_settled.{proofs.{Accepted.few_interfaces, ListLaws.{each_more, each_of_list, list_of_each}, Unsettled.{Unsettled, settling_leaves}}}
+use Rattle.law_scope.{specs.Rest.IsAtRest, proofs.Rest.step_is_at_rest}
+use Rattle.law_cache.{specs.Kept.{is_listed}}
+use Rattle.law_restored.{specs.Reload.config_of}
+use Rattle.law_reloaded.{specs.Reloading.{hellos_anew, reload, removals, replaced, under}, proofs.{Ground.reload_is_under, Rest.reload_leaves_rest}}
+use Rattle.law_plane.{specs.{Offered.offered, Offload.{Row, decision, handled, handling, offload, told}, ToldLaws.{DecideAlike, PlaneRows, told_anew}}, proofs.{Splits.step_stays_early, ToldRows.{same_itself, same_through}}}
+use Rattle.law_reported.{specs.{Anew.{AreSound, DecidesAs, HasBoth, ReloadRestoresRows, ReloadStaysFit, read_of}, Guests.{AreHeld, HoldsOf, without}, Near.is_near}, proofs.NearEnds.{EndsNear, IsBy, near_after, settled_at, tested}}
+
+-- ---- rows
+
+pub decides_itself : (o : Option Row) → DecidesAs o o
+decides_itself None = tt
+decides_itself (Some row) = λ i low. same_itself (decision (handling row i))
+
+pub decides_through : (held its new : Option Row) → DecidesAs held its → DecideAlike its new → DecidesAs held new
+decides_through None its new a b = tt
+decides_through (Some row) its new a b =
+    λ i low. same_through (decision (handling row i)) (decision (handled its i)) (decision (handled new i)) (a i low) (b i low)
+
+pub less_sound : (drops : ℕ → ℕ → Bool) (s : State) (rows : PlaneRows) → AreSound rows s → AreSound (without drops rows) s
+less_sound drops s rows f g src = go (drops g src)
+  where
+    go : (b : Bool) → DecidesAs (cond b None (rows g src)) (told s g src)
+    go true = tt
+    go false = f g src
+
+pub less_held : (drops : ℕ → ℕ → Bool) (s : State) (guests : PlaneRows) → AreHeld guests s → AreHeld (without drops guests) s
+less_held drops s guests f g src = go (drops g src)
+  where
+    go : (b : Bool) → HoldsOf (cond b None (guests g src)) (offered s g src)
+    go true = tt
+    go false = f g src
+
+-- some rows are read again, and the others decide alike in both states
+pub again_sound : (asks : ℕ → ℕ → Bool) (s t : State) (rows : PlaneRows) → AreSound rows s
+    → ((g src : ℕ) → asks g src ≡ false → DecideAlike (told s g src) (told t g src))
+    → AreSound (read_of asks t rows) t
+again_sound asks s t rows f alike g src = go (asks g src) refl
+  where
+    go : (b : Bool) → asks g src ≡ b → DecidesAs (cond b (told t g src) (rows g src)) (told t g src)
+    go true is = decides_itself (told t g src)
+    go false is = decides_through (rows g src) (told s g src) (told t g src) (f g src) (alike g src is)
+
+pub anew_sound : (names : List Key) (s t : State) (rows : PlaneRows) → AreSound rows s
+    → ((g src : ℕ) → is_listed names g src ≡ false → DecideAlike (told s g src) (told t g src))
+    → AreSound (told_anew names t rows) t
+unfolding told_anew
+anew_sound names s t rows f alike = again_sound (λ g src. is_listed names g src) s t rows f alike
+
+pub read_sound : (asks : ℕ → ℕ → Bool) (s : State) (rows : PlaneRows) → AreSound rows s → AreSound (read_of asks s rows) s
+read_sound asks s rows f =
+    again_sound asks s s rows f (λ g src out i low. same_itself (decision (handled (told s g src) i)))
+
+-- ---- a reload
+
+none_told : (s : State) (g src : ℕ) → has_row s.sources (source_key 0 g src) ≡ false → told s g src ≡ None
+unfolding cached
+none_told s g src out =
+    ap (λ (b : Bool). option_map offload (cond b (Some (answers s g src)) None)) out
+
+none_alike : (a b : Option Row) → a ≡ None → b ≡ None → DecideAlike a b
+none_alike None None e f = λ i low. tt
+none_alike None (Some b) e f = absurd cc
+none_alike (Some a) b e f = absurd cc
+
+others_alike : (s t : State) (changed : ℕ → ℕ → Bool) → HasBoth s t changed → (g src : ℕ) → changed g src ≡ false
+    → DecideAlike (told s g src) (told t g src)
+others_alike s t changed all g src out =
+    go (has_row s.sources (source_key 0 g src) || has_row t.sources (source_key 0 g src)) refl
+  where
+    go : (b : Bool) → (has_row s.sources (source_key 0 g src) || has_row t.sources (source_key 0 g src)) ≡ b
+        → DecideAlike (told s g src) (told t g src)
+    go true is = let no : false ≡ true = sym out ∙ all g src is in absurd cc
+    go false is =
+        let parts : _ = or_parts (has_row s.sources (source_key 0 g src)) (has_row t.sources (source_key 0 g src)) is in
+        none_alike (told s g src) (told t g src) (none_told s g src parts.0) (none_told t g src parts.1)
+
+pub reload_restores_rows : ReloadRestoresRows
+reload_restores_rows s c w rows changed f all =
+    again_sound changed s (reload s c w).0 rows f (others_alike s (reload s c w).0 changed all)
+
+-- ---- a state in which the law goes on
+
+module _ (m : ℕ) where
+  untested : (o : Option ℕ) → option_map_or (λ (end : ℕ). nat_le end (m + keepalive_period)) o true ≡ true → IsBy m o
+  untested None e = tt
+  untested (Some end) e = grind (arith, nat_tests, e)
+
+self : (a : ℕ) → a ≤ a
+self a = omega arith
+
+pub ends_near : (s : State) → is_near s ≡ true → EndsNear s
+unfolding is_near
+ends_near s e = record {
+  now = self s.present;
+  ends = each_more _ _ (λ (x : Key × SourceRow) h. untested s.present (x.1).keepalive h) s.sources (each_of_list _ s.sources e);
+}
+
+pub is_near_then : (s : State) → EndsNear s → is_near s ≡ true
+unfolding is_near
+is_near_then s f =
+    list_of_each _ s.sources (each_more _ _ (λ (x : Key × SourceRow) h. tested s.present (x.1).keepalive h) s.sources f.ends)
+
+ran_early : (events : List Event) (s : State) → IsAtRest s → s.present ≤ last_moment → (ran s events).1.present ≤ last_moment
+unfolding ran
+ran_early [] s rest early = early
+ran_early (e ∷ es) s rest early = ran_early es (step s e).state (step_is_at_rest s e rest) (step_stays_early s e rest early)
+
+under_near : (s : State) (c : Config) → EndsNear s → EndsNear (under s c)
+unfolding under rps_replaced
+under_near s c f = record { now = f.now; ends = f.ends }
+
+under_present : (s : State) (c : Config) → (under s c).present ≡ s.present
+unfolding under rps_replaced
+under_present s c = refl
+
+module _ (s : State) (c : Config) (w : ℕ) where
+  abbrev gone : State
+  gone = (ran s (removals s c w)).1
+
+  abbrev made : State × List Message
+  made = (under gone c, hellos_anew gone (addressing_of c))
+
+  gone_near : EndsNear s → EndsNear gone
+  unfolding state_after
+  gone_near f = near_after (removals s c w) s f
+
+  reload_near : EndsNear s → EndsNear (reload s c w).0
+  unfolding reload replaced
+  reload_near f = settled_at gone made w (under_near gone c (gone_near f))
+
+  reload_present : (reload s c w).0.present ≡ (gone).present
+  unfolding reload replaced
+  reload_present = ap (λ (u : Unsettled). u.present) (settling_leaves gone made w) ∙ under_present gone c
+
+  reload_early : IsAtRest s → s.present ≤ last_moment → (reload s c w).0.present ≤ last_moment
+  reload_early rest early =
+      subst (λ (m : ℕ). m ≤ last_moment) (sym reload_present) (ran_early (removals s c w) s rest early)
+
+  reload_few : config_test c ≡ Ok tt → length (reload s c w).0.configured.interfaces ≤ most_ifaces
+  unfolding config_of
+  reload_few e =
+      subst (λ (k : Config). length k.interfaces ≤ most_ifaces) (sym (reload_is_under s c w)) (few_interfaces c e)
+
+pub reload_stays_fit : ReloadStaysFit
+reload_stays_fit s c w e f = record {
+  rest = reload_leaves_rest s c w e f.rest;
+  early = reload_early s c w f.rest f.early;
+  few = reload_few s c w e;
+  near = is_near_then (reload s c w).0 (reload_near s c w (ends_near s f.near));
+}
