@@ -1,14 +1,14 @@
 -- What holds of each station, event and frame of a network, from what is computed of one: for whoever shows the
 -- premises of the laws for a network of their own.
-use Rattle.std.{proofs.{Common.{◌≡◌, ◌∙◌, ℕ, zero, suc, ◌+◌, ◌*◌, ◌/◌, ◌<◌, ◌≤◌, ◌==◌, Bool, true, false, List, [], ◌∷◌, ◌++◌, drop, length, map, Option, Some, None, is_some, refl, sym, ap, subst, arith, length-append}, lemmas.List.length-map}, specs.{List.flat_map, Prelude.{slice_get, unwrap_or}, Option.option_map_or}}
+use Rattle.std.{proofs.{Common.{◌≡◌, ◌∙◌, ℕ, zero, suc, ◌+◌, ◌*◌, ◌/◌, ◌<◌, ◌≤◌, ◌==◌, Bool, true, false, List, [], ◌∷◌, ◌++◌, drop, length, map, Option, Some, None, is_some, refl, sym, ap, subst, arith, ◌^◌, length-append}, lemmas.{Bool.Decides.nat_tests, List.length-map}}, specs.{Int.byte_at, List.flat_map, Prelude.{slice_get, unwrap_or}, Option.option_map_or}}
 use Rattle.pim_types.{specs.declared.{event.{Event.Event, EventKind.EventKind}, fact.JoinTimerRow.JoinTimerRow}}
 use Rattle.pim_wire.{specs.{Encoded.{group_text, pim_text, unicast_text}, JoinPrunes.{entry_text, join_prune_holdtime, join_prune_text}, declared.join_prune.{Entry.Entry, EntryKind.EntryKind}}}
-use Rattle.pim_ip.{specs.{Ipv4.{header_text, pim_packet_text}}, proofs.WritingLemmas.length-with_checksum}
+use Rattle.pim_ip.{specs.{Checksum.with_checksum, Ipv4.{header_text, is_unicast, pim_packet_text}}, proofs.WritingLemmas.length-with_checksum}
 use Rattle.byteorder.{specs.Endian.big_bytes}
 use Rattle.pim_model.{specs.{Cause.done_as, Messages.entry, Network.{Deliver, Move, Network, Sent, Station, event_of, frame_at, moved, station_at}, State.State, Tables.row_at}}
 use Rattle.law_promises.{specs.Copies.happens}
 use Rattle.law_served.{specs.Joins.{IsWritable, join_packet}}
-use Rattle.law_in_time.{specs.Joins.{ComesBy, ComesToBoth, IsBy, Join, Pair, entry_of, frame_of, is_suppressed, join_key, prunes_it, prunes_of, time_at}}
+use Rattle.law_in_time.{specs.{Joins.{ComesBy, ComesToBoth, IsBy, Join, Pair, entry_of, frame_of, is_suppressed, join_key, prunes_it, prunes_of, time_at}, Shared.{ComesFrom, frame_from}}}
 
 -- ---- stations and events
 
@@ -154,6 +154,47 @@ prunes_nothing from to g joined pruned e =
       length-map pruned (entry EntryKind.SourceRpt),
     ))
 
+-- ---- the sender of a Join, by its bytes
+
+module _ (to g : ℕ) (joined : Entry) (prunes : List Entry) where
+  first_byte : (from : ℕ) → slice_get (join_packet from to g joined prunes) 12 ≡ Some (byte_at 3 from)
+  unfolding join_packet pim_packet_text header_text with_checksum
+  first_byte from = refl
+
+  second_byte : (from : ℕ) → slice_get (join_packet from to g joined prunes) 13 ≡ Some (byte_at 2 from)
+  unfolding join_packet pim_packet_text header_text with_checksum
+  second_byte from = refl
+
+  third_byte : (from : ℕ) → slice_get (join_packet from to g joined prunes) 14 ≡ Some (byte_at 1 from)
+  unfolding join_packet pim_packet_text header_text with_checksum
+  third_byte from = refl
+
+  fourth_byte : (from : ℕ) → slice_get (join_packet from to g joined prunes) 15 ≡ Some (byte_at 0 from)
+  unfolding join_packet pim_packet_text header_text with_checksum
+  fourth_byte from = refl
+
+same_some : (o q : Option ℕ) (a b : ℕ) → o ≡ q → o ≡ Some a → q ≡ Some b → a ≡ b
+same_some o q a b e f h = cc
+
+same_word : (a b : ℕ) → a < 2 ^ 32 → b < 2 ^ 32 → byte_at 3 a ≡ byte_at 3 b → byte_at 2 a ≡ byte_at 2 b → byte_at 1 a ≡ byte_at 1 b
+    → byte_at 0 a ≡ byte_at 0 b → a ≡ b
+same_word a b la lb e3 e2 e1 e0 = omega (arith, la, lb, e3, e2, e1, e0)
+
+unicast_fits : (a : ℕ) → is_unicast a ≡ true → a < 2 ^ 32
+unicast_fits a h = grind (arith, nat_tests, h)
+
+same_sender : (a b to g : ℕ) (joined : Entry) (p q : List Entry) → join_packet a to g joined p ≡ join_packet b to g joined q
+    → is_unicast a ≡ true → is_unicast b ≡ true → a ≡ b
+same_sender a b to g joined p q e la lb =
+    let at : (k x y : ℕ) → slice_get (join_packet a to g joined p) k ≡ Some x → slice_get (join_packet b to g joined q) k ≡ Some y → x ≡ y =
+    λ k x y f h. same_some (slice_get (join_packet a to g joined p) k) (slice_get (join_packet b to g joined q) k) x y
+    (ap (λ (l : List ℕ). slice_get l k) e) f h in
+    same_word a b (unicast_fits a la) (unicast_fits b lb)
+    (at 12 (byte_at 3 a) (byte_at 3 b) (first_byte to g joined p a) (first_byte to g joined q b))
+    (at 13 (byte_at 2 a) (byte_at 2 b) (second_byte to g joined p a) (second_byte to g joined q b))
+    (at 14 (byte_at 1 a) (byte_at 1 b) (third_byte to g joined p a) (third_byte to g joined q b))
+    (at 15 (byte_at 0 a) (byte_at 0 b) (fourth_byte to g joined p a) (fourth_byte to g joined q b))
+
 -- ---- what is asked of each move
 
 module _ (nowhere : Station) (x : Join) (g d : ℕ) (started : ℕ → ℕ) (c : Pair) where
@@ -239,3 +280,32 @@ module _ (nowhere : Station) (x : Join) (g d : ℕ) (started : ℕ → ℕ) (c :
             (with_station nowhere n' c.lower
             (λ st. ComesBy x g d started c [] (suc (length n.frames)) (time_at started c.lower st) n' ms) comes st at),
       )
+
+  -- ---- Joins of others, on the link
+
+  module _ (sent : ℕ → ℕ) (n n' : Network) (ms : List Move) where
+    abbrev EachComes : Type 0
+    EachComes = (number from : ℕ) (pruned : List ℕ) → length n.frames < number
+        → frame_at n' number ≡ Some (frame_from x g c from pruned)
+        → IsWritable from (c.hop).address.bits g (entry_of x) (prunes_of pruned)
+        → ComesFrom x g d started c from pruned number (sent number) n' ms
+
+    -- none leaves
+    pub no_others : drop (length n.frames) n'.frames ≡ [] → EachComes
+    no_others told number from pruned later got writable = absurd (none_new n n' (frame_from x g c from pruned) number told later got)
+
+    -- the one frame that leaves is such a Join, which prunes nothing, and comes
+    pub one_other : (from : ℕ) → drop (length n.frames) n'.frames ≡ frame_from x g c from [] ∷ [] → is_unicast from ≡ true
+        → ComesFrom x g d started c from [] (suc (length n.frames)) (sent (suc (length n.frames))) n' ms → EachComes
+    one_other own told host comes number from pruned later got writable =
+        let first : IsFirst number (suc (length n.frames)) (frame_from x g c from pruned) (frame_from x g c own []) =
+        only_new n n' (frame_from x g c own []) (frame_from x g c from pruned) number told later got in
+        let whole : length (frame_from x g c own []).bytes ≡ 54 = length-packet own (c.hop).address.bits g (entry_of x) [] in
+        let bytes : (frame_from x g c from pruned).bytes ≡ (frame_from x g c own []).bytes = ap (λ (f : Sent). f.bytes) first.frame in
+        let none : pruned ≡ [] =
+        prunes_nothing from (c.hop).address.bits g (entry_of x) pruned (ap (λ (b : List ℕ). length b) bytes ∙ whole) in
+        let same : from ≡ own =
+        same_sender from own (c.hop).address.bits g (entry_of x) (prunes_of pruned) (prunes_of []) bytes writable.from_host host in
+        subst (λ (k : ℕ). ComesFrom x g d started c from pruned k (sent k) n' ms) (sym first.number)
+        (subst (λ (ps : List ℕ). ComesFrom x g d started c from ps (suc (length n.frames)) (sent (suc (length n.frames))) n' ms) (sym none)
+        (subst (λ (a : ℕ). ComesFrom x g d started c a [] (suc (length n.frames)) (sent (suc (length n.frames))) n' ms) (sym same) comes))

@@ -7,6 +7,7 @@ pub mod Lower
 pub mod Upper
 pub mod Refresh
 pub mod Pairs
+pub mod Shared
 pub mod Streams
 pub mod OneDr
 pub mod NeighbourLasts

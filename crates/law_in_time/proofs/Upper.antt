@@ -86,7 +86,7 @@ module _ (x : Join) (g i : ℕ) where
 or_true : (b : Bool) → (b || true) ≡ true
 or_true b = grind arith
 
-joined_so : (x : Join) (g : ℕ) → IsJoin x g → (s : State) (to down : ℕ) (prunes : List Entry) → IsRp x s g
+pub joined_so : (x : Join) (g : ℕ) → IsJoin x g → (s : State) (to down : ℕ) (prunes : List Entry) → IsRp x s g
     → joined_keys s down (join_value to g (entry_of x) prunes) ≡ join_key x down g ∷ []
 unfolding joined_keys accepted_joins is_accepted
 joined_so x g isg s to down prunes known = grind (arith, general_group, eq-eqb, or_true)

@@ -1,4 +1,5 @@
 pub mod Joins
+pub mod Shared
 pub mod Streams
 pub mod Neighbours
 pub mod Adjacent

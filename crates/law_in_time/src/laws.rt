@@ -6,6 +6,7 @@ ghost use Rattle.law_in_time.specs.Hellos.{HelloIsRead};
 ghost use Rattle.law_in_time.specs.Joins.{JoinsAreShared, JoinsComeToBeHeld, WayStaysJoined};
 ghost use Rattle.law_in_time.specs.Neighbours.{EventKeepsNeighbour};
 ghost use Rattle.law_in_time.specs.OneDr.{AtLeastOneDr, AtMostOneDr};
+ghost use Rattle.law_in_time.specs.Shared.{FramesComeToBoth, JoinSuppresses};
 ghost use Rattle.law_in_time.specs.Streams.{JoinsKeepStream};
 
 /// Where what a router sends to its next hop comes within d, what it joins there, (*,G) or (S,G), never expires: after
@@ -27,6 +28,21 @@ ghost use Rattle.law_in_time.specs.Streams.{JoinsKeepStream};
 /// one's Join timer.
 pub fn joins_are_shared()
     ensures { JoinsAreShared }
+{}
+
+/// What `JoinsAreShared` asks of others' Joins follows from their frames. Each Join to the upper router that a router sends on
+/// the link, and that can be written, is delivered to the upper one, to which its sender is a live neighbour, no sooner
+/// than it was sent, and while the upper one's time is at most d beyond that; there is room for what it names. The lower
+/// router holds its own Join back for none but such a frame, which it is delivered no sooner, and while its own time and
+/// the upper one's are at most d beyond that; where it is, d is below 42 s.
+pub fn frames_come_to_both()
+    ensures { FramesComeToBoth }
+{}
+
+/// Where the bytes of a Join of what a router joins, by a neighbour and to its own next hop, are delivered to the router, it
+/// reads them as that Join, and holds its own back.
+pub fn join_suppresses()
+    ensures { JoinSuppresses }
 {}
 
 /// Whatever the next hop held before, under the other premises of `JoinsAreShared` it comes to hold what the router

@@ -3,7 +3,7 @@ use Rattle.std.{proofs.{Common.{◌≡◌, ◌∙◌, ℕ, ◌+◌, ◌*◌, ◌
 use Rattle.pim_ip.{specs.{Checksum.with_checksum, Ipv4.{Packet, all_pim_routers, frame_limit, header_text, ipv4_reading, is_source, packet_limit, pim_packet_text, protocol_pim}, View.written_packet}, proofs.ViewLemmas.written_reads}
 use Rattle.pim_wire.{specs.{Encoded.pim_text, JoinPrunes.{entry_text, join_prune_text}, Messages.pim_reading, declared.{join_prune.Entry.Entry, view.PimView.PimView}}, proofs.JoinPruneLaw.join_prune_reads}
 use Rattle.pim_model.{specs.{Judging.{frame_judged, join_prune_judged, judged, packet_judged, pim_judged, pim_message_judged}, Upstream.most_pruned}}
-use Rattle.law_served.{specs.Joins.{IsWritable, JoinIsRead, join_packet, join_value}}
+use Rattle.law_served.{specs.Joins.{IsWritable, JoinIsRead, JoinIsSeen, join_packet, join_value}}
 
 module _ (from to g : ℕ) (joined : Entry) (prunes : List Entry) (f : IsWritable from to g joined prunes) where
   abbrev body : List ℕ
@@ -52,3 +52,8 @@ within_range n i lt = grind (arith, nat_tests, lt)
 pub join_is_read : JoinIsRead
 unfolding judged frame_judged packet_judged pim_message_judged pim_judged join_prune_judged
 join_is_read s i from g joined prunes h f = grind (arith, within_range, short_enough, packet_read, message_read, eq-eqb)
+
+pub join_is_seen : JoinIsSeen
+unfolding judged frame_judged packet_judged pim_message_judged pim_judged join_prune_judged
+join_is_seen s i from to g joined prunes h other f =
+    grind (arith, within_range, short_enough, packet_read, message_read)

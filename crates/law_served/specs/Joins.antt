@@ -140,6 +140,13 @@ JoinIsRead = (s : State) (i from g : ℕ) (joined : Entry) (prunes : List Entry)
     → judged s (EventKind.Frame (record { number = i }) (join_packet from (my_address s i) g joined prunes))
     ≡ Ok (Accepted.JoinPruneToMe (record { number = i }) (join_value (my_address s i) g joined prunes))
 
+-- The bytes of a Join are read as exactly that Join by another router of the link, to which they don't go.
+abbrev pub JoinIsSeen : Type 0
+JoinIsSeen = (s : State) (i from to g : ℕ) (joined : Entry) (prunes : List Entry) → Hears s i from
+    → (to == my_address s i) ≡ false → IsWritable from to g joined prunes
+    → judged s (EventKind.Frame (record { number = i }) (join_packet from to g joined prunes))
+    ≡ Ok (Accepted.JoinPruneSeen (record { number = i }) (join_value to g joined prunes))
+
 -- ---- a Join is sent again
 
 -- While RPF'(*,G) is a neighbour, the expiry of the Join timer of (*,G) sends the Join again, and the timer runs for

@@ -1,7 +1,7 @@
 //! Laws of the definitions, each the contract of a function with nothing to do.
 
 ghost use Rattle.law_served.specs.Flows.{DataFlows};
-ghost use Rattle.law_served.specs.Joins.{JoinIsRead, SourceJoinIsRepeated, SourceJoinIsTaken, SourceJoinLeaves, SourceJoinLeavesInTime, StarJoinIsRepeated, StarJoinIsTaken, StarJoinLeaves, StarJoinLeavesInTime};
+ghost use Rattle.law_served.specs.Joins.{JoinIsRead, JoinIsSeen, SourceJoinIsRepeated, SourceJoinIsTaken, SourceJoinLeaves, SourceJoinLeavesInTime, StarJoinIsRepeated, StarJoinIsTaken, StarJoinLeaves, StarJoinLeavesInTime};
 ghost use Rattle.law_served.specs.Lasts.{EventKeepsSource, EventKeepsStar, RunKeepsSource, RunKeepsStar};
 ghost use Rattle.law_served.specs.Roots.{RegisterIsBrought, RootSends};
 ghost use Rattle.law_served.specs.Served.{HostAsks, WhoAsksIsServed};
@@ -32,6 +32,12 @@ pub fn star_join_is_taken()
 /// the sender is a neighbour.
 pub fn join_is_read()
     ensures { JoinIsRead }
+{}
+
+/// The bytes of a Join are read as exactly that Join by each other router of the link, on an interface that is up, where
+/// the sender is a neighbour.
+pub fn join_is_seen()
+    ensures { JoinIsSeen }
 {}
 
 /// A Join(*,G) climbs a way of any length that has no router twice, by deliveries with nothing in between.
