@@ -213,7 +213,7 @@ wants = (
   ),
 )
 
-its_group : IsJoin joined asked_group
+pub its_group : IsJoin joined asked_group
 unfolding machine_on_literals
 its_group = record { multicast = refl; goes_far = refl; rp_host = refl }
 

@@ -23,6 +23,7 @@ pub mod Switch
 pub mod Split
 pub mod LastHop
 pub mod InTime
+pub mod OnLink
 pub mod History
 pub mod Placed
 pub mod Plane

@@ -1,6 +1,7 @@
 //! A network that meets the premises of the laws of Joins and Hellos in time, computed by the kernel.
 ghost use Rattle.pim_runs.specs.HellosInTime.{HellosAreInTime, NeighbourStays, OneIsDr};
 ghost use Rattle.pim_runs.specs.InTime.{JoinStaysHeld, JoinsAreInTime, StreamGoesOn};
+ghost use Rattle.pim_runs.specs.OnLink.{FramesAreInTime, JoinIsHeldBack, SharedStaysHeld};
 ghost use Rattle.pim_runs.specs.WayInTime.{WayIsInTime, WayStaysHeld};
 
 /// The Join of the first router of the chain is repeated in time, move after move.
@@ -16,6 +17,21 @@ pub fn join_stays_held()
 /// And so it passes the stream to the first all the while.
 pub fn stream_goes_on()
     ensures { StreamGoesOn }
+{}
+
+/// Of two routers on a link below a third, the Join of the one comes to the third, and the other sees it.
+pub fn frames_are_in_time()
+    ensures { FramesAreInTime }
+{}
+
+/// So the other holds its own Join back.
+pub fn join_is_held_back()
+    ensures { JoinIsHeldBack }
+{}
+
+/// And yet the third holds what it joins, all the while.
+pub fn shared_stays_held()
+    ensures { SharedStaysHeld }
 {}
 
 /// The first two routers of the chain repeat their Joins in time, move after move.

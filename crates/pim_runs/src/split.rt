@@ -2,7 +2,7 @@
 #![tactic(auto, unfolding(crate::proofs::SplitLiterals::split_on_literals))]
 
 ghost use Rattle.pim_runs.specs.Split.{CoreCatchesUp, DrNamesWhatItServes, EachLinkIsHandled, HostIsHeardOf, LastPacketIsOwed, UnknownIsForwarded};
-ghost use Rattle.pim_runs.specs.Plane.{PlaneOwesANote};
+ghost use Rattle.pim_runs.specs.Plane.{PlaneGoesOn, PlaneOwesANote};
 
 /// What the row of a joined source says of a packet on each link.
 pub fn each_link_is_handled()
@@ -37,4 +37,9 @@ pub fn host_is_heard_of()
 /// A plane as it is documented owes a note of the second packet, and none after the next event of the router's own.
 pub fn plane_owes_a_note()
     ensures { PlaneOwesANote }
+{}
+
+/// A plane as it is documented forwards a packet itself after a reload, and after a restore.
+pub fn plane_goes_on()
+    ensures { PlaneGoesOn }
 {}
