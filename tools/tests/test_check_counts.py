@@ -84,14 +84,6 @@ class Spoilt(unittest.TestCase):
         self.spoil("pim_trie/src/lib.rt", "pub use pim_meter::Meter;", "pub use pim_meter::*;")
         self.refused("an auditor is brought in")
 
-    def test_a_walk_that_reads_a_node_twice(self):
-        self.spoil(
-            "pim_trie/src/nodes.rt",
-            "        let node = walk.read(key);\n",
-            "        walk.read(key);\n        let node = walk.read(key);\n",
-        )
-        self.refused("a walk reads a node in next_entry")
-
     def test_a_meter_that_is_set_back_at_the_end(self):
         self.spoil(
             "pim_router/src/router.rt",
