@@ -109,15 +109,13 @@ class Spoilt(unittest.TestCase):
         )
         self.refused("a meter is made beside that of events in take_next", "take_next calls")
 
-    def test_all_rows_evaluated_with_a_count_that_is_thrown_away(self):
+    def test_a_row_evaluated_with_a_count_that_is_thrown_away(self):
         self.spoil(
             "pim_fanout/src/cache.rt",
-            "        let made = row_by_sight(",
-            "        for other in self.all() "
-            "{\n            row(world, other, meter, &mut Evaluations::none());\n        }\n"
-            "        let made = row_by_sight(",
+            "        let made = world.row(",
+            "        world.row(name, None, meter, &mut Evaluations::none());\n        let made = world.row(",
         )
-        self.refused("a count of rows is made in Cache::refresh_one", "a row is evaluated in Cache::refresh_one")
+        self.refused("a count of rows is made in Cache::refresh_one")
 
     def test_rows_evaluated_in_another_cache(self):
         self.spoil(
@@ -147,7 +145,6 @@ class Spoilt(unittest.TestCase):
         )
         self.refused(
             "a count of rows is made in Router::cached",
-            "`row` is brought in in Router::cached",
             "Router::cached calls outside none row Some of answers",
         )
 
@@ -189,15 +186,15 @@ class Spoilt(unittest.TestCase):
         )
         self.refused("a test of an event reads")
 
-    def test_a_refresh_that_evaluates_the_lists_of_all_sources(self):
+    def test_a_row_beside_which_the_lists_of_all_sources_are_evaluated(self):
         self.spoil(
-            "pim_fanout/src/cache.rt",
-            "        let made = row_by_sight(",
-            "        for (key, _) in world.store().source_rows() "
-            "{\n            let _ = SourceSight::with_star(world, key.name(), meter).inherited_olist();\n        }\n"
-            "        let made = row_by_sight(",
+            "pim_fanout/src/evaluates.rt",
+            "        let sight = sight_of(",
+            "        for (key, _) in self.store().source_rows() "
+            "{\n            let _ = SourceSight::with_star(self, key.name(), meter).inherited_olist();\n        }\n"
+            "        let sight = sight_of(",
         )
-        self.refused("the cache gathers a sight")
+        self.refused("World::row calls for store source_rows")
 
     def test_a_place_that_is_gone(self):
         self.spoil("pim_router/src/router.rt", "    core.cache.reset();\n", "")
