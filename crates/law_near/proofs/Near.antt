@@ -1,5 +1,5 @@
 -- Every event, every reload and what a plane reports keep what holds beside rest.
-use Rattle.std.{proofs.Common.{◌≡◌, ℕ, Bool, true, [], ◌∷◌, length, refl, sym, subst}, specs.{Cmp.{Derive.both_true, first_so, second_so}, List.AllByRecursion}}
+use Rattle.std.{proofs.Common.{◌≡◌, ℕ, Bool, true, length, refl, sym, subst}, specs.{Cmp.{Derive.both_true, first_so, second_so}, List.AllByRecursion}}
 use Rattle.pim_types.{specs.declared.{config.Config.Config, event.Event.Event}}
 use Rattle.pim_model.{specs.{State.{State, iface_count, opening}, Step.step}}
 use Rattle.law_scope.{specs.Rest.IsAtRest}

@@ -6,7 +6,6 @@ use Rattle.pim_wire.{specs.{declared.{assert.Assert.Assert as AssertMessage, hel
 use Rattle.igmp_wire.{specs.{Codes.code_value, Values.{Query as QueryValue, Record}}}
 use Rattle.pim_model.{specs.{declared.accepted.Accepted.Accepted, Asserts.{assert_as_loser, assert_as_winner, assert_at, assert_due, assert_forgotten, assert_in_no_info, assert_received, data_seen, loses, loses_first, wins, wins_again, with_spt_bit}, Downstream.{asserts_after_joins, downstream_expired, keys_taken, prune_pending_due, to_me}, Firing.{fire_all, fire_instant, fire_once, fire_row, fired, keepalive_due, settled, startup_left}, Forwarding.{forwarded, list_chosen, register_at_rp, register_received, source_here, source_joined, spt_updated, stray, watched}, Hellos.{hello_due, hello_received, hello_triggered, neighbour_due, neighbour_replaced, neighbour_restarted, triggered_hello_delay}, Messages.Message, Querier.{general_query_due, group_record_due, group_repeat_due, lower_group, is_lower_querier, is_querier, is_skipped, lower_queried, lower_sources, other_querier_gone, querier_elected, querier_row, querier_up, query_asked, query_group, query_interval, query_seen, query_sources, querying, querying_on, record_seen, report_seen, send_sources, source_record_due, source_repeat_due, sources_sent, startup_query_interval}, Records.{Asked, with_members, with_record, with_repeats_of_rows}, Registers.{register_due, register_stop_seen, settle_register, with_keepalive}, Seen.{cancel_override_timer, lower_join_timer, lower_override_timer, raise_join_timer, seen}, State.{State, settings_of}, Step.{advanced, change, iface_down, iface_up, rps_replaced, step}, Tables.{Table, change_row, changed_entry, delay_in, drop_where, put, row_at, same_option}, Timers.{Ending, next_due, next_query, timers}, Upstream.{join_timer_due, override_timer_due}}}
 use Rattle.law_settled.{specs.{Laws.{is_querier_entry}, Ready.{IsLawful}}, proofs.{Ends.{Ends, shows}, LawfulFiring.one_firing_is_lawful, ListLaws.{by_cond, each_filter, each_filter_map, each_more, each_of_list, list_of_each}, RowLaws.{each_put, row_put}, SettledStates.settled_is_lawful, TableLaws.row_of_each, TimerLaws.{IsNext, is_next}, TurnLaws.{kept_in_turn, kept_to_the_end}, SeenLaws.kept_by_seen}}
-use Rattle.law_scope.{specs.Rest.IsAtRest}
 use Rattle.law_promises.{proofs.{LiesUnder.row_fires, Walks.event_walks, EndSoon.{no_later, change_present}}}
 use Rattle.law_served.{proofs.Lasts.only_row}
 use Rattle.law_reloaded.{specs.Laws.{is_near_by, next_query_is_near}, proofs.{Ground.replaced_is_under, Queriers.{Asked as Read, asked, replaced_near, settled_asked}}}
