@@ -6,7 +6,7 @@ use Rattle.pim_wire.{specs.Values.JoinPrune}
 use Rattle.igmp_wire.{specs.{Values.Record, declared.report.RecordType.RecordType}}
 use Rattle.pim_model.{specs.{declared.accepted.Accepted.Accepted, Cause.{Happened, Passed, Past, asks_for, done_as, has_cause, if_done, is_down_of, is_including, is_join_for, is_record_for, is_report_for, number_before}, Downstream.{Named, accepted_joins, holdtime_forever, is_named, joined_keys, named_key}, Judging.{Judged, down_judged, ignore_if, judged, refuse_if, ◌>>◌}, Querier.is_excluding, State.State, Step.step, Tables.is_among}}
 use Rattle.law_settled.{proofs.{ListLaws.either, TableLaws.any_of_map}}
-use Rattle.law_causes.{specs.Told.{AsksByJoin, AsksByReport, CauseIsAnEarlierEvent, HasJoin, HasRecord, IsCause, IsDone, StaysUp}}
+use Rattle.law_causes.{specs.Told.{AsksByJoin, AsksByReport, CauseIsAnEarlierEvent, HasJoin, HasRecord, IsCause, IsDone}}
 
 -- one of a list that passes
 abbrev Passing : {X : Type 0} → (X → Bool) → List X → Type 0

@@ -1,5 +1,5 @@
 -- A router that is given a list of interfaces without its first one, with a map of its places: what comes on the others goes on.
-use Rattle.std.{specs.Prelude.{List, None, Some, [], false, map, true, ℕ, ◌++◌, ◌∷◌, ◌≡◌}}
+use Rattle.std.{specs.Prelude.{List, None, Some, [], false, map, true, ◌++◌, ◌∷◌, ◌≡◌}}
 use Rattle.pim_ip.{specs.Ipv4.{copy_text, igmp_packet_text, packet_of}}
 use Rattle.pim_types.{specs.declared.{config.Config.Config, event.Event.Event}}
 use Rattle.igmp_wire.{specs.Reports.report_text}
