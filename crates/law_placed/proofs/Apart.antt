@@ -184,7 +184,7 @@ not_in_filter p q xs none = by (list_any q (filter p xs)) refl
     by true e = absurd (clash (list_any q xs) (any_of_filter p q xs e) none)
     by false e = refl
 
-filtered_once : (q : ℕ → Bool) (c s : ℕ) → are_once (filter q (range_with_len s c)) ≡ true
+pub filtered_once : (q : ℕ → Bool) (c s : ℕ) → are_once (filter q (range_with_len s c)) ≡ true
 unfolding is_among
 filtered_once q zero s = refl
 filtered_once q (suc c) s = by (q s) (filtered_once q c (s + 1))
@@ -220,7 +220,7 @@ none_shared kept x there (y ∷ ys) = by (list_any (λ z. z == y) kept) refl (no
     by false e later =
         ap (λ (b : Bool). b || list_any (λ z. z == x) (filter (λ j. not (list_any (λ w. w == j) kept)) ys)) (other e) ∙ later
 
-joined_once : (xs ys : List ℕ) → are_once xs ≡ true → are_once ys ≡ true
+pub joined_once : (xs ys : List ℕ) → are_once xs ≡ true → are_once ys ≡ true
     → AllByRecursion (λ x. list_any (λ y. y == x) ys ≡ false) xs → are_once (xs ++ ys) ≡ true
 unfolding is_among
 joined_once [] ys e f none = f
@@ -312,7 +312,7 @@ module _ (m : Places) (n : ℕ) (once : are_once (kept_places m) ≡ true) (low_
   new_count =
       length-append (kept_places m) (filter (is_new (kept_places m)) (below n)) ∙ count_new n (kept_places m) once low_kept
 
-  new_once : are_once order ≡ true
+  pub new_once : are_once order ≡ true
   unfolding new_order
   new_once =
       joined_once (kept_places m) (filter (is_new (kept_places m)) (below n)) once (filtered_once (is_new (kept_places m)) n 0)

@@ -1,3 +1,4 @@
+pub mod Accepted
 pub mod Addresses
 pub mod Apart
 pub mod Identity

@@ -52,7 +52,7 @@ range_low (suc n) k =
     shift : (a b : ℕ) → a + suc b ≡ (a + 1) + b
     shift a b = omega arith
 
-from_zero : (n : ℕ) → n ≡ 0 + n
+pub from_zero : (n : ℕ) → n ≡ 0 + n
 from_zero n = omega arith
 
 low_below : (n : ℕ) → list_all (λ j. nat_lt j n) (below n) ≡ true

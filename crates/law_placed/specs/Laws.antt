@@ -91,3 +91,10 @@ abbrev pub PlacesGoByTheMap : Type 0
 PlacesGoByTheMap = (m : Places) (new : ℕ)
     → ((i j : ℕ) → slice_get m i ≡ Some (Some j) → number_at (new_order m new) (number_at (to_order m) i) ≡ j)
     × ((i : ℕ) → slice_get m i ≡ Some None → length (kept_places m) ≤ number_at (to_order m) i)
+
+-- Configurations that are accepted are accepted in the order between.
+abbrev pub OrdersAreAccepted : Type 0
+OrdersAreAccepted = (s : State) (m : Places) (c : Config) → are_places (iface_count s) (length c.interfaces) m ≡ true
+    → config_test (config_of s) ≡ Ok tt → config_test c ≡ Ok tt
+    → (config_test (in_order (old_order m) (config_of s)) ≡ Ok tt)
+    × (config_test (in_order (new_order m (length c.interfaces)) c) ≡ Ok tt)

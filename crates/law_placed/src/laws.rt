@@ -1,5 +1,5 @@
 //! The laws.
-ghost use Rattle.law_placed.specs.Laws.{AddressesGoAlong, FactsGoWithTheirLink, IdentityPlacesAreReload, NeighboursStayOrGo, PlacedAreConfigured, PlacedReloadIsUnder, PlacedReloadLeavesRest, PlacesAreApart, PlacesAreThere, PlacesGoByTheMap};
+ghost use Rattle.law_placed.specs.Laws.{AddressesGoAlong, FactsGoWithTheirLink, IdentityPlacesAreReload, NeighboursStayOrGo, OrdersAreAccepted, PlacedAreConfigured, PlacedReloadIsUnder, PlacedReloadLeavesRest, PlacesAreApart, PlacesAreThere, PlacesGoByTheMap};
 
 /// What a reload by places leaves is at rest.
 pub fn placed_reload_leaves_rest()
@@ -49,4 +49,9 @@ pub fn places_are_apart()
 /// By both moves together each old place goes where the map says, and those that it leaves out are past all that stay.
 pub fn places_go_by_the_map()
     ensures { PlacesGoByTheMap }
+{}
+
+/// Configurations that are accepted are accepted in the order between.
+pub fn orders_are_accepted()
+    ensures { OrdersAreAccepted }
 {}
