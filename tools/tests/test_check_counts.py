@@ -87,24 +87,24 @@ class Spoilt(unittest.TestCase):
     def test_a_meter_that_is_set_back_at_the_end(self):
         self.spoil(
             "pim_router/src/router.rt",
-            "    take_in(core, event, &mut probes.meter)\n",
-            "    let outcome = take_in(core, event, &mut probes.meter);\n    probes.begin();\n    outcome\n",
+            "        hand_over(outcome.emissions.into_vec(), emissions)?;\n",
+            "        hand_over(outcome.emissions.into_vec(), emissions)?;\n        self.probes.begin();\n",
         )
-        self.refused("a count begins anew in take_next", "take_next calls")
+        self.refused("a count begins anew in Router::take_lent", "Router::take_lent calls")
 
     def test_an_event_with_a_meter_of_its_own(self):
         self.spoil(
             "pim_router/src/router.rt",
-            "    take_in(core, event, &mut probes.meter)\n",
-            "    let mut outside = probes.outside();\n"
-            "    take_in(core, event, &mut outside.meter)\n",
+            "        let outcome = take_next(&mut self.core, event, &mut self.probes.meter)?;\n",
+            "        let mut outside = self.probes.outside();\n"
+            "        let outcome = take_next(&mut self.core, event, &mut outside.meter)?;\n",
         )
-        self.refused("a meter is made beside that of events in take_next", "take_next calls")
+        self.refused("a meter is made beside that of events in Router::take_lent", "Router::take_lent calls")
 
     def test_an_event_with_an_auditor_of_its_own(self):
         self.spoil(
             "pim_router/src/router.rt",
-            "    take_in(core, event, &mut probes.meter)\n",
+            "    take_in(core, event, meter)\n",
             "    take_in(core, event, &mut Probes::new().meter)\n",
         )
         self.refused("a meter is made beside that of events in take_next", "take_next calls")
@@ -198,7 +198,7 @@ class Spoilt(unittest.TestCase):
 
     def test_a_place_that_is_gone(self):
         self.spoil("pim_router/src/router.rt", "    core.cache.reset();\n", "")
-        self.refused("a count begins anew in take_next 1 times, and not 2", "take_next calls")
+        self.refused("a count begins anew in take_next 0 times, and not 1", "take_next calls")
 
 
 if __name__ == "__main__":

@@ -2,7 +2,7 @@
 use Rattle.std.{proofs.{Common.{◌≡◌, ℕ, Bool, List, [], ◌∷◌, ◌++◌, Option, Some, None, Result, Ok, Err, refl, sym, ap, subst, ◌∙◌}, lemmas.List.append_cancel_left}, specs.Prelude.{IfOk, IfSome, OnOk}}
 use Rattle.pim_ip.{specs.declared.{fault.Fault.Fault, refusal.Refusal.Refusal}}
 use Rattle.pim_types.{specs.declared.{config.Config.Config, event.Event.Event, outcome.{Emission.Emission, Outcome.Outcome, Verdict.Verdict}}}
-use Rattle.pim_model.{specs.{Cause.CopiesAreAsked, Limits.config_test, State.{State, opening}, Step.{Answered, outcome_of, step}}}
+use Rattle.pim_model.{specs.{Cause.CopiesAreAsked, Limits.config_test, State.{State, opening}, Step.{outcome_of, step}}}
 use Rattle.law_plane.{specs.Keeping.keep}
 use Rattle.law_reloaded.{specs.Reloading.reload}
 use Rattle.law_history.{specs.History.{Given, past_given, state_given}, proofs.{Asked.call_is_asked, Histories.calls_lead_on}}
