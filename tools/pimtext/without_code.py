@@ -66,6 +66,11 @@ def specs_of(crate: str) -> list[Path]:
     return [folder / f"{name}.antt" for name in PARTS[crate]] if crate in PARTS else sorted(folder.glob("*.antt"))
 
 
+def module_of(path: Path) -> str:
+    """The name of a file of definitions as a module: `Lab` of Lab.antt.in, too."""
+    return path.name.partition(".")[0]
+
+
 def bundle() -> str:
     """One name under which all definitions compute."""
     uses, names = [], []
@@ -77,7 +82,7 @@ def bundle() -> str:
                 names.append(other)
                 here.append(name if other == name else f"{name} as {other}")
             if here:
-                uses.append(f"use Rattle.{crate}.specs.{path.stem}.{{{', '.join(here)}}}")
+                uses.append(f"use Rattle.{crate}.specs.{module_of(path)}.{{{', '.join(here)}}}")
     return "\n".join(["-- One name under which all definitions compute.", "use Rattle.std.{specs.Prelude.⊤}", *uses, "",
                       "unfoldable pub machine : ⊤", "unfolding " + " ".join(names), "machine = tt", ""])
 
@@ -92,10 +97,10 @@ def write(path: Path, text: str) -> None:
 def write_crate(folder: Path, sources: dict[str, str], specs: Iterable[Path], proofs: dict[str, str]) -> None:
     """A crate of these sources, definitions and proofs, and of no other file."""
     wanted = {f"src/{name}": text for name, text in sources.items()}
-    wanted |= {f"specs/{path.name}": path.read_text(encoding="utf-8") for path in specs}
+    wanted |= {f"specs/{module_of(path)}.antt": path.read_text(encoding="utf-8") for path in specs}
     wanted |= {f"proofs/{name}.antt": text for name, text in proofs.items()}
     if "specs/Lib.antt" not in wanted:
-        wanted["specs/Lib.antt"] = "".join(f"pub mod {path.stem}\n" for path in specs)
+        wanted["specs/Lib.antt"] = "".join(f"pub mod {module_of(path)}\n" for path in specs)
     for part in ("src", "specs", "proofs"):
         for path in [path for path in (folder / part).rglob("*") if path.is_file()]:
             if str(path.relative_to(folder)) not in wanted:

@@ -308,6 +308,21 @@ class Kernels(unittest.TestCase):
             self.check("sleep 30", 1)
 
 
+class Scratch(unittest.TestCase):
+    """The definitions as a repository of their own."""
+
+    def test_each_module_of_definitions_is_a_file(self):
+        with tempfile.TemporaryDirectory() as room:
+            run.scratch_repository(Path(room), "cases")
+            roots = sorted(Path(room).glob("crates/*/specs/Lib.antt"))
+            self.assertIn("lab_runs", [path.parts[-3] for path in roots])
+            for path in roots:
+                modules = re.findall(r"^pub mod (.+)$", path.read_text(), re.M)
+                files = {each.stem for each in path.parent.glob("*.antt")} - {"Lib"}
+                with self.subTest(path.parts[-3]):
+                    self.assertEqual(files, set(modules))
+
+
 class Told(unittest.TestCase):
     """The whole tool, with a check that says what a test has it say."""
 
