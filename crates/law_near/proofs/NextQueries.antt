@@ -16,15 +16,15 @@ use Rattle.law_near.{specs.Queries.NextQueryStaysNear}
 
 -- ---- what leaves queriers alone
 
-to_me_asked : (s : State) (i : ℕ) (m : JoinPrune) → asked (to_me s i m) ≡ asked s
+pub to_me_asked : (s : State) (i : ℕ) (m : JoinPrune) → asked (to_me s i m) ≡ asked s
 unfolding to_me keys_taken asserts_after_joins
 to_me_asked s i m = refl
 
-hello_asked : (s : State) (i address : ℕ) (h : HelloValue) (w : ℕ) → asked (hello_received s i address h w) ≡ asked s
+pub hello_asked : (s : State) (i address : ℕ) (h : HelloValue) (w : ℕ) → asked (hello_received s i address h w) ≡ asked s
 unfolding hello_received hello_triggered neighbour_replaced neighbour_restarted
 hello_asked s i address h w = grind arith
 
-seen_asked : (s : State) (w i : ℕ) (m : JoinPrune) → asked (seen s w i m) ≡ asked s
+pub seen_asked : (s : State) (w i : ℕ) (m : JoinPrune) → asked (seen s w i m) ≡ asked s
 unfolding raise_join_timer lower_join_timer cancel_override_timer lower_override_timer
 seen_asked s w i m =
     kept_by_seen (λ t. asked t ≡ asked s) s w i m (λ t k end f. f) (λ t k f. f) (λ t k f. f) (λ t k f. f) refl
@@ -34,7 +34,7 @@ unfolding assert_at assert_in_no_info assert_as_winner assert_as_loser wins wins
     assert_forgotten
 at_asked s k theirs = grind arith
 
-assert_asked : (s : State) (i from : ℕ) (a : AssertMessage) → asked (assert_received s i from a).0 ≡ asked s
+pub assert_asked : (s : State) (i from : ℕ) (a : AssertMessage) → asked (assert_received s i from a).0 ≡ asked s
 unfolding assert_received
 assert_asked s i from a = grind (arith, at_asked)
 
@@ -54,11 +54,11 @@ joined_asked : (s : State) (g src iif : ℕ) → asked (source_joined s g src ii
 unfolding source_joined with_keepalive
 joined_asked s g src iif = grind arith
 
-data_asked : (s : State) (g src iif : ℕ) → asked (forwarded s g src iif).state ≡ asked s
+pub data_asked : (s : State) (g src iif : ℕ) → asked (forwarded s g src iif).state ≡ asked s
 unfolding forwarded
 data_asked s g src iif = grind (arith, chosen_asked, updated_asked, joined_asked, here_asked)
 
-register_asked : (s : State) (p : Packet) (g src : ℕ) (is_null : Bool) → asked (register_received s p g src is_null).state ≡ asked s
+pub register_asked : (s : State) (p : Packet) (g src : ℕ) (is_null : Bool) → asked (register_received s p g src is_null).state ≡ asked s
 unfolding register_received register_at_rp with_keepalive
 register_asked s p g src is_null = grind arith
 
@@ -66,27 +66,27 @@ request_asked : (i g : ℕ) (s : State) (a : Asked) → asked (query_asked i g s
 unfolding query_asked query_group lower_group query_sources lower_sources send_sources sources_sent
 request_asked i g s a = grind arith
 
-record_asked : (i : ℕ) (s : State) (r : Record) → asked (record_seen i s r).0 ≡ asked s
+pub record_asked : (i : ℕ) (s : State) (r : Record) → asked (record_seen i s r).0 ≡ asked s
 unfolding record_seen with_record with_members with_repeats_of_rows
 record_asked i s r =
     by_cond (λ (p : State × List Message). asked p.0 ≡ asked s) (is_querier s i) _ _
     (kept_in_turn (query_asked i r.group) (λ t. asked t ≡ asked s) (λ t a f. request_asked i r.group t a ∙ f) _ _ refl) refl
 
-report_asked : (s : State) (i : ℕ) (records : List Record) → asked (report_seen s i records).0 ≡ asked s
+pub report_asked : (s : State) (i : ℕ) (records : List Record) → asked (report_seen s i records).0 ≡ asked s
 unfolding report_seen
 report_asked s i records =
     kept_in_turn (record_seen i) (λ t. asked t ≡ asked s) (λ t r f. record_asked i t r ∙ f)
     (filter (λ r. not (is_skipped r)) records) s refl
 
-pending_asked : (s : State) (k : Key) (r : DownstreamRow) → asked (prune_pending_due s k r).0 ≡ asked s
+pub pending_asked : (s : State) (k : Key) (r : DownstreamRow) → asked (prune_pending_due s k r).0 ≡ asked s
 unfolding prune_pending_due
 pending_asked s k r = grind arith
 
-assert_due_asked : (s : State) (k : Key) (r : AssertRow) → asked (assert_due s k r).0 ≡ asked s
+pub assert_due_asked : (s : State) (k : Key) (r : AssertRow) → asked (assert_due s k r).0 ≡ asked s
 unfolding assert_due wins_again assert_forgotten
 assert_due_asked s k r = grind arith
 
-lowered_asked : (s : State) (i : ℕ) (q : QueryValue) → asked (lower_queried s i q) ≡ asked s
+pub lowered_asked : (s : State) (i : ℕ) (q : QueryValue) → asked (lower_queried s i q) ≡ asked s
 unfolding lower_queried lower_group lower_sources
 lowered_asked s i q = grind arith
 

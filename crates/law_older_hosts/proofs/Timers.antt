@@ -72,7 +72,7 @@ module _ (i g : ℕ) where
 
   -- ---- a report of another group
 
-  asked_groups : (j h : ℕ) (s : State) (asked : List ℕ) → (query_sources s j h asked).0.group_records ≡ s.group_records
+  pub asked_groups : (j h : ℕ) (s : State) (asked : List ℕ) → (query_sources s j h asked).0.group_records ≡ s.group_records
   unfolding query_sources send_sources sources_sent lower_sources
   asked_groups j h s asked = grind arith
 
@@ -80,7 +80,7 @@ module _ (i g : ℕ) where
   unfolding query_asked query_group
   asked_row j h off s a = grind (arith, lower_row, same_row, asked_groups)
 
-  seen_row : (j : ℕ) (s : State) (r : Record) → here j r.group ≡ false → row (record_seen j s r).0 ≡ row s
+  pub seen_row : (j : ℕ) (s : State) (r : Record) → here j r.group ≡ false → row (record_seen j s r).0 ≡ row s
   unfolding record_seen
   seen_row j s r off =
       let full : ℕ = s.present + group_membership_interval s j in

@@ -25,6 +25,7 @@ pub mod LastHop
 pub mod InTime
 pub mod OnLink
 pub mod History
+pub mod Answering
 pub mod Placed
 pub mod Plane
 pub mod Registered

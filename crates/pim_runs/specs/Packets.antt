@@ -384,6 +384,12 @@ allow_source =
     hex "46 c0 00 2c 00 00 00 00 01 02 37 ef 0a 00 02 07 e0 00 00 16 94 04 00 00"
     ++ hex "22 00 e9 f5 00 00 00 01 05 00 00 01 e1 01 01 01 0a 00 03 05"
 
+-- IS_EX({}) for G
+abbrev pub is_exclude : List ℕ
+is_exclude =
+    hex "46 c0 00 28 00 00 00 00 01 02 37 f3 0a 00 02 07 e0 00 00 16 94 04 00 00"
+    ++ hex "22 00 f9 fb 00 00 00 01 02 00 00 00 e1 01 01 01"
+
 -- IS_EX({10.0.3.5}) for G
 abbrev pub is_exclude_source : List ℕ
 is_exclude_source =

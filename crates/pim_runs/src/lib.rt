@@ -13,6 +13,7 @@ pub mod histories;
 pub mod in_time;
 pub mod joins;
 pub mod limits;
+pub mod members;
 pub mod membership;
 pub mod neighbours;
 pub mod reached;

@@ -1,0 +1,5 @@
+pub mod Done
+pub mod Queries
+pub mod Reports
+pub mod Reloads
+pub mod Members
