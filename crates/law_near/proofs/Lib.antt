@@ -3,6 +3,7 @@ pub mod Bounds
 pub mod Grouped
 pub mod Near
 pub mod NextQueries
+pub mod OwnAddresses
 pub mod Steps
 pub mod StillEnds
 pub mod WonAddresses

@@ -2,7 +2,7 @@
 ghost use Rattle.law_near.specs.Ends.{AssertsStayNear, HellosStayNear, RegistersStayNear};
 ghost use Rattle.law_near.specs.Kinds.{NeighboursStayKeyed, SourcesStayGrouped};
 ghost use Rattle.law_near.specs.Near.{LedStatesAreNear, NearStays};
-ghost use Rattle.law_near.specs.Own.{WonStayOwn};
+ghost use Rattle.law_near.specs.Own.{LedOwnAreOfInterfaces, WonStayOwn};
 ghost use Rattle.law_near.specs.Queries.{AppendedLeaveLed, DelaysLeaveLed, LedQueriesAreNear, NextQueryStaysNear, SameReloadLeavesLed};
 
 /// Every event leaves the next general query within the query interval.
@@ -28,6 +28,12 @@ pub fn asserts_stay_near()
 /// Each assert that the router won names the address of its interface, after any events and reloads.
 pub fn won_stay_own()
     ensures { WonStayOwn }
+{}
+
+/// Where no configuration has an own address of no interface, an address is the router's exactly where it is that of an
+/// interface, after any events and reloads.
+pub fn led_own_are_of_interfaces()
+    ensures { LedOwnAreOfInterfaces }
 {}
 
 /// What holds beside rest (`is_near`) every event, every reload and what a plane reports keep.
