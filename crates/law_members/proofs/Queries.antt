@@ -19,10 +19,6 @@ module _ (i : ℕ) where
   abbrev next_among : Table QuerierRow → Option ℕ
   next_among rows = next_in (row_at rows (iface_key i))
 
-  pub next_is : (s : State) → next_general s i ≡ next_among s.queriers
-  unfolding next_general
-  next_is s = refl
-
   pub same_next : (s t : State) → asked t ≡ asked s → next_general t i ≡ next_general s i
   unfolding next_general
   same_next s t e = ap (λ (a : Read). next_among a.queriers) e
