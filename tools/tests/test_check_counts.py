@@ -168,21 +168,27 @@ class Spoilt(unittest.TestCase):
         )
         self.refused("an event asks for what a user asks for", "Router::take_lent calls")
 
-    def test_a_plain_packet_that_reads_all_rows(self):
+    def test_a_packet_before_which_all_rows_are_read(self):
         self.spoil(
-            "pim_event/src/plain.rt",
-            "    let olist = ",
-            "    for (_, _) in world.store().downstream_rows() "
-            "{\n        for (_, _) in world.store().assert_rows() {}\n    }\n"
-            "    let olist = ",
+            "pim_event/src/event.rt",
+            "    match hear(",
+            "    for (_, _) in core.world.store().downstream_rows() {}\n    match hear(",
         )
-        self.refused("take_plain calls for store downstream_rows for store assert_rows")
+        self.refused("take_frame calls mfc for store downstream_rows hear")
 
-    def test_a_test_of_a_packet_that_reads_all_rows(self):
+    def test_a_call_of_a_trait_that_reads_all_rows(self):
         self.spoil(
-            "pim_intake/src/frame.rt",
-            "    judge_packet(world, iface, packet)\n",
-            "    for (_, _) in world.store().downstream_rows() {}\n    judge_packet(world, iface, packet)\n",
+            "pim_intake/src/plain.rt",
+            "        World::interfaces(self)\n",
+            "        for (_, _) in self.store().downstream_rows() {}\n        World::interfaces(self)\n",
+        )
+        self.refused("World::interfaces calls for store downstream_rows interfaces")
+
+    def test_a_test_of_a_unicast_that_reads_all_rows(self):
+        self.spoil(
+            "pim_intake/src/unicast.rt",
+            "    judge_packet(world, packet, meter)\n",
+            "    for (_, _) in world.store().downstream_rows() {}\n    judge_packet(world, packet, meter)\n",
         )
         self.refused("a test of an event reads")
 
