@@ -1,7 +1,7 @@
 //! The orders that a map of places gives.
 ghost use Rattle.std.specs.List.{list_all};
-ghost use Rattle.std.specs.Prelude.{◌≡◌, ◌≤◌, ◌++◌, IfOk, OnOk, filter, length, map, nat_lt};
-ghost use Rattle.law_placed.specs.Placing.{are_once, are_places, index_of, is_kept, is_left_out, is_new, kept_places, new_order, old_order, to_order};
+ghost use Rattle.std.specs.Prelude.{◌≡◌, ◌≤◌, ◌++◌, IfOk, filter, length, map, nat_lt};
+ghost use Rattle.law_placed.specs.Placing.{are_once, are_places, index_of, is_kept, is_left_out, is_new, kept_places, new_order, old_order};
 ghost use Rattle.pim_model.specs.Tables.{below};
 ghost use Rattle.pim_placed.specs.Ordered.{AreOrders};
 
