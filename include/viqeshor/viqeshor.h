@@ -65,7 +65,7 @@ extern "C" {
 /* The number of what a compiled program and a library have to agree on: the values, the calls and the numbers of this
  * header and of plane.h. Wherever one of them changes, this number changes. A program passes it to viq_new and
  * viq_restore, which refuse any other. */
-#define VIQ_ABI 7
+#define VIQ_ABI 8
 
 /* The library's number: VIQ_ABI as it was built with. */
 uint32_t viq_abi(void);
@@ -145,6 +145,7 @@ enum {
     VIQ_NOT_QUIET = 68,
     VIQ_DAMAGED = 69,
     VIQ_OWN_ADDRESSES = 70,
+    VIQ_PLACES_DONT_FIT = 73,
     VIQ_NOT_NEAR = 72,
 
     VIQ_IGNORED = 100, /* no answer: the reasons to ignore an event are the numbers above it */

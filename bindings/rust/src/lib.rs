@@ -42,7 +42,7 @@ pub use trees::{Hop, LanDelay, Link, Neighbour, Path, Querier, Querying, Rpf, Rp
 /// The most bytes that a packet has.
 pub const MOST_BYTES: usize = 1528;
 /// What this crate and the library have to agree on: `VIQ_ABI` of `viqeshor.h`.
-pub const ABI: u32 = 7;
+pub const ABI: u32 = 8;
 
 const DONE: u32 = 0;
 const MEMORY: u32 = 40;
@@ -370,6 +370,8 @@ numbered! {
         Damaged = 69,
         /// Own addresses that can't stand.
         OwnAddresses = 70,
+        /// A map of places that doesn't name each interface once.
+        PlacesDontFit = 73,
         /// A timer of the saved state ends later than it may, or a fact lies where none can.
         NotNear = 72,
     }

@@ -43,6 +43,7 @@ ghost use Rattle.law_scope.specs.Rest.{IsAtRest};
 ghost use Rattle.law_promises.specs.Bounded.{counted_beside_asserts};
 
 mod hosts;
+mod places;
 mod reload;
 mod saved;
 mod trees;

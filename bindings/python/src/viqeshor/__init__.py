@@ -93,7 +93,7 @@ Buffer: TypeAlias = bytes | bytearray | memoryview
 Interface: TypeAlias = str | IPv4Interface | tuple[Any, ...]
 
 # What this package and the library have to agree on: VIQ_ABI of viqeshor.h.
-ABI = 7
+ABI = 8
 NEVER, NO_INTERFACE, MOST_BYTES = 2**64 - 1, 2**32 - 1, 1528
 # The letters of the tables.
 TABLES = "NGSDAURF"
@@ -151,6 +151,7 @@ class Answer(enum.IntEnum):
     NOT_QUIET = 68
     DAMAGED = 69
     OWN_ADDRESSES = 70
+    PLACES_DONT_FIT = 73
     NOT_NEAR = 72
     OWN = 101
     NOT_FOR_ME = 102
