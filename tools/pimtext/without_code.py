@@ -18,8 +18,9 @@ WHOLE: dict[str, tuple[str, ...] | None] = {
 OF_KIT = ("byteorder",)
 # Files of definitions of other crates, each crate after those that it names.
 PARTS = {
-    "law_reloaded": ("Reloading",), "pim_net": ("Reloading",), "pim_session": ("Front", "Reloaded"),
-    "pim_guard": ("Guard",), "pim_runs": ("Transcript",),
+    "law_settled": ("Laws", "Ready"), "law_scope": ("Locality", "Rest", "Scopes"), "law_restored": ("Reload",),
+    "law_reloaded": ("Reloading",), "law_placed": ("Placing",), "pim_net": ("Reloading",),
+    "pim_session": ("Front", "Placed", "Reloaded"), "pim_guard": ("Guard",), "pim_runs": ("Transcript",),
 }
 # The crate with what a scenario's moves do.
 LAB_CRATE = "lab_runs"

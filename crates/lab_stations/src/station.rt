@@ -19,15 +19,18 @@ pub struct Reloaded {
     limit: u32,
     front: FrontText,
     times: ResponseTimes,
+    places: Series<Option<u32>>,
 }
 
 impl Reloaded {
-    /// What the lab keeps of another configuration with its links.
+    /// What the lab keeps of another configuration with its links, and of where the old interfaces go: nowhere else where
+    /// there are no places.
     pub fn new(
         alloc: Global,
         config: &Config,
         links: Series<Link>,
         front: FrontText,
+        places: Series<Option<u32>>,
     ) -> Result<Reloaded, AllocError> {
         let addresses = addresses_of(alloc, config)?;
         Ok(Reloaded {
@@ -36,6 +39,7 @@ impl Reloaded {
             limit: config.limit,
             front,
             times: times_of(config),
+            places,
         })
     }
 }
@@ -83,8 +87,8 @@ impl Station {
         })
     }
 
-    /// Puts the router's interfaces on other links, and its front under another configuration. The front forgets what it
-    /// heard on interfaces that are removed, or that get another setting.
+    /// Puts the router's interfaces on other links, and its front under another configuration. What the front heard goes
+    /// with its interface; what it heard on interfaces that are removed, or that get another setting, is forgotten.
     pub fn reload(&mut self, reloaded: Reloaded) -> Result<(), AllocError> {
         let Reloaded {
             links,
@@ -92,9 +96,15 @@ impl Station {
             limit,
             front,
             times,
+            places,
         } = reloaded;
         let count = u32::try_from(links.len()).map_err(|_| AllocError)?;
-        self.presence.resize(limit as usize, count)?;
+        if places.is_empty() {
+            self.presence.resize(limit as usize, count)?;
+        } else {
+            self.presence
+                .place(limit as usize, count, places.as_slice())?;
+        }
         set_hosts(&mut self.presence, count, front.older_hosts);
         self.version = front.query_version;
         self.guard = front.guard;

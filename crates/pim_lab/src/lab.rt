@@ -9,7 +9,7 @@ use igmp_older::Presence;
 use lab_stations::{
     Delivery, Frames, Lines, Names, OlderLine, Reloaded, RowLine, Station, Trouble,
 };
-use pim_net::{Net, NetLog, Node, Router, Unrestored, Wire};
+use pim_net::{Net, NetLog, Node, Renewal, Router, Unrestored, Wire};
 use pim_rows::Table;
 use pim_scenario::{ConfigText, RouterText, ScenarioMove};
 use pim_types::{Emission, Event, EventKind, Fault, Outcome, Refusal, Series, Verdict};
@@ -114,8 +114,14 @@ impl<W: Wire> Lab<W> {
             }
             ScenarioMove::Settle { draw } => self.settle(number, draw, lines),
             ScenarioMove::Restart { router } => self.restart(At { number, router }, lines),
-            ScenarioMove::Reload { router, draw, next } => {
-                self.reload(At { number, router }, draw, next, lines)
+            ScenarioMove::Reload {
+                router,
+                draw,
+                next,
+                places,
+            } => {
+                let (reloaded, renewal) = self.renewal_of(next, places)?;
+                self.reload(At { number, router }, draw, reloaded, renewal, lines)
             }
         }
     }
@@ -164,25 +170,34 @@ impl<W: Wire> Lab<W> {
         &mut self,
         at: At,
         draw: u32,
-        next: ConfigText,
+        reloaded: Reloaded,
+        renewal: Renewal,
         lines: &mut Lines,
     ) -> Result<(), Trouble>
         ensures { IfErr result (λ t. IsFault t) }
     {
-        let ConfigText {
-            config,
-            links,
-            front,
-        } = next;
-        let links = self.names.links(self.alloc, links)?;
-        let (reloaded, node) = reloaded_of(self.alloc, config, links, front)?;
-        let outcome = self.net.reload(at.router, draw, node)?;
+        let outcome = self.net.reload(at.router, draw, renewal)?;
         let is_done = outcome.answer.is_ok();
         self.print(at, outcome, lines)?;
         if is_done {
             self.keep(at.router, reloaded)?;
         }
         self.print_each(at, lines)
+    }
+
+    // What the lab keeps of another configuration, and what the network gets of it.
+    fn renewal_of(
+        &mut self,
+        next: ConfigText,
+        places: Series<Option<u32>>,
+    ) -> Result<(Reloaded, Renewal), AllocError> {
+        let ConfigText {
+            config,
+            links,
+            front,
+        } = next;
+        let links = self.names.links(self.alloc, links)?;
+        reloaded_of(self.alloc, config, links, front, places)
     }
 
     // Keeps what the lab knows of another configuration of a router.

@@ -7,6 +7,7 @@ from typing import TYPE_CHECKING, Any
 
 import viqeshor
 from viqeshor.lab import fed, printed
+from viqeshor.lab.scenario import places_of
 from viqeshor.rows import ends
 
 if TYPE_CHECKING:
@@ -40,7 +41,7 @@ def new_router(table: dict[str, Any], library: str | PathLike[str] | None = None
 def event_of(step: Step) -> fed.Event | None:
     """The event that a step was to its router, of which a `reload` is one too."""
     if step.did["do"] == "reload":
-        return fed.Event("reload", step.did.get("draw", 0), (step.did["config"],))
+        return fed.Event("reload", step.did.get("draw", 0), (step.did["config"], places_of(step.did)))
     return fed.event(step)
 
 
@@ -56,16 +57,18 @@ def take(router: viqeshor.Router, event: fed.Event, table: dict[str, Any]) -> vi
 def reload(router: viqeshor.Router, event: fed.Event, before: dict[str, Any]) -> viqeshor.Answer:
     """What a router answers to another configuration. Interfaces that are new, or where another setting is, hear older
     hosts as it says."""
-    (config,) = event.values
+    config, places = event.values
     lists = fed.interfaces(config), fed.ranges(config.get("rps", [])), fed.routes(config.get("routes", []))
     try:
-        router.reload(*lists, draw=event.draw, **fed.settings(config))
+        router.reload(*lists, places=places, draw=event.draw, **fed.settings(config))
     except viqeshor.Refused as refused:
         return refused.answer
     router.set_guard(fed.has_guard(config))
     was, hosts = (table.get("older_hosts", "none") for table in (before, config))
-    for iface in range(0 if hosts != was else len(before["iface"]), len(config["iface"])):
-        router.set_older_hosts(iface, hosts)
+    stay = range(len(before["iface"])) if places is None else places
+    for iface, _ in enumerate(config["iface"]):
+        if hosts != was or iface not in stay:
+            router.set_older_hosts(iface, hosts)
     for iface, _ in enumerate(config["iface"]):
         router.set_query_version(iface, config.get("query_version", 3))
     return viqeshor.Answer.DONE
@@ -131,7 +134,7 @@ class Twin:
     def take(self, event: fed.Event) -> None:
         answer, self.sent = take(self.router, event, self.table), self.router.packets()
         if event.name == "reload" and answer == viqeshor.Answer.DONE:
-            (self.table,) = event.values
+            self.table, _ = event.values
 
     def begin(self, count: int) -> None:
         """Begins at the last state that was saved, up to so many events."""
