@@ -21,7 +21,8 @@
  * - fact: an entry of the router's state, of a group or a source that is asked for or that sends, or of a neighbour: a
  *   membership, a Join, an Assert, a source that is kept alive. viq_settings limits how many there are.
  * - copy: a packet of data that the router forwards, as it leaves on an interface.
- * - interface: a number, from 0, in the order in which the interfaces were given to viq_new or viq_reload.
+ * - interface: a number, from 0, in the order in which the interfaces were given to viq_new, viq_reload or
+ *   viq_reload_places.
  *
  * Numbers are in the machine's byte order, addresses too: 10.0.0.1 is 0x0a000001. Packets are whole IPv4 packets, as on
  * the wire. examples/library of the repository has whole programs, LIBRARY.md says what the program has to do, and
@@ -278,6 +279,27 @@ VIQ_READ_ANSWER VIQ_NOT_NULL(2)
 uint32_t viq_reload(struct viq_router *router, const struct viq_settings *settings,
                     const struct viq_interface *interfaces, size_t interface_count, const struct viq_route *routes,
                     size_t route_count, const struct viq_range *ranges, size_t range_count, struct viq_draw draw);
+
+/* Stands for no place in a map of places. */
+#define VIQ_NO_PLACE UINT32_MAX
+
+/* Puts a router that works under another configuration whose interfaces may be left out, added or in another order.
+ * `places` has an item for each interface of the router, in the order of its configuration: the number of the interface
+ * of the other configuration that has its link, or VIQ_NO_PLACE. No number stands twice. Each interface with a place
+ * keeps what it has at its new number: it stays up or down, with its facts and their timers, what viq_older and
+ * viq_query_version set, and its groups in an older mode. One without a place goes down. One to which none goes is new,
+ * and down until viq_up. Where the address of an interface, or the length of its subnet, is another one, its neighbours
+ * go too. All else is as with viq_reload. What is to be sent then leaves on the old interface of its link: the `iface` of
+ * viq_take is a number of before.
+ *
+ * It answers as viq_reload does, and VIQ_PLACES_DONT_FIT where the configuration is accepted and the map doesn't fit: there
+ * are more items or fewer than the router has interfaces, a number stands twice, or no interface of the other
+ * configuration has it. Then nothing has changed. */
+VIQ_READ_ANSWER VIQ_NOT_NULL(2)
+uint32_t viq_reload_places(struct viq_router *router, const struct viq_settings *settings,
+                           const struct viq_interface *interfaces, size_t interface_count,
+                           const struct viq_route *routes, size_t route_count, const struct viq_range *ranges,
+                           size_t range_count, const uint32_t *places, size_t place_count, struct viq_draw draw);
 
 /* Frees the router and its memory. With NULL it does nothing. */
 void viq_end(struct viq_router *router);
@@ -778,8 +800,9 @@ VIQ_READ_ANSWER VIQ_NOT_NULL(1) VIQ_NOT_NULL(6)
 uint32_t viq_record(const struct viq_call *call, const uint8_t *packet, size_t length, uint8_t *room,
                     size_t room_length, size_t *size);
 
-/* Write the record of viq_routes, of viq_ranges, and of another configuration, in the same way, whatever the letter is.
- * A list that viq_routes, viq_ranges or viq_new refuses for its length is recorded as one that is refused alike. */
+/* Write the record of viq_routes, of viq_ranges, and of another configuration, without a map of places and by one, in the
+ * same way, whatever the letter is. A list that viq_routes, viq_ranges, viq_new or viq_reload_places refuses for its
+ * length is recorded as one that is refused alike. */
 VIQ_READ_ANSWER VIQ_NOT_NULL(1) VIQ_NOT_NULL(6)
 uint32_t viq_record_routes(const struct viq_call *call, const struct viq_route *routes, size_t count, uint8_t *room,
                            size_t room_length, size_t *size);
@@ -791,6 +814,12 @@ uint32_t viq_record_reload(const struct viq_call *call, const struct viq_setting
                            const struct viq_interface *interfaces, size_t interface_count,
                            const struct viq_route *routes, size_t route_count, const struct viq_range *ranges,
                            size_t range_count, uint8_t *room, size_t room_length, size_t *size);
+VIQ_READ_ANSWER VIQ_NOT_NULL(1) VIQ_NOT_NULL(2) VIQ_NOT_NULL(13)
+uint32_t viq_record_reload_places(const struct viq_call *call, const struct viq_settings *settings,
+                                  const struct viq_interface *interfaces, size_t interface_count,
+                                  const struct viq_route *routes, size_t route_count, const struct viq_range *ranges,
+                                  size_t range_count, const uint32_t *places, size_t place_count, uint8_t *room,
+                                  size_t room_length, size_t *size);
 
 /* The sum of the packets that are untaken, as viq_packets counts them: their CRC-32 (RFC 1952, section 8). So it is
  * asked for before they are taken. */

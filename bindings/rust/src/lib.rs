@@ -53,6 +53,7 @@ const OTHER_ABI: u32 = 53;
 const NO_SETTING: u32 = 54;
 const UNTAKEN: u32 = 55;
 const NEVER: u64 = u64::MAX;
+const NO_PLACE: u32 = u32::MAX;
 const NO_INTERFACE: u32 = u32::MAX;
 
 // ---- what is given
@@ -923,6 +924,19 @@ extern "C" {
         range_count: usize,
         draw: Draw,
     ) -> u32;
+    fn viq_reload_places(
+        router: *mut c_void,
+        settings: *const raw::Settings,
+        interfaces: *const raw::Interface,
+        interface_count: usize,
+        routes: *const raw::Route,
+        route_count: usize,
+        ranges: *const raw::Range,
+        range_count: usize,
+        places: *const u32,
+        place_count: usize,
+        draw: Draw,
+    ) -> u32;
     fn viq_save(router: *const c_void, room: *mut u8, room_length: usize, size: *mut usize) -> u32;
     fn viq_restore(router: *mut *mut c_void, abi: u32, bytes: *const u8, length: usize) -> u32;
     fn viq_end(router: *mut c_void);
@@ -961,6 +975,11 @@ extern "C" {
     fn viq_sum(router: *const c_void) -> u32;
     fn viq_probes(router: *const c_void) -> u64;
     fn viq_touched(router: *const c_void) -> u64;
+}
+
+/// Places as C takes them. No number that is close to that of no place is of an interface.
+pub(crate) fn given_places(places: &[Option<u32>]) -> Vec<u32> {
+    places.iter().map(|place| place.map_or(NO_PLACE, |number| number.min(NO_PLACE - 1))).collect()
 }
 
 fn ends(moment: u64) -> Option<u64> {
@@ -1062,6 +1081,46 @@ impl Router {
                 routes.len(),
                 ranges.as_ptr(),
                 ranges.len(),
+                Draw { bits: draw },
+            )
+        })
+    }
+
+    /// Puts the router under another configuration whose interfaces may be left out, added or in another order. `places`
+    /// has of each interface of the router, in the order of its configuration, the number of the one of the other
+    /// configuration that has its link, or `None`. An interface with a place keeps what it has at its new number, and
+    /// stays up or down; one without goes down; one to which none goes is new, and down. The neighbours of an interface
+    /// go whose address, or the length of whose subnet, is another one. All else is as with `reload`. What is to be sent
+    /// leaves on the old interface of its link: a `Target` then has a number of before. An `Err` that the configuration
+    /// is refused, or after it the map (`Refusal::PlacesDontFit`), changes nothing: a map fits that has as many items as the
+    /// router has interfaces, and no number twice or past the last interface.
+    pub fn reload_places(
+        &mut self,
+        settings: &Settings,
+        interfaces: &[Interface],
+        routes: &[Route],
+        ranges: &[Range],
+        places: &[Option<u32>],
+        draw: u32,
+    ) -> Result<(), Error> {
+        let addresses = settings.given_addresses();
+        let interfaces: Vec<_> = interfaces.iter().map(Interface::given).collect();
+        let routes: Vec<_> = routes.iter().map(Route::given).collect();
+        let ranges: Vec<_> = ranges.iter().map(Range::given).collect();
+        let places = given_places(places);
+        // SAFETY: the router is there and borrowed alone; each list is passed as its pointer and its length.
+        done(unsafe {
+            viq_reload_places(
+                self.at_mut(),
+                &settings.given(&addresses),
+                interfaces.as_ptr(),
+                interfaces.len(),
+                routes.as_ptr(),
+                routes.len(),
+                ranges.as_ptr(),
+                ranges.len(),
+                places.as_ptr(),
+                places.len(),
                 Draw { bits: draw },
             )
         })

@@ -22,6 +22,7 @@ ghost use Rattle.pim_c.specs.Told.{never};
 ghost use Rattle.pim_c.specs.Rows.{RowTold};
 ghost use Rattle.pim_c.specs.Called.{AnswersTold, CachedTold, GuardSet, GuardSetFrom, HostsSet, HostsSetFrom, SourceKept, SourceKeptFrom, Made, NameTold, OfferTold, OffloadTold, OlderRead, OlderReadFrom, OlderTold, PacketTaken, PacketTold, Read, ReadFrom, Refused, Restored, Saved, SavedFrom, Seen, SeenFrom, Stepped, SteppedFrom, VersionSet, VersionSetFrom, changed_in, cleared, copies_in, is_copy, lost, may_differ_in, new_shown, older_rows_in, packets_in, probes_in, refused_number, restored_shown, rows_in, sent_left, standing_in, touched_in};
 
+mod placed;
 mod recorded;
 mod reloaded;
 mod trees;

@@ -2,6 +2,7 @@ pub mod Leaving
 pub mod Behind
 pub mod Front
 pub mod Laws
+pub mod Placed
 pub mod Reloaded
 pub mod Session
 pub mod Untaken

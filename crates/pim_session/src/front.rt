@@ -6,6 +6,7 @@ ghost use Rattle.igmp_older.specs.Translation.{translation, Gives};
 ghost use Rattle.pim_model.specs.Sure.{needs_no_memory};
 ghost use Rattle.pim_session.specs.Front.{bytes_left, emission_left, hears_queries, version_on};
 
+mod placed;
 mod resized;
 
 use igmp_older::{

@@ -40,6 +40,7 @@ ghost use Rattle.pim_types.specs.Keys.{key_cmp};
 ghost use Rattle.pim_session.specs.Front.{emissions_left, front_after, given, hosts_set, interface_test, is_sure, older_rows, version_set};
 
 mod guarded;
+mod placed;
 mod reloaded;
 mod trees;
 

@@ -94,7 +94,7 @@ Interface: TypeAlias = str | IPv4Interface | tuple[Any, ...]
 
 # What this package and the library have to agree on: VIQ_ABI of viqeshor.h.
 ABI = 8
-NEVER, NO_INTERFACE, MOST_BYTES = 2**64 - 1, 2**32 - 1, 1528
+NEVER, NO_INTERFACE, NO_PLACE, MOST_BYTES = 2**64 - 1, 2**32 - 1, 2**32 - 1, 1528
 # The letters of the tables.
 TABLES = "NGSDAURF"
 # What an interface hears of hosts of older versions of IGMP.
@@ -178,7 +178,7 @@ class Answer(enum.IntEnum):
 
     @property
     def is_refused(self) -> bool:
-        return Answer.DONE < self < Answer.MEMORY or self == Answer.OWN_ADDRESSES
+        return Answer.DONE < self < Answer.MEMORY or self in (Answer.OWN_ADDRESSES, Answer.PLACES_DONT_FIT)
 
 
 class Error(Exception):
@@ -353,6 +353,7 @@ SOURCE: list[Any] = [c_uint32, c_uint32]
 CALLS: dict[str, tuple[list[Any], Any]] = {
     "end": ([], None),
     "reload": ([POINTER(Settings), *LIST, *LIST, *LIST, Draw], c_uint32),
+    "reload_places": ([POINTER(Settings), *LIST, *LIST, *LIST, *LIST, Draw], c_uint32),
     "save": ([POINTER(c_uint8), c_size_t, POINTER(c_size_t)], c_uint32),
     "advance": ([c_uint64, Draw], c_uint32),
     "frame": ([c_uint32, c_char_p, c_size_t, Draw], c_uint32),
@@ -395,6 +396,7 @@ RECORDS: dict[str, list[Any]] = {
     "record_routes": LIST,
     "record_ranges": LIST,
     "record_reload": [POINTER(Settings), *LIST, *LIST, *LIST],
+    "record_reload_places": [POINTER(Settings), *LIST, *LIST, *LIST, *LIST],
 }
 
 
@@ -519,6 +521,11 @@ def configuration(
     return Settings(*whole, bool(stays_on_shared_tree), *own), *given, *routes_of(routes), *ranges_of(ranges)
 
 
+def place_of(place: int | None) -> int:
+    """A place as C takes it."""
+    return NO_PLACE if place is None else min(number(place, 32, "a place"), NO_PLACE - 1)
+
+
 def bytes_of(packet: Buffer) -> bytes:
     return packet if isinstance(packet, bytes) else memoryview(packet).tobytes()
 
@@ -555,6 +562,7 @@ class Router:
         ranges: Iterable[tuple[str, str]] = (),
         routes: Iterable[tuple[Any, ...]] = (),
         *,
+        places: Iterable[int | None] | None = None,
         draw: int | None = None,
         **settings: Any,
     ) -> None:
@@ -562,10 +570,19 @@ class Router:
         numbers: those past the last one go down and are removed, those that are added are down. What leaves, a Hello
         where the address, the priority or the delays of an interface differ among others, is for `packets`. Rows
         that were read are dropped, and a data plane reads all its rows again. It is no event. Raises `Refused`, and
-        changes nothing, where a new router would be refused."""
+        changes nothing, where a new router would be refused.
+
+        With `places` interfaces keep what they have at other numbers: of each interface of the router, in the order of
+        its configuration, the number of the one that has its link, or None where it is left out, and goes down. One to
+        which none goes is new. What leaves then has the numbers of before. Such a map is refused (`PLACES_DONT_FIT`) where
+        it has more items or fewer, or a number twice or past the last interface."""
         bits = random.getrandbits(32) if draw is None else number(draw, 32, "a draw")
         values = configuration(interfaces, ranges, routes, **settings)
-        self._must(self._recorded("reload", bits, values, Draw(bits)), values)
+        if places is None:
+            self._must(self._recorded("reload", bits, values, Draw(bits)), values)
+        else:
+            placed = *values, *array(c_uint32, list(map(place_of, places)))
+            self._must(self._recorded("reload_places", bits, placed, Draw(bits)), values)
 
     @classmethod
     def restore(cls, saved: Buffer, *, library: str | os.PathLike[str] | None = None) -> Self:
