@@ -28,3 +28,7 @@ pub seven_fields : (o l a b c d f g h t o1 o2 o3 o4 o5 o6 o7 o8 r : List ℕ) �
 seven_fields o l a b c d f g h t o1 o2 o3 o4 o5 o6 o7 o8 r e1 e2 e3 e4 e5 e6 e7 e8 e9 =
     six_fields o l a b c d f (g ++ h) t o1 o2 o3 o4 o5 o6 o8 r e1 e2 e3 e4 e5 e6
     (e8 ∙ ap (λ (x : List ℕ). x ++ h) e7 ∙ append_assoc o6 g h) e9
+
+-- the same, where the last text is another's
+pub with_same : (r o b c : List ℕ) → r ≡ o ++ b → b ≡ c → r ≡ o ++ c
+with_same r o b c e same = e ∙ ap (λ (x : List ℕ). o ++ x) same

@@ -1,6 +1,10 @@
-use Rattle.pim_recorded.{proofs.Parts.seven_fields}
+use Rattle.std.{proofs.Common.ap}
+use Rattle.pim_saved.{specs.Text.settings_text}
+use Rattle.pim_recorded.{proofs.Parts.{seven_fields, with_same}}
 use Rattle.pim_recorded.proofs.writing.write_placed.Goals as goal
 
 pub returns-clause-ok : goal.returns-clause-ok
 returns-clause-ok c =
-    seven_fields _ _ _ _ _ _ _ _ _ _ _ _ _ _ _ _ _ _ _ c.in_ok-push.ensures.items c.in_ok-write.ensures.ok c.in_ok-write-2.ensures.ok c.in_ok-write_list.ensures.ok c.in_ok-write_list-2.ensures.ok c.in_ok-write_list-3.ensures.ok c.in_ok-write_list-4.ensures.ok c.in_ok-write_list-5.ensures.ok c.in_ok-write-3.ensures.ok
+    seven_fields _ _ _ _ _ _ _ _ _ _ _ _ _ _ _ _ _ _ _ c.in_ok-push.ensures.items c.in_ok-write.ensures.ok
+    (with_same _ _ _ _ c.in_ok-write-2.ensures.ok (ap settings_text c.settings_in.ensures))
+    c.in_ok-write_list.ensures.ok c.in_ok-write_list-2.ensures.ok c.in_ok-write_list-3.ensures.ok c.in_ok-write_list-4.ensures.ok c.in_ok-write_list-5.ensures.ok c.in_ok-write-3.ensures.ok
