@@ -6,7 +6,7 @@ use crate::older::Speech;
 use crate::outgoing::Outgoing;
 use crate::packet::{self, is_pim, HELLO};
 use crate::plane::Row;
-use crate::ports::{self, Port};
+use crate::ports::{self, Places, Port};
 use crate::recorder::{answer_of, Configuration, Place, Recorder};
 use crate::settings::{RpSettings, Settings};
 use log::{error, info};
@@ -245,29 +245,48 @@ impl Core {
         Ok(())
     }
 
-    /// The router goes on with another configuration and these routes. Refused, it stays as it was. It is no event.
-    pub fn reload(&mut self, settings: &Settings, given: &Given, routes: &[Route]) -> Result<Answer, Fatal> {
+    /// The router goes on with another configuration and these routes; where interfaces get other numbers, by their places.
+    /// What is to leave then has the numbers that they get, and nothing is to leave before. Refused, it stays as it was. It
+    /// is no event.
+    pub fn reload(
+        &mut self,
+        settings: &Settings,
+        given: &Given,
+        routes: &[Route],
+        places: Option<&Places>,
+    ) -> Result<Answer, Fatal> {
         self.next = None;
         let draw = self.draws.next_u32();
         let (configured, ranges) = (settings_of(settings, given), ranges_of(&settings.rps));
-        let interfaces = &given.interfaces;
-        let done = self.router.reload(&configured, interfaces, routes, &ranges, draw);
+        let (interfaces, numbers) = (&given.interfaces, places.map(Places::as_slice));
+        let done = match numbers {
+            None => self.router.reload(&configured, interfaces, routes, &ranges, draw),
+            Some(places) => self.router.reload_places(&configured, interfaces, routes, &ranges, places, draw),
+        };
         let before = self.sent.len();
         self.sent.take(&mut self.router);
         if let Some(recorder) = &mut self.recorder {
-            let configuration = Configuration { settings: &configured, interfaces, routes, ranges: &ranges };
+            let configuration =
+                Configuration { settings: &configured, interfaces, routes, ranges: &ranges, places: numbers };
             let answer = done.map_or_else(Error::number, |()| 0);
             let written = recorder.reload(self.sent.since(before), &configuration, draw, answer);
             self.was_recorded(written);
         }
         match done {
             Ok(()) => {
+                places.into_iter().for_each(|places| self.renumber(places));
                 self.told = told_of(settings, given);
                 Ok(Answer::Done)
             }
             Err(Error::Refused(refusal)) => Ok(Answer::Refused(refusal)),
             Err(error) => Err(Fatal::Router(error)),
         }
+    }
+
+    fn renumber(&mut self, places: &Places) {
+        self.sent.renumber(places);
+        let speech = std::mem::take(&mut self.speech);
+        self.speech = speech.into_iter().filter_map(|(iface, told)| Some((places.get(iface)?, told))).collect();
     }
 
     /// A number for an event.

@@ -153,7 +153,7 @@ fn an_interface_less_goes_down_and_one_more_is_taken() {
     let (daemon, fake, ..) = at_work();
     let one = TWO.replace("[[interface]]\nname = \"eth1\"\n", "");
     let next = resumed(&one, &same_machine(&fake), left_by(&daemon), Way::Whole);
-    assert!(next.ports[0].standing.is_up() && next.ports[1].is_removed && !next.ports[1].standing.is_up());
+    assert!(next.ports[0].standing.is_up() && next.ports.len() == 1 && next.core.link(1).is_none());
     let three = format!("{TWO}[[interface]]\nname = \"eth7\"\n");
     let next = resumed(&three, &same_machine(&fake), left_by(&daemon), Way::Whole);
     assert_eq!((next.counters.made_anew, next.counters.reloaded, next.ports.len()), (0, 1, 3));
