@@ -1,10 +1,8 @@
 //! Another configuration in the session's router, by a map of places.
-ghost use Rattle.std.specs.Prelude.{◌≡◌, ◌↔◌, [], Err, IfErr, IfOk, IfSome, IsOkUnless, IsTrue, None, Ok, OnErr, OnOk, Some, length, true};
+ghost use Rattle.std.specs.Prelude.{◌≡◌, ◌↔◌, [], Err, IfErr, IfOk, IfSome, IsOkUnless, IsTrue, None, Ok, OnErr, OnOk, Some};
 ghost use Rattle.pim_event.specs.Replacing.{NoneReplaced};
 ghost use Rattle.pim_ip.specs.declared.fault.Fault.{Fault};
-ghost use Rattle.law_placed.specs.Placing.{are_places, reload_by};
-ghost use Rattle.pim_model.specs.Limits.{config_test};
-ghost use Rattle.pim_model.specs.State.{iface_count};
+ghost use Rattle.law_placed.specs.Placing.{reload_by};
 ghost use Rattle.pim_reloader.specs.Listing.{ListsFacts};
 ghost use Rattle.law_history.specs.History.{Given};
 ghost use Rattle.pim_router.specs.Asked.{LeadsOn, places_test};
@@ -41,9 +39,7 @@ impl Session {
         places: &[Option<u32>],
     ) -> Result<Result<(), Refusal>, Stop>
         ensures accepted { IfSome self.old.router.standing (λ r. IfOk result (λ answer. OnOk answer
-            (config_test config.now ≡ Ok tt))) }
-        ensures fit { IfSome self.old.router.standing (λ r. IfOk result (λ answer. OnOk answer
-            (are_places (iface_count r.state) (length config.now.interfaces) places.now ≡ true))) }
+            (places_test r.state places.now config.now ≡ Ok tt))) }
         ensures state { IfSome self.old.router.standing (λ r. IfOk result (λ answer. OnOk answer
             (self.new.router.standing ≡ Some (beginning (reload_by r.state places.now config.now draw).0)))) }
         ensures sent { IfSome self.old.router.standing (λ r. IfOk result (λ answer. OnOk answer
@@ -125,6 +121,7 @@ fn follow(
 
 // Puts a router under another configuration by a map of places, and what stands before it. The result is what leaves. What
 // stands before the router is lost by a fault.
+#[tactic(auto, unfolding(pim_router::specs::Asked::places_test))]
 fn reload(
     alloc: Global,
     router: &mut Router,
@@ -133,9 +130,8 @@ fn reload(
     config: &Config,
     places: &[Option<u32>],
 ) -> Result<Result<Vec<Emission>, Refusal>, Fault>
-    ensures accepted { IfSome router.old.standing (λ r. IfOk result (λ answer. OnOk answer (config_test config.now ≡ Ok tt))) }
-    ensures fit { IfSome router.old.standing (λ r. IfOk result (λ answer. OnOk answer
-        (are_places (iface_count r.state) (length config.now.interfaces) places.now ≡ true))) }
+    ensures accepted { IfSome router.old.standing (λ r. IfOk result (λ answer. OnOk answer
+        (places_test r.state places.now config.now ≡ Ok tt))) }
     ensures state { IfSome router.old.standing (λ r. IfOk result (λ answer. OnOk answer
         (router.new.standing ≡ Some (beginning (reload_by r.state places.now config.now draw).0)))) }
     ensures sent { IfSome router.old.standing (λ r. IfOk result (λ answer. IfOk answer (λ sent.
