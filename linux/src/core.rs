@@ -274,7 +274,9 @@ impl Core {
         }
         match done {
             Ok(()) => {
-                places.into_iter().for_each(|places| self.renumber(places));
+                if let Some(places) = places {
+                    self.renumber(places);
+                }
                 self.told = told_of(settings, given);
                 Ok(Answer::Done)
             }

@@ -354,7 +354,7 @@ mod tests {
         reload.extend(words(&[2, 125, 100, 10, 0, 1, OWN.into(), 24, 7, 500, 2500, 0, 1, 0x0aff_0001, 0, 1]));
         reload.extend(words(&[&route[..], &[0, 1, 0xef00_0000, 8, OWN.into(), 0, sum_then]].concat()));
         let behind = reload.len() - 8;
-        let placed = [b"m", &reload[1..behind], &words(&[0, 1, 0, 0, 0])].concat();
+        let placed = [&b"m"[..], &reload[1..behind], &words(&[0, 1, 0, 0, 0])].concat();
         wanted.extend(summed(reload));
         wanted.extend(summed(placed));
         assert_eq!(std::fs::read(place.path(0)).unwrap(), wanted);
