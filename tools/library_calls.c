@@ -958,8 +958,7 @@ static void other_places(struct viq_router *router) {
     is("nothing leaves", viq_packets(router), 0);
     is("rows are dropped", viq_rows(router), 0);
     is("all may differ", viq_may_differ(router, 0x0a000306, 0xe1010102), true);
-    is("the one that was down is down", viq_link(router, 0, &link) && !link.is_up, true);
-    is("the one that was up is up", viq_link(router, 2, &link) && link.is_up, true);
+    is("they stay up", viq_link(router, 0, &link) && link.is_up && viq_link(router, 2, &link) && link.is_up, true);
     is("data comes there", frame(router, 2, data) == VIQ_DONE && viq_copies(router) == 1, true);
     is("and leaves", viq_take(router, &packet, room, sizeof room) && packet.kind == VIQ_COPY && packet.iface == 1, true);
     is("without the first", viq_reload_places(router, &usual, less, 2, then, COUNT(then), one, COUNT(one), without, 3, viq_draw(7)), VIQ_DONE);
