@@ -241,7 +241,7 @@ class Recordings(unittest.TestCase):
         path.write_bytes(data[:-1])
         cut = recording.read(path)
         self.assertEqual((cut.records, recording.read(path).rest), (whole[:-1], len(self.text_of(whole[-1])) - 1))
-        for given in (b"", data[:10], b"other" + data, data[:4] + struct.pack(">H", 5) + data[6:]):
+        for given in (b"", data[:10], b"other" + data, data[:4] + struct.pack(">H", 6) + data[6:]):
             path.write_bytes(given)
             self.assertRaises(recording.Unreadable, recording.read, path)
         path.write_bytes(data + b"?")

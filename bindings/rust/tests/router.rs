@@ -197,7 +197,10 @@ fn another_configuration_by_places() {
     let mut router = joined();
     let settings = Settings::default();
     let mut by = |interfaces: &[Interface], places: &[Option<u32>]| {
-        let routes: Vec<_> = routes().iter().map(|route| Route { iface: (interfaces.len() as u32).saturating_sub(1), ..*route }).collect();
+        let routes: Vec<_> = routes()
+            .iter()
+            .map(|route| Route { iface: (interfaces.len() as u32).saturating_sub(1), ..*route })
+            .collect();
         (router.reload_places(&settings, interfaces, &routes, &ranges(), places, 7), router.packet_count())
     };
     let refused = (Err(Error::Refused(Refusal::PlacesDontFit)), 0);

@@ -8,7 +8,7 @@ use log::error;
 use std::collections::BTreeMap;
 
 impl Daemon {
-    /// They are down by now, and were told without an address.
+    /// They are down by now.
     pub(super) fn forget_removed(&mut self) -> Result<(), Fatal> {
         let places = Places::of(&self.ports);
         if places.is_same() {
