@@ -1,8 +1,8 @@
 -- Rows where their interfaces go: what is found of them.
-use Rattle.std.{proofs.Common.{◌≡◌, ℕ, Bool, true, false, cond, List, [], ◌∷◌, ◌∙◌, Option, Some, None, refl, sym, ap}, specs.{List.AllByRecursion, Ordering.is_eq}}
+use Rattle.std.{proofs.Common.{◌≡◌, ℕ, Bool, true, false, cond, [], ◌∷◌, ◌∙◌, Option, Some, None, refl, sym, ap}, specs.{List.AllByRecursion, Ordering.is_eq}}
 use Rattle.pim_types.{specs.{declared.fact.Key.Key, Keys.{iface_in, same_key}}, proofs.Keys.{equal_keys, same_key_same}}
 use Rattle.pim_model.{specs.Tables.{Table, put, row_at}}
-use Rattle.law_settled.{specs.Ready.Rises, proofs.{ListLaws.each_more, RisingKeys.{IsBelow, Up, up_of_sorted}, RowLaws.{row_put, row_put_away}}}
+use Rattle.law_settled.{proofs.{ListLaws.each_more, RisingKeys.{IsBelow, Up, up_of_sorted}, RowLaws.{row_put, row_put_away}}}
 use Rattle.igmp_older.{specs.{Laws.{GoApart, NoRowElsewhere, RowsGoWithTheirLink}, Placed.{NewPlaces, new_place, on_place, placed_rows, put_at, put_placed}, declared.mode.PresentRow.PresentRow}}
 
 abbrev Rows : Type 0
