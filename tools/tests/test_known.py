@@ -194,7 +194,7 @@ class Reloads(unittest.TestCase):
         outgoing = [asked.outgoing(told[number], group, source) for number in (7, 8, 12)]
         self.assertEqual(outgoing, [{2}, {1}, {1}])
         self.assertEqual([sorted(told[number].up) for number in (7, 8)], [[0, 1, 2], [0, 1]])
-        self.assertEqual([str(told[number].port(1).address) for number in (7, 8)], ["10.0.0.2", "10.0.1.1"])
+        self.assertEqual([told[number].configured()[1].address for number in (7, 8)], ["10.0.0.2", "10.0.1.1"])
 
     def test_it_is_shown_drawn_and_put_on_a_page(self):
         path, draw, show = stored.DATA / "a_reload.toml", stored.tool("draw"), stored.tool("show")
