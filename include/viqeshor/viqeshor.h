@@ -146,6 +146,7 @@ enum {
     VIQ_NOT_QUIET = 68,
     VIQ_DAMAGED = 69,
     VIQ_OWN_ADDRESSES = 70,
+    VIQ_HOSTS_NOT_HELD = 71,
     VIQ_PLACES_DONT_FIT = 73,
     VIQ_NOT_NEAR = 72,
 
@@ -307,22 +308,21 @@ void viq_end(struct viq_router *router);
 /* ---- a state as bytes; SAVED.md describes them */
 
 /* Saves the router's state, which stays as it is: its configuration, its time, its routes and ranges, and all its facts
- * with the expiries of their timers. `size` gets how many bytes there are. As many of them as room_length allows are
- * written into `room`, and the rest of `room` is unchanged. So the call tells the size where room_length is 0; the size
- * is the same until the next event, viq_seen or viq_keep. It answers VIQ_DONE; VIQ_MEMORY, VIQ_FAILED or VIQ_NO_ROUTER,
- * where nothing is written.
+ * with the expiries of their timers, and the groups in an older mode. `size` gets how many bytes there are. As many of
+ * them as room_length allows are written into `room`, and the rest of `room` is unchanged. So the call tells the size
+ * where room_length is 0; the size is the same until the next event, viq_seen, viq_keep, viq_older or viq_reload. It
+ * answers VIQ_DONE; VIQ_MEMORY, VIQ_FAILED or VIQ_NO_ROUTER, where nothing is written.
  *
  * These aren't saved, and a program keeps what it needs of them: what the clock showed at time 0, the source of draws,
- * packets that are untaken, rows that were read, what viq_guard set, and what viq_older and viq_query_version set and
- * the groups in an older mode. */
+ * packets that are untaken, rows that were read, and what viq_guard, viq_older and viq_query_version set. */
 VIQ_READ_ANSWER VIQ_NOT_NULL(4)
 uint32_t viq_save(const struct viq_router *router, uint8_t *room, size_t room_length, size_t *size);
 
 /* Makes a router of saved bytes, which goes on from their state as the router that was saved: the same events and draws
- * bring the same answers and packets. It has nothing to send and no rows that were read, its guard is on, and it hears
- * no older version of IGMP. All that viq_save wrote is restored, by a library that writes the same version of the
+ * bring the same answers and packets, once viq_older and viq_query_version have set what they had. It has nothing to
+ * send and no rows that were read, and its guard is on. All that viq_save wrote is restored, by a library that writes the same version of the
  * format. Bytes may be anything: all others are refused that aren't of a state at rest with timers in their periods. The
- * second argument is VIQ_ABI. It answers VIQ_DONE, a refusal of 60 to 69 or 72, VIQ_MEMORY or VIQ_OTHER_ABI. It writes
+ * second argument is VIQ_ABI. It answers VIQ_DONE, a refusal of 60 to 69, 71 or 72, VIQ_MEMORY or VIQ_OTHER_ABI. It writes
  * what `router` points to as viq_new does. */
 VIQ_READ_ANSWER VIQ_NOT_NULL(1)
 uint32_t viq_restore(struct viq_router **router, uint32_t abi, const uint8_t *bytes, size_t length);
@@ -743,7 +743,8 @@ enum {
  * that time; with VIQ_OLDER_TWO no such report is heard (9.2). An interface that hears older hosts also elects its
  * querier by the queries of IGMPv2 routers.
  *
- * What the interface heard before is forgotten. It answers VIQ_DONE; VIQ_BAD_INTERFACE, VIQ_NO_SETTING or VIQ_MEMORY,
+ * What the interface heard before is forgotten; where it heard nobody it keeps what viq_restore brought of those that it
+ * is to hear. It answers VIQ_DONE; VIQ_BAD_INTERFACE, VIQ_NO_SETTING or VIQ_MEMORY,
  * where nothing has changed; VIQ_FAILED or VIQ_NO_ROUTER. */
 VIQ_READ_ANSWER
 uint32_t viq_older(struct viq_router *router, uint32_t iface, uint32_t hosts);

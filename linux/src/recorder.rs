@@ -50,9 +50,8 @@ pub struct Recorder {
     file: File,
     written: u64,
     waiting: Vec<u8>,
-    /// With so many the other file is begun: where no groups of older hosts would be lost, and else with more.
+    /// With so many the other file is begun.
     full: u64,
-    overfull: u64,
     /// When what waits is written, in ms.
     due: Option<u64>,
 }
@@ -123,7 +122,7 @@ impl Recorder {
         let number = 1 - place.newest();
         let (file, written) = Recorder::file(place, number, router, speech, has_guard)?;
         let (place, waiting) = (place.clone(), Vec::with_capacity(2 * ROOM));
-        let mut recorder = Recorder { place, number, file, written, waiting, full: 0, overfull: 0, due: None };
+        let mut recorder = Recorder { place, number, file, written, waiting, full: 0, due: None };
         recorder.set_sizes();
         Ok(recorder)
     }
@@ -160,8 +159,7 @@ impl Recorder {
     /// A state that is nearly as long as a file may be is followed by as many bytes of events.
     fn set_sizes(&mut self) {
         let most = self.place.size / 2;
-        self.overfull = most.max(2 * self.written);
-        self.full = self.overfull - self.overfull / 4;
+        self.full = most.max(2 * self.written);
     }
 
     pub fn place(&self) -> &Place {
@@ -261,9 +259,7 @@ impl Recorder {
             self.flush()?;
         }
         let size = self.written + self.waiting.len() as u64;
-        let is_full =
-            size >= self.full && (size >= self.overfull || router.older_rows().map_or(false, |rows| rows.is_empty()));
-        if is_full {
+        if size >= self.full {
             self.flush()?;
             self.number = 1 - self.number;
             (self.file, self.written) = Recorder::file(&self.place, self.number, router, speech, has_guard)?;

@@ -444,6 +444,29 @@ class Routers(unittest.TestCase):
         router.run_to(2000)
         self.assertEqual(router.rows("G"), [])
 
+    def test_older_hosts_are_saved(self):
+        router, group = self.router(), "239.1.1.1"
+        router.up(2)
+        router.set_older_hosts(2, "all")
+        without = router.save()
+        router.frame(2, hosts.older_join("10.0.2.6", group, version=1))
+        router.frame(2, hosts.older_join("10.0.2.7", group))
+        saved, known = router.save(), [(2, group, 1, 260000, 260000)]
+        self.assertEqual((router.older_rows(), without[:4], saved[:4]), (known, b"VQST", b"VIQF"))
+        for heard, rows, answer in (
+            ("all", known, Answer.OLD_VERSION),
+            ("v2", [(2, group, 2, None, 260000)], Answer.DONE),
+            ("none", [], Answer.OLD_VERSION),
+        ):
+            with Router.restore(saved) as other:
+                self.assertEqual((other.older_rows(), other.save()), (known, saved))
+                other.set_older_hosts(2, heard)
+                self.assertEqual(other.older_rows(), rows)
+                self.assertEqual(other.frame(2, hosts.older_leave("10.0.2.7", group)), answer)
+        with self.assertRaises(Refused) as caught:
+            Router.restore(saved[:-1])
+        self.assertEqual(caught.exception.answer, Answer.HOSTS_NOT_HELD)
+
     def test_queries_of_version_2(self):
         router = self.router()
         router.set_query_version(2, 2)

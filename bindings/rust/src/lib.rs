@@ -371,6 +371,8 @@ numbered! {
         Damaged = 69,
         /// Own addresses that can't stand.
         OwnAddresses = 70,
+        /// The saved groups of older hosts can't be read, or are none that the saved router can have.
+        HostsNotHeld = 71,
         /// A map of places that doesn't name each interface once.
         PlacesDontFit = 73,
         /// A timer of the saved state ends later than it may, or a fact lies where none can.
@@ -1127,8 +1129,8 @@ impl Router {
     }
 
     /// Makes a router that goes on from the state that `save` returned: the same events and draws bring the same answers
-    /// and packets. It has nothing to send, its guard is on, and it hears no older version of IGMP. Bytes that are no
-    /// saved state of a router are refused, whatever they are.
+    /// and packets, once `set_older_hosts` and `set_query_version` have set what they had. It has nothing to send, and its
+    /// guard is on. Bytes that are no saved state of a router are refused, whatever they are.
     pub fn restore(saved: &[u8]) -> Result<Router, Error> {
         let mut made = null_mut();
         // SAFETY: the bytes are passed as their pointer and their length, and what points to the router is only written.
@@ -1144,8 +1146,8 @@ impl Router {
     }
 
     /// The state of the router as bytes, of which `restore` makes a router that goes on from it. What isn't in them:
-    /// what the clock showed at timestamp 0, packets that are untaken, what `set_guard` set, and what `set_older_hosts`
-    /// and `set_query_version` set and the groups in an older mode.
+    /// what the clock showed at timestamp 0, packets that are untaken, and what `set_guard`, `set_older_hosts` and
+    /// `set_query_version` set.
     pub fn save(&self) -> Result<Vec<u8>, Error> {
         let size = self.save_into(&mut [])?;
         let mut saved = vec![0; size];
@@ -1355,8 +1357,9 @@ impl Router {
 
     // ---- older versions of IGMP
 
-    /// Sets which hosts of older versions an interface hears from then on, and forgets what it heard before. A new
-    /// router hears none of them, and refuses their messages by `Refusal::OldVersion`. It is no event.
+    /// Sets which hosts of older versions an interface hears from then on, and forgets what it heard before; where it
+    /// heard none it keeps what was restored of those that it is to hear. A new router hears none of them, and refuses
+    /// their messages by `Refusal::OldVersion`. It is no event.
     pub fn set_older_hosts(&mut self, iface: u32, hosts: OlderHosts) -> Result<(), Error> {
         // SAFETY: the router is there and borrowed alone.
         done(unsafe { viq_older(self.at_mut(), iface, hosts as u32) })

@@ -564,6 +564,12 @@ fn hosts_of_older_versions() {
     assert_eq!(router.older_rows(), Ok(vec![row]));
     let row = GroupRow { iface: 1, group, is_exclude: true, end: Some(260_000) };
     assert_eq!(router.rows_of(), Ok(vec![row]));
+    let saved = router.save().unwrap();
+    let mut other = Router::restore(&saved).unwrap();
+    assert_eq!(other.set_older_hosts(1, OlderHosts::VersionTwo), Ok(()));
+    assert_eq!((other.older_rows(), other.save()), (router.older_rows(), Ok(saved.clone())));
+    let cut = Router::restore(&saved[..saved.len() - 1]).map(|_| ());
+    assert_eq!(cut, Err(Error::Refused(Refusal::HostsNotHeld)));
     assert_eq!(router.set_older_hosts(1, OlderHosts::VersionTwo), Ok(()));
     assert_eq!(router.older_rows(), Ok(vec![]));
     assert_eq!(router.set_query_version(1, QueryVersion::Two), Ok(()));

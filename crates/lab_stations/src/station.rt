@@ -5,10 +5,12 @@ ghost use Rattle.lab_stations.specs.Queries.{bytes_heard, hears_queries, kind_he
 ghost use Rattle.lab_stations.specs.Stations.{nobody_behind, own_addresses};
 
 use crate::line::{GuardedLine, MoveLine, PacketLine, Way};
-use igmp_older::{OlderHosts, Presence, QueryVersion, ResponseTimes, cut_query, give_query};
+use igmp_older::{
+    OlderHosts, Presence, PresentRow, QueryVersion, ResponseTimes, cut_query, give_query,
+};
 use pim_guard::{stops_frame, stops_unicast};
 use pim_scenario::{FrontText, Link};
-use pim_types::{Addr, Config, Emission, Event, EventKind, IfaceId, Refusal, Series, Verdict};
+use pim_types::{Addr, Config, Emission, Event, EventKind, IfaceId, Key, Refusal, Series, Verdict};
 use std::alloc::{AllocError, Global};
 
 /// What the lab knows of another configuration.
@@ -111,6 +113,23 @@ impl Station {
         self.times = times;
         self.links = links;
         self.addresses = addresses;
+        Ok(())
+    }
+
+    /// Puts rows of older hosts that were saved into the router's front, as if it were new: it keeps what it hears of them.
+    pub fn resume(
+        &mut self,
+        alloc: Global,
+        limit: u32,
+        rows: &[(Key, PresentRow)],
+    ) -> Result<(), AllocError> {
+        self.presence.take_rows(alloc, limit as usize, rows)?;
+        let count = u32::try_from(self.links.len()).map_err(|_| AllocError)?;
+        for number in 0..count {
+            let iface = IfaceId { number };
+            let hosts = self.presence.hosts(iface);
+            self.presence.keep_heard(iface, hosts);
+        }
         Ok(())
     }
 

@@ -191,21 +191,6 @@ impl<W: Wire> Net<W> {
         }
     }
 
-    /// Saves a router, counted from 0, and puts one that is made of its bytes in its place: nothing is sent, and the net
-    /// is as it was, also after a fault. A router that is made of saved bytes shows the state that was saved, so the
-    /// contract says no more of this than that nothing changed. An unknown router is left alone. The only fault of a net
-    /// that works is want of memory.
-    pub fn restart(&mut self, router: usize) -> Result<(), Fault>
-        ensures same { self.new ≡ self.old }
-        ensures fault { IfSome self.old.network (λ n. IsOkUnless result Fault.Memory) }
-    {
-        if self.failed {
-            Err(Fault::Failed)
-        } else {
-            self.network.restart(router)
-        }
-    }
-
     /// Puts a router, counted from 0, under the configuration of a node: its interfaces are those of the node, by their
     /// numbers or by the map of places, and on the node's links. What the router sends by this leaves on the links that it
     /// had; it is the outcome, with no copies. An unknown router is refused as `BadMove`, a node that hasn't a link for

@@ -173,18 +173,6 @@ impl Network {
         )
     }
 
-    /// Puts a router that is made of the bytes of a router's state in its place. An unknown router is left alone. The
-    /// error is want of memory.
-    pub(crate) fn restart(&mut self, router: usize) -> Result<(), Fault>
-        ensures same { self.new ≡ self.old }
-        ensures fault { IfSome self.old (λ net. IsOkUnless result Fault.Memory) }
-    {
-        if router >= self.stations.len() {
-            return Ok(());
-        }
-        self.stations[router].restart(self.alloc)
-    }
-
     /// Puts a router into the state that these bytes say. The error is want of memory. After an error and where the bytes
     /// aren't taken the network is as it was.
     pub(crate) fn restore(

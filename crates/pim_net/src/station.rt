@@ -15,9 +15,7 @@ ghost use Rattle.pim_net.specs.declared.unrestored.Unrestored.{Unrestored};
 
 use crate::node::Node;
 use crate::unrestored::Unrestored;
-use pim_rested::saved_is_resumed;
 use pim_router::Router;
-use pim_saved::text_is_read;
 use pim_types::{Config, Emission, Event, Fault, IfaceId, Outcome, Refusal, Series};
 use std::alloc::{AllocError, Global};
 use std::marker::Model;
@@ -114,25 +112,6 @@ impl Station {
             emissions: Series::from_vec(emissions),
             copies: self.router.copies(),
         })
-    }
-
-    /// Puts a router that is made of the bytes of this one's state in its place. The error is want of memory.
-    pub(crate) fn restart(&mut self, alloc: Global) -> Result<(), Fault>
-        ensures same { self.new ≡ self.old }
-        ensures fault { IfSome self.old (λ s. IsOkUnless result Fault.Memory) }
-    {
-        // For the proof: what is saved is read again, and a router is made of it.
-        text_is_read();
-        saved_is_resumed();
-        let mut bytes = Vec::new(alloc);
-        self.router.save(&mut bytes)?;
-        match Router::restore(alloc, &bytes)? {
-            Ok(router) => {
-                self.router = router;
-                Ok(())
-            }
-            Err(_) => Err(Fault::Failed),
-        }
     }
 
     /// Puts the router into the state that these bytes say, if a router is made of them and it has a link for each of its

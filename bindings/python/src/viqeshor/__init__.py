@@ -151,6 +151,7 @@ class Answer(enum.IntEnum):
     NOT_QUIET = 68
     DAMAGED = 69
     OWN_ADDRESSES = 70
+    HOSTS_NOT_HELD = 71
     PLACES_DONT_FIT = 73
     NOT_NEAR = 72
     OWN = 101
@@ -587,8 +588,8 @@ class Router:
     @classmethod
     def restore(cls, saved: Buffer, *, library: str | os.PathLike[str] | None = None) -> Self:
         """A router that goes on from the state that `save` returned: the same events and draws bring the same answers
-        and packets. It has nothing to send, its guard is on, and it hears no older version of IGMP. Raises `Refused`
-        where the bytes are no saved state of a router, whatever they are."""
+        and packets, once `set_older_hosts` and `set_query_version` have set what they had. It has nothing to send, and
+        its guard is on. Raises `Refused` where the bytes are no saved state of a router, whatever they are."""
         router, made, data = cls.__new__(cls), c_void_p(), bytes_of(saved)
         router._begin(library)
         router._must(router._library.viq_restore(byref(made), ABI, data, len(data)))
@@ -675,8 +676,8 @@ class Router:
 
     def save(self) -> bytes:
         """The state of the router as bytes, of which `restore` makes a router that goes on from it. What isn't in them:
-        what the clock showed at timestamp 0, packets that `packets` didn't return, what `set_guard` set, and what
-        `set_older_hosts` and `set_query_version` set and the groups in an older mode."""
+        what the clock showed at timestamp 0, packets that `packets` didn't return, and what `set_guard`,
+        `set_older_hosts` and `set_query_version` set."""
         size = c_size_t()
         with self.lock:
             self._must(self._call("save", None, 0, byref(size)))
@@ -828,7 +829,8 @@ class Router:
 
     def set_older_hosts(self, iface: int, hosts: str) -> None:
         """Sets which hosts of older versions an interface hears from then on, a key of `OLDER_HOSTS`, and forgets what
-        it heard before. A new router hears none of them, and refuses their messages by OLD_VERSION. It is no event."""
+        it heard before; where it heard none it keeps what was restored of those that it is to hear. A new router hears
+        none of them, and refuses their messages by OLD_VERSION. It is no event."""
         if hosts not in OLDER_HOSTS:
             raise ValueError(f"none of {', '.join(OLDER_HOSTS)}: {hosts}")
         self._must(self._recorded("older", 0, (number(iface, 32, "an interface"), OLDER_HOSTS[hosts])))

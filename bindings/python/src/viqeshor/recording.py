@@ -234,7 +234,7 @@ class Recorder:
         self._size += len(record)
         if answer in (Answer.LOST, Answer.FAILED):
             self.end()
-        elif self._size >= self.most and (self._size >= 2 * self.most or not self.router.older_rows()):
+        elif self._size >= self.most:
             self._next_file()
 
     def _cut(self) -> None:

@@ -29,6 +29,16 @@ def new_router(table: dict[str, Any], library: str | PathLike[str] | None = None
         library=library,
         **fed.settings(table)
     )
+    return set_as(router, table)
+
+
+def restored(state: bytes, table: dict[str, Any]) -> viqeshor.Router:
+    """A router of a state that was saved under a scenario's configuration."""
+    return set_as(viqeshor.Router.restore(state), table)
+
+
+def set_as(router: viqeshor.Router, table: dict[str, Any]) -> viqeshor.Router:
+    """A router that is new or restored, with the guard and the older versions that a scenario's configuration says."""
     router.set_guard(fed.has_guard(table))
     for iface, _ in enumerate(table["iface"]):
         if "older_hosts" in table:
@@ -126,8 +136,7 @@ class Twin:
             for event in self.events[self.taken:at]:
                 self.take(event)
             self.taken = at
-            # A saved state has no groups in an older mode.
-            if at % APART == 0 and self.table.get("older_hosts", "none") == "none":
+            if at % APART == 0:
                 self.saved.setdefault(at, (self.router.save(), self.table))
         return self.router
 
@@ -141,8 +150,7 @@ class Twin:
         self.taken = max((at for at in self.saved if at <= count), default=0)
         if self.taken:
             state, self.table = self.saved[self.taken]
-            self.router = viqeshor.Router.restore(state)
-            self.router.set_guard(fed.has_guard(self.table))
+            self.router = restored(state, self.table)
         else:
             self.table = self.first
             self.router = new_router(self.table)
@@ -158,6 +166,4 @@ class Twin:
 
     def copy(self, count: int) -> viqeshor.Router:
         """Another router after so many events, which may take others from then on."""
-        router = viqeshor.Router.restore(self.after(count).save())
-        router.set_guard(fed.has_guard(self.table))
-        return router
+        return restored(self.after(count).save(), self.table)
