@@ -50,7 +50,8 @@ def sources(crate: str) -> Iterator[tuple[Path, str]]:
 
 def declared() -> set[str]:
     """The names of all types that are left."""
-    return {found[1] for crate in (*WHOLE, *TYPES) for _, text in sources(crate) for found in TYPE.finditer(text) if found[1]}
+    texts = (text for crate in (*WHOLE, *TYPES) for _, text in sources(crate))
+    return {found[1] for text in texts for found in TYPE.finditer(text) if found[1]}
 
 
 def types_of(text: str, known: set[str], only: tuple[str, ...] | None) -> str:

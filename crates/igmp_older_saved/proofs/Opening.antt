@@ -1,18 +1,16 @@
--- Bytes put one behind the other, and rows of which there are some.
-use Rattle.std.{proofs.Common.{◌≡◌, ◌∙◌, ℕ, List, [], ◌∷◌, ◌++◌, Option, Some, None, refl, ap}, specs.Prelude.IfSome}
+-- Rows of which there are some, or none.
+use Rattle.std.{proofs.{Common.{◌≡◌, ◌∙◌, ℕ, Bool, true, false, eqb, List, [], ◌∷◌, ◌++◌, length, refl, sym, arith}, lemmas.Bool.eqb-true}}
+use Rattle.pim_types.{specs.declared.fact.Key.Key}
 use Rattle.pim_model.{specs.Tables.Table}
-use Rattle.pim_saved.{specs.{Crc.crc32, Text.word_text}}
 use Rattle.igmp_older_saved.{specs.{declared.host.HostRow.HostRow, Text.{hosts_text, summed, text_with}}}
 
--- rows, a router's bytes, and their sum
-pub sum_after : {A : Type 0} (o : Option A) (bytes_of : A → List ℕ) (rows first second all : List ℕ)
-    → first ≡ rows → IfSome o (λ r. second ≡ first ++ bytes_of r) → all ≡ second ++ word_text (crc32 second)
-    → IfSome o (λ r. all ≡ summed (rows ++ bytes_of r))
-sum_after None bytes_of rows first second all one two three = tt
-sum_after (Some r) bytes_of rows first second all one two three =
-    three ∙ ap (λ (l : List ℕ). l ++ word_text (crc32 l)) (two ∙ ap (λ (l : List ℕ). l ++ bytes_of r) one)
-
-pub with_some : (hosts : Table HostRow) (bytes : List ℕ) → (hosts ≡ [] → ⊥) → text_with hosts bytes ≡ summed (hosts_text hosts ++ bytes)
+pub with_none : (hosts : Table HostRow) (bytes : List ℕ) (b : Bool) → b ≡ eqb (length hosts) 0 → b ≡ true → text_with hosts bytes ≡ bytes
 unfolding text_with
-with_some [] bytes none = absurd (none refl)
-with_some (e ∷ more) bytes none = refl
+with_none [] bytes b is none = refl
+with_none (e ∷ more) bytes b is none = absurd (omega (arith, eqb-true (length (e ∷ more)) 0 (sym is ∙ none)))
+
+pub with_some : (hosts : Table HostRow) (bytes : List ℕ) (b : Bool) → b ≡ eqb (length hosts) 0 → b ≡ false
+    → text_with hosts bytes ≡ summed (hosts_text hosts ++ bytes)
+unfolding text_with
+with_some [] bytes b is some = let no : true ≡ false = sym is ∙ some in absurd cc
+with_some (e ∷ more) bytes b is some = refl

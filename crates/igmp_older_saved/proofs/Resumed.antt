@@ -1,5 +1,5 @@
 -- What is saved of older hosts passes all tests, and is resumed.
-use Rattle.std.{proofs.{Common.{◌≡◌, ◌∙◌, ℕ, ◌-◌, Bool, true, false, cond, nat_le, nat_lt, ◌&&◌, List, [], ◌∷◌, ◌++◌, filter, map, Option, Some, None, unwrap_or, Result, Ok, refl, sym, ap, subst, append_assoc, arith}, lemmas.{Bool.Decides.nat_tests, List.append-nil}}, specs.{Cmp.{first_so, second_so}, List.{AllByRecursion, list_all, Sorted.IsStrictlySortedBy}, Ordering.ordering_reverse, declared.cmp.Ordering.Ordering}}
+use Rattle.std.{proofs.{Common.{◌≡◌, ◌∙◌, ℕ, ◌-◌, Bool, true, false, cond, nat_le, nat_lt, ◌&&◌, List, [], ◌∷◌, ◌++◌, filter, map, Option, Some, None, unwrap_or, Result, Ok, Err, IfOk, refl, sym, ap, subst, append_assoc, arith}, lemmas.{Bool.Decides.nat_tests, List.append-nil}}, specs.{Cmp.{first_so, second_so}, List.{AllByRecursion, list_all, Sorted.IsStrictlySortedBy}, Ordering.ordering_reverse, declared.cmp.Ordering.Ordering}}
 use Rattle.pim_types.{specs.{Keys.key_cmp, declared.fact.{GroupRecordRow.GroupRecordRow, Key.Key}}, proofs.Keys.key_cmp_total}
 use Rattle.pim_model.{specs.{State.State, Tables.{Table, keys_in, put}}}
 use Rattle.law_settled.{specs.Ready.Rises, proofs.{ListLaws.{each_passes, list_of_each}, RisingKeys.{IsBelow, Up, sorted_of_up, up_filter, up_of_sorted}}}
@@ -72,15 +72,21 @@ unfolding saved_hosts
 saved_rise groups now rows h =
     sorted_of_up _ (up_filter (is_held groups now) _ (up_of_sorted _ (map_rises (entry_told now) (λ e. refl) rows h)))
 
+-- the rows of a list that was gathered
+pub rise_if : {V E : Type 0} (r : Result V E) (items : V → Table HostRow) (groups : Table GroupRecordRow) (now : ℕ) (rows : Table PresentRow)
+    → Rises rows → IfOk r (λ v. items v ≡ saved_hosts groups now rows) → IfOk r (λ v. Rises (items v))
+rise_if (Err e) items groups now rows h is = tt
+rise_if (Ok v) items groups now rows h is = subst (λ (t : Table HostRow). Rises t) (sym is) (saved_rise groups now rows h)
+
+again : (groups : Table GroupRecordRow) (now : ℕ) (rows : Table PresentRow)
+    → saved_hosts groups now (map entry_resumed (saved_hosts groups now rows)) ≡ saved_hosts groups now rows
+unfolding saved_hosts
+again groups now rows =
+    each_again groups now (filter (is_held groups now) (map (entry_told now) rows)) (each_passes (is_held groups now) (map (entry_told now) rows))
+
 pub hosts_are_resumed : HostsAreResumed
 unfolding resumed_rows
 hosts_are_resumed groups now rows h =
     let saved : Table HostRow = saved_hosts groups now rows in
     let rise : Rises (map entry_resumed saved) = map_rises entry_resumed (λ e. refl) saved (saved_rise groups now rows h) in
     ap (saved_hosts groups now) (put_rising (map entry_resumed saved) rise) ∙ again groups now rows
-  where
-    again : (groups : Table GroupRecordRow) (now : ℕ) (rows : Table PresentRow)
-        → saved_hosts groups now (map entry_resumed (saved_hosts groups now rows)) ≡ saved_hosts groups now rows
-    unfolding saved_hosts
-    again groups now rows =
-        each_again groups now (filter (is_held groups now) (map (entry_told now) rows)) (each_passes (is_held groups now) (map (entry_told now) rows))

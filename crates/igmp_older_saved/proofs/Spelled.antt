@@ -145,16 +145,17 @@ pub none_fit : FitsTable FitsHost []
 unfolding keys_in IsStrictlySortedBy
 none_fit = ((omega arith, tt), tt)
 
+opens_by : (bytes : List ℕ) (p : Table HostRow × List ℕ) → AreBytes bytes → opened bytes ≡ Ok p → (b : Bool) → is_tagged bytes ≡ b
+    → Opens bytes p
+unfolding text_with
+opens_by bytes p are e false is =
+    subst (Opens bytes) (ok_is ([], bytes) p (sym (opened_plain bytes is) ∙ e)) (record { spelled = refl; fits = none_fit; are = are })
+opens_by bytes p are e true is =
+    let f = bind_ok (before_sum bytes) (λ front. hosts_at front) p (sym (opened_tagged bytes is) ∙ e) in
+    opens_tagged bytes f.0 p (fronted bytes f.0 are f.1) is f.2
+
 opens : (bytes : List ℕ) (p : Table HostRow × List ℕ) → AreBytes bytes → opened bytes ≡ Ok p → Opens bytes p
-opens bytes p are e = go (is_tagged bytes) refl
-  where
-    go : (b : Bool) → is_tagged bytes ≡ b → Opens bytes p
-    unfolding text_with
-    go false is =
-        subst (Opens bytes) (ok_is ([], bytes) p (sym (opened_plain bytes is) ∙ e)) (record { spelled = refl; fits = none_fit; are = are })
-    go true is =
-        let f = bind_ok (before_sum bytes) (λ front. hosts_at front) p (sym (opened_tagged bytes is) ∙ e) in
-        opens_tagged bytes f.0 p (fronted bytes f.0 are f.1) is f.2
+opens bytes p are e = opens_by bytes p are e (is_tagged bytes) refl
 
 abbrev made_held : Table HostRow → State → Held
 made_held hosts s = record { hosts = hosts; state = s }

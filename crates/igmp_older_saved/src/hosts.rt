@@ -8,6 +8,7 @@ use crate::host::HostRow;
 use igmp_older::{Presence, PresentRow, Querier, is_served};
 use pim_types::Key;
 use std::alloc::{AllocError, Global};
+use std::collections::btree_map::Iter;
 
 // Whether the key is of a group on an interface that older hosts may join.
 fn is_group_key(key: Key) -> bool
@@ -27,9 +28,29 @@ fn is_held<Q: Querier>(querier: &Q, key: Key, row: HostRow) -> bool
     querier.has_group_record(key.iface, key.group)
 }
 
+// The rows that are held, as they are saved.
+#[tactic(auto, unfolding(crate::specs::Hosts::saved_hosts))]
+fn held_of<Q: Querier>(
+    alloc: Global,
+    querier: &Q,
+    rows: Iter<'_, Key, PresentRow>,
+) -> Result<Vec<(Key, HostRow)>, AllocError>
+    ensures { IfOk result (λ hosts. hosts.items
+        ≡ saved_hosts (Q.group_records querier.now) (Q.present querier.now) rows.entry) }
+{
+    let moment = querier.present();
+    let mut hosts = Vec::new(alloc);
+    for (key, row) in rows {
+        let host = HostRow::told(moment, *row);
+        if is_held(querier, *key, host) {
+            hosts.push((*key, host))?;
+        }
+    }
+    Ok(hosts)
+}
+
 /// The rows of older hosts that are saved, by rising key: those of groups of which the querier has a record, with those
 /// of their timers that run. An `Err` is want of memory.
-#[tactic(auto, unfolding(crate::specs::Hosts::saved_hosts))]
 pub fn saved_hosts<Q: Querier>(
     alloc: Global,
     querier: &Q,
@@ -39,15 +60,8 @@ pub fn saved_hosts<Q: Querier>(
         ≡ saved_hosts (Q.group_records querier.now) (Q.present querier.now) presence.now.rows) }
     ensures rise { IfOk result (λ hosts. Rises hosts.items) }
 {
-    let moment = querier.present();
-    let mut hosts = Vec::new(alloc);
-    for (key, row) in presence.rows() {
-        let host = HostRow::told(moment, *row);
-        if is_held(querier, *key, host) {
-            hosts.push((*key, host))?;
-        }
-    }
-    Ok(hosts)
+    let rows = presence.rows();
+    held_of(alloc, querier, rows)
 }
 
 /// Whether a querier can have these rows of older hosts: each is of a group that these may join, and of which the querier

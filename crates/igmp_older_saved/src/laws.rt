@@ -2,25 +2,21 @@
 ghost use Rattle.igmp_older_saved.specs.Laws.{HeldReadingIsText, HeldTextIsRead, HostsAreResumed, SavedHostsAreHeld};
 
 /// Each state whose fields fit is read of its text, with its groups of older hosts.
-#[tactic(auto, using(crate::proofs::Spelled::held_text_is_read))]
 pub fn held_text_is_read()
     ensures { HeldTextIsRead }
 {}
 
 /// What is read has the bytes as its one text, and its fields fit.
-#[tactic(auto, using(crate::proofs::Spelled::held_reading_is_text))]
 pub fn held_reading_is_text()
     ensures { HeldReadingIsText }
 {}
 
 /// The groups of older hosts that are saved with a state pass all tests.
-#[tactic(auto, using(crate::proofs::Resumed::saved_hosts_are_held))]
 pub fn saved_hosts_are_held()
     ensures { SavedHostsAreHeld }
 {}
 
 /// The groups of older hosts that were saved are resumed.
-#[tactic(auto, using(crate::proofs::Resumed::hosts_are_resumed))]
 pub fn hosts_are_resumed()
     ensures { HostsAreResumed }
 {}

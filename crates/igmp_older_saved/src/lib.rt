@@ -16,4 +16,4 @@ pub use laws::{held_reading_is_text, held_text_is_read, hosts_are_resumed, saved
 pub use reading::open_saved;
 pub use refusal::HeldRefusal;
 pub use runs::{saved_host_has_bytes, saved_host_is_known};
-pub use writing::save_router;
+pub use writing::write_saved;

@@ -1,16 +1,12 @@
 //! Rows of older hosts written in front of a router's bytes.
-ghost use Rattle.std.specs.Prelude.{◌≡◌, ◌++◌, [], IfSome, IsOkUnless, OnErr, OnOk};
+ghost use Rattle.std.specs.Prelude.{◌≡◌, ◌++◌, [], OnErr, OnOk};
 ghost use Rattle.law_settled.specs.Ready.{Rises};
-ghost use Rattle.pim_ip.specs.declared.fault.Fault.{Fault};
-ghost use Rattle.pim_rested.specs.Resuming.{IsResumable};
-ghost use Rattle.pim_saved.specs.Fits.{FitsEntry, FitsList, FitsState, FitsTable};
-ghost use Rattle.pim_saved.specs.Text.{text};
+ghost use Rattle.pim_saved.specs.Fits.{FitsEntry, FitsList, FitsTable};
 ghost use Rattle.igmp_older_saved.specs.Text.{hosts_text, summed, text_with, FitsHost};
 
 use crate::host::HostRow;
-use pim_router::Router;
 use pim_saver::{Saved, write_rows, write_sum};
-use pim_types::{Fault, Key};
+use pim_types::Key;
 use std::alloc::AllocError;
 
 /// The first four bytes where rows of older hosts stand in front of a router's bytes: `VIQF`.
@@ -27,43 +23,34 @@ fn write_hosts(hosts: &[(Key, HostRow)], out: &mut Vec<u8>) -> Result<(), AllocE
     Ok(())
 }
 
-// The bytes of a router with rows of older hosts: these, the router's bytes, and the sum of all.
-fn with_hosts(router: &Router, hosts: &[(Key, HostRow)], out: &mut Vec<u8>) -> Result<(), Fault>
+// Puts rows of older hosts, a router's bytes, and the sum of both where nothing is.
+fn write_all(hosts: &[(Key, HostRow)], router: &[u8], out: &mut Vec<u8>) -> Result<(), AllocError>
     requires { out.old.items ≡ [] }
-    ensures saved { IfSome router.now.standing (λ r. OnOk result
-        (out.new.items ≡ summed (hosts_text hosts.now ++ text r.state))) }
-    ensures fitting { IfSome router.now.standing (λ r. OnOk result (FitsList (FitsEntry FitsHost) hosts.now × FitsState r.state)) }
-    ensures resumable { IfSome router.now.standing (λ r. IsResumable r.state) }
-    ensures fault { IfSome router.now.standing (λ r. IsOkUnless result Fault.Memory) }
+    ensures ok { OnOk result (out.new.items ≡ summed (hosts_text hosts.now ++ router.now)) }
+    ensures fitting { OnOk result (FitsList (FitsEntry FitsHost) hosts.now) }
 {
     write_hosts(hosts, out)?;
-    router.save(out)?;
-    write_sum(0, out)?;
-    Ok(())
+    out.extend_from_slice(router)?;
+    write_sum(0, out)
 }
 
-/// Adds the bytes of a router's state after those that are there, behind rows of older hosts, by rising key; without any
-/// they are those of `Router::save`. After a fault the bytes are as they were. The only fault of a router that hasn't
-/// failed is want of memory.
-#[tactic(auto, unfolding(crate::specs::Text::text_with))]
-pub fn save_router(
-    router: &Router,
+/// Adds a router's bytes after those that are there, behind rows of older hosts, which rise by their keys, and with the
+/// sum of all; without rows they are the router's alone. An `Err` is want of memory, and changes nothing.
+pub fn write_saved(
     hosts: &[(Key, HostRow)],
+    router: &[u8],
     out: &mut Vec<u8>,
-) -> Result<(), Fault>
-    requires { Rises hosts.now }
-    ensures saved { IfSome router.now.standing (λ r. OnOk result
-        (out.new.items ≡ out.old.items ++ text_with hosts.now (text r.state))) }
-    ensures fitting { IfSome router.now.standing (λ r. OnOk result (FitsTable FitsHost hosts.now × FitsState r.state)) }
-    ensures resumable { IfSome router.now.standing (λ r. IsResumable r.state) }
-    ensures silent { OnErr result (out.new.items ≡ out.old.items) }
-    ensures fault { IfSome router.now.standing (λ r. IsOkUnless result Fault.Memory) }
+) -> Result<(), AllocError>
+    ensures ok { OnOk result (out.new.items ≡ out.old.items ++ text_with hosts.now router.now) }
+    ensures fitting { Rises hosts.now → OnOk result (FitsTable FitsHost hosts.now) }
+    ensures err { OnErr result (out.new.items ≡ out.old.items) }
 {
     if hosts.is_empty() {
-        return router.save(out);
+        out.extend_from_slice(router)?;
+        return Ok(());
     }
     let mut bytes = Vec::new(*out.allocator());
-    with_hosts(router, hosts, &mut bytes)?;
+    write_all(hosts, router, &mut bytes)?;
     out.append(&mut bytes)?;
     Ok(())
 }

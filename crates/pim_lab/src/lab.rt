@@ -7,7 +7,7 @@ use crate::front::{Asked, run_behind};
 use crate::nodes::{reloaded_of, station_of};
 use crate::saved::Unresumed;
 use igmp_older::Presence;
-use igmp_older_saved::{HostRow, are_held, open_saved, resumed_rows, save_router, saved_hosts};
+use igmp_older_saved::{HostRow, are_held, open_saved, resumed_rows, saved_hosts, write_saved};
 use lab_stations::{
     Delivery, Frames, Lines, Names, OlderLine, Reloaded, RowLine, Station, Trouble,
 };
@@ -193,8 +193,11 @@ impl<W: Wire> Lab<W> {
         else {
             return Err(Fault::Failed);
         };
+        let mut own = Vec::new(self.alloc);
+        router.save(&mut own)?;
         let hosts = saved_hosts(self.alloc, &Asked { router }, &station.presence)?;
-        save_router(router, &hosts, out)
+        write_saved(&hosts, &own, out)?;
+        Ok(())
     }
 
     // Saves a router with its older hosts, and makes both anew of the bytes.

@@ -13,7 +13,7 @@ ghost use Rattle.pim_session.specs.Saved.{front_resumed, held_of, hosts_of};
 use crate::asked::Asked;
 use crate::behind::times_in;
 use crate::front::Front;
-use igmp_older_saved::{HeldRefusal, HostRow, are_held, open_saved, save_router};
+use igmp_older_saved::{HeldRefusal, HostRow, are_held, open_saved, write_saved};
 use pim_router::Router;
 use pim_saver::ReadFault;
 use pim_types::{Fault, Key};
@@ -48,8 +48,11 @@ pub(crate) fn save(router: &Router, front: &Option<Front>, out: &mut Vec<u8>) ->
     ensures fault { IfSome router.now.standing (λ r. IsOkUnless result Fault.Memory) }
 {
     let alloc = *out.allocator();
+    let mut own = Vec::new(alloc);
+    router.save(&mut own)?;
     let hosts = hosts_of(alloc, router, front)?;
-    save_router(router, &hosts, out)
+    write_saved(&hosts, &own, out)?;
+    Ok(())
 }
 
 // What stands before a router that was saved with these rows of older hosts.
