@@ -35,6 +35,7 @@ static void set_sum(uint8_t *bytes, size_t length, size_t place) {
 #define viq_ranges(router, ...) (viq_clear(router), viq_ranges(router, __VA_ARGS__))
 #define viq_seen(router, ...) (viq_clear(router), viq_seen(router, __VA_ARGS__))
 #define viq_reload(router, ...) (viq_clear(router), viq_reload(router, __VA_ARGS__))
+#define viq_reload_places(router, ...) (viq_clear(router), viq_reload_places(router, __VA_ARGS__))
 
 static const struct viq_settings usual = VIQ_USUAL_SETTINGS;
 static const struct viq_interface three[] = {{0x0a000002, 24, 1, 500, 2500}, {0x0a000101, 24, 1, 500, 2500}, {0x0a000201, 24, 1, 500, 2500}};
@@ -60,6 +61,11 @@ static uint32_t reloaded(struct viq_router *router, const struct viq_settings *s
     return viq_reload(router, settings, three, count, two, count ? COUNT(two) : 0, one, COUNT(one), viq_draw(7));
 }
 
+/* The same three interfaces, and one range, by a map of places. */
+static uint32_t placed(struct viq_router *router, const struct viq_settings *settings, const uint32_t *places, size_t count) {
+    return viq_reload_places(router, settings, three, COUNT(three), two, COUNT(two), one, COUNT(one), places, count, viq_draw(7));
+}
+
 /* ---- no router */
 
 static void without_a_router(void) {
@@ -78,6 +84,7 @@ static void without_a_router(void) {
     is("routes without a router", viq_routes(NULL, two, 2, viq_draw(0)), VIQ_NO_ROUTER);
     is("ranges without a router", viq_ranges(NULL, one, 1, viq_draw(0)), VIQ_NO_ROUTER);
     is("reload without a router", reloaded(NULL, &usual, 3), VIQ_NO_ROUTER);
+    is("reload by places without a router", placed(NULL, &usual, NULL, 0), VIQ_NO_ROUTER);
     is("packets without a router", viq_packets(NULL), 0);
     is("packet without a router", viq_take(NULL, &packet, room, 2), false);
     viq_clear(NULL);
@@ -920,6 +927,83 @@ static void reloads_with_older(void) {
     viq_end(router);
 }
 
+/* A map that doesn't fit changes nothing. */
+static void refused_places(struct viq_router *router) {
+    static const struct viq_settings bad = {0, 2, 125, 100, 10, false, NULL, 0};
+    static const uint32_t each[] = {0, 1, 2, VIQ_NO_PLACE}, twice[] = {0, 1, 1}, past[] = {0, 1, 3}, far[] = {0, 1, UINT32_MAX - 1};
+    static const size_t counts[] = {0, 2, 4, SIZE_MAX};
+    is("a row that was read", viq_read(router, 'N') == VIQ_DONE && viq_rows(router) == 2, true);
+    for (size_t at = 0; at < COUNT(counts); at++)
+        is("so many places", placed(router, &usual, each, counts[at]), VIQ_PLACES_DONT_FIT);
+    is("no places", placed(router, &usual, NULL, 0), VIQ_PLACES_DONT_FIT);
+    is("a place twice", placed(router, &usual, twice, 3), VIQ_PLACES_DONT_FIT);
+    is("a place past the last one", placed(router, &usual, past, 3), VIQ_PLACES_DONT_FIT);
+    is("a place far past it", placed(router, &usual, far, 3), VIQ_PLACES_DONT_FIT);
+    is("a bad limit goes first", placed(router, &bad, twice, 3), VIQ_BAD_LIMIT);
+    is("the rows stay", viq_rows(router), 2);
+    is("nothing may differ by it", viq_may_differ(router, 0x0a000306, 0xe1010102), false);
+}
+
+/* The interfaces the other way round, then without the one that was first. The stream goes on. */
+static void other_places(struct viq_router *router) {
+    struct viq_interface turned[] = {three[2], three[1], three[0]}, less[] = {three[1], three[0]};
+    struct viq_route there[] = {two[0], two[1]}, then[] = {two[0], two[1]};
+    static const uint32_t round[] = {2, 1, 0}, without[] = {VIQ_NO_PLACE, 0, 1}, none[] = {VIQ_NO_PLACE, VIQ_NO_PLACE};
+    struct viq_packet packet = {7, 7, 7, 7};
+    struct viq_link link;
+    uint8_t room[VIQ_MOST_BYTES];
+    there[0].iface = there[1].iface = 2;
+    then[0].iface = then[1].iface = 1;
+    is("the other way round", viq_reload_places(router, &usual, turned, 3, there, COUNT(there), one, COUNT(one), round, 3, viq_draw(7)), VIQ_DONE);
+    is("nothing leaves", viq_packets(router), 0);
+    is("rows are dropped", viq_rows(router), 0);
+    is("all may differ", viq_may_differ(router, 0x0a000306, 0xe1010102), true);
+    is("they stay up", viq_link(router, 0, &link) && link.is_up && viq_link(router, 2, &link) && link.is_up, true);
+    is("data comes there", frame(router, 2, data) == VIQ_DONE && viq_copies(router) == 1, true);
+    is("and leaves", viq_take(router, &packet, room, sizeof room) && packet.kind == VIQ_COPY && packet.iface == 1, true);
+    is("without the first", viq_reload_places(router, &usual, less, 2, then, COUNT(then), one, COUNT(one), without, 3, viq_draw(7)), VIQ_DONE);
+    is("nothing leaves then", viq_packets(router), 0);
+    is("there are two", viq_link(router, 2, &link), false);
+    is("data comes as before", frame(router, 1, data) == VIQ_DONE && viq_copies(router) == 1, true);
+    is("and leaves as before", viq_take(router, &packet, room, sizeof room) && packet.kind == VIQ_COPY && packet.iface == 0, true);
+    is("the neighbours are there", viq_read(router, 'N') == VIQ_DONE && viq_rows(router) == 2, true);
+    is("none is kept", viq_reload_places(router, &usual, less, 2, then, COUNT(then), one, COUNT(one), none, 2, viq_draw(7)), VIQ_DONE);
+    is("all facts are gone", viq_read(router, 'N') == VIQ_DONE && viq_rows(router) == 0, true);
+    is("and they are down", viq_link(router, 0, &link) && !link.is_up, true);
+}
+
+/* What was set of older hosts goes with the links. */
+static void places_with_older(void) {
+    struct viq_router *router = NULL;
+    struct viq_interface turned[] = {three[1], three[0]};
+    struct viq_older_row row = {.iface = 7};
+    static const uint32_t round[] = {1, 0, VIQ_NO_PLACE}, without[] = {0, VIQ_NO_PLACE};
+    is("new for older hosts and places", made(&router, &usual), VIQ_DONE);
+    moments_and_interfaces(router);
+    is("hosts of both versions", viq_older(router, 1, VIQ_OLDER_ALL), VIQ_DONE);
+    is("a report of IGMPv2", older(router, 1, 9, REPORT_TWO, THEIRS), VIQ_DONE);
+    is("turned", viq_reload_places(router, &usual, turned, 2, NULL, 0, one, 1, round, 3, viq_draw(7)), VIQ_DONE);
+    is("the group is there", viq_older_read(router) == VIQ_DONE && viq_older_rows(router) == 1, true);
+    is("on the other number", viq_older_row(router, 0, &row) && row.iface == 0, true);
+    is("which hears such hosts", older(router, 0, 9, REPORT_TWO, THEIRS), VIQ_DONE);
+    is("the other one doesn't", older(router, 1, 9, REPORT_TWO, THEIRS), VIQ_OLD_VERSION);
+    is("it is left out", viq_reload_places(router, &usual, &three[0], 1, NULL, 0, one, 1, (uint32_t[]){VIQ_NO_PLACE, 0}, 2, viq_draw(7)), VIQ_DONE);
+    is("and its group is gone", viq_older_read(router) == VIQ_DONE && viq_older_rows(router) == 0, true);
+    is("the place of the other", viq_reload_places(router, &usual, turned, 2, NULL, 0, one, 1, without, 1, viq_draw(7)), VIQ_DONE);
+    viq_end(router);
+}
+
+static void places(void) {
+    struct viq_router *router = NULL;
+    is("new for places", made(&router, &usual), VIQ_DONE);
+    moments_and_interfaces(router);
+    packets(router);
+    refused_places(router);
+    other_places(router);
+    viq_end(router);
+    places_with_older();
+}
+
 static void reloads(void) {
     struct viq_router *router = NULL;
     is("new for reloads", made(&router, &usual), VIQ_DONE);
@@ -930,6 +1014,7 @@ static void reloads(void) {
     other_configurations(router);
     viq_end(router);
     reloads_with_older();
+    places();
 }
 
 /* ---- saved and restored */
@@ -1151,7 +1236,22 @@ static void record_lists(void) {
     is("its beginning", memcmp(room, "c\0\0\0\x9\0\1\0\0\0\0\0\0\2\0\0\0\x7d", 18), 0);
 }
 
+static void record_places(void) {
+    static const uint32_t places[] = {VIQ_NO_PLACE, 0};
+    struct viq_call call = {.draw = 9, .answer = VIQ_FULL, .sum = 0x01020304};
+    uint8_t room[512];
+    size_t size = 7;
+    is("a reload by places", viq_record_reload_places(&call, &usual, three, COUNT(three), two, COUNT(two), one, COUNT(one), places, COUNT(places), room, sizeof room, &size), VIQ_DONE);
+    is("its size", size, 1 + 4 + 21 + 8 + 3 * 20 + 8 + 8 + 2 * 24 + 8 + 12 + 8 + 2 * 4 + 8 + 4);
+    is("its sum", is_summed(room, size), true);
+    is("its beginning", memcmp(room, "m\0\0\0\x9\0\1\0\0\0\0\0\0\2\0\0\0\x7d", 18), 0);
+    is("its places", memcmp(room + size - 28, "\0\0\0\0\0\0\0\2\xff\xff\xff\xff\0\0\0\0" END, 24), 0);
+    is("too many places", viq_record_reload_places(&call, &usual, three, 3, NULL, 0, NULL, 0, places, VIQ_MOST_INTERFACES + 1, room, sizeof room, &size), VIQ_DONE);
+    is("as none", memcmp(room + size - 20, "\0\0\0\0\0\0\0\0" END, 16), 0);
+}
+
 static void records(void) {
+    record_places();
     struct viq_router *router = NULL;
     is("the check value of CRC-32", (uint32_t)~crc_of(0xffffffff, (const uint8_t *)"123456789", 9), 0xcbf43926);
     is("the sum without a router", viq_sum(NULL), 0);

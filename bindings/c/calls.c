@@ -1,7 +1,7 @@
 /* The calls of viqeshor.h and plane.h, each by the one of its name of crates/pim_c. What C hands on is the pointer
  * alone, which the proved calls leave where it is: NULL is the handle that has no router. A list that is longer than
  * any that is accepted isn't read: one that is refused for the same reason, at the same place in the order of tests,
- * stands for it. */
+ * stands for it; an empty one for interfaces and for places. */
 #include "core.h"
 
 #define CORE(router) (&(struct viq_core){(void *)(router), (router) != NULL})
@@ -76,6 +76,21 @@ uint32_t viq_reload(struct viq_router *router, const struct viq_settings *settin
     struct range_list given_ranges = ranges_of(ranges, range_count);
     return viq_core_reload(CORE(router), draw.bits, &core_settings, addresses.at, addresses.count, interfaces,
                            interface_count, given_routes.at, given_routes.count, given_ranges.at, given_ranges.count);
+}
+
+uint32_t viq_reload_places(struct viq_router *router, const struct viq_settings *settings,
+                           const struct viq_interface *interfaces, size_t interface_count,
+                           const struct viq_route *routes, size_t route_count, const struct viq_range *ranges,
+                           size_t range_count, const uint32_t *places, size_t place_count, struct viq_draw draw) {
+    if (interface_count > VIQ_MOST_INTERFACES) interface_count = 0;
+    if (place_count > VIQ_MOST_INTERFACES) place_count = 0;
+    struct viq_core_settings core_settings = core_of(settings);
+    struct address_list addresses = addresses_of(settings);
+    struct route_list given_routes = routes_of(routes, route_count);
+    struct range_list given_ranges = ranges_of(ranges, range_count);
+    return viq_core_reload_places(CORE(router), draw.bits, &core_settings, addresses.at, addresses.count, interfaces,
+                                  interface_count, given_routes.at, given_routes.count, given_ranges.at,
+                                  given_ranges.count, places, place_count);
 }
 
 uint32_t viq_restore(struct viq_router **router, uint32_t abi, const uint8_t *bytes, size_t length) {
@@ -246,6 +261,22 @@ uint32_t viq_record_reload(const struct viq_call *call, const struct viq_setting
     return viq_core_record_reload(call, &core_settings, addresses.at, addresses.count, interfaces, interface_count,
                                   given_routes.at, given_routes.count, given_ranges.at, given_ranges.count, room,
                                   room_length, size);
+}
+
+uint32_t viq_record_reload_places(const struct viq_call *call, const struct viq_settings *settings,
+                                  const struct viq_interface *interfaces, size_t interface_count,
+                                  const struct viq_route *routes, size_t route_count, const struct viq_range *ranges,
+                                  size_t range_count, const uint32_t *places, size_t place_count, uint8_t *room,
+                                  size_t room_length, size_t *size) {
+    if (interface_count > VIQ_MOST_INTERFACES) interface_count = 0;
+    if (place_count > VIQ_MOST_INTERFACES) place_count = 0;
+    struct viq_core_settings core_settings = core_of(settings);
+    struct address_list addresses = addresses_of(settings);
+    struct route_list given_routes = routes_of(routes, route_count);
+    struct range_list given_ranges = ranges_of(ranges, range_count);
+    return viq_core_record_reload_places(call, &core_settings, addresses.at, addresses.count, interfaces,
+                                         interface_count, given_routes.at, given_routes.count, given_ranges.at,
+                                         given_ranges.count, places, place_count, room, room_length, size);
 }
 
 uint32_t viq_sum(const struct viq_router *router) { return viq_core_sum(CORE(router)); }

@@ -42,6 +42,11 @@ uint32_t viq_core_reload(struct viq_core *router, uint32_t draw, const struct vi
                          const uint32_t *addresses, size_t address_count, const struct viq_interface *interfaces,
                          size_t interface_count, const struct viq_route *routes, size_t route_count,
                          const struct viq_range *ranges, size_t range_count);
+uint32_t viq_core_reload_places(struct viq_core *router, uint32_t draw, const struct viq_core_settings *settings,
+                                const uint32_t *addresses, size_t address_count,
+                                const struct viq_interface *interfaces, size_t interface_count,
+                                const struct viq_route *routes, size_t route_count, const struct viq_range *ranges,
+                                size_t range_count, const uint32_t *places, size_t place_count);
 uint32_t viq_core_restore(struct viq_core *router, const uint8_t *bytes, size_t length);
 uint32_t viq_core_save(struct viq_core *router, uint8_t *room, size_t room_length, size_t *size);
 void viq_core_end(struct viq_core *router);
@@ -88,6 +93,12 @@ uint32_t viq_core_record_reload(const struct viq_call *call, const struct viq_co
                                 const struct viq_interface *interfaces, size_t interface_count,
                                 const struct viq_route *routes, size_t route_count, const struct viq_range *ranges,
                                 size_t range_count, uint8_t *room, size_t room_length, size_t *size);
+uint32_t viq_core_record_reload_places(const struct viq_call *call, const struct viq_core_settings *settings,
+                                       const uint32_t *addresses, size_t address_count,
+                                       const struct viq_interface *interfaces, size_t interface_count,
+                                       const struct viq_route *routes, size_t route_count,
+                                       const struct viq_range *ranges, size_t range_count, const uint32_t *places,
+                                       size_t place_count, uint8_t *room, size_t room_length, size_t *size);
 uint32_t viq_core_sum(struct viq_core *router);
 uint64_t viq_core_probes(struct viq_core *router);
 uint64_t viq_core_touched(struct viq_core *router);

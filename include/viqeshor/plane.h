@@ -45,8 +45,8 @@
  *    fact (is_known is false) where viq_may_differ answers true, or all such rows, and reads one when a packet comes.
  *    (Neglected: as in a plane that lags, for as long as the source sends.)
  *
- *    viq_reload counts as an event for duties 1, 5 and 6. Interfaces keep their numbers: a row of the new router may
- *    name one that was added, and none that was removed.
+ *    viq_reload and viq_reload_places count as an event for duties 1, 5 and 6. A row that is read then names interfaces
+ *    by the numbers of the other configuration, and none that was removed.
  *
  *    Before viq_save the plane reports its notes, and lets the router advance to the present, as duty 5 says. Beside a
  *    router that viq_restore made it has no rows and no notes: no packet goes by a row that it had before until

@@ -21,7 +21,8 @@
  * - fact: an entry of the router's state, of a group or a source that is asked for or that sends, or of a neighbour: a
  *   membership, a Join, an Assert, a source that is kept alive. viq_settings limits how many there are.
  * - copy: a packet of data that the router forwards, as it leaves on an interface.
- * - interface: a number, from 0, in the order in which the interfaces were given to viq_new or viq_reload.
+ * - interface: a number, from 0, in the order in which the interfaces were given to viq_new, viq_reload or
+ *   viq_reload_places.
  *
  * Numbers are in the machine's byte order, addresses too: 10.0.0.1 is 0x0a000001. Packets are whole IPv4 packets, as on
  * the wire. examples/library of the repository has whole programs, LIBRARY.md says what the program has to do, and
@@ -65,7 +66,7 @@ extern "C" {
 /* The number of what a compiled program and a library have to agree on: the values, the calls and the numbers of this
  * header and of plane.h. Wherever one of them changes, this number changes. A program passes it to viq_new and
  * viq_restore, which refuse any other. */
-#define VIQ_ABI 7
+#define VIQ_ABI 8
 
 /* The library's number: VIQ_ABI as it was built with. */
 uint32_t viq_abi(void);
@@ -145,6 +146,8 @@ enum {
     VIQ_NOT_QUIET = 68,
     VIQ_DAMAGED = 69,
     VIQ_OWN_ADDRESSES = 70,
+    VIQ_HOSTS_NOT_HELD = 71,
+    VIQ_PLACES_DONT_FIT = 73,
     VIQ_NOT_NEAR = 72,
 
     VIQ_IGNORED = 100, /* no answer: the reasons to ignore an event are the numbers above it */
@@ -278,28 +281,48 @@ uint32_t viq_reload(struct viq_router *router, const struct viq_settings *settin
                     const struct viq_interface *interfaces, size_t interface_count, const struct viq_route *routes,
                     size_t route_count, const struct viq_range *ranges, size_t range_count, struct viq_draw draw);
 
+/* Stands for no place in a map of places. */
+#define VIQ_NO_PLACE UINT32_MAX
+
+/* Puts a router that works under another configuration whose interfaces may be left out, added or in another order.
+ * `places` has an item for each interface of the router, in the order of its configuration: the number of the interface
+ * of the other configuration that has its link, or VIQ_NO_PLACE. No number stands twice. Each interface with a place
+ * keeps what it has at its new number: it stays up or down, with its facts and their timers, what viq_older and
+ * viq_query_version set, and its groups in an older mode. One without a place goes down. One to which none goes is new,
+ * and down until viq_up. Where the address of an interface, or the length of its subnet, is another one, its neighbours
+ * go too. All else is as with viq_reload. What is to be sent then leaves on the old interface of its link: the `iface` of
+ * viq_take is a number of before.
+ *
+ * It answers as viq_reload does, and VIQ_PLACES_DONT_FIT where the configuration is accepted and the map doesn't fit: there
+ * are more items or fewer than the router has interfaces, a number stands twice, or no interface of the other
+ * configuration has it. Then nothing has changed. */
+VIQ_READ_ANSWER VIQ_NOT_NULL(2)
+uint32_t viq_reload_places(struct viq_router *router, const struct viq_settings *settings,
+                           const struct viq_interface *interfaces, size_t interface_count,
+                           const struct viq_route *routes, size_t route_count, const struct viq_range *ranges,
+                           size_t range_count, const uint32_t *places, size_t place_count, struct viq_draw draw);
+
 /* Frees the router and its memory. With NULL it does nothing. */
 void viq_end(struct viq_router *router);
 
 /* ---- a state as bytes; SAVED.md describes them */
 
 /* Saves the router's state, which stays as it is: its configuration, its time, its routes and ranges, and all its facts
- * with the expiries of their timers. `size` gets how many bytes there are. As many of them as room_length allows are
- * written into `room`, and the rest of `room` is unchanged. So the call tells the size where room_length is 0; the size
- * is the same until the next event, viq_seen or viq_keep. It answers VIQ_DONE; VIQ_MEMORY, VIQ_FAILED or VIQ_NO_ROUTER,
- * where nothing is written.
+ * with the expiries of their timers, and the groups in an older mode. `size` gets how many bytes there are. As many of
+ * them as room_length allows are written into `room`, and the rest of `room` is unchanged. So the call tells the size
+ * where room_length is 0; the size is the same until the next event, viq_seen, viq_keep, viq_older or viq_reload. It
+ * answers VIQ_DONE; VIQ_MEMORY, VIQ_FAILED or VIQ_NO_ROUTER, where nothing is written.
  *
  * These aren't saved, and a program keeps what it needs of them: what the clock showed at time 0, the source of draws,
- * packets that are untaken, rows that were read, what viq_guard set, and what viq_older and viq_query_version set and
- * the groups in an older mode. */
+ * packets that are untaken, rows that were read, and what viq_guard, viq_older and viq_query_version set. */
 VIQ_READ_ANSWER VIQ_NOT_NULL(4)
 uint32_t viq_save(const struct viq_router *router, uint8_t *room, size_t room_length, size_t *size);
 
 /* Makes a router of saved bytes, which goes on from their state as the router that was saved: the same events and draws
- * bring the same answers and packets. It has nothing to send and no rows that were read, its guard is on, and it hears
- * no older version of IGMP. All that viq_save wrote is restored, by a library that writes the same version of the
+ * bring the same answers and packets, once viq_older and viq_query_version have set what they had. It has nothing to
+ * send and no rows that were read, and its guard is on. All that viq_save wrote is restored, by a library that writes the same version of the
  * format. Bytes may be anything: all others are refused that aren't of a state at rest with timers in their periods. The
- * second argument is VIQ_ABI. It answers VIQ_DONE, a refusal of 60 to 69 or 72, VIQ_MEMORY or VIQ_OTHER_ABI. It writes
+ * second argument is VIQ_ABI. It answers VIQ_DONE, a refusal of 60 to 69, 71 or 72, VIQ_MEMORY or VIQ_OTHER_ABI. It writes
  * what `router` points to as viq_new does. */
 VIQ_READ_ANSWER VIQ_NOT_NULL(1)
 uint32_t viq_restore(struct viq_router **router, uint32_t abi, const uint8_t *bytes, size_t length);
@@ -720,7 +743,8 @@ enum {
  * that time; with VIQ_OLDER_TWO no such report is heard (9.2). An interface that hears older hosts also elects its
  * querier by the queries of IGMPv2 routers.
  *
- * What the interface heard before is forgotten. It answers VIQ_DONE; VIQ_BAD_INTERFACE, VIQ_NO_SETTING or VIQ_MEMORY,
+ * What the interface heard before is forgotten; where it heard nobody it keeps what viq_restore brought of those that it
+ * is to hear. It answers VIQ_DONE; VIQ_BAD_INTERFACE, VIQ_NO_SETTING or VIQ_MEMORY,
  * where nothing has changed; VIQ_FAILED or VIQ_NO_ROUTER. */
 VIQ_READ_ANSWER
 uint32_t viq_older(struct viq_router *router, uint32_t iface, uint32_t hosts);
@@ -777,8 +801,9 @@ VIQ_READ_ANSWER VIQ_NOT_NULL(1) VIQ_NOT_NULL(6)
 uint32_t viq_record(const struct viq_call *call, const uint8_t *packet, size_t length, uint8_t *room,
                     size_t room_length, size_t *size);
 
-/* Write the record of viq_routes, of viq_ranges, and of another configuration, in the same way, whatever the letter is.
- * A list that viq_routes, viq_ranges or viq_new refuses for its length is recorded as one that is refused alike. */
+/* Write the record of viq_routes, of viq_ranges, and of another configuration, without a map of places and by one, in the
+ * same way, whatever the letter is. A list that viq_routes, viq_ranges, viq_new or viq_reload_places refuses for its
+ * length is recorded as one that is refused alike. */
 VIQ_READ_ANSWER VIQ_NOT_NULL(1) VIQ_NOT_NULL(6)
 uint32_t viq_record_routes(const struct viq_call *call, const struct viq_route *routes, size_t count, uint8_t *room,
                            size_t room_length, size_t *size);
@@ -790,6 +815,12 @@ uint32_t viq_record_reload(const struct viq_call *call, const struct viq_setting
                            const struct viq_interface *interfaces, size_t interface_count,
                            const struct viq_route *routes, size_t route_count, const struct viq_range *ranges,
                            size_t range_count, uint8_t *room, size_t room_length, size_t *size);
+VIQ_READ_ANSWER VIQ_NOT_NULL(1) VIQ_NOT_NULL(2) VIQ_NOT_NULL(13)
+uint32_t viq_record_reload_places(const struct viq_call *call, const struct viq_settings *settings,
+                                  const struct viq_interface *interfaces, size_t interface_count,
+                                  const struct viq_route *routes, size_t route_count, const struct viq_range *ranges,
+                                  size_t range_count, const uint32_t *places, size_t place_count, uint8_t *room,
+                                  size_t room_length, size_t *size);
 
 /* The sum of the packets that are untaken, as viq_packets counts them: their CRC-32 (RFC 1952, section 8). So it is
  * asked for before they are taken. */

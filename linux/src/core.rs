@@ -6,13 +6,13 @@ use crate::older::Speech;
 use crate::outgoing::Outgoing;
 use crate::packet::{self, is_pim, HELLO};
 use crate::plane::Row;
-use crate::ports::{self, Port};
+use crate::ports::{self, Places, Port};
 use crate::recorder::{answer_of, Configuration, Place, Recorder};
 use crate::settings::{RpSettings, Settings};
 use log::{error, info};
 use rand::rngs::{OsRng, StdRng};
 use rand::{Rng, RngCore, SeedableRng};
-use std::collections::BTreeMap;
+use std::collections::{BTreeMap, BTreeSet};
 use std::net::Ipv4Addr;
 use viqeshor::{
     Error, Link, NeighbourRow, OlderRow, Range, Reason, Refusal, Route, Router, SourceTree, Table, TableRow, Target,
@@ -72,6 +72,8 @@ pub struct Core {
     draws: StdRng,
     /// What the router was told of how its interfaces speak IGMP.
     speech: BTreeMap<u32, Speech>,
+    /// On which interfaces the router before this one knew older hosts, as long as it isn't told which they hear.
+    restored: BTreeSet<u32>,
     /// Whether its guard is on.
     has_guard: bool,
     /// How often memory was refused for a table that was to be read.
@@ -141,6 +143,7 @@ impl Core {
             told,
             draws: StdRng::from_rng(OsRng)?,
             speech: BTreeMap::new(),
+            restored: BTreeSet::new(),
             has_guard: true,
             refused_memory: 0,
             recorder: None,
@@ -150,7 +153,9 @@ impl Core {
 
     /// The router whose state the bytes are, which goes on from there.
     pub fn restore(saved: &[u8], told: Told) -> Result<Core, Fatal> {
-        Core::of(Router::restore(saved).map_err(Fatal::Settings)?, told)
+        let mut core = Core::of(Router::restore(saved).map_err(Fatal::Settings)?, told)?;
+        core.restored = core.older_rows()?.iter().map(|row| row.iface).collect();
+        Ok(core)
     }
 
     /// The router's state as bytes. What is to leave isn't in them.
@@ -205,13 +210,13 @@ impl Core {
     }
 
     /// How an interface speaks IGMP from here on. Where it is to hear other older hosts, those are forgotten that were
-    /// heard there. One that the router doesn't have, since it refused another configuration, is left out.
+    /// heard there; of those that the router before this one knew it keeps whom it hears. One that the router doesn't have, since it refused another configuration, is left out.
     pub fn speak(&mut self, iface: u32, wanted: Speech) -> Result<(), Fatal> {
         self.next = None;
         let told = self.speech.entry(iface).or_insert(Speech::NEW);
         let mut answer = Ok(());
         let mut set = Vec::new();
-        if told.older_hosts != wanted.older_hosts {
+        if self.restored.remove(&iface) || told.older_hosts != wanted.older_hosts {
             answer = self.router.set_older_hosts(iface, wanted.older_hosts);
             set.push((b'o', wanted.older_hosts as u32, answer));
         }
@@ -245,29 +250,50 @@ impl Core {
         Ok(())
     }
 
-    /// The router goes on with another configuration and these routes. Refused, it stays as it was. It is no event.
-    pub fn reload(&mut self, settings: &Settings, given: &Given, routes: &[Route]) -> Result<Answer, Fatal> {
+    /// The router goes on with another configuration and these routes; where interfaces get other numbers, by their places.
+    /// What is to leave then has the numbers that they get, and nothing is to leave before. Refused, it stays as it was. It
+    /// is no event.
+    pub fn reload(
+        &mut self,
+        settings: &Settings,
+        given: &Given,
+        routes: &[Route],
+        places: Option<&Places>,
+    ) -> Result<Answer, Fatal> {
         self.next = None;
         let draw = self.draws.next_u32();
         let (configured, ranges) = (settings_of(settings, given), ranges_of(&settings.rps));
-        let interfaces = &given.interfaces;
-        let done = self.router.reload(&configured, interfaces, routes, &ranges, draw);
+        let (interfaces, numbers) = (&given.interfaces, places.map(Places::as_slice));
+        let done = match numbers {
+            None => self.router.reload(&configured, interfaces, routes, &ranges, draw),
+            Some(places) => self.router.reload_places(&configured, interfaces, routes, &ranges, places, draw),
+        };
         let before = self.sent.len();
         self.sent.take(&mut self.router);
         if let Some(recorder) = &mut self.recorder {
-            let configuration = Configuration { settings: &configured, interfaces, routes, ranges: &ranges };
+            let configuration =
+                Configuration { settings: &configured, interfaces, routes, ranges: &ranges, places: numbers };
             let answer = done.map_or_else(Error::number, |()| 0);
             let written = recorder.reload(self.sent.since(before), &configuration, draw, answer);
             self.was_recorded(written);
         }
         match done {
             Ok(()) => {
+                if let Some(places) = places {
+                    self.renumber(places);
+                }
                 self.told = told_of(settings, given);
                 Ok(Answer::Done)
             }
             Err(Error::Refused(refusal)) => Ok(Answer::Refused(refusal)),
             Err(error) => Err(Fatal::Router(error)),
         }
+    }
+
+    fn renumber(&mut self, places: &Places) {
+        self.sent.renumber(places);
+        let speech = std::mem::take(&mut self.speech);
+        self.speech = speech.into_iter().filter_map(|(iface, told)| Some((places.get(iface)?, told))).collect();
     }
 
     /// A number for an event.

@@ -7,6 +7,7 @@ mod forwarding;
 mod heard;
 mod machine;
 mod reconfigured;
+mod renumbered;
 mod resumed;
 mod turns;
 mod upgrade;

@@ -1,5 +1,9 @@
 //! Packets that the library's router has to send, taken of it after each event and kept until they leave.
+use crate::ports::Places;
 use viqeshor::{Router, Target, MOST_BYTES};
+
+/// No interface has this number: what is to leave there doesn't.
+const NOWHERE: u32 = u32::MAX;
 
 #[derive(Default)]
 pub struct Outgoing {
@@ -15,6 +19,18 @@ impl Outgoing {
         while let Some((target, bytes)) = router.take(&mut room) {
             self.bytes.extend_from_slice(bytes);
             self.ends.push((target, self.bytes.len()));
+        }
+    }
+
+    /// Interfaces have other numbers.
+    pub fn renumber(&mut self, places: &Places) {
+        let there = |iface: u32| places.get(iface).unwrap_or(NOWHERE);
+        for (target, _) in &mut self.ends {
+            *target = match *target {
+                Target::Frame(iface) => Target::Frame(there(iface)),
+                Target::Copy(iface) => Target::Copy(there(iface)),
+                Target::Unicast(address) => Target::Unicast(address),
+            };
         }
     }
 

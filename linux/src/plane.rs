@@ -40,6 +40,24 @@ pub struct Row {
     pub to_core: Interfaces,
 }
 
+impl Row {
+    fn renumbered(self, there: &impl Fn(u32) -> Option<u32>) -> Row {
+        let set = |old: Interfaces| interfaces(old.iter().filter_map(there));
+        Row {
+            is_known: self.is_known,
+            incoming: self.incoming.and_then(there),
+            outgoing: set(self.outgoing),
+            alive: set(self.alive),
+            to_core: set(self.to_core),
+        }
+    }
+}
+
+fn interfaces(numbers: impl Iterator<Item = u32>) -> Interfaces {
+    let set = numbers.fold(0, |set, number| set | 1_u128 << number);
+    Interfaces { low: set as u64, high: (set >> 64) as u64 }
+}
+
 impl From<PlaneRow> for Row {
     fn from(row: PlaneRow) -> Row {
         Row {
@@ -397,6 +415,15 @@ impl Plane {
     pub fn idle(&self, longer_than: u64) -> Vec<Key> {
         let idle = |entry: &Entry| !entry.is_known() && entry.used.map_or(false, |used| used.idle > longer_than);
         self.entries.iter().filter(|(_, entry)| idle(entry)).map(|(key, _)| *key).collect()
+    }
+
+    /// Interfaces have other numbers. Their virtual ones stay, and so does what the kernel has.
+    pub fn renumber(&mut self, there: impl Fn(u32) -> Option<u32>) {
+        for entry in self.entries.values_mut() {
+            entry.row = entry.row.map(|row| row.renumbered(&there));
+            entry.came_on = entry.came_on.and_then(&there);
+            entry.way.accepted = entry.way.accepted.and_then(&there);
+        }
     }
 
     /// After a fault all rows go.

@@ -109,6 +109,20 @@ impl Policy {
         self.read(books);
     }
 
+    /// Interfaces have other numbers; what was held of one that has none is forgotten. The gates are set anew.
+    pub fn renumber(&mut self, there: impl Fn(u32) -> Option<u32>) {
+        let held = std::mem::take(&mut self.held);
+        self.held = held.into_iter().filter_map(|(iface, held)| Some((there(iface)?, held))).collect();
+        self.stream_counts.clear();
+        for iface in self.streams.values_mut() {
+            *iface = iface.and_then(&there);
+            *self.stream_counts.entry(*iface).or_default() += 1;
+        }
+        let older = std::mem::take(&mut self.older_hosts).into_iter();
+        self.older_hosts = older.filter_map(|(iface, host, cause)| Some((there(iface)?, host, cause))).collect();
+        self.said.renumber(|(cause, iface)| Some((cause, there(iface)?)));
+    }
+
     pub fn is_passive(&self, iface: u32) -> bool {
         self.gates.get(&iface).map_or(false, |gate| gate.policy.is_passive)
     }

@@ -121,7 +121,7 @@ pub struct Passed {
     pub messages: Passing,
 }
 
-/// An interface of the router. Its number stays as long as the daemon runs.
+/// An interface of the router. Its number stays until one before it is forgotten, which the file hasn't any more.
 #[derive(Clone, Debug)]
 pub struct Port {
     pub number: u32,
@@ -285,6 +285,40 @@ pub fn take_settings(ports: &mut Vec<Port>, settings: &[InterfaceSettings]) {
         if !ports.iter().any(|port| port.settings.name == interface.name) {
             ports.push(Port::new(ports.len() as u32, interface));
         }
+    }
+}
+
+/// Of each interface, by its number, the number that it has without those that the file hasn't any more.
+#[derive(Debug, PartialEq, Eq)]
+pub struct Places(Vec<Option<u32>>);
+
+impl Places {
+    pub fn of(ports: &[Port]) -> Places {
+        let mut numbers = 0..;
+        Places(ports.iter().map(|port| if port.is_removed { None } else { numbers.next() }).collect())
+    }
+
+    /// Each keeps its number, or none would be left, and a router has one.
+    pub fn is_same(&self) -> bool {
+        self.0.iter().all(Option::is_some) || self.0.iter().all(Option::is_none)
+    }
+
+    pub fn get(&self, number: u32) -> Option<u32> {
+        self.0.get(number as usize).copied().flatten()
+    }
+
+    pub fn as_slice(&self) -> &[Option<u32>] {
+        &self.0
+    }
+
+    /// Those that stay, with their numbers then.
+    pub fn ports(&self, ports: &[Port]) -> Vec<Port> {
+        ports.iter().filter_map(|port| Some(Port { number: self.get(port.number)?, ..port.clone() })).collect()
+    }
+
+    /// A route by the numbers then; none where its interface goes.
+    pub fn route(&self, route: &viqeshor::Route) -> Option<viqeshor::Route> {
+        Some(viqeshor::Route { iface: self.get(route.iface)?, ..*route })
     }
 }
 
@@ -458,6 +492,24 @@ mod tests {
         ports.iter_mut().zip(found).for_each(|(port, own)| port.own = own);
         assert_eq!((apart(&ports).len(), said.len()), (MOST_APART, 2));
         assert_eq!(said[1], "16 other addresses are on no link: dummy17 has no address that can be taken");
+    }
+
+    #[test]
+    fn those_that_stay_get_the_numbers_without_gaps() {
+        let mut ports = ports(&["eth0", "eth1", "lo"]);
+        assert!(Places::of(&ports).is_same());
+        take_settings(&mut ports, &settings_of(&["lo", "eth1", "eth7"]));
+        let places = Places::of(&ports);
+        assert_eq!((places.as_slice(), places.is_same()), (&[None, Some(0), Some(1), Some(2)][..], false));
+        let stay: Vec<_> =
+            places.ports(&ports).into_iter().map(|port| (port.number, port.settings.name, port.own)).collect();
+        let own: Vec<_> = ports.iter().map(|port| port.own).collect();
+        let name = |text: &str| text.to_string();
+        assert_eq!(stay, [(0, name("eth1"), own[1]), (1, name("lo"), own[2]), (2, name("eth7"), own[3])]);
+        let to = |iface: u32| viqeshor::Route::new([10, 9, 0, 0].into(), 16, [10, 1, 0, 2].into(), iface);
+        assert_eq!([0, 1, 3, 9].map(|iface| places.route(&to(iface))), [None, Some(to(0)), Some(to(2)), None]);
+        take_settings(&mut ports, &[]);
+        assert!(Places::of(&ports).is_same());
     }
 
     #[test]

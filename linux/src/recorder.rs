@@ -16,7 +16,7 @@ use time::OffsetDateTime;
 use viqeshor::{Call, Error, Interface, Range, Route, Router, Settings, Target, Verdict};
 
 const MAGIC: &[u8; 4] = b"VQRC";
-const VERSION: u16 = 4;
+const VERSION: u16 = 5;
 const DONE: u32 = 0;
 /// What `viq_keep` answers where the source's timer doesn't run.
 const NO_TIMER: u32 = 52;
@@ -40,6 +40,8 @@ pub struct Configuration<'a> {
     pub interfaces: &'a [Interface],
     pub routes: &'a [Route],
     pub ranges: &'a [Range],
+    /// Where interfaces get other numbers.
+    pub places: Option<&'a [Option<u32>]>,
 }
 
 pub struct Recorder {
@@ -48,9 +50,8 @@ pub struct Recorder {
     file: File,
     written: u64,
     waiting: Vec<u8>,
-    /// With so many the other file is begun: where no groups of older hosts would be lost, and else with more.
+    /// With so many the other file is begun.
     full: u64,
-    overfull: u64,
     /// When what waits is written, in ms.
     due: Option<u64>,
 }
@@ -121,7 +122,7 @@ impl Recorder {
         let number = 1 - place.newest();
         let (file, written) = Recorder::file(place, number, router, speech, has_guard)?;
         let (place, waiting) = (place.clone(), Vec::with_capacity(2 * ROOM));
-        let mut recorder = Recorder { place, number, file, written, waiting, full: 0, overfull: 0, due: None };
+        let mut recorder = Recorder { place, number, file, written, waiting, full: 0, due: None };
         recorder.set_sizes();
         Ok(recorder)
     }
@@ -158,8 +159,7 @@ impl Recorder {
     /// A state that is nearly as long as a file may be is followed by as many bytes of events.
     fn set_sizes(&mut self) {
         let most = self.place.size / 2;
-        self.overfull = most.max(2 * self.written);
-        self.full = self.overfull - self.overfull / 4;
+        self.full = most.max(2 * self.written);
     }
 
     pub fn place(&self) -> &Place {
@@ -210,7 +210,11 @@ impl Recorder {
         answer: u32,
     ) -> io::Result<()> {
         let call = answered(sent, draw, answer);
-        let put = call.put_reload(it.settings, it.interfaces, it.routes, it.ranges, &mut self.waiting);
+        let to = &mut self.waiting;
+        let put = match it.places {
+            None => call.put_reload(it.settings, it.interfaces, it.routes, it.ranges, to),
+            Some(places) => call.put_reload_places(it.settings, it.interfaces, it.routes, it.ranges, places, to),
+        };
         put.map_err(refused)?;
         self.was_put()
     }
@@ -255,9 +259,7 @@ impl Recorder {
             self.flush()?;
         }
         let size = self.written + self.waiting.len() as u64;
-        let is_full =
-            size >= self.full && (size >= self.overfull || router.older_rows().map_or(false, |rows| rows.is_empty()));
-        if is_full {
+        if size >= self.full {
             self.flush()?;
             self.number = 1 - self.number;
             (self.file, self.written) = Recorder::file(&self.place, self.number, router, speech, has_guard)?;
@@ -320,16 +322,20 @@ mod tests {
         let addresses = vec![Ipv4Addr::new(10, 255, 0, 1)];
         let settings = Settings { limit: 1000, stays_on_shared_tree: true, addresses, ..Settings::default() };
         router.reload(&settings, &interfaces, &routes, &ranges, 9).unwrap();
-        let given = Configuration { settings: &settings, interfaces: &interfaces, routes: &routes, ranges: &ranges };
+        let (interfaces, routes, ranges) = (&interfaces[..], &routes[..], &ranges[..]);
+        let given = Configuration { settings: &settings, interfaces, routes, ranges, places: None };
         let (sent, sum_then) = taken(&mut router);
         assert_ne!(sum_then, 0);
         recorder.reload(sent.since(0), &given, 9, DONE).unwrap();
+        router.reload_places(&settings, interfaces, routes, ranges, &[Some(0)], 9).unwrap();
+        let given = Configuration { places: Some(&[Some(0)]), ..given };
+        recorder.reload(taken(&mut router).0.since(0), &given, 9, DONE).unwrap();
         recorder.end_turn(&mut router, &speech, true, 0).unwrap();
         assert_eq!(recorder.due(), Some(WAITS));
         recorder.end_turn(&mut router, &speech, true, WAITS).unwrap();
         assert_eq!(recorder.due(), None);
         let summed = |bytes: Vec<u8>| [&bytes[..], &crc32fast::hash(&bytes).to_be_bytes()].concat();
-        let head = [b"VQRC\0\x04\0\0\0\0".as_slice(), &(state.len() as u64).to_be_bytes()].concat();
+        let head = [b"VQRC\0\x05\0\0\0\0".as_slice(), &(state.len() as u64).to_be_bytes()].concat();
         let mut wanted = [summed(head), state].concat();
         let words = |numbers: &[u32]| numbers.iter().flat_map(|number| number.to_be_bytes()).collect::<Vec<_>>();
         let record = |letter: u8, numbers: &[u32]| [vec![letter], words(numbers)].concat();
@@ -343,7 +349,10 @@ mod tests {
         reload.push(1);
         reload.extend(words(&[2, 125, 100, 10, 0, 1, OWN.into(), 24, 7, 500, 2500, 0, 1, 0x0aff_0001, 0, 1]));
         reload.extend(words(&[&route[..], &[0, 1, 0xef00_0000, 8, OWN.into(), 0, sum_then]].concat()));
+        let behind = reload.len() - 8;
+        let placed = [&b"m"[..], &reload[1..behind], &words(&[0, 1, 0, 0, 0])].concat();
         wanted.extend(summed(reload));
+        wanted.extend(summed(placed));
         assert_eq!(std::fs::read(place.path(0)).unwrap(), wanted);
         std::fs::remove_dir_all(&place.folder).unwrap();
     }

@@ -37,6 +37,11 @@ impl<K: Ord + Copy> Said<K> {
         it.left_out == 0
     }
 
+    /// Lines are of other interfaces, or of none that there is.
+    pub fn renumber(&mut self, there: impl Fn(K) -> Option<K>) {
+        self.0 = std::mem::take(&mut self.0).into_iter().filter_map(|(kind, it)| Some((there(kind)?, it))).collect();
+    }
+
     /// Of what lines were left out in times that are over, and how many; the next ones may be said again.
     pub fn left_out(&mut self, now: u64) -> Vec<(K, u64)> {
         let is_over = |it: &Window| it.began + WINDOW <= now;

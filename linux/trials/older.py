@@ -1,7 +1,10 @@
 """Hosts and routers of IGMPv1 and IGMPv2, on the LAN of the router and FRR."""
 from __future__ import annotations
 
+import os
 import re
+import shutil
+import signal
 import subprocess
 import time
 from typing import TYPE_CHECKING
@@ -102,6 +105,37 @@ def host_of_version_one(net: Network) -> str:
     return f"{said}; the stream ended {gone:.1f} s after it was gone"
 
 
+def upgrade(net: Network) -> None:
+    """Another program takes the router's place."""
+    goes = "the router goes on where the one before it was"
+    count = net.log().count(goes)
+    shutil.copy(net.room / "viqeshord", net.room / "viqeshord.new")
+    os.rename(net.room / "viqeshord.new", net.room / "viqeshord")
+    net.router.send_signal(signal.SIGUSR2)
+    until("the other one goes on", 30, lambda: net.log().count(goes) > count)
+
+
+def host_over_an_upgrade(net: Network) -> str:
+    """over an upgrade a host of IGMPv2 keeps its stream, and its mode: one of IGMPv3 leaves its group right after it"""
+    group = "239.2.15.6"
+    said, keeps, sender = beside_a_newer(net, group, 2)
+    newer = net.receive("asker", group, NEWER, 100_000, 60)
+    receiver = net.receive("older", group, OLDER, 200, 60)
+    time.sleep(2)
+    upgrade(net)
+    after = row(net, group)
+    if after["version"] != "IGMPv2" or not 0 < after["older_expires_seconds"] <= PRESENT:
+        raise Failed(f"the router shows {after}")
+    ended(newer)
+    words = receiver.communicate()[0].split()
+    came, gap = int(words[1]), int(words[words.index("gap") + 1])
+    ended(keeps)
+    ended(sender)
+    if came < FEWEST or gap > LONGEST_GAP:
+        raise Failed(f"{came} packets came, the longest gap was {gap} ms")
+    return f"{said}; over the upgrade {came}, {gap} ms"
+
+
 def querier_of(place: str, port: str) -> str:
     """By which version the queries come that the kernel of a place heard."""
     said = subprocess.run(inside(place, "cat", "/proc/net/igmp"), capture_output=True, text=True).stdout
@@ -160,4 +194,4 @@ def older_querier(net: Network) -> None:
     until("the router asks again", 2 * PRESENT, lambda: asks() > asked)
 
 
-TRIALS = [host_of_version_two, host_of_version_one, queries_of_version_two, older_querier]
+TRIALS = [host_of_version_two, host_of_version_one, host_over_an_upgrade, queries_of_version_two, older_querier]

@@ -77,6 +77,55 @@ def at_a_rate(net: Network, number: int, act: Callable[[], None]) -> str:
     return streams.came()
 
 
+def from_viewer(net: Network, number: int, rate: int, act: Callable[[], None]) -> str:
+    """Something is done under a stream of FRR's viewer to the router's host, of which the router is the RP."""
+    group, count = f"239.2.21.{number}", rate * SECONDS
+    keeper = net.receive("hosts", group, HOST, 1000, 600, FEWER_BYTES)
+    try:
+        time.sleep(2)
+        net.send("viewer", group, VIEWER, 30, 10, FEWER_BYTES).wait()
+        receiver = net.receive("hosts", group, HOST, count, 60 + 2 * SECONDS)
+        until("the kernel forwards", 15, lambda: net.entry(VIEWER, group)["forwarding"] == "kernel")
+        time.sleep(1)
+        sender = net.send("viewer", group, VIEWER, count, rate)
+        time.sleep(1)
+        act()
+        words = sender.communicate()[0].split()
+        came, of, twice = received(receiver)
+    finally:
+        ended(keeper)
+    said = f"{came} of {of} came, {twice} twice, at {words[words.index('a') - 1]} a second"
+    if came < of or twice:
+        raise Failed(said)
+    return said
+
+
+def list_without_its_first(net: Network) -> str:
+    """SIGHUP takes a list that lacks its first interface, and one that has it again, under a stream: none is lost"""
+    until("the router knows three neighbours", 40, lambda: net.neighbours() >= THREE)
+    first = '[[interface]]\nname = "to-first"\n\n'
+    if first not in net.settings:
+        raise Failed("the settings haven't the interface")
+
+    def act() -> None:
+        net.reload(net.settings.replace(first, ""))
+        if [row["interface"] for row in net.show("interfaces")] != ["to-second", "to-hosts", "to-lan"]:
+            raise Failed("the others aren't the router's interfaces")
+        time.sleep(3)
+        net.reload(net.settings)
+
+    number, rate = 1, RATES[0]
+    for rate in RATES:
+        try:
+            from_viewer(net, number, rate, lambda: None)
+            break
+        except Failed:
+            number += 1
+    said = from_viewer(net, number + 1, rate, act)
+    until("the router knows three neighbours again", 40, lambda: net.neighbours() >= THREE)
+    return said
+
+
 def generation(net: Network) -> list[int]:
     """By which generations FRR knows the router."""
     places = (("first", "10.2.0.2"), ("second", "10.3.0.2"))
@@ -398,5 +447,5 @@ def recorded(net: Network) -> str:
     return "; ".join(said)
 
 
-TRIALS = [upgrade, program_that_hangs, upgrade_by_reload, session_goes_on, another_limit, recorded, killed, restarted,
+TRIALS = [list_without_its_first, upgrade, program_that_hangs, upgrade_by_reload, session_goes_on, another_limit, recorded, killed, restarted,
           restarted_session, join_while_dead, killed_with_many_groups, killed_long_ago, ends_in_order]

@@ -11,6 +11,7 @@ from viqeshor.lab import packets, story, wishes, words
 from pimtext.cause import Symptom
 from viqeshor.lab.facts import MEANINGS
 from viqeshor.lab.faults import MOST_ROUTES, MOST_RPS, Judge, configuration_faults, list_faults, route_fault, rp_fault
+from viqeshor.lab.scenario import places_of
 
 if TYPE_CHECKING:
     from viqeshor.lab.lines import Line
@@ -111,6 +112,8 @@ class Notes:
             return self.moved_on(step) if step.is_settle() else self.no_delivery(step)
         if cause.isdigit() and (30 <= int(cause) <= 38 or cause == "70"):
             return self.wrong_configuration(step.move, int(cause))
+        if cause == "73":
+            return self.wrong_places(step)
         count, bytes_given = self.present(step), len(did.get("hex", "")) // 2
         if cause == "4" and bytes_given > packets.MOST_IN_A_FRAME and did["do"] == "frame":
             return f"a packet on a link has at most {packets.MOST_IN_A_FRAME} bytes, and this one has {bytes_given}"
@@ -118,6 +121,16 @@ class Notes:
         if size:
             return f"the bytes begin with an Ethernet header: leave out its {size} bytes, the first {2 * size} digits"
         return MEANINGS[cause] + (f", and it has {count}" if cause == "22" else "")
+
+    def wrong_places(self, step: story.Step) -> str:
+        """Why a map of places doesn't fit."""
+        there, count = places_of(step.did) or [], len(step.did["config"]["iface"])
+        if len(there) != self.present(step):
+            return f"`places` has {len(there)} items, and the router has {self.present(step)} interfaces: nothing changes"
+        numbers = [number for number in there if number is not None]
+        wrong = [f"no interface of `config` has the number {number}" for number in numbers if number >= count]
+        wrong += [f"{number} stands twice" for number in dict.fromkeys(numbers) if numbers.count(number) > 1]
+        return f"`places`: {', '.join(wrong)}: nothing changes"
 
     def present(self, step: story.Step) -> int:
         """How many interfaces the router of a step had then."""

@@ -9,6 +9,8 @@ from typing import Any, NamedTuple
 from viqeshor.lab.addresses import dotted
 
 MAGIC, VERSION, WITH_ADDRESSES = b"VQST", 2, 3
+# In front of them, where groups of older hosts are saved too.
+HOSTS = b"VIQF"
 
 
 class Unreadable(ValueError):
@@ -44,6 +46,7 @@ class Saved:
     routes: list[tuple[str, int, str, int, int, int]]
     ranges: list[tuple[str, int, str]]
     tables: dict[str, Table]
+    hosts: Table
 
 
 class Reader:
@@ -140,8 +143,25 @@ def row_readers(r: Reader) -> dict[str, Callable[[], Row]]:
     }
 
 
+def opened(data: bytes) -> tuple[Table, bytes]:
+    """The groups of older hosts, and the router's bytes behind them; raises Unreadable where they are none."""
+    if data[:4] != HOSTS:
+        return [], data
+    try:
+        if int.from_bytes(data[-4:], "big") != zlib.crc32(data[:-4]):
+            raise Unreadable(69, "the sum isn't that of the bytes")
+        r = Reader(data[4:-4])
+        hosts = r.table(lambda: r.in_turn(lambda: r.option(r.time), lambda: r.option(r.time)))
+        if not hosts:
+            raise Unreadable(63, "no group of older hosts")
+        return hosts, r.data[r.at:]
+    except Unreadable as unreadable:
+        raise Unreadable(71, f"the groups of older hosts aren't read: {unreadable}") from None
+
+
 def read(data: bytes) -> Saved:
     """The state that saved bytes say; raises Unreadable where they say none."""
+    hosts, data = opened(data)
     r = Reader(data)
     if r.word() != int.from_bytes(MAGIC, "big"):
         raise Unreadable(60, "the first four bytes aren't VQST")
@@ -164,7 +184,7 @@ def read(data: bytes) -> Saved:
     r.word()
     if r.at != len(data):
         raise Unreadable(65, "bytes follow the sum")
-    return Saved(settings, addresses, interfaces, present, routes, ranges, tables)
+    return Saved(settings, addresses, interfaces, present, routes, ranges, tables, hosts)
 
 
 def summed(front: bytes) -> bytes:
@@ -196,7 +216,7 @@ def lines(saved: Saved) -> Iterator[str]:
     yield from (" ".join(["interface", str(number), *map(str, row)]) for number, row in enumerate(saved.interfaces))
     yield from (" ".join(["route", *map(str, row)]) for row in saved.routes)
     yield from (" ".join(["range", *map(str, row)]) for row in saved.ranges)
-    for name, rows in saved.tables.items():
+    for name, rows in [*saved.tables.items(), ("older-hosts", saved.hosts)]:
         yield from (" ".join([name, *key_words(key), *map(shown, row)]) for key, row in rows)
 
 
@@ -214,7 +234,7 @@ def downstream_words(key: Key, ends: int | None, pending: int | None) -> list[st
 
 
 def printed(saved: Saved) -> Iterator[str]:
-    """The lines of all printed tables but R, whose states aren't in the bytes (docs/SCENARIOS.md)."""
+    """The lines of all printed tables but R, whose states aren't in the bytes, and O (docs/SCENARIOS.md)."""
     tables, registers = saved.tables, dict(saved.tables["register"])
     for key, (ends, *_) in tables["neighbour"]:
         yield f"N {key.iface} {dotted(key.source or 0)} {without(ends, 'never')}"

@@ -8,6 +8,7 @@ from dataclasses import dataclass, field
 from typing import TYPE_CHECKING
 
 from viqeshor.lab import packets, story
+from viqeshor.lab.scenario import numbers_after
 
 if TYPE_CHECKING:
     from viqeshor.lab.scenario import Scenario
@@ -123,8 +124,9 @@ class Wire:
             if sent.move <= self.last:
                 self.count(sent)
         if step.did["do"] == "reload" and step.verdict == "done":
-            count = len(step.did["config"]["iface"])
-            self.up = {port for port in self.up if port[0] != step.router or port[1] < count}
+            there = numbers_after(step.did)
+            own = {(name, iface) for name, iface in self.up if name == step.router}
+            self.up = self.up - own | {(name, there[iface]) for name, iface in own if iface in there}
             self.present = self.present.reloaded(step.router, step.did["config"])
 
     def count(self, sent: story.Sent) -> None:

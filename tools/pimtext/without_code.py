@@ -18,9 +18,12 @@ WHOLE: dict[str, tuple[str, ...] | None] = {
 OF_KIT = ("byteorder",)
 # Files of definitions of other crates, each crate after those that it names.
 PARTS = {
-    "law_reloaded": ("Reloading",), "pim_net": ("Reloading",), "pim_session": ("Front", "Reloaded"),
-    "pim_guard": ("Guard",), "pim_runs": ("Transcript",),
+    "law_settled": ("Laws", "Ready"), "law_scope": ("Locality", "Rest", "Scopes"), "law_restored": ("Reload",),
+    "law_reloaded": ("Reloading",), "law_placed": ("Placing",), "pim_net": ("Reloading",),
+    "igmp_older_saved": ("Hosts",), "pim_session": ("Front", "Placed", "Reloaded"), "pim_guard": ("Guard",), "pim_runs": ("Transcript",),
 }
+# The files of these whose types are left.
+TYPES = {"igmp_older_saved": ("host",)}
 # The crate with what a scenario's moves do.
 LAB_CRATE = "lab_runs"
 TYPE = re.compile(
@@ -32,9 +35,14 @@ COMMENT = re.compile(r"^\s*(?:///|#\[)[^\n]*\n", re.M)
 UNFOLDABLE = re.compile(r"^ *unfoldable pub (\S+) :", re.M)
 
 
+def files_of(crate: str) -> tuple[str, ...] | None:
+    """The files of a crate whose types are left, or all."""
+    return TYPES[crate] if crate in TYPES else WHOLE[crate]
+
+
 def sources(crate: str) -> Iterator[tuple[Path, str]]:
     """The files of a crate whose types are left, by their places below its sources."""
-    folder, only = ROOT / "crates" / crate / "src", WHOLE[crate]
+    folder, only = ROOT / "crates" / crate / "src", files_of(crate)
     for path in sorted(folder.rglob("*.rt")):
         if only is None or path.stem in ("lib", *only):
             yield path.relative_to(folder), path.read_text(encoding="utf-8")
@@ -42,7 +50,8 @@ def sources(crate: str) -> Iterator[tuple[Path, str]]:
 
 def declared() -> set[str]:
     """The names of all types that are left."""
-    return {found[1] for crate in WHOLE for _, text in sources(crate) for found in TYPE.finditer(text) if found[1]}
+    texts = (text for crate in (*WHOLE, *TYPES) for _, text in sources(crate))
+    return {found[1] for text in texts for found in TYPE.finditer(text) if found[1]}
 
 
 def types_of(text: str, known: set[str], only: tuple[str, ...] | None) -> str:
@@ -117,8 +126,8 @@ def scratch_repository(folder: Path, above: str) -> None:
     crates, known, empty = folder / "crates", declared(), {"lib.rt": "//! No code.\n#![tactic(auto)]\n"}
     for crate in (*WHOLE, *PARTS, LAB_CRATE):
         texts = empty
-        if crate in WHOLE:
-            texts = {str(path): types_of(text, known, WHOLE[crate]) for path, text in sources(crate)}
+        if crate in WHOLE or crate in TYPES:
+            texts = {str(path): types_of(text, known, files_of(crate)) for path, text in sources(crate)}
         proofs = {"Lib": "pub mod Machine\n", "Machine": bundle()} if crate == LAB_CRATE else {}
         write_crate(crates / crate, texts, specs_of(crate), proofs)
     write(folder / "crates.txt", "\n".join([*listed(), f"{above}: {' '.join([*WHOLE, *PARTS, LAB_CRATE])}", ""]))

@@ -84,48 +84,38 @@ class Spoilt(unittest.TestCase):
         self.spoil("pim_trie/src/lib.rt", "pub use pim_meter::Meter;", "pub use pim_meter::*;")
         self.refused("an auditor is brought in")
 
-    def test_a_walk_that_reads_a_node_twice(self):
-        self.spoil(
-            "pim_trie/src/nodes.rt",
-            "        let node = walk.read(key);\n",
-            "        walk.read(key);\n        let node = walk.read(key);\n",
-        )
-        self.refused("a walk reads a node in next_entry")
-
     def test_a_meter_that_is_set_back_at_the_end(self):
         self.spoil(
             "pim_router/src/router.rt",
-            "    take_in(core, event, &mut probes.meter)\n",
-            "    let outcome = take_in(core, event, &mut probes.meter);\n    probes.begin();\n    outcome\n",
+            "        hand_over(outcome.emissions.into_vec(), emissions)?;\n",
+            "        hand_over(outcome.emissions.into_vec(), emissions)?;\n        self.probes.begin();\n",
         )
-        self.refused("a count begins anew in take_next", "take_next calls")
+        self.refused("a count begins anew in Router::take_lent", "Router::take_lent calls")
 
     def test_an_event_with_a_meter_of_its_own(self):
         self.spoil(
             "pim_router/src/router.rt",
-            "    take_in(core, event, &mut probes.meter)\n",
-            "    let mut outside = probes.outside();\n"
-            "    take_in(core, event, &mut outside.meter)\n",
+            "        let outcome = take_next(&mut self.core, event, &mut self.probes.meter)?;\n",
+            "        let mut outside = self.probes.outside();\n"
+            "        let outcome = take_next(&mut self.core, event, &mut outside.meter)?;\n",
         )
-        self.refused("a meter is made beside that of events in take_next", "take_next calls")
+        self.refused("a meter is made beside that of events in Router::take_lent", "Router::take_lent calls")
 
     def test_an_event_with_an_auditor_of_its_own(self):
         self.spoil(
             "pim_router/src/router.rt",
-            "    take_in(core, event, &mut probes.meter)\n",
+            "    take_in(core, event, meter)\n",
             "    take_in(core, event, &mut Probes::new().meter)\n",
         )
         self.refused("a meter is made beside that of events in take_next", "take_next calls")
 
-    def test_all_rows_evaluated_with_a_count_that_is_thrown_away(self):
+    def test_a_row_evaluated_with_a_count_that_is_thrown_away(self):
         self.spoil(
             "pim_fanout/src/cache.rt",
-            "        let made = row_by_sight(",
-            "        for other in self.all() "
-            "{\n            row(world, other, meter, &mut Evaluations::none());\n        }\n"
-            "        let made = row_by_sight(",
+            "        let made = world.row(",
+            "        world.row(name, None, meter, &mut Evaluations::none());\n        let made = world.row(",
         )
-        self.refused("a count of rows is made in Cache::refresh_one", "a row is evaluated in Cache::refresh_one")
+        self.refused("a count of rows is made in Cache::refresh_one")
 
     def test_rows_evaluated_in_another_cache(self):
         self.spoil(
@@ -155,7 +145,6 @@ class Spoilt(unittest.TestCase):
         )
         self.refused(
             "a count of rows is made in Router::cached",
-            "`row` is brought in in Router::cached",
             "Router::cached calls outside none row Some of answers",
         )
 
@@ -179,37 +168,43 @@ class Spoilt(unittest.TestCase):
         )
         self.refused("an event asks for what a user asks for", "Router::take_lent calls")
 
-    def test_a_plain_packet_that_reads_all_rows(self):
+    def test_a_packet_before_which_all_rows_are_read(self):
         self.spoil(
-            "pim_event/src/plain.rt",
-            "    let olist = ",
-            "    for (_, _) in world.store().downstream_rows() "
-            "{\n        for (_, _) in world.store().assert_rows() {}\n    }\n"
-            "    let olist = ",
+            "pim_event/src/event.rt",
+            "    match hear(",
+            "    for (_, _) in core.world.store().downstream_rows() {}\n    match hear(",
         )
-        self.refused("take_plain calls for store downstream_rows for store assert_rows")
+        self.refused("take_frame calls mfc for store downstream_rows hear")
 
-    def test_a_test_of_a_packet_that_reads_all_rows(self):
+    def test_a_call_of_a_trait_that_reads_all_rows(self):
         self.spoil(
-            "pim_intake/src/frame.rt",
-            "    judge_packet(world, iface, packet)\n",
-            "    for (_, _) in world.store().downstream_rows() {}\n    judge_packet(world, iface, packet)\n",
+            "pim_intake/src/plain.rt",
+            "        World::interfaces(self)\n",
+            "        for (_, _) in self.store().downstream_rows() {}\n        World::interfaces(self)\n",
+        )
+        self.refused("World::interfaces calls for store downstream_rows interfaces")
+
+    def test_a_test_of_a_unicast_that_reads_all_rows(self):
+        self.spoil(
+            "pim_intake/src/unicast.rt",
+            "    judge_packet(world, packet, meter)\n",
+            "    for (_, _) in world.store().downstream_rows() {}\n    judge_packet(world, packet, meter)\n",
         )
         self.refused("a test of an event reads")
 
-    def test_a_refresh_that_evaluates_the_lists_of_all_sources(self):
+    def test_a_row_beside_which_the_lists_of_all_sources_are_evaluated(self):
         self.spoil(
-            "pim_fanout/src/cache.rt",
-            "        let made = row_by_sight(",
-            "        for (key, _) in world.store().source_rows() "
-            "{\n            let _ = SourceSight::with_star(world, key.name(), meter).inherited_olist();\n        }\n"
-            "        let made = row_by_sight(",
+            "pim_fanout/src/evaluates.rt",
+            "        let sight = sight_of(",
+            "        for (key, _) in self.store().source_rows() "
+            "{\n            let _ = SourceSight::with_star(self, key.name(), meter).inherited_olist();\n        }\n"
+            "        let sight = sight_of(",
         )
-        self.refused("the cache gathers a sight")
+        self.refused("World::row calls for store source_rows")
 
     def test_a_place_that_is_gone(self):
         self.spoil("pim_router/src/router.rt", "    core.cache.reset();\n", "")
-        self.refused("a count begins anew in take_next 1 times, and not 2", "take_next calls")
+        self.refused("a count begins anew in take_next 0 times, and not 1", "take_next calls")
 
 
 if __name__ == "__main__":

@@ -170,7 +170,7 @@ class Reloads(unittest.TestCase):
             yield number, {router: copied(state) for router, state in known.items()}
 
     def test_the_rows_are_those_that_are_printed_after_each_move(self):
-        for name in ("a_reload", "a_reload_with_older_hosts", "a_restart"):
+        for name in ("a_reload", "a_reload_with_older_hosts", "a_reload_without_the_first_interface", "a_restart"):
             for number, known in self.after_moves(name):
                 for state in known.values():
                     rows = [row for row in state.rows if not isinstance(row, printed.OlderHosts)]
@@ -187,6 +187,14 @@ class Reloads(unittest.TestCase):
         self.assertEqual(outgoing, [{1, 2}, frozenset()])
         self.assertEqual(served.taken(told[10], group, source, 0).out, {1, 2})
         self.assertEqual(told[15].router.table["limit"], 1)
+
+    def test_what_a_reload_by_places_changes(self):
+        told = {number: known["r"] for number, known in self.after_moves("a_reload_without_the_first_interface")}
+        group, source = "225.1.1.1", "10.0.3.5"
+        outgoing = [asked.outgoing(told[number], group, source) for number in (7, 8, 12)]
+        self.assertEqual(outgoing, [{2}, {1}, {1}])
+        self.assertEqual([sorted(told[number].up) for number in (7, 8)], [[0, 1, 2], [0, 1]])
+        self.assertEqual([told[number].configured()[1].address for number in (7, 8)], ["10.0.0.2", "10.0.1.1"])
 
     def test_it_is_shown_drawn_and_put_on_a_page(self):
         path, draw, show = stored.DATA / "a_reload.toml", stored.tool("draw"), stored.tool("show")

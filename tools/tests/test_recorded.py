@@ -118,6 +118,27 @@ class Recorded(unittest.TestCase):
         self.assertEqual((first["do"], first["draw"], first["config"]["limit"]), ("reload", 5, 9))
         self.assertEqual([(each["link"], each["priority"]) for each in first["config"]["iface"]], [("link0", 7)])
 
+    def test_another_configuration_by_places(self):
+        with Router([("10.0.0.2", 24), ("10.0.1.1", 24)], library=self.shared) as router:
+            with recording.Recorder(router, self.room / "placed"):
+                router.set_older_hosts(0, "v2")
+                router.set_older_hosts(1, "all")
+                router.reload([("10.0.1.1", 24)], places=[None, 0], draw=5)
+                router.advance(1000)
+        path, part, scenario = self.room / "placed.0", self.room / "part", self.room / "part.toml"
+        self.assertEqual(self.run_tool(path), (0, "4 records, each as it was recorded\n"))
+        said = "10.0.1.1/24 priority 1 delays 500 2500; routes none; rps none; places none 0"
+        told = self.run_tool(path, "--list", "--from", "3", "--to", "3")
+        self.assertEqual(told, (0, f"3 0 ms reload {said}: done\n"))
+        # The setting of the one that stays goes with it.
+        self.assertEqual(self.run_tool(path, "--from", "4", "--write", part)[0], 0)
+        records = recording.read(part).records
+        self.assertEqual([(record.name, record.numbers) for record in records], [("older", (0, 2)), ("advance", (1000,))])
+        self.assertEqual(self.run_tool(part)[0], 0)
+        self.assertEqual(self.run_tool(path, "--from", "3", "--scenario", scenario)[0], 0)
+        first, _ = tomllib.loads(scenario.read_text())["move"]
+        self.assertEqual((first["do"], first["places"], len(first["config"]["iface"])), ("reload", ["none", "0"], 1))
+
     def test_what_differs(self):
         path = self.room / "router.0"
         told = recording.read(path)

@@ -97,7 +97,8 @@ class Restarted(unittest.TestCase):
 
     def test_a_timer_past_its_period_is_told(self):
         seen = set()
-        for given in self.runs.saved + self.stored.saved:
+        for saved in self.runs.saved + self.stored.saved:
+            given = by_document.opened(saved)[1]
             state, rows = rows_of(given)
             for name, row, _, places in rows:
                 for place in places if latest(name, row) else []:
@@ -117,6 +118,34 @@ class Restarted(unittest.TestCase):
                     seen.add((name, self.tool.taken(self.library, with_number(given, key + 4, 0xEFFFFFFF, 4))))
         self.assertLess({("neighbour", 72), ("source-record", 72)}, seen)
         self.assertLessEqual({number for _, number in seen}, {68, 72})
+
+    def test_older_hosts_that_no_router_has_are_told(self):
+        saved = next(each for each in self.stored.saved if by_document.opened(each)[0])
+        ((key, _), *_), router = by_document.opened(saved)
+        now = by_document.read(saved).present
+
+        def text(key, *ends):
+            source = b"\0" if key.source is None else b"\1" + key.source.to_bytes(4, "big")
+            times = (b"\0" if end is None else b"\1" + end.to_bytes(8, "big") for end in ends)
+            place = key.iface.to_bytes(4, "big") + key.group.to_bytes(4, "big")
+            return place + source + bytes([key.is_rpt]) + b"".join(times)
+
+        for number, other, *ends in (
+            (0, key, now + 1, None),
+            (0, key, None, now + 225_382_400),
+            (0, key, now + 7, now + 8),
+            (71, key, now, None),
+            (71, key, now + 7, now),
+            (71, key, None, now + 225_382_401),
+            (71, key, None, None),
+            (71, key._replace(source=1), now + 7, None),
+            (71, key._replace(is_rpt=True), now + 7, None),
+            (71, key._replace(iface=119), now + 7, None),
+            (71, key._replace(group=0xE8010101), now + 7, None),
+            (71, key._replace(group=0xEFFFFFFF), now + 7, None),
+        ):
+            given = by_document.summed(b"VIQF" + (1).to_bytes(8, "big") + text(other, *ends) + router)
+            self.assertEqual(self.tool.taken(self.library, given), number, (other, ends))
 
     def test_an_older_state_is_noticed(self):
         """A router that is restored of what was saved before its last event."""

@@ -57,6 +57,35 @@ class Saved(unittest.TestCase):
                 saved.read(given)
             self.assertEqual(caught.exception.number, number)
 
+    def test_older_hosts(self):
+        # One of IGMPv1 of 239.1.1.1 on interface 3, known until 260 s.
+        row = bytes.fromhex("00000003ef0101010000" "01000000000003f7a0" "00")
+        other = row.replace(b"\xef\1\1\1", b"\xef\1\1\2")
+
+        def behind(*rows, router=self.data):
+            return saved.summed(b"VIQF" + len(rows).to_bytes(8, "big") + b"".join(rows) + router)
+
+        state = saved.read(behind(row))
+        self.assertEqual(state.hosts, [(saved.Key(3, 0xEF010101, None, False), (260_000, None))])
+        self.assertEqual((state.present, len(saved.read(behind(row, other)).hosts)), (1000, 2))
+        self.assertIn("older-hosts 3 239.1.1.1 * 260000 -", list(saved.lines(state)))
+        self.assertEqual(saved.read(self.data).hosts, [])
+        for given, number in (
+            (b"VIQF", 71),
+            (behind(), 71),
+            (behind(row)[:-1], 71),
+            (behind(row) + b"\0", 71),
+            (behind(other, row), 71),
+            (behind(row, row), 71),
+            (behind(row[:10] + b"\2" + row[11:]), 71),
+            (behind(row, router=self.data[:-1]), 69),
+            (behind(row, router=behind(row)), 60),
+            (behind(row, router=b""), 62),
+        ):
+            with self.assertRaises(saved.Unreadable) as caught:
+                saved.read(given)
+            self.assertEqual(caught.exception.number, number)
+
     def test_the_tool(self):
         with tempfile.TemporaryDirectory() as room:
             path = Path(room) / "state"

@@ -104,6 +104,14 @@ draw = 1
 
 # A line of GOOD, what stands there instead, and the number; None for what is accepted.
 BREAKS = [
+    ("draw = 9", 'draw = 9\nplaces = ["none", "0"]', None),
+    ("draw = 9", "draw = 9\nplaces = []", None),
+    ("draw = 9", 'draw = 9\nplaces = ["None"]', 39),
+    ("draw = 9", 'draw = 9\nplaces = ["-1"]', 39),
+    ("draw = 9", 'draw = 9\nplaces = ["4294967296"]', 39),
+    ("draw = 9", "draw = 9\nplaces = [0]", 39),
+    ("draw = 9", 'draw = 9\nplaces = "0"', 39),
+    ("draw = 9", "draw = 9\nplace = []", 39),
     ('name = "edge"', 'nmae = "edge"', 39),
     ('name = "edge"', "name = edge", 39),
     ('name = "edge"', 'name = "edge', 39),

@@ -56,9 +56,10 @@ class Recordings(unittest.TestCase):
             self.router.set_query_version(1, 2)
             self.router.set_guard(False)
             self.use()
+            self.router.reload(LINKS[::-1], places=[1, 0])
         self.router.up(0)
         differ, told = self.played(f"{self.path}.0")
-        self.assertEqual((differ, len(told.records), told.older_groups), ([], 15, 0))
+        self.assertEqual((differ, len(told.records), told.older_groups), ([], 16, 0))
         self.assertEqual({record.name for record in told.records}, set(recording.KINDS))
         self.assertEqual(told.records[5].answer, Answer.DONE)
         self.assertTrue(any(record.total for record in told.records))
@@ -67,8 +68,9 @@ class Recordings(unittest.TestCase):
         with Recorder(self.router, self.path):
             self.router.set_older_hosts(1, "all")
             self.use()
+            self.router.reload(LINKS[:1], places=[None, 0])
         told = recording.read(f"{self.path}.0")
-        head = b"VQRC" + struct.pack(">HIQ", 4, 0, len(told.state))
+        head = b"VQRC" + struct.pack(">HIQ", 5, 0, len(told.state))
         head += struct.pack(">I", zlib.crc32(head)) + told.state
         written = b"".join(map(self.text_of, told.records))
         self.assertEqual(Path(f"{self.path}.0").read_bytes(), head + written)
@@ -84,11 +86,11 @@ class Recordings(unittest.TestCase):
         elif record.name in recording.LISTS:
             width = {"routes": 24, "ranges": 12}[record.name]
             given += struct.pack(">Q", len(record.data) // width) + record.data
-        elif record.name == "reload":
+        elif record.name in recording.RELOADS:
             limit, robustness, *times, stays = struct.unpack(">6I", record.data[:24])
             given += struct.pack(">IB4I", limit, stays, robustness, *times)
             at = 24
-            for count, width in zip(record.numbers, (20, 4, 24, 12)):
+            for count, width in zip(record.numbers, (20, 4, 24, 12, 4)):
                 given += struct.pack(">Q", count) + record.data[at:at + count * width]
                 at += count * width
         given += struct.pack(">II", record.answer, record.total)
@@ -157,6 +159,45 @@ class Recordings(unittest.TestCase):
         with Router.restore(told.state) as router:
             self.assertRaises(recording.Unreadable, recording.take, router, cut)
 
+    def test_a_reload_by_places_is_kept_whole(self):
+        with Recorder(self.router, self.path):
+            self.router.up(0)
+            self.router.reload(LINKS[::-1], places=[1, 0], draw=7)
+            for places in ([], [0], [0, 0], [0, 2], [0, 2**32 - 1], [0, None, 1]):
+                self.assertRaises(Refused, self.router.reload, LINKS, places=places, draw=7)
+            self.router.reload(LINKS[:1], places=[None, 0], draw=7)
+        differ, told = self.played(f"{self.path}.0")
+        done, refused = Answer.DONE, Answer.PLACES_DONT_FIT
+        self.assertEqual((differ, [each.answer for each in told.records]), ([], [done, done, *[refused] * 6, done]))
+        self.assertEqual([each.numbers for each in told.records[1::7]], [(2, 0, 0, 0, 2), (1, 0, 0, 0, 2)])
+        self.assertEqual(list(map(recording.places_of, told.records[1::7])), [[1, 0], [None, 0]])
+        cut = told.records[1]._replace(data=told.records[1].data[:-4])
+        with Router.restore(told.state) as router:
+            self.assertRaises(recording.Unreadable, recording.take, router, cut)
+
+    def test_no_reload_by_places_is_older_than_version_5(self):
+        with Recorder(self.router, self.path):
+            self.router.up(0)
+            self.router.reload(LINKS[::-1], places=[1, 0])
+        told = recording.read(f"{self.path}.0")
+        head = recording.summed(b"VQRC" + struct.pack(">HIQ", 4, 0, len(told.state))) + told.state
+        self.path.write_bytes(head + b"".join(map(self.text_of, told.records)))
+        again = recording.read(self.path)
+        self.assertEqual((again.version, again.records), (4, told.records[:1]))
+        self.assertEqual(again.rest, len(self.text_of(told.records[1])))
+
+    def test_settings_go_with_their_links(self):
+        with Recorder(self.router, self.path, most=4096):
+            self.router.set_older_hosts(0, "v2")
+            self.router.set_older_hosts(1, "all")
+            self.router.reload(LINKS[::-1], places=[1, 0])
+            self.router.reload(LINKS[:1], places=[None, 0])
+            self.use(200)
+        for path in recording.newest(self.path):
+            differ, told = self.played(path)
+            self.assertEqual((differ, told.records[0][:3]), ([], ("older", 0, (0, 1))))
+            self.assertNotEqual(told.records[1].name, "older")
+
     def test_settings_of_interfaces_that_are_removed_are_forgotten(self):
         with Recorder(self.router, self.path, most=4096):
             self.router.set_older_hosts(0, "v2")
@@ -200,7 +241,7 @@ class Recordings(unittest.TestCase):
         path.write_bytes(data[:-1])
         cut = recording.read(path)
         self.assertEqual((cut.records, recording.read(path).rest), (whole[:-1], len(self.text_of(whole[-1])) - 1))
-        for given in (b"", data[:10], b"other" + data, data[:4] + struct.pack(">H", 5) + data[6:]):
+        for given in (b"", data[:10], b"other" + data, data[:4] + struct.pack(">H", 6) + data[6:]):
             path.write_bytes(given)
             self.assertRaises(recording.Unreadable, recording.read, path)
         path.write_bytes(data + b"?")
@@ -265,6 +306,7 @@ class Recordings(unittest.TestCase):
         with Recorder(self.router, self.path):
             self.router.set_older_hosts(1, "all")
             self.use(2)
+            self.router.reload(LINKS[::-1], places=[1, 0])
         path, chance = Path(f"{self.path}.0"), random.Random(7)
         whole, kinds = path.read_bytes(), set()
         for _ in range(400):

@@ -90,10 +90,29 @@ class Routers(unittest.TestCase):
         self.assertEqual((router.link(1), [row.table for row in router.rows("D")]), (None, []))
         self.assertEqual(router.up(1), Answer.BAD_INTERFACE)
 
+    def test_another_configuration_by_places(self):
+        router = self.joined()
+        turned = [(net, hop, len(INTERFACES) - 1 - iface, *rest) for net, hop, iface, *rest in ROUTES]
+        router.packets()
+        router.reload(INTERFACES[::-1], RANGES, turned, places=[2, 1, 0])
+        self.assertEqual((router.packets(), [row.iface for row in router.rows("D")]), ([], [1]))
+        less = [(net, hop, 1, *rest) for net, hop, _, *rest in ROUTES]
+        router.reload([INTERFACES[1], INTERFACES[0]], RANGES, less, places=[None, 0, 1])
+        self.assertEqual((router.packets(), [row.iface for row in router.rows("D")]), ([], [0]))
+        self.assertEqual(router.frame(1, bytes.fromhex(DATA)), Answer.DONE)
+        self.assertEqual([(one.kind, one.where) for one in router.packets()], [("copy", 0)])
+        before = router.save()
+        for places in ([], [0], [0, 1, None], [0, 0], [0, 2], [2**32 - 1, 0]):
+            with self.assertRaisesRegex(Refused, r"a map of places that doesn't name each interface once \(73\)"):
+                router.reload([INTERFACES[1], INTERFACES[0]], RANGES, less, places=places)
+        for places, wrong in (([0, -1], ValueError), ([0, "1"], TypeError), (7, TypeError)):
+            self.assertRaises(wrong, router.reload, INTERFACES, places=places)
+        self.assertEqual((router.save(), router.packets()), (before, []))
+
     def test_kinds_of_answers(self):
         """As `include/viqeshor/viqeshor.h` tells them by their numbers."""
         for answer in Answer:
-            is_refused = 1 <= answer <= 39 or answer == 70
+            is_refused = 1 <= answer <= 39 or answer in (70, 73)
             self.assertEqual((answer.is_refused, answer.is_ignored), (is_refused, answer > 100), answer)
 
     def test_another_configuration_that_is_refused(self):
@@ -424,6 +443,29 @@ class Routers(unittest.TestCase):
         self.assertEqual([len(one.packet) for one in router.packets()], [36])
         router.run_to(2000)
         self.assertEqual(router.rows("G"), [])
+
+    def test_older_hosts_are_saved(self):
+        router, group = self.router(), "239.1.1.1"
+        router.up(2)
+        router.set_older_hosts(2, "all")
+        without = router.save()
+        router.frame(2, hosts.older_join("10.0.2.6", group, version=1))
+        router.frame(2, hosts.older_join("10.0.2.7", group))
+        saved, known = router.save(), [(2, group, 1, 260000, 260000)]
+        self.assertEqual((router.older_rows(), without[:4], saved[:4]), (known, b"VQST", b"VIQF"))
+        for heard, rows, answer in (
+            ("all", known, Answer.OLD_VERSION),
+            ("v2", [(2, group, 2, None, 260000)], Answer.DONE),
+            ("none", [], Answer.OLD_VERSION),
+        ):
+            with Router.restore(saved) as other:
+                self.assertEqual((other.older_rows(), other.save()), (known, saved))
+                other.set_older_hosts(2, heard)
+                self.assertEqual(other.older_rows(), rows)
+                self.assertEqual(other.frame(2, hosts.older_leave("10.0.2.7", group)), answer)
+        with self.assertRaises(Refused) as caught:
+            Router.restore(saved[:-1])
+        self.assertEqual(caught.exception.answer, Answer.HOSTS_NOT_HELD)
 
     def test_queries_of_version_2(self):
         router = self.router()

@@ -42,7 +42,7 @@ pub use trees::{Hop, LanDelay, Link, Neighbour, Path, Querier, Querying, Rpf, Rp
 /// The most bytes that a packet has.
 pub const MOST_BYTES: usize = 1528;
 /// What this crate and the library have to agree on: `VIQ_ABI` of `viqeshor.h`.
-pub const ABI: u32 = 7;
+pub const ABI: u32 = 8;
 
 const DONE: u32 = 0;
 const MEMORY: u32 = 40;
@@ -53,6 +53,7 @@ const OTHER_ABI: u32 = 53;
 const NO_SETTING: u32 = 54;
 const UNTAKEN: u32 = 55;
 const NEVER: u64 = u64::MAX;
+const NO_PLACE: u32 = u32::MAX;
 const NO_INTERFACE: u32 = u32::MAX;
 
 // ---- what is given
@@ -370,6 +371,10 @@ numbered! {
         Damaged = 69,
         /// Own addresses that can't stand.
         OwnAddresses = 70,
+        /// The saved groups of older hosts can't be read, or are none that the saved router can have.
+        HostsNotHeld = 71,
+        /// A map of places that doesn't name each interface once.
+        PlacesDontFit = 73,
         /// A timer of the saved state ends later than it may, or a fact lies where none can.
         NotNear = 72,
     }
@@ -921,6 +926,19 @@ extern "C" {
         range_count: usize,
         draw: Draw,
     ) -> u32;
+    fn viq_reload_places(
+        router: *mut c_void,
+        settings: *const raw::Settings,
+        interfaces: *const raw::Interface,
+        interface_count: usize,
+        routes: *const raw::Route,
+        route_count: usize,
+        ranges: *const raw::Range,
+        range_count: usize,
+        places: *const u32,
+        place_count: usize,
+        draw: Draw,
+    ) -> u32;
     fn viq_save(router: *const c_void, room: *mut u8, room_length: usize, size: *mut usize) -> u32;
     fn viq_restore(router: *mut *mut c_void, abi: u32, bytes: *const u8, length: usize) -> u32;
     fn viq_end(router: *mut c_void);
@@ -959,6 +977,11 @@ extern "C" {
     fn viq_sum(router: *const c_void) -> u32;
     fn viq_probes(router: *const c_void) -> u64;
     fn viq_touched(router: *const c_void) -> u64;
+}
+
+/// Places as C takes them. No number that is close to that of no place is of an interface.
+pub(crate) fn given_places(places: &[Option<u32>]) -> Vec<u32> {
+    places.iter().map(|place| place.map_or(NO_PLACE, |number| number.min(NO_PLACE - 1))).collect()
 }
 
 fn ends(moment: u64) -> Option<u64> {
@@ -1065,9 +1088,49 @@ impl Router {
         })
     }
 
+    /// Puts the router under another configuration whose interfaces may be left out, added or in another order. `places`
+    /// has of each interface of the router, in the order of its configuration, the number of the one of the other
+    /// configuration that has its link, or `None`. An interface with a place keeps what it has at its new number, and
+    /// stays up or down; one without goes down; one to which none goes is new, and down. The neighbours of an interface
+    /// go whose address, or the length of whose subnet, is another one. All else is as with `reload`. What is to be sent
+    /// leaves on the old interface of its link: a `Target` then has a number of before. An `Err` that the configuration
+    /// is refused, or after it the map (`Refusal::PlacesDontFit`), changes nothing: a map fits that has as many items as the
+    /// router has interfaces, and no number twice or past the last interface.
+    pub fn reload_places(
+        &mut self,
+        settings: &Settings,
+        interfaces: &[Interface],
+        routes: &[Route],
+        ranges: &[Range],
+        places: &[Option<u32>],
+        draw: u32,
+    ) -> Result<(), Error> {
+        let addresses = settings.given_addresses();
+        let interfaces: Vec<_> = interfaces.iter().map(Interface::given).collect();
+        let routes: Vec<_> = routes.iter().map(Route::given).collect();
+        let ranges: Vec<_> = ranges.iter().map(Range::given).collect();
+        let places = given_places(places);
+        // SAFETY: the router is there and borrowed alone; each list is passed as its pointer and its length.
+        done(unsafe {
+            viq_reload_places(
+                self.at_mut(),
+                &settings.given(&addresses),
+                interfaces.as_ptr(),
+                interfaces.len(),
+                routes.as_ptr(),
+                routes.len(),
+                ranges.as_ptr(),
+                ranges.len(),
+                places.as_ptr(),
+                places.len(),
+                Draw { bits: draw },
+            )
+        })
+    }
+
     /// Makes a router that goes on from the state that `save` returned: the same events and draws bring the same answers
-    /// and packets. It has nothing to send, its guard is on, and it hears no older version of IGMP. Bytes that are no
-    /// saved state of a router are refused, whatever they are.
+    /// and packets, once `set_older_hosts` and `set_query_version` have set what they had. It has nothing to send, and its
+    /// guard is on. Bytes that are no saved state of a router are refused, whatever they are.
     pub fn restore(saved: &[u8]) -> Result<Router, Error> {
         let mut made = null_mut();
         // SAFETY: the bytes are passed as their pointer and their length, and what points to the router is only written.
@@ -1083,8 +1146,8 @@ impl Router {
     }
 
     /// The state of the router as bytes, of which `restore` makes a router that goes on from it. What isn't in them:
-    /// what the clock showed at timestamp 0, packets that are untaken, what `set_guard` set, and what `set_older_hosts`
-    /// and `set_query_version` set and the groups in an older mode.
+    /// what the clock showed at timestamp 0, packets that are untaken, and what `set_guard`, `set_older_hosts` and
+    /// `set_query_version` set.
     pub fn save(&self) -> Result<Vec<u8>, Error> {
         let size = self.save_into(&mut [])?;
         let mut saved = vec![0; size];
@@ -1294,8 +1357,9 @@ impl Router {
 
     // ---- older versions of IGMP
 
-    /// Sets which hosts of older versions an interface hears from then on, and forgets what it heard before. A new
-    /// router hears none of them, and refuses their messages by `Refusal::OldVersion`. It is no event.
+    /// Sets which hosts of older versions an interface hears from then on, and forgets what it heard before; where it
+    /// heard none it keeps what was restored of those that it is to hear. A new router hears none of them, and refuses
+    /// their messages by `Refusal::OldVersion`. It is no event.
     pub fn set_older_hosts(&mut self, iface: u32, hosts: OlderHosts) -> Result<(), Error> {
         // SAFETY: the router is there and borrowed alone.
         done(unsafe { viq_older(self.at_mut(), iface, hosts as u32) })

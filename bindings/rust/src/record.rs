@@ -1,5 +1,5 @@
 //! Records of what a router took (docs/LIBRARY.md, "A recording").
-use crate::{done, raw, Error, Interface, Range, Route, Settings};
+use crate::{done, given_places, raw, Error, Interface, Range, Route, Settings};
 
 /// A call that a router took, and what it answered. A field that its kind of call doesn't have isn't read.
 #[repr(C)]
@@ -59,6 +59,21 @@ extern "C" {
         route_count: usize,
         ranges: *const raw::Range,
         range_count: usize,
+        room: *mut u8,
+        room_length: usize,
+        size: *mut usize,
+    ) -> u32;
+    fn viq_record_reload_places(
+        call: *const Call,
+        settings: *const raw::Settings,
+        interfaces: *const raw::Interface,
+        interface_count: usize,
+        routes: *const raw::Route,
+        route_count: usize,
+        ranges: *const raw::Range,
+        range_count: usize,
+        places: *const u32,
+        place_count: usize,
         room: *mut u8,
         room_length: usize,
         size: *mut usize,
@@ -133,6 +148,43 @@ impl Call {
                     routes.len(),
                     ranges.as_ptr(),
                     ranges.len(),
+                    room.as_mut_ptr(),
+                    room.len(),
+                    size,
+                )
+            }
+        })
+    }
+    /// Puts the record of another configuration by a map of places, as `Router::reload_places` takes it, behind others.
+    pub fn put_reload_places(
+        &self,
+        settings: &Settings,
+        interfaces: &[Interface],
+        routes: &[Route],
+        ranges: &[Range],
+        places: &[Option<u32>],
+        to: &mut Vec<u8>,
+    ) -> Result<(), Error> {
+        let addresses = settings.given_addresses();
+        let interfaces: Vec<_> = interfaces.iter().map(Interface::given).collect();
+        let routes: Vec<_> = routes.iter().map(Route::given).collect();
+        let ranges: Vec<_> = ranges.iter().map(Range::given).collect();
+        let places = given_places(places);
+        let least = 20 * interfaces.len() + 24 * routes.len() + 12 * ranges.len() + 4 * places.len() + 192;
+        put(to, least, |room, size| {
+            // SAFETY: each list and the room are passed as their pointers and their lengths.
+            unsafe {
+                viq_record_reload_places(
+                    self,
+                    &settings.given(&addresses),
+                    interfaces.as_ptr(),
+                    interfaces.len(),
+                    routes.as_ptr(),
+                    routes.len(),
+                    ranges.as_ptr(),
+                    ranges.len(),
+                    places.as_ptr(),
+                    places.len(),
                     room.as_mut_ptr(),
                     room.len(),
                     size,

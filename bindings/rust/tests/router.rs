@@ -193,6 +193,34 @@ fn another_configuration() {
 }
 
 #[test]
+fn another_configuration_by_places() {
+    let mut router = joined();
+    let settings = Settings::default();
+    let mut by = |interfaces: &[Interface], places: &[Option<u32>]| {
+        let routes: Vec<_> = routes()
+            .iter()
+            .map(|route| Route { iface: (interfaces.len() as u32).saturating_sub(1), ..*route })
+            .collect();
+        (router.reload_places(&settings, interfaces, &routes, &ranges(), places, 7), router.packet_count())
+    };
+    let refused = (Err(Error::Refused(Refusal::PlacesDontFit)), 0);
+    let [first, second, third] = interfaces();
+    let turned = [third, second, first];
+    for places in [&[][..], &[Some(2), Some(1)], &[Some(2), Some(1), None, None]] {
+        assert_eq!(by(&turned, places), refused);
+    }
+    for place in [1, 3, u32::MAX - 1, u32::MAX] {
+        assert_eq!(by(&turned, &[Some(2), Some(1), Some(place)]), refused);
+    }
+    assert_eq!(by(&[], &[]), (Err(Error::Refused(Refusal::InterfaceCount)), 0));
+    assert_eq!(by(&turned, &[Some(2), Some(1), Some(0)]), (Ok(()), 0));
+    assert_eq!(by(&[second, first], &[None, Some(0), Some(1)]), (Ok(()), 0));
+    // The Join was on the second interface, which is the first now, and the source is behind the other one.
+    assert_eq!(router.frame(1, &bytes_of(DATA), 0), DONE);
+    assert_eq!(only(taken(&mut router)).target, Target::Copy(0));
+}
+
+#[test]
 fn a_join_a_packet_and_its_copy() {
     let mut router = just_joined();
     let sent = taken(&mut router);
@@ -429,6 +457,12 @@ fn what_is_recorded() {
     call.put_reload(&settings, &interfaces(), &routes(), &ranges(), &mut put).unwrap();
     assert_eq!(put.len() - wanted.len(), 1 + 4 + 21 + 8 + 3 * 20 + 8 + 4 + 8 + 2 * 24 + 8 + 12 + 8 + 4);
     assert_eq!(put[wanted.len()..][..5], [b'c', 0, 0, 0, 7]);
+    let mut placed = Vec::new();
+    call.put_reload_places(&settings, &interfaces(), &routes(), &ranges(), &[None, Some(1)], &mut placed).unwrap();
+    let behind = placed.len() - 28;
+    assert_eq!(placed[1..behind], put[wanted.len()..][1..behind]);
+    let places = [vec![b'm'], words(&[0, 2, u32::MAX, 1]), end.clone()].concat();
+    assert_eq!([&placed[..1], &placed[behind..placed.len() - 4]].concat(), places);
 }
 
 /// These bytes, with their CRC-32 behind them.
@@ -530,6 +564,12 @@ fn hosts_of_older_versions() {
     assert_eq!(router.older_rows(), Ok(vec![row]));
     let row = GroupRow { iface: 1, group, is_exclude: true, end: Some(260_000) };
     assert_eq!(router.rows_of(), Ok(vec![row]));
+    let saved = router.save().unwrap();
+    let mut other = Router::restore(&saved).unwrap();
+    assert_eq!(other.set_older_hosts(1, OlderHosts::VersionTwo), Ok(()));
+    assert_eq!((other.older_rows(), other.save()), (router.older_rows(), Ok(saved.clone())));
+    let cut = Router::restore(&saved[..saved.len() - 1]).map(|_| ());
+    assert_eq!(cut, Err(Error::Refused(Refusal::HostsNotHeld)));
     assert_eq!(router.set_older_hosts(1, OlderHosts::VersionTwo), Ok(()));
     assert_eq!(router.older_rows(), Ok(vec![]));
     assert_eq!(router.set_query_version(1, QueryVersion::Two), Ok(()));

@@ -5,10 +5,12 @@ ghost use Rattle.lab_stations.specs.Queries.{bytes_heard, hears_queries, kind_he
 ghost use Rattle.lab_stations.specs.Stations.{nobody_behind, own_addresses};
 
 use crate::line::{GuardedLine, MoveLine, PacketLine, Way};
-use igmp_older::{OlderHosts, Presence, QueryVersion, ResponseTimes, cut_query, give_query};
+use igmp_older::{
+    OlderHosts, Presence, PresentRow, QueryVersion, ResponseTimes, cut_query, give_query,
+};
 use pim_guard::{stops_frame, stops_unicast};
 use pim_scenario::{FrontText, Link};
-use pim_types::{Addr, Config, Emission, Event, EventKind, IfaceId, Refusal, Series, Verdict};
+use pim_types::{Addr, Config, Emission, Event, EventKind, IfaceId, Key, Refusal, Series, Verdict};
 use std::alloc::{AllocError, Global};
 
 /// What the lab knows of another configuration.
@@ -19,15 +21,18 @@ pub struct Reloaded {
     limit: u32,
     front: FrontText,
     times: ResponseTimes,
+    places: Series<Option<u32>>,
 }
 
 impl Reloaded {
-    /// What the lab keeps of another configuration with its links.
+    /// What the lab keeps of another configuration with its links, and of where the old interfaces go: nowhere else where
+    /// there are no places.
     pub fn new(
         alloc: Global,
         config: &Config,
         links: Series<Link>,
         front: FrontText,
+        places: Series<Option<u32>>,
     ) -> Result<Reloaded, AllocError> {
         let addresses = addresses_of(alloc, config)?;
         Ok(Reloaded {
@@ -36,6 +41,7 @@ impl Reloaded {
             limit: config.limit,
             front,
             times: times_of(config),
+            places,
         })
     }
 }
@@ -83,8 +89,8 @@ impl Station {
         })
     }
 
-    /// Puts the router's interfaces on other links, and its front under another configuration. The front forgets what it
-    /// heard on interfaces that are removed, or that get another setting.
+    /// Puts the router's interfaces on other links, and its front under another configuration. What the front heard goes
+    /// with its interface; what it heard on interfaces that are removed, or that get another setting, is forgotten.
     pub fn reload(&mut self, reloaded: Reloaded) -> Result<(), AllocError> {
         let Reloaded {
             links,
@@ -92,15 +98,38 @@ impl Station {
             limit,
             front,
             times,
+            places,
         } = reloaded;
         let count = u32::try_from(links.len()).map_err(|_| AllocError)?;
-        self.presence.resize(limit as usize, count)?;
+        if places.is_empty() {
+            self.presence.resize(limit as usize, count)?;
+        } else {
+            self.presence
+                .place(limit as usize, count, places.as_slice())?;
+        }
         set_hosts(&mut self.presence, count, front.older_hosts);
         self.version = front.query_version;
         self.guard = front.guard;
         self.times = times;
         self.links = links;
         self.addresses = addresses;
+        Ok(())
+    }
+
+    /// Puts rows of older hosts that were saved into the router's front, as if it were new: it keeps what it hears of them.
+    pub fn resume(
+        &mut self,
+        alloc: Global,
+        limit: u32,
+        rows: &[(Key, PresentRow)],
+    ) -> Result<(), AllocError> {
+        self.presence.take_rows(alloc, limit as usize, rows)?;
+        let count = u32::try_from(self.links.len()).map_err(|_| AllocError)?;
+        for number in 0..count {
+            let iface = IfaceId { number };
+            let hosts = self.presence.hosts(iface);
+            self.presence.keep_heard(iface, hosts);
+        }
         Ok(())
     }
 

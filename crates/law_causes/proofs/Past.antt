@@ -4,7 +4,7 @@ use Rattle.pim_ip.{specs.declared.addr.Addr.Addr}
 use Rattle.pim_types.{specs.{Keys.{iface_in, same_key, source_key, star_key}, declared.{config.IfaceId.IfaceId, fact.Key.Key}}, proofs.Keys.equal_keys}
 use Rattle.pim_wire.{specs.Values.JoinPrune}
 use Rattle.igmp_wire.{specs.Values.Record}
-use Rattle.pim_model.{specs.{declared.accepted.Accepted.Accepted, Cause.{Happened, Past, asks_for, done_as, has_cause, is_down_of, is_join_for, is_record_for, is_report_for}, Downstream.{Named, accepted_joins, holdtime_end, holdtime_end_from, holdtime_forever, is_named, joined_keys, named_key}, Querier.{group_membership_interval, is_skipped}}}
+use Rattle.pim_model.{specs.{declared.accepted.Accepted.Accepted, Cause.{Happened, Passed, Past, asks_for, done_as, has_cause, is_down_of, is_join_for, is_record_for, is_report_for}, Downstream.{Named, accepted_joins, holdtime_end, holdtime_end_from, holdtime_forever, is_named, joined_keys, named_key}, Querier.{group_membership_interval, is_skipped}}}
 use Rattle.law_settled.{proofs.{ListLaws.{each_more, each_passing, either}, Downstream.named_on}}
 use Rattle.law_causes.{proofs.{Asks.{KeyAsked, MoreOn, Throughout}, Reports.Asks}}
 
@@ -26,11 +26,11 @@ ends_so : (P : ℕ → Type 0) (b : Bool) (end : ℕ) → ((now : ℕ) → (b ||
 ends_so P b end f = grind arith
 
 module _ (past : Past) (h : Happened) where
-  pub goes_on : (i : ℕ) → is_down_of i (done_as h) ≡ false → MoreOn (CausedBy past) (CausedBy (h ∷ past)) i
+  pub goes_on : (i : ℕ) → is_down_of i (done_as h) ≡ false → MoreOn (CausedBy past) (CausedBy (Passed.Happening h ∷ past)) i
   unfolding has_cause
   goes_on i up g src now e = or_right (asks_for now i g src h.before (done_as h)) _ (rw (up, e) refl)
 
-  asks_now : (i g src now : ℕ) → asks_for now i g src h.before (done_as h) ≡ true → CausedBy (h ∷ past) i g src now
+  asks_now : (i g src now : ℕ) → asks_for now i g src h.before (done_as h) ≡ true → CausedBy (Passed.Happening h ∷ past) i g src now
   unfolding has_cause
   asks_now i g src now e = or_left (asks_for now i g src h.before (done_as h)) _ e
 
@@ -45,7 +45,7 @@ module _ (past : Past) (h : Happened) where
 
     join_asks : (g src now : ℕ)
         → (is_named keys (star_key i.number g) || is_named keys (source_key i.number g src)) ≡ true → lasts now ≡ true
-        → CausedBy (h ∷ past) i.number g src now
+        → CausedBy (Passed.Happening h ∷ past) i.number g src now
     unfolding asks_for is_join_for
     join_asks g src now named on = grind (arith, asks_now, eq-eqb)
 
@@ -53,18 +53,18 @@ module _ (past : Past) (h : Happened) where
     key_on group source = record { iface = i; group = group; source = source; rpt = false }
 
     key_asks : (group : Addr) (source : Option Addr) → is_named keys (key_on group source) ≡ true → (now : ℕ)
-        → lasts now ≡ true → KeyAsked (CausedBy (h ∷ past)) (key_on group source) now
+        → lasts now ≡ true → KeyAsked (CausedBy (Passed.Happening h ∷ past)) (key_on group source) now
     key_asks group source named now on = grind (arith, join_asks, or_left, or_right)
 
     pub join_new : (k : Key) → is_named keys k ≡ true → k.rpt ≡ false
-        → Throughout (KeyAsked (CausedBy (h ∷ past)) k) (holdtime_end h.before m.holdtime)
+        → Throughout (KeyAsked (CausedBy (Passed.Happening h ∷ past)) k) (holdtime_end h.before m.holdtime)
     unfolding holdtime_end_from joined_keys
     join_new k named not_rpt =
         let iface : iface_in k ≡ i.number = is_named_on i.number k (accepted_joins h.before m) named in
         let same : k ≡ key_on k.group k.source =
         λ j. record { iface = record { number = iface j }; group = k.group; source = k.source; rpt = not_rpt j } in
-        ends_so (KeyAsked (CausedBy (h ∷ past)) k) (m.holdtime == holdtime_forever) _
-        (λ now on. subst (λ (q : Key). KeyAsked (CausedBy (h ∷ past)) q now) (sym same)
+        ends_so (KeyAsked (CausedBy (Passed.Happening h ∷ past)) k) (m.holdtime == holdtime_forever) _
+        (λ now on. subst (λ (q : Key). KeyAsked (CausedBy (Passed.Happening h ∷ past)) q now) (sym same)
         (key_asks k.group k.source (subst (λ (q : Key). is_named keys q ≡ true) same named) now on))
 
   -- ---- a report
@@ -74,7 +74,7 @@ module _ (past : Past) (h : Happened) where
     full = h.before.present + group_membership_interval h.before i.number
 
     report_asks : (g src now : ℕ) → list_any (is_record_for g src) records ≡ true → nat_lt now full ≡ true
-        → CausedBy (h ∷ past) i.number g src now
+        → CausedBy (Passed.Happening h ∷ past) i.number g src now
     unfolding asks_for is_report_for
     report_asks g src now some on = grind (arith, asks_now, eq-eqb)
 
@@ -91,11 +91,11 @@ module _ (past : Past) (h : Happened) where
     abbrev is_kept : Record → Bool
     is_kept r = not (is_skipped r)
 
-    record_asks : (r : Record) → Among r × (is_kept r ≡ true) → Asks (CausedBy (h ∷ past)) h.before i.number r
+    record_asks : (r : Record) → Among r × (is_kept r ≡ true) → Asks (CausedBy (Passed.Happening h ∷ past)) h.before i.number r
     unfolding Among is_record_for
     record_asks r f = grind (arith, or_left, or_right, eq-eqb, report_asks)
 
-    pub report_new : AllByRecursion (Asks (CausedBy (h ∷ past)) h.before i.number) (filter is_kept records)
+    pub report_new : AllByRecursion (Asks (CausedBy (Passed.Happening h ∷ past)) h.before i.number) (filter is_kept records)
     report_new =
-        each_more (λ r. Among r × (is_kept r ≡ true)) (Asks (CausedBy (h ∷ past)) h.before i.number) record_asks
+        each_more (λ r. Among r × (is_kept r ≡ true)) (Asks (CausedBy (Passed.Happening h ∷ past)) h.before i.number) record_asks
         (filter is_kept records) (each_passing Among is_kept records (all_among records (λ q e. e)))

@@ -3,7 +3,7 @@ use Rattle.std.{proofs.{Common.{◌≡◌, ◌∙◌, ℕ, ◌==◌, Bool, true,
 use Rattle.pim_ip.{specs.{Ipv4.Packet, declared.refusal.Refusal.Refusal}}
 use Rattle.pim_types.{specs.declared.{config.Config.Config, event.Event.Event, outcome.{Emission.Emission, Outcome.Outcome, Stop.Stop, Verdict.Verdict}}}
 use Rattle.pim_wire.{specs.Values.{Encapsulated, Null}}
-use Rattle.pim_model.{specs.{declared.accepted.Accepted.Accepted, Asserts.assert_received, Cause.{CopiesAreAsked, Happened, IsAskedFor, OutcomesAreAsked, Past, copies_in, done_as, if_done, is_down_of, packet_in, past_after}, Downstream.to_me, Forwarding.{Forwarded, forwarded, register_received}, Judging.{Judged, judged}, Messages.Message, Querier.{querier_up, query_seen, querying, report_seen}, State.{State, opening}, Step.{Answered, Change, advanced, change, concluded, done, iface_down, iface_up, outcome_of, packet_forwarded, ran, rps_replaced, run, state_after, step, stopped, taken, taken_unless_full, with_messages}}}
+use Rattle.pim_model.{specs.{declared.accepted.Accepted.Accepted, Asserts.assert_received, Cause.{CopiesAreAsked, Happened, IsAskedFor, OutcomesAreAsked, Passed, Past, copies_in, done_as, happened, if_done, is_down_of, packet_in, past_after}, Downstream.to_me, Forwarding.{Forwarded, forwarded, register_received}, Judging.{Judged, judged}, Messages.Message, Querier.{querier_up, query_seen, querying, report_seen}, State.{State, opening}, Step.{Answered, Change, advanced, change, concluded, done, iface_down, iface_up, outcome_of, packet_forwarded, ran, rps_replaced, run, state_after, step, stopped, taken, taken_unless_full, with_messages}}}
 use Rattle.law_settled.{proofs.{UnchangedLaws.{full_or_taken, taken_done}, Steps.{opening_is_settled, step_is_settled}}, specs.Ready.IsSettled}
 use Rattle.law_causes.{specs.Asked.{NothingFlowsUnasked, RunIsAsked}, proofs.{Asks.{IsAsked, down_more, rows_more, to_me_asked}, Copies.{AreCopies, copies_are, packet_copies}, Fired.{advanced_asked, all_same, settled_asked}, Flows.{Flows, forwarded_flows, register_flows}, Past.{CausedBy, goes_on, join_new, report_new}, Reports.{query_seen_asked, report_asked}, Same.{Same, assert_same, hello_same, register_stop_same, rows_of, seen_same}}}
 
@@ -22,7 +22,7 @@ module _ (past : Past) (s : State) (e : Event) (f : IsAsked (CausedBy past) s) (
   here = record { before = s; event = e }
 
   abbrev after : Past
-  after = here ∷ past
+  after = Passed.Happening here ∷ past
 
   -- what it leaves: the rows after it, and its copies
   pub record Asked (a : Answered) : Type 0 where
@@ -153,7 +153,7 @@ runs_asked : (earlier : List Event) (past : Past) (s : State) → IsAsked (Cause
 unfolding past_after state_after ran
 runs_asked [] past s f ready e = (step_asked past s e f ready).copies
 runs_asked (x ∷ xs) past s f ready e =
-    runs_asked xs (record { before = s; event = x } ∷ past) (step s x).state (step_asked past s x f ready).rows
+    runs_asked xs (happened s x ∷ past) (step s x).state (step_asked past s x f ready).rows
     (step_is_settled s x ready) e
 
 outcomes_asked : (events : List Event) (past : Past) (s : State) → IsAsked (CausedBy past) s → IsSettled s
@@ -162,7 +162,7 @@ unfolding run ran
 outcomes_asked [] past s f ready = tt
 outcomes_asked (x ∷ xs) past s f ready = (
   (step_asked past s x f ready).copies,
-  outcomes_asked xs (record { before = s; event = x } ∷ past) (step s x).state (step_asked past s x f ready).rows
+  outcomes_asked xs (happened s x ∷ past) (step s x).state (step_asked past s x f ready).rows
       (step_is_settled s x ready),
 )
 

@@ -1,12 +1,12 @@
 -- A cause is an earlier event that asks.
-use Rattle.std.{proofs.{Common.{◌≡◌, ◌⊎◌, inl, inr, ◌∙◌, ℕ, ◌+◌, ◌*◌, ◌<◌, nat_lt, ◌==◌, Bool, true, false, not, ◌||◌, List, [], ◌∷◌, Option, Some, Result, Ok, Err, refl, sym, ap, arith, eq-eqb, eqb-true, ltb-true}, lemmas.{Bool.not-true, List.Elements.{All-cons, All-nil, Contains-append_left, Contains-append_right, Contains-push}}}, specs.{Cmp.{first_so, second_so}, List.{All, Contains, list_any}}}
+use Rattle.std.{proofs.{Common.{◌≡◌, ◌⊎◌, inl, inr, ◌∙◌, ℕ, ◌+◌, ◌*◌, ◌<◌, nat_lt, ◌==◌, Bool, true, false, not, ◌||◌, List, [], ◌∷◌, Option, None, Some, Result, Ok, Err, refl, sym, ap, arith, eq-eqb, eqb-true, ltb-true}, lemmas.{Bool.not-true, List.Elements.{Contains-append_left, Contains-append_right, Contains-push}}}, specs.{Cmp.{first_so, second_so}, List.{Contains, list_any}, Option.option_map_or}}
 use Rattle.pim_ip.{specs.declared.refusal.Refusal.Refusal}
 use Rattle.pim_types.{specs.{Keys.{source_key, star_key}, declared.{config.IfaceId.IfaceId, event.EventKind.EventKind, fact.Key.Key, outcome.{Ignored.Ignored, Stop.Stop, Verdict.Verdict}}}, proofs.Keys.equal_keys}
 use Rattle.pim_wire.{specs.Values.JoinPrune}
 use Rattle.igmp_wire.{specs.{Values.Record, declared.report.RecordType.RecordType}}
-use Rattle.pim_model.{specs.{declared.accepted.Accepted.Accepted, Cause.{Happened, Past, asks_for, done_as, has_cause, if_done, is_down_of, is_including, is_join_for, is_record_for, is_report_for}, Downstream.{Named, accepted_joins, holdtime_forever, is_named, joined_keys, named_key}, Judging.{Judged, down_judged, ignore_if, judged, refuse_if, ◌>>◌}, Querier.is_excluding, State.State, Step.step, Tables.is_among}}
+use Rattle.pim_model.{specs.{declared.accepted.Accepted.Accepted, Cause.{Happened, Passed, Past, asks_for, done_as, has_cause, if_done, is_down_of, is_including, is_join_for, is_record_for, is_report_for, number_before}, Downstream.{Named, accepted_joins, holdtime_forever, is_named, joined_keys, named_key}, Judging.{Judged, down_judged, ignore_if, judged, refuse_if, ◌>>◌}, Querier.is_excluding, State.State, Step.step, Tables.is_among}}
 use Rattle.law_settled.{proofs.{ListLaws.either, TableLaws.any_of_map}}
-use Rattle.law_causes.{specs.Told.{AsksByJoin, AsksByReport, CauseIsAnEarlierEvent, HasJoin, HasRecord, IsCause, IsDone, StaysUp}}
+use Rattle.law_causes.{specs.Told.{AsksByJoin, AsksByReport, CauseIsAnEarlierEvent, HasJoin, HasRecord, IsCause, IsDone}}
 
 -- one of a list that passes
 abbrev Passing : {X : Type 0} → (X → Bool) → List X → Type 0
@@ -61,6 +61,10 @@ has_record records g src e = grind (arith, some_passes, not-true, eqb-true, eith
 
 -- ---- an event
 
+-- of the events of a past
+abbrev Caused : Past → ℕ → ℕ → ℕ → ℕ → Type 0
+Caused past now i g src = (x : Happened) × IsCause past now i g src x
+
 module _ (h : Happened) where
   if_done_is : (answer : Result Verdict Refusal) (j : Judged) (a : Accepted) → if_done answer j ≡ Some a
       → (answer ≡ Ok Verdict.Done) × (j ≡ Ok a)
@@ -111,37 +115,58 @@ module _ (h : Happened) where
   unfolding done_as judged down_judged
   down_is i kind done = grind (arith, tests_pass, never_stopped, eq-eqb)
 
-  -- of the events before it
-  abbrev Caused : Past → ℕ → ℕ → ℕ → ℕ → Type 0
-  Caused past now i g src = (x : Happened) × IsCause past now i g src x
-
   asks_itself : (past : Past) (now i g src : ℕ) → asks_for now i g src h.before (done_as h) ≡ true
-      → Caused (h ∷ past) now i g src
+      → Caused (Passed.Happening h ∷ past) now i g src
   asks_itself past now i g src e =
       let asks : IsDone h × (AsksByJoin h now i g src ⊎ AsksByReport h now i g src) =
       asks_so now i g src (done_as h) refl e in
-      let none : All (StaysUp i) [] = All-nil (StaysUp i) in
-      (h, record { later = []; earlier = past; place = refl; done = asks.0; asks = asks.1; stays_up = none })
+      (h, record { later = []; earlier = past; number = i; place = refl; done = asks.0; asks = asks.1; stays_up = refl })
 
   asked_before : (past : Past) (now i g src : ℕ) → not (is_down_of i (done_as h)) ≡ true → Caused past now i g src
-      → Caused (h ∷ past) now i g src
+      → Caused (Passed.Happening h ∷ past) now i g src
   asked_before past now i g src up rest = (
     rest.0,
     record {
-      later = h ∷ (rest.1).later;
+      later = Passed.Happening h ∷ (rest.1).later;
       earlier = (rest.1).earlier;
-      place = ap (λ (p : Past). h ∷ p) (rest.1).place;
+      number = (rest.1).number;
+      place = ap (λ (p : Past). Passed.Happening h ∷ p) (rest.1).place;
       done = (rest.1).done;
       asks = (rest.1).asks;
-      stays_up = All-cons (StaysUp i) h (rest.1).later
-          (λ kind done. let down : true ≡ false = sym (down_is i kind done) ∙ not-true _ up in cc) (rest.1).stays_up;
+      stays_up = (
+        λ kind done. let down : true ≡ false = sym (down_is i kind done) ∙ not-true _ up in cc,
+        (rest.1).stays_up,
+      );
     },
   )
+
+-- before the interfaces got other numbers
+renumbered_before : (m : List (Option ℕ)) (past : Past) (now i g src : ℕ) (o : Option ℕ) → number_before 0 m i ≡ o
+    → option_map_or (λ old. has_cause past now old g src) o false ≡ true
+    → ((old : ℕ) → has_cause past now old g src ≡ true → Caused past now old g src)
+    → Caused (Passed.Renumbered m ∷ past) now i g src
+renumbered_before m past now i g src None was e later = cc
+renumbered_before m past now i g src (Some old) was e later =
+    let rest : Caused past now old g src = later old e in (
+      rest.0,
+      record {
+        later = Passed.Renumbered m ∷ (rest.1).later;
+        earlier = (rest.1).earlier;
+        number = (rest.1).number;
+        place = ap (λ (p : Past). Passed.Renumbered m ∷ p) (rest.1).place;
+        done = (rest.1).done;
+        asks = (rest.1).asks;
+        stays_up = (old, was, (rest.1).stays_up);
+      },
+    )
 
 pub cause_is_an_earlier_event : CauseIsAnEarlierEvent
 unfolding has_cause
 cause_is_an_earlier_event [] now i g src e = cc
-cause_is_an_earlier_event (h ∷ past) now i g src e =
+cause_is_an_earlier_event (Passed.Happening h ∷ past) now i g src e =
     either _ _ (asks_itself h past now i g src)
     (λ both. asked_before h past now i g src (first_so _ _ both)
     (cause_is_an_earlier_event past now i g src (second_so _ _ both))) e
+cause_is_an_earlier_event (Passed.Renumbered m ∷ past) now i g src e =
+    renumbered_before m past now i g src (number_before 0 m i) refl e
+    (λ old f. cause_is_an_earlier_event past now old g src f)

@@ -1,10 +1,10 @@
 -- What a cause is, as a rule: an earlier event that requests the copy, answered Done, with no Down of the interface
 -- answered Done after it.
-use Rattle.std.{specs.{List.{All, Contains}, Prelude.{List, Ok, false, true, ℕ, ◌*◌, ◌++◌, ◌+◌, ◌<◌, ◌≡◌, ◌⊎◌, ◌∷◌}}}
+use Rattle.std.{specs.{List.Contains, Prelude.{List, Ok, Some, [], false, true, ℕ, ◌*◌, ◌++◌, ◌+◌, ◌<◌, ◌≡◌, ◌⊎◌, ◌∷◌}}}
 use Rattle.pim_types.{specs.declared.{event.EventKind.EventKind, outcome.Verdict.Verdict}}
 use Rattle.pim_wire.{specs.{Values.JoinPrune, declared.join_prune.EntryKind.EntryKind}}
 use Rattle.igmp_wire.{specs.{Values.Record, declared.report.RecordType.RecordType}}
-use Rattle.pim_model.{specs.{declared.accepted.Accepted.Accepted, Cause.{Happened, Past, has_cause}, Downstream.{Named, accepted_joins}, Judging.judged, Querier.{group_membership_interval, is_skipped}, State.State, Step.step}}
+use Rattle.pim_model.{specs.{declared.accepted.Accepted.Accepted, Cause.{Happened, Passed, Past, has_cause, number_before}, Downstream.{Named, accepted_joins}, Judging.judged, Querier.{group_membership_interval, is_skipped}, State.State, Step.step}}
 
 -- The message has an accepted Join(*,G) or Join(S,G).
 pub record HasJoin (s : State) (m : JoinPrune) (g src : ℕ) : Type 0 where
@@ -47,14 +47,21 @@ IsDone h = (step h.before h.event).answer ≡ Ok Verdict.Done
 abbrev pub StaysUp : ℕ → Happened → Type 0
 StaysUp i h = h.event.kind ≡ EventKind.Down (record { number = i }) → IsDone h → ⊥
 
--- The event is a cause among the events of the past, the latest first.
+-- The interface, which had the second number before this past, didn't go down in it.
+abbrev pub StayedUp : Past → ℕ → ℕ → Type 0
+StayedUp [] i was = i ≡ was
+StayedUp (Passed.Happening h ∷ past) i was = StaysUp i h × StayedUp past i was
+StayedUp (Passed.Renumbered m ∷ past) i was = (old : ℕ) × (number_before 0 m i ≡ Some old) × StayedUp past old was
+
+-- The event is a cause among the events of the past, the latest first. The interface may have had another number then.
 pub record IsCause (past : Past) (now i g src : ℕ) (h : Happened) : Type 0 where
   pub later : Past
   pub earlier : Past
-  pub place : past ≡ later ++ h ∷ earlier
+  pub number : ℕ
+  pub place : past ≡ later ++ Passed.Happening h ∷ earlier
   pub done : IsDone h
-  pub asks : AsksByJoin h now i g src ⊎ AsksByReport h now i g src
-  pub stays_up : All (StaysUp i) later
+  pub asks : AsksByJoin h now number g src ⊎ AsksByReport h now number g src
+  pub stays_up : StayedUp later i number
 
 -- A cause is an earlier event, answered Done, that requests the copy; and the interface didn't go down after it.
 abbrev pub CauseIsAnEarlierEvent : Type 0

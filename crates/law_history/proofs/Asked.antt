@@ -1,12 +1,13 @@
 -- Nothing flows unasked, whatever events and reloads came before.
 use Rattle.std.{proofs.Common.{ℕ, ◌+◌, List, [], ◌∷◌, refl, sym, subst}}
 use Rattle.pim_types.{specs.declared.{config.Config.Config, event.Event.Event}}
-use Rattle.law_scope.{specs.Rest.IsAtRest, proofs.Rest.{opening_is_at_rest, step_is_at_rest}}
-use Rattle.pim_model.{specs.{Cause.{OutcomesAreAsked, Past, past_after}, Registers.keepalive_period, State.{addressing_of, State, opening}, Step.{ran, rps_replaced, run, state_after, step}}}
-use Rattle.law_causes.{proofs.{Asks.IsAsked, Fired.{all_same, settled_asked}, Past.CausedBy, Same.Same, Steps.{opening_asked, step_asked}}}
-use Rattle.law_plane.{specs.Keeping.{keep, kept_until}, proofs.Keeps.{keep_by, keep_is_at_rest}}
-use Rattle.law_reloaded.{specs.Reloading.{hellos_anew, reload, removals, replaced, under}, proofs.Rest.reload_leaves_rest}
-use Rattle.law_history.{specs.{History.{AreAccepted, Given, past_given, state_given}, Laws.{CallIsAsked, NothingFlowsUnaskedOverReloads}}}
+use Rattle.law_scope.{specs.Rest.IsAtRest, proofs.Rest.step_is_at_rest}
+use Rattle.pim_model.{specs.{Cause.{OutcomesAreAsked, Passed, Past, happened, past_after}, Registers.keepalive_period, State.{State, opening}, Step.{ran, run, state_after, step}}}
+use Rattle.law_causes.{proofs.{Asks.IsAsked, Fired.all_same, Past.CausedBy, Same.Same, Steps.{opening_asked, step_asked}}}
+use Rattle.law_plane.{specs.Keeping.{keep, kept_until}, proofs.Keeps.keep_by}
+use Rattle.law_reloaded.{specs.Reloading.{reload, removals}}
+use Rattle.law_placed.{specs.Placing.reload_by}
+use Rattle.law_history.{specs.{History.{AreAccepted, Given, past_given, state_given}, Laws.{CallIsAsked, NothingFlowsUnaskedOverReloads}}, proofs.{Led.{Led, is_led, keep_led, opening_led, placed_led, reload_led, step_led}, Placed.{placed_reload_asked, replaced_asked}}}
 
 -- ---- events
 
@@ -16,7 +17,7 @@ unfolding run ran
 outcomes_asked [] past s f rest = tt
 outcomes_asked (x ∷ xs) past s f rest = (
   (step_asked past s x f rest.settled).copies,
-  outcomes_asked xs (record { before = s; event = x } ∷ past) (step s x).state (step_asked past s x f rest.settled).rows
+  outcomes_asked xs (happened s x ∷ past) (step s x).state (step_asked past s x f rest.settled).rows
       (step_is_at_rest s x rest),
 )
 
@@ -25,23 +26,17 @@ run_asked : (events : List Event) (past : Past) (s : State) → IsAsked (CausedB
 unfolding state_after ran past_after
 run_asked [] past s f rest = f
 run_asked (x ∷ xs) past s f rest =
-    run_asked xs (record { before = s; event = x } ∷ past) (step s x).state (step_asked past s x f rest.settled).rows
+    run_asked xs (happened s x ∷ past) (step s x).state (step_asked past s x f rest.settled).rows
     (step_is_at_rest s x rest)
 
 -- ---- a reload
 
-under_same : (s : State) (c : Config) → Same s (under s c)
-unfolding under rps_replaced
-under_same s c = refl
-
 reload_asked : (past : Past) (s : State) (c : Config) (w : ℕ) → IsAsked (CausedBy past) s → IsAtRest s
     → IsAsked (CausedBy (past_after past s (removals s c w))) (reload s c w).0
-unfolding reload replaced state_after
+unfolding reload state_after
 reload_asked past s c w f rest =
     let after : Past = past_after past s (removals s c w) in
-    let t : State = state_after s (removals s c w) in
-    settled_asked (CausedBy after) t (under t c, hellos_anew t (addressing_of c)) w
-    (all_same (CausedBy after) t (under t c) (under_same t c) (run_asked (removals s c w) past s f rest))
+    replaced_asked (CausedBy after) w (state_after s (removals s c w)) c (run_asked (removals s c w) past s f rest)
 
 -- ---- what a plane reports
 
@@ -57,24 +52,27 @@ keep_asked past s g src m f = all_same (CausedBy past) s (keep s g src m) (keep_
 
 -- ---- one after the other
 
-given_asked : (before : List Given) (past : Past) (s : State) (events : List Event) → IsAsked (CausedBy past) s → IsAtRest s
-    → AreAccepted before
-    → OutcomesAreAsked (past_given past s before) (state_given s before) events (run (state_given s before) events)
+given_asked : (before : List Given) (past : Past) (s : State) → IsAsked (CausedBy past) s → Led s → AreAccepted s before
+    → IsAsked (CausedBy (past_given past s before)) (state_given s before)
 unfolding past_given state_given
-given_asked [] past s events f rest accepted = outcomes_asked events past s f rest
-given_asked (Given.Happening e ∷ later) past s events f rest accepted =
-    given_asked later (record { before = s; event = e } ∷ past) (step s e).state events
-    (step_asked past s e f rest.settled).rows (step_is_at_rest s e rest) accepted
-given_asked (Given.Reload c w ∷ later) past s events f rest accepted =
-    given_asked later (past_after past s (removals s c w)) (reload s c w).0 events (reload_asked past s c w f rest)
-    (reload_leaves_rest s c w accepted.0 rest) accepted.1
-given_asked (Given.Kept g src m ∷ later) past s events f rest accepted =
-    given_asked later past (keep s g src m) events (keep_asked past s g src m f) (keep_is_at_rest s g src m rest) accepted
+given_asked [] past s f led accepted = f
+given_asked (Given.Happening e ∷ later) past s f led accepted =
+    given_asked later (happened s e ∷ past) (step s e).state (step_asked past s e f led.rest.settled).rows (step_led s e led) accepted
+given_asked (Given.Reload c w ∷ later) past s f led accepted =
+    given_asked later (past_after past s (removals s c w)) (reload s c w).0 (reload_asked past s c w f led.rest)
+    (reload_led s c w accepted.0 led) accepted.1
+given_asked (Given.Placed m c w ∷ later) past s f led accepted =
+    given_asked later (Passed.Renumbered m ∷ past) (reload_by s m c w).0
+    (placed_reload_asked past s m c w accepted.1 accepted.0 led f) (placed_led s m c w accepted.0 accepted.1 led) accepted.2
+given_asked (Given.Kept g src m ∷ later) past s f led accepted =
+    given_asked later past (keep s g src m) (keep_asked past s g src m f) (keep_led s g src m led) accepted
 
 pub nothing_flows_unasked_over_reloads : NothingFlowsUnaskedOverReloads
 nothing_flows_unasked_over_reloads c before s events led =
-    subst (λ (t : State). OutcomesAreAsked (past_given [] (opening c) before) t events (run t events)) (sym led.led)
-    (given_asked before [] (opening c) events (opening_asked c) (opening_is_at_rest c led.accepted) led.reloads)
+    let f : IsAsked (CausedBy (past_given [] (opening c) before)) (state_given (opening c) before) =
+    given_asked before [] (opening c) (opening_asked c) (opening_led c led.accepted) led.reloads in
+    outcomes_asked events (past_given [] (opening c) before) s
+    (subst (IsAsked (CausedBy (past_given [] (opening c) before))) (sym led.led) f) (is_led c before s led).rest
 
 -- one event is a run of one
 pub call_is_asked : CallIsAsked

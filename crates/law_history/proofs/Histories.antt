@@ -2,12 +2,12 @@
 use Rattle.std.{proofs.{Common.{◌≡◌, ℕ, nat_le, Bool, true, false, not, List, [], ◌∷◌, map, ◌++◌, Result, Ok, refl, sym, ap, subst, ◌∙◌}, lemmas.List.Elements.{All-cons, All-nil}}, specs.List.All}
 use Rattle.pim_ip.{specs.declared.refusal.Refusal.Refusal}
 use Rattle.pim_types.{specs.declared.{event.Event.Event, outcome.{Ignored.Ignored, Outcome.Outcome}}}
-use Rattle.law_scope.{specs.Rest.IsAtRest, proofs.Rest.{opening_is_at_rest, step_is_at_rest}}
-use Rattle.pim_model.{specs.{Cause.{Past, past_after}, declared.accepted.Accepted.Accepted, Full.is_full, Judging.{down_judged, ignore_if, judged, refuse_if, ◌>>◌}, State.{State, iface_count, is_up, opening}, Step.{change, concluded, done, outcome_of, ran, run, state_after, step, taken, taken_unless_full}}}
-use Rattle.law_reloaded.{specs.Reloading.{down_event, reload, removals}, proofs.Rest.reload_leaves_rest}
-use Rattle.law_plane.{specs.Keeping.keep, proofs.Keeps.keep_is_at_rest}
+use Rattle.pim_model.{specs.{Cause.{Past, happened, past_after}, declared.accepted.Accepted.Accepted, Full.is_full, Judging.{down_judged, ignore_if, judged, refuse_if, ◌>>◌}, State.{State, iface_count, is_up, opening}, Step.{change, concluded, done, outcome_of, ran, run, state_after, step, taken, taken_unless_full}}}
+use Rattle.law_reloaded.{specs.Reloading.{down_event, reload, removals}}
+use Rattle.law_placed.{specs.Placing.reload_by}
+use Rattle.law_plane.{specs.Keeping.keep}
 use Rattle.pim_saved.{specs.{Reading.reading, Text.text}, proofs.SpelledStates.text_is_read}
-use Rattle.law_history.{specs.{History.{AreAccepted, Given, past_given, state_given}, Laws.{CallsLeadOn, EventsAloneAreARun, EventsAloneAreThePast, LedStatesRest, ReadStateIsLedTo, RemovalsCopyNothing}}}
+use Rattle.law_history.{specs.{History.{AreAccepted, Given, past_given, state_given}, Laws.{CallsLeadOn, EventsAloneAreARun, EventsAloneAreThePast, LedStatesRest, ReadStateIsLedTo, RemovalsCopyNothing}}, proofs.Led.is_led}
 
 -- ---- without reloads
 
@@ -20,26 +20,15 @@ past_alone : (past : Past) (s : State) (events : List Event)
     → past_given past s (map Given.Happening events) ≡ past_after past s events
 unfolding past_given past_after
 past_alone past s [] = refl
-past_alone past s (e ∷ es) = past_alone (record { before = s; event = e } ∷ past) (step s e).state es
+past_alone past s (e ∷ es) = past_alone (happened s e ∷ past) (step s e).state es
 
 pub events_alone_are_the_past : EventsAloneAreThePast
 events_alone_are_the_past s events = past_alone [] s events
 
 -- ---- at rest
 
-pub given_rests : (before : List Given) (s : State) → IsAtRest s → AreAccepted before → IsAtRest (state_given s before)
-unfolding state_given
-given_rests [] s rest accepted = rest
-given_rests (Given.Happening e ∷ later) s rest accepted =
-    given_rests later (step s e).state (step_is_at_rest s e rest) accepted
-given_rests (Given.Reload c w ∷ later) s rest accepted =
-    given_rests later (reload s c w).0 (reload_leaves_rest s c w accepted.0 rest) accepted.1
-given_rests (Given.Kept g src m ∷ later) s rest accepted =
-    given_rests later (keep s g src m) (keep_is_at_rest s g src m rest) accepted
-
 pub led_states_rest : LedStatesRest
-led_states_rest c before s led =
-    subst IsAtRest (sym led.led) (given_rests before (opening c) (opening_is_at_rest c led.accepted) led.reloads)
+led_states_rest c before s led = (is_led c before s led).rest
 
 -- ---- no copy
 
@@ -76,18 +65,23 @@ unfolding state_given
 state_appended [] later s = refl
 state_appended (Given.Happening e ∷ before) later s = state_appended before later (step s e).state
 state_appended (Given.Reload c w ∷ before) later s = state_appended before later (reload s c w).0
+state_appended (Given.Placed m c w ∷ before) later s = state_appended before later (reload_by s m c w).0
 state_appended (Given.Kept g src m ∷ before) later s = state_appended before later (keep s g src m)
 
-accepted_appended : (before later : List Given) → AreAccepted before → AreAccepted later → AreAccepted (before ++ later)
-accepted_appended [] later f g = g
-accepted_appended (Given.Happening e ∷ before) later f g = accepted_appended before later f g
-accepted_appended (Given.Reload c w ∷ before) later f g = (f.0, accepted_appended before later f.1 g)
-accepted_appended (Given.Kept g' src m ∷ before) later f g = accepted_appended before later f g
+accepted_appended : (before later : List Given) (s : State) → AreAccepted s before → AreAccepted (state_given s before) later
+    → AreAccepted s (before ++ later)
+unfolding state_given
+accepted_appended [] later s f g = g
+accepted_appended (Given.Happening e ∷ before) later s f g = accepted_appended before later (step s e).state f g
+accepted_appended (Given.Reload c w ∷ before) later s f g = (f.0, accepted_appended before later (reload s c w).0 f.1 g)
+accepted_appended (Given.Placed m c w ∷ before) later s f g =
+    (f.0, f.1, accepted_appended before later (reload_by s m c w).0 f.2 g)
+accepted_appended (Given.Kept g' src m ∷ before) later s f g = accepted_appended before later (keep s g' src m) f g
 
 pub calls_lead_on : CallsLeadOn
 calls_lead_on c before later s led accepted = record {
   accepted = led.accepted;
-  reloads = accepted_appended before later led.reloads accepted;
+  reloads = accepted_appended before later (opening c) led.reloads (subst (λ t. AreAccepted t later) led.led accepted);
   led = ap (λ t. state_given t later) led.led ∙ sym (state_appended before later (opening c));
 }
 

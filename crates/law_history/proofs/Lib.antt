@@ -1,4 +1,8 @@
 pub mod Asked
-pub mod Limits
-pub mod Histories
+pub mod Configured
 pub mod Counts
+pub mod Histories
+pub mod Led
+pub mod Limits
+pub mod Onto
+pub mod Placed

@@ -1,13 +1,15 @@
 -- Facts stay within the greatest limit, whatever reloads came.
-use Rattle.std.{proofs.Common.{◌≡◌, ⊎_elim, ◌+◌, ◌≤◌, ℕ, max, Bool, true, false, List, [], ◌∷◌, length, Some, Ok, Err, refl, sym, ap, subst, ◌∙◌, arith}}
-use Rattle.pim_types.{specs.{Keys.source_key, declared.{config.{Config.Config, Settings.Settings}, event.Event.Event, outcome.Stop.Stop}}}
-use Rattle.law_scope.{specs.Rest.IsAtRest, proofs.Rest.{opening_is_at_rest, step_is_at_rest}}
+use Rattle.std.{proofs.Common.{◌≡◌, ⊎_elim, ◌+◌, ◌-◌, ◌≤◌, ℕ, map, max, Bool, true, false, List, [], ◌∷◌, length, Some, Ok, Err, refl, sym, ap, subst, ◌∙◌, arith}, specs.List.range_with_len}
+use Rattle.pim_types.{specs.{Keys.{iface_in, source_key}, declared.{config.{Config.Config, Settings.Settings}, event.Event.Event, outcome.Stop.Stop}}}
+use Rattle.law_scope.{specs.Rest.IsAtRest, proofs.Rest.step_is_at_rest}
 use Rattle.law_settled.{proofs.{RisingKeys.up_of_sorted, UnchangedLaws.full_or_taken}}
-use Rattle.pim_model.{specs.{declared.accepted.Accepted.Accepted, Full.{counted, is_full}, Judging.{Judged, judged}, State.{addressing_of, State, opening, settings_of}, Registers.keepalive_period, Sets.spt_bit, Step.{concluded, ran, rps_replaced, state_after, step, taken, taken_unless_full}, Tables.has_row}}
-use Rattle.law_promises.{specs.Bounded.{AddsAtMost, AddsNone, counted_beside_asserts, needed_by, needed_of}, proofs.{Bounded.{adds_what_is_needed, has_room}, Counting.put_there, Fewer.settled_none, Within.room}}
-use Rattle.law_plane.{specs.Keeping.{keep, keepalive_end, kept_until}, proofs.Keeps.{keep_by, keep_is_at_rest, running, running_there}}
-use Rattle.law_reloaded.{specs.Reloading.{hellos_anew, reload, removals, replaced, under}, proofs.Rest.reload_leaves_rest}
-use Rattle.law_history.{specs.{History.{AreAccepted, Given, greatest_limit, state_given}, Laws.FactsStayWithinTheGreatest}, proofs.Histories.given_rests}
+use Rattle.pim_model.{specs.{declared.accepted.Accepted.Accepted, Full.{counted, is_full}, Judging.{Judged, judged}, State.{addressing_of, State, opening, settings_of}, Registers.keepalive_period, Sets.spt_bit, Step.{concluded, ran, rps_replaced, state_after, step, taken, taken_unless_full}, Tables.{Table, has_row, is_among, put}}}
+use Rattle.law_promises.{specs.Bounded.{AddsAtMost, AddsNone, counted_beside_asserts, needed_by, needed_of}, proofs.{Bounded.{adds_what_is_needed, has_room}, Counting.{one_more, put_there, shorter_without}, Fewer.settled_none, Within.room}}
+use Rattle.law_plane.{specs.Keeping.{keep, keepalive_end, kept_until}, proofs.Keeps.{keep_by, running, running_there}}
+use Rattle.law_restored.{specs.Reload.config_of}
+use Rattle.law_reloaded.{specs.Reloading.{down_event, hellos_anew, reload, removals, replaced, under}}
+use Rattle.law_placed.{specs.Placing.{Places, gone_on, in_order, in_place, moved, placed, placed_under, put_placed, reload_by, resubnetted, to_order, without_neighbours}, proofs.Ups.{begun, begun_rests, gone, kept, new, old, order, renewed}}
+use Rattle.law_history.{specs.{History.{AreAccepted, Given, greatest_limit, state_given}, Laws.FactsStayWithinTheGreatest}, proofs.Led.{Led, is_led, keep_led, opening_led, placed_led, reload_led, step_led}}
 
 -- the facts are within a limit that is no less than the state's own
 record IsUnder (limit : ℕ) (s : State) : Type 0 where
@@ -106,6 +108,73 @@ unfolding reload state_after
 reload_under limit s c w f rest =
     replaced_under limit (state_after s (removals s c w)) c w (run_under limit (removals s c w) s f rest)
 
+-- ---- a reload by a map of places
+
+put_long : {R : Type 0} (places : List ℕ) (t rows : Table R) → length (put_placed places t rows) ≤ length t + length rows
+put_long places t [] = omega arith
+put_long places t (e ∷ rows) =
+    let one : length (put t (in_place places e.0) e.1) ≤ length t + 1 = one_more (in_place places e.0) e.1 t in
+    let rest = put_long places (put t (in_place places e.0) e.1) rows in
+    omega (arith, one, rest)
+
+placed_long : {R : Type 0} (places : List ℕ) (rows : Table R) → length (placed places rows) ≤ length rows
+placed_long places rows = let le = put_long places [] rows in omega (arith, le)
+
+module _ (limit : ℕ) (s : State) (places : List ℕ) (c : Config) (apart : List ℕ) (w : ℕ) where
+  abbrev there : State
+  there = without_neighbours apart (placed_under s places c)
+
+  there_facts : counted_beside_asserts there ≤ counted_beside_asserts s
+  unfolding without_neighbours placed_under
+  there_facts =
+      let fewer : length there.neighbours ≤ length (placed places s.neighbours) =
+      shorter_without (λ k. is_among (iface_in k) apart) (placed places s.neighbours) in
+      let a = placed_long places s.neighbours in
+      let b = placed_long places s.group_records in
+      let d = placed_long places s.source_records in
+      let e = placed_long places s.downstream in
+      omega (arith, fewer, a, b, d, e)
+
+  there_limit : there.settings.limit ≡ c.limit
+  unfolding without_neighbours placed_under settings_of
+  there_limit = refl
+
+  moved_under : c.limit ≤ limit → IsUnder limit s → IsUnder limit (moved s places c apart w).0
+  unfolding moved
+  moved_under within f =
+      let none : AddsNone there (moved s places c apart w).0 = settled_none (placed_under s places c) (there, []) w in
+      let few : counted_beside_asserts there ≤ limit = at_most there_facts f.facts in
+      record {
+        facts = no_longer limit there (moved s places c apart w).0 none few;
+        own = subst (λ (n : ℕ). n ≤ limit) (sym (ap (λ (x : Settings). x.limit) none.settings ∙ there_limit)) within;
+      }
+    where
+      at_most : {a b n : ℕ} → a ≤ b → b ≤ n → a ≤ n
+      at_most f g = omega (arith, f, g)
+
+module _ (limit : ℕ) (s : State) (m : Places) (c : Config) (w : ℕ) (f : IsUnder limit s) where
+  old_limit : (old s m c w).limit ≤ limit
+  unfolding in_order config_of
+  old_limit = f.own
+
+  new_limit : (new s m c w).limit ≡ c.limit
+  unfolding in_order
+  new_limit = refl
+
+  placed_reload_under : Led s → IsUnder (max limit c.limit) (reload_by s m c w).0
+  unfolding reload_by gone_on state_after
+  placed_reload_under led =
+      let first : IsUnder limit (begun s m c w) =
+      moved_under limit s (to_order m) (old s m c w)
+      (resubnetted (kept s m c w) (old s m c w).interfaces (new s m c w).interfaces) w old_limit f in
+      let downed : IsUnder limit (gone s m c w) =
+      run_under limit (map (down_event w) (range_with_len (kept s m c w) (length m - kept s m c w))) (begun s m c w) first
+      (begun_rests s m c w led.accepted led.rest.settled) in
+      let next : IsUnder (max limit c.limit) (renewed s m c w) =
+      subst (λ (n : ℕ). IsUnder (max limit n) (renewed s m c w)) new_limit
+      (replaced_under limit (gone s m c w) (new s m c w) w downed) in
+      moved_under (max limit c.limit) (renewed s m c w) (order s m c w) c [] w (greater limit c.limit) next
+
 -- ---- what a plane reports
 
 kept_facts : (s : State) (g src end before : ℕ) → IsAtRest s → keepalive_end s g src ≡ Some before
@@ -137,17 +206,20 @@ keep_under limit s g src m f rest =
 
 -- ---- one after the other
 
-given_under : (before : List Given) (limit : ℕ) (s : State) → IsUnder limit s → IsAtRest s → AreAccepted before
+given_under : (before : List Given) (limit : ℕ) (s : State) → IsUnder limit s → Led s → AreAccepted s before
     → IsUnder (greatest_limit limit before) (state_given s before)
 unfolding greatest_limit state_given
-given_under [] limit s f rest accepted = f
-given_under (Given.Happening e ∷ later) limit s f rest accepted =
-    given_under later limit (step s e).state (step_under limit s e f rest) (step_is_at_rest s e rest) accepted
-given_under (Given.Reload c w ∷ later) limit s f rest accepted =
-    given_under later (max limit c.limit) (reload s c w).0 (reload_under limit s c w f rest)
-    (reload_leaves_rest s c w accepted.0 rest) accepted.1
-given_under (Given.Kept g src m ∷ later) limit s f rest accepted =
-    given_under later limit (keep s g src m) (keep_under limit s g src m f rest) (keep_is_at_rest s g src m rest) accepted
+given_under [] limit s f led accepted = f
+given_under (Given.Happening e ∷ later) limit s f led accepted =
+    given_under later limit (step s e).state (step_under limit s e f led.rest) (step_led s e led) accepted
+given_under (Given.Reload c w ∷ later) limit s f led accepted =
+    given_under later (max limit c.limit) (reload s c w).0 (reload_under limit s c w f led.rest)
+    (reload_led s c w accepted.0 led) accepted.1
+given_under (Given.Placed m c w ∷ later) limit s f led accepted =
+    given_under later (max limit c.limit) (reload_by s m c w).0 (placed_reload_under limit s m c w f led)
+    (placed_led s m c w accepted.0 accepted.1 led) accepted.2
+given_under (Given.Kept g src m ∷ later) limit s f led accepted =
+    given_under later limit (keep s g src m) (keep_under limit s g src m f led.rest) (keep_led s g src m led) accepted
 
 opening_under : (c : Config) → IsUnder c.limit (opening c)
 unfolding opening settings_of
@@ -156,8 +228,7 @@ opening_under c = record { facts = omega arith; own = omega arith }
 pub facts_stay_within_the_greatest : FactsStayWithinTheGreatest
 facts_stay_within_the_greatest c before s events led =
     let limit : ℕ = greatest_limit c.limit before in
-    let rest : IsAtRest (opening c) = opening_is_at_rest c led.accepted in
-    let after : State = state_given (opening c) before in
-    subst (λ (t : State). counted_beside_asserts (state_after t events) ≤ limit) (sym led.led)
-    (run_under limit events after (given_under before c.limit (opening c) (opening_under c) rest led.reloads)
-    (given_rests before (opening c) rest led.reloads)).facts
+    let start : Led (opening c) = opening_led c led.accepted in
+    (run_under limit events s
+    (subst (IsUnder limit) (sym led.led) (given_under before c.limit (opening c) (opening_under c) start led.reloads))
+    (is_led c before s led).rest).facts

@@ -23,7 +23,8 @@ RemovalsCopyNothing = (s : State) (c : Config) (w : ℕ)
     → All (λ (o : Outcome). o.copies ≡ 0) (run s (removals s c w))
 
 -- Over any events and reloads nothing flows unasked: each copy that a later event makes on a link has its cause in an
--- earlier event, and the interface didn't go down since, by an event or because a reload removed it.
+-- earlier event, and the interface didn't go down since, by an event or because a reload removed it. Where a map of places
+-- gave it another number since, the cause is under its number of then.
 abbrev pub NothingFlowsUnaskedOverReloads : Type 0
 NothingFlowsUnaskedOverReloads = (c : Config) (before : List Given) (s : State) (events : List Event) → IsLedTo c before s
     → OutcomesAreAsked (past_given [] (opening c) before) s events (run s events)
@@ -53,7 +54,7 @@ CallIsAsked = (c : Config) (before : List Given) (s : State) (e : Event) → IsL
 
 -- Calls go on with what led the router to its state.
 abbrev pub CallsLeadOn : Type 0
-CallsLeadOn = (c : Config) (before later : List Given) (s : State) → IsLedTo c before s → AreAccepted later
+CallsLeadOn = (c : Config) (before later : List Given) (s : State) → IsLedTo c before s → AreAccepted s later
     → IsLedTo c (before ++ later) (state_given s later)
 
 -- What is read of the bytes of a state that was saved was led to by what led to that state.

@@ -11,7 +11,7 @@ use Rattle.law_restored.{specs.Reload.config_of}
 use Rattle.law_reloaded.{specs.{Laws.{is_near_by, next_query_is_near}, Reloading.reload}, proofs.{Ground.reload_is_under, Queriers.next_query_is_near_anew, Rest.reload_leaves_rest}}
 use Rattle.law_plane.{specs.Keeping.{keep, kept_until}, proofs.Keeps.{keep_by, keep_is_at_rest}}
 use Rattle.law_history.{specs.History.{AreAccepted, Given, state_given}, proofs.Histories.led_states_rest}
-use Rattle.law_near.{proofs.NextQueries.{kept_near, led_queries_are_near, next_query_stays_near}}
+use Rattle.law_near.{proofs.{Near.led_queries_are_near, NextQueries.{kept_near, next_query_stays_near}}}
 use Rattle.igmp_older.{specs.Open.runs_until}
 use Rattle.law_older_hosts.{specs.Staying.LeavesTimer, proofs.Stays.event_leaves_timer}
 use Rattle.law_members.{specs.Members.{ForAnswer, ForQuery, MemberKeepsItsRecord, Waiting, after_time, answers, answers_before, answers_still, asked_by, in_time, is_answered, leaves, margin, may_be_given, may_happen, may_reload, next_general, response, waiting_after, waiting_given}, proofs.{Done.not_done, Queries.{Queries, done_next, leaves_next, next_in, time_keeps, time_queries}, Reloads.{Reloaded, reload_leaves}, Reports.done_end}}
@@ -346,7 +346,7 @@ module _ (d i g : ℕ) where
     runs_on t None e = cc
     runs_on t (Some r) e = ends t r.end e
 
-  all_served : (ys : List Given) (s : State) (x : Waiting) → IsAtRest s → next_query_is_near s ≡ true → AreAccepted ys → Covered x s
+  all_served : (ys : List Given) (s : State) (x : Waiting) → IsAtRest s → next_query_is_near s ≡ true → AreAccepted s ys → Covered x s
       → is_answered d i g x s ys ≡ true → local_receiver_star (state_given s ys) g i ≡ true
   unfolding is_answered state_given may_be_given waiting_given
   all_served [] s x rest near accepted f may = is_served x s f
@@ -357,6 +357,7 @@ module _ (d i g : ℕ) where
   all_served (Given.Reload c w ∷ ys) s x rest near accepted f may =
       all_served ys (reload s c w).0 x (reload_leaves_rest s c w accepted.0 rest) (next_query_is_near_anew s c w) accepted.1
       (reload_covers s c w x rest f (first_so (may_reload d i x c) _ may)) (second_so (may_reload d i x c) _ may)
+  all_served (Given.Placed m c w ∷ ys) s x rest near accepted f may = absurd cc
   all_served (Given.Kept h src m ∷ ys) s x rest near accepted f may =
       all_served ys (keep s h src m) x (keep_is_at_rest s h src m rest) (kept_near s h src m near) accepted
       (kept_covers s h src m x f) may

@@ -93,9 +93,11 @@ may_reload d i x c =
     nat_lt i (length c.interfaces)
     && (answers_before d (settings_of c) (margin (settings_of c)) && answers_still d (settings_of c) x)
 
+-- None of these is a reload by a map of places, by which the interface may get another number.
 unfoldable pub may_be_given : (d i g : ℕ) → Waiting → State → Given → Bool
 may_be_given d i g x s (Given.Happening e) = may_happen d i g x s (done_as (happens s e))
 may_be_given d i g x s (Given.Reload c w) = may_reload d i x c
+may_be_given d i g x s (Given.Placed m c w) = false
 may_be_given d i g x s (Given.Kept h src m) = true
 
 unfoldable pub waiting_given : (d i g : ℕ) → Waiting → State → Given → Waiting
@@ -123,9 +125,9 @@ pub record IsReported (d i g : ℕ) (s : State) (e : Event) : Type 0 where
   pub timely : answers_before d s.settings (margin s.settings) ≡ true
 
 -- From such a report on the group has receivers of all sources on the interface (EXCLUDE mode), whatever events, reloads
--- and reports of a plane come, while each general query is answered in time.
+-- without a map of places and reports of a plane come, while each general query is answered in time.
 abbrev pub MemberKeepsItsRecord : Type 0
 MemberKeepsItsRecord =
     (d i g : ℕ) (c : Config) (before : List Given) (s : State) (e : Event) (later : List Given) → IsLedTo c before s
-    → AreAccepted later → IsReported d i g s e → is_answered d i g (ForQuery (margin s.settings)) (step s e).state later ≡ true
+    → AreAccepted (step s e).state later → IsReported d i g s e → is_answered d i g (ForQuery (margin s.settings)) (step s e).state later ≡ true
     → local_receiver_star (state_given (step s e).state later) g i ≡ true

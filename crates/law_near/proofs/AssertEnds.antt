@@ -7,6 +7,7 @@ use Rattle.igmp_wire.{specs.Values.{Query as QueryValue, Record}}
 use Rattle.pim_model.{specs.{declared.accepted.Accepted.Accepted, Asserts.{assert_as_loser, assert_as_winner, assert_at, assert_due, assert_forgotten, assert_in_no_info, assert_received, data_seen, loser_time, loses, loses_first, winner_time, wins, wins_again, with_spt_bit, without_spt_bit}, Clearing.clear, Downstream.{asserts_after_joins, downstream_expired, keys_taken, prune_pending_due, to_me}, Firing.{fire_row, fired, keepalive_due, settled}, Forwarding.{forwarded, list_chosen, register_at_rp, register_received, source_here, source_joined, spt_updated, stray, watched}, Hellos.{hello_due, hello_received, hello_triggered, neighbour_due, neighbour_replaced, neighbour_restarted}, Messages.Message, Querier.{general_query_due, group_record_due, group_repeat_due, is_querier, is_skipped, lower_group, lower_queried, lower_sources, other_querier_gone, querier_elected, querier_up, query_asked, query_group, query_seen, query_sources, querying, querying_on, record_seen, report_seen, send_sources, source_record_due, source_repeat_due, sources_sent}, Records.{Asked, with_members, with_record, with_repeats_of_rows}, Registers.{register_due, register_stop_seen, settle_register, settle_registers, with_keepalive}, Seen.{cancel_override_timer, lower_join_timer, lower_override_timer, raise_join_timer, seen}, State.{Addressing, addressing_of, State, opening}, Step.{change, iface_down, iface_up, rps_replaced}, Tables.{Table, drop_at, drop_where, put, row_at}, Upstream.{join_timer_due, moved_join_timer, moved_override_timer, override_timer_due, upstream}, Writing.write_all}}
 use Rattle.law_settled.{proofs.{ListLaws.{by_cond, each_filter, each_more}, RowLaws.each_put, SettlingLaws.{kept_by_clearing, kept_by_telling}, SeenLaws.kept_by_seen, TurnLaws.kept_in_turn}}
 use Rattle.law_promises.{proofs.{LiesUnder.row_fires, EndSoon.no_later}}
+use Rattle.law_placed.{specs.Placing.{placed_under, without_neighbours}, proofs.{Addresses.KeepsAddresses, Rows.each_placed}}
 use Rattle.law_reloaded.{specs.Reloading.{asserts_under, is_won_before, under}}
 use Rattle.law_plane.{specs.Keeping.kept_until}
 use Rattle.law_near.{specs.Ends.{AssertsStayNear, asserts_are_near}, proofs.{Bounds.{by_each, each_by, each_replaced}, Steps.kept_test}}
@@ -235,6 +236,14 @@ module _ (last : ℕ) where
   unfolding kept_until
   keeps s g src end f = record { now = f.now; ends = f.ends }
 
+  goes : (s : State) (places : List ℕ) (c : Config) → KeepsAddresses s places c → IsBy s → IsBy (placed_under s places c)
+  unfolding placed_under
+  goes s places c same f = record { now = f.now; ends = each_placed places Fits Fits (λ e h. h) s.asserts f.ends }
+
+  parts : (s : State) (apart : List ℕ) → IsBy s → IsBy (without_neighbours apart s)
+  unfolding without_neighbours
+  parts s apart f = record { now = f.now; ends = f.ends }
+
 further : (a b n : ℕ) → a ≤ b → n ≤ a + loser_time → n ≤ b + loser_time
 further a b n le f = omega (arith, le, f)
 
@@ -265,4 +274,4 @@ opening_near c = refl
 
 pub asserts_stay_near : AssertsStayNear
 asserts_stay_near =
-    kept_test IsBy later moves fires follows changes unders keeps asserts_are_near tested passes opening_near
+    kept_test IsBy later moves fires follows changes unders keeps goes parts asserts_are_near tested passes opening_near

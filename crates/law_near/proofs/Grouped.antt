@@ -6,6 +6,7 @@ use Rattle.igmp_wire.{specs.Values.{Query as QueryValue, Record}}
 use Rattle.pim_model.{specs.{declared.accepted.Accepted.Accepted, Asserts.{assert_due, assert_forgotten, wins_again}, Downstream.{downstream_expired, prune_pending_due}, Firing.{fire_row, fired, keepalive_due, settled}, Forwarding.source_here, Hellos.{hello_due, neighbour_due}, Messages.Message, Querier.{general_query_due, group_record_due, group_repeat_due, is_querier, is_skipped, lower_group, lower_queried, lower_sources, other_querier_gone, querier_elected, querier_up, query_asked, query_group, query_seen, query_sources, querying, querying_on, record_seen, report_seen, send_sources, source_record_due, source_repeat_due, sources_sent}, Records.{Asked, GroupRecord, Member, group_expired, is_at_group, members_of, put_member, record_of, source_expired, with_members, with_record, with_repeats_of_rows}, Registers.{register_due, register_stop_seen, settle_register, with_keepalive}, State.{State, opening}, Step.{change, iface_down, iface_up, rps_replaced}, Tables.{Table, change_row, drop_at, drop_where, has_row, is_empty_list, put}, Upstream.{join_timer_due, override_timer_due}}}
 use Rattle.law_settled.{proofs.{ListLaws.{any_among_all, by_cond, each_map, each_of_list, list_of_each}, RowLaws.{has_row_dropped, has_row_put, has_row_replaced, has_row_without}, TurnLaws.kept_in_turn}}
 use Rattle.law_promises.{proofs.{Keyed.{Under, under_put}, Lasting.{Beside, Unhailed, Whole, assert_whole, data_whole, hello_unhailed, register_whole, seen_beside, settled_asking, to_me_whole}, LiesUnder.row_fires, Repeats.{Asking, asking, lowered_there, under_more, under_rest}}}
+use Rattle.law_placed.{specs.Placing.{placed, placed_under, without_neighbours}, proofs.{Addresses.KeepsAddresses, Rows.{each_placed, has_placed}}}
 use Rattle.law_reloaded.{specs.Reloading.under}
 use Rattle.law_plane.{specs.Keeping.kept_until}
 use Rattle.law_near.{specs.Kinds.{SourcesStayGrouped, sources_are_grouped}, proofs.{Bounds.never, Steps.kept_test}}
@@ -234,6 +235,17 @@ module _ (last : ℕ) where
   unfolding kept_until
   keeps s g src end f = f
 
+  goes : (s : State) (places : List ℕ) (c : Config) → KeepsAddresses s places c → IsGrouped s
+      → IsGrouped (placed_under s places c)
+  unfolding placed_under
+  goes s places c same f =
+      each_placed places (λ e. IsIn s.group_records e.0) (λ e. IsIn (placed places s.group_records) e.0)
+      (λ e h. has_placed places (of_group e.0) s.group_records h) s.source_records f
+
+  parts : (s : State) (apart : List ℕ) → IsGrouped s → IsGrouped (without_neighbours apart s)
+  unfolding without_neighbours
+  parts s apart f = f
+
 tested : (s : State) → sources_are_grouped s ≡ true → IsGrouped s
 unfolding sources_are_grouped
 tested s e = each_of_list (λ (x : Key × SourceRecordRow). has_row s.group_records (of_group x.0)) s.source_records e
@@ -248,5 +260,5 @@ opening_grouped c = refl
 
 pub sources_stay_grouped : SourcesStayGrouped
 sources_stay_grouped =
-    kept_test (λ last s. IsGrouped s) (λ a b le s f. f) moves fires follows changes unders keeps sources_are_grouped tested passes
+    kept_test (λ last s. IsGrouped s) (λ a b le s f. f) moves fires follows changes unders keeps goes parts sources_are_grouped tested passes
     opening_grouped

@@ -1,13 +1,14 @@
 -- Every event, every reload and what a plane reports keep what holds beside rest.
-use Rattle.std.{proofs.Common.{◌≡◌, ℕ, Bool, true, [], ◌∷◌, refl, sym, subst}, specs.{Cmp.{Derive.both_true, first_so, second_so}, List.AllByRecursion}}
+use Rattle.std.{proofs.Common.{◌≡◌, ℕ, Bool, true, length, refl, sym, subst}, specs.{Cmp.{Derive.both_true, first_so, second_so}, List.AllByRecursion}}
 use Rattle.pim_types.{specs.declared.{config.Config.Config, event.Event.Event}}
-use Rattle.pim_model.{specs.{State.{State, opening}, Step.step}}
+use Rattle.pim_model.{specs.{State.{State, iface_count, opening}, Step.step}}
 use Rattle.law_scope.{specs.Rest.IsAtRest}
 use Rattle.law_settled.{proofs.ListLaws.{each_both, each_more, each_of_list, list_of_each}}
 use Rattle.law_reloaded.{specs.{Laws.next_query_is_near, Reloading.reload}, proofs.{Queriers.next_query_is_near_anew, Settings.same_reload_changes_nothing, Unseen.{appended_move_nothing, delays_move_nothing}}}
 use Rattle.law_plane.{specs.Keeping.keep}
-use Rattle.law_history.{specs.History.{Given, state_given}, proofs.Histories.led_states_rest}
-use Rattle.law_near.{specs.{Ends.IsKept, Near.{LedStatesAreNear, NearStays, is_near, kept_tests}, Queries.{AppendedLeaveLed, DelaysLeaveLed, SameReloadLeavesLed}}, proofs.{AssertEnds.asserts_stay_near, Grouped.sources_stay_grouped, StillEnds.{hellos_stay_near, neighbours_stay_keyed, registers_stay_near}, NextQueries.{kept_near, led_queries_are_near, next_query_stays_near}, WonAddresses.won_stay_own}}
+use Rattle.law_placed.{specs.Placing.{Places, are_places, reload_by}}
+use Rattle.law_history.{proofs.{Histories.led_states_rest, Led.{given_keeps, opening_led}}}
+use Rattle.law_near.{specs.{Ends.IsKept, Near.{LedStatesAreNear, NearStays, is_near, kept_tests}, Queries.{AppendedLeaveLed, DelaysLeaveLed, LedQueriesAreNear, SameReloadLeavesLed}}, proofs.{AssertEnds.asserts_stay_near, Grouped.sources_stay_grouped, StillEnds.{hellos_stay_near, neighbours_stay_keyed, registers_stay_near}, NextQueries.{kept_near, next_query_stays_near, placed_near}, WonAddresses.won_stay_own}}
 
 module _ (s : State) where
   abbrev pub Pass : Type 0
@@ -47,24 +48,29 @@ reload_near s c w h =
     near_so (reload s c w).0 (next_query_is_near_anew s c w)
     (all_pass s (reload s c w).0 (λ test kept f. kept.reload s c w f) (near_is s h).1)
 
-kept_alone : (s : State) (g src m : ℕ) → state_given s (Given.Kept g src m ∷ []) ≡ keep s g src m
-unfolding state_given
-kept_alone s g src m = refl
+placed_is_near : (s : State) (m : Places) (c : Config) (w : ℕ) → are_places (iface_count s) (length c.interfaces) m ≡ true
+    → is_near s ≡ true → is_near (reload_by s m c w).0 ≡ true
+placed_is_near s m c w are h =
+    near_so (reload_by s m c w).0 (placed_near s m c w)
+    (all_pass s (reload_by s m c w).0 (λ test kept f. kept.placed s m c w are f) (near_is s h).1)
 
 keep_near : (s : State) (g src m : ℕ) → is_near s ≡ true → is_near (keep s g src m) ≡ true
 keep_near s g src m h =
     near_so (keep s g src m) (kept_near s g src m (near_is s h).0)
-    (all_pass s (keep s g src m)
-    (λ test kept f. subst (λ (t : State). test t ≡ true) (kept_alone s g src m) (kept.given s (Given.Kept g src m ∷ []) f)) (near_is s h).1)
+    (all_pass s (keep s g src m) (λ test kept f. kept.keep s g src m f) (near_is s h).1)
 
 pub near_stays : NearStays
-near_stays = record { opening = opening_near; step = step_near; reload = reload_near; keep = keep_near }
+near_stays = record { opening = opening_near; step = step_near; reload = reload_near; placed = placed_is_near; keep = keep_near }
 
 pub led_states_are_near : LedStatesAreNear
 led_states_are_near c before s led =
-    near_so s (led_queries_are_near c before s led)
-    (each_more IsKept (λ test. test s ≡ true)
-    (λ test kept. subst (λ (t : State). test t ≡ true) (sym led.led) (kept.given (opening c) before (kept.opening c))) kept_tests all_kept)
+    subst (λ (t : State). is_near t ≡ true) (sym led.led)
+    (given_keeps (λ t. is_near t ≡ true) (λ t e f near. step_near t e f.rest near) (λ t d w a f near. reload_near t d w near)
+    (λ t m d w a are f near. placed_is_near t m d w are near) (λ t g src m f near. keep_near t g src m near) before (opening c)
+    (opening_led c led.accepted) led.reloads (opening_near c))
+
+pub led_queries_are_near : LedQueriesAreNear
+led_queries_are_near c before s led = (near_is s (led_states_are_near c before s led)).0
 
 -- ---- reloads after any events and reloads
 

@@ -4,15 +4,15 @@ use Rattle.pim_ip.{specs.Ipv4.Packet}
 use Rattle.pim_types.{specs.{Keys.{iface_in, iface_key, is_on, same_key}, declared.{config.{Config.Config, Settings.Settings}, event.Event.Event, fact.{AssertMetric.AssertMetric, AssertRow.AssertRow, DownstreamRow.DownstreamRow, InterfaceRow.InterfaceRow, Key.Key, QuerierRole.QuerierRole, QuerierRow.QuerierRow}, timer.TimerKind.TimerKind}}, proofs.Keys.{equal_keys, same_key_same}}
 use Rattle.pim_wire.{specs.{declared.{assert.Assert.Assert as AssertMessage, hello.Hello.Hello as HelloValue}, Values.{Encapsulated, JoinPrune, Null}}}
 use Rattle.igmp_wire.{specs.{Codes.code_value, Values.{Query as QueryValue, Record}}}
-use Rattle.pim_model.{specs.{declared.accepted.Accepted.Accepted, Asserts.{assert_as_loser, assert_as_winner, assert_at, assert_due, assert_forgotten, assert_in_no_info, assert_received, data_seen, loses, loses_first, wins, wins_again, with_spt_bit}, Downstream.{asserts_after_joins, downstream_expired, keys_taken, prune_pending_due, to_me}, Firing.{fire_all, fire_instant, fire_once, fire_row, fired, keepalive_due, settled, startup_left}, Forwarding.{forwarded, list_chosen, register_at_rp, register_received, source_here, source_joined, spt_updated, stray, watched}, Hellos.{hello_due, hello_received, hello_triggered, neighbour_due, neighbour_replaced, neighbour_restarted, triggered_hello_delay}, Messages.Message, Querier.{general_query_due, group_record_due, group_repeat_due, lower_group, is_lower_querier, is_querier, is_skipped, lower_queried, lower_sources, other_querier_gone, querier_elected, querier_row, querier_up, query_asked, query_group, query_interval, query_seen, query_sources, querying, querying_on, record_seen, report_seen, send_sources, source_record_due, source_repeat_due, sources_sent, startup_query_interval}, Records.{Asked, with_members, with_record, with_repeats_of_rows}, Registers.{register_due, register_stop_seen, settle_register, with_keepalive}, Seen.{cancel_override_timer, lower_join_timer, lower_override_timer, raise_join_timer, seen}, State.{State, opening}, Step.{advanced, change, iface_down, iface_up, rps_replaced, step}, Tables.{Table, change_row, changed_entry, delay_in, drop_where, put, row_at, same_option}, Timers.{Ending, next_due, next_query, timers}, Upstream.{join_timer_due, override_timer_due}}}
+use Rattle.pim_model.{specs.{declared.accepted.Accepted.Accepted, Asserts.{assert_as_loser, assert_as_winner, assert_at, assert_due, assert_forgotten, assert_in_no_info, assert_received, data_seen, loses, loses_first, wins, wins_again, with_spt_bit}, Downstream.{asserts_after_joins, downstream_expired, keys_taken, prune_pending_due, to_me}, Firing.{fire_all, fire_instant, fire_once, fire_row, fired, keepalive_due, settled, startup_left}, Forwarding.{forwarded, list_chosen, register_at_rp, register_received, source_here, source_joined, spt_updated, stray, watched}, Hellos.{hello_due, hello_received, hello_triggered, neighbour_due, neighbour_replaced, neighbour_restarted, triggered_hello_delay}, Messages.Message, Querier.{general_query_due, group_record_due, group_repeat_due, lower_group, is_lower_querier, is_querier, is_skipped, lower_queried, lower_sources, other_querier_gone, querier_elected, querier_row, querier_up, query_asked, query_group, query_interval, query_seen, query_sources, querying, querying_on, record_seen, report_seen, send_sources, source_record_due, source_repeat_due, sources_sent, startup_query_interval}, Records.{Asked, with_members, with_record, with_repeats_of_rows}, Registers.{register_due, register_stop_seen, settle_register, with_keepalive}, Seen.{cancel_override_timer, lower_join_timer, lower_override_timer, raise_join_timer, seen}, State.{State, settings_of}, Step.{advanced, change, iface_down, iface_up, rps_replaced, step}, Tables.{Table, change_row, changed_entry, delay_in, drop_where, put, row_at, same_option}, Timers.{Ending, next_due, next_query, timers}, Upstream.{join_timer_due, override_timer_due}}}
 use Rattle.law_settled.{specs.{Laws.{is_querier_entry}, Ready.{IsLawful}}, proofs.{Ends.{Ends, shows}, LawfulFiring.one_firing_is_lawful, ListLaws.{by_cond, each_filter, each_filter_map, each_more, each_of_list, list_of_each}, RowLaws.{each_put, row_put}, SettledStates.settled_is_lawful, TableLaws.row_of_each, TimerLaws.{IsNext, is_next}, TurnLaws.{kept_in_turn, kept_to_the_end}, SeenLaws.kept_by_seen}}
-use Rattle.law_scope.{specs.Rest.IsAtRest, proofs.Rest.{opening_is_at_rest, step_is_at_rest}}
 use Rattle.law_promises.{proofs.{LiesUnder.row_fires, Walks.event_walks, EndSoon.{no_later, change_present}}}
 use Rattle.law_served.{proofs.Lasts.only_row}
-use Rattle.law_reloaded.{specs.{Laws.{is_near_by, next_query_is_near}, Reloading.reload}, proofs.{Queriers.{Asked as Read, asked, next_query_is_near_anew, settled_asked}, Rest.reload_leaves_rest}}
-use Rattle.law_plane.{specs.Keeping.{keep, kept_until}, proofs.Keeps.{keep_by, keep_is_at_rest}}
-use Rattle.law_history.{specs.History.{AreAccepted, Given, state_given}}
-use Rattle.law_near.{specs.Queries.{LedQueriesAreNear, NextQueryStaysNear}}
+use Rattle.law_reloaded.{specs.Laws.{is_near_by, next_query_is_near}, proofs.{Ground.replaced_is_under, Queriers.{Asked as Read, asked, replaced_near, settled_asked}}}
+use Rattle.law_restored.{specs.Reload.config_of}
+use Rattle.law_placed.{specs.Placing.{Places, gone_on, in_order, moved, placed_under, reload_by, without_neighbours}, proofs.{Rows.each_placed, Ups.{gone, new, order, renewed}}}
+use Rattle.law_plane.{specs.Keeping.{keep, kept_until}, proofs.Keeps.keep_by}
+use Rattle.law_near.{specs.Queries.NextQueryStaysNear}
 
 -- ---- what leaves queriers alone
 
@@ -499,22 +499,30 @@ pub kept_near : (s : State) (g src m : ℕ) → next_query_is_near s ≡ true �
 unfolding next_query_is_near kept_until
 kept_near s g src m near = keep_by s g src m (λ t. next_query_is_near t ≡ true) near (λ end e sooner. near)
 
-given_near : (before : List Given) (s : State) → IsAtRest s → next_query_is_near s ≡ true → AreAccepted before
-    → next_query_is_near (state_given s before) ≡ true
-unfolding state_given
-given_near [] s rest near accepted = near
-given_near (Given.Happening e ∷ more) s rest near accepted =
-    given_near more (step s e).state (step_is_at_rest s e rest) (next_query_stays_near s e rest near) accepted
-given_near (Given.Reload c w ∷ more) s rest near accepted =
-    given_near more (reload s c w).0 (reload_leaves_rest s c w accepted.0 rest) (next_query_is_near_anew s c w) accepted.1
-given_near (Given.Kept g src m ∷ more) s rest near accepted =
-    given_near more (keep s g src m) (keep_is_at_rest s g src m rest) (kept_near s g src m near) accepted
+-- ---- a reload by a map of places
 
-opening_near : (c : Config) → next_query_is_near (opening c) ≡ true
-unfolding opening next_query_is_near
-opening_near c = refl
+there_now : (s : State) (places : List ℕ) (c : Config) (apart : List ℕ) → settings_of c ≡ s.settings → IsNow s
+    → IsNow (without_neighbours apart (placed_under s places c))
+unfolding without_neighbours placed_under
+there_now s places c apart same f = record {
+  now = f.now;
+  rows = each_placed places (Row s.present s.settings) (Row s.present (settings_of c))
+      (λ e g. subst (λ (u : Settings). ByRole s.present u e.1 (e.1).role) (sym same) g) s.queriers f.rows;
+}
 
-pub led_queries_are_near : LedQueriesAreNear
-led_queries_are_near c before s led =
-    subst (λ (z : State). next_query_is_near z ≡ true) (sym led.led)
-    (given_near before (opening c) (opening_is_at_rest c led.accepted) (opening_near c) led.reloads)
+moved_near : (s : State) (places : List ℕ) (c : Config) (apart : List ℕ) (w : ℕ) → settings_of c ≡ s.settings
+    → next_query_is_near s ≡ true → next_query_is_near (moved s places c apart w).0 ≡ true
+unfolding moved
+moved_near s places c apart w same near =
+    let there : State = placed_under s places c in
+    passes _ (settled_now there (without_neighbours apart there, []) w (there_now s places c apart same (tested s near)))
+
+renewed_settings : (s : State) (m : Places) (c : Config) (w : ℕ) → settings_of c ≡ (renewed s m c w).settings
+unfolding settings_of config_of in_order
+renewed_settings s m c w = sym (ap (λ (d : Config). settings_of d) (replaced_is_under (gone s m c w) (new s m c w) w))
+
+pub placed_near : (s : State) (m : Places) (c : Config) (w : ℕ) → next_query_is_near (reload_by s m c w).0 ≡ true
+unfolding reload_by gone_on
+placed_near s m c w =
+    moved_near (renewed s m c w) (order s m c w) c [] w (renewed_settings s m c w)
+    (replaced_near (gone s m c w) (new s m c w) w)

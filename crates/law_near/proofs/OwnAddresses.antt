@@ -5,6 +5,7 @@ use Rattle.pim_model.{specs.{State.{Addressing, State, opening}, Step.step}}
 use Rattle.law_promises.{proofs.{Addresses.others_are_of_interfaces, Settings.step_configured}}
 use Rattle.law_restored.{specs.Reload.config_of}
 use Rattle.law_reloaded.{specs.Reloading.reload, proofs.Ground.reload_is_under}
+use Rattle.law_placed.{specs.Placing.{Places, reload_by}, proofs.Moved.placed_reload_is_under}
 use Rattle.law_plane.{specs.Keeping.{keep, kept_until}, proofs.Keeps.keep_by}
 use Rattle.law_history.{specs.History.{Given, state_given}}
 use Rattle.law_near.{specs.Own.{HaveNone, LedOwnAreOfInterfaces}}
@@ -16,6 +17,10 @@ reload_none : (s : State) (c : Config) (w : ℕ) → c.addresses ≡ [] → HasN
 unfolding config_of
 reload_none s c w none = ap (λ (x : Config). x.addresses) (reload_is_under s c w) ∙ none
 
+placed_none : (s : State) (m : Places) (c : Config) (w : ℕ) → c.addresses ≡ [] → HasNone (reload_by s m c w).0
+unfolding config_of
+placed_none s m c w none = ap (λ (x : Config). x.addresses) (placed_reload_is_under s m c w) ∙ none
+
 keep_none : (s : State) (g src m : ℕ) → HasNone s → HasNone (keep s g src m)
 unfolding kept_until
 keep_none s g src m none = keep_by s g src m HasNone none (λ end is sooner. none)
@@ -26,6 +31,7 @@ given_none [] s none f = none
 given_none (Given.Happening e ∷ later) s none f =
     given_none later (step s e).state (ap (λ (cs : Addressing). cs.addresses) (sym (step_configured s e).configured) ∙ none) f
 given_none (Given.Reload c w ∷ later) s none f = given_none later (reload s c w).0 (reload_none s c w f.0) f.1
+given_none (Given.Placed m c w ∷ later) s none f = given_none later (reload_by s m c w).0 (placed_none s m c w f.0) f.1
 given_none (Given.Kept g src m ∷ later) s none f = given_none later (keep s g src m) (keep_none s g src m none) f
 
 opening_none : (c : Config) → c.addresses ≡ [] → HasNone (opening c)

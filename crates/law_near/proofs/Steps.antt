@@ -1,12 +1,12 @@
 -- What is kept by every change, by a moment to which time goes on: every event and reload keeps it at its own present.
-use Rattle.std.{proofs.Common.{◌≡◌, ℕ, ◌+◌, ◌≤◌, Bool, true, List, [], ◌∷◌, refl, sym, ap, subst}}
+use Rattle.std.{proofs.Common.{◌≡◌, ℕ, ◌+◌, ◌-◌, ◌≤◌, Bool, true, List, [], ◌∷◌, length, map, refl, sym, ap, subst}, specs.List.range_with_len}
 use Rattle.pim_types.{specs.declared.{config.Config.Config, event.Event.Event, fact.Key.Key, timer.TimerKind.TimerKind}}
-use Rattle.pim_model.{specs.{declared.accepted.Accepted.Accepted, Firing.{fired, settled}, Messages.Message, Registers.keepalive_period, State.{addressing_of, State, opening}, Step.{advanced, change, ran, rps_replaced, step}}}
+use Rattle.pim_model.{specs.{declared.accepted.Accepted.Accepted, Firing.{fired, settled}, Messages.Message, Registers.keepalive_period, State.{addressing_of, State, iface_count, opening}, Step.{advanced, change, ran, rps_replaced, step}}}
 use Rattle.law_settled.{proofs.Unsettled.{Unsettled, settling_leaves}}
 use Rattle.law_promises.{proofs.{Walks.{event_walks, time_walks}, EndSoon.{no_later, change_present, there}}}
-use Rattle.law_reloaded.{specs.Reloading.{hellos_anew, reload, removals, replaced, under}}
+use Rattle.law_placed.{specs.Placing.{Places, are_places, gone_on, moved, placed_under, reload_by, resubnetted, to_order, without_neighbours}, proofs.{Addresses.{KeepsAddresses, new_addresses, old_addresses}, Ups.{begun, gone, kept, new, old, order, renewed}}}
+use Rattle.law_reloaded.{specs.Reloading.{down_event, hellos_anew, reload, removals, replaced, under}}
 use Rattle.law_plane.{specs.Keeping.{keep, kept_until}, proofs.Keeps.keep_by}
-use Rattle.law_history.{specs.History.{Given, state_given}}
 use Rattle.law_near.{specs.Ends.IsKept}
 
 module _ (By : ℕ → State → Type 0)
@@ -16,7 +16,10 @@ module _ (By : ℕ → State → Type 0)
     (follows : (last : ℕ) (o : State) (c : State × List Message) (w : ℕ) → By last c.0 → By last (settled o c w).0)
     (changes : (last : ℕ) (s : State) (w : ℕ) (a : Accepted) → By last s → By last (change s w a).state)
     (unders : (last : ℕ) (s : State) (c : Config) → By last s → By last (under s c))
-    (keeps : (last : ℕ) (s : State) (g src end : ℕ) → By last s → By last (kept_until s g src end)) where
+    (keeps : (last : ℕ) (s : State) (g src end : ℕ) → By last s → By last (kept_until s g src end))
+    (goes : (last : ℕ) (s : State) (places : List ℕ) (c : Config) → KeepsAddresses s places c → By last s
+    → By last (placed_under s places c))
+    (parts : (last : ℕ) (s : State) (apart : List ℕ) → By last s → By last (without_neighbours apart s)) where
   abbrev pub Now : State → Type 0
   Now s = By s.present s
 
@@ -50,24 +53,45 @@ module _ (By : ℕ → State → Type 0)
   unfolding under rps_replaced
   under_present s c = refl
 
+  replaced_now : (s : State) (c : Config) (w : ℕ) → Now s → Now (replaced s c w).0
+  unfolding replaced
+  replaced_now s c w f =
+      settled_now s (under s c, hellos_anew s (addressing_of c)) w
+      (subst (λ (n : ℕ). By n (under s c)) (sym (under_present s c)) (unders s.present s c f))
+
   pub reload_now : (s : State) (c : Config) (w : ℕ) → Now s → Now (reload s c w).0
-  unfolding reload replaced
-  reload_now s c w f =
-      let after : State = (ran s (removals s c w)).1 in
-      let gone : Now after = ran_now (removals s c w) s f in
-      settled_now after (under after c, hellos_anew after (addressing_of c)) w
-      (subst (λ (n : ℕ). By n (under after c)) (sym (under_present after c)) (unders after.present after c gone))
+  unfolding reload
+  reload_now s c w f = replaced_now (ran s (removals s c w)).1 c w (ran_now (removals s c w) s f)
+
+  there_present : (s : State) (places : List ℕ) (c : Config) (apart : List ℕ)
+      → (without_neighbours apart (placed_under s places c)).present ≡ s.present
+  unfolding without_neighbours placed_under
+  there_present s places c apart = refl
+
+  moved_now : (s : State) (places : List ℕ) (c : Config) (apart : List ℕ) (w : ℕ) → KeepsAddresses s places c → Now s
+      → Now (moved s places c apart w).0
+  unfolding moved
+  moved_now s places c apart w same f =
+      let there : State = placed_under s places c in
+      settled_now there (without_neighbours apart there, []) w
+      (subst (λ (n : ℕ). By n (without_neighbours apart there)) (sym (there_present s places c apart))
+      (parts s.present there apart (goes s.present s places c same f)))
+
+  placed_now : (s : State) (m : Places) (c : Config) (w : ℕ) → are_places (iface_count s) (length c.interfaces) m ≡ true
+      → Now s → Now (reload_by s m c w).0
+  unfolding reload_by gone_on
+  placed_now s m c w are f =
+      let first : Now (begun s m c w) =
+      moved_now s (to_order m) (old s m c w) (resubnetted (kept s m c w) (old s m c w).interfaces (new s m c w).interfaces) w
+      (old_addresses s m c are) f in
+      let next : Now (renewed s m c w) =
+      replaced_now (gone s m c w) (new s m c w) w
+      (ran_now (map (down_event w) (range_with_len (kept s m c w) (length m - kept s m c w))) (begun s m c w) first) in
+      moved_now (renewed s m c w) (order s m c w) c [] w (new_addresses s m c w are) next
 
   kept_now : (s : State) (g src m : ℕ) → Now s → Now (keep s g src m)
   unfolding kept_until
   kept_now s g src m f = keep_by s g src m Now f (λ end e sooner. keeps s.present s g src (m + keepalive_period) f)
-
-  pub given_now : (before : List Given) (s : State) → Now s → Now (state_given s before)
-  unfolding state_given
-  given_now [] s f = f
-  given_now (Given.Happening e ∷ more) s f = given_now more (step s e).state (step_now s e f)
-  given_now (Given.Reload c w ∷ more) s f = given_now more (reload s c w).0 (reload_now s c w f)
-  given_now (Given.Kept g src m ∷ more) s f = given_now more (keep s g src m) (kept_now s g src m f)
 
   -- a test that says so
   pub kept_test : (test : State → Bool) → ((s : State) → test s ≡ true → Now s) → ((s : State) → Now s → test s ≡ true)
@@ -76,5 +100,6 @@ module _ (By : ℕ → State → Type 0)
     opening = opens;
     step = λ s e f. passes (step s e).state (step_now s e (tested s f));
     reload = λ s c w f. passes (reload s c w).0 (reload_now s c w (tested s f));
-    given = λ s before f. passes (state_given s before) (given_now before s (tested s f));
+    placed = λ s m c w are f. passes (reload_by s m c w).0 (placed_now s m c w are (tested s f));
+    keep = λ s g src m f. passes (keep s g src m) (kept_now s g src m (tested s f));
   }

@@ -1,9 +1,10 @@
 -- How far ahead timers expire at most: tests of a state, which every event and every reload keeps.
-use Rattle.std.{specs.{List.list_all, Prelude.{Bool, List, None, Option, Some, nat_le, true, ℕ, ◌+◌, ◌≡◌}}}
+use Rattle.std.{specs.{List.list_all, Prelude.{Bool, None, Option, Some, length, nat_le, true, ℕ, ◌+◌, ◌≡◌}}}
 use Rattle.pim_types.{specs.declared.{config.Config.Config, event.Event.Event, fact.{AssertRow.AssertRow, InterfaceRow.InterfaceRow, Key.Key, RegisterRow.RegisterRow}}}
-use Rattle.pim_model.{specs.{Asserts.loser_time, Hellos.hello_period, State.{State, opening}, Step.step, Timers.register_end}}
+use Rattle.pim_model.{specs.{Asserts.loser_time, Hellos.hello_period, State.{State, iface_count, opening}, Step.step, Timers.register_end}}
 use Rattle.law_reloaded.{specs.Reloading.reload}
-use Rattle.law_history.{specs.History.{Given, state_given}}
+use Rattle.law_placed.{specs.Placing.{Places, are_places, reload_by}}
+use Rattle.law_plane.{specs.Keeping.keep}
 
 -- each next Hello leaves within Hello_Period
 unfoldable pub hellos_are_near : State → Bool
@@ -27,12 +28,14 @@ unfoldable pub registers_are_near : State → Bool
 registers_are_near s =
     list_all (λ (e : Key × RegisterRow). ends_by (s.present + longest_stop) (register_end (e.1).state)) s.registers
 
--- A test that holds at the opening, and that each event and each reload keeps, of any state.
+-- A test that holds at the opening, and that each event, each reload and what a plane reports by `keep` keep, of any state.
 pub record IsKept (test : State → Bool) : Type 0 where
   pub opening : (c : Config) → test (opening c) ≡ true
   pub step : (s : State) (e : Event) → test s ≡ true → test (step s e).state ≡ true
   pub reload : (s : State) (c : Config) (w : ℕ) → test s ≡ true → test (reload s c w).0 ≡ true
-  pub given : (s : State) (before : List Given) → test s ≡ true → test (state_given s before) ≡ true
+  pub placed : (s : State) (m : Places) (c : Config) (w : ℕ) → are_places (iface_count s) (length c.interfaces) m ≡ true
+      → test s ≡ true → test (reload_by s m c w).0 ≡ true
+  pub keep : (s : State) (g src m : ℕ) → test s ≡ true → test (keep s g src m) ≡ true
 
 abbrev pub HellosStayNear : Type 0
 HellosStayNear = IsKept hellos_are_near

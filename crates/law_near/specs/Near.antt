@@ -1,11 +1,12 @@
 -- What holds, beside rest, of every state that events, reloads and the reports of a plane lead to: timers end within their
 -- periods, the router won its asserts by the address that it has, neighbours stand under keys of their kind, and the
 -- record of a source beside that of its group.
-use Rattle.std.{specs.{List.list_all, Prelude.{Bool, List, [], true, ℕ, ◌&&◌, ◌∷◌, ◌≡◌}}}
+use Rattle.std.{specs.{List.list_all, Prelude.{Bool, List, [], length, true, ℕ, ◌&&◌, ◌∷◌, ◌≡◌}}}
 use Rattle.pim_types.{specs.declared.{config.Config.Config, event.Event.Event}}
-use Rattle.pim_model.{specs.{State.{State, opening}, Step.step}}
+use Rattle.pim_model.{specs.{State.{State, iface_count, opening}, Step.step}}
 use Rattle.law_scope.{specs.Rest.IsAtRest}
 use Rattle.law_reloaded.{specs.{Laws.next_query_is_near, Reloading.reload}}
+use Rattle.law_placed.{specs.Placing.{Places, are_places, reload_by}}
 use Rattle.law_plane.{specs.Keeping.keep}
 use Rattle.law_history.{specs.History.{Given, IsLedTo}}
 use Rattle.law_near.{specs.{Ends.{asserts_are_near, hellos_are_near, registers_are_near}, Kinds.{neighbours_are_keyed, sources_are_grouped}, Own.won_are_own}}
@@ -29,6 +30,8 @@ pub record NearStays : Type 0 where
   pub opening : (c : Config) → is_near (opening c) ≡ true
   pub step : (s : State) (e : Event) → IsAtRest s → is_near s ≡ true → is_near (step s e).state ≡ true
   pub reload : (s : State) (c : Config) (w : ℕ) → is_near s ≡ true → is_near (reload s c w).0 ≡ true
+  pub placed : (s : State) (m : Places) (c : Config) (w : ℕ) → are_places (iface_count s) (length c.interfaces) m ≡ true
+      → is_near s ≡ true → is_near (reload_by s m c w).0 ≡ true
   pub keep : (s : State) (g src m : ℕ) → is_near s ≡ true → is_near (keep s g src m) ≡ true
 
 -- It is so after any events, reloads and reports.

@@ -23,6 +23,7 @@ abbrev pub HaveNone : List Given → Type 0
 HaveNone [] = Unit {0}
 HaveNone (Given.Happening e ∷ later) = HaveNone later
 HaveNone (Given.Reload c w ∷ later) = (c.addresses ≡ []) × HaveNone later
+HaveNone (Given.Placed m c w ∷ later) = (c.addresses ≡ []) × HaveNone later
 HaveNone (Given.Kept g src m ∷ later) = HaveNone later
 
 -- Then, after any events and reloads, an address is the router's exactly where it is that of an interface.

@@ -4,11 +4,11 @@ use Rattle.pim_model.{specs.{Tables.{below, is_among}}}
 use Rattle.law_settled.{proofs.ListLaws.{any_of_filter, each_more}}
 use Rattle.law_placed.{specs.{Laws.{AreApart, PlacesAreApart}, Placing.{Places, are_once, are_places, index_from, index_of, is_kept, is_left_out, is_new, kept_places, new_order, number_at, old_order, to_order}}, proofs.{Numbers.{got_range}, Orders.{each_among, index_low, new_low}}}
 
-first : (a b : Bool) → (a && b) ≡ true → a ≡ true
+pub first : (a b : Bool) → (a && b) ≡ true → a ≡ true
 first true b e = refl
 first false b e = cc
 
-second : (a b : Bool) → (a && b) ≡ true → b ≡ true
+pub second : (a b : Bool) → (a && b) ≡ true → b ≡ true
 second true b e = e
 second false b e = cc
 
@@ -21,7 +21,7 @@ clash b e f = cc (e, f)
 
 -- ---- where numbers stand
 
-index_high : (n k : ℕ) (ns : List ℕ) → list_any (λ m. m == n) ns ≡ true → k ≤ index_from k n ns
+pub index_high : (n k : ℕ) (ns : List ℕ) → list_any (λ m. m == n) ns ≡ true → k ≤ index_from k n ns
 index_high n k [] e = cc
 index_high n k (m ∷ ms) e = by (m == n) (index_high n (k + 1) ms) e
   where
@@ -62,13 +62,13 @@ two_parts p (x ∷ xs) = by (p x) (two_parts p xs)
     by true e = omega (arith, e)
     by false e = omega (arith, e)
 
-old_count : (m : Places) → length (old_order m) ≡ length m
+pub old_count : (m : Places) → length (old_order m) ≡ length m
 unfolding old_order is_left_out
 old_count m =
     length-append (filter (is_kept m) (below (length m))) (filter (λ i. not (is_kept m i)) (below (length m)))
     ∙ two_parts (is_kept m) (below (length m)) ∙ length-range_with_len 0 (length m)
 
-to_at : (m : Places) (i : ℕ) → number_at (to_order m) i ≡ cond (nat_lt i (length m)) (index_of (old_order m) (0 + i)) i
+pub to_at : (m : Places) (i : ℕ) → number_at (to_order m) i ≡ cond (nat_lt i (length m)) (index_of (old_order m) (0 + i)) i
 unfolding number_at to_order
 to_at m i =
     ap (λ (o : Option ℕ). option_map_or (λ n. n) o i)
@@ -84,7 +84,7 @@ module _ (m : Places) where
   from_zero : (x : ℕ) → 0 + x ≡ x
   from_zero x = omega arith
 
-  low : (i : ℕ) → nat_lt i (length m) ≡ true → index_of (old_order m) (0 + i) < length m
+  pub low : (i : ℕ) → nat_lt i (length m) ≡ true → index_of (old_order m) (0 + i) < length m
   unfolding index_of
   low i less =
       let below_all : nat_lt (index_from 0 i (old_order m)) (0 + length (old_order m)) ≡ true =
@@ -184,7 +184,7 @@ not_in_filter p q xs none = by (list_any q (filter p xs)) refl
     by true e = absurd (clash (list_any q xs) (any_of_filter p q xs e) none)
     by false e = refl
 
-filtered_once : (q : ℕ → Bool) (c s : ℕ) → are_once (filter q (range_with_len s c)) ≡ true
+pub filtered_once : (q : ℕ → Bool) (c s : ℕ) → are_once (filter q (range_with_len s c)) ≡ true
 unfolding is_among
 filtered_once q zero s = refl
 filtered_once q (suc c) s = by (q s) (filtered_once q c (s + 1))
@@ -220,7 +220,7 @@ none_shared kept x there (y ∷ ys) = by (list_any (λ z. z == y) kept) refl (no
     by false e later =
         ap (λ (b : Bool). b || list_any (λ z. z == x) (filter (λ j. not (list_any (λ w. w == j) kept)) ys)) (other e) ∙ later
 
-joined_once : (xs ys : List ℕ) → are_once xs ≡ true → are_once ys ≡ true
+pub joined_once : (xs ys : List ℕ) → are_once xs ≡ true → are_once ys ≡ true
     → AllByRecursion (λ x. list_any (λ y. y == x) ys ≡ false) xs → are_once (xs ++ ys) ≡ true
 unfolding is_among
 joined_once [] ys e f none = f
@@ -282,7 +282,7 @@ unfolding is_new is_among
 all_new zero s = refl
 all_new (suc c) s = ap suc (all_new c (s + 1))
 
-count_new : (n : ℕ) (ks : List ℕ) → are_once ks ≡ true → list_all (λ j. nat_lt j n) ks ≡ true
+pub count_new : (n : ℕ) (ks : List ℕ) → are_once ks ≡ true → list_all (λ j. nat_lt j n) ks ≡ true
     → length ks + length (filter (is_new ks) (below n)) ≡ n
 unfolding is_among
 count_new n [] once below_n = let all : length (filter (is_new []) (below n)) ≡ n = all_new n 0 in omega (arith, all)
@@ -307,12 +307,12 @@ module _ (m : Places) (n : ℕ) (once : are_once (kept_places m) ≡ true) (low_
   abbrev order : List ℕ
   order = new_order m n
 
-  new_count : length order ≡ n
+  pub new_count : length order ≡ n
   unfolding new_order
   new_count =
       length-append (kept_places m) (filter (is_new (kept_places m)) (below n)) ∙ count_new n (kept_places m) once low_kept
 
-  new_once : are_once order ≡ true
+  pub new_once : are_once order ≡ true
   unfolding new_order
   new_once =
       joined_once (kept_places m) (filter (is_new (kept_places m)) (below n)) once (filtered_once (is_new (kept_places m)) n 0)
@@ -324,19 +324,19 @@ module _ (m : Places) (n : ℕ) (once : are_once (kept_places m) ≡ true) (low_
           (λ x. list_any (λ y. y == x) (filter (is_new kept) (below n)) ≡ false)
           (λ x there. none_shared kept x there (below n)) kept (each_there kept)
 
-  at_low : (i : ℕ) → i < n → number_at order i ≡ get_or order i 0
+  pub at_low : (i : ℕ) → i < n → number_at order i ≡ get_or order i 0
   unfolding number_at
   at_low i less =
       ap (λ (o : Option ℕ). option_map_or (λ x. x) o i)
       (slice_get-get_or order i 0 (let count : length order ≡ n = new_count in omega (arith, count, less)))
 
-  at_high : (i : ℕ) → n ≤ i → number_at order i ≡ i
+  pub at_high : (i : ℕ) → n ≤ i → number_at order i ≡ i
   unfolding number_at
   at_high i le =
       ap (λ (o : Option ℕ). option_map_or (λ x. x) o i)
       (slice_get_past order i (let count : length order ≡ n = new_count in omega (arith, count, le)))
 
-  value_low : (i : ℕ) → i < n → get_or order i 0 < n
+  pub value_low : (i : ℕ) → i < n → get_or order i 0 < n
   value_low i less =
       let count : length order ≡ n = new_count in
       is_low (all_got order (λ j. nat_lt j n) i (new_low m n low_kept) (omega (arith, count, less)))

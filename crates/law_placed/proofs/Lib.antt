@@ -1,7 +1,11 @@
+pub mod Accepted
+pub mod Addresses
 pub mod Apart
 pub mod Identity
+pub mod Mapped
 pub mod Moved
 pub mod Numbers
 pub mod Orders
 pub mod Rest
 pub mod Rows
+pub mod Ups

@@ -26,7 +26,7 @@ all_joined p [] ys e f = f
 all_joined p (x ∷ xs) ys e f =
     both (p x) _ (first (p x) (list_all p xs) e) (all_joined p xs ys (second (p x) (list_all p xs) e) f)
 
-interfaces_shorter : (cs : List InterfaceConfig) (order : List ℕ) → length (interfaces_at cs order) ≤ length order
+pub interfaces_shorter : (cs : List InterfaceConfig) (order : List ℕ) → length (interfaces_at cs order) ≤ length order
 interfaces_shorter cs [] = omega arith
 interfaces_shorter cs (i ∷ order) = by (slice_get cs i) (interfaces_shorter cs order)
   where
@@ -52,7 +52,7 @@ range_low (suc n) k =
     shift : (a b : ℕ) → a + suc b ≡ (a + 1) + b
     shift a b = omega arith
 
-from_zero : (n : ℕ) → n ≡ 0 + n
+pub from_zero : (n : ℕ) → n ≡ 0 + n
 from_zero n = omega arith
 
 low_below : (n : ℕ) → list_all (λ j. nat_lt j n) (below n) ≡ true
@@ -67,7 +67,7 @@ new_low m new e =
 
 -- ---- each old place has a place in the order between
 
-old_low : (m : Places) → list_all (λ i. nat_lt i (length m)) (old_order m) ≡ true
+pub old_low : (m : Places) → list_all (λ i. nat_lt i (length m)) (old_order m) ≡ true
 unfolding old_order
 old_low m =
     all_joined (λ i. nat_lt i (length m)) (filter (is_kept m) (below (length m))) (filter (is_left_out m) (below (length m)))
@@ -87,7 +87,7 @@ one_found [] i None e less rest = absurd (none_below i less)
 one_found (c ∷ cs) zero None e less rest = cc
 one_found (c ∷ cs) (suc i) None e less rest = one_found cs i None e (lower i (length cs) less) rest
 
-all_found : (cs : List InterfaceConfig) (order : List ℕ) → list_all (λ i. nat_lt i (length cs)) order ≡ true
+pub all_found : (cs : List InterfaceConfig) (order : List ℕ) → list_all (λ i. nat_lt i (length cs)) order ≡ true
     → length (interfaces_at cs order) ≡ length order
 all_found cs [] e = refl
 all_found cs (i ∷ order) e =
@@ -104,7 +104,7 @@ index_low n k (m ∷ ms) e = by (m == n) (index_low n (k + 1) ms) e
     by true f e = grind (arith, nat_tests)
     by false f e = let less = f e in grind (arith, nat_tests, less)
 
-in_range : (i n k : ℕ) → nat_lt i n ≡ true → list_any (λ x. x == k + i) (range_with_len k n) ≡ true
+pub in_range : (i n k : ℕ) → nat_lt i n ≡ true → list_any (λ x. x == k + i) (range_with_len k n) ≡ true
 in_range i zero k less = absurd (none_below i less)
 in_range zero (suc n) k less = ap (λ (b : Bool). b || list_any (λ x. x == k + 0) (range_with_len (k + 1) n)) (here k)
   where
@@ -117,7 +117,7 @@ in_range (suc i) (suc n) k less =
     shift : (a b : ℕ) → a + suc b ≡ (a + 1) + b
     shift a b = omega arith
 
-passes_there : (p : ℕ → Bool) (i : ℕ) → p i ≡ true → (ns : List ℕ) → list_any (λ x. x == i) ns ≡ true
+pub passes_there : (p : ℕ → Bool) (i : ℕ) → p i ≡ true → (ns : List ℕ) → list_any (λ x. x == i) ns ≡ true
     → list_any (λ x. x == i) (filter p ns) ≡ true
 passes_there p i passes ns there =
     in_filter ns

@@ -93,7 +93,7 @@ moved_is_at_rest s places c apart w setting f =
     follows_at_rest (placed_under s places c) (without_neighbours apart (placed_under s places c)) [] w
     (parted_settled s places c f setting apart)
 
-ordered_setting : (order : List ℕ) (c : Config) → config_test c ≡ Ok tt → IsSetting (settings_of (in_order order c))
+pub ordered_setting : (order : List ℕ) (c : Config) → config_test c ≡ Ok tt → IsSetting (settings_of (in_order order c))
 unfolding in_order settings_of
 ordered_setting order c e =
     let f : IsSetting (settings_of c) = accepted_setting c e in

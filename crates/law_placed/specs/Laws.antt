@@ -1,12 +1,12 @@
 -- What a user expects of a reload by places.
-use Rattle.std.{specs.{List.list_all, Prelude.{List, None, Ok, [], if◌then◌else◌, length, min, nat_lt, true, ℕ, ◌≡◌, ◌≤◌}}}
+use Rattle.std.{specs.{List.list_all, Prelude.{List, None, Ok, Some, [], if◌then◌else◌, length, min, nat_lt, slice_get, true, ℕ, ◌≡◌, ◌≤◌}}}
 use Rattle.pim_types.{specs.{Keys.iface_in, declared.{config.Config.Config, fact.Key.Key}}}
-use Rattle.pim_model.{specs.{Limits.config_test, State.{State, iface_count}, Tables.{is_among, row_at}}}
+use Rattle.pim_model.{specs.{Limits.config_test, State.{State, address_among, addressing_of, iface_count}, Tables.{is_among, row_at}}}
 use Rattle.law_scope.{specs.Rest.IsAtRest}
 use Rattle.law_settled.{specs.Ready.IsOrdered}
 use Rattle.law_restored.{specs.Reload.config_of}
-use Rattle.law_reloaded.{specs.Reloading.reload}
-use Rattle.law_placed.{specs.Placing.{Places, are_places, each_to_itself, in_order, in_place, moved, new_order, number_at, old_order, placed_under, reload_by, resubnetted, to_order}}
+use Rattle.law_reloaded.{specs.{Laws.AreConfigured, Reloading.reload}}
+use Rattle.law_placed.{specs.Placing.{Places, are_places, each_to_itself, in_order, in_place, kept_places, moved, new_order, number_at, old_order, placed_under, reload_by, resubnetted, to_order}}
 
 -- whatever the other configuration and the map are, what it leaves is at rest
 abbrev pub PlacedReloadLeavesRest : Type 0
@@ -59,6 +59,19 @@ NeighboursStayOrGo = (s : State) (places : List ℕ) (c : Config) (apart : List 
 abbrev pub PlacedReloadIsUnder : Type 0
 PlacedReloadIsUnder = (s : State) (m : Places) (c : Config) (w : ℕ) → config_of (reload_by s m c w).0 ≡ c
 
+-- In the order between each interface has the address that it had, and in the new order the one that it has between.
+abbrev pub AddressesGoAlong : Type 0
+AddressesGoAlong = (s : State) (m : Places) (c : Config) → are_places (iface_count s) (length c.interfaces) m ≡ true
+    → ((i : ℕ) → address_among (addressing_of (in_order (old_order m) (config_of s))) (number_at (to_order m) i)
+    ≡ address_among s.configured i)
+    × ((p : ℕ) → address_among (addressing_of c) (number_at (new_order m (length c.interfaces)) p)
+    ≡ address_among (addressing_of (in_order (new_order m (length c.interfaces)) c)) p)
+
+-- After a reload by places only interfaces of the new configuration are up.
+abbrev pub PlacedAreConfigured : Type 0
+PlacedAreConfigured = (s : State) (m : Places) (c : Config) (w : ℕ) → are_places (iface_count s) (length c.interfaces) m ≡ true
+    → AreConfigured s → AreConfigured (reload_by s m c w).0
+
 -- Where each place stays at its number, and each interface that both configurations have keeps its address and the length of
 -- its subnet, a reload by places is the reload without a map.
 abbrev pub IdentityPlacesAreReload : Type 0
@@ -71,3 +84,17 @@ IdentityPlacesAreReload = (s : State) (c : Config) (w : ℕ) → config_test c �
 abbrev pub PlacesAreApart : Type 0
 PlacesAreApart = (old new : ℕ) (m : Places) → are_places old new m ≡ true
     → AreApart (to_order m) × AreApart (new_order m new)
+
+-- By both moves together each old place that stays goes where the map says; by the first those that it leaves out go past
+-- all that stay.
+abbrev pub PlacesGoByTheMap : Type 0
+PlacesGoByTheMap = (m : Places) (new : ℕ)
+    → ((i j : ℕ) → slice_get m i ≡ Some (Some j) → number_at (new_order m new) (number_at (to_order m) i) ≡ j)
+    × ((i : ℕ) → slice_get m i ≡ Some None → length (kept_places m) ≤ number_at (to_order m) i)
+
+-- Configurations that are accepted are accepted in the order between.
+abbrev pub OrdersAreAccepted : Type 0
+OrdersAreAccepted = (s : State) (m : Places) (c : Config) → are_places (iface_count s) (length c.interfaces) m ≡ true
+    → config_test (config_of s) ≡ Ok tt → config_test c ≡ Ok tt
+    → (config_test (in_order (old_order m) (config_of s)) ≡ Ok tt)
+    × (config_test (in_order (new_order m (length c.interfaces)) c) ≡ Ok tt)

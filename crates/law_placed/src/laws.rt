@@ -1,5 +1,5 @@
 //! The laws.
-ghost use Rattle.law_placed.specs.Laws.{FactsGoWithTheirLink, IdentityPlacesAreReload, NeighboursStayOrGo, PlacedReloadIsUnder, PlacedReloadLeavesRest, PlacesAreApart, PlacesAreThere};
+ghost use Rattle.law_placed.specs.Laws.{AddressesGoAlong, FactsGoWithTheirLink, IdentityPlacesAreReload, NeighboursStayOrGo, OrdersAreAccepted, PlacedAreConfigured, PlacedReloadIsUnder, PlacedReloadLeavesRest, PlacesAreApart, PlacesAreThere, PlacesGoByTheMap};
 
 /// What a reload by places leaves is at rest.
 pub fn placed_reload_leaves_rest()
@@ -26,6 +26,16 @@ pub fn placed_reload_is_under()
     ensures { PlacedReloadIsUnder }
 {}
 
+/// In both moves each interface takes its address along.
+pub fn addresses_go_along()
+    ensures { AddressesGoAlong }
+{}
+
+/// After a reload by places only interfaces of the new configuration are up.
+pub fn placed_are_configured()
+    ensures { PlacedAreConfigured }
+{}
+
 /// Where each place stays at its number, and no interface gets another subnet, a reload by places is `reload`.
 pub fn identity_places_are_reload()
     ensures { IdentityPlacesAreReload }
@@ -34,4 +44,14 @@ pub fn identity_places_are_reload()
 /// By a map that has passed its tests no two places go to one.
 pub fn places_are_apart()
     ensures { PlacesAreApart }
+{}
+
+/// By both moves together each old place goes where the map says, and those that it leaves out are past all that stay.
+pub fn places_go_by_the_map()
+    ensures { PlacesGoByTheMap }
+{}
+
+/// Configurations that are accepted are accepted in the order between.
+pub fn orders_are_accepted()
+    ensures { OrdersAreAccepted }
 {}

@@ -5,6 +5,7 @@
 mod laws;
 
 pub use laws::{
-    facts_go_with_their_link, identity_places_are_reload, neighbours_stay_or_go,
-    placed_reload_is_under, placed_reload_leaves_rest, places_are_apart, places_are_there,
+    addresses_go_along, facts_go_with_their_link, identity_places_are_reload,
+    neighbours_stay_or_go, orders_are_accepted, placed_are_configured, placed_reload_is_under,
+    placed_reload_leaves_rest, places_are_apart, places_are_there, places_go_by_the_map,
 };

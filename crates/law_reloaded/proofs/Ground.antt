@@ -10,7 +10,7 @@ ground_under : (s : State) (c : Config) → config_by (ground (under s c)) ≡ c
 unfolding under rps_replaced settings_of
 ground_under s c = refl
 
-replaced_is_under : (s : State) (c : Config) (w : ℕ) → config_of (replaced s c w).0 ≡ c
+pub replaced_is_under : (s : State) (c : Config) (w : ℕ) → config_of (replaced s c w).0 ≡ c
 unfolding replaced config_of
 replaced_is_under s c w =
     ap config_by (settled_ground s (under s c, hellos_anew s (addressing_of c)) w) ∙ ground_under s c

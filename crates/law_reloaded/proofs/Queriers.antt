@@ -131,8 +131,10 @@ under_near : (s : State) (c : Config) → near_of (asked (under s c)) ≡ true
 unfolding under queriers_under rps_replaced settings_of
 under_near s c = all_near s.present (settings_of c) s.queriers
 
+pub replaced_near : (s : State) (c : Config) (w : ℕ) → next_query_is_near (replaced s c w).0 ≡ true
+unfolding next_query_is_near replaced
+replaced_near s c w = ap near_of (settled_asked s (under s c, hellos_anew s (addressing_of c)) w) ∙ under_near s c
+
 pub next_query_is_near_anew : NextQueryIsNearAnew
-unfolding next_query_is_near reload replaced
-next_query_is_near_anew s c w =
-    let after : State = (ran s (removals s c w)).1 in
-    ap near_of (settled_asked after (under after c, hellos_anew after (addressing_of c)) w) ∙ under_near after c
+unfolding reload
+next_query_is_near_anew s c w = replaced_near (ran s (removals s c w)).1 c w

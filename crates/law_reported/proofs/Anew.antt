@@ -1,24 +1,26 @@
 -- A plane stays sound over reloads and restores, whatever rows it holds.
 use Rattle.std.{proofs.{Common.{◌≡◌, ◌≤◌, ℕ, zero, suc, ◌<◌, nat_lt, Bool, true, false, cond, List, [], ◌∷◌, ◌++◌, Ok, Option, Some, None, is_some, length, refl, sym, ap, subst, ◌∙◌, arith}, lemmas.{Bool.Decides.nat_tests, List.Sorted.IsPermutation-refl}}, specs.{List.AllByRecursion, Prelude.{slice_get, unwrap_or}}}
-use Rattle.pim_types.{specs.declared.{config.Config.Config, outcome.{Outcome.Outcome}}}
-use Rattle.pim_model.{specs.{Judging.last_moment, Limits.{config_test}, State.{State, opening}, Step.{ran, run, state_after}}}
+use Rattle.pim_types.{specs.declared.{config.Config.Config, outcome.Outcome.Outcome}}
+use Rattle.pim_model.{specs.{Judging.last_moment, Limits.config_test, State.{State, opening}, Step.{ran, run, state_after}}}
 use Rattle.law_scope.{proofs.Rest.opening_is_at_rest}
-use Rattle.law_cache.{proofs.RowsOfRuns.few_opening}
-use Rattle.law_reloaded.{specs.Reloading.reload}
+use Rattle.law_settled.{proofs.Accepted.few_interfaces}
+use Rattle.law_restored.{specs.Reload.config_of, proofs.Accepted.saved_is_accepted}
 use Rattle.law_plane.{specs.{Offload.{decision, handled, told}, Offered.offered, Split.{Notice, Split, whole}, ToldLaws.{PlaneRows, no_plane_rows}}, proofs.{Splits.{Follows, opening_is_early, whole_follows}, ToldRows.same_itself}}
-use Rattle.law_reported.{specs.{Anew.{Alone, AreGiven, AreRightStages, AreSound, DocumentedPlaneStaysSound, Given, IsFit, IsRightReload, IsRightStage, PlainStagesAreRight, Reload, SendsAsAlone, SoundPlaneStaysSound, Stage, Standing, after_reload, alone_stage, alone_staged, before_reload, beside, new_beside, plain_stage, plain_stages, put_under, reload_outcome, stage, staged, with_less, with_read}, Documented.{AreRight, Doing, IsTelling, acted, up_to_date}, Guests.{AreHeld, HoldsOf, Plane, without}, Kept.{Way}}, proofs.{DocumentedPlanes.{any_way, rise_so}, GuestSplits.{asked_held, held_through, none_held}, KeptUp.kept_follows, Lacking.{Acted, IsBeside, acts, complete, told_is, tells}, NearEnds.{opening_near}, SoundRows.{ends_near, is_near_then, less_held, less_sound, read_sound, reload_restores_rows, reload_stays_fit}}}
+use Rattle.law_reported.{specs.{Anew.{Alone, AreGiven, AreRightStages, AreSound, DocumentedPlaneStaysSound, Given, IsFit, IsRightReload, IsRightStage, PlainStagesAreRight, Reload, SendsAsAlone, SoundPlaneStaysSound, Stage, Standing, after_reload, alone_stage, alone_staged, before_reload, beside, new_beside, plain_stage, plain_stages, put_under, reload_of, reload_outcome, stage, staged, with_less, with_read}, Documented.{AreRight, Doing, IsTelling, acted, up_to_date}, Guests.{AreHeld, HoldsOf, Plane, without}, Kept.Way}, proofs.{DocumentedPlanes.{any_way, rise_so}, GuestSplits.{asked_held, held_through, none_held}, KeptUp.kept_follows, Lacking.{Acted, IsBeside, acts, complete, told_is, tells}, NearEnds.opening_near, SoundRows.{ends_near, is_near_then, less_held, less_sound, read_sound, reload_restores_rows, reload_stays_fit}}}
 
 -- ---- beside a state
 
 whole_beside : (s : State) (rows guests : PlaneRows) → IsFit s → AreSound rows s → AreHeld guests s
     → IsBeside (record { split = whole s rows; guests = guests }) s
+unfolding config_of
 whole_beside s rows guests fit sound held = record {
-  follows = whole_follows s (told s) fit.rest fit.early fit.few (λ g src i low. same_itself (decision (handled (told s g src) i)));
+  follows = whole_follows s (told s) fit.rest fit.early (few_interfaces (config_of s) fit.accepted) (λ g src i low. same_itself (decision (handled (told s g src) i)));
   near = ends_near s fit.near;
   router_near = ends_near s fit.near;
   apart = tt;
   sound = sound;
   held = held;
+  accepted = fit.accepted;
 }
 
 none_sound : (s : State) → AreSound no_plane_rows s
@@ -32,6 +34,7 @@ reads asks y r f = record {
   apart = f.apart;
   sound = read_sound asks (y.split).core (y.split).rows f.sound;
   held = asked_held asks (y.split).core y.guests f.held;
+  accepted = f.accepted;
 }
 
 drops : (which : ℕ → ℕ → Bool) (y : Plane) (r : State) → IsBeside y r → IsBeside (with_less which y) r
@@ -42,6 +45,7 @@ drops which y r f = record {
   apart = f.apart;
   sound = less_sound which (y.split).core (y.split).rows f.sound;
   held = less_held which (y.split).core y.guests f.held;
+  accepted = f.accepted;
 }
 
 made_beside : (asks : ℕ → ℕ → Bool) (s : State) → IsFit s → IsBeside (beside asks s) s
@@ -62,7 +66,7 @@ module _ (y : Plane) (r : State) (f : IsBeside y r) (told : List Notice) (w : Wa
       subst IsFit (told_is y r f told w is) (record {
         rest = g.quiet;
         early = less (((at).split).core).present ((at).split).now g.rises g.early;
-        few = g.few;
+        accepted = subst (λ (s : State). config_test (config_of s) ≡ Ok tt) (sym (told_is y r f told w is)) f.accepted;
         near = is_near_then ((at).split).core after.near;
       })
     where
@@ -81,12 +85,12 @@ module _ (y : Plane) (r : State) (f : IsBeside y r) (l : Reload) (right : IsRigh
   abbrev then : State
   then = after_reload y l
 
-  then_is : then ≡ (reload r l.config l.draw).0
-  then_is = ap (λ (s : State). (reload s l.config l.draw).0) until_is
+  then_is : then ≡ (reload_of l.places r l.config l.draw).0
+  then_is = ap (λ (s : State). (reload_of l.places s l.config l.draw).0) until_is
 
   then_fit : IsFit then
   then_fit =
-      reload_stays_fit until l.config l.draw right.accepted
+      reload_stays_fit l.places until l.config l.draw right.accepted
       (subst IsFit (sym until_is) (told_fit y r f l.told l.way right.telling))
 
   now_beside : IsBeside (up_to_date y l.told l.way) r
@@ -100,14 +104,14 @@ module _ (y : Plane) (r : State) (f : IsBeside y r) (l : Reload) (right : IsRigh
       go false is =
           held_through (y.guests g src) (offered until g src) (offered then g src) ((now_beside).held g src) (right.denied g src is)
 
-  reloads : IsBeside (put_under y l) (reload r l.config l.draw).0
+  reloads : IsBeside (put_under y l) (reload_of l.places r l.config l.draw).0
   reloads =
       subst (λ (s : State). IsBeside (put_under y l) s) then_is
       (whole_beside then _ (without l.differs y.guests) then_fit
-      (reload_restores_rows until l.config l.draw (y.split).rows l.changed (now_beside).sound right.all) denied_held)
+      (reload_restores_rows l.places until l.config l.draw (y.split).rows l.changed (now_beside).sound right.all) denied_held)
 
-  sends_same : reload_outcome (reload until l.config l.draw).1 ≡ reload_outcome (reload r l.config l.draw).1
-  sends_same = ap (λ (s : State). reload_outcome (reload s l.config l.draw).1) until_is
+  sends_same : reload_outcome (reload_of l.places until l.config l.draw).1 ≡ reload_outcome (reload_of l.places r l.config l.draw).1
+  sends_same = ap (λ (s : State). reload_outcome (reload_of l.places s l.config l.draw).1) until_is
 
 -- ---- saved states
 
@@ -210,10 +214,11 @@ sound_plane_stays_sound s rows guests saved stages w fit sound held all right =
     (record { beside = whole_beside s rows guests fit sound held; same = refl; fit = all }) right
 
 opening_fit : (c : Config) → config_test c ≡ Ok tt → IsFit (opening c)
+unfolding state_after ran
 opening_fit c e = record {
   rest = opening_is_at_rest c e;
   early = opening_is_early c;
-  few = few_opening c e;
+  accepted = saved_is_accepted c [] e;
   near = is_near_then (opening c) (opening_near c);
 }
 
@@ -265,8 +270,8 @@ plain_go [] z r saves f long given = tt
 plain_go (Given.Happening e ∷ later) z r saves f long given =
     plain_on (Given.Happening e) later (plain_go later) z r saves f
     (λ is. record { telling = plain_telling z.plane r.state f.beside; denied = λ g src no. absurd cc }, tt) long given
-plain_go (Given.Another c w ∷ later) z r saves f long given =
-    plain_on (Given.Another c w) later (plain_go later) z r saves f (record {
+plain_go (Given.Another places c w ∷ later) z r saves f long given =
+    plain_on (Given.Another places c w) later (plain_go later) z r saves f (record {
       accepted = given.0;
       telling = plain_telling z.plane r.state f.beside;
       all = λ g src there. refl;

@@ -3,9 +3,10 @@
 use Rattle.std.{proofs.Common.{◌≡◌, ◌≤◌, ℕ, Bool, true, false, not, ◌||◌, cond, List, length, Ok, Option, Some, None, nat_lt, option_map, refl, sym, ap, subst, ◌∙◌}}
 use Rattle.pim_ip.{specs.Ipv4.Packet}
 use Rattle.pim_types.{specs.{declared.{config.IfaceId.IfaceId, event.{Event.Event, EventKind.EventKind}, outcome.Outcome.Outcome}, Keys.source_key}}
-use Rattle.pim_model.{specs.{Cache.{Answers, answers, cached}, declared.accepted.Accepted.Accepted, Full.{is_full, source_is_full}, Judging.{Judged, judged}, Limits.most_ifaces, State.State, Step.{outcome_of, step}, Tables.has_row}}
+use Rattle.pim_model.{specs.{Cache.{Answers, answers, cached}, declared.accepted.Accepted.Accepted, Full.{is_full, source_is_full}, Judging.{Judged, judged}, Limits.{config_test, most_ifaces}, State.State, Step.{outcome_of, step}, Tables.has_row}}
 use Rattle.law_named.{specs.Named.event_named}
 use Rattle.law_cache.{specs.Kept.{SameDecision, is_listed}}
+use Rattle.law_restored.{specs.Reload.config_of, proofs.Accepted.accepted_stays}
 use Rattle.law_plane.{specs.{Offered.{offered, unknown_row}, Offload.{Handling, Row, decision, handled, handling, handling_unknown, is_to_core, offload, told, unknown_of}, Split.{Notice, Split, handled_at, nothing_sent, passes_quietly, with_notice}, SplitLaws.NamesEachOnce, ToldLaws.{DecideAlike, PlaneRows, told_anew}}, proofs.{Splits.{Follows, Goes}, ToldRows.{same_itself, same_through, unnamed_row_stays}}}
 use Rattle.law_reported.{specs.{Anew.{AreSound, DecidesAs}, Documented.{Act, IsRight, IsTelling, act, before, event_of, given, is_for_core, judged_for_core, kind_for_core, known_then, up_to_date}, Guests.{AreHeld, HoldsOf, Plane, guest_handled, guest_judgement, guest_kind, without}, Kept.{Way, kept_core, kept_plane, kept_time}}, proofs.{DocumentedPlanes.{Went, before_few, before_rows, heard_is, tells_goes, tells_held, tells_near, the_cores, to_core_same, went}, GuestSplits.{asked_held, decide_same}, NearEnds.{EndsNear, step_near}, SoundRows.{anew_sound}}}
 
@@ -38,6 +39,7 @@ pub record IsBeside (y : Plane) (r : State) : Type 0 where
   pub apart : NamesEachOnce (y.split).owed
   pub sound : AreSound (y.split).rows (y.split).core
   pub held : AreHeld y.guests (y.split).core
+  pub accepted : config_test (config_of r) ≡ Ok tt
 
 -- ---- a packet
 
@@ -271,6 +273,7 @@ module _ (y : Plane) (r : State) (f : IsBeside y r) (d : Act) where
           apart = after.apart;
           sound = after.sound;
           held = after.held;
+          accepted = accepted_stays r e f.accepted;
         };
         told = (after.goes).1;
       }
@@ -300,4 +303,5 @@ module _ (y : Plane) (r : State) (f : IsBeside y r) (told : List Notice) (w : Wa
     apart = tt;
     sound = subst (λ (s : State). AreSound (y.split).rows s) (sym told_is) sound_router;
     held = tells_held z r f.follows f.near f.apart told w telling y.guests f.held;
+    accepted = f.accepted;
   }

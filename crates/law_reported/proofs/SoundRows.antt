@@ -1,15 +1,16 @@
 -- Rows that decide as the router's, those that the plane reads and lets go of, and after a reload those that it reads
 -- again.
-use Rattle.std.{proofs.{Common.{◌≡◌, ◌+◌, ◌≤◌, ℕ, Bool, true, false, ◌||◌, cond, List, [], ◌∷◌, length, Ok, Option, Some, None, nat_le, option_map, refl, sym, ap, subst, ◌∙◌, arith}, lemmas.Bool.{Decides.nat_tests, or_parts}}, specs.Option.option_map_or}
+use Rattle.std.{proofs.{Common.{◌≡◌, ◌+◌, ◌≤◌, ℕ, Bool, true, false, ◌||◌, cond, List, [], ◌∷◌, ◌-◌, length, map, Ok, Option, Some, None, nat_le, option_map, refl, sym, ap, subst, ◌∙◌, arith}, lemmas.Bool.{Decides.nat_tests, or_parts}}, specs.{List.range_with_len, Option.option_map_or}}
 use Rattle.pim_types.{specs.{declared.{config.Config.Config, event.Event.Event, fact.{Key.Key, SourceRow.SourceRow}}, Keys.source_key}}
-use Rattle.pim_model.{specs.{Cache.{answers, cached}, Judging.last_moment, Limits.{config_test, most_ifaces}, Messages.Message, Registers.keepalive_period, State.{State, addressing_of}, Step.{ran, rps_replaced, state_after, step}, Tables.has_row}}
-use Rattle.law_settled.{proofs.{Accepted.few_interfaces, ListLaws.{each_more, each_of_list, list_of_each}, Unsettled.{Unsettled, settling_leaves}}}
+use Rattle.pim_model.{specs.{Cache.{answers, cached}, Judging.last_moment, Limits.config_test, Messages.Message, Registers.keepalive_period, State.{State, addressing_of}, Step.{ran, rps_replaced, state_after, step}, Tables.has_row}}
+use Rattle.law_settled.{proofs.{ListLaws.{each_more, each_of_list, list_of_each}, Unsettled.{Unsettled, settling_leaves}}}
 use Rattle.law_scope.{specs.Rest.IsAtRest, proofs.Rest.step_is_at_rest}
-use Rattle.law_cache.{specs.Kept.{is_listed}}
+use Rattle.law_cache.{specs.Kept.is_listed}
 use Rattle.law_restored.{specs.Reload.config_of}
-use Rattle.law_reloaded.{specs.Reloading.{hellos_anew, reload, removals, replaced, under}, proofs.{Ground.reload_is_under, Rest.reload_leaves_rest}}
+use Rattle.law_reloaded.{specs.Reloading.{down_event, hellos_anew, reload, removals, replaced, under}, proofs.{Ground.reload_is_under, Rest.reload_leaves_rest}}
+use Rattle.law_placed.{specs.Placing.{Places, gone_on, in_order, kept_places, moved, new_order, old_order, placed_under, reload_by, resubnetted, to_order, without_neighbours}, proofs.{Moved.placed_reload_is_under, Rest.{moved_is_at_rest, ordered_setting, placed_reload_leaves_rest}}}
 use Rattle.law_plane.{specs.{Offered.offered, Offload.{Row, decision, handled, handling, offload, told}, ToldLaws.{DecideAlike, PlaneRows, told_anew}}, proofs.{Splits.step_stays_early, ToldRows.{same_itself, same_through}}}
-use Rattle.law_reported.{specs.{Anew.{AreSound, DecidesAs, HasBoth, ReloadRestoresRows, ReloadStaysFit, read_of}, Guests.{AreHeld, HoldsOf, without}, Near.is_near}, proofs.NearEnds.{EndsNear, IsBy, near_after, settled_at, tested}}
+use Rattle.law_reported.{specs.{Anew.{AreSound, DecidesAs, HasBoth, IsFit, ReloadRestoresRows, ReloadStaysFit, read_of, reload_of}, Guests.{AreHeld, HoldsOf, without}, Near.is_near}, proofs.NearEnds.{EndsNear, IsBy, near_after, settled_at, tested}}
 
 -- ---- rows
 
@@ -81,8 +82,8 @@ others_alike s t changed all g src out =
         none_alike (told s g src) (told t g src) (none_told s g src parts.0) (none_told t g src parts.1)
 
 pub reload_restores_rows : ReloadRestoresRows
-reload_restores_rows s c w rows changed f all =
-    again_sound changed s (reload s c w).0 rows f (others_alike s (reload s c w).0 changed all)
+reload_restores_rows places s c w rows changed f all =
+    again_sound changed s (reload_of places s c w).0 rows f (others_alike s (reload_of places s c w).0 changed all)
 
 -- ---- a state in which the law goes on
 
@@ -119,38 +120,121 @@ under_present : (s : State) (c : Config) → (under s c).present ≡ s.present
 unfolding under rps_replaced
 under_present s c = refl
 
-module _ (s : State) (c : Config) (w : ℕ) where
+-- the configuration is replaced, and what follows of that is done
+
+replaced_near : (s : State) (c : Config) (w : ℕ) → EndsNear s → EndsNear (replaced s c w).0
+unfolding replaced
+replaced_near s c w f = settled_at s (under s c, hellos_anew s (addressing_of c)) w (under_near s c f)
+
+replaced_present : (s : State) (c : Config) (w : ℕ) → (replaced s c w).0.present ≡ s.present
+unfolding replaced
+replaced_present s c w =
+    ap (λ (u : Unsettled). u.present) (settling_leaves s (under s c, hellos_anew s (addressing_of c)) w) ∙ under_present s c
+
+-- after some events
+module _ (events : List Event) (s : State) (c : Config) (w : ℕ) where
   abbrev gone : State
-  gone = (ran s (removals s c w)).1
+  gone = (ran s events).1
 
-  abbrev made : State × List Message
-  made = (under gone c, hellos_anew gone (addressing_of c))
-
-  gone_near : EndsNear s → EndsNear gone
+  then_near : EndsNear s → EndsNear (replaced gone c w).0
   unfolding state_after
-  gone_near f = near_after (removals s c w) s f
+  then_near f = replaced_near gone c w (near_after events s f)
 
-  reload_near : EndsNear s → EndsNear (reload s c w).0
-  unfolding reload replaced
-  reload_near f = settled_at gone made w (under_near gone c (gone_near f))
+  then_early : IsAtRest s → s.present ≤ last_moment → (replaced gone c w).0.present ≤ last_moment
+  then_early rest early =
+      subst (λ (m : ℕ). m ≤ last_moment) (sym (replaced_present gone c w)) (ran_early events s rest early)
 
-  reload_present : (reload s c w).0.present ≡ (gone).present
-  unfolding reload replaced
-  reload_present = ap (λ (u : Unsettled). u.present) (settling_leaves gone made w) ∙ under_present gone c
+-- facts go to other places
 
-  reload_early : IsAtRest s → s.present ≤ last_moment → (reload s c w).0.present ≤ last_moment
-  reload_early rest early =
-      subst (λ (m : ℕ). m ≤ last_moment) (sym reload_present) (ran_early (removals s c w) s rest early)
+there_near : (s : State) (places : List ℕ) (c : Config) (apart : List ℕ) → EndsNear s
+    → EndsNear (without_neighbours apart (placed_under s places c))
+unfolding without_neighbours placed_under
+there_near s places c apart f = record { now = f.now; ends = f.ends }
 
-  reload_few : config_test c ≡ Ok tt → length (reload s c w).0.configured.interfaces ≤ most_ifaces
-  unfolding config_of
-  reload_few e =
-      subst (λ (k : Config). length k.interfaces ≤ most_ifaces) (sym (reload_is_under s c w)) (few_interfaces c e)
+there_present : (s : State) (places : List ℕ) (c : Config) (apart : List ℕ)
+    → (without_neighbours apart (placed_under s places c)).present ≡ s.present
+unfolding without_neighbours placed_under
+there_present s places c apart = refl
+
+module _ (s : State) (places : List ℕ) (c : Config) (apart : List ℕ) (w : ℕ) where
+  abbrev placed_so : State × List Message
+  placed_so = (without_neighbours apart (placed_under s places c), [])
+
+  moved_near : EndsNear s → EndsNear (moved s places c apart w).0
+  unfolding moved
+  moved_near f = settled_at (placed_under s places c) placed_so w (there_near s places c apart f)
+
+  moved_early : s.present ≤ last_moment → (moved s places c apart w).0.present ≤ last_moment
+  unfolding moved
+  moved_early early =
+      subst (λ (m : ℕ). m ≤ last_moment)
+      (sym (ap (λ (u : Unsettled). u.present) (settling_leaves (placed_under s places c) placed_so w) ∙ there_present s places c apart))
+      early
+
+-- ---- both
+
+module _ (s : State) (c : Config) (w : ℕ) (e : config_test c ≡ Ok tt) (f : IsFit s) where
+  reload_fit : IsFit (reload s c w).0
+  unfolding reload
+  reload_fit = record {
+    rest = reload_leaves_rest s c w e f.rest;
+    early = then_early (removals s c w) s c w f.rest f.early;
+    accepted = subst (λ (k : Config). config_test k ≡ Ok tt) (sym (reload_is_under s c w)) e;
+    near = is_near_then (reload s c w).0 (then_near (removals s c w) s c w (ends_near s f.near));
+  }
+
+  module _ (m : Places) where
+    abbrev kept : ℕ
+    kept = length (kept_places m)
+
+    abbrev order : List ℕ
+    order = new_order m (length c.interfaces)
+
+    abbrev old : Config
+    old = in_order (old_order m) (config_of s)
+
+    abbrev new : Config
+    new = in_order order c
+
+    abbrev apart : List ℕ
+    apart = resubnetted kept old.interfaces new.interfaces
+
+    abbrev first : State
+    first = (moved s (to_order m) old apart w).0
+
+    abbrev downs : List Event
+    downs = map (down_event w) (range_with_len kept (length m - kept))
+
+    abbrev next : State
+    next = (gone_on first kept (length m) new w).0
+
+    first_rests : IsAtRest first
+    first_rests = moved_is_at_rest s (to_order m) old apart w (ordered_setting (old_order m) (config_of s) f.accepted) (f.rest).settled
+
+    next_near : EndsNear next
+    unfolding gone_on
+    next_near = then_near downs first new w (moved_near s (to_order m) old apart w (ends_near s f.near))
+
+    next_early : (next).present ≤ last_moment
+    unfolding gone_on
+    next_early = then_early downs first new w first_rests (moved_early s (to_order m) old apart w f.early)
+
+    last_near : EndsNear (reload_by s m c w).0
+    unfolding reload_by
+    last_near = moved_near next order c [] w next_near
+
+    last_early : (reload_by s m c w).0.present ≤ last_moment
+    unfolding reload_by
+    last_early = moved_early next order c [] w next_early
+
+    placed_fit : IsFit (reload_by s m c w).0
+    placed_fit = record {
+      rest = placed_reload_leaves_rest s m c w f.accepted e f.rest;
+      early = last_early;
+      accepted = subst (λ (k : Config). config_test k ≡ Ok tt) (sym (placed_reload_is_under s m c w)) e;
+      near = is_near_then (reload_by s m c w).0 last_near;
+    }
 
 pub reload_stays_fit : ReloadStaysFit
-reload_stays_fit s c w e f = record {
-  rest = reload_leaves_rest s c w e f.rest;
-  early = reload_early s c w f.rest f.early;
-  few = reload_few s c w e;
-  near = is_near_then (reload s c w).0 (reload_near s c w (ends_near s f.near));
-}
+reload_stays_fit None s c w e f = reload_fit s c w e f
+reload_stays_fit (Some places) s c w e f = placed_fit s c w e f places

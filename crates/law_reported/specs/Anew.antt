@@ -1,10 +1,12 @@
--- A plane as it is documented, beside a router that is put under other configurations, and that is made again in a state
--- that was saved. At any time the plane may read rows, and let rows go.
-use Rattle.std.{specs.{List.AllByRecursion, Prelude.{Bool, List, None, Ok, Option, Some, [], false, if◌then◌else◌, is_some, length, nat_lt, slice_get, suc, true, unwrap_or, ℕ, ◌++◌, ◌||◌, ◌∷◌, ◌≡◌, ◌≤◌}}}
+-- A plane as it is documented, beside a router that is put under other configurations, by a map of places or without one,
+-- and that is made again in a state that was saved. At any time the plane may read rows, and let rows go.
+use Rattle.std.{specs.{List.AllByRecursion, Prelude.{Bool, List, None, Ok, Option, Some, [], false, if◌then◌else◌, is_some, nat_lt, slice_get, suc, true, unwrap_or, ℕ, ◌++◌, ◌||◌, ◌∷◌, ◌≡◌, ◌≤◌}}}
 use Rattle.pim_types.{specs.{declared.{config.Config.Config, event.Event.Event, outcome.{Emission.Emission, Outcome.Outcome, Verdict.Verdict}}, Keys.source_key}}
-use Rattle.pim_model.{specs.{Judging.last_moment, Limits.{config_test, most_ifaces}, State.{State, opening}, Step.{run, state_after}, Tables.has_row}}
+use Rattle.pim_model.{specs.{Judging.last_moment, Limits.config_test, State.{State, opening}, Step.{run, state_after}, Tables.has_row}}
 use Rattle.law_scope.{specs.Rest.IsAtRest}
+use Rattle.law_restored.{specs.Reload.config_of}
 use Rattle.law_reloaded.{specs.Reloading.reload}
+use Rattle.law_placed.{specs.Placing.{Places, reload_by}}
 use Rattle.law_plane.{specs.{Offered.offered, Offload.{Row, told}, Split.{Notice, whole}, Staying.OffersAlike, ToldLaws.{DecideAlike, PlaneRows, no_plane_rows}}}
 use Rattle.law_reported.{specs.{Documented.{AreRight, Doing, IsTelling, acted, events_in, plain_act, plane_at_opening, up_to_date}, Guests.{AreHeld, Plane, asked, without}, Kept.{Way, kept_up}, Near.is_near}}
 
@@ -43,8 +45,14 @@ beside asks s = with_read asks (record { split = whole s no_plane_rows; guests =
 
 -- ---- another configuration
 
+-- a reload by a map of places, or without one
+abbrev pub reload_of : Option Places → State → Config → ℕ → State × List Emission
+reload_of None s c w = reload s c w
+reload_of (Some places) s c w = reload_by s places c w
+
 -- A reload, and what the plane does about it.
 pub record Reload : Type 0 where
+  pub places : Option Places
   pub config : Config
   pub draw : ℕ
   -- the notes that it reports before, and how
@@ -60,7 +68,7 @@ before_reload y l = ((up_to_date y l.told l.way).split).core
 
 -- the router's state after it
 abbrev pub after_reload : Plane → Reload → State
-after_reload y l = (reload (before_reload y l) l.config l.draw).0
+after_reload y l = (reload_of l.places (before_reload y l) l.config l.draw).0
 
 abbrev pub put_under : Plane → Reload → Plane
 put_under y l = record {
@@ -105,7 +113,7 @@ stage z (Stage.Does d) =
 stage z (Stage.Reads asks) = ([], record z { plane = with_read asks z.plane })
 stage z (Stage.Drops drops) = ([], record z { plane = with_less drops z.plane })
 stage z (Stage.Reloads l) = (
-  reload_outcome (reload (before_reload z.plane l) l.config l.draw).1 ∷ [],
+  reload_outcome (reload_of l.places (before_reload z.plane l) l.config l.draw).1 ∷ [],
   record z { plane = put_under z.plane l },
 )
 stage z (Stage.Saves told w) =
@@ -133,8 +141,8 @@ alone_stage r (Stage.Does d) =
 alone_stage r (Stage.Reads asks) = ([], r)
 alone_stage r (Stage.Drops drops) = ([], r)
 alone_stage r (Stage.Reloads l) = (
-  reload_outcome (reload r.state l.config l.draw).1 ∷ [],
-  record r { state = (reload r.state l.config l.draw).0 },
+  reload_outcome (reload_of l.places r.state l.config l.draw).1 ∷ [],
+  record r { state = (reload_of l.places r.state l.config l.draw).0 },
 )
 alone_stage r (Stage.Saves told w) = ([], record r { saved = r.state ∷ r.saved })
 alone_stage r (Stage.Restores n asks) = ([], record r { state = unwrap_or (slice_get r.saved n) r.state })
@@ -183,7 +191,7 @@ SendsAsAlone z r stages w =
 pub record IsFit (s : State) : Type 0 where
   pub rest : IsAtRest s
   pub early : s.present ≤ last_moment
-  pub few : length s.configured.interfaces ≤ most_ifaces
+  pub accepted : config_test (config_of s) ≡ Ok tt
   pub near : is_near s ≡ true
 
 -- from any such state on, whatever rows the plane has, where each decides as the router's
@@ -205,20 +213,22 @@ DocumentedPlaneStaysSound = (c : Config) (stages : List Stage) (w : Way) → con
 
 -- Once the rows of sources with a fact before or after are read again, each row that the plane holds decides as the router's after a reload.
 abbrev pub ReloadRestoresRows : Type 0
-ReloadRestoresRows = (s : State) (c : Config) (w : ℕ) (rows : PlaneRows) (changed : ℕ → ℕ → Bool) → AreSound rows s
-    → HasBoth s (reload s c w).0 changed → AreSound (read_of changed (reload s c w).0 rows) (reload s c w).0
+ReloadRestoresRows = (places : Option Places) (s : State) (c : Config) (w : ℕ) (rows : PlaneRows) (changed : ℕ → ℕ → Bool)
+    → AreSound rows s → HasBoth s (reload_of places s c w).0 changed
+    → AreSound (read_of changed (reload_of places s c w).0 rows) (reload_of places s c w).0
 
 -- a reload leaves a state in which the law goes on
 abbrev pub ReloadStaysFit : Type 0
-ReloadStaysFit = (s : State) (c : Config) (w : ℕ) → config_test c ≡ Ok tt → IsFit s → IsFit (reload s c w).0
+ReloadStaysFit = (places : Option Places) (s : State) (c : Config) (w : ℕ) → config_test c ≡ Ok tt → IsFit s
+    → IsFit (reload_of places s c w).0
 
 -- ---- each run is one of such a plane
 
 -- what a router alone is given
 pub data Given : Type 0 where
   Happening : Event → Given
-  -- another configuration, with the draw of the reload
-  Another : Config → ℕ → Given
+  -- another configuration, by a map of places or without one, with the draw of the reload
+  Another : Option Places → Config → ℕ → Given
   Saved : Given
   -- made again in the state of a save, the last of which is number 0
   Again : ℕ → Given
@@ -227,7 +237,8 @@ pub data Given : Type 0 where
 -- and drops all offers.
 abbrev pub plain_stage : Standing → Given → Stage
 plain_stage z (Given.Happening e) = Stage.Does (Doing.Takes (plain_act z.plane e))
-plain_stage z (Given.Another c w) = Stage.Reloads (record {
+plain_stage z (Given.Another places c w) = Stage.Reloads (record {
+  places = places;
   config = c;
   draw = w;
   told = ((z.plane).split).owed;
@@ -246,7 +257,7 @@ plain_stages z (a ∷ later) = plain_stage z a ∷ plain_stages (stage z (plain_
 abbrev pub AreGiven : ℕ → List Given → Type 0
 AreGiven saves [] = Unit {0}
 AreGiven saves (Given.Happening e ∷ later) = AreGiven saves later
-AreGiven saves (Given.Another c w ∷ later) = (config_test c ≡ Ok tt) × AreGiven saves later
+AreGiven saves (Given.Another places c w ∷ later) = (config_test c ≡ Ok tt) × AreGiven saves later
 AreGiven saves (Given.Saved ∷ later) = AreGiven (suc saves) later
 AreGiven saves (Given.Again n ∷ later) = (nat_lt n saves ≡ true) × AreGiven saves later
 

@@ -64,7 +64,8 @@ pub fn plain_acts_are_right()
     ensures { PlainActsAreRight }
 {}
 
-/// Over events, reloads, saves and restores a plane as it is documented and its router send what the router alone sends.
+/// Over events, reloads, by a map of places or without one, saves and restores a plane as it is documented and its router
+/// send what the router alone sends.
 pub fn documented_plane_stays_sound()
     ensures { DocumentedPlaneStaysSound }
 {}

@@ -2,7 +2,7 @@
 use Rattle.std.{proofs.Common.{◌≡◌, List, [], ◌∷◌, ◌++◌, refl, sym, ap, subst, ◌∙◌}}
 use Rattle.pim_types.{specs.declared.{event.Event.Event, outcome.Outcome.Outcome}}
 use Rattle.law_causes.{proofs.Steps.run_is_asked}
-use Rattle.pim_model.{specs.{Cause.{OutcomesAreAsked, Past, past_after}, State.{State, opening}, Step.{outcome_of, ran, run, state_after, step}}}
+use Rattle.pim_model.{specs.{Cause.{OutcomesAreAsked, Past, happened, past_after}, State.{State, opening}, Step.{outcome_of, ran, run, state_after, step}}}
 use Rattle.pim_saved.{proofs.{Spelled.ok_is, SpelledStates.text_is_read}}
 use Rattle.law_restored.{specs.Restart.{LaterRunIsAsked, LaterStateIsReached, RestartChangesNothing, RestartIsAsked}}
 
@@ -26,7 +26,7 @@ asked_later : (past : Past) (s : State) (before after : List Event) → Outcomes
     → OutcomesAreAsked (past_after past s before) (state_after s before) after (run (state_after s before) after)
 unfolding run ran state_after past_after
 asked_later past s [] after h = h
-asked_later past s (e ∷ before) after h = asked_later (record { before = s; event = e } ∷ past) (step s e).state before after h.1
+asked_later past s (e ∷ before) after h = asked_later (happened s e ∷ past) (step s e).state before after h.1
 
 pub later_run_is_asked : LaterRunIsAsked
 later_run_is_asked c before after e = asked_later [] (opening c) before after (run_is_asked c (before ++ after) e)

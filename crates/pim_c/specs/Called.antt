@@ -9,22 +9,29 @@ use Rattle.law_plane.{specs.{Keeping.keep, Offered.{Offered, offered}}}
 use Rattle.law_history.{specs.History.Given}
 use Rattle.law_named.{specs.Named.event_named}
 use Rattle.pim_event.{specs.{Costs.IsCheap, Disturbing.event_disturbed, Listing.ListsSame, Replacing.may_differ, Staying.OffersStay}}
-use Rattle.pim_rested.{specs.{Refused.restore_refusal_number, Resuming.{IsResumable, restore_test}, declared.refusal.RestoreRefusal.RestoreRefusal}}
-use Rattle.pim_saved.{specs.{Fits.FitsState, Reading.reading, Text.text}}
+use Rattle.pim_rested.{specs.Resuming.IsResumable}
+use Rattle.igmp_older_saved.{specs.{Reading.{held_reading, held_restore_test}, Refused.held_refusal_number, Text.{Held, held_text, FitsHeld}, declared.refusal.HeldRefusal.HeldRefusal}}
 use Rattle.pim_router.{specs.{Asked.{LeadsOn, SentIsAsked}, Standing.{Standing, begun, nothing_shown, standing, with_state}}}
 use Rattle.pim_guard.{specs.Guard.is_stopped}
-use Rattle.pim_session.{specs.{Front.{emissions_left, front_after, given, hosts_set, interface_test, is_sure, older_rows, version_set}, Leaving.{GoesOnFrom, LeftIsAsked}, Session.ShownSession, Untaken.{IsStill, has_untaken}}}
+use Rattle.pim_session.{specs.{Front.{Front, emissions_left, front_after, given, hosts_set, interface_test, is_sure, older_rows, version_set}, Leaving.{GoesOnFrom, LeftIsAsked}, Saved.{front_resumed, held_of}, Session.ShownSession, Untaken.{IsStill, has_untaken}}}
 use Rattle.igmp_older.{specs.declared.{mode.OlderRow.OlderRow, setting.{OlderHosts.OlderHosts, QueryVersion.QueryVersion}}}
 use Rattle.pim_types.{specs.declared.{config.Config.Config, event.Event.Event, fact.Key.Key, outcome.Emission.Emission}}
 use Rattle.pim_c.{specs.{Told.{answer_number, bytes_in, kept_number, name_of, no_interface_number, older_group_of, set_number, told_packet, written_into}, declared.told.{Forwarding.Forwarding, Interfaces.Interfaces, NamedSource.NamedSource, OlderGroup.OlderGroup, Packet.Packet, PlaneRow.PlaneRow}}}
 
 -- What a session shows of a router that goes on from a state: the guard alone stands before it, and nothing is kept.
-abbrev pub restored_shown : State → ShownSession
-restored_shown s = record { router = begun s; front = None; guard = true; sent = []; rows = []; older_rows = [] }
+abbrev pub restored_shown : Held → ShownSession
+restored_shown h = record {
+  router = begun h.state;
+  front = front_resumed h.state h.hosts;
+  guard = true;
+  sent = [];
+  rows = [];
+  older_rows = [];
+}
 
 -- What a session shows of a new router.
 abbrev pub new_shown : Config → ShownSession
-new_shown config = restored_shown (opening config)
+new_shown config = restored_shown (record { hosts = []; state = opening config })
 
 -- What a session shows after an allocation failed.
 abbrev pub lost : ShownSession → ShownSession
@@ -346,23 +353,28 @@ MadeBy (Err refusal) old config answer left = (answer ≡ refusal_number refusal
 abbrev pub Made : Option ShownSession → Config → ℕ → Option ShownSession → Type 0
 Made old config answer left = MadeBy (config_test config) old config answer left ⊎ ((answer ≡ 40) × (left ≡ old))
 
-abbrev pub RestoredBy : Result (Unit {0}) RestoreRefusal → List ℕ → Option ShownSession → ℕ → Option ShownSession → Type 0
-RestoredBy (Ok _) bytes old answer left = (answer ≡ 0) × ((s : State) → reading bytes ≡ Ok s → left ≡ Some (restored_shown s))
+abbrev pub RestoredBy : Result (Unit {0}) HeldRefusal → List ℕ → Option ShownSession → ℕ → Option ShownSession → Type 0
+RestoredBy (Ok _) bytes old answer left = (answer ≡ 0) × ((h : Held) → held_reading bytes ≡ Ok h → left ≡ Some (restored_shown h))
     × IfSome (standing_in left) (λ r. GoesOnFrom bytes r.state)
-RestoredBy (Err refusal) bytes old answer left = (answer ≡ restore_refusal_number refusal) × (left ≡ old)
+RestoredBy (Err refusal) bytes old answer left = (answer ≡ held_refusal_number refusal) × (left ≡ old)
 
--- A router was made that is in the state that the bytes say, to which led what led to the state of which they were
--- saved, or the bytes were refused, or an allocation failed.
+-- A router was made that is in the state that the bytes say, with the rows of older hosts in them before it, to which led
+-- what led to the state of which they were saved, or the bytes were refused, or an allocation failed.
 abbrev pub Restored : Option ShownSession → List ℕ → ℕ → Option ShownSession → Type 0
-Restored old bytes answer left = RestoredBy (restore_test bytes) bytes old answer left ⊎ ((answer ≡ 40) × (left ≡ old))
+Restored old bytes answer left = RestoredBy (held_restore_test bytes) bytes old answer left ⊎ ((answer ≡ 40) × (left ≡ old))
 
-abbrev pub SavedFrom : Option Standing → ℕ → ℕ → ℕ → List ℕ → List ℕ → Type 0
-SavedFrom None answer size told room filled = (answer ≡ 41) × (told ≡ size) × (filled ≡ room)
-SavedFrom (Some r) answer size told room filled =
-    ((answer ≡ 0) × (told ≡ length (text r.state)) × (filled ≡ written_into room (text r.state)) × FitsState r.state × IsResumable r.state)
-    ⊎ ((answer ≡ 40) × (told ≡ size) × (filled ≡ room))
+-- The bytes were written, as many as fit, with their length.
+abbrev pub Wrote : Held → ℕ → List ℕ → List ℕ → Type 0
+Wrote h told room filled =
+    (told ≡ length (held_text h)) × (filled ≡ written_into room (held_text h)) × FitsHeld h × IsResumable h.state
 
--- The text of the router's state was written, as much as fits, with its length, or an allocation failed.
+abbrev pub SavedFrom : Option Standing → Option Front → ℕ → ℕ → ℕ → List ℕ → List ℕ → Type 0
+SavedFrom None front answer size told room filled = (answer ≡ 41) × (told ≡ size) × (filled ≡ room)
+SavedFrom (Some r) front answer size told room filled =
+    ((answer ≡ 0) × Wrote (held_of r.state front) told room filled) ⊎ ((answer ≡ 40) × (told ≡ size) × (filled ≡ room))
+
+-- The text of the router's state with its rows of older hosts was written, as much as fits, with its length, or an
+-- allocation failed.
 abbrev pub Saved : Option ShownSession → ℕ → ℕ → ℕ → List ℕ → List ℕ → Type 0
 Saved None answer size told room filled = (answer ≡ 50) × (told ≡ size) × (filled ≡ room)
-Saved (Some s) answer size told room filled = SavedFrom s.router.standing answer size told room filled
+Saved (Some s) answer size told room filled = SavedFrom s.router.standing s.front answer size told room filled

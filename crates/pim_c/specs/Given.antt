@@ -1,5 +1,5 @@
 -- What the values that a program gives stand for.
-use Rattle.std.{specs.Prelude.{List, if◌then◌else◌, map, ℕ}}
+use Rattle.std.{specs.Prelude.{List, None, Option, Some, if◌then◌else◌, map, ℕ, ◌==◌}}
 use Rattle.pim_ip.{specs.{Addr.addr, declared.addr.Prefix.Prefix}}
 use Rattle.pim_types.{specs.declared.{config.{Config.Config, InterfaceConfig.InterfaceConfig, Route.Route, RpRange.RpRange, SptSwitch.SptSwitch}, event.{Event.Event, EventKind.EventKind}}}
 use Rattle.pim_ifset.{specs.Members.iface_of}
@@ -42,6 +42,10 @@ config_of g addresses interfaces routes ranges = record {
   routes = map route_of routes;
   rps = map range_of ranges;
 }
+
+-- a number that stands for a place, or for none
+abbrev pub place_of : ℕ → Option ℕ
+place_of n = if n == 4294967295 then None else Some n
 
 abbrev pub given_event : ℕ → EventKind → Event
 given_event draw kind = record { draw = draw; kind = kind }

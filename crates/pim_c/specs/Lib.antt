@@ -1,6 +1,7 @@
 pub mod Called
 pub mod Given
 pub mod Kept
+pub mod Placed
 pub mod Recorded
 pub mod Reloaded
 pub mod Rows

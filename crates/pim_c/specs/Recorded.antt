@@ -2,8 +2,8 @@
 use Rattle.std.{specs.{Option.option_map_or, Prelude.{List, None, Option, Some, [], if◌then◌else◌, length, map, ℕ, ◌==◌, ◌≡◌, ◌⊎◌}}}
 use Rattle.pim_ifset.{specs.Members.iface_of}
 use Rattle.pim_ip.{specs.Addr.addr}
-use Rattle.pim_types.{specs.declared.{config.{Config.Config, Settings.Settings}, event.EventKind.EventKind}}
-use Rattle.pim_recorded.{specs.{Records.{Call, Guard, Hosts, Kept, Record, Reloaded, Seen, Version, event_record, front_text, record_text, summed}, declared.answered.Answered.Answered}}
+use Rattle.pim_types.{specs.declared.{config.Config.Config, event.EventKind.EventKind}}
+use Rattle.pim_recorded.{specs.{Records.{Call, Guard, Hosts, Kept, Record, Reloaded, Seen, Version, event_record, front_text, placed_call, record_text, settings_in, summed}, declared.answered.Answered.Answered}}
 use Rattle.pim_c.{specs.{Given.{range_of, route_of}, Told.written_into, declared.{given.{GivenRange.GivenRange, GivenRoute.GivenRoute}, recorded.GivenCall.GivenCall}}}
 
 abbrev pub answered_of : GivenCall → Answered
@@ -52,17 +52,6 @@ ranges_record c ranges = event_record c.draw (EventKind.Rps (map range_of ranges
 abbrev pub ranges_text : GivenCall → List GivenRange → List ℕ
 ranges_text c ranges = record_text (ranges_record c ranges)
 
--- a configuration without its lists
-abbrev pub settings_in : Config → Settings
-settings_in c = record {
-  limit = c.limit;
-  spt = c.spt;
-  robustness = c.robustness;
-  query_interval = c.query_interval;
-  query_response_interval = c.query_response_interval;
-  last_member_query_interval = c.last_member_query_interval;
-}
-
 abbrev pub reload_record : GivenCall → Config → Record
 reload_record c given = record {
   call = Reloaded c.draw (settings_in given) given.interfaces given.addresses given.routes given.rps;
@@ -71,6 +60,12 @@ reload_record c given = record {
 
 abbrev pub reload_text : GivenCall → Config → List ℕ
 reload_text c given = record_text (reload_record c given)
+
+abbrev pub placed_record : GivenCall → Config → List ℕ → Record
+placed_record c given places = record { call = placed_call c.draw given places; answered = answered_of c }
+
+abbrev pub placed_text : GivenCall → Config → List ℕ → List ℕ
+placed_text c given places = record_text (placed_record c given places)
 
 -- Bytes were written, as many as fit, with how many there are, or an allocation failed.
 abbrev pub Written : List ℕ → ℕ → ℕ → ℕ → List ℕ → List ℕ → Type 0

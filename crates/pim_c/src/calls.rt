@@ -10,9 +10,10 @@ ghost use Rattle.pim_c.specs.Called.{CachedTold, Copied, GuardSetBy, HostsSetBy,
 ghost use Rattle.pim_c.specs.Rows.{RowTold};
 ghost use Rattle.pim_c.specs.Trees.{ValueTold, link_in, link_of, neighbour_in, neighbour_of, source_tree_in, source_tree_of, tree_in, tree_of};
 ghost use Rattle.pim_ifset.specs.Members.{iface_of};
+ghost use Rattle.pim_c.specs.Placed.{PlacedCopy};
 ghost use Rattle.pim_c.specs.Reloaded.{ReloadedCopy};
-ghost use Rattle.pim_c.specs.Given.{config_of, given_event, range_of, route_of};
-ghost use Rattle.pim_c.specs.Recorded.{Written, given_text, ranges_text, reload_text, routes_text};
+ghost use Rattle.pim_c.specs.Given.{config_of, given_event, place_of, range_of, route_of};
+ghost use Rattle.pim_c.specs.Recorded.{Written, given_text, placed_text, ranges_text, reload_text, routes_text};
 ghost use Rattle.pim_recorded.specs.Records.{sum_of};
 ghost use Rattle.pim_c.specs.Told.{guard_of, never, older_hosts_of, query_version_of, table_of_letter};
 
@@ -65,6 +66,29 @@ pub extern "C" fn viq_core_reload(
 {
     let config = given::config(alloc, settings, addresses, interfaces, routes, ranges);
     router.reload_copied(alloc, draw, config)
+}
+
+/// Puts a router under another configuration by a map of places: of each old interface, by its number, the number of the
+/// one that has its link, or the number that stands for none. If the configuration or the map is refused, nothing changes.
+#[unsafe(no_mangle)]
+pub extern "C" fn viq_core_reload_places(
+    alloc: Global,
+    router: &mut Handle,
+    draw: u32,
+    settings: &GivenSettings,
+    addresses: &[u32],
+    interfaces: &[GivenInterface],
+    routes: &[GivenRoute],
+    ranges: &[GivenRange],
+    places: &[u32],
+) -> u32
+    ensures { PlacedCopy (map place_of places.now) router.old.place.inside
+        (config_of settings.now addresses.now interfaces.now routes.now ranges.now) draw result router.new.place.inside }
+{
+    let copied = given::config_by(
+        alloc, settings, addresses, interfaces, routes, ranges, places,
+    );
+    router.reload_places_copied(alloc, draw, copied)
 }
 
 /// Makes a router of saved bytes, which goes on from their state. If the handle had a router and the new one is made, the
@@ -600,6 +624,33 @@ pub extern "C" fn viq_core_record_reload(
         return MEMORY;
     };
     recorded::tell(recorded::reload_record(alloc, call, &config), room, size)
+}
+
+/// The record of another configuration by a map of places, written so.
+#[unsafe(no_mangle)]
+pub extern "C" fn viq_core_record_reload_places(
+    alloc: Global,
+    call: &GivenCall,
+    settings: &GivenSettings,
+    addresses: &[u32],
+    interfaces: &[GivenInterface],
+    routes: &[GivenRoute],
+    ranges: &[GivenRange],
+    places: &[u32],
+    room: &mut [u8],
+    size: &mut usize,
+) -> u32
+    ensures { Written (placed_text call.now (config_of settings.now addresses.now interfaces.now routes.now ranges.now) places.now)
+        result size.old size.new room.old room.new }
+{
+    let Ok(config) = given::config(alloc, settings, addresses, interfaces, routes, ranges) else {
+        return MEMORY;
+    };
+    recorded::tell(
+        recorded::placed_record(alloc, call, &config, places),
+        room,
+        size,
+    )
 }
 
 /// The sum of the packets that are to be sent, as it is in a record.

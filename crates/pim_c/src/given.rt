@@ -1,7 +1,7 @@
 //! What a program passes in: the parts of a configuration, and events.
 ghost use Rattle.std.specs.Prelude.{◌≡◌, IfOk, map};
 ghost use Rattle.pim_ip.specs.Addr.{addr};
-ghost use Rattle.pim_c.specs.Given.{config_of, given_event, interface_of, range_of, route_of};
+ghost use Rattle.pim_c.specs.Given.{config_of, given_event, interface_of, place_of, range_of, route_of};
 ghost use Rattle.pim_types.specs.declared.event.EventKind.{EventKind};
 
 use pim_types::{
@@ -154,6 +154,30 @@ pub fn ranges(alloc: Global, given: &[GivenRange]) -> Result<Series<RpRange>, Al
     Ok(all)
 }
 
+/// The number that stands for no place.
+pub const NO_PLACE: u32 = 0xFFFF_FFFF;
+
+// Where an old interface goes, by a number.
+fn place(given: u32) -> Option<u32>
+    ensures { result ≡ place_of given }
+{
+    if given == NO_PLACE {
+        return None;
+    }
+    Some(given)
+}
+
+// Where the old interfaces go, by their numbers.
+fn places(alloc: Global, given: &[u32]) -> Result<Vec<Option<u32>>, AllocError>
+    ensures { IfOk result (λ all. all.items ≡ map place_of given.now) }
+{
+    let mut all = Vec::new(alloc);
+    for one in given {
+        all.push(place(*one))?;
+    }
+    Ok(all)
+}
+
 /// The configuration that the given parts describe.
 pub fn config(
     alloc: Global,
@@ -187,6 +211,39 @@ pub fn config(
         routes,
         rps,
     })
+}
+
+/// A configuration, and where the old interfaces go.
+#[derive(Drop)]
+pub struct Copied {
+    pub config: Config,
+    pub places: Vec<Option<u32>>,
+}
+
+/// The configuration that the given parts describe, and where the old interfaces go by it.
+pub fn config_by(
+    alloc: Global,
+    settings: &GivenSettings,
+    given_addresses: &[u32],
+    given_interfaces: &[GivenInterface],
+    given_routes: &[GivenRoute],
+    given_ranges: &[GivenRange],
+    given_places: &[u32],
+) -> Result<Copied, AllocError>
+    ensures { IfOk result (λ copied. (copied.config
+        ≡ config_of settings.now given_addresses.now given_interfaces.now given_routes.now given_ranges.now)
+        × (copied.places.items ≡ map place_of given_places.now)) }
+{
+    let places = places(alloc, given_places)?;
+    let config = config(
+        alloc,
+        settings,
+        given_addresses,
+        given_interfaces,
+        given_routes,
+        given_ranges,
+    )?;
+    Ok(Copied { config, places })
 }
 
 /// New unicast routes.

@@ -14,14 +14,15 @@ ghost use Rattle.pim_model.specs.Timers.{next_moment};
 ghost use Rattle.law_plane.specs.Offered.{Offered as OfferedValue};
 ghost use Rattle.law_plane.specs.Seen.{seen_event};
 ghost use Rattle.pim_mfc.specs.Shown.{TellsOffload};
-ghost use Rattle.pim_rested.specs.Resuming.{restore_test};
-ghost use Rattle.pim_saved.specs.Reading.{reading};
+ghost use Rattle.igmp_older_saved.specs.Reading.{held_reading, held_restore_test};
+ghost use Rattle.igmp_older_saved.specs.Text.{Held};
 ghost use Rattle.pim_session.specs.Leaving.{GoesOnFrom};
 ghost use Rattle.pim_session.specs.Untaken.{has_untaken};
 ghost use Rattle.pim_c.specs.Told.{never};
 ghost use Rattle.pim_c.specs.Rows.{RowTold};
 ghost use Rattle.pim_c.specs.Called.{AnswersTold, CachedTold, GuardSet, GuardSetFrom, HostsSet, HostsSetFrom, SourceKept, SourceKeptFrom, Made, NameTold, OfferTold, OffloadTold, OlderRead, OlderReadFrom, OlderTold, PacketTaken, PacketTold, Read, ReadFrom, Refused, Restored, Saved, SavedFrom, Seen, SeenFrom, Stepped, SteppedFrom, VersionSet, VersionSetFrom, changed_in, cleared, copies_in, is_copy, lost, may_differ_in, new_shown, older_rows_in, packets_in, probes_in, refused_number, restored_shown, rows_in, sent_left, standing_in, touched_in};
 
+mod placed;
 mod recorded;
 mod reloaded;
 mod trees;
@@ -33,9 +34,9 @@ use crate::told::{
     PlaneRow, UNTAKEN, answer_number, kept_number, loss_number, set_number,
 };
 use igmp_older::{OlderHosts, OlderRow, QueryVersion};
+use igmp_older_saved::HeldRefusal;
 use pim_intake::LentEvent;
 use pim_mfc::{CacheRow, Offered};
-use pim_router::RestoreRefusal;
 use pim_rows::Table;
 use pim_session::Session;
 use pim_types::{Addr, Config, Emission, Event, Fault, IfaceId, Refusal, SourceGroup};
@@ -476,12 +477,12 @@ fn boxed(alloc: Global, config: Config) -> Result<Result<Box<Session>, Refusal>,
 }
 
 // A session of saved bytes, behind a box.
-fn restored(alloc: Global, bytes: &[u8]) -> Result<Result<Box<Session>, RestoreRefusal>, Fault>
-    ensures restored { IfOk result (λ made. IfOk made (λ held. (s : State) → reading bytes.now ≡ Ok s
-        → held.value ≡ restored_shown s)) }
+fn restored(alloc: Global, bytes: &[u8]) -> Result<Result<Box<Session>, HeldRefusal>, Fault>
+    ensures restored { IfOk result (λ made. IfOk made (λ held. (h : Held) → held_reading bytes.now ≡ Ok h
+        → held.value ≡ restored_shown h)) }
     ensures led { IfOk result (λ made. IfOk made (λ held. IfSome held.value.router.standing (λ r. GoesOnFrom bytes.now r.state))) }
-    ensures tested { IfOk result (λ made. IfOk made (λ held. restore_test bytes.now ≡ Ok tt)) }
-    ensures refused { IfOk result (λ made. IfErr made (λ refusal. restore_test bytes.now ≡ Err refusal)) }
+    ensures tested { IfOk result (λ made. IfOk made (λ held. held_restore_test bytes.now ≡ Ok tt)) }
+    ensures refused { IfOk result (λ made. IfErr made (λ refusal. held_restore_test bytes.now ≡ Err refusal)) }
     ensures memory { IfErr result (λ fault. fault ≡ Fault.Memory) }
 {
     match Session::restore(alloc, bytes)? {
@@ -662,7 +663,7 @@ fn read(session: &mut Session, table: Table) -> u32
 
 // Writes the bytes of a session's router into a buffer, as many as fit, and how many there are.
 fn save(alloc: Global, session: &Session, room: &mut [u8], size: &mut usize) -> u32
-    ensures { SavedFrom session.now.router.standing result size.old size.new room.old room.new }
+    ensures { SavedFrom session.now.router.standing session.now.front result size.old size.new room.old room.new }
 {
     let mut bytes = Vec::new(alloc);
     match session.save(&mut bytes) {

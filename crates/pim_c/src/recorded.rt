@@ -1,11 +1,11 @@
 //! Records of calls, which a program writes one behind the other.
 ghost use Rattle.std.specs.Prelude.{◌≡◌, ◌++◌, IfOk, OnErr, OnOk};
-ghost use Rattle.pim_c.specs.Recorded.{Written, answered_of, given_front, given_text, ranges_text, reload_text, routes_text, settings_in};
+ghost use Rattle.pim_c.specs.Recorded.{Written, answered_of, given_front, given_text, placed_text, ranges_text, reload_text, routes_text};
 
 use crate::given::{self, GivenRange, GivenRoute};
 use crate::told::{self, DONE, MEMORY};
 use pim_recorded::Answered;
-use pim_types::{Addr, Config, IfaceId, Settings};
+use pim_types::{Addr, Config, IfaceId};
 use std::alloc::{AllocError, Global};
 
 /// A call that a router took, and what it answered. A field that its kind of call doesn't have isn't read.
@@ -103,19 +103,6 @@ pub fn ranges_record(
     Ok(out)
 }
 
-fn settings(config: &Config) -> Settings
-    ensures { result ≡ settings_in config.now }
-{
-    Settings {
-        limit: config.limit,
-        spt: config.spt,
-        robustness: config.robustness,
-        query_interval: config.query_interval,
-        query_response_interval: config.query_response_interval,
-        last_member_query_interval: config.last_member_query_interval,
-    }
-}
-
 /// The bytes of the record of another configuration.
 pub fn reload_record(
     alloc: Global,
@@ -127,7 +114,7 @@ pub fn reload_record(
     let mut out = Vec::new(alloc);
     pim_recorded::write_reloaded(
         call.draw,
-        settings(config),
+        pim_recorded::settings_in(config),
         config.interfaces.as_slice(),
         config.addresses.as_slice(),
         config.routes.as_slice(),
@@ -135,6 +122,21 @@ pub fn reload_record(
         answered(call),
         &mut out,
     )?;
+    pim_recorded::end_record(&mut out)?;
+    Ok(out)
+}
+
+/// The bytes of the record of another configuration by a map of places, each by its number.
+pub fn placed_record(
+    alloc: Global,
+    call: &GivenCall,
+    config: &Config,
+    places: &[u32],
+) -> Result<Vec<u8>, AllocError>
+    ensures { IfOk result (λ bytes. bytes.items ≡ placed_text call.now config.now places.now) }
+{
+    let mut out = Vec::new(alloc);
+    pim_recorded::write_placed(call.draw, config, places, answered(call), &mut out)?;
     pim_recorded::end_record(&mut out)?;
     Ok(out)
 }

@@ -21,35 +21,40 @@ by_numbers : (f : ℕ → Emission) (on : List IfaceId)
 by_numbers f [] = refl
 by_numbers f (i ∷ on) = ap (λ (es : List Emission). f i.number ∷ es) (by_numbers f on)
 
-module _ (s : State) (p : Packet) (list plain : Members) (on : List IfaceId)
-    (shown : (test : Set) → Shows plain test → map (λ (i : IfaceId). i.number) on ≡ members s test) where
-  copied : (b : Bool) → b ≡ leaves p → b ≡ true → ((q : ℕ) → has plain q ≡ has list q) → (test : Set)
-      → Shows list test → map (λ (i : IfaceId). on_link i.number (copy_text p)) on ≡ copies_of s p test
+module _ (count : ℕ) (p : Packet) (list plain : Members) (on : List IfaceId)
+    (shown : (s : State) (test : Set) → count ≡ iface_count s → Shows plain test
+    → map (λ (i : IfaceId). i.number) on ≡ members s test) where
+  copied : (s : State) → count ≡ iface_count s → (b : Bool) → b ≡ leaves p → b ≡ true
+      → ((q : ℕ) → has plain q ≡ has list q) → (test : Set) → Shows list test
+      → map (λ (i : IfaceId). on_link i.number (copy_text p)) on ≡ copies_of s p test
   unfolding copies_of
-  copied b is leaves same test shows =
+  copied s counted b is leaves same test shows =
       by_numbers (λ i. on_link i (copy_text p)) on
-      ∙ ap (λ (is : List ℕ). map (λ i. on_link i (copy_text p)) is) (shown test (λ i. same i ∙ shows i))
+      ∙ ap (λ (is : List ℕ). map (λ i. on_link i (copy_text p)) is) (shown s test counted (λ i. same i ∙ shows i))
       ∙ ap (λ (x : Bool). if x then map (λ i. on_link i (copy_text p)) (members s test) else []) (sym leaves ∙ is)
 
   pub all_copied : {V E : Type 0} (items : V → List Emission) (r : Result V E) (b : Bool) → b ≡ leaves p → b ≡ true
       → ((q : ℕ) → has plain q ≡ has list q)
       → IfOk r (λ v. items v ≡ map (λ (i : IfaceId). on_link i.number (copy_text p)) on)
-      → IfOk r (λ v. (test : Set) → Shows list test → items v ≡ copies_of s p test)
-  all_copied items (Ok v) b is leaves same are = λ test shows. are ∙ copied b is leaves same test shows
+      → IfOk r (λ v. (s : State) → count ≡ iface_count s → (test : Set) → Shows list test
+      → items v ≡ copies_of s p test)
+  all_copied items (Ok v) b is leaves same are =
+      λ s counted test shows. are ∙ copied s counted b is leaves same test shows
   all_copied items (Err e) b is leaves same are = tt
 
   pub copies_few : {V E : Type 0} (items : V → List Emission) (r : Result V E)
-      → ((q : ℕ) → has plain q ≡ (nat_lt q 120 && has plain q)) → iface_count s ≤ 120
+      → ((q : ℕ) → has plain q ≡ (nat_lt q 120 && has plain q)) → count ≤ 120
       → IfOk r (λ v. items v ≡ map (λ (i : IfaceId). on_link i.number (copy_text p)) on)
-      → IfOk r (λ v. length (items v) ≤ 120)
+      → IfOk r (λ v. (s : State) → count ≡ iface_count s → length (items v) ≤ 120)
   copies_few items (Err e) limit few are = tt
-  copies_few items (Ok v) limit few are =
+  copies_few items (Ok v) limit few are = λ s counted.
       omega (
         arith,
         few,
+        counted,
         ap length are,
         length-map on (λ (i : IfaceId). on_link i.number (copy_text p)),
         length-map on (λ (i : IfaceId). i.number),
-        ap length (shown (has plain) limit),
+        ap length (shown s (has plain) counted limit),
         members_few s (has plain),
       )

@@ -4,6 +4,7 @@ ghost use Rattle.std.specs.Prelude.{◌≡◌, ◌≤◌, ℕ, [], Bool, IfOk, O
 ghost use Rattle.pim_ip.specs.Ipv4.{copy_text};
 ghost use Rattle.pim_state.specs.Shown.{Shows};
 ghost use Rattle.pim_model.specs.Forwarding.{Forwarded};
+ghost use Rattle.pim_model.specs.State.{State, iface_count};
 ghost use Rattle.pim_model.specs.Writing.{copies_of, leaves, on_link, register_of_packet, tunnel_of};
 ghost use Rattle.pim_model.specs.Unicast.{rp_of};
 ghost use Rattle.pim_register.specs.Outgoing.{LeavesOn};
@@ -64,23 +65,23 @@ fn copies_on(
     Ok(copies)
 }
 
-/// The packet's copies on the links of the list, by ascending interface: none where its TTL has run out. An error is
-/// want of memory.
+/// The packet's copies on the links of the list, by ascending interface: none where its TTL has run out. The count is that
+/// of the router's interfaces. An error is want of memory.
 #[tactic(auto, unfolding(pim_model::specs::Writing::copies_of))]
 pub fn copies(
-    world: &World,
+    count: u32,
     room: &mut Room,
     packet: &Ipv4View<'_>,
     list: IfSet,
 ) -> Result<Vec<Emission>, AllocError>
-    ensures copies { IfOk result (λ copies. (test : ℕ → Bool) → Shows list test
-        → copies.items ≡ copies_of world.now packet.now test) }
-    ensures limit { IfOk result (λ copies. length copies.items ≤ 120) }
+    requires { count ≤ 120 }
+    ensures copies { IfOk result (λ copies. (s : State) → count ≡ iface_count s → (test : ℕ → Bool) → Shows list test
+        → copies.items ≡ copies_of s packet.now test) }
+    ensures limit { IfOk result (λ copies. (s : State) → count ≡ iface_count s → length copies.items ≤ 120) }
 {
     if !leaves(packet) {
         return Ok(room.list());
     }
-    let count = world.interfaces().count();
     // For the proof: how many interfaces the list has.
     let list = list.without_tunnel();
     copies_on(room, list.len(), members(list, count), packet)
@@ -123,7 +124,7 @@ pub fn leave(
     ensures limit { IfOk result (λ sent. length sent.copies.items ≤ 120) }
     ensures silent { turn.new ≡ turn.old }
 {
-    let copies = copies(world, &mut turn.room, packet, list)?;
+    let copies = copies(world.interfaces().count(), &mut turn.room, packet, list)?;
     if !(list.has_tunnel() && leaves(packet)) {
         return Ok(Leaving {
             copies,

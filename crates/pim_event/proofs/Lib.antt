@@ -7,6 +7,7 @@ mod Firings
 mod Replacing
 mod Rerouting
 mod Frames
+mod Hearing
 mod Instants
 pub mod Listing
 mod Judgements

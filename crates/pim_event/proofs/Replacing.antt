@@ -6,7 +6,7 @@ use Rattle.pim_model.{specs.{declared.accepted.Accepted.Accepted, Full.{is_full,
 use Rattle.law_scope.{specs.Rest.IsAtRest, proofs.SameRows.flags}
 use Rattle.law_named.{specs.Named.{has_same_routes, has_same_rp}, proofs.{SameRows.{not_false, options}, Sights.paths_same}}
 use Rattle.pim_state.{specs.declared.touched.Touched.Touched}
-use Rattle.law_plane.{specs.{Offered.offered, Staying.{OffersAlike, SourceStays}}, proofs.Staying.{offer_stays, stays_itself}}
+use Rattle.law_plane.{specs.{Offered.offered, Staying.{OffersAlike, SourceStays}}, proofs.Staying.offer_stays}
 use Rattle.pim_rerouted.{specs.OtherRoutes.{group_has_other_rp, has_other_route, with_routes}}
 use Rattle.pim_event.{specs.{Replacing.{Disturbance, NoneReplaced, RangesReplaced, Replaced, RoutesReplaced, differs_by, event_replaced, may_differ, replaced_after, replaced_where, with_ranges}, Staying.{OffersStay, UntouchedOffersStay}}, proofs.Rerouting.{same_routes_stay, same_rps_stay}}
 
@@ -192,6 +192,3 @@ pub offers_stay_after : {A E : Type 0} (r : Result A E) (s t : State) (e : Event
 offers_stay_after (Ok x) s t e touched replaced rest few is stays replaces =
     offers_stay s t e touched replaced rest few is stays replaces
 offers_stay_after (Err x) s t e touched replaced rest few is stays replaces = tt
-
-pub offers_itself : (s : State) (disturbed : Disturbance) → OffersStay disturbed s s
-offers_itself s disturbed g src out = offer_stays s s g src (stays_itself s g src) refl

@@ -1,4 +1,5 @@
 pub mod Caching
+pub mod Hearing
 pub mod Listing
 pub mod Disturbing
 pub mod Replacing

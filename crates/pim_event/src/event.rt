@@ -1,24 +1,18 @@
 //! One event: its tests, its change where there is room for its facts, and what follows of the change.
-ghost use Rattle.std.specs.Prelude.{◌≡◌, ◌<◌, [], IfOk, IfSome, IsOk, IsOkUnless, IsTrue, None, Ok, OnOk, false, if◌then◌else◌, not, true};
+ghost use Rattle.std.specs.Prelude.{◌≡◌, ◌≤◌, [], IfOk, IfSome, IsOk, IsOkUnless, IsTrue, None, OnOk, false, if◌then◌else◌, length, not, true};
 ghost use Rattle.pim_fanout.specs.Laws.{names_of};
 ghost use Rattle.pim_fanout.specs.Refreshing.{touches, touches_in};
 ghost use Rattle.pim_fanout.specs.Named.{keys_of};
 ghost use Rattle.pim_ip.specs.declared.fault.Fault.{Fault};
 ghost use Rattle.law_scope.specs.Rest.{IsAtRest};
 ghost use Rattle.pim_macros.specs.Sights.{IsSourceSight};
-ghost use Rattle.pim_model.specs.declared.accepted.Accepted.{Accepted};
 ghost use Rattle.pim_model.specs.State.{State};
 ghost use Rattle.pim_model.specs.Step.{change, outcome_of, step, taken};
 ghost use Rattle.pim_model.specs.Sure.{needs_no_memory};
-ghost use Rattle.pim_mfc.specs.Kept.{ForwardsAs, decided};
-ghost use Rattle.pim_model.specs.Plain.{fact_key};
-ghost use Rattle.pim_model.specs.Tables.{has_row, same_bool};
+ghost use Rattle.pim_model.specs.Tables.{same_bool};
 ghost use Rattle.pim_plan.specs.Acting.{HasRead, control_event, act_event};
-ghost use Rattle.pim_event.specs.Costs.{IsWithinPath};
 ghost use Rattle.pim_intake.specs.Memory.{is_frame};
-ghost use Rattle.pim_ip.specs.Ipv4.{Packet};
 ghost use Rattle.pim_model.specs.Judging.{judged};
-ghost use Rattle.pim_types.specs.declared.config.IfaceId.{IfaceId as IfaceValue};
 ghost use Rattle.pim_plan.specs.Naming.{Brings, IsConfigured};
 ghost use Rattle.pim_plan.specs.Planning.{Fits};
 ghost use Rattle.pim_event.specs.Replacing.{replaced_after};
@@ -27,24 +21,25 @@ ghost use Rattle.pim_event.specs.Stepping.{Accepts, Begins, BeginsTurn, Steps, S
 ghost use Rattle.pim_settling.specs.Settling.{AreNames};
 ghost use Rattle.law_plane.specs.Staying.{is_rerouting};
 ghost use Rattle.law_named.specs.Adjacent.{hello_keeps_dr};
+ghost use Rattle.pim_event.specs.Hearing.{IsUndecided};
 ghost use Rattle.pim_event.specs.Stops.{stop_outcome};
+ghost use Rattle.pim_types.specs.declared.event.EventKind.{EventKind as EventValue};
 ghost use Rattle.pim_trie.specs.Meter.{raised};
 ghost use Rattle.pim_state.specs.declared.touched.Touched.{Touched as TouchedValue};
 
 use crate::change::apply;
+use crate::hear::{Heard, hear};
 use crate::parts::Core;
 use crate::plain::take_plain;
 use crate::quiet::{change_quietly, is_nothing};
 use crate::replaced::Replaced;
 use crate::time::advance;
 use pim_data::Leaving;
-use pim_fanout::{Cache, Gathered};
+use pim_fanout::Gathered;
 use pim_hello::hello_keeps_dr;
 use pim_intake::{LentEvent, judge};
-use pim_ip::Ipv4View;
 use pim_macros::SourceSight;
 use pim_messages::Room;
-use pim_mfc::Forward;
 use pim_model::Accepted;
 use pim_mrib::Mrib;
 use pim_plan::{Act, Control, Plan, Planning, planned};
@@ -317,83 +312,61 @@ fn take_in_own_turn(
     Ok(outcome)
 }
 
-// What the row of its source decides of a packet of data.
-fn by_row(
-    cache: &Cache,
-    iface: IfaceId,
-    packet: &Ipv4View<'_>,
-    meter: &mut Meter,
-) -> Option<Forward>
-    ensures decided { ForwardsAs result (decided cache.now.mfc packet.now.destination packet.now.source iface.number
-        packet.now.time_to_live) }
-    ensures visited { meter.old ≡ 0 → has_row cache.now.mfc.rows (fact_key packet.now) ≡ true → IsWithinPath meter.new }
-{
-    let name = SourceGroup {
-        source: packet.source(),
-        group: packet.destination(),
-    };
-    cache
-        .mfc()
-        .forward(name, iface, packet.time_to_live(), meter)
-}
-
-// Takes a packet of data: by the row of its source where that decides it, else in a turn of its own.
-fn take_data(
+// Takes an event as what it was judged to be, where no row decides it: in a turn of its own where it is accepted.
+fn take_judged(
     core: &mut Core,
     event: &LentEvent<'_>,
-    iface: IfaceId,
-    packet: Ipv4View<'_>,
+    judgement: Result<Accepted<'_>, Stop>,
     table: Option<Box<Mrib>>,
     meter: &mut Meter,
 ) -> Result<Outcome, Fault>
     requires begun { Begins core.old }
-    requires heard { judged core.old.world event.now.kind ≡ Ok (Accepted.Data iface packet) }
-    requires below { iface.number < 120 }
+    requires heard { judgement ≡ judged core.old.world event.now.kind }
+    requires table { IfOk judgement (λ accepted. Brings accepted table) }
+    requires undecided { IsUndecided core.old.world event.now }
+    ensures steps { Steps core.old event.now result core.new meter.new }
+    ensures sure { IsTrue (needs_no_memory (step core.old.world event.now).answer) → IsOk result }
+{
+    match judgement {
+        Ok(accepted) => take_in_own_turn(core, event, accepted, table, meter),
+        Err(stop) => Ok(stopped(core.room.alloc, stop)),
+    }
+}
+
+// Takes a packet on a link.
+fn take_frame(
+    core: &mut Core,
+    event: &LentEvent<'_>,
+    iface: IfaceId,
+    bytes: &[u8],
+    meter: &mut Meter,
+) -> Result<Outcome, Fault>
+    requires begun { Begins core.old }
+    requires few { length core.old.world.configured.interfaces ≤ 120 }
+    requires frame { event.now.kind ≡ EventValue.Frame iface bytes.now }
     requires unvisited { meter.old ≡ 0 }
-    ensures { Steps core.old event.now result core.new meter.new }
+    ensures steps { Steps core.old event.now result core.new meter.new }
+    ensures sure { IsTrue (needs_no_memory (step core.old.world event.now).answer) → IsOk result }
 {
-    match by_row(&core.cache, iface, &packet, meter) {
-        Some(forward) => take_plain(&mut core.room, &mut core.world, &packet, forward, meter),
-        None => take_in_own_turn(core, event, Accepted::Data { iface, packet }, table, meter),
-    }
-}
-
-// Takes an accepted event that is no packet of data, in a turn of its own. It is a function of its own because the
-// prover needs "this is no packet of data" as a premise where the cost of the turn is stated.
-fn take_event_without_data(
-    core: &mut Core,
-    event: &LentEvent<'_>,
-    accepted: Accepted<'_>,
-    table: Option<Box<Mrib>>,
-    meter: &mut Meter,
-) -> Result<Outcome, Fault>
-    requires accepts { Accepts core.old event.now accepted table }
-    requires other { (i : IfaceValue) (p : Packet) → ¬ (accepted ≡ Accepted.Data i p) }
-    ensures { Steps core.old event.now result core.new meter.new }
-{
-    take_in_own_turn(core, event, accepted, table, meter)
-}
-
-// Takes an accepted event.
-fn take_accepted(
-    core: &mut Core,
-    event: &LentEvent<'_>,
-    accepted: Accepted<'_>,
-    table: Option<Box<Mrib>>,
-    meter: &mut Meter,
-) -> Result<Outcome, Fault>
-    requires accepts { Accepts core.old event.now accepted table }
-    requires unvisited { is_frame event.now.kind ≡ true → meter.old ≡ 0 }
-    ensures { Steps core.old event.now result core.new meter.new }
-{
-    match accepted {
-        Accepted::Data { iface, packet } => {
-            // For the proof: the interface is below 120.
-            core.world.interfaces().proof_few();
-            take_data(core, event, iface, packet, table, meter)
+    let rows = core.cache.mfc();
+    match hear(&core.world, rows, iface, bytes, meter) {
+        Heard::Plain { packet, forward } => {
+            take_plain(&mut core.room, &mut core.world, &packet, forward, meter)
         }
-        _ => take_event_without_data(core, event, accepted, table, meter),
+        Heard::Other(judgement) => take_judged(core, event, judgement, None, meter),
     }
+}
+
+// Takes an event that is no packet on a link.
+fn take_other(core: &mut Core, event: &LentEvent<'_>, meter: &mut Meter) -> Result<Outcome, Fault>
+    requires begun { Begins core.old }
+    requires other { is_frame event.now.kind ≡ false }
+    ensures steps { Steps core.old event.now result core.new meter.new }
+    ensures sure { IsTrue (needs_no_memory (step core.old.world event.now).answer) → IsOk result }
+{
+    let mut table = None;
+    let judgement = judge(core.room.alloc, &core.world, event, &mut table, meter)?;
+    take_judged(core, event, judgement, table, meter)
 }
 
 /// Takes an event. The meter counts the trie nodes that it visits, the cache counts the rows that it touches and lists
@@ -411,9 +384,8 @@ pub fn take_in(core: &mut Core, event: &LentEvent<'_>, meter: &mut Meter) -> Res
 {
     // For the proof: there are at most 120 interfaces.
     core.world.interfaces().proof_few();
-    let mut table = None;
-    match judge(core.room.alloc, &core.world, event, &mut table, meter)? {
-        Ok(accepted) => take_accepted(core, event, accepted, table, meter),
-        Err(stop) => Ok(stopped(core.room.alloc, stop)),
+    match event.as_frame() {
+        Some((iface, bytes)) => take_frame(core, event, iface, bytes, meter),
+        None => take_other(core, event, meter),
     }
 }

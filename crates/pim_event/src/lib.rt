@@ -4,6 +4,7 @@
 
 pub mod change;
 pub mod event;
+mod hear;
 pub mod parts;
 mod plain;
 mod quiet;

@@ -9,32 +9,33 @@ ghost use Rattle.pim_model.specs.Tables.{has_row};
 ghost use Rattle.pim_event.specs.Plainly.{Forwards};
 
 use pim_data::copies;
+use pim_intake::PlainWorld;
 use pim_ip::Ipv4View;
 use pim_messages::Room;
 use pim_mfc::Forward;
-use pim_state::{Meter, World};
+use pim_trie::Meter;
 use pim_types::{Fault, Outcome, Series, SourceGroup, Verdict};
 
 /// Forwards a packet as its row says: KAT(S,G) is set or not, and copies leave on links. Nothing else changes, and
 /// nothing is sent upstream, where the source has a row. The row is found by the place that the caller keeps, without a
 /// look-up.
 #[tactic(auto, unfolding(law_cache::specs::Decided::plainly_taken, law_cache::specs::Decided::kept_if))]
-pub(crate) fn take_plain(
+pub(crate) fn take_plain<W: PlainWorld>(
     room: &mut Room,
-    world: &mut World,
+    world: &mut W,
     packet: &Ipv4View<'_>,
     forward: Forward,
     meter: &mut Meter,
 ) -> Result<Outcome, Fault>
     ensures outcome { IfOk result (λ outcome. (how : Plain) → Forwards forward how
-        → outcome ≡ outcome_of (plainly_taken world.old packet.now how)) }
+        → outcome ≡ outcome_of (plainly_taken (W.state world.old) packet.now how)) }
     ensures state { OnOk result ((how : Plain) → Forwards forward how
-        → world.new ≡ (plainly_taken world.old packet.now how).state) }
-    ensures kept { OnOk result (has_row world.old.sources (fact_key packet.now) ≡ true → meter.new ≡ meter.old) }
+        → W.state world.new ≡ (plainly_taken (W.state world.old) packet.now how).state) }
+    ensures kept { OnOk result (has_row (W.state world.old).sources (fact_key packet.now) ≡ true → meter.new ≡ meter.old) }
     ensures fault { IsOkUnless result Fault.Memory }
 {
     let olist = forward.olist.without_tunnel();
-    let copies = copies(world, room, packet, olist)?;
+    let copies = copies(world.interfaces().count(), room, packet, olist)?;
     if forward.sets_keepalive {
         let name = SourceGroup {
             source: packet.source(),

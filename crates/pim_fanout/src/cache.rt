@@ -13,10 +13,10 @@ ghost use Rattle.pim_trie.specs.Meter.{raised};
 ghost use Rattle.pim_types.specs.Keys.{group_in, key_cmp, source_in, source_key};
 ghost use Rattle.pim_state.specs.declared.touched.Touched.{Touched as TouchedValue};
 
-use crate::before::{has_fact, sight_of};
 use crate::disturbed::Disturbed;
+use crate::evaluates::Evaluates;
 use crate::once::each_once;
-use pim_macros::{Evaluations, SourceSight, row_by_sight};
+use pim_macros::{Evaluations, SourceSight};
 use pim_mfc::Mfc;
 use pim_state::{Touched, World};
 use pim_tables::PlacedRows;
@@ -152,39 +152,38 @@ impl Cache {
     }
 
     // Evaluates the row of a source again, or takes it out where the source has no fact.
-    fn refresh_one(
+    fn refresh_one<W: Evaluates>(
         &mut self,
-        world: &World,
+        world: &W,
         meter: &mut Meter,
         name: SourceGroup,
         given: &Option<SourceSight>,
     ) -> Result<(), AllocError>
-        requires { IfSome given.now (IsSourceSight world.now) }
-        ensures shown { OnOk result (RefreshesOne (name_key name) world.now self.old.mfc.rows self.new.mfc.rows) }
-        ensures few { OnOk result (touches self.new ≡ raised (touches self.old) (touches_of world.now (name_key name))) }
+        requires { IfSome given.now (IsSourceSight (W.state world.now)) }
+        ensures shown { OnOk result (RefreshesOne (name_key name) (W.state world.now) self.old.mfc.rows self.new.mfc.rows) }
+        ensures few { OnOk result (touches self.new ≡ raised (touches self.old) (touches_of (W.state world.now) (name_key name))) }
         ensures listed { OnOk result ((self.new.changed ≡ self.old.changed) × (self.new.disturbed ≡ self.old.disturbed)) }
     {
-        if !has_fact(world, name) {
+        if !world.has_fact(name) {
             self.mfc.remove(name, meter);
             return Ok(());
         }
-        let sight = sight_of(world, name, given.as_ref(), meter);
-        let made = row_by_sight(world, &sight, &mut self.evaluated);
+        let made = world.row(name, given.as_ref(), meter, &mut self.evaluated);
         self.mfc.put(made, meter)?;
         Ok(())
     }
 
     // Evaluates the rows of the given sources again, and takes out those of sources without a fact.
-    fn refresh_rows(
+    fn refresh_rows<W: Evaluates>(
         &mut self,
-        world: &World,
+        world: &W,
         meter: &mut Meter,
         names: &[SourceGroup],
         given: &Option<SourceSight>,
     ) -> Result<(), AllocError>
-        requires { IfSome given.now (IsSourceSight world.now) }
-        ensures shown { OnOk result (Refreshes (keys_of names.now) world.now self.old.mfc.rows self.new.mfc.rows) }
-        ensures few { OnOk result (touches self.new ≡ raised (touches self.old) (touches_in world.now (keys_of names.now))) }
+        requires { IfSome given.now (IsSourceSight (W.state world.now)) }
+        ensures shown { OnOk result (Refreshes (keys_of names.now) (W.state world.now) self.old.mfc.rows self.new.mfc.rows) }
+        ensures few { OnOk result (touches self.new ≡ raised (touches self.old) (touches_in (W.state world.now) (keys_of names.now))) }
         ensures listed { OnOk result ((self.new.changed ≡ self.old.changed) × (self.new.disturbed ≡ self.old.disturbed)) }
     {
         for name in names {
@@ -212,18 +211,19 @@ impl Cache {
     /// Evaluates the row of each named source that has a fact, once, and puts it in; takes out the row of each other
     /// named source; and lists them all as changed. The sources that the touched keys name, alone or with their group,
     /// become disturbed. The sight that is given, if there is one, is taken for its source. The meter rises by the nodes
-    /// visited. After an error nothing is known of the rows.
-    pub fn refresh(
+    /// visited. After an error nothing is known of the rows. The state is seen by a trait that lists no sources and
+    /// evaluates no macro but in a row that is counted.
+    pub fn refresh<W: Evaluates>(
         &mut self,
-        world: &World,
+        world: &W,
         meter: &mut Meter,
         names: Series<SourceGroup>,
         touched: Touched,
         given: &Option<SourceSight>,
     ) -> Result<(), AllocError>
-        requires { IfSome given.now (IsSourceSight world.now) }
-        ensures shown { OnOk result (Refreshes (keys_of names) world.now self.old.mfc.rows self.new.mfc.rows) }
-        ensures few { OnOk result (touches self.new ≡ raised (touches self.old) (touches_in world.now (keys_of names))) }
+        requires { IfSome given.now (IsSourceSight (W.state world.now)) }
+        ensures shown { OnOk result (Refreshes (keys_of names) (W.state world.now) self.old.mfc.rows self.new.mfc.rows) }
+        ensures few { OnOk result (touches self.new ≡ raised (touches self.old) (touches_in (W.state world.now) (keys_of names))) }
         ensures listed { OnOk result (self.new.changed ≡ self.old.changed ++ keys_of names) }
         ensures disturbed { OnOk result (self.new.disturbed ≡ joined self.old.disturbed touched) }
     {

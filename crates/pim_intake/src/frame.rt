@@ -4,15 +4,19 @@ ghost use Rattle.pim_model.specs.Judging.{data_judged, frame_judged, packet_judg
 
 use crate::igmp::judge_igmp;
 use crate::message::judge_pim;
+use crate::plain::PlainWorld;
 use pim_ip::{Addr, FRAME_LIMIT, Ipv4View, PROTOCOL_IGMP, PROTOCOL_PIM, Refusal, read_ipv4};
 use pim_model::Accepted;
-use pim_state::World;
 use pim_types::{IfaceId, Ignored, Stop};
 
 // A packet of another protocol.
 #[tactic(auto, unfolding(pim_model::specs::Judging::data_judged))]
-fn judge_data<'a>(world: &World, iface: IfaceId, packet: Ipv4View<'a>) -> Result<Accepted<'a>, Stop>
-    ensures { result ≡ data_judged world.now iface packet.entry }
+fn judge_data<'a, W: PlainWorld>(
+    world: &W,
+    iface: IfaceId,
+    packet: Ipv4View<'a>,
+) -> Result<Accepted<'a>, Stop>
+    ensures { result ≡ data_judged (W.state world.now) iface packet.entry }
 {
     if world.interfaces().is_own(packet.source()) {
         return Err(Stop::Ignore(Ignored::Own));
@@ -28,12 +32,12 @@ fn judge_data<'a>(world: &World, iface: IfaceId, packet: Ipv4View<'a>) -> Result
 
 // A packet that was read.
 #[tactic(auto, unfolding(pim_model::specs::Judging::packet_judged))]
-fn judge_packet<'a>(
-    world: &World,
+fn judge_packet<'a, W: PlainWorld>(
+    world: &W,
     iface: IfaceId,
     packet: Ipv4View<'a>,
 ) -> Result<Accepted<'a>, Stop>
-    ensures { result ≡ packet_judged world.now iface packet.entry }
+    ensures { result ≡ packet_judged (W.state world.now) iface packet.entry }
 {
     let protocol = packet.protocol();
     if protocol == PROTOCOL_PIM && packet.destination() == Addr::ALL_PIM_ROUTERS {
@@ -45,14 +49,14 @@ fn judge_packet<'a>(
     judge_data(world, iface, packet)
 }
 
-/// A packet that came on an interface.
+/// The tests of a packet that came on an interface.
 #[tactic(auto, unfolding(pim_model::specs::Judging::frame_judged))]
-pub(crate) fn judge_frame<'a>(
-    world: &World,
+pub fn judge_frame<'a, W: PlainWorld>(
+    world: &W,
     iface: IfaceId,
     bytes: &'a [u8],
 ) -> Result<Accepted<'a>, Stop>
-    ensures { result ≡ frame_judged world.now iface bytes.now }
+    ensures { result ≡ frame_judged (W.state world.now) iface bytes.now }
 {
     if iface.number >= world.interfaces().count() {
         return Err(Stop::Refuse(Refusal::NoInterface));

@@ -1,6 +1,7 @@
 //! Events whose packets, routes and ranges are borrowed.
-ghost use Rattle.std.specs.Prelude.{◌≡◌};
+ghost use Rattle.std.specs.Prelude.{◌≡◌, IfSome, None, false};
 ghost use Rattle.pim_intake.specs.Lent.{event_kind};
+ghost use Rattle.pim_intake.specs.Memory.{is_frame};
 ghost use Rattle.pim_types.specs.declared.event.EventKind.{EventKind as EventValue};
 
 use pim_types::{Event, EventKind, IfaceId, Lent, Route, RpRange};
@@ -85,6 +86,18 @@ impl<'a> LentEvent<'a> {
         LentEvent {
             draw,
             kind: LentKind::Unicast { bytes },
+        }
+    }
+
+    /// The interface and the bytes of a packet that came on a link, if the event is one.
+    #[tactic(auto, unfolding(crate::specs::Lent::event_kind))]
+    pub fn as_frame(&self) -> Option<(IfaceId, &'a [u8])>
+        ensures frame { IfSome result (λ frame. self.now.kind ≡ EventValue.Frame frame.0 frame.1.now) }
+        ensures other { result ≡ None → is_frame self.now.kind ≡ false }
+    {
+        match &self.kind {
+            LentKind::Frame { iface, bytes } => Some((*iface, bytes.as_slice())),
+            _ => None,
         }
     }
 

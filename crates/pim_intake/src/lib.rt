@@ -3,11 +3,14 @@
 #![tactic(auto)]
 
 pub mod event;
-mod frame;
+pub mod frame;
 mod igmp;
 pub mod lent;
 mod message;
+pub mod plain;
 mod unicast;
 
 pub use event::judge;
+pub use frame::judge_frame;
 pub use lent::LentEvent;
+pub use plain::PlainWorld;

@@ -3,21 +3,21 @@ ghost use Rattle.std.specs.Prelude.{◌≡◌, ◌==◌};
 ghost use Rattle.pim_model.specs.Judging.{assert_judged, hello_judged, join_prune_judged, pim_judged, pim_message_judged};
 ghost use Rattle.pim_model.specs.State.{my_address};
 
+use crate::plain::PlainWorld;
 use pim_ip::{Addr, Ipv4View};
 use pim_model::Accepted;
-use pim_state::World;
 use pim_types::{IfaceId, Ignored, Stop};
 use pim_wire::{Assert, DEFAULT_HOLDTIME, Hello, JoinPruneView, PimView, read_pim};
 
 // The tests of a Hello: one with holdtime 0 has to be of a known neighbour (RFC 7761, section 4.3.2).
 #[tactic(auto, unfolding(pim_model::specs::Judging::hello_judged))]
-fn judge_hello<'a>(
-    world: &World,
+fn judge_hello<'a, W: PlainWorld>(
+    world: &W,
     iface: IfaceId,
     from: Addr,
     hello: Hello,
 ) -> Result<Accepted<'a>, Stop>
-    ensures { result ≡ hello_judged world.now iface from.bits hello }
+    ensures { result ≡ hello_judged (W.state world.now) iface from.bits hello }
 {
     let holdtime = hello.holdtime.unwrap_or(DEFAULT_HOLDTIME);
     if holdtime == 0 && !world.neighbours().contains(iface, from) {
@@ -27,21 +27,21 @@ fn judge_hello<'a>(
 }
 
 // Whether the address is the router's on the interface.
-fn is_mine(world: &World, iface: IfaceId, address: Addr) -> bool
-    ensures { result ≡ (address.bits == my_address world.now iface.number) }
+fn is_mine<W: PlainWorld>(world: &W, iface: IfaceId, address: Addr) -> bool
+    ensures { result ≡ (address.bits == my_address (W.state world.now) iface.number) }
 {
     world.address(iface) == address
 }
 
 // The tests of a Join/Prune: its sender is a neighbour (RFC 7761, section 4.5); it is to the router or only seen by it.
 #[tactic(auto, unfolding(pim_model::specs::Judging::join_prune_judged))]
-fn judge_join_prune<'a>(
-    world: &World,
+fn judge_join_prune<'a, W: PlainWorld>(
+    world: &W,
     iface: IfaceId,
     from: Addr,
     message: JoinPruneView<'a>,
 ) -> Result<Accepted<'a>, Stop>
-    ensures { result ≡ join_prune_judged world.now iface from.bits message.entry }
+    ensures { result ≡ join_prune_judged (W.state world.now) iface from.bits message.entry }
 {
     if !world.neighbours().contains(iface, from) {
         return Err(Stop::Ignore(Ignored::NoNeighbour));
@@ -54,13 +54,13 @@ fn judge_join_prune<'a>(
 
 // The tests of an Assert: its mask is that of one group, its group isn't link-local, and its sender is a neighbour.
 #[tactic(auto, unfolding(pim_model::specs::Judging::assert_judged))]
-fn judge_assert<'a>(
-    world: &World,
+fn judge_assert<'a, W: PlainWorld>(
+    world: &W,
     iface: IfaceId,
     from: Addr,
     assert: Assert,
 ) -> Result<Accepted<'a>, Stop>
-    ensures { result ≡ assert_judged world.now iface from.bits assert }
+    ensures { result ≡ assert_judged (W.state world.now) iface from.bits assert }
 {
     if assert.mask_length != 32 {
         return Err(Stop::Ignore(Ignored::Mask));
@@ -80,13 +80,13 @@ fn judge_assert<'a>(
 
 // A message that came from an address on an interface.
 #[tactic(auto, unfolding(pim_model::specs::Judging::pim_judged))]
-fn judge_message<'a>(
-    world: &World,
+fn judge_message<'a, W: PlainWorld>(
+    world: &W,
     iface: IfaceId,
     from: Addr,
     message: PimView<'a>,
 ) -> Result<Accepted<'a>, Stop>
-    ensures { result ≡ pim_judged world.now iface from.bits message.entry }
+    ensures { result ≡ pim_judged (W.state world.now) iface from.bits message.entry }
 {
     match message {
         PimView::Hello(hello) => judge_hello(world, iface, from, hello),
@@ -99,12 +99,12 @@ fn judge_message<'a>(
 
 /// The PIM message in a packet.
 #[tactic(auto, unfolding(pim_model::specs::Judging::pim_message_judged))]
-pub(crate) fn judge_pim<'a>(
-    world: &World,
+pub(crate) fn judge_pim<'a, W: PlainWorld>(
+    world: &W,
     iface: IfaceId,
     packet: &Ipv4View<'a>,
 ) -> Result<Accepted<'a>, Stop>
-    ensures { result ≡ pim_message_judged world.now iface packet.now }
+    ensures { result ≡ pim_message_judged (W.state world.now) iface packet.now }
 {
     let message = read_pim(packet.payload())?;
     if world.interfaces().is_own(packet.source()) {

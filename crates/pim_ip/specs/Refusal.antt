@@ -32,3 +32,4 @@ refusal_number ConfiguredRoutes = 37
 refusal_number ConfiguredRps = 38
 refusal_number BadScenario = 39
 refusal_number OwnAddresses = 70
+refusal_number PlacesDontFit = 73

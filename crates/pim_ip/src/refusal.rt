@@ -36,6 +36,7 @@ pub enum Refusal {
     ConfiguredRps = 38,
     BadScenario = 39,
     OwnAddresses = 70,
+    PlacesDontFit = 73,
 }
 
 impl Refusal {
@@ -80,6 +81,7 @@ impl Refusal {
             Refusal::ConfiguredRps => "the configured RP ranges are wrong",
             Refusal::BadScenario => "the scenario is wrong",
             Refusal::OwnAddresses => "the router's own addresses are wrong",
+            Refusal::PlacesDontFit => "the map of places doesn't name each interface once",
         }
     }
 }

@@ -5,14 +5,17 @@ ghost use Rattle.pim_lab.specs.Statuses.{IsFault, IsTroubleOf, router_node, rout
 
 use crate::front::{Asked, run_behind};
 use crate::nodes::{reloaded_of, station_of};
+use crate::saved::Unresumed;
 use igmp_older::Presence;
+use igmp_older_saved::{HostRow, are_held, open_saved, resumed_rows, saved_hosts, write_saved};
 use lab_stations::{
     Delivery, Frames, Lines, Names, OlderLine, Reloaded, RowLine, Station, Trouble,
 };
-use pim_net::{Net, NetLog, Node, Router, Unrestored, Wire};
+use pim_net::{Net, NetLog, Node, Renewal, Router, Unrestored, Wire};
 use pim_rows::Table;
+use pim_saver::ReadFault;
 use pim_scenario::{ConfigText, RouterText, ScenarioMove};
-use pim_types::{Emission, Event, EventKind, Fault, Outcome, Refusal, Series, Verdict};
+use pim_types::{Emission, Event, EventKind, Fault, Key, Outcome, Refusal, Series, Verdict};
 use std::alloc::{AllocError, Global};
 
 /// How many deliveries one settle makes at most.
@@ -114,8 +117,14 @@ impl<W: Wire> Lab<W> {
             }
             ScenarioMove::Settle { draw } => self.settle(number, draw, lines),
             ScenarioMove::Restart { router } => self.restart(At { number, router }, lines),
-            ScenarioMove::Reload { router, draw, next } => {
-                self.reload(At { number, router }, draw, next, lines)
+            ScenarioMove::Reload {
+                router,
+                draw,
+                next,
+                places,
+            } => {
+                let (reloaded, renewal) = self.renewal_of(next, places)?;
+                self.reload(At { number, router }, draw, reloaded, renewal, lines)
             }
         }
     }
@@ -127,34 +136,79 @@ impl<W: Wire> Lab<W> {
             .position(|station| station.name() == name)
     }
 
-    /// Puts the router of a name into the state that these bytes say.
+    /// Puts the router of a name into the state that these bytes say, with the older hosts in them.
     pub(crate) fn restore(
         &mut self,
         name: &str,
         bytes: &[u8],
-    ) -> Result<Result<(), Unrestored>, Fault> {
+    ) -> Result<Result<(), Unresumed>, Fault> {
         match self.place_of(name) {
-            Some(place) => self.net.restore(place, bytes),
-            None => Ok(Err(Unrestored::NoRouter)),
+            Some(place) => self.restore_at(place, bytes),
+            None => Ok(Err(Unresumed::Router(Unrestored::NoRouter))),
         }
     }
 
-    /// Adds the bytes of the state of the router of a name after those that are there.
-    pub(crate) fn save(&self, name: &str, out: &mut Vec<u8>) -> Result<(), Fault> {
-        let Some(place) = self.place_of(name) else {
-            return Ok(());
+    // Puts the router at a place into the state that these bytes say, with the older hosts in them.
+    fn restore_at(&mut self, place: usize, bytes: &[u8]) -> Result<Result<(), Unresumed>, Fault> {
+        let (hosts, rest) = match open_saved(self.alloc, bytes) {
+            Ok(opened) => opened,
+            Err(ReadFault::Memory) => return Err(Fault::Memory),
+            Err(ReadFault::Refused(_)) => return Ok(Err(Unresumed::Hosts)),
         };
-        match self.net.router(place) {
-            Some(router) => router.save(out),
-            None => Err(Fault::Failed),
+        match self.net.restore(place, rest)? {
+            Ok(()) => self.resume(place, &hosts),
+            Err(why) => Ok(Err(Unresumed::Router(why))),
         }
     }
 
-    // Saves a router, and makes it anew of its bytes. Its front stays.
+    // Has the router at a place know the older hosts that were saved with it.
+    fn resume(
+        &mut self,
+        place: usize,
+        hosts: &[(Key, HostRow)],
+    ) -> Result<Result<(), Unresumed>, Fault> {
+        let (Some(router), Some(station)) = (self.net.router(place), self.stations.get_mut(place))
+        else {
+            return Err(Fault::Failed);
+        };
+        if !are_held(&Asked { router }, hosts) {
+            return Ok(Err(Unresumed::Hosts));
+        }
+        let rows = resumed_rows(self.alloc, hosts)?;
+        station.resume(self.alloc, router.limit(), &rows)?;
+        Ok(Ok(()))
+    }
+
+    /// Adds the bytes of the state of the router of a name, with its older hosts, after those that are there.
+    pub(crate) fn save(&self, name: &str, out: &mut Vec<u8>) -> Result<(), Fault> {
+        match self.place_of(name) {
+            Some(place) => self.save_at(place, out),
+            None => Ok(()),
+        }
+    }
+
+    // Adds the bytes of the state of the router at a place, with its older hosts, after those that are there.
+    fn save_at(&self, place: usize, out: &mut Vec<u8>) -> Result<(), Fault> {
+        let (Some(router), Some(station)) = (self.net.router(place), self.stations.get(place))
+        else {
+            return Err(Fault::Failed);
+        };
+        let mut own = Vec::new(self.alloc);
+        router.save(&mut own)?;
+        let hosts = saved_hosts(self.alloc, &Asked { router }, &station.presence)?;
+        write_saved(&hosts, &own, out)?;
+        Ok(())
+    }
+
+    // Saves a router with its older hosts, and makes both anew of the bytes.
     fn restart(&mut self, at: At, lines: &mut Lines) -> Result<(), Trouble>
         ensures { IfErr result (λ t. IsFault t) }
     {
-        self.net.restart(at.router)?;
+        let mut bytes = Vec::new(self.alloc);
+        self.save_at(at.router, &mut bytes)?;
+        if self.restore_at(at.router, &bytes)?.is_err() {
+            return Err(Trouble::Fault(Fault::Failed));
+        }
         let outcome = self.without_packets(Ok(Verdict::Done));
         self.print_with_tables(at, outcome, lines)
     }
@@ -164,25 +218,34 @@ impl<W: Wire> Lab<W> {
         &mut self,
         at: At,
         draw: u32,
-        next: ConfigText,
+        reloaded: Reloaded,
+        renewal: Renewal,
         lines: &mut Lines,
     ) -> Result<(), Trouble>
         ensures { IfErr result (λ t. IsFault t) }
     {
-        let ConfigText {
-            config,
-            links,
-            front,
-        } = next;
-        let links = self.names.links(self.alloc, links)?;
-        let (reloaded, node) = reloaded_of(self.alloc, config, links, front)?;
-        let outcome = self.net.reload(at.router, draw, node)?;
+        let outcome = self.net.reload(at.router, draw, renewal)?;
         let is_done = outcome.answer.is_ok();
         self.print(at, outcome, lines)?;
         if is_done {
             self.keep(at.router, reloaded)?;
         }
         self.print_each(at, lines)
+    }
+
+    // What the lab keeps of another configuration, and what the network gets of it.
+    fn renewal_of(
+        &mut self,
+        next: ConfigText,
+        places: Series<Option<u32>>,
+    ) -> Result<(Reloaded, Renewal), AllocError> {
+        let ConfigText {
+            config,
+            links,
+            front,
+        } = next;
+        let links = self.names.links(self.alloc, links)?;
+        reloaded_of(self.alloc, config, links, front, places)
     }
 
     // Keeps what the lab knows of another configuration of a router.

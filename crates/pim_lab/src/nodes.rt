@@ -5,7 +5,7 @@ ghost use Rattle.lab_stations.specs.Stations.{nobody_behind, own_addresses};
 ghost use Rattle.pim_lab.specs.Statuses.{router_node};
 
 use lab_stations::{Reloaded, Station, link_numbers};
-use pim_net::Node;
+use pim_net::{Node, Renewal};
 use pim_scenario::{FrontText, Link, RouterText};
 use pim_types::{Config, Series};
 use std::alloc::{AllocError, Global};
@@ -32,18 +32,20 @@ pub(crate) fn station_of(alloc: Global, text: RouterText) -> Result<(Station, No
     Ok((station, node))
 }
 
-/// What the lab keeps of another configuration, and the network's node of it, with its links.
+/// What the lab keeps of another configuration, by a map of places or without one, and what the network gets of it.
 pub(crate) fn reloaded_of(
     alloc: Global,
     config: Config,
     links: Series<Link>,
     front: FrontText,
-) -> Result<(Reloaded, Node), AllocError> {
+    places: Series<Option<u32>>,
+) -> Result<(Reloaded, Renewal), AllocError> {
     let numbers = link_numbers(alloc, links.as_slice())?;
-    let reloaded = Reloaded::new(alloc, &config, links, front)?;
+    let kept = Series::from_vec(places.as_slice().to_vec(alloc)?);
+    let reloaded = Reloaded::new(alloc, &config, links, front, kept)?;
     let node = Node {
         config,
         links: numbers,
     };
-    Ok((reloaded, node))
+    Ok((reloaded, Renewal { node, places }))
 }

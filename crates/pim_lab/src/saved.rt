@@ -4,6 +4,7 @@ ghost use Rattle.pim_lab.specs.Statuses.{IsAccepted};
 
 use crate::lab::Lab;
 use crate::playing::{Opened, make_moves, open_scenario, print_tables};
+use igmp_older_saved::HeldRefusal;
 use lab_stations::{Lines, Trouble};
 use pim_net::{Unrestored, Wire};
 use pim_scenario::{Complaint, ScenarioMove, Tables};
@@ -25,13 +26,21 @@ pub struct States<'a> {
     pub save: &'a [&'a str],
 }
 
+/// Why a router isn't put into a saved state.
+#[derive(Clone, Copy)]
+pub(crate) enum Unresumed {
+    Router(Unrestored),
+    /// The older hosts in the bytes aren't read, or are none that the router can have.
+    Hosts,
+}
+
 /// What ends a run from saved states, or to one, before its end.
 #[derive(Clone, Copy)]
 enum Stop<'a> {
     Trouble(Trouble),
     /// The scenario has no router of this name.
     NoRouter(&'a str),
-    Unrestored(Unrestored),
+    Unresumed(Unresumed),
 }
 
 impl Stop<'_> {
@@ -42,13 +51,28 @@ impl Stop<'_> {
         match self {
             Stop::Trouble(trouble) => trouble.tell(err),
             Stop::NoRouter(name) => Complaint::Router(name).tell(err),
+            Stop::Unresumed(why) => why.tell(err),
+        }
+    }
+}
+
+impl Unresumed {
+    // Writes the message, and returns the status of the program.
+    fn tell<E: Write>(self, err: &mut E) -> u8
+        ensures { (result ≡ 2) ⊎ (result ≡ 3) ⊎ (result ≡ 4) }
+    {
+        match self {
             // Each name was looked up before.
-            Stop::Unrestored(Unrestored::NoRouter) => Complaint::CommandLine.tell(err),
-            Stop::Unrestored(Unrestored::OtherInterfaces) => {
+            Unresumed::Router(Unrestored::NoRouter) => Complaint::CommandLine.tell(err),
+            Unresumed::Router(Unrestored::OtherInterfaces) => {
                 told(err.writeln("pimlab: saved state has other interfaces"))
             }
-            Stop::Unrestored(Unrestored::Bytes(refusal)) => {
+            Unresumed::Router(Unrestored::Bytes(refusal)) => {
                 let number = refusal.number();
+                told(err.writeln(format_args!("pimlab: saved state refused: {number}")))
+            }
+            Unresumed::Hosts => {
+                let number = HeldRefusal::HostsNotHeld.number();
                 told(err.writeln(format_args!("pimlab: saved state refused: {number}")))
             }
         }
@@ -88,14 +112,14 @@ impl From<Fault> for Stop<'_> {
     }
 }
 
-impl From<Unrestored> for Stop<'_> {
+impl From<Unresumed> for Stop<'_> {
     ghost use Rattle.std.specs.Prelude.{◌≡◌};
     ghost use Rattle.pim_lab.specs.declared.saved.Stop.{Stop};
 
-    ghost from_gives = { λ why stop. stop ≡ Stop.Unrestored why };
+    ghost from_gives = { λ why stop. stop ≡ Stop.Unresumed why };
 
-    fn from(why: Unrestored) -> Self {
-        Stop::Unrestored(why)
+    fn from(why: Unresumed) -> Self {
+        Stop::Unresumed(why)
     }
 }
 

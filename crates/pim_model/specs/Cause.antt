@@ -1,7 +1,7 @@
 -- Nothing flows unasked: what is the cause of a copy of a packet on a link. A Join/Prune is one for as long as its
 -- holdtime says (RFC 7761, section 4.5), a membership report for the Group Membership Interval (RFC 3376, section 8.4),
 -- and neither beyond a Down of the interface.
-use Rattle.std.{specs.{List.{All, list_any}, Prelude.{Bool, List, None, Ok, Option, Result, Some, [], drop, false, filter, length, nat_lt, not, true, ℕ, ◌&&◌, ◌*◌, ◌+◌, ◌-◌, ◌==◌, ◌||◌, ◌≡◌, ◌∷◌}}}
+use Rattle.std.{specs.{List.{All, list_any}, Option.option_map_or, Prelude.{Bool, List, None, Ok, Option, Result, Some, [], drop, false, filter, if◌then◌else◌, length, nat_lt, not, true, ℕ, ◌&&◌, ◌*◌, ◌+◌, ◌-◌, ◌==◌, ◌||◌, ◌≡◌, ◌∷◌}}}
 use Rattle.pim_ip.{specs.{Ipv4.{Packet, copy_text}, declared.refusal.Refusal.Refusal}}
 use Rattle.pim_types.{specs.{Keys.{source_key, star_key}, declared.{event.Event.Event, outcome.{Emission.Emission, Outcome.Outcome, Verdict.Verdict}}}}
 use Rattle.pim_wire.{specs.Values.{Encapsulated, JoinPrune}}
@@ -13,14 +13,24 @@ pub record Happened : Type 0 where
   pub before : State
   pub event : Event
 
--- the events so far, the latest first
+-- What is in a past: an event, or that the interfaces got other numbers. That is by a map of each old number to the new one
+-- of the same interface, or to none where it went.
+pub data Passed : Type 0 where
+  Happening : Happened → Passed
+  Renumbered : List (Option ℕ) → Passed
+
+-- an event that a state found, as part of a past
+abbrev pub happened : State → Event → Passed
+happened s e = Passed.Happening (record { before = s; event = e })
+
+-- what was so far, the latest first
 abbrev pub Past : Type 0
-Past = List Happened
+Past = List Passed
 
 -- the past of a router after more events
 unfoldable pub past_after : Past → State → List Event → Past
 past_after past s [] = past
-past_after past s (e ∷ es) = past_after (record { before = s; event = e } ∷ past) (step s e).state es
+past_after past s (e ∷ es) = past_after (happened s e ∷ past) (step s e).state es
 
 -- what an event was judged to be, where it was answered Done
 abbrev pub if_done : Result Verdict Refusal → Judged → Option Accepted
@@ -70,11 +80,22 @@ abbrev pub is_down_of : ℕ → Option Accepted → Bool
 is_down_of i (Some (Accepted.Down j)) = j.number == i
 is_down_of i _ = false
 
--- (S,G) has a cause on the interface: an event so far is one, and the interface hasn't gone down since
+-- the old number of an interface by such a map, whose first old number is n; none where the interface is a new one
+abbrev pub number_before : ℕ → List (Option ℕ) → ℕ → Option ℕ
+number_before n [] i = None
+number_before n (None ∷ m) i = number_before (n + 1) m i
+number_before n (Some j ∷ m) i =
+    let later : Option ℕ = number_before (n + 1) m i in
+    if j == i then Some n else later
+
+-- (S,G) has a cause on the interface: an event so far is one, and the interface hasn't gone down since. Before the
+-- interfaces got other numbers it is the interface's old number that counts.
 unfoldable pub has_cause : Past → ℕ → ℕ → ℕ → ℕ → Bool
 has_cause [] now i g src = false
-has_cause (h ∷ past) now i g src =
+has_cause (Passed.Happening h ∷ past) now i g src =
     asks_for now i g src h.before (done_as h) || (not (is_down_of i (done_as h)) && has_cause past now i g src)
+has_cause (Passed.Renumbered m ∷ past) now i g src =
+    option_map_or (λ old. has_cause past now old g src) (number_before 0 m i) false
 
 -- ---- what flows
 
@@ -113,5 +134,5 @@ abbrev pub OutcomesAreAsked : Past → State → List Event → List Outcome →
 OutcomesAreAsked past s [] [] = Unit {0}
 OutcomesAreAsked past s (e ∷ es) (o ∷ os) =
     CopiesAreAsked past (record { before = s; event = e }) o
-    × OutcomesAreAsked (record { before = s; event = e } ∷ past) (step s e).state es os
+    × OutcomesAreAsked (happened s e ∷ past) (step s e).state es os
 OutcomesAreAsked past s es os = ⊥

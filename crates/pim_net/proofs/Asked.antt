@@ -4,7 +4,7 @@ use Rattle.pim_ip.{specs.declared.fault.Fault.Fault}
 use Rattle.pim_types.{specs.declared.{config.Config.Config, event.Event.Event, outcome.Outcome.Outcome}}
 use Rattle.law_causes.{proofs.Networks.runs_alone, specs.Networks.{events_in, outcomes_in}}
 use Rattle.law_history.{specs.History.{AreAccepted, Given, IsLedTo, past_given}, proofs.{Asked.nothing_flows_unasked_over_reloads, Histories.{calls_lead_on, events_alone_are_a_run}}}
-use Rattle.pim_model.{specs.{Cause.OutcomesAreAsked, Network.{Network, Station, network_ran, station_at}, State.{State, opening}}}
+use Rattle.pim_model.{specs.{Cause.OutcomesAreAsked, Network.{Network, Station, network_ran, station_at}, State.{State, opening}, Step.step}}
 use Rattle.pim_net.{specs.{Asked.{AreAsked, LeadOn}, Showing.move_of, declared.moves.Move.Move}}
 
 -- what a net that works shows
@@ -24,9 +24,9 @@ log_is_asked n moves (Ok log) are = λ r st there c before led.
     (sym ((runs_alone r (map move_of moves) n).is st there))
     (nothing_flows_unasked_over_reloads c before st.state (events_in r n (map move_of moves)) led))
 
-events_accepted : (events : List Event) → AreAccepted (map Given.Happening events)
-events_accepted [] = tt
-events_accepted (e ∷ es) = events_accepted es
+events_accepted : (s : State) (events : List Event) → AreAccepted s (map Given.Happening events)
+events_accepted s [] = tt
+events_accepted s (e ∷ es) = events_accepted (step s e).state es
 
 same_station : (found : Option Station) (later st : Station) → found ≡ Some later → found ≡ Some st → st ≡ later
 same_station found later st e f = cc
@@ -38,7 +38,7 @@ ran_leads_on n moves = λ r st later there found c before led.
     (events_alone_are_a_run st.state events
     ∙ ap (λ (x : Station). x.state)
     (same_station (station_at (network_ran n (map move_of moves)).1 r) later _ found ((runs_alone r (map move_of moves) n).stands st there)))
-    (calls_lead_on c before (map Given.Happening events) st.state led (events_accepted events))
+    (calls_lead_on c before (map Given.Happening events) st.state led (events_accepted st.state events))
 
 -- what a net shows afterwards, whether it has failed or not
 pub net_leads_on : (n : Network) (moves : List Move) (r : Result (Vec Outcome Global) Fault) (failed : Bool) (now : Option Network)

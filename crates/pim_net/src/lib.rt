@@ -11,6 +11,6 @@ pub mod unrestored;
 pub use lab_wires::{MemoryWire, UdpWire, Wire, failures_after};
 pub use moves::Move;
 pub use net::{Net, NetLog};
-pub use node::Node;
+pub use node::{Node, Renewal};
 pub use pim_router::Router;
 pub use unrestored::Unrestored;

@@ -17,7 +17,7 @@ ghost use Rattle.pim_net.specs.declared.moves.Move.{Move};
 
 use crate::moves::Move;
 use crate::network::{Network, bad_move};
-use crate::node::Node;
+use crate::node::{Node, Renewal};
 use crate::unrestored::Unrestored;
 use lab_wires::{Wire, carry};
 use pim_router::Router;
@@ -191,32 +191,18 @@ impl<W: Wire> Net<W> {
         }
     }
 
-    /// Saves a router, counted from 0, and puts one that is made of its bytes in its place: nothing is sent, and the net
-    /// is as it was, also after a fault. A router that is made of saved bytes shows the state that was saved, so the
-    /// contract says no more of this than that nothing changed. An unknown router is left alone. The only fault of a net
-    /// that works is want of memory.
-    pub fn restart(&mut self, router: usize) -> Result<(), Fault>
-        ensures same { self.new ≡ self.old }
-        ensures fault { IfSome self.old.network (λ n. IsOkUnless result Fault.Memory) }
-    {
-        if self.failed {
-            Err(Fault::Failed)
-        } else {
-            self.network.restart(router)
-        }
-    }
-
     /// Puts a router, counted from 0, under the configuration of a node: its interfaces are those of the node, by their
-    /// numbers, and on the node's links. What the router sends by this leaves on the links that it had; it is the outcome,
-    /// with no copies. An unknown router is refused as `BadMove`, a node that hasn't a link for each of its interfaces as
-    /// `BadScenario`, and a configuration as by `new`; then nothing changes. The ports stay: those of a router with more
+    /// numbers or by the map of places, and on the node's links. What the router sends by this leaves on the links that it
+    /// had; it is the outcome, with no copies. An unknown router is refused as `BadMove`, a node that hasn't a link for
+    /// each of its interfaces as `BadScenario`, a configuration as by `new`, and then a map of places as by
+    /// `Router::reload_places`; then nothing changes. The ports stay: those of a router with more
     /// interfaces than it began with are also the next router's, which does no harm, since what is sent to a port is taken
     /// before anything else is sent. A fault is `Memory`, after which the net answers `Failed` from then on.
-    pub fn reload(&mut self, router: usize, draw: u32, node: Node) -> Result<Outcome, Fault>
+    pub fn reload(&mut self, router: usize, draw: u32, renewal: Renewal) -> Result<Outcome, Fault>
         ensures outcome { IfSome self.old.network (λ n. IfOk result (λ outcome.
-            outcome ≡ (reloaded_at n router draw (node_of node)).0)) }
+            outcome ≡ (reloaded_at n router draw renewal.places (node_of renewal.node)).0)) }
         ensures network { IfSome self.old.network (λ n. OnOk result
-            (self.new.network ≡ Some (reloaded_at n router draw (node_of node)).1)) }
+            (self.new.network ≡ Some (reloaded_at n router draw renewal.places (node_of renewal.node)).1)) }
         ensures ports { self.new.ports ≡ self.old.ports }
         ensures wire { self.new.wire ≡ self.old.wire }
         ensures fails { OnErr result (self.new.network ≡ None) }
@@ -227,7 +213,7 @@ impl<W: Wire> Net<W> {
             return Err(Fault::Failed);
         }
         self.failed = true;
-        let outcome = self.network.reload(router, draw, node)?;
+        let outcome = self.network.reload(router, draw, renewal)?;
         self.failed = false;
         Ok(outcome)
     }

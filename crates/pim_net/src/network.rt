@@ -9,9 +9,8 @@ ghost use Rattle.pim_model.specs.Network as written;
 ghost use Rattle.pim_model.specs.Step.{outcome_of, step};
 ghost use Rattle.pim_net.specs.Carried.{link_count};
 ghost use Rattle.pim_net.specs.Ports.{first_ports};
-ghost use Rattle.pim_net.specs.Reloading.{done_with, node_test, refused_as, reloaded_at};
+ghost use Rattle.pim_net.specs.Reloading.{done_with, node_test, put_by, refused_as, reloaded_at};
 ghost use Rattle.pim_model.specs.State.{State};
-ghost use Rattle.law_reloaded.specs.Reloading.{reload};
 ghost use Rattle.pim_rested.specs.Resuming.{restore_test};
 ghost use Rattle.pim_rested.specs.declared.refusal.RestoreRefusal.{RestoreRefusal};
 ghost use Rattle.pim_saved.specs.Reading.{reading};
@@ -19,7 +18,7 @@ ghost use Rattle.pim_net.specs.Showing.{brought_on, brought_to, node_of, shown_s
 ghost use Rattle.pim_net.specs.declared.unrestored.Unrestored.{Unrestored};
 ghost use Rattle.pim_net.specs.declared.node.Node.{Node};
 
-use crate::node::Node;
+use crate::node::{Node, Renewal};
 use crate::station::{Frame, Station};
 use crate::unrestored::Unrestored;
 use pim_router::Router;
@@ -174,18 +173,6 @@ impl Network {
         )
     }
 
-    /// Puts a router that is made of the bytes of a router's state in its place. An unknown router is left alone. The
-    /// error is want of memory.
-    pub(crate) fn restart(&mut self, router: usize) -> Result<(), Fault>
-        ensures same { self.new ≡ self.old }
-        ensures fault { IfSome self.old (λ net. IsOkUnless result Fault.Memory) }
-    {
-        if router >= self.stations.len() {
-            return Ok(());
-        }
-        self.stations[router].restart(self.alloc)
-    }
-
     /// Puts a router into the state that these bytes say. The error is want of memory. After an error and where the bytes
     /// aren't taken the network is as it was.
     pub(crate) fn restore(
@@ -223,11 +210,16 @@ impl Network {
     /// Puts a router under the configuration of a node, with the node's links. It is refused where there is no such
     /// router, where the node hasn't a link for each interface, and where its configuration is refused; then the network
     /// is as it was. The error is want of memory.
-    pub(crate) fn reload(&mut self, router: usize, draw: u32, node: Node) -> Result<Outcome, Fault>
+    pub(crate) fn reload(
+        &mut self,
+        router: usize,
+        draw: u32,
+        renewal: Renewal,
+    ) -> Result<Outcome, Fault>
         ensures outcome { IfSome self.old (λ net. IfOk result (λ outcome.
-            outcome ≡ (reloaded_at net router draw (node_of node)).0)) }
+            outcome ≡ (reloaded_at net router draw renewal.places (node_of renewal.node)).0)) }
         ensures network { IfSome self.old (λ net. OnOk result
-            (self.new ≡ Some (reloaded_at net router draw (node_of node)).1)) }
+            (self.new ≡ Some (reloaded_at net router draw renewal.places (node_of renewal.node)).1)) }
         ensures fault { IfSome self.old (λ net. IsOkUnless result Fault.Memory) }
     {
         if router >= self.stations.len() {
@@ -238,7 +230,7 @@ impl Network {
             &mut self.stations[router],
             &mut self.frames,
             draw,
-            node,
+            renewal,
         )
     }
 
@@ -333,23 +325,30 @@ fn put_under(
     station: &mut Station,
     frames: &mut Vec<Frame>,
     draw: u32,
-    node: Node,
+    renewal: Renewal,
 ) -> Result<Outcome, Fault>
-    ensures done { IfSome station.old (λ s. IfOk result (λ outcome. node_test (node_of node) ≡ Ok tt
-        → outcome ≡ done_with (reload s.state node.config draw).1)) }
-    ensures state { IfSome station.old (λ s. OnOk result (node_test (node_of node) ≡ Ok tt
-        → station.new ≡ Some (record { links = node.links; state = (reload s.state node.config draw).0 }))) }
-    ensures frames { IfSome station.old (λ s. OnOk result (node_test (node_of node) ≡ Ok tt
-        → frames.new.items ≡ frames.old.items ++ map (sent_by s.links) (reload s.state node.config draw).1)) }
-    ensures refused { IfOk result (λ outcome. (refusal : RefusalValue) → node_test (node_of node) ≡ Err refusal
-        → (outcome ≡ refused_as refusal) × (station.new ≡ station.old) × (frames.new.items ≡ frames.old.items)) }
+    ensures done { IfSome station.old (λ s. IfOk result (λ outcome.
+        node_test renewal.places s.state (node_of renewal.node) ≡ Ok tt
+        → outcome ≡ done_with (put_by renewal.places s.state renewal.node.config draw).1)) }
+    ensures state { IfSome station.old (λ s. OnOk result (node_test renewal.places s.state (node_of renewal.node) ≡ Ok tt
+        → station.new ≡ Some (record {
+          links = renewal.node.links;
+          state = (put_by renewal.places s.state renewal.node.config draw).0;
+        }))) }
+    ensures frames { IfSome station.old (λ s. OnOk result (node_test renewal.places s.state (node_of renewal.node) ≡ Ok tt
+        → frames.new.items
+        ≡ frames.old.items ++ map (sent_by s.links) (put_by renewal.places s.state renewal.node.config draw).1)) }
+    ensures refused { IfSome station.old (λ s. IfOk result (λ outcome. (refusal : RefusalValue)
+        → node_test renewal.places s.state (node_of renewal.node) ≡ Err refusal
+        → (outcome ≡ refused_as refusal) × (station.new ≡ station.old) × (frames.new.items ≡ frames.old.items))) }
     ensures fault { IfSome station.old (λ s. IsOkUnless result Fault.Memory) }
 {
-    if !node.is_linked() {
+    if !renewal.node.is_linked() {
         return Ok(refused(alloc, Refusal::BadScenario));
     }
+    let Renewal { node, places } = renewal;
     let Node { config, links } = node;
-    match station.reload(alloc, draw, &config)? {
+    match station.reload(alloc, draw, &config, places.as_slice())? {
         Ok(sent) => {
             keep(alloc, station, &sent, frames)?;
             station.relink(links);

@@ -13,6 +13,16 @@ pub struct Node {
     pub links: Series<u32>,
 }
 
+/// Another configuration of a router of a network.
+#[derive(Drop)]
+pub struct Renewal {
+    /// The configuration, with the links.
+    pub node: Node,
+    /// Of each interface of the router, by its number, the number of the node's that has its link, or none. It is empty
+    /// where interfaces keep their numbers.
+    pub places: Series<Option<u32>>,
+}
+
 impl Node {
     /// Whether there is a link for each interface.
     pub fn is_linked(&self) -> bool

@@ -5,7 +5,7 @@ ghost use Rattle.pim_model.specs.Limits.{config_test, most_ifaces};
 ghost use Rattle.pim_model.specs.Network.{is_on_frame_link, sent_by, station_of};
 ghost use Rattle.pim_model.specs.Step.{outcome_of, step};
 ghost use Rattle.pim_model.specs.State.{State};
-ghost use Rattle.law_reloaded.specs.Reloading.{reload};
+ghost use Rattle.pim_net.specs.Reloading.{put_by, put_test};
 ghost use Rattle.pim_rested.specs.Resuming.{restore_test};
 ghost use Rattle.pim_rested.specs.declared.refusal.RestoreRefusal.{RestoreRefusal};
 ghost use Rattle.pim_router.specs.Standing.{begun};
@@ -15,9 +15,7 @@ ghost use Rattle.pim_net.specs.declared.unrestored.Unrestored.{Unrestored};
 
 use crate::node::Node;
 use crate::unrestored::Unrestored;
-use pim_rested::saved_is_resumed;
 use pim_router::Router;
-use pim_saved::text_is_read;
 use pim_types::{Config, Emission, Event, Fault, IfaceId, Outcome, Refusal, Series};
 use std::alloc::{AllocError, Global};
 use std::marker::Model;
@@ -116,25 +114,6 @@ impl Station {
         })
     }
 
-    /// Puts a router that is made of the bytes of this one's state in its place. The error is want of memory.
-    pub(crate) fn restart(&mut self, alloc: Global) -> Result<(), Fault>
-        ensures same { self.new ≡ self.old }
-        ensures fault { IfSome self.old (λ s. IsOkUnless result Fault.Memory) }
-    {
-        // For the proof: what is saved is read again, and a router is made of it.
-        text_is_read();
-        saved_is_resumed();
-        let mut bytes = Vec::new(alloc);
-        self.router.save(&mut bytes)?;
-        match Router::restore(alloc, &bytes)? {
-            Ok(router) => {
-                self.router = router;
-                Ok(())
-            }
-            Err(_) => Err(Fault::Failed),
-        }
-    }
-
     /// Puts the router into the state that these bytes say, if a router is made of them and it has a link for each of its
     /// interfaces. Its configuration is that of the state. The error is want of memory. After an error and where the
     /// bytes aren't taken the station is as it was.
@@ -161,24 +140,35 @@ impl Station {
         }
     }
 
-    /// Puts the router under another configuration. The links stay. The error is want of memory.
+    /// Puts the router under another configuration, by a map of places where there is one. The links stay. The error is
+    /// want of memory.
+    #[tactic(auto, unfolding(crate::specs::Reloading::put_by, crate::specs::Reloading::put_test, pim_router::specs::Asked::places_test))]
     pub(crate) fn reload(
         &mut self,
         alloc: Global,
         draw: u32,
         config: &Config,
+        places: &[Option<u32>],
     ) -> Result<Result<Vec<Emission>, Refusal>, Fault>
         ensures accepted { IfOk result (λ answer. OnOk answer (config_test config.now ≡ Ok tt)) }
+        ensures tested { IfSome self.old (λ s. IfOk result (λ answer. OnOk answer
+            (put_test places.now s.state config.now ≡ Ok tt))) }
         ensures state { IfSome self.old (λ s. IfOk result (λ answer. OnOk answer
-            (self.new ≡ Some (record s { state = (reload s.state config.now draw).0 })))) }
+            (self.new ≡ Some (record s { state = (put_by places.now s.state config.now draw).0 })))) }
         ensures sent { IfSome self.old (λ s. IfOk result (λ answer. IfOk answer (λ sent.
-            sent.items ≡ (reload s.state config.now draw).1))) }
-        ensures refused { IfOk result (λ answer. IfErr answer (λ refusal. (config_test config.now ≡ Err refusal)
-            × (self.new ≡ self.old))) }
+            sent.items ≡ (put_by places.now s.state config.now draw).1))) }
+        ensures refused { IfSome self.old (λ s. IfOk result (λ answer. IfErr answer (λ refusal.
+            (put_test places.now s.state config.now ≡ Err refusal) × (self.new ≡ self.old)))) }
         ensures fault { IfSome self.old (λ s. IsOkUnless result Fault.Memory) }
     {
         let mut emissions = Vec::new(alloc);
-        match self.router.reload(draw, config, &mut emissions)? {
+        let answer = if places.is_empty() {
+            self.router.reload(draw, config, &mut emissions)?
+        } else {
+            self.router
+                .reload_places(draw, config, places, &mut emissions)?
+        };
+        match answer {
             Ok(()) => Ok(Ok(emissions)),
             Err(refusal) => Ok(Err(refusal)),
         }

@@ -23,3 +23,12 @@ six_fields o l a b c d f g t o1 o2 o3 o4 o5 o6 o7 r e1 e2 e3 e4 e5 e6 e7 e8 =
     let more = e5 ∙ ap (λ (x : List ℕ). x ++ d) (e4 ∙ ap (λ (x : List ℕ). x ++ c) front) in
     let most = e7 ∙ ap (λ (x : List ℕ). x ++ g) (e6 ∙ ap (λ (x : List ℕ). x ++ f) more) in
     e8 ∙ ap (λ (x : List ℕ). x ++ t) most ∙ simp append_assoc
+
+pub seven_fields : (o l a b c d f g h t o1 o2 o3 o4 o5 o6 o7 o8 r : List ℕ) → o1 ≡ o ++ l → o2 ≡ o1 ++ a → o3 ≡ o2 ++ b → o4 ≡ o3 ++ c → o5 ≡ o4 ++ d → o6 ≡ o5 ++ f → o7 ≡ o6 ++ g → o8 ≡ o7 ++ h → r ≡ o8 ++ t → r ≡ o ++ ((l ++ (a ++ (b ++ (c ++ (d ++ (f ++ (g ++ h))))))) ++ t)
+seven_fields o l a b c d f g h t o1 o2 o3 o4 o5 o6 o7 o8 r e1 e2 e3 e4 e5 e6 e7 e8 e9 =
+    six_fields o l a b c d f (g ++ h) t o1 o2 o3 o4 o5 o6 o8 r e1 e2 e3 e4 e5 e6
+    (e8 ∙ ap (λ (x : List ℕ). x ++ h) e7 ∙ append_assoc o6 g h) e9
+
+-- the same, where the last text is another's
+pub with_same : (r o b c : List ℕ) → r ≡ o ++ b → b ≡ c → r ≡ o ++ c
+with_same r o b c e same = e ∙ ap (λ (x : List ℕ). o ++ x) same

@@ -3,7 +3,7 @@ use Rattle.std.{proofs.{Common.{◌≡◌, ℕ, ◌+◌, ◌≤◌, Bool, true, 
 use Rattle.pim_ip.{specs.declared.addr.Addr.Addr}
 use Rattle.pim_types.{specs.declared.{config.{IfaceId.IfaceId, Route.Route, RpRange.RpRange}, event.EventKind.EventKind}}
 use Rattle.pim_saved.{specs.{Crc.crc32, declared.refusal.SavedRefusal.SavedRefusal, Fits.FitsWord, Laws.AreBytes, Reading.{Reader, iface_at, made, moment_at, word_at}, Text.{moment_text, word_text}}, proofs.{Spelled.{AreBytes-rest, IsSpelled, Takes, Takes-then, bind_ok, both, guard_ok, list, made_of, moment, ok_is, word}, SpelledRows.{address, interface, range, route, settings}, Summed.sum_fits}}
-use Rattle.pim_recorded.{specs.{Fits.{FitsAnswered, FitsBytes, FitsCall, FitsEvent, FitsRecord}, Laws.{OneRecording, ReadingIsRecord, RecordIsRead}, Reading.{Configured, answered_at, by_letter, bytes_at, bytes_of_length, call_at, drawn, front_at, kinds, record_at, summed_at}, Records.{Call, Guard, Happened, Hosts, Kept, Record, Reloaded, Seen, Version, answered_text, bytes_text, call_text, event_text, front_text, record_text}, declared.answered.Answered.Answered}}
+use Rattle.pim_recorded.{specs.{Fits.{FitsAnswered, FitsBytes, FitsCall, FitsEvent, FitsRecord}, Laws.{OneRecording, ReadingIsRecord, RecordIsRead}, Reading.{Configured, PlacedConfigured, answered_at, by_letter, bytes_at, bytes_of_length, call_at, drawn, front_at, kinds, record_at, summed_at}, Records.{Call, Guard, Happened, Hosts, Kept, Placed, Record, Reloaded, Seen, Version, answered_text, bytes_text, call_text, event_text, front_text, record_text}, declared.answered.Answered.Answered}}
 
 -- ---- bytes behind their count
 
@@ -70,16 +70,19 @@ taken = (
               (
                 kind_takes (λ (p : Configured). Reloaded p.0 p.1.0 p.1.1.0 p.1.1.1.0 p.1.1.1.1.0 p.1.1.1.1.1) (both word (both settings (both (list interface) (both (list address) (both (list route) (list range)))))) 99 (λ p. refl) (λ p f. f),
                 (
-                  kind_takes (λ (p : ℕ × (IfaceId × (Addr × Addr))). Seen p.0 p.1.0 p.1.1.0 p.1.1.1) (both word (both iface (both address address))) 115 (λ p. refl) (λ p f. f),
+                  kind_takes (λ (p : PlacedConfigured). Placed p.0 p.1.0 p.1.1.0 p.1.1.1.0 p.1.1.1.1.0 p.1.1.1.1.1.0 p.1.1.1.1.1.1) (both word (both settings (both (list interface) (both (list address) (both (list route) (both (list range) (list word))))))) 109 (λ p. refl) (λ p f. f),
                   (
-                    kind_takes (λ (p : Addr × (Addr × ℕ)). Kept p.0 p.1.0 p.1.1) (both address (both address moment)) 107 (λ p. refl) (λ p f. f),
+                    kind_takes (λ (p : ℕ × (IfaceId × (Addr × Addr))). Seen p.0 p.1.0 p.1.1.0 p.1.1.1) (both word (both iface (both address address))) 115 (λ p. refl) (λ p f. f),
                     (
-                      kind_takes (λ (p : IfaceId × ℕ). Hosts p.0 p.1) (both iface word) 111 (λ p. refl) (λ p f. f),
+                      kind_takes (λ (p : Addr × (Addr × ℕ)). Kept p.0 p.1.0 p.1.1) (both address (both address moment)) 107 (λ p. refl) (λ p f. f),
                       (
-                        kind_takes (λ (p : IfaceId × ℕ). Version p.0 p.1) (both iface word) 113 (λ p. refl) (λ p f. f),
+                        kind_takes (λ (p : IfaceId × ℕ). Hosts p.0 p.1) (both iface word) 111 (λ p. refl) (λ p f. f),
                         (
-                          kind_takes (λ (n : ℕ). Guard n) word 100 (λ n. refl) (λ n f. f),
-                          tt,
+                          kind_takes (λ (p : IfaceId × ℕ). Version p.0 p.1) (both iface word) 113 (λ p. refl) (λ p f. f),
+                          (
+                            kind_takes (λ (n : ℕ). Guard n) word 100 (λ n. refl) (λ n f. f),
+                            tt,
+                          ),
                         ),
                       ),
                     ),
@@ -122,6 +125,7 @@ event_again draw (EventKind.Rps ranges) rest fits = kind_again (drawn (λ (range
 call_again : (c : Call) (rest : List ℕ) → FitsCall c → call_at (call_text c ++ rest) ≡ Ok (c, rest)
 call_again (Happened event) rest fits = event_again event.draw event.kind rest fits
 call_again (Reloaded draw s interfaces addresses routes ranges) rest fits = kind_again (λ (p : Configured). Reloaded p.0 p.1.0 p.1.1.0 p.1.1.1.0 p.1.1.1.1.0 p.1.1.1.1.1) (both word (both settings (both (list interface) (both (list address) (both (list route) (list range)))))) (draw, (s, (interfaces, (addresses, (routes, ranges))))) rest fits
+call_again (Placed draw s interfaces addresses routes ranges places) rest fits = kind_again (λ (p : PlacedConfigured). Placed p.0 p.1.0 p.1.1.0 p.1.1.1.0 p.1.1.1.1.0 p.1.1.1.1.1.0 p.1.1.1.1.1.1) (both word (both settings (both (list interface) (both (list address) (both (list route) (both (list range) (list word))))))) (draw, (s, (interfaces, (addresses, (routes, (ranges, places)))))) rest fits
 call_again (Seen draw i source group) rest fits = kind_again (λ (p : ℕ × (IfaceId × (Addr × Addr))). Seen p.0 p.1.0 p.1.1.0 p.1.1.1) (both word (both iface (both address address))) (draw, (i, (source, group))) rest fits
 call_again (Kept source group m) rest fits = kind_again (λ (p : Addr × (Addr × ℕ)). Kept p.0 p.1.0 p.1.1) (both address (both address moment)) (source, (group, m)) rest fits
 call_again (Hosts i hosts) rest fits = kind_again (λ (p : IfaceId × ℕ). Hosts p.0 p.1) (both iface word) (i, hosts) rest fits

@@ -2,7 +2,7 @@
 use Rattle.std.{specs.Prelude.{List, length, ℕ, ◌<◌, ◌^◌}}
 use Rattle.pim_types.{specs.declared.event.EventKind.EventKind}
 use Rattle.pim_saved.{specs.Fits.{FitsAddress, FitsInterface, FitsList, FitsMoment, FitsRange, FitsRoute, FitsSettings, FitsWord}}
-use Rattle.pim_recorded.{specs.{Records.{Call, Guard, Happened, Hosts, Kept, Record, Reloaded, Seen, Version}, declared.answered.Answered.Answered}}
+use Rattle.pim_recorded.{specs.{Records.{Call, Guard, Happened, Hosts, Kept, Placed, Record, Reloaded, Seen, Version}, declared.answered.Answered.Answered}}
 
 abbrev pub FitsBytes : List ℕ → Type 0
 FitsBytes bytes = length bytes < 2 ^ 64
@@ -21,6 +21,9 @@ FitsCall (Happened event) = FitsEvent event.draw event.kind
 FitsCall (Reloaded draw settings interfaces addresses routes ranges) =
     FitsWord draw × (FitsSettings settings × (FitsList FitsInterface interfaces × (FitsList FitsAddress addresses
     × (FitsList FitsRoute routes × FitsList FitsRange ranges))))
+FitsCall (Placed draw settings interfaces addresses routes ranges places) =
+    FitsWord draw × (FitsSettings settings × (FitsList FitsInterface interfaces × (FitsList FitsAddress addresses
+    × (FitsList FitsRoute routes × (FitsList FitsRange ranges × FitsList FitsWord places)))))
 FitsCall (Seen draw iface source group) =
     FitsWord draw × (FitsWord iface.number × (FitsAddress source × FitsAddress group))
 FitsCall (Kept source group moment) = FitsAddress source × (FitsAddress group × FitsMoment moment)

@@ -3,7 +3,7 @@ use Rattle.std.{specs.Prelude.{Err, List, Ok, [], drop, if◌then◌else◌, len
 use Rattle.pim_ip.{specs.declared.addr.Addr.Addr}
 use Rattle.pim_types.{specs.declared.{config.{IfaceId.IfaceId, InterfaceConfig.InterfaceConfig, Route.Route, RpRange.RpRange, Settings.Settings}, event.EventKind.EventKind}}
 use Rattle.pim_saved.{specs.{Crc.crc32, Reading.{Reader, address_at, iface_at, in_turn, interface_at, list_at, made, moment_at, range_at, route_at, settings_at, word_at, ◌>>=◌}, declared.refusal.SavedRefusal.SavedRefusal}}
-use Rattle.pim_recorded.{specs.{Records.{Call, Guard, Happened, Hosts, Kept, Record, Reloaded, Seen, Version, front_text}, declared.answered.Answered.Answered}}
+use Rattle.pim_recorded.{specs.{Records.{Call, Guard, Happened, Hosts, Kept, Placed, Record, Reloaded, Seen, Version, front_text}, declared.answered.Answered.Answered}}
 
 abbrev pub bytes_of_length : ℕ → Reader (List ℕ)
 bytes_of_length n bytes = if nat_lt (length bytes) n then Err SavedRefusal.CutShort else Ok (take n bytes, drop n bytes)
@@ -22,6 +22,10 @@ event_at kind what bytes = made (drawn kind) (in_turn word_at what) bytes
 abbrev pub Configured : Type 0
 Configured = ℕ × (Settings × (List InterfaceConfig × (List Addr × (List Route × List RpRange))))
 
+-- a draw, a configuration and places
+abbrev pub PlacedConfigured : Type 0
+PlacedConfigured = ℕ × (Settings × (List InterfaceConfig × (List Addr × (List Route × (List RpRange × List ℕ)))))
+
 -- each kind of call: its letter, and what is behind it
 abbrev pub kinds : List (ℕ × Reader Call)
 kinds =
@@ -33,6 +37,7 @@ kinds =
     ∷ (114, event_at (λ (routes : List Route). EventKind.Routes routes) (list_at route_at))
     ∷ (103, event_at (λ (ranges : List RpRange). EventKind.Rps ranges) (list_at range_at))
     ∷ (99, made (λ (p : Configured). Reloaded p.0 p.1.0 p.1.1.0 p.1.1.1.0 p.1.1.1.1.0 p.1.1.1.1.1) (in_turn word_at (in_turn settings_at (in_turn (list_at interface_at) (in_turn (list_at address_at) (in_turn (list_at route_at) (list_at range_at)))))))
+    ∷ (109, made (λ (p : PlacedConfigured). Placed p.0 p.1.0 p.1.1.0 p.1.1.1.0 p.1.1.1.1.0 p.1.1.1.1.1.0 p.1.1.1.1.1.1) (in_turn word_at (in_turn settings_at (in_turn (list_at interface_at) (in_turn (list_at address_at) (in_turn (list_at route_at) (in_turn (list_at range_at) (list_at word_at))))))))
     ∷ (115, made (λ (p : ℕ × (IfaceId × (Addr × Addr))). Seen p.0 p.1.0 p.1.1.0 p.1.1.1) (in_turn word_at (in_turn iface_at (in_turn address_at address_at))))
     ∷ (107, made (λ (p : Addr × (Addr × ℕ)). Kept p.0 p.1.0 p.1.1) (in_turn address_at (in_turn address_at moment_at)))
     ∷ (111, made (λ (p : IfaceId × ℕ). Hosts p.0 p.1) (in_turn iface_at word_at))

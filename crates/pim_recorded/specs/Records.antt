@@ -2,7 +2,7 @@
 -- sent, and the CRC-32 of all these. Numbers, routes, ranges and counts are written as in a saved state.
 use Rattle.std.{specs.{List.flat_map, Prelude.{List, [], length, ℕ, ◌∷◌}}}
 use Rattle.pim_ip.{specs.declared.addr.Addr.Addr}
-use Rattle.pim_types.{specs.declared.{config.{IfaceId.IfaceId, InterfaceConfig.InterfaceConfig, Route.Route, RpRange.RpRange, Settings.Settings}, event.{Event.Event, EventKind.EventKind}, outcome.Emission.Emission}}
+use Rattle.pim_types.{specs.declared.{config.{Config.Config, IfaceId.IfaceId, InterfaceConfig.InterfaceConfig, Route.Route, RpRange.RpRange, Settings.Settings}, event.{Event.Event, EventKind.EventKind}, outcome.Emission.Emission}}
 use Rattle.pim_saved.{specs.{Crc.{after_bytes, crc32}, Text.{address_text, interface_text, list_text, moment_text, range_text, route_text, settings_text, word_text, ◌then◌}}}
 use Rattle.pim_recorded.{specs.declared.answered.Answered.Answered}
 
@@ -12,6 +12,8 @@ pub data Call : Type 0 where
   Happened : (event : Event) → Call
   -- a reload with another configuration
   Reloaded : (draw : ℕ) (settings : Settings) (interfaces : List InterfaceConfig) (addresses : List Addr) (routes : List Route) (ranges : List RpRange) → Call
+  -- a reload by a map of places, of which each is a number, or the number that stands for none
+  Placed : (draw : ℕ) (settings : Settings) (interfaces : List InterfaceConfig) (addresses : List Addr) (routes : List Route) (ranges : List RpRange) (places : List ℕ) → Call
   -- a data plane saw a packet on an interface
   Seen : (draw : ℕ) (iface : IfaceId) (source group : Addr) → Call
   -- a data plane forwarded its last packet of (S,G) at a timestamp
@@ -27,6 +29,21 @@ pub data Call : Type 0 where
 pub record Record : Type 0 where
   pub call : Call
   pub answered : Answered
+
+-- a configuration without its lists
+abbrev pub settings_in : Config → Settings
+settings_in c = record {
+  limit = c.limit;
+  spt = c.spt;
+  robustness = c.robustness;
+  query_interval = c.query_interval;
+  query_response_interval = c.query_response_interval;
+  last_member_query_interval = c.last_member_query_interval;
+}
+
+-- a reload by a map of places with a configuration
+abbrev pub placed_call : ℕ → Config → List ℕ → Call
+placed_call draw c places = Placed draw (settings_in c) c.interfaces c.addresses c.routes c.rps places
 
 -- bytes behind their number
 abbrev pub bytes_text : List ℕ → List ℕ
@@ -49,6 +66,10 @@ call_text (Happened event) = event_text event.draw event.kind
 call_text (Reloaded draw settings interfaces addresses routes ranges) =
     99 ∷ (word_text draw then settings_text settings then list_text interface_text interfaces
     then list_text address_text addresses then list_text route_text routes then list_text range_text ranges)
+call_text (Placed draw settings interfaces addresses routes ranges places) =
+    109 ∷ (word_text draw then settings_text settings then list_text interface_text interfaces
+    then list_text address_text addresses then list_text route_text routes then list_text range_text ranges
+    then list_text word_text places)
 call_text (Seen draw iface source group) =
     115 ∷ (word_text draw then word_text iface.number then address_text source then address_text group)
 call_text (Kept source group moment) = 107 ∷ (address_text source then address_text group then moment_text moment)

@@ -2,11 +2,11 @@
 ghost use Rattle.std.specs.Prelude.{◌≡◌, ◌++◌, OnOk};
 ghost use Rattle.pim_types.specs.declared.event.EventKind.{EventKind as EventValue};
 ghost use Rattle.pim_recorded.specs.Fits.{FitsBytes, FitsRecord};
-ghost use Rattle.pim_recorded.specs.Records.{Guard, Hosts, Kept, Reloaded, Seen, Version, bytes_text, event_record, front_text, summed};
+ghost use Rattle.pim_recorded.specs.Records.{Guard, Hosts, Kept, Reloaded, Seen, Version, bytes_text, event_record, front_text, placed_call, settings_in, summed};
 
 use crate::answered::Answered;
 use pim_saver::{Saved, write_list, write_sum};
-use pim_types::{Addr, IfaceId, InterfaceConfig, Route, RpRange, Settings};
+use pim_types::{Addr, Config, IfaceId, InterfaceConfig, Route, RpRange, Settings};
 use std::alloc::AllocError;
 
 // Puts the number of bytes at the end, and each byte.
@@ -171,6 +171,46 @@ pub fn write_reloaded(
     write_list(addresses, out)?;
     write_list(routes, out)?;
     write_list(ranges, out)?;
+    answered.write(out)?;
+    Ok(())
+}
+
+/// A configuration without its lists.
+pub fn settings_in(config: &Config) -> Settings
+    ensures { result ≡ settings_in config.now }
+{
+    Settings {
+        limit: config.limit,
+        spt: config.spt,
+        robustness: config.robustness,
+        query_interval: config.query_interval,
+        query_response_interval: config.query_response_interval,
+        last_member_query_interval: config.last_member_query_interval,
+    }
+}
+
+/// Puts the record of another configuration by a map of places behind what is there: each place is a number, or the one
+/// that stands for none.
+pub fn write_placed(
+    draw: u32,
+    config: &Config,
+    places: &[u32],
+    answered: Answered,
+    out: &mut Vec<u8>,
+) -> Result<(), AllocError>
+    ensures ok { OnOk result (out.new.items ≡ out.old.items ++ front_text
+        (record { call = placed_call draw config.now places.now; answered = answered })) }
+    ensures fitting { OnOk result (FitsRecord
+        (record { call = placed_call draw config.now places.now; answered = answered })) }
+{
+    out.push(b'm')?;
+    draw.write(out)?;
+    settings_in(config).write(out)?;
+    write_list(config.interfaces.as_slice(), out)?;
+    write_list(config.addresses.as_slice(), out)?;
+    write_list(config.routes.as_slice(), out)?;
+    write_list(config.rps.as_slice(), out)?;
+    write_list(places, out)?;
     answered.write(out)?;
     Ok(())
 }

@@ -68,7 +68,7 @@ module _ (n : ℕ) (t : State) (kinds : Kinds t) (low : (i : ℕ) → is_up t i 
       (subst (λ (k : Key). has_row t.interfaces k ≡ true) (key_is (iface_count t) e.0 is)
       (has_row_any e.0 t.interfaces ∙ there))
 
-  rows_low : list_all (λ (e : Key × InterfaceRow). nat_lt (iface_in e.0) n) t.interfaces ≡ true
+  pub rows_low : list_all (λ (e : Key × InterfaceRow). nat_lt (iface_in e.0) n) t.interfaces ≡ true
   rows_low =
       list_of_each (λ (e : Key × InterfaceRow). nat_lt (iface_in e.0) n) t.interfaces
       (each_both (λ (e : Key × InterfaceRow). is_up_key (iface_count t) e.0 ≡ true)

@@ -1,9 +1,12 @@
 pub mod Asked
 pub mod Below
+pub mod ByPlaces
 pub mod Changing
 pub mod Dropped
 pub mod Following
+pub mod GoingOn
 pub mod Leaving
+pub mod Placed
 pub mod Removing
 pub mod Renewed
 pub mod Together

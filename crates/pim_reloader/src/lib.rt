@@ -3,9 +3,13 @@
 
 mod addresses;
 mod hellos;
+mod moved;
+mod numbering;
+mod places;
 mod queriers;
 mod remove;
 mod replace;
 mod whole;
 
+pub use places::reload_places;
 pub use whole::reload;

@@ -39,8 +39,8 @@ fn take_down(
     Ok(outcome.emissions.into_vec())
 }
 
-// Lets the interfaces go down from the first to the last of so many, one after the other. The result is what is sent.
-fn take_all_down(
+/// Lets the interfaces go down from the first to the last of so many, one after the other. The result is what is sent.
+pub(crate) fn take_all_down(
     core: &mut Core,
     meter: &mut Meter,
     draw: u32,
@@ -58,15 +58,15 @@ fn take_all_down(
     Ok(sent)
 }
 
-// How many interfaces are configured.
-fn count_of(world: &World) -> u32
+/// How many interfaces are configured.
+pub(crate) fn count_of(world: &World) -> u32
     ensures { result ≡ iface_count world.now }
 {
     world.interfaces().count()
 }
 
-// For the proof: each row is under the key of an interface that is configured. Does nothing when it runs.
-fn proof_kinds(world: &World)
+/// For the proof: each row is under the key of an interface that is configured. Does nothing when it runs.
+pub(crate) fn proof_kinds(world: &World)
     ensures { list_all (λ e. is_up_key (iface_count world.now) e.0) world.now.interfaces ≡ true }
 {
     world.interfaces().proof_kinds();

@@ -1,5 +1,6 @@
 //! A reload: interfaces that are removed go down, then the configuration is replaced.
 ghost use Rattle.pim_event.specs.Stepping.{Rests};
+ghost use Rattle.law_reloaded.specs.Reloading.{reload};
 ghost use Rattle.law_restored.specs.Reload.{config_of};
 ghost use Rattle.pim_reloader.specs.Reloads.{Reloads};
 
@@ -22,7 +23,7 @@ pub fn reload(
     next: World,
 ) -> Result<Vec<Emission>, Fault>
     requires { Rests core.old }
-    ensures { Reloads core.old (config_of next) draw result core.new }
+    ensures { Reloads core.old (reload core.old.world (config_of next) draw) result core.new }
 {
     let mut names = Vec::new(core.room.alloc);
     add_sources(&mut names, &core.world)?;

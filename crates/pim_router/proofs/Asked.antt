@@ -1,10 +1,11 @@
 -- What a call sends is asked for: from what is said of its answer, its packets and its state.
-use Rattle.std.{proofs.{Common.{◌≡◌, ℕ, Bool, List, [], ◌∷◌, ◌++◌, Option, Some, None, Result, Ok, Err, refl, sym, ap, subst, ◌∙◌}, lemmas.List.append_cancel_left}, specs.Prelude.{IfOk, IfSome, OnOk}}
+use Rattle.std.{proofs.{Common.{◌≡◌, ℕ, Bool, List, [], ◌∷◌, ◌++◌, Option, Some, None, Result, Ok, Err, length, true, refl, sym, ap, subst, ◌∙◌}, lemmas.List.append_cancel_left}, specs.Prelude.{IfOk, IfSome, OnOk}}
 use Rattle.pim_ip.{specs.declared.{fault.Fault.Fault, refusal.Refusal.Refusal}}
 use Rattle.pim_types.{specs.declared.{config.Config.Config, event.Event.Event, outcome.{Emission.Emission, Outcome.Outcome, Verdict.Verdict}}}
-use Rattle.pim_model.{specs.{Cause.CopiesAreAsked, Limits.config_test, State.{State, opening}, Step.{Answered, outcome_of, step}}}
+use Rattle.pim_model.{specs.{Cause.CopiesAreAsked, Limits.config_test, State.{State, iface_count, opening}, Step.{outcome_of, step}}}
 use Rattle.law_plane.{specs.Keeping.keep}
 use Rattle.law_reloaded.{specs.Reloading.reload}
+use Rattle.law_placed.{specs.Placing.{Places, are_places, reload_by}}
 use Rattle.law_history.{specs.History.{Given, past_given, state_given}, proofs.{Asked.call_is_asked, Histories.calls_lead_on}}
 use Rattle.pim_router.{specs.{Asked.{LeadsOn, SentIsAsked}, Standing.{Shown, Standing, beginning, standing, with_state}}}
 
@@ -83,3 +84,22 @@ reloaded_by (Some r') now (Err f) d w accepted stands = tt
 reloaded_by (Some r') now (Ok (Err refusal)) d w accepted stands = tt
 reloaded_by (Some r') now (Ok (Ok done)) d w accepted stands =
     leads_now r'.state (Given.Reload d w) now (beginning (reload r'.state d w).0) stands (reload_leads r'.state d w accepted)
+
+placed_leads : (s : State) (m : Places) (d : Config) (w : ℕ) → config_test d ≡ Ok tt
+    → are_places (iface_count s) (length d.interfaces) m ≡ true → LeadsOn s (Given.Placed m d w) (reload_by s m d w).0
+unfolding state_given
+placed_leads s m d w accepted fit c before led =
+    calls_lead_on c before (Given.Placed m d w ∷ []) s led (accepted, fit, tt)
+
+pub placed_by : (was now : Option Standing) (r : Result (Result (Unit {0}) Refusal) Fault) (m : Places) (d : Config) (w : ℕ)
+    → IfOk r (λ answer. OnOk answer (config_test d ≡ Ok tt))
+    → IfSome was (λ r'. IfOk r (λ answer. OnOk answer (are_places (iface_count r'.state) (length d.interfaces) m ≡ true)))
+    → IfSome was (λ r'. IfOk r (λ answer. OnOk answer (now ≡ Some (beginning (reload_by r'.state m d w).0))))
+    → IfSome was (λ r'. IfOk r (λ answer. OnOk answer
+    (IfSome now (λ after. LeadsOn r'.state (Given.Placed m d w) after.state))))
+placed_by None now r m d w accepted fit stands = tt
+placed_by (Some r') now (Err f) m d w accepted fit stands = tt
+placed_by (Some r') now (Ok (Err refusal)) m d w accepted fit stands = tt
+placed_by (Some r') now (Ok (Ok done)) m d w accepted fit stands =
+    leads_now r'.state (Given.Placed m d w) now (beginning (reload_by r'.state m d w).0) stands
+    (placed_leads r'.state m d w accepted fit)

@@ -1,9 +1,10 @@
 -- What a reload leaves in a router.
-use Rattle.std.{proofs.Common.{◌≡◌, ℕ, Ok, true, subst, sym, ap, ◌∙◌}}
+use Rattle.std.{proofs.Common.{◌≡◌, ℕ, Ok, length, true, subst, sym, ap, ◌∙◌}}
 use Rattle.pim_types.{specs.declared.config.Config.Config}
 use Rattle.law_scope.{specs.Rest.IsAtRest}
-use Rattle.pim_model.{specs.{Limits.config_test, State.{State, opening, settings_of}}}
+use Rattle.pim_model.{specs.{Limits.config_test, State.{State, iface_count, opening, settings_of}}}
 use Rattle.law_reloaded.{specs.Reloading.reload, proofs.{Ground.reload_is_under, Rest.reload_leaves_rest}}
+use Rattle.law_placed.{specs.Placing.{Places, are_places, reload_by}, proofs.{Moved.placed_reload_is_under, Rest.placed_reload_leaves_rest}}
 use Rattle.law_near.{specs.Near.is_near, proofs.Near.near_stays}
 use Rattle.law_restored.{specs.Reload.config_of}
 
@@ -25,3 +26,18 @@ module _ (s t n : State) (c : Config) (w : ℕ) (opens : n ≡ opening c) (is : 
 
   pub reloaded_near : is_near s ≡ true → is_near t ≡ true
   reloaded_near near = subst (λ (u : State). is_near u ≡ true) (sym reloaded_is) (near_stays.reload s c w near)
+
+module _ (s t n : State) (m : Places) (c : Config) (w : ℕ) (opens : n ≡ opening c)
+    (is : t ≡ (reload_by s m (config_of n) w).0) where
+  pub placed_is : t ≡ (reload_by s m c w).0
+  placed_is = is ∙ ap (λ (d : Config). (reload_by s m d w).0) (opens_with c n opens)
+
+  pub placed_rests : config_test (config_of s) ≡ Ok tt → config_test c ≡ Ok tt → IsAtRest s → IsAtRest t
+  placed_rests was accepted rest = subst IsAtRest (sym placed_is) (placed_reload_leaves_rest s m c w was accepted rest)
+
+  pub placed_accepted : config_test c ≡ Ok tt → config_test (config_of t) ≡ Ok tt
+  placed_accepted accepted =
+      subst (λ (d : Config). config_test d ≡ Ok tt) (sym (ap config_of placed_is ∙ placed_reload_is_under s m c w)) accepted
+
+  pub placed_near : are_places (iface_count s) (length c.interfaces) m ≡ true → is_near s ≡ true → is_near t ≡ true
+  placed_near fit near = subst (λ (u : State). is_near u ≡ true) (sym placed_is) (near_stays.placed s m c w fit near)

@@ -43,6 +43,7 @@ ghost use Rattle.law_scope.specs.Rest.{IsAtRest};
 ghost use Rattle.law_promises.specs.Bounded.{counted_beside_asserts};
 
 mod hosts;
+mod places;
 mod reload;
 mod saved;
 mod trees;
@@ -55,7 +56,7 @@ use pim_intake::LentEvent;
 use pim_messages::Room;
 use pim_mfc::{CacheRow, Offered};
 use pim_rows::{Row, Table};
-use pim_state::World;
+use pim_state::{Meter, World};
 use pim_types::{
     Addr, Config, Emission, Event, Fault, IfaceId, Outcome, Refusal, SourceGroup, Verdict,
 };
@@ -384,7 +385,8 @@ impl Router {
             return Err(Fault::Failed);
         }
         self.failed = true;
-        let outcome = take_next(&mut self.core, event, &mut self.probes)?;
+        self.probes.begin();
+        let outcome = take_next(&mut self.core, event, &mut self.probes.meter)?;
         hand_over(outcome.emissions.into_vec(), emissions)?;
         self.copies = outcome.copies;
         self.failed = false;
@@ -557,19 +559,20 @@ fn last_copies(before: u32, outcomes: &[Outcome]) -> u32
     copies
 }
 
-// Takes an event. It starts from 0 the count of the nodes that its look-ups visit, the count of the rows of the cache
-// that it touches, and the list of the sources of these rows. What the event before it replaced is let go.
-fn take_next(core: &mut Core, event: &LentEvent<'_>, probes: &mut Probes) -> Result<Outcome, Fault>
-    requires { Stands core.old }
+// Takes an event. It starts from 0 the count of the rows of the cache that it touches, and the list of the sources of
+// these rows. What the event before it replaced is let go. Its one meter is lent to it: it has no auditor that could make
+// another one.
+fn take_next(core: &mut Core, event: &LentEvent<'_>, meter: &mut Meter) -> Result<Outcome, Fault>
+    requires stands { Stands core.old }
+    requires unvisited { meter.old ≡ 0 }
     ensures stands { OnOk result (Stands core.new) }
-    ensures steps { Steps core.old event.now result core.new probes.new.meter }
+    ensures steps { Steps core.old event.now result core.new meter.new }
     ensures stays { OnOk result (OffersStay (disturbance core.new) core.old.world core.new.world) }
     ensures sure { IsTrue (needs_no_memory (step core.old.world event.now).answer) → IsOk result }
 {
-    probes.begin();
     core.cache.reset();
     core.replaced.clear();
-    take_in(core, event, &mut probes.meter)
+    take_in(core, event, meter)
 }
 
 // Takes events one after the other.
@@ -581,7 +584,8 @@ fn run_world(core: &mut Core, events: &[Event], probes: &mut Probes) -> Result<V
 {
     let mut outcomes = Vec::new(core.room.alloc);
     for event in events {
-        outcomes.push(take_next(core, &LentEvent::of(event), probes)?)?;
+        probes.begin();
+        outcomes.push(take_next(core, &LentEvent::of(event), &mut probes.meter)?)?;
     }
     Ok(outcomes)
 }

@@ -1,6 +1,6 @@
 -- The premises, computed.
 use Rattle.std.{proofs.Common.{◌≡◌, ◌∷◌, [], Ok, refl}}
-use Rattle.pim_model.{specs.Limits.config_test}
+use Rattle.pim_model.{specs.{Limits.config_test, Step.step}}
 use Rattle.igmp_wire.{specs.declared.report.RecordType.RecordType}
 use Rattle.law_reloaded.{specs.Reloading.{asserts_under, goodbyes, hellos_anew, is_won_before, leaves_address, queriers_under, reload, removals, replaced, says_same, tells_anew, under}}
 use Rattle.law_history.{specs.History.{AreAccepted, IsLedTo, state_given}}
@@ -18,7 +18,7 @@ accepted_quick = refl
 led : IsLedTo base opened before
 led = record { accepted = accepted; reloads = tt; led = refl }
 
-are_accepted : AreAccepted later
+are_accepted : AreAccepted (step before joins).state later
 are_accepted = (accepted_quick, tt)
 
 reported : IsReported 1000 2 group before joins

@@ -43,7 +43,7 @@ kept = state_given (step before joins).state later
 -- the premises, where answers take a second to be delivered
 pub record MemberAnswers : Type 0 where
   pub led : IsLedTo base opened before
-  pub accepted : AreAccepted later
+  pub accepted : AreAccepted (step before joins).state later
   pub reported : IsReported 1000 2 group before joins
   pub answered : is_answered 1000 2 group (ForQuery (margin before.settings)) (step before joins).state later ≡ true
 

@@ -26,6 +26,7 @@ pub mod InTime
 pub mod OnLink
 pub mod History
 pub mod Answering
+pub mod Placed
 pub mod Plane
 pub mod Registered
 pub mod WayInTime

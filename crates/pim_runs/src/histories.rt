@@ -1,5 +1,7 @@
-//! A router with a history of events, a plane's report and a reload, computed by the kernel.
+//! Routers with a history of events, a plane's report and a reload, and of a reload by a map of places, computed by the
+//! kernel.
 ghost use Rattle.pim_runs.specs.History.{CopyIsMade, HistoryAsks, HistoryLeads};
+ghost use Rattle.pim_runs.specs.Placed.{CauseIsRenumbered, PlacedIsAsked, PlacesLead, StreamGoesOn};
 
 /// The history leads to a state in which the keepalive timer ends as the plane's report says.
 pub fn history_leads()
@@ -14,4 +16,24 @@ pub fn copy_is_made()
 /// That copy is asked for by what came before the reload.
 pub fn history_asks()
     ensures { HistoryAsks }
+{}
+
+/// A list without its first interface is accepted with a map of the places of the others.
+pub fn places_lead()
+    ensures { PlacesLead }
+{}
+
+/// The packet that comes next on its link leaves on the host's, both a place before.
+pub fn stream_goes_on()
+    ensures { StreamGoesOn }
+{}
+
+/// The cause of that copy is the host's report, under the old number of its link.
+pub fn cause_is_renumbered()
+    ensures { CauseIsRenumbered }
+{}
+
+/// That copy is asked for by what came before the reload.
+pub fn placed_is_asked()
+    ensures { PlacedIsAsked }
 {}

@@ -2,7 +2,7 @@
 use Rattle.std.{proofs.Common.{inl, inr, ◌≡◌, ℕ, Bool, List, [], ◌∷◌, map, codes, Option, Some, None, sym, ap, refl, ◌∙◌}, specs.{List.{AllZip, position}, Prelude.{string_bytes, option_and_then}, Str.bytes_eq}}
 use Rattle.toml.{specs.Data.{Data, Members, as_table}}
 use Rattle.pim_types.{specs.declared.{config.{Route.Route, RpRange.RpRange}, event.EventKind.EventKind}}
-use Rattle.pim_scenario.{specs.{declared.scenario.{ConfigText.ConfigText, ScenarioMove.{ScenarioMove, TheVariants.{Event, Deliver, Carry, Reload, Restart}}, RouterText.RouterText, Scenario.Scenario}, Fields.{text_at, table_at, list_at, list_or_empty}, Scenario.{AreRouteWords, AreRouters, AreRpWords, IsCarry, IsConfigText, IsDeliver, IsEvent, IsKind, IsMove, IsReload, IsRestart, IsRouter, IsRoutes, IsRps, IsScenario, IsTable, IsText, place_of}}, proofs.{LinkLemmas.position-map, ReadLemmas.{the_same, zip_weaker}}}
+use Rattle.pim_scenario.{specs.{declared.scenario.{ConfigText.ConfigText, ScenarioMove.{ScenarioMove, TheVariants.{Event, Deliver, Carry, Reload, Restart}}, RouterText.RouterText, Scenario.Scenario}, Fields.{text_at, table_at, list_at, list_or_empty}, Scenario.{AreRouteWords, AreRouters, AreRpWords, IsCarry, IsConfigText, IsDeliver, IsEvent, IsKind, IsMove, IsReload, IsRestart, IsRouter, IsRoutes, IsRps, IsScenario, IsTable, IsText, WritesPlace, place_of}}, proofs.{LinkLemmas.position-map, ReadLemmas.{the_same, zip_weaker}}}
 
 pub kind_of : (routers : List RouterText) (ms : Members) (m : ScenarioMove) → IsEvent routers ms m → (k : EventKind) × IsKind ms k
 kind_of routers ms (Event router e) is = (e.kind, is.2)
@@ -24,9 +24,16 @@ rps_of ms ds at kind is = absurd is
 -- the configuration of a reload
 pub config_of : (routers : List RouterText) (ms inner : Members) → Some inner ≡ table_at (codes "config") ms
     → (m : ScenarioMove) → IsReload routers ms m → (c : ConfigText) × IsConfigText inner c
-config_of routers ms inner at (Reload router draw next) is =
+config_of routers ms inner at (Reload router draw next places) is =
     (next, rw (the_same (table_at (codes "config") ms) inner is.3.0 at is.3.1) is.3.2)
 config_of routers ms inner at m is = absurd is
+
+-- its map of places
+pub places_of : (routers : List RouterText) (ms : Members) (ds : List Data) → Some ds ≡ list_or_empty (codes "places") ms
+    → (m : ScenarioMove) → IsReload routers ms m → (places : List (Option ℕ)) × AllZip WritesPlace ds places
+places_of routers ms ds at (Reload router draw next places) is =
+    (places, rw (the_same (list_or_empty (codes "places") ms) ds is.4.0 at is.4.1) is.4.2)
+places_of routers ms ds at m is = absurd is
 
 -- a table names one router
 pub one_name : (d : Data) (r s : RouterText) → IsTable IsRouter d r → IsTable IsRouter d s
@@ -85,8 +92,8 @@ moved_restart rs ss same ms m is = absurd is
 
 moved_reload : (rs ss : List RouterText) → ((name : List ℕ) → place_of rs name ≡ place_of ss name)
     → (ms : Members) (m : ScenarioMove) → IsReload ss ms m → IsReload rs ms m
-moved_reload rs ss same ms (Reload router draw next) is =
-    (is.0, placed rs ss same (text_at (codes "router") ms) ∙ is.1, is.2, is.3)
+moved_reload rs ss same ms (Reload router draw next places) is =
+    (is.0, placed rs ss same (text_at (codes "router") ms) ∙ is.1, is.2, is.3, is.4)
 moved_reload rs ss same ms m is = absurd is
 
 moved : (rs ss : List RouterText) → ((name : List ℕ) → place_of rs name ≡ place_of ss name)

@@ -13,6 +13,15 @@ use Rattle.pim_types.specs.declared.event.EventKind.TheVariants as event
 abbrev pub WritesAddress : Data → Addr → Type 0
 WritesAddress d a = (text : List ℕ) × (as_str d ≡ Some text) × IsAddressText text a
 
+-- the text is the number of an interface, or `none`
+abbrev pub IsPlaceText : List ℕ → Option ℕ → Type 0
+IsPlaceText text None = text ≡ codes "none"
+IsPlaceText text (Some n) = IsNumberText text n
+
+-- the value is a text, which writes where an interface goes
+abbrev pub WritesPlace : Data → Option ℕ → Type 0
+WritesPlace d p = (text : List ℕ) × (as_str d ≡ Some text) × IsPlaceText text p
+
 -- `prefix nexthop iface preference metric`
 pub record IsRouteOf (prefix next_hop iface preference metric : List ℕ) (r : Route) : Type 0 where
   pub prefix_text : IsPrefixText prefix r.prefix
@@ -233,7 +242,7 @@ abbrev pub restart_keys : List (List ℕ)
 restart_keys = codes "do" ∷ codes "router" ∷ []
 
 abbrev pub reload_keys : List (List ℕ)
-reload_keys = codes "do" ∷ codes "router" ∷ codes "draw" ∷ codes "config" ∷ []
+reload_keys = codes "do" ∷ codes "router" ∷ codes "draw" ∷ codes "config" ∷ codes "places" ∷ []
 
 abbrev pub bytes_at : Members → Option (List ℕ)
 bytes_at ms = option_and_then hex_of (text_at (codes "hex") ms)
@@ -336,11 +345,11 @@ IsRestart routers ms _ = ⊥
 abbrev pub IsConfigAt : Members → ConfigText → Type 0
 IsConfigAt ms c = (inner : Members) × (table_at (codes "config") ms ≡ Some inner) × IsConfigText inner c
 
--- A table `move` puts a router under another configuration.
+-- A table `move` puts a router under another configuration, by a map of places where it has one.
 abbrev pub IsReload : List RouterText → Members → ScenarioMove → Type 0
-IsReload routers ms (Reload router draw next) =
+IsReload routers ms (Reload router draw next places) =
     (has_only reload_keys ms ≡ true) × (router_at routers ms ≡ Some router) × (draw_at ms ≡ Some draw)
-    × IsConfigAt ms next
+    × IsConfigAt ms next × AreRead WritesPlace (list_or_empty (codes "places") ms) places
 IsReload routers ms _ = ⊥
 
 -- what the scenario asks for, by the name at `do`

@@ -12,6 +12,7 @@ mod hex;
 mod links;
 mod moves;
 mod pieces;
+mod places;
 mod reload;
 mod router;
 mod routes;
@@ -97,6 +98,9 @@ pub enum ScenarioMove {
         router: usize,
         draw: u32,
         next: ConfigText,
+        /// Of each interface of the router, by its number, the number of the one that has its link then, or none. It is
+        /// empty where interfaces keep their numbers.
+        places: Series<Option<u32>>,
     },
 }
 

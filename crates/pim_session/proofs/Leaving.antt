@@ -3,7 +3,7 @@ use Rattle.std.{proofs.Common.{◌≡◌, ◌∙◌, ℕ, ◌∷◌, [], List, O
 use Rattle.pim_ip.{specs.declared.refusal.Refusal.Refusal}
 use Rattle.pim_types.{specs.declared.{event.Event.Event, outcome.{Emission.Emission, Verdict.Verdict}}}
 use Rattle.pim_model.{specs.{State.State, Step.step}}
-use Rattle.pim_saved.{specs.Reading.reading, proofs.SpelledStates.text_is_read}
+use Rattle.igmp_older_saved.{specs.{Reading.held_reading, Text.Held}, proofs.Spelled.held_text_is_read}
 use Rattle.law_history.{specs.History.{Given, IsLedTo}}
 use Rattle.pim_router.{specs.{Asked.{LeadsOn, SentIsAsked}, Standing.{Shown, Standing, beginning, begun, standing}}, proofs.Asked.{leads_now, step_asked, step_leads}}
 use Rattle.pim_session.{specs.{Leaving.{GoesOnFrom, LeftIsAsked}, Front.{Front, emissions_left}}}
@@ -60,7 +60,7 @@ sent_by e (Some r') now (Ok answer) left is stands sent =
     (step_asked r'.state e answer left is sent)
 
 -- a router that is made of bytes
-pub goes_on_from : (bytes : List ℕ) (shown : Shown) → ((s : State) → reading bytes ≡ Ok s → shown ≡ begun s)
+pub goes_on_from : (bytes : List ℕ) (shown : Shown) → ((h : Held) → held_reading bytes ≡ Ok h → shown ≡ begun h.state)
     → IfSome shown.standing (λ r. GoesOnFrom bytes r.state)
 goes_on_from bytes shown restored = go shown.standing refl
   where
@@ -69,7 +69,7 @@ goes_on_from bytes shown restored = go shown.standing refl
 
     go : (o : Option Standing) → shown.standing ≡ o → IfSome o (λ r. GoesOnFrom bytes r.state)
     go None is = tt
-    go (Some r) is = λ c before s led fits same.
-        let made : shown ≡ begun s = restored s (ap reading same ∙ text_is_read s fits) in
+    go (Some r) is = λ c before h led fits same.
+        let made : shown ≡ begun h.state = restored h (ap held_reading same ∙ held_text_is_read h fits) in
         subst (λ (t : State). IsLedTo c before t)
-        (same_state shown.standing r (beginning s) is (ap (λ (x : Shown). x.standing) made)) led
+        (same_state shown.standing r (beginning h.state) is (ap (λ (x : Shown). x.standing) made)) led

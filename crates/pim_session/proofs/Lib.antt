@@ -2,3 +2,4 @@ pub mod FrontLaws
 pub mod Guarding
 pub mod Taking
 mod Leaving
+mod Saving

@@ -3,7 +3,7 @@ use Rattle.std.{specs.Prelude.{List, Option, Result, ℕ, ◌≡◌}}
 use Rattle.pim_ip.{specs.declared.refusal.Refusal.Refusal}
 use Rattle.pim_types.{specs.declared.{config.Config.Config, event.Event.Event, outcome.{Emission.Emission, Verdict.Verdict}}}
 use Rattle.pim_model.{specs.State.State}
-use Rattle.pim_saved.{specs.{Fits.FitsState, Text.text}}
+use Rattle.igmp_older_saved.{specs.Text.{Held, held_text, FitsHeld}}
 use Rattle.law_history.{specs.History.{Given, IsLedTo}}
 use Rattle.pim_router.{specs.Asked.SentIsAsked}
 use Rattle.pim_session.{specs.Front.{Front, emissions_left}}
@@ -16,7 +16,8 @@ pub record LeftIsAsked (front : Option Front) (s : State) (e : Event) (answer : 
   pub leaves : left ≡ emissions_left front sent
   pub asked : SentIsAsked s e answer sent copies
 
--- Where the bytes are those of a saved state, whatever led to that state led to this one.
+-- Where the bytes are those of a saved state, with or without rows of older hosts, whatever led to that state led to this
+-- one.
 abbrev pub GoesOnFrom : List ℕ → State → Type 0
-GoesOnFrom bytes t = (c : Config) (before : List Given) (s : State) → IsLedTo c before s → FitsState s → bytes ≡ text s
+GoesOnFrom bytes t = (c : Config) (before : List Given) (h : Held) → IsLedTo c before h.state → FitsHeld h → bytes ≡ held_text h
     → IsLedTo c before t

@@ -2,7 +2,9 @@ pub mod Leaving
 pub mod Behind
 pub mod Front
 pub mod Laws
+pub mod Placed
 pub mod Reloaded
+pub mod Saved
 pub mod Session
 pub mod Untaken
 pub use Rattle.pim_router.specs.Standing

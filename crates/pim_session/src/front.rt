@@ -1,18 +1,22 @@
 //! What stands before a router for hosts and routers of older versions of IGMP.
 ghost use Rattle.std.specs.Prelude.{◌≡◌, [], IfOk, IsOk, IsTrue, OnErr, OnOk, None, map, replicate, slice_set};
 ghost use Rattle.igmp_older.specs.Joined.{noted_answered, older_in};
-ghost use Rattle.igmp_older.specs.Presence.{hosts_on, left, live_rows, looked, rows_told, with_hosts};
+ghost use Rattle.igmp_older.specs.Presence.{hosts_on, left, live_rows, looked, rows_told, with_hosts, with_rows};
+ghost use Rattle.igmp_older_saved.specs.Hosts.{resumed_rows, saved_hosts};
 ghost use Rattle.igmp_older.specs.Translation.{translation, Gives};
+ghost use Rattle.law_settled.specs.Ready.{Rises};
 ghost use Rattle.pim_model.specs.Sure.{needs_no_memory};
 ghost use Rattle.pim_session.specs.Front.{bytes_left, emission_left, hears_queries, version_on};
 
+mod placed;
 mod resized;
 
 use igmp_older::{
     Given, OlderHosts, OlderRow, Presence, Querier, QueryVersion, ResponseTimes, cut_query,
     note_answered, translate,
 };
-use pim_types::{Emission, IfaceId, Refusal, Series, Verdict};
+use igmp_older_saved::{HostRow, resumed_rows, saved_hosts};
+use pim_types::{Emission, IfaceId, Key, Refusal, Series, Verdict};
 use std::alloc::{AllocError, Global};
 use std::marker::Model;
 
@@ -177,7 +181,36 @@ impl Front {
         self.presence.older_rows(alloc, querier)
     }
 
-    /// Sets which hosts an interface hears, if it has settings, and forgets what it heard.
+    /// The rows of older hosts that are saved, as `igmp_older_saved::saved_hosts` says.
+    pub(crate) fn saved_hosts<Q: Querier>(
+        &self,
+        alloc: Global,
+        querier: &Q,
+    ) -> Result<Vec<(Key, HostRow)>, AllocError>
+        ensures saved { IfOk result (λ hosts. hosts.items
+            ≡ saved_hosts (Q.group_records querier.now) (Q.present querier.now) self.now.present.rows) }
+        ensures rise { IfOk result (λ hosts. Rises hosts.items) }
+    {
+        saved_hosts(alloc, querier, &self.presence)
+    }
+
+    /// Takes rows of older hosts that were saved, in the place of those that are known. Later as many are kept as the limit
+    /// says, or as these are if they are more. An `Err` is want of memory.
+    pub(crate) fn take_hosts(
+        &mut self,
+        alloc: Global,
+        limit: u32,
+        hosts: &[(Key, HostRow)],
+    ) -> Result<(), AllocError>
+        ensures { OnOk result (self.new ≡ record self.old {
+          present = with_rows limit (resumed_rows hosts.now) self.old.present;
+        }) }
+    {
+        let rows = resumed_rows(alloc, hosts)?;
+        self.presence.take_rows(alloc, limit as usize, &rows)
+    }
+
+    /// Sets which hosts an interface hears, if it has settings, and forgets what it heard, as `Presence::set_hosts` says.
     pub(crate) fn set_hosts(&mut self, iface: IfaceId, hosts: OlderHosts)
         ensures { self.new ≡ record self.old { present = with_hosts iface.number hosts self.old.present } }
     {

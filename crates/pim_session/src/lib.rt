@@ -6,6 +6,7 @@ mod asked;
 mod behind;
 pub mod front;
 pub mod laws;
+mod saved;
 pub mod session;
 pub mod stop;
 

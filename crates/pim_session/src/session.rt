@@ -25,22 +25,20 @@ ghost use Rattle.pim_event.specs.Disturbing.{event_disturbed};
 ghost use Rattle.pim_event.specs.Replacing.{may_differ};
 ghost use Rattle.pim_event.specs.Listing.{ListsSame};
 ghost use Rattle.pim_event.specs.Staying.{OffersStay};
-ghost use Rattle.pim_rested.specs.Resuming.{IsResumable, restore_test};
 ghost use Rattle.law_history.specs.History.{Given};
 ghost use Rattle.pim_router.specs.Asked.{LeadsOn, SentIsAsked};
 ghost use Rattle.pim_session.specs.Untaken.{IsAnswered, IsMemoryAlone, IsMemoryUnless, Stopped, has_untaken, is_guarded};
 ghost use Rattle.pim_guard.specs.Guard.{is_stopped};
 ghost use Rattle.pim_session.specs.declared.stop.Stop.{Stop as StopValue};
-ghost use Rattle.pim_session.specs.Leaving.{GoesOnFrom, LeftIsAsked};
+ghost use Rattle.pim_session.specs.Leaving.{LeftIsAsked};
 ghost use Rattle.pim_router.specs.Standing.{begun, nothing_shown, standing, with_state};
-ghost use Rattle.pim_saved.specs.Fits.{FitsState};
-ghost use Rattle.pim_saved.specs.Reading.{reading};
-ghost use Rattle.pim_saved.specs.Text.{text};
 ghost use Rattle.pim_types.specs.Keys.{key_cmp};
 ghost use Rattle.pim_session.specs.Front.{emissions_left, front_after, given, hosts_set, interface_test, is_sure, older_rows, version_set};
 
 mod guarded;
+mod placed;
 mod reloaded;
+mod saved;
 mod trees;
 
 use crate::behind;
@@ -49,7 +47,7 @@ use crate::stop::Stop;
 use igmp_older::{OlderHosts, OlderRow, QueryVersion};
 use pim_intake::LentEvent;
 use pim_mfc::{CacheRow, Offered};
-use pim_router::{RestoreRefusal, Router};
+use pim_router::Router;
 use pim_rows::{Row, Table};
 use pim_types::{Addr, Config, Emission, Fault, IfaceId, Refusal, SourceGroup, Verdict};
 use std::alloc::Global;
@@ -119,38 +117,20 @@ impl Session {
         ensures memory { IfErr result (λ fault. fault ≡ Fault.Memory) }
     {
         match Router::new(alloc, config)? {
-            Ok(router) => Ok(Ok(Session::of(alloc, Box::new(alloc, router)?))),
+            Ok(router) => Ok(Ok(Session::of(alloc, Box::new(alloc, router)?, None))),
             Err(refusal) => Ok(Err(refusal)),
         }
     }
 
-    /// A session of the router that is in the state that these bytes say, as `Router::restore` makes it. No setting was
-    /// made of it, and no packets and no rows are kept. The fault is want of memory.
-    pub fn restore(alloc: Global, bytes: &[u8]) -> Result<Result<Session, RestoreRefusal>, Fault>
-        ensures restored { IfOk result (λ made. IfOk made (λ s. (state : State) → reading bytes.now ≡ Ok state
-            → s.router ≡ begun state)) }
-        ensures led { IfOk result (λ made. IfOk made (λ s. IfSome s.router.standing (λ r. GoesOnFrom bytes.now r.state))) }
-        ensures tested { IfOk result (λ made. IfOk made (λ s. restore_test bytes.now ≡ Ok tt)) }
-        ensures rest { IfOk result (λ made. IfOk made (λ s. (s.front ≡ None) × (s.guard ≡ true) × (s.sent ≡ []) × (s.rows ≡ [])
-            × (s.older_rows ≡ []))) }
-        ensures refused { IfOk result (λ made. IfErr made (λ refusal. restore_test bytes.now ≡ Err refusal)) }
-        ensures memory { IfErr result (λ fault. fault ≡ Fault.Memory) }
-    {
-        match Router::restore(alloc, bytes)? {
-            Ok(router) => Ok(Ok(Session::of(alloc, Box::new(alloc, router)?))),
-            Err(refusal) => Ok(Err(refusal)),
-        }
-    }
-
-    fn of(alloc: Global, router: Box<Router>) -> Session
+    fn of(alloc: Global, router: Box<Router>, front: Option<Front>) -> Session
         requires { IsSome router.value.standing }
-        ensures { (result.router ≡ router.value) × (result.front ≡ None) × (result.guard ≡ true) × (result.sent ≡ []) × (result.rows ≡ [])
+        ensures { (result.router ≡ router.value) × (result.front ≡ front) × (result.guard ≡ true) × (result.sent ≡ []) × (result.rows ≡ [])
             × (result.older_rows ≡ []) }
     {
         Session {
             router,
             is_lost: false,
-            front: None,
+            front,
             guard: true,
             sent: Vec::new(alloc),
             taken: 0,
@@ -388,26 +368,9 @@ impl Session {
         Ok(())
     }
 
-    /// Adds the bytes of the router's state after those that are there, as `Router::save` does. They are of the router
-    /// alone: what stands before it isn't in them, nor are the packets and the rows that are kept. After a fault the
-    /// bytes are as they were.
-    pub fn save(&self, out: &mut Vec<u8>) -> Result<(), Fault>
-        ensures saved { IfSome self.now.router.standing (λ r. OnOk result
-            (out.new.items ≡ out.old.items ++ text r.state)) }
-        ensures fitting { IfSome self.now.router.standing (λ r. OnOk result (FitsState r.state)) }
-        ensures resumable { IfSome self.now.router.standing (λ r. IsResumable r.state) }
-        ensures silent { OnErr result (out.new.items ≡ out.old.items) }
-        ensures failed { (result ≡ Err Fault.Failed) ↔ (self.now.router.standing ≡ None) }
-        ensures fault { IfSome self.now.router.standing (λ r. IsOkUnless result Fault.Memory) }
-    {
-        if self.is_lost {
-            return Err(Fault::Failed);
-        }
-        self.router.save(out)
-    }
-
-    /// Sets which hosts of older versions an interface hears from then on, and forgets what it heard before. The
-    /// refusal is `NoInterface`. A fault changes nothing.
+    /// Sets which hosts of older versions an interface hears from then on, and forgets what it heard before. An interface
+    /// on which nobody was heard keeps of what was restored what it hears from then on. The refusal is `NoInterface`. A
+    /// fault changes nothing.
     pub fn set_older_hosts(
         &mut self,
         alloc: Global,

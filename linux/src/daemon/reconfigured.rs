@@ -40,8 +40,8 @@ impl Daemon {
         self.ports.iter_mut().zip(addresses).for_each(|(port, own)| port.own = own);
     }
 
-    /// Has the library's router go on with the settings and the machine as they are. Interfaces keep their numbers: one
-    /// that the file hasn't any more goes down, and is told to the router without an address.
+    /// Has the library's router go on with the settings and the machine as they are. One that the file hasn't any more
+    /// goes down, is told to the router without an address, and is then forgotten.
     pub(super) fn reconfigure(&mut self, why: &str) -> Result<(), Fatal> {
         self.end_removed()?;
         // What the kernel has forwarded until now goes by the rows until now.
@@ -69,6 +69,7 @@ impl Daemon {
         self.keeping.changed();
         self.speak()?;
         self.settle_ports()?;
+        self.forget_removed()?;
         self.read_routes()
     }
 
@@ -124,7 +125,7 @@ impl Daemon {
     fn tell_configuration(&mut self) -> Result<Answer, Fatal> {
         let told = Given::of(&self.ports);
         if let Some((routes, _)) = self.routes_of_kernel() {
-            let answer = self.core.reload(&self.settings, &told, &routes)?;
+            let answer = self.core.reload(&self.settings, &told, &routes, None)?;
             match answer {
                 Answer::Refused(Refusal::ConfiguredRoutes) => {}
                 Answer::Refused(_) => return Ok(answer),
@@ -134,6 +135,6 @@ impl Daemon {
                 }
             }
         }
-        self.core.reload(&self.settings, &told, &self.routing.told)
+        self.core.reload(&self.settings, &told, &self.routing.told, None)
     }
 }

@@ -92,8 +92,9 @@ impl Daemon {
         for (number, why) in failed {
             daemon.goes_down(number, why)?;
         }
-        if is_other {
-            daemon.reconfigure("the settings differ")?;
+        match is_other {
+            true => daemon.reconfigure("the settings differ")?,
+            false => daemon.forget_removed()?,
         }
         Ok(daemon)
     }

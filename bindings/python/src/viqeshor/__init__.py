@@ -93,8 +93,8 @@ Buffer: TypeAlias = bytes | bytearray | memoryview
 Interface: TypeAlias = str | IPv4Interface | tuple[Any, ...]
 
 # What this package and the library have to agree on: VIQ_ABI of viqeshor.h.
-ABI = 7
-NEVER, NO_INTERFACE, MOST_BYTES = 2**64 - 1, 2**32 - 1, 1528
+ABI = 8
+NEVER, NO_INTERFACE, NO_PLACE, MOST_BYTES = 2**64 - 1, 2**32 - 1, 2**32 - 1, 1528
 # The letters of the tables.
 TABLES = "NGSDAURF"
 # What an interface hears of hosts of older versions of IGMP.
@@ -151,6 +151,8 @@ class Answer(enum.IntEnum):
     NOT_QUIET = 68
     DAMAGED = 69
     OWN_ADDRESSES = 70
+    HOSTS_NOT_HELD = 71
+    PLACES_DONT_FIT = 73
     NOT_NEAR = 72
     OWN = 101
     NOT_FOR_ME = 102
@@ -177,7 +179,7 @@ class Answer(enum.IntEnum):
 
     @property
     def is_refused(self) -> bool:
-        return Answer.DONE < self < Answer.MEMORY or self == Answer.OWN_ADDRESSES
+        return Answer.DONE < self < Answer.MEMORY or self in (Answer.OWN_ADDRESSES, Answer.PLACES_DONT_FIT)
 
 
 class Error(Exception):
@@ -352,6 +354,7 @@ SOURCE: list[Any] = [c_uint32, c_uint32]
 CALLS: dict[str, tuple[list[Any], Any]] = {
     "end": ([], None),
     "reload": ([POINTER(Settings), *LIST, *LIST, *LIST, Draw], c_uint32),
+    "reload_places": ([POINTER(Settings), *LIST, *LIST, *LIST, *LIST, Draw], c_uint32),
     "save": ([POINTER(c_uint8), c_size_t, POINTER(c_size_t)], c_uint32),
     "advance": ([c_uint64, Draw], c_uint32),
     "frame": ([c_uint32, c_char_p, c_size_t, Draw], c_uint32),
@@ -394,6 +397,7 @@ RECORDS: dict[str, list[Any]] = {
     "record_routes": LIST,
     "record_ranges": LIST,
     "record_reload": [POINTER(Settings), *LIST, *LIST, *LIST],
+    "record_reload_places": [POINTER(Settings), *LIST, *LIST, *LIST, *LIST],
 }
 
 
@@ -518,6 +522,11 @@ def configuration(
     return Settings(*whole, bool(stays_on_shared_tree), *own), *given, *routes_of(routes), *ranges_of(ranges)
 
 
+def place_of(place: int | None) -> int:
+    """A place as C takes it."""
+    return NO_PLACE if place is None else min(number(place, 32, "a place"), NO_PLACE - 1)
+
+
 def bytes_of(packet: Buffer) -> bytes:
     return packet if isinstance(packet, bytes) else memoryview(packet).tobytes()
 
@@ -554,6 +563,7 @@ class Router:
         ranges: Iterable[tuple[str, str]] = (),
         routes: Iterable[tuple[Any, ...]] = (),
         *,
+        places: Iterable[int | None] | None = None,
         draw: int | None = None,
         **settings: Any,
     ) -> None:
@@ -561,16 +571,25 @@ class Router:
         numbers: those past the last one go down and are removed, those that are added are down. What leaves, a Hello
         where the address, the priority or the delays of an interface differ among others, is for `packets`. Rows
         that were read are dropped, and a data plane reads all its rows again. It is no event. Raises `Refused`, and
-        changes nothing, where a new router would be refused."""
+        changes nothing, where a new router would be refused.
+
+        With `places` interfaces keep what they have at other numbers: of each interface of the router, in the order of
+        its configuration, the number of the one that has its link, or None where it is left out, and goes down. One to
+        which none goes is new. What leaves then has the numbers of before. Such a map is refused (`PLACES_DONT_FIT`) where
+        it has more items or fewer, or a number twice or past the last interface."""
         bits = random.getrandbits(32) if draw is None else number(draw, 32, "a draw")
         values = configuration(interfaces, ranges, routes, **settings)
-        self._must(self._recorded("reload", bits, values, Draw(bits)), values)
+        if places is None:
+            self._must(self._recorded("reload", bits, values, Draw(bits)), values)
+        else:
+            placed = *values, *array(c_uint32, list(map(place_of, places)))
+            self._must(self._recorded("reload_places", bits, placed, Draw(bits)), values)
 
     @classmethod
     def restore(cls, saved: Buffer, *, library: str | os.PathLike[str] | None = None) -> Self:
         """A router that goes on from the state that `save` returned: the same events and draws bring the same answers
-        and packets. It has nothing to send, its guard is on, and it hears no older version of IGMP. Raises `Refused`
-        where the bytes are no saved state of a router, whatever they are."""
+        and packets, once `set_older_hosts` and `set_query_version` have set what they had. It has nothing to send, and
+        its guard is on. Raises `Refused` where the bytes are no saved state of a router, whatever they are."""
         router, made, data = cls.__new__(cls), c_void_p(), bytes_of(saved)
         router._begin(library)
         router._must(router._library.viq_restore(byref(made), ABI, data, len(data)))
@@ -657,8 +676,8 @@ class Router:
 
     def save(self) -> bytes:
         """The state of the router as bytes, of which `restore` makes a router that goes on from it. What isn't in them:
-        what the clock showed at timestamp 0, packets that `packets` didn't return, what `set_guard` set, and what
-        `set_older_hosts` and `set_query_version` set and the groups in an older mode."""
+        what the clock showed at timestamp 0, packets that `packets` didn't return, and what `set_guard`,
+        `set_older_hosts` and `set_query_version` set."""
         size = c_size_t()
         with self.lock:
             self._must(self._call("save", None, 0, byref(size)))
@@ -810,7 +829,8 @@ class Router:
 
     def set_older_hosts(self, iface: int, hosts: str) -> None:
         """Sets which hosts of older versions an interface hears from then on, a key of `OLDER_HOSTS`, and forgets what
-        it heard before. A new router hears none of them, and refuses their messages by OLD_VERSION. It is no event."""
+        it heard before; where it heard none it keeps what was restored of those that it is to hear. A new router hears
+        none of them, and refuses their messages by OLD_VERSION. It is no event."""
         if hosts not in OLDER_HOSTS:
             raise ValueError(f"none of {', '.join(OLDER_HOSTS)}: {hosts}")
         self._must(self._recorded("older", 0, (number(iface, 32, "an interface"), OLDER_HOSTS[hosts])))

@@ -20,9 +20,11 @@ from operator import mul
 from pathlib import Path
 from typing import Any, BinaryIO, NamedTuple, Self
 
-from . import Answer, Draw, Error, GivenCall, Router, Settings, ToldInterface, ToldRange, ToldRoute, array
+from . import (
+    NO_PLACE, Answer, Draw, Error, GivenCall, Router, Settings, ToldInterface, ToldRange, ToldRoute, array,
+)
 
-MAGIC, VERSION = b"VQRC", 4
+MAGIC, VERSION = b"VQRC", 5
 # Of each kind of record: its letter, and the numbers that it has behind its draw. Bytes and lists follow these.
 KINDS: dict[str, tuple[str, tuple[str, ...]]] = {
     "advance": ("a", ("moment",)),
@@ -33,6 +35,7 @@ KINDS: dict[str, tuple[str, tuple[str, ...]]] = {
     "routes": ("r", ()),
     "ranges": ("g", ()),
     "reload": ("c", ()),
+    "reload_places": ("m", ()),
     "seen": ("s", ("iface", "source", "group")),
     "keep": ("k", ("source", "group", "moment")),
     "older": ("o", ("iface", "value")),
@@ -43,15 +46,22 @@ NAMES = {letter: name for name, (letter, _) in KINDS.items()}
 # These are no events: they have no draw, and send nothing.
 QUIET = ("keep", "older", "query_version", "guard")
 LISTS: dict[str, Any] = {"routes": ToldRoute, "ranges": ToldRange}
+# These are given a configuration, the second one where the interfaces go too. Before version 5 there was the first alone.
+RELOADS = ("reload", "reload_places")
 
 
 class ToldAddress(Structure):
     _fields_ = [("bits", c_uint32)]
 
 
+class ToldPlace(Structure):
+    _fields_ = [("number", c_uint32)]
+
+
 # The settings of a reload in their order, and what follows them: so many of each as its numbers say.
 SETTINGS = [name for name, *_ in Settings._fields_ if name not in ("addresses", "address_count")]
 PARTS: tuple[Any, ...] = (ToldInterface, ToldAddress, ToldRoute, ToldRange)
+PLACED_PARTS: tuple[Any, ...] = (*PARTS, ToldPlace)
 # Before version 4 there were no addresses of no interface.
 OLDER_PARTS: tuple[Any, ...] = (ToldInterface, ToldRoute, ToldRange)
 KIND_BYTES = {"frame": b"f", "copy": b"c", "unicast": b"u"}
@@ -115,9 +125,9 @@ def head_of(older_groups: int, state: bytes) -> bytes:
 def record_of(library: CDLL, name: str, draw: int, values: tuple[Any, ...], answer: int, total: int) -> bytes:
     """The record of a call with these values, as the library writes it."""
     letter, numbers = KINDS[name]
-    fields = {} if name in LISTS or name == "reload" else dict(zip(numbers, values))
+    fields = {} if name in LISTS or name in RELOADS else dict(zip(numbers, values))
     call = GivenCall(letter=ord(letter), draw=draw, answer=answer, sum=total, **fields)
-    if name in LISTS or name == "reload":
+    if name in LISTS or name in RELOADS:
         return written(getattr(library, f"viq_record_{name}"), call, values)
     return written(library.viq_record, call, values[len(numbers):] or (None, 0))
 
@@ -214,13 +224,17 @@ class Recorder:
         if name == "reload" and answer == Answer.DONE:
             count = values[2]
             self._settings = {key: value for key, value in self._settings.items() if key[1] < count}
+        if name == "reload_places" and answer == Answer.DONE:
+            places = list(values[7])[:values[8]]
+            there = {(kind, places[iface]): value for (kind, iface), value in self._settings.items()}
+            self._settings = {key: value for key, value in there.items() if key[1] != NO_PLACE}
         total = sum_of(self.router) if answer == Answer.DONE and name not in QUIET else 0
         record = record_of(self.router._library, name, draw, values, answer, total)
         write_all(self._file, record)
         self._size += len(record)
         if answer in (Answer.LOST, Answer.FAILED):
             self.end()
-        elif self._size >= self.most and (self._size >= 2 * self.most or not self.router.older_rows()):
+        elif self._size >= self.most:
             self._next_file()
 
     def _cut(self) -> None:
@@ -282,7 +296,7 @@ class _Reader:
         self.sum = 0
         letter = self.bytes(1)
         name = NAMES.get(letter.decode("latin1"))
-        if name is None:
+        if name is None or name == "reload_places" and self.version < 5:
             raise Unreadable(f"no kind of record has the letter {letter!r}")
         draw, *rest = self.given(name) if self.version > 1 else self.given_version_1(name)
         record = Record(name, draw, *rest, *self.numbers("II"))
@@ -296,11 +310,11 @@ class _Reader:
             return draw, numbers, self.bytes(*self.numbers("Q"))
         if name in LISTS:
             return draw, numbers, self.list(LISTS[name])[1]
-        if name == "reload":
+        if name in RELOADS:
             limit, stays, *times = self.numbers("IBIIII")
             if stays > 1:
                 raise Unreadable(f"no setting of the shared tree is {stays}")
-            counts, lists = zip(*map(self.list_before, PARTS) if self.version < 4 else map(self.list, PARTS))
+            counts, lists = zip(*map(self.list_before if self.version < 4 else self.list, kinds_of(name)))
             return draw, counts, struct.pack(">6I", limit, *times, stays) + b"".join(lists)
         return draw, numbers, b""
 
@@ -323,6 +337,11 @@ class _Reader:
                 raise Unreadable("a configuration isn't whole")
             numbers[1:1] = [0]
         return draw, tuple(numbers), self.bytes(length)
+
+
+def kinds_of(name: str) -> tuple[Any, ...]:
+    """What the lists of a reload have."""
+    return PLACED_PARTS if name == "reload_places" else PARTS
 
 
 def form_of(name: str) -> str:
@@ -369,8 +388,9 @@ def list_of(kind: Any, data: bytes) -> tuple[Any, int]:
 
 
 def parts_of(record: Record) -> tuple[bytes, ...]:
-    """The settings of a reload, and its four lists, as bytes."""
-    widths = [4 * len(SETTINGS), *(count * 4 * len(kind._fields_) for count, kind in zip(record.numbers, PARTS))]
+    """The settings of a reload, and its lists, as bytes."""
+    kinds = kinds_of(record.name)
+    widths = [4 * len(SETTINGS), *(count * 4 * len(kind._fields_) for count, kind in zip(record.numbers, kinds))]
     if len(record.data) != sum(widths):
         raise Unreadable("a configuration isn't whole")
     ends = list(accumulate(widths))
@@ -378,12 +398,18 @@ def parts_of(record: Record) -> tuple[bytes, ...]:
 
 
 def configuration_of(record: Record) -> tuple[Any, ...]:
-    """The configuration of a reload as C takes it."""
-    first, interfaces, addresses, *lists = parts_of(record)
+    """The configuration of a reload as C takes it, without places."""
+    first, interfaces, addresses, *lists = parts_of(record)[:1 + len(PARTS)]
     settings = struct.unpack(f">{len(SETTINGS)}I", first)
     own = struct.unpack(f">{len(addresses) // 4}I", addresses)
     given = (list_of(kind, data) for kind, data in zip(OLDER_PARTS, (interfaces, *lists)))
     return Settings(*settings, *array(c_uint32, list(own))), *(value for pair in given for value in pair)
+
+
+def places_of(record: Record) -> list[int | None]:
+    """Where the old interfaces go by a reload by places."""
+    numbers = struct.unpack(f">{record.numbers[-1]}I", parts_of(record)[-1])
+    return [None if number == NO_PLACE else number for number in numbers]
 
 
 def values_of(record: Record) -> tuple[Any, ...]:
@@ -392,6 +418,8 @@ def values_of(record: Record) -> tuple[Any, ...]:
         return list_of(LISTS[record.name], record.data)
     if record.name == "reload":
         return configuration_of(record)
+    if record.name == "reload_places":
+        return *configuration_of(record), *array(c_uint32, [NO_PLACE if it is None else it for it in places_of(record)])
     if record.name in ("frame", "unicast"):
         return (*record.numbers, record.data, len(record.data))
     return record.numbers

@@ -111,7 +111,7 @@ fn reload_next(
     requires accepted { config_test config.now ≡ Ok tt }
     requires opens { next ≡ opening config.now }
     ensures stands { OnOk result (Stands core.new) }
-    ensures reloads { Reloads core.old config.now draw result core.new }
+    ensures reloads { Reloads core.old (reload core.old.world config.now draw) result core.new }
 {
     let _ = config;
     probes.begin();
@@ -129,7 +129,7 @@ fn reload_world(
     requires { Stands core.old }
     ensures accepted { IfOk result (λ answer. OnOk answer (config_test config.now ≡ Ok tt)) }
     ensures stands { IfOk result (λ answer. OnOk answer (Stands core.new)) }
-    ensures reloads { IfOk result (λ answer. IfOk answer (λ sent. Reloads core.old config.now draw (Ok sent) core.new)) }
+    ensures reloads { IfOk result (λ answer. IfOk answer (λ sent. Reloads core.old (reload core.old.world config.now draw) (Ok sent) core.new)) }
     ensures refused { IfOk result (λ answer. IfErr answer (λ refusal. config_test config.now ≡ Err refusal)) }
     ensures unchanged { IfOk result (λ answer. IfErr answer (λ refusal. (core.new ≡ core.old)
         × (probes.new.meter ≡ probes.old.meter))) }

@@ -8,7 +8,7 @@ ghost use Rattle.pim_scenario.specs.Scenario.{IsAdvance, IsCarry, IsDeliver, IsD
 ghost use Rattle.pim_scenario.specs.Scenario.{IsReload, IsRestart, IsRoutes, IsRps, IsSettle, IsTable, IsUnicast, IsUp, bytes_at, draw_at, router_at};
 ghost use Rattle.pim_scenario.specs.Texts.{Reads, ReadsExactly};
 
-use super::{RouterText, ScenarioMove, Unread, Wrong, field, hex, reload, router, routes};
+use super::{RouterText, ScenarioMove, Unread, Wrong, field, hex, places, reload, router, routes};
 use pim_types::{Event, EventKind, IfaceId, Series};
 use std::alloc::Global;
 use toml::{Table, Value};
@@ -89,13 +89,14 @@ fn restart_in(table: &Table, routers: &[RouterText]) -> Result<ScenarioMove, Unr
 fn reload_in(alloc: Global, table: &Table, routers: &[RouterText]) -> Result<ScenarioMove, Unread>
     ensures { ReadsExactly (IsReload routers.now (table_view table.now)) result }
 {
-    field::only(table, &["do", "router", "draw", "config"])?;
+    field::only(table, &["do", "router", "draw", "config", "places"])?;
     let router = router_of(table, routers)?;
     let draw = draw_in(table)?;
     Ok(ScenarioMove::Reload {
         router,
         draw,
         next: reload::config_text_in(alloc, field::table(table, "config")?)?,
+        places: places::places_in(alloc, field::list_or_empty(table, "places")?)?,
     })
 }
 

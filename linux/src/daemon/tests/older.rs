@@ -3,17 +3,17 @@ use super::shown::{samples, shown};
 use super::*;
 use crate::metrics::text;
 
-const REPORT_ONE: u8 = 0x12;
-const REPORT_TWO: u8 = 0x16;
-const LEAVE: u8 = 0x17;
+pub(super) const REPORT_ONE: u8 = 0x12;
+pub(super) const REPORT_TWO: u8 = 0x16;
+pub(super) const LEAVE: u8 = 0x17;
 const QUERY: u8 = 0x11;
 const ALL_ROUTERS: Ipv4Addr = Ipv4Addr::new(224, 0, 0, 2);
 const ALL_HOSTS: Ipv4Addr = Ipv4Addr::new(224, 0, 0, 1);
 const HOST: [u8; 4] = [10, 5, 0, 77];
 /// Robustness times the query interval, and the query response interval (RFC 3376, 8.13), in ms.
-const PRESENT: u64 = 260_000;
+pub(super) const PRESENT: u64 = 260_000;
 /// Robustness times the last member query interval (RFC 3376, 8.8), in ms.
-const LAST_MEMBER: u64 = 2_000;
+pub(super) const LAST_MEMBER: u64 = 2_000;
 
 /// The packet of an older message about a group.
 fn older(kind: u8, from: [u8; 4], group: Ipv4Addr) -> Vec<u8> {
@@ -21,24 +21,24 @@ fn older(kind: u8, from: [u8; 4], group: Ipv4Addr) -> Vec<u8> {
     packet(IGMP, from.into(), to, &summed(&[&[kind, 0, 0, 0], &group.octets()[..]].concat()))
 }
 
-fn said(kind: u8, group: Ipv4Addr) -> (Source, kernel::Event) {
+pub(super) fn said(kind: u8, group: Ipv4Addr) -> (Source, kernel::Event) {
     frame(ETH1, older(kind, HOST, group))
 }
 
 /// The version of a group, and in how many seconds its older hosts expire.
-fn version(daemon: &mut Daemon, group: Ipv4Addr) -> Option<(String, Option<u64>)> {
+pub(super) fn version(daemon: &mut Daemon, group: Ipv4Addr) -> Option<(String, Option<u64>)> {
     let rows = shown(daemon, "igmp");
     let row = rows.into_iter().find(|row| row["group"] == group.to_string() && row["source"] == "*")?;
     let seconds = row["older_expires_seconds"].as_f64().map(|seconds| seconds.ceil() as u64);
     Some((row["version"].as_str().expect("a text").to_string(), seconds))
 }
 
-fn in_mode(text: &str, seconds: Option<u64>) -> Option<(String, Option<u64>)> {
+pub(super) fn in_mode(text: &str, seconds: Option<u64>) -> Option<(String, Option<u64>)> {
     Some((text.to_string(), seconds))
 }
 
 /// What was asked on an interface since a number of packets: how long each query is, and the group.
-fn asked(fake: &Fake, index: u32, since: usize) -> Vec<(usize, Ipv4Addr)> {
+pub(super) fn asked(fake: &Fake, index: u32, since: usize) -> Vec<(usize, Ipv4Addr)> {
     let sent = fake.sent.borrow();
     let queries = sent[since..].iter().filter(|(on, _)| *on == index).filter_map(|(_, bytes)| {
         let packet = Packet::read(bytes).filter(|it| it.protocol() == IGMP && it.content()[0] == QUERY)?;

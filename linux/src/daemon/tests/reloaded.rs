@@ -63,15 +63,52 @@ fn an_interface_more_goes_up_and_one_less_goes_down() {
     let one = TWO.replace("[[interface]]\nname = \"eth0\"\n", "");
     takes(&mut daemon, &one);
     let told = |daemon: &Daemon| daemon.ports.iter().map(|port| port.standing.is_up()).collect::<Vec<_>>();
-    assert_eq!((told(&daemon), daemon.ports[0].is_removed), (vec![false, true, false], true));
+    assert_eq!((told(&daemon), daemon.name(0)), (vec![true], "eth1"));
+    assert!(daemon.core.link(1).is_none());
     assert_eq!(hellos(&fake, ETH0).last(), Some(&([10, 1, 0, 1].into(), Some(1), 0)));
     assert_ne!(fake.entry(stream).map(|it| it.outgoing & 0b01), Some(0b01));
     takes(&mut daemon, TWO);
-    assert_eq!(told(&daemon), [true, true, false]);
+    assert_eq!((told(&daemon), daemon.name(1)), (vec![true, true], "eth0"));
     assert_eq!((daemon.counters.reloaded, daemon.counters.made_anew), (3, 0));
     happens(&mut daemon, &fake, report(ETH0, [10, 1, 0, 77], stream.group));
     happens(&mut daemon, &fake, whole(stream, data(NEAR, stream.group, 0, 40)));
     assert_eq!(fake.entry(stream), FLOWS);
+}
+
+#[test]
+fn a_list_without_its_first_interface_costs_no_stream() {
+    let three = format!("[[interface]]\nname = \"eth7\"\n{TWO}");
+    let (mut daemon, fake, stream) = streaming(&three);
+    let groups = |daemon: &mut Daemon| daemon.core.rows_of::<viqeshor::GroupRow>().expect("it tells");
+    let (before, neighbours) = (groups(&mut daemon), daemon.neighbours.known.len());
+    assert_eq!((before[0].iface, daemon.ports[2].vif, neighbours), (1, Some(1), 1));
+    let written = fake.puts.get();
+    takes(&mut daemon, TWO);
+    passes(&mut daemon, &fake, 1_000);
+    assert_eq!((fake.entry(stream), fake.puts.get()), (FLOWS, written));
+    let numbers: Vec<_> = daemon.ports.iter().map(|port| (port.number, port.vif)).collect();
+    assert_eq!((numbers, daemon.core.link(2)), (vec![(0, Some(0)), (1, Some(1))], None));
+    // What the interfaces had they have at their new numbers.
+    let after: Vec<_> = before.into_iter().map(|row| viqeshor::GroupRow { iface: 0, ..row }).collect();
+    assert_eq!(groups(&mut daemon), after);
+    let neighbours: Vec<_> = daemon.neighbours.known.keys().map(|place| place.0).collect();
+    assert_eq!((neighbours, daemon.counters.reloaded, daemon.counters.made_anew), (vec![0], 1, 0));
+    // Packets come and leave by them.
+    let other = key(NEAR, [239, 1, 1, 2]);
+    happens(&mut daemon, &fake, report(ETH0, [10, 1, 0, 78], other.group));
+    happens(&mut daemon, &fake, no_cache(1, other));
+    assert_eq!(fake.entry(other), FLOWS);
+}
+
+#[test]
+fn another_order_costs_no_stream() {
+    let (mut daemon, fake, stream) = streaming(TWO);
+    let mut parts: Vec<_> = TWO.split("[[interface]]\n").collect();
+    let last = parts.len() - 1;
+    parts.swap(1, last);
+    let written = fake.puts.get();
+    takes(&mut daemon, &parts.join("[[interface]]\n"));
+    assert_eq!((fake.entry(stream), fake.puts.get()), (FLOWS, written));
 }
 
 #[test]

@@ -1,4 +1,5 @@
 //! A router in the place of another one: it goes on where that was, or says why it can't.
+use super::older::{asked, in_mode, said, version, LAST_MEMBER, LEAVE, PRESENT, REPORT_ONE, REPORT_TWO};
 use super::*;
 use crate::bfd::{Control, Session, State, Times};
 use crate::left::Left;
@@ -71,6 +72,45 @@ fn it_goes_on_and_nobody_notices() {
     passes(&mut daemon, &fake, 40_000);
     passes(&mut next, &other, 40_000);
     assert_eq!(hellos(&fake) - sent, hellos(&other));
+}
+
+/// A router that knows a host of IGMPv1, and ten seconds later one of IGMPv2 too.
+fn with_older_hosts(group: Ipv4Addr) -> (Daemon, Rc<Fake>) {
+    let (mut daemon, fake) = begun(TWO, &both());
+    happens(&mut daemon, &fake, said(REPORT_ONE, group));
+    passes(&mut daemon, &fake, 10_000);
+    happens(&mut daemon, &fake, said(REPORT_TWO, group));
+    (daemon, fake)
+}
+
+#[test]
+fn older_hosts_are_known_to_the_next_router() {
+    let group = Ipv4Addr::new(239, 2, 1, 1);
+    let (daemon, fake) = with_older_hosts(group);
+    for way in [Way::Whole, Way::Death] {
+        let other = same_machine(&fake);
+        let mut next = resumed(TWO, &other, left_by(&daemon), way);
+        assert_eq!(version(&mut next, group), in_mode("IGMPv1", Some(PRESENT / 1_000 - 10)));
+        // A Leave counts for nothing (RFC 3376, 7.3.2).
+        let before = other.sent.borrow().len();
+        happens(&mut next, &other, said(LEAVE, group));
+        passes(&mut next, &other, LAST_MEMBER + 200);
+        assert_eq!((asked(&other, ETH1, before), version(&mut next, group).is_some()), (Vec::new(), true));
+        passes(&mut next, &other, PRESENT - 12_200);
+        assert_eq!(version(&mut next, group), in_mode("IGMPv2", Some(10)));
+    }
+}
+
+#[test]
+fn the_next_router_keeps_the_older_hosts_that_it_hears() {
+    let group = Ipv4Addr::new(239, 2, 1, 1);
+    let (daemon, fake) = with_older_hosts(group);
+    for (hosts, wanted) in [("v2", in_mode("IGMPv2", Some(PRESENT / 1_000))), ("none", in_mode("IGMPv3", None))] {
+        let other = same_machine(&fake);
+        let settings = format!("[igmp]\nolder_hosts = \"{hosts}\"\n{TWO}");
+        let mut next = resumed(&settings, &other, left_by(&daemon), Way::Whole);
+        assert_eq!(version(&mut next, group), wanted);
+    }
 }
 
 #[test]
@@ -153,7 +193,7 @@ fn an_interface_less_goes_down_and_one_more_is_taken() {
     let (daemon, fake, ..) = at_work();
     let one = TWO.replace("[[interface]]\nname = \"eth1\"\n", "");
     let next = resumed(&one, &same_machine(&fake), left_by(&daemon), Way::Whole);
-    assert!(next.ports[0].standing.is_up() && next.ports[1].is_removed && !next.ports[1].standing.is_up());
+    assert!(next.ports[0].standing.is_up() && next.ports.len() == 1 && next.core.link(1).is_none());
     let three = format!("{TWO}[[interface]]\nname = \"eth7\"\n");
     let next = resumed(&three, &same_machine(&fake), left_by(&daemon), Way::Whole);
     assert_eq!((next.counters.made_anew, next.counters.reloaded, next.ports.len()), (0, 1, 3));

@@ -32,6 +32,7 @@ REFUSALS = {
     38: "ConfiguredRps",
     39: "BadScenario",
     70: "OwnAddresses",
+    73: "PlacesDontFit",
 }
 # The numbers of reasons to ignore.
 IGNORED = {

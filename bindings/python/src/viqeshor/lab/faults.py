@@ -35,11 +35,12 @@ MOVE_KEYS = {
     "carry": ["router", "frame", "draw"],
     "settle": ["draw"],
     "restart": ["router"],
-    "reload": ["router", "draw", "config"],
+    "reload": ["router", "draw", "config", "places"],
 }
 ROUTE_FORM = '"PREFIX NEXTHOP IFACE PREFERENCE METRIC", as "10.1.0.0/24 10.0.0.1 0 110 20"'
 RP_FORM = '"PREFIX RP", as "239.0.0.0/8 10.0.0.1"'
 ADDRESS_FORM = '"ADDRESS", as "10.255.0.1"'
+PLACE_FORM = 'the number of an interface of the configuration as a text, as "0", or "none"'
 FORMS = {
     "name": 'a text, as name = "edge"',
     "iface of a router": 'a list of interfaces, as iface = [{ link = "lan", address = "10.0.0.1/24" }]',
@@ -53,6 +54,7 @@ FORMS = {
     "hex": "an IPv4 packet in hexadecimal, two digits a byte and no blanks",
     "draw": "a whole number from 0",
     "config": "a table with the keys of a router but its name",
+    "list of places": f"a list with an item for each interface that the router has, each {PLACE_FORM}",
     "list of addresses": f"a list of the router's own addresses of no interface, each {ADDRESS_FORM}",
     "list of routes": f"a list of routes, each {ROUTE_FORM}",
     "list of rps": f"a list of RP ranges, each {RP_FORM}",
@@ -319,6 +321,10 @@ class Judge:
             return self.fault(inner.line, place, f'"{inner.held}" is no address: {more}')
         return Own(inner.line, address)
 
+    def place(self, _: list[str], inner: toml_lines.Value, place: str) -> None:
+        if inner.held != "none" and number_in(inner.held) is None:
+            self.fault(inner.line, place, f'"{inner.held}" is no place: wanted is {PLACE_FORM}')
+
     def route(self, words: list[str], inner: toml_lines.Value, place: str) -> Route | None:
         if len(words) != 5:
             what = f'"{inner.held}" has {count(words)}, and a route has five: {ROUTE_FORM}'
@@ -377,6 +383,7 @@ class Judge:
             self.entries(kind, table, where)
         if "config" in keys:
             self.config(table, where)
+            self.texts(table, "places", where, self.place, FORMS["list of places"], False)
 
     def config(self, table: toml_lines.Value, where: str) -> None:
         """The configuration of a move `reload`. The interfaces that it adds are kept with its router."""

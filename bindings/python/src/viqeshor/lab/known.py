@@ -11,7 +11,7 @@ from typing import TYPE_CHECKING, Any, TypeVar
 
 from viqeshor.lab import packets, printed, wishes
 from viqeshor.lab.addresses import ranges_of, routes_of
-from viqeshor.lab.scenario import router_of
+from viqeshor.lab.scenario import numbers_after, places_of, router_of
 from viqeshor.lab.twin import Twin
 
 if TYPE_CHECKING:
@@ -155,18 +155,20 @@ def follow(state: Known, step: Step) -> None:
         case "rps":
             state.rps = ranges_of(step.did["list"])
         case "reload":
-            reload(state, step.did["config"])
+            reload(state, step.did)
         case "frame" | "deliver" | "settle":
             hear_query(state, step)
 
 
-def reload(state: Known, config: dict[str, Any]) -> None:
-    """Another configuration. What interfaces were that are removed stays to be looked up."""
-    made = router_of({**config, "name": state.router.name})
-    count = len(made.interfaces)
-    made.interfaces += state.router.interfaces[count:]
+def reload(state: Known, did: dict[str, Any]) -> None:
+    """Another configuration. What interfaces were that are removed stays to be looked up, where they keep their numbers.
+    """
+    made = router_of({**did["config"], "name": state.router.name})
+    if places_of(did) is None:
+        made.interfaces += state.router.interfaces[len(made.interfaces):]
     state.router, state.routes, state.rps = made, made.routes, made.rps
-    state.queriers = {number: sender for number, sender in state.queriers.items() if number < count}
+    there = numbers_after(did)
+    state.queriers = {there[number]: sender for number, sender in state.queriers.items() if number in there}
 
 
 def hear_query(state: Known, step: Step) -> None:

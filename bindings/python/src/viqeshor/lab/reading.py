@@ -66,9 +66,9 @@ def moves_until(moves: list[dict[str, Any]], until: float | None) -> Iterator[di
         yield move
 
 
-def put_ports(router: Router, table: dict[str, Any]) -> None:
-    """Gives a router the interfaces of a configuration. Those that are up stay so."""
-    links, were = router.net.links, {port.number for port in router.ports if port.is_working}
+def put_ports(router: Router, table: dict[str, Any], there: dict[int, int] | None = None) -> None:
+    """Gives a router the interfaces of a configuration. Those that are up stay so, and have these numbers then."""
+    links, were = router.net.links, {(there or {}).get(port.number) for port in router.ports if port.is_working}
     for port in router.ports:
         port.link.ports.remove(port)
     router.ports.clear()
@@ -136,7 +136,7 @@ class Script:
         elif step.verdict == "done" and did["do"] == "routes":
             put_routes(router, did["list"])
         elif step.verdict == "done" and did["do"] == "reload":
-            put_ports(router, did["config"])
+            put_ports(router, did["config"], scenario.numbers_after(did))
             put_routes(router, did["config"].get("routes", []))
 
     def hear(self, step: Step) -> None:

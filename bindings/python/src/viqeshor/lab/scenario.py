@@ -125,6 +125,19 @@ def interfaces_of(table: dict[str, Any]) -> list[Interface]:
     return [interface_of(number, row) for number, row in enumerate(table["iface"])]
 
 
+def places_of(did: dict[str, Any]) -> list[int | None] | None:
+    """Where the interfaces of a router go by a move `reload`, by their numbers before it; None where they keep these."""
+    return [None if text == "none" else int(text) for text in did.get("places", [])] or None
+
+
+def numbers_after(did: dict[str, Any]) -> dict[int, int]:
+    """The numbers that interfaces have after a move `reload`, by those before it. Those that go have none."""
+    places = places_of(did)
+    if places is None:
+        return {number: number for number, _ in enumerate(did["config"]["iface"])}
+    return {number: place for number, place in enumerate(places) if place is not None}
+
+
 def later_interfaces(config: dict[str, Any]) -> list[Interface]:
     """The interfaces of a move `reload`; none where the router refuses an address."""
     try:

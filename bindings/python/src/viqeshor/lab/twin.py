@@ -7,6 +7,7 @@ from typing import TYPE_CHECKING, Any
 
 import viqeshor
 from viqeshor.lab import fed, printed
+from viqeshor.lab.scenario import places_of
 from viqeshor.rows import ends
 
 if TYPE_CHECKING:
@@ -28,6 +29,16 @@ def new_router(table: dict[str, Any], library: str | PathLike[str] | None = None
         library=library,
         **fed.settings(table)
     )
+    return set_as(router, table)
+
+
+def restored(state: bytes, table: dict[str, Any]) -> viqeshor.Router:
+    """A router of a state that was saved under a scenario's configuration."""
+    return set_as(viqeshor.Router.restore(state), table)
+
+
+def set_as(router: viqeshor.Router, table: dict[str, Any]) -> viqeshor.Router:
+    """A router that is new or restored, with the guard and the older versions that a scenario's configuration says."""
     router.set_guard(fed.has_guard(table))
     for iface, _ in enumerate(table["iface"]):
         if "older_hosts" in table:
@@ -40,7 +51,7 @@ def new_router(table: dict[str, Any], library: str | PathLike[str] | None = None
 def event_of(step: Step) -> fed.Event | None:
     """The event that a step was to its router, of which a `reload` is one too."""
     if step.did["do"] == "reload":
-        return fed.Event("reload", step.did.get("draw", 0), (step.did["config"],))
+        return fed.Event("reload", step.did.get("draw", 0), (step.did["config"], places_of(step.did)))
     return fed.event(step)
 
 
@@ -56,16 +67,18 @@ def take(router: viqeshor.Router, event: fed.Event, table: dict[str, Any]) -> vi
 def reload(router: viqeshor.Router, event: fed.Event, before: dict[str, Any]) -> viqeshor.Answer:
     """What a router answers to another configuration. Interfaces that are new, or where another setting is, hear older
     hosts as it says."""
-    (config,) = event.values
+    config, places = event.values
     lists = fed.interfaces(config), fed.ranges(config.get("rps", [])), fed.routes(config.get("routes", []))
     try:
-        router.reload(*lists, draw=event.draw, **fed.settings(config))
+        router.reload(*lists, places=places, draw=event.draw, **fed.settings(config))
     except viqeshor.Refused as refused:
         return refused.answer
     router.set_guard(fed.has_guard(config))
     was, hosts = (table.get("older_hosts", "none") for table in (before, config))
-    for iface in range(0 if hosts != was else len(before["iface"]), len(config["iface"])):
-        router.set_older_hosts(iface, hosts)
+    stay = range(len(before["iface"])) if places is None else places
+    for iface, _ in enumerate(config["iface"]):
+        if hosts != was or iface not in stay:
+            router.set_older_hosts(iface, hosts)
     for iface, _ in enumerate(config["iface"]):
         router.set_query_version(iface, config.get("query_version", 3))
     return viqeshor.Answer.DONE
@@ -123,23 +136,21 @@ class Twin:
             for event in self.events[self.taken:at]:
                 self.take(event)
             self.taken = at
-            # A saved state has no groups in an older mode.
-            if at % APART == 0 and self.table.get("older_hosts", "none") == "none":
+            if at % APART == 0:
                 self.saved.setdefault(at, (self.router.save(), self.table))
         return self.router
 
     def take(self, event: fed.Event) -> None:
         answer, self.sent = take(self.router, event, self.table), self.router.packets()
         if event.name == "reload" and answer == viqeshor.Answer.DONE:
-            (self.table,) = event.values
+            self.table, _ = event.values
 
     def begin(self, count: int) -> None:
         """Begins at the last state that was saved, up to so many events."""
         self.taken = max((at for at in self.saved if at <= count), default=0)
         if self.taken:
             state, self.table = self.saved[self.taken]
-            self.router = viqeshor.Router.restore(state)
-            self.router.set_guard(fed.has_guard(self.table))
+            self.router = restored(state, self.table)
         else:
             self.table = self.first
             self.router = new_router(self.table)
@@ -155,6 +166,4 @@ class Twin:
 
     def copy(self, count: int) -> viqeshor.Router:
         """Another router after so many events, which may take others from then on."""
-        router = viqeshor.Router.restore(self.after(count).save())
-        router.set_guard(fed.has_guard(self.table))
-        return router
+        return restored(self.after(count).save(), self.table)

@@ -172,7 +172,8 @@ def move(did: dict[str, Any], router: Router | None, brought: Sent | None = None
             return "is saved, and made anew of its bytes"
         case "reload":
             count = len(did["config"]["iface"])
-            return f"gets another configuration, of {count} interface{'' if count == 1 else 's'}"
+            by = f", by the places {', '.join(did['places'])}" if did.get("places") else ""
+            return f"gets another configuration, of {count} interface{'' if count == 1 else 's'}{by}"
     return did["do"]
 
 

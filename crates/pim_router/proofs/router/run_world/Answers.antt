@@ -16,8 +16,8 @@ loop-event-init c = (
   c.requires.once,
 )
 
-pub take_next-requires : goal.take_next-requires
-take_next-requires c = c.loop-event.invariant.1
+pub take_next-requires-clause-stands : goal.take_next-requires-clause-stands
+take_next-requires-clause-stands c = c.loop-event.invariant.1
 
 pub loop-event-preserved : goal.loop-event-preserved
 loop-event-preserved c =
@@ -33,7 +33,7 @@ loop-event-preserved c =
           (c.in_ok-push.ensures.items ∙ ap (λ o. c.loop-event.outcomes.items ++ o ∷ []) stepped.outcome) invariant.0,
       c.in_ok-take_next.ensures.stands,
       counts_next first events i before after.world c.event-item.result c.loop-event.probes.meter
-          (touches c.loop-event.core.cache) c.take_next.new.probes.meter (touches after.cache) c.loop-event-test.true
+          (touches c.loop-event.core.cache) c.take_next.new.meter (touches after.cache) c.loop-event-test.true
           c.event-item.is stepped.state stepped.cache.cheap invariant.2,
       lists_next first events i before c.event-item.result after.cache.changed c.loop-event-test.true c.event-item.is
           invariant.2.state_is stepped.cache.listed,

@@ -10,15 +10,15 @@ use Rattle.pim_fanout.proofs.cache.Cache.refresh_rows.Goals as goal
 
 pub loop-name-init : goal.loop-name-init
 unfolding refreshed is_listed
-loop-name-init c = record {
+loop-name-init g c = record {
   shown = λ cache shows. shows;
   few = sym (raised_by_none (touches c.args.self.now));
   listed = (refl, refl);
 }
 
 pub loop-name-preserved : goal.loop-name-preserved
-loop-name-preserved c =
-    let s = c.args.world.now in
+loop-name-preserved g c =
+    let s = g.W.Evaluates.state c.args.world.now in
     let names = c.args.names.now in
     let i = c.loop-name.name-index in
     let none : SourceGroup = record { group = addr 0; source = addr 0 } in
@@ -39,6 +39,6 @@ loop-name-preserved c =
     }
 
 pub returns-clause-few : goal.returns-clause-few
-returns-clause-few c =
-    subst (λ ns. touches c.loop-name.self ≡ raised (touches c.args.self.now) (touches_in c.args.world.now (keys_of ns)))
+returns-clause-few g c =
+    subst (λ ns. touches c.loop-name.self ≡ raised (touches c.args.self.now) (touches_in (g.W.Evaluates.state c.args.world.now) (keys_of ns)))
     (take_all c.loop-name.name-index c.args.names.now c.loop-name-test.false) c.loop-name.invariant.few

@@ -10,7 +10,7 @@ returns-then-router-len-clause-outcome c =
     if_some c.args.self.now _ (λ net is.
     c.bad_move.ensures
     ∙ ap (λ (m : Outcome × Network). m.0)
-    (sym (nowhere (node_of c.args.node) c.args.draw c.self.inside.stations.items c.self.inside.frames.items net
+    (sym (nowhere c.args.renewal.places (node_of c.args.renewal.node) c.args.draw c.self.inside.stations.items c.self.inside.frames.items net
     (shows _ _ net (c.self.view_is ∙ is)) c.args.router past)))
 
 pub returns-then-router-len-clause-network : goal.returns-then-router-len-clause-network
@@ -19,7 +19,7 @@ returns-then-router-len-clause-network c =
     if_some c.args.self.now _ (λ net is.
     is
     ∙ ap (λ (m : Outcome × Network). Some m.1)
-    (sym (nowhere (node_of c.args.node) c.args.draw c.self.inside.stations.items c.self.inside.frames.items net
+    (sym (nowhere c.args.renewal.places (node_of c.args.renewal.node) c.args.draw c.self.inside.stations.items c.self.inside.frames.items net
     (shows _ _ net (c.self.view_is ∙ is)) c.args.router past)))
 
 pub returns-clause-outcome : goal.returns-clause-outcome
@@ -27,7 +27,7 @@ returns-clause-outcome c =
     let within : c.args.router < length c.self.inside.stations.items = search rules in
     let at = slice_get_read c.self.inside.stations.items _ c.args.router c.index_mut.result.now refl within c.index_mut.ensures.value in
     if_some c.args.self.now _ (λ net is.
-    outcome_is (node_of c.args.node) c.args.draw c.self.inside.stations.items c.self.inside.frames.items net
+    outcome_is c.args.renewal.places (node_of c.args.renewal.node) c.args.draw c.self.inside.stations.items c.self.inside.frames.items net
     (shows _ _ net (c.self.view_is ∙ is)) c.args.router c.index_mut.result.now at
     c.put_under.new.station c.put_under.new.frames.items c.put_under.result c.put_under.ensures.done c.put_under.ensures.refused)
 
@@ -36,7 +36,7 @@ returns-clause-network c =
     let within : c.args.router < length c.self.inside.stations.items = search rules in
     let at = slice_get_read c.self.inside.stations.items _ c.args.router c.index_mut.result.now refl within c.index_mut.ensures.value in
     if_some c.args.self.now _ (λ net is.
-    network_is (node_of c.args.node) c.args.draw c.self.inside.stations.items c.self.inside.frames.items net
+    network_is c.args.renewal.places (node_of c.args.renewal.node) c.args.draw c.self.inside.stations.items c.self.inside.frames.items net
     (shows _ _ net (c.self.view_is ∙ is)) c.args.router c.index_mut.result.now at
     c.put_under.new.station c.put_under.new.frames.items c.put_under.result c.put_under.ensures.state c.put_under.ensures.frames
     c.put_under.ensures.refused)
@@ -46,6 +46,6 @@ returns-clause-fault c =
     let within : c.args.router < length c.self.inside.stations.items = search rules in
     let at = slice_get_read c.self.inside.stations.items _ c.args.router c.index_mut.result.now refl within c.index_mut.ensures.value in
     if_some c.args.self.now _ (λ net is.
-    fault_is (node_of c.args.node) c.args.draw c.self.inside.stations.items c.self.inside.frames.items net
+    fault_is c.args.renewal.places (node_of c.args.renewal.node) c.args.draw c.self.inside.stations.items c.self.inside.frames.items net
     (shows _ _ net (c.self.view_is ∙ is)) c.args.router c.index_mut.result.now at
     c.put_under.result c.put_under.ensures.fault)

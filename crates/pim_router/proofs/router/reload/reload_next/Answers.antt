@@ -1,5 +1,6 @@
 use Rattle.std.{proofs.{Common.subst, lemmas.Result.on_ok_weaker}}
 use Rattle.pim_types.{specs.declared.config.Config.Config}
+use Rattle.law_reloaded.{specs.Reloading.reload}
 use Rattle.pim_reloader.{specs.Reloads.Reloads}
 use Rattle.pim_router.{proofs.{Accepted.stands_next, Reloaded.{opens_with, reloaded_accepted, reloaded_near, reloaded_rests}}}
 use Rattle.pim_router.proofs.router.reload.reload_next.Goals as goal
@@ -9,7 +10,7 @@ reload-requires c = record { rest = c.requires.stands.rest; shown = c.requires.s
 
 pub returns-clause-reloads : goal.returns-clause-reloads
 returns-clause-reloads c =
-    subst (λ (d : Config). Reloads c.args.core.now d c.args.draw c.reload.result c.reload.new.core)
+    subst (λ (d : Config). Reloads c.args.core.now (reload c.args.core.now.world d c.args.draw) c.reload.result c.reload.new.core)
     (opens_with c.args.config.now c.args.next c.requires.opens) c.reload.ensures
 
 pub returns-clause-stands : goal.returns-clause-stands

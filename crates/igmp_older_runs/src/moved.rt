@@ -1,0 +1,14 @@
+//! What a front remembers goes with its interfaces, computed by the kernel.
+ghost use Rattle.igmp_older_runs.specs.Moved.{RememberedRowsMove, SettingsMove};
+
+/// Rows are at the new numbers of their interfaces, and one whose interface is left out is gone.
+#[tactic(auto, unfolding(igmp_older::specs::Placed::new_place, igmp_older::specs::Placed::placed_rows, pim_model::specs::Tables::keys_in, pim_model::specs::Tables::put))]
+pub fn remembered_rows_move()
+    ensures { RememberedRowsMove }
+{}
+
+/// So are settings, and an interface to which none goes is unset.
+#[tactic(auto, unfolding(igmp_older::specs::Placed::old_place, igmp_older::specs::Placed::setting_placed))]
+pub fn settings_move()
+    ensures { SettingsMove }
+{}

@@ -1,0 +1,28 @@
+use Rattle.std.{proofs.{Common.subst, lemmas.Result.on_ok_weaker}}
+use Rattle.pim_types.{specs.declared.config.Config.Config}
+use Rattle.law_placed.{specs.Placing.reload_by}
+use Rattle.pim_reloader.{specs.Reloads.Reloads}
+use Rattle.pim_router.{proofs.{Accepted.stands_next, Reloaded.{opens_with, placed_accepted, placed_near, placed_rests}}}
+use Rattle.pim_router.proofs.router.places.place_next.Goals as goal
+
+pub returns-clause-reloads : goal.returns-clause-reloads
+returns-clause-reloads c =
+    subst (λ (d : Config). Reloads c.args.core.now (reload_by c.args.core.now.world c.args.places.now d c.args.draw) c.reload_places.result
+    c.reload_places.new.core) (opens_with c.args.config.now c.args.next.now c.requires.opens) c.reload_places.ensures
+
+pub returns-clause-stands : goal.returns-clause-stands
+returns-clause-stands c =
+    let s = c.args.core.now.world in
+    let t = c.reload_places.new.core.world in
+    let m = c.args.places.now in
+    stands_next c.reload_places.new.core c.reload_places.result
+    (on_ok_weaker c.reload_places.result
+    (λ same. placed_rests s t c.args.next.now m c.args.config.now c.args.draw c.requires.opens same c.requires.stands.accepted
+    c.requires.accepted c.requires.stands.rest) c.reload_places.ensures.state)
+    c.reload_places.ensures.shown
+    (on_ok_weaker c.reload_places.result
+    (λ same. placed_accepted s t c.args.next.now m c.args.config.now c.args.draw c.requires.opens same c.requires.accepted)
+    c.reload_places.ensures.state)
+    (on_ok_weaker c.reload_places.result
+    (λ same. placed_near s t c.args.next.now m c.args.config.now c.args.draw c.requires.opens same c.requires.fit
+    c.requires.stands.near) c.reload_places.ensures.state)

@@ -1,0 +1,160 @@
+//! Another configuration in the session's router, by a map of places.
+ghost use Rattle.std.specs.Prelude.{◌≡◌, ◌↔◌, [], Err, IfErr, IfOk, IfSome, IsOkUnless, IsTrue, None, Ok, OnErr, OnOk, Some};
+ghost use Rattle.pim_event.specs.Replacing.{NoneReplaced};
+ghost use Rattle.pim_ip.specs.declared.fault.Fault.{Fault};
+ghost use Rattle.law_placed.specs.Placing.{reload_by};
+ghost use Rattle.pim_reloader.specs.Listing.{ListsFacts};
+ghost use Rattle.law_history.specs.History.{Given};
+ghost use Rattle.pim_router.specs.Asked.{LeadsOn, places_test};
+ghost use Rattle.pim_router.specs.Standing.{beginning};
+ghost use Rattle.pim_session.specs.Front.{emissions_left};
+ghost use Rattle.pim_session.specs.Placed.{front_reloaded_by};
+ghost use Rattle.pim_session.specs.Untaken.{IsMemoryAlone, Stopped, has_untaken};
+ghost use Rattle.pim_session.specs.declared.stop.Stop.{Stop as StopValue};
+ghost use Rattle.pim_state.specs.declared.touched.Touched.{Touched as TouchedValue};
+
+use super::Session;
+use crate::behind::times_in;
+use crate::front::Front;
+use crate::stop::Stop;
+use pim_router::Router;
+use pim_types::{Config, Emission, Fault, Refusal};
+use std::alloc::{AllocError, Global};
+use std::mem;
+
+impl Session {
+    /// Puts the router under another configuration by a map of places, as `Router::reload_places` does, and keeps the
+    /// packets that leave, each on the old interface of its link. Where something stands before the router, queries
+    /// leave as the versions of the old interfaces say; after that the settings of each old interface, and what it
+    /// heard, are those of the interface that has its link. What one heard that is left out is forgotten, and one that
+    /// is new hears nobody and queries in version 3. As many older hosts are remembered as the new limit says, or as are
+    /// remembered then if these are more. Rows that were read are dropped. A refusal changes nothing. While packets of
+    /// the event before are untaken the answer is `Untaken`, and nothing changes. After a fault the rows are unchanged,
+    /// and the session answers `Failed` from then on.
+    pub fn reload_places(
+        &mut self,
+        alloc: Global,
+        draw: u32,
+        config: &Config,
+        places: &[Option<u32>],
+    ) -> Result<Result<(), Refusal>, Stop>
+        ensures accepted { IfSome self.old.router.standing (λ r. IfOk result (λ answer. OnOk answer
+            (places_test r.state places.now config.now ≡ Ok tt))) }
+        ensures state { IfSome self.old.router.standing (λ r. IfOk result (λ answer. OnOk answer
+            (self.new.router.standing ≡ Some (beginning (reload_by r.state places.now config.now draw).0)))) }
+        ensures sent { IfSome self.old.router.standing (λ r. IfOk result (λ answer. OnOk answer
+            (self.new.sent ≡ emissions_left self.old.front (reload_by r.state places.now config.now draw).1))) }
+        ensures led { IfSome self.old.router.standing (λ r. IfOk result (λ answer. OnOk answer (IfSome self.new.router.standing (λ after.
+            LeadsOn r.state (Given.Placed places.now config.now draw) after.state)))) }
+        ensures front { IfSome self.old.router.standing (λ r. IfOk result (λ answer. OnOk answer
+            (self.new.front ≡ front_reloaded_by places.now (reload_by r.state places.now config.now draw).0 self.old.front))) }
+        ensures changed { IfSome self.old.router.standing (λ r. IfOk result (λ answer. OnOk answer
+            (ListsFacts r.state (reload_by r.state places.now config.now draw).0 self.new.router.changed))) }
+        ensures disturbed { IfOk result (λ answer. OnOk answer
+            (self.new.router.disturbed ≡ record { touched = TouchedValue.All; replaced = NoneReplaced })) }
+        ensures guard { self.new.guard ≡ self.old.guard }
+        ensures rows { IfOk result (λ answer. OnOk answer ((self.new.rows ≡ []) × (self.new.older_rows ≡ []))) }
+        ensures refused { IfSome self.old.router.standing (λ r. IfOk result (λ answer. IfErr answer (λ refusal.
+            (places_test r.state places.now config.now ≡ Err refusal) × (self.new ≡ self.old)))) }
+        ensures untaken { IfSome self.old.router.standing (λ r.
+            (result ≡ Err StopValue.Untaken) ↔ IsTrue (has_untaken self.old)) }
+        ensures stopped { IfErr result (λ stop. Stopped stop self.old self.new) }
+        ensures silent { OnErr result ((self.new.sent ≡ self.old.sent) × (self.new.rows ≡ self.old.rows)
+            × (self.new.older_rows ≡ self.old.older_rows)) }
+        ensures failed { (result ≡ Err (StopValue.Fault Fault.Failed)) ↔ (self.old.router.standing ≡ None) }
+        ensures fault { IfSome self.old.router.standing (λ r. IfErr result IsMemoryAlone) }
+    {
+        if self.is_lost {
+            return Err(Stop::Fault(Fault::Failed));
+        }
+        if self.has_untaken() {
+            return Err(Stop::Untaken);
+        }
+        match reload(
+            alloc,
+            self.router.as_mut(),
+            &mut self.front,
+            draw,
+            config,
+            places,
+        ) {
+            Ok(Ok(sent)) => {
+                self.keep_sent(sent);
+                self.rows = Vec::new(alloc);
+                self.older_rows = Vec::new(alloc);
+                Ok(Ok(()))
+            }
+            Ok(Err(refusal)) => Ok(Err(refusal)),
+            Err(fault) => {
+                self.is_lost = true;
+                Err(Stop::Fault(fault))
+            }
+        }
+    }
+}
+
+// What leaves of what the router sent, and what stands before it by a map of places, if anything does.
+#[tactic(auto, unfolding(crate::specs::Front::emissions_left, crate::specs::Placed::front_reloaded_by))]
+fn follow(
+    alloc: Global,
+    router: &Router,
+    front: Option<Front>,
+    places: &[Option<u32>],
+    sent: Vec<Emission>,
+) -> Result<(Vec<Emission>, Option<Front>), AllocError>
+    ensures left { IfOk result (λ told. told.0.items ≡ emissions_left front sent.items) }
+    ensures front { IfSome router.now.standing (λ r. IfOk result (λ told.
+        told.1 ≡ front_reloaded_by places.now r.state front)) }
+{
+    let Some(mut standing) = front else {
+        return Ok((sent, None));
+    };
+    let left = standing.emissions_left(alloc, sent)?;
+    standing.place(
+        router.limit(),
+        router.interface_count(),
+        places,
+        times_in(router),
+    )?;
+    Ok((left, Some(standing)))
+}
+
+// Puts a router under another configuration by a map of places, and what stands before it. The result is what leaves. What
+// stands before the router is lost by a fault.
+#[tactic(auto, unfolding(pim_router::specs::Asked::places_test))]
+fn reload(
+    alloc: Global,
+    router: &mut Router,
+    front: &mut Option<Front>,
+    draw: u32,
+    config: &Config,
+    places: &[Option<u32>],
+) -> Result<Result<Vec<Emission>, Refusal>, Fault>
+    ensures accepted { IfSome router.old.standing (λ r. IfOk result (λ answer. OnOk answer
+        (places_test r.state places.now config.now ≡ Ok tt))) }
+    ensures state { IfSome router.old.standing (λ r. IfOk result (λ answer. OnOk answer
+        (router.new.standing ≡ Some (beginning (reload_by r.state places.now config.now draw).0)))) }
+    ensures sent { IfSome router.old.standing (λ r. IfOk result (λ answer. IfOk answer (λ sent.
+        sent.items ≡ emissions_left front.old (reload_by r.state places.now config.now draw).1))) }
+    ensures led { IfSome router.old.standing (λ r. IfOk result (λ answer. OnOk answer (IfSome router.new.standing (λ after.
+        LeadsOn r.state (Given.Placed places.now config.now draw) after.state)))) }
+    ensures front { IfSome router.old.standing (λ r. IfOk result (λ answer. OnOk answer
+        (front.new ≡ front_reloaded_by places.now (reload_by r.state places.now config.now draw).0 front.old))) }
+    ensures changed { IfSome router.old.standing (λ r. IfOk result (λ answer. OnOk answer
+        (ListsFacts r.state (reload_by r.state places.now config.now draw).0 router.new.changed))) }
+    ensures disturbed { IfOk result (λ answer. OnOk answer
+        (router.new.disturbed ≡ record { touched = TouchedValue.All; replaced = NoneReplaced })) }
+    ensures refused { IfSome router.old.standing (λ r. IfOk result (λ answer. IfErr answer (λ refusal.
+        (places_test r.state places.now config.now ≡ Err refusal) × (router.new ≡ router.old) × (front.new ≡ front.old)))) }
+    ensures fault { IfSome router.old.standing (λ r. IsOkUnless result Fault.Memory) }
+{
+    let mut sent = Vec::new(alloc);
+    match router.reload_places(draw, config, places, &mut sent)? {
+        Ok(()) => {
+            let (left, after) = follow(alloc, router, mem::replace(front, None), places, sent)?;
+            *front = after;
+            Ok(Ok(left))
+        }
+        Err(refusal) => Ok(Err(refusal)),
+    }
+}

@@ -1,0 +1,54 @@
+//! The session as bytes, and a session made of them.
+ghost use Rattle.std.specs.Prelude.{◌≡◌, ◌++◌, ◌↔◌, [], Err, IfErr, IfOk, IfSome, IsOkUnless, None, Ok, OnErr, OnOk, true};
+ghost use Rattle.pim_ip.specs.declared.fault.Fault.{Fault};
+ghost use Rattle.pim_rested.specs.Resuming.{IsResumable};
+ghost use Rattle.pim_router.specs.Standing.{begun};
+ghost use Rattle.igmp_older_saved.specs.Reading.{held_reading, held_restore_test};
+ghost use Rattle.igmp_older_saved.specs.Text.{Held, held_text, FitsHeld};
+ghost use Rattle.pim_session.specs.Leaving.{GoesOnFrom};
+ghost use Rattle.pim_session.specs.Saved.{front_resumed, held_of};
+
+use super::Session;
+use crate::saved;
+use igmp_older_saved::HeldRefusal;
+use pim_types::Fault;
+use std::alloc::Global;
+
+impl Session {
+    /// A session of the router that is in the state that these bytes say, as `Router::restore` makes it, behind a front that
+    /// has the rows of older hosts in them. Nobody is heard until `set_older_hosts` says otherwise, and no packets and no
+    /// rows are kept. The fault is want of memory.
+    pub fn restore(alloc: Global, bytes: &[u8]) -> Result<Result<Session, HeldRefusal>, Fault>
+        ensures restored { IfOk result (λ made. IfOk made (λ s. (h : Held) → held_reading bytes.now ≡ Ok h
+            → (s.router ≡ begun h.state) × (s.front ≡ front_resumed h.state h.hosts))) }
+        ensures led { IfOk result (λ made. IfOk made (λ s. IfSome s.router.standing (λ r. GoesOnFrom bytes.now r.state))) }
+        ensures tested { IfOk result (λ made. IfOk made (λ s. held_restore_test bytes.now ≡ Ok tt)) }
+        ensures rest { IfOk result (λ made. IfOk made (λ s. (s.guard ≡ true) × (s.sent ≡ []) × (s.rows ≡ [])
+            × (s.older_rows ≡ []))) }
+        ensures refused { IfOk result (λ made. IfErr made (λ refusal. held_restore_test bytes.now ≡ Err refusal)) }
+        ensures memory { IfErr result (λ fault. fault ≡ Fault.Memory) }
+    {
+        match saved::restore(alloc, bytes)? {
+            Ok((router, front)) => Ok(Ok(Session::of(alloc, Box::new(alloc, router)?, front))),
+            Err(refusal) => Ok(Err(refusal)),
+        }
+    }
+
+    /// Adds the bytes of the router's state after those that are there, with the rows of older hosts that the router's
+    /// front has; without any they are those of `Router::save`. What is set of interfaces and of the guard isn't in them,
+    /// nor are the packets and the rows that are kept. After a fault the bytes are as they were.
+    pub fn save(&self, out: &mut Vec<u8>) -> Result<(), Fault>
+        ensures saved { IfSome self.now.router.standing (λ r. OnOk result
+            (out.new.items ≡ out.old.items ++ held_text (held_of r.state self.now.front))) }
+        ensures fitting { IfSome self.now.router.standing (λ r. OnOk result (FitsHeld (held_of r.state self.now.front))) }
+        ensures resumable { IfSome self.now.router.standing (λ r. IsResumable r.state) }
+        ensures silent { OnErr result (out.new.items ≡ out.old.items) }
+        ensures failed { (result ≡ Err Fault.Failed) ↔ (self.now.router.standing ≡ None) }
+        ensures fault { IfSome self.now.router.standing (λ r. IsOkUnless result Fault.Memory) }
+    {
+        if self.is_lost {
+            return Err(Fault::Failed);
+        }
+        saved::save(&self.router, &self.front, out)
+    }
+}
