@@ -447,5 +447,6 @@ def recorded(net: Network) -> str:
     return "; ".join(said)
 
 
-TRIALS = [list_without_its_first, upgrade, program_that_hangs, upgrade_by_reload, session_goes_on, another_limit, recorded, killed, restarted,
-          restarted_session, join_while_dead, killed_with_many_groups, killed_long_ago, ends_in_order]
+TRIALS = [list_without_its_first, upgrade, program_that_hangs, upgrade_by_reload, session_goes_on, another_limit,
+          recorded, killed, restarted, restarted_session, join_while_dead, killed_with_many_groups, killed_long_ago,
+          ends_in_order]

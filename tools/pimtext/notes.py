@@ -125,8 +125,8 @@ class Notes:
     def wrong_places(self, step: story.Step) -> str:
         """Why a map of places doesn't fit."""
         there, count = places_of(step.did) or [], len(step.did["config"]["iface"])
-        if len(there) != self.present(step):
-            return f"`places` has {len(there)} items, and the router has {self.present(step)} interfaces: nothing changes"
+        if len(there) != (present := self.present(step)):
+            return f"`places` has {len(there)} items, and the router has {present} interfaces: nothing changes"
         numbers = [number for number in there if number is not None]
         wrong = [f"no interface of `config` has the number {number}" for number in numbers if number >= count]
         wrong += [f"{number} stands twice" for number in dict.fromkeys(numbers) if numbers.count(number) > 1]

@@ -20,7 +20,8 @@ OF_KIT = ("byteorder",)
 PARTS = {
     "law_settled": ("Laws", "Ready"), "law_scope": ("Locality", "Rest", "Scopes"), "law_restored": ("Reload",),
     "law_reloaded": ("Reloading",), "law_placed": ("Placing",), "pim_net": ("Reloading",),
-    "igmp_older_saved": ("Hosts",), "pim_session": ("Front", "Placed", "Reloaded"), "pim_guard": ("Guard",), "pim_runs": ("Transcript",),
+    "igmp_older_saved": ("Hosts",), "pim_session": ("Front", "Placed", "Reloaded"), "pim_guard": ("Guard",),
+    "pim_runs": ("Transcript",),
 }
 # The files of these whose types are left.
 TYPES = {"igmp_older_saved": ("host",)}

@@ -133,7 +133,8 @@ class Recorded(unittest.TestCase):
         # The setting of the one that stays goes with it.
         self.assertEqual(self.run_tool(path, "--from", "4", "--write", part)[0], 0)
         records = recording.read(part).records
-        self.assertEqual([(record.name, record.numbers) for record in records], [("older", (0, 2)), ("advance", (1000,))])
+        self.assertEqual([(record.name, record.numbers) for record in records],
+                         [("older", (0, 2)), ("advance", (1000,))])
         self.assertEqual(self.run_tool(part)[0], 0)
         self.assertEqual(self.run_tool(path, "--from", "3", "--scenario", scenario)[0], 0)
         first, _ = tomllib.loads(scenario.read_text())["move"]

@@ -575,8 +575,8 @@ class Router:
 
         With `places` interfaces keep what they have at other numbers: of each interface of the router, in the order of
         its configuration, the number of the one that has its link, or None where it is left out, and goes down. One to
-        which none goes is new. What leaves then has the numbers of before. Such a map is refused (`PLACES_DONT_FIT`) where
-        it has more items or fewer, or a number twice or past the last interface."""
+        which none goes is new. What leaves then has the numbers of before. Such a map is refused (`PLACES_DONT_FIT`)
+        where it has more items or fewer, or a number twice or past the last interface."""
         bits = random.getrandbits(32) if draw is None else number(draw, 32, "a draw")
         values = configuration(interfaces, ranges, routes, **settings)
         if places is None:

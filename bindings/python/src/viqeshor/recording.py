@@ -46,7 +46,7 @@ NAMES = {letter: name for name, (letter, _) in KINDS.items()}
 # These are no events: they have no draw, and send nothing.
 QUIET = ("keep", "older", "query_version", "guard")
 LISTS: dict[str, Any] = {"routes": ToldRoute, "ranges": ToldRange}
-# These are given a configuration, the second one where the interfaces go too. Before version 5 there was the first alone.
+# These are given a configuration, the second one where the interfaces go too. Before version 5 the first was alone.
 RELOADS = ("reload", "reload_places")
 
 

@@ -161,8 +161,7 @@ def follow(state: Known, step: Step) -> None:
 
 
 def reload(state: Known, did: dict[str, Any]) -> None:
-    """Another configuration. What interfaces were that are removed stays to be looked up, where they keep their numbers.
-    """
+    """Another configuration. Interfaces that are removed stay to be looked up, where they keep their numbers."""
     made = router_of({**did["config"], "name": state.router.name})
     if places_of(did) is None:
         made.interfaces += state.router.interfaces[len(made.interfaces):]

@@ -126,7 +126,7 @@ def interfaces_of(table: dict[str, Any]) -> list[Interface]:
 
 
 def places_of(did: dict[str, Any]) -> list[int | None] | None:
-    """Where the interfaces of a router go by a move `reload`, by their numbers before it; None where they keep these."""
+    """Where the interfaces of a router go by a move `reload`, by their numbers before it; None where they keep them."""
     return [None if text == "none" else int(text) for text in did.get("places", [])] or None
 
 
