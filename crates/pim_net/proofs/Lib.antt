@@ -1,7 +1,6 @@
 pub mod Asked
 pub mod Carries
 pub mod Events
-pub mod Faults
 pub mod Lookups
 pub mod Nodes
 pub mod Reloads
