@@ -2,7 +2,7 @@
 ghost use Rattle.igmp_older_runs.specs.Moved.{RememberedRowsMove, SettingsMove};
 
 /// Rows are at the new numbers of their interfaces, and one whose interface is left out is gone.
-#[tactic(auto, unfolding(igmp_older::specs::Placed::new_place, igmp_older::specs::Placed::placed_rows, pim_model::specs::Tables::keys_in, pim_model::specs::Tables::put))]
+#[tactic(auto, unfolding(pim_types::specs::Keys::addr_cmp, pim_types::specs::Keys::key_cmp, pim_model::specs::Tables::keys_in, pim_model::specs::Tables::put, pim_model::specs::Tables::row_at, igmp_older::specs::Placed::new_place, igmp_older::specs::Placed::placed_rows))]
 pub fn remembered_rows_move()
     ensures { RememberedRowsMove }
 {}

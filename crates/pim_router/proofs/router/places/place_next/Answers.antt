@@ -1,9 +1,22 @@
-use Rattle.std.{proofs.{Common.subst, lemmas.Result.on_ok_weaker}}
+use Rattle.std.{proofs.{Common.{◌≡◌, true, length, Ok, subst, sym}, lemmas.Result.on_ok_weaker}}
 use Rattle.pim_types.{specs.declared.config.Config.Config}
-use Rattle.law_placed.{specs.Placing.reload_by}
+use Rattle.pim_model.{specs.{Limits.config_test, State.iface_count}}
+use Rattle.law_placed.{specs.Placing.{are_places, reload_by}}
+use Rattle.law_restored.{specs.Reload.config_of}
 use Rattle.pim_reloader.{specs.Reloads.Reloads}
 use Rattle.pim_router.{proofs.{Accepted.stands_next, Reloaded.{opens_with, placed_accepted, placed_near, placed_rests}}}
 use Rattle.pim_router.proofs.router.places.place_next.Goals as goal
+
+pub reload_places-requires-clause-next_accepted : goal.reload_places-requires-clause-next_accepted
+reload_places-requires-clause-next_accepted c =
+    subst (λ (d : Config). config_test d ≡ Ok tt) (sym (opens_with c.args.config.now c.args.next.now c.requires.opens))
+    c.requires.accepted
+
+pub reload_places-requires-clause-places : goal.reload_places-requires-clause-places
+unfolding config_of
+reload_places-requires-clause-places c =
+    subst (λ (d : Config). are_places (iface_count c.args.core.now.world) (length d.interfaces) c.args.places.now ≡ true)
+    (sym (opens_with c.args.config.now c.args.next.now c.requires.opens)) c.requires.fit
 
 pub returns-clause-reloads : goal.returns-clause-reloads
 returns-clause-reloads c =
