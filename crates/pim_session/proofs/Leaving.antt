@@ -1,5 +1,5 @@
 -- A session's call, by what is said of its answer, its packets and its state.
-use Rattle.std.{proofs.Common.{◌≡◌, ◌∙◌, ℕ, ◌∷◌, [], List, Option, Some, None, Result, Ok, Err, refl, sym, ap, subst}, specs.Prelude.{IfOk, IfSome, OnOk}}
+use Rattle.std.{proofs.Common.{◌≡◌, ◌∙◌, ℕ, List, Option, Some, None, Result, Ok, Err, refl, sym, ap, subst}, specs.Prelude.{IfOk, IfSome, OnOk}}
 use Rattle.pim_ip.{specs.declared.refusal.Refusal.Refusal}
 use Rattle.pim_types.{specs.declared.{event.Event.Event, outcome.{Emission.Emission, Verdict.Verdict}}}
 use Rattle.pim_model.{specs.{State.State, Step.step}}

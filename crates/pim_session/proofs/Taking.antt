@@ -1,14 +1,14 @@
 -- What a router and what stands before it make of an event.
-use Rattle.std.{specs.{Option.option_map_or, Prelude.option_and_then}, proofs.Common.{◌≡◌, ◌∙◌, ◌++◌, ◌&&◌, ◌+◌, ap, refl, sym, subst, ℕ, Bool, true, false, is_none, nat_lt, List, [], map, Option, Some, None, option_map, Result, Ok, Err, IfOk, IfSome, IsTrue, IsOk, if◌then◌else◌}}
+use Rattle.std.{specs.{Option.option_map_or, Prelude.option_and_then}, proofs.Common.{◌≡◌, ◌∙◌, ◌++◌, ◌&&◌, ◌+◌, ap, refl, sym, subst, ℕ, Bool, true, false, is_none, List, [], map, Option, Some, None, option_map, Result, Ok, Err, IfOk, IfSome, IsTrue, if◌then◌else◌}}
 use Rattle.pim_ip.{specs.declared.{fault.Fault.Fault, refusal.Refusal.Refusal}}
 use Rattle.pim_types.{specs.declared.{config.IfaceId.IfaceId, event.{Event.Event, EventKind.EventKind}, fact.Key.Key, outcome.{Emission.Emission, Verdict.Verdict}}}
-use Rattle.pim_model.{specs.{Querier.group_membership_interval, State.{State, iface_count}, Step.{Answered, step}, Sure.needs_no_memory, Tables.{has_row, row_at}}}
+use Rattle.pim_model.{specs.{Querier.group_membership_interval, State.{State}, Step.{Answered, step}, Sure.needs_no_memory, Tables.{has_row, row_at}}}
 use Rattle.law_settled.{proofs.UnchangedLaws.{ignored_unchanged, refused_unchanged}}
 use Rattle.law_named.{specs.Named.event_named}
 use Rattle.pim_event.{specs.{Costs.IsCheap, Disturbing.event_disturbed, Listing.ListsSame, Staying.OffersStay}}
 use Rattle.pim_router.{specs.Standing.{Shown as RouterShown, Standing, standing}}
-use Rattle.igmp_older.{specs.{Joined.{bytes_given, event_given, joined_step, kind_given, known_after, known_if, noted_answered, noted_if, older_in, older_of, present_end, rows_of}, Presence.{Present, hosts_on, left, live_rows, looked, rows_told}, Routers.{OlderQueried, Wrote, queried, query_packet}, Translation.{Gives, Translation, packet_given, translation}, declared.{front.Given.Given, mode.OlderRow.OlderRow, older.Older.Older}}}
-use Rattle.pim_session.{specs.{Behind.{Gave, Stepped, Took, frame_event, is_done, is_plain, packet_of}, Front.{Front, both, bytes_queried, emission_left, emissions_left, event_queried, front_after, front_of, given, hears_queries, interface_test, is_query_passed, is_sure, kind_queried, older_rows}}, proofs.FrontLaws.emissions_same}
+use Rattle.igmp_older.{specs.{Joined.{bytes_given, event_given, joined_step, kind_given, known_after, known_if, noted_answered, noted_if, older_in, older_of, present_end, rows_of}, Presence.{Present, hosts_on, left, live_rows, looked}, Routers.{OlderQueried, Wrote, queried, query_packet}, Translation.{Gives, Translation, packet_given, translation}, declared.{front.Given.Given, older.Older.Older}}}
+use Rattle.pim_session.{specs.{Behind.{Gave, Stepped, Took, frame_event, is_done, is_plain, packet_of}, Front.{Front, both, bytes_queried, emission_left, emissions_left, event_queried, front_after, given, hears_queries, is_query_passed, is_sure, kind_queried}}, proofs.FrontLaws.emissions_same}
 
 -- ---- the router is asked
 

@@ -1,11 +1,11 @@
 -- What holds of a session's machine: a router with what stands before it.
-use Rattle.std.{specs.{List.{All, AllByRecursion}, Prelude.{◌≡◌, ℕ, List, [], ◌∷◌, Err, Option, None, Some, false, map, true}}}
+use Rattle.std.{specs.{List.{All}, Prelude.{◌≡◌, List, [], ◌∷◌, Err, Option, None, Some, false, map, true}}}
 use Rattle.pim_ip.{specs.declared.refusal.Refusal.Refusal}
 use Rattle.pim_types.{specs.declared.{event.Event.Event, outcome.Outcome.Outcome}}
 use Rattle.pim_model.{specs.{State.State, Step.{Answered, outcome_of, run, state_after, step}}}
 use Rattle.law_promises.{specs.Copies.copies_at}
 use Rattle.pim_guard.{specs.{Guard.{guarded, is_kind_stopped}, Laws.IsOfData}}
-use Rattle.igmp_older.{specs.Joined.{joined, joined_step}}
+use Rattle.igmp_older.{specs.Joined.{joined}}
 use Rattle.pim_session.{specs.Front.{Front, both, emissions_left, event_queried, front_after, given}}
 
 -- what stands before the router, and the router's state

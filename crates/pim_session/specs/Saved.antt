@@ -1,5 +1,5 @@
 -- What is saved of a session, and what stands before the router of a session that is made of it.
-use Rattle.std.{specs.Prelude.{List, [], ◌∷◌, Option, None, Some}}
+use Rattle.std.{specs.Prelude.{[], ◌∷◌, Option, None, Some}}
 use Rattle.pim_model.{specs.{State.State, Tables.Table}}
 use Rattle.igmp_older.{specs.Presence.with_rows}
 use Rattle.igmp_older_saved.{specs.{Hosts.{resumed_rows, saved_hosts}, Text.Held, declared.host.HostRow.HostRow}}
