@@ -120,7 +120,7 @@ def host_over_an_upgrade(net: Network) -> str:
     group = "239.2.15.6"
     said, keeps, sender = beside_a_newer(net, group, 2)
     newer = net.receive("asker", group, NEWER, 100_000, 60)
-    receiver = net.receive("older", group, OLDER, 200, 60)
+    receiver = net.receive("older", group, OLDER, 3_000, 25)
     time.sleep(2)
     upgrade(net)
     after = row(net, group)
