@@ -1,0 +1,4 @@
+pub mod Absent
+pub mod Looks
+pub mod Given
+pub mod Behind

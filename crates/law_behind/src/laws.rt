@@ -1,0 +1,13 @@
+//! The laws.
+ghost use Rattle.law_behind.specs.Behind.{PlaneBehindFrontIsSound, TellingAgainOnlyLooks};
+
+/// Being told the present time again sends nothing, and has the front look at its rows.
+pub fn telling_again_only_looks()
+    ensures { TellingAgainOnlyLooks }
+{}
+
+/// A plane and its router, with a front for older hosts before the router, send what a front and a router alone send that
+/// are told the present time again before each event.
+pub fn plane_behind_front_is_sound()
+    ensures { PlaneBehindFrontIsSound }
+{}

@@ -1,0 +1,6 @@
+//! A data plane whose router has a front for older hosts. Each law is the contract of a function with nothing to do.
+#![tactic(auto)]
+
+mod laws;
+
+pub use laws::{plane_behind_front_is_sound, telling_again_only_looks};
