@@ -1,14 +1,14 @@
 -- A plane behind a front, and a front and a router alone, go on alike.
-use Rattle.std.{proofs.{Common.{◌≡◌, ◌≤◌, ◌∙◌, ℕ, ◌&&◌, nat_le, not, Bool, true, false, cond, List, [], ◌∷◌, ◌+◌, nat_lt, refl, sym, ap, subst, arith}, lemmas.{Bool.Decides.nat_tests}}, specs.List.list_all}
-use Rattle.pim_types.{specs.declared.{event.{Event.Event, EventKind.EventKind}, fact.GroupRecordRow.GroupRecordRow, outcome.{Outcome.Outcome}}}
-use Rattle.pim_model.{specs.{Judging.{judged, last_moment}, Registers.keepalive_period, State.{State, opening}, Step.{Answered, advanced, outcome_of, state_after, step}, Tables.Table}}
+use Rattle.std.{proofs.{Common.{◌≡◌, ◌≤◌, ◌∙◌, ℕ, ◌&&◌, nat_le, not, Bool, true, false, cond, List, [], ◌∷◌, ◌+◌, nat_lt, Ok, refl, sym, ap, subst, arith}, lemmas.{Bool.Decides.nat_tests, List.Sorted.IsPermutation-refl}}, specs.List.list_all}
+use Rattle.pim_types.{specs.declared.{config.Config.Config, event.{Event.Event, EventKind.EventKind}, fact.GroupRecordRow.GroupRecordRow, outcome.{Outcome.Outcome}}}
+use Rattle.pim_model.{specs.{Judging.{judged, last_moment}, Limits.config_test, Registers.keepalive_period, State.{State, opening}, Step.{Answered, advanced, outcome_of, state_after, step}, Tables.Table}}
 use Rattle.law_settled.{specs.{Laws.ends_after, Ready.IsTimeless}, proofs.Steps.step_stays_ahead}
 use Rattle.law_scope.{proofs.Rest.opening_is_at_rest}
 use Rattle.law_cache.{proofs.RowsOfRuns.few_opening}
-use Rattle.law_plane.{specs.{Split.{Notice, Split, advance_to, passes_quietly, whole}, SplitLaws.NamesEachOnce, ToldLaws.{PlaneRows, no_plane_rows}}, proofs.{Ends.{Ends, ends_later, no_ends}, Passes.ended_by, Splits.{Follows, opening_is_early, whole_follows}, Times.passes, ToldRows.opening_is_told}}
-use Rattle.law_reported.{specs.{Documented.{Act, AreRight, Doing, IsRight, IsTelling, act, acted, before, event_of, events_in, given, goes_at_once, is_for_core, kind_for_core, known_then, plane_at_opening}, Guests.{AreHeld, Plane, guest_kind}, Kept.{Way, kept_up, told_notes}}, proofs.{AtOnce.advance_at_once, DocumentedPlanes.{Went, heard_is, tells_goes, tells_held, tells_near, went}, GuestSplits.{asked_held, none_held}, KeptOrders.told_so_far, KeptUp.{ToldBy, kept_follows}, NearEnds.{EndsNear, opening_near, step_near}}}
-use Rattle.igmp_older.{specs.{Joined.{Both, event_given, joined_step, joined_with, kind_given, known_after, known_if}, Laws.{nobody_known, none_known}, Presence.{Present, looked}}}
-use Rattle.law_behind.{specs.Behind.{Fronted, PlaneBehindFrontIsSound, TellingAgainOnlyLooks, act_given, again_ran, again_step, both_before, fronted, fronted_after, fronted_told, is_the_routers, known_now, with_event}, proofs.{Given.{IsFrame, data_given, data_known, given_for_core, judged_frame, kind_core, time, time_known, time_steps}, Looks.{looked_once, same_lasts, time_lasts}}}
+use Rattle.law_plane.{specs.{Split.{Notice, Split, advance_to, passes_quietly}, SplitLaws.NamesEachOnce, ToldLaws.{PlaneRows, no_plane_rows}}, proofs.{Ends.{Ends, ends_later, no_ends}, Passes.ended_by, Splits.{Follows, opening_is_early, whole_follows}, Times.passes, ToldRows.opening_is_told}}
+use Rattle.law_reported.{specs.{Documented.{Act, AreRight, Doing, IsRight, IsTelling, act, acted, before, event_of, events_in, given, goes_at_once, is_for_core, kind_for_core, known_then, plain_act}, Guests.{AreHeld, Plane, guest_kind}, Kept.{Way, kept_up, told_notes}}, proofs.{AtOnce.advance_at_once, DocumentedPlanes.{Went, rise_so, heard_is, tells_goes, tells_held, tells_near, went}, GuestSplits.{asked_held, none_held}, KeptOrders.told_so_far, KeptUp.{ToldBy, kept_follows}, NearEnds.{EndsNear, opening_near, step_near}}}
+use Rattle.igmp_older.{specs.{Joined.{Both, event_given, joined_step, joined_with, kind_given, known_after, known_if}, Laws.{nobody_known}, Presence.{Present, looked}, declared.setting.OlderHosts.OlderHosts}}
+use Rattle.law_behind.{specs.Behind.{Fronted, PlainActsBehindAreRight, fronted_at_opening, plain_behind, PlaneBehindFrontIsSound, TellingAgainOnlyLooks, act_given, again_ran, again_step, both_before, fronted, fronted_after, fronted_told, is_the_routers, known_now, with_event}, proofs.{Given.{IsFrame, data_given, data_known, given_for_core, judged_frame, kind_core, time, time_known, time_steps}, Looks.{looked_once, same_lasts, time_lasts}}}
 
 self : (n : ℕ) → n ≤ n
 self n = omega arith
@@ -392,16 +392,59 @@ goes_on w (Doing.Takes d ∷ ds) f b along right =
 goes_on w (Doing.Tells notes v ∷ ds) f b along right =
     goes_on w ds (fronted_told f notes v) b (notes_along f b along notes v right.0) right.1
 
+along_first : (c : Config) (limit : ℕ) (hosts : List OlderHosts) → config_test c ≡ Ok tt
+    → Along (fronted_at_opening c limit hosts) (nobody_known limit hosts (opening c))
+along_first c limit hosts e = record {
+  follows =
+      whole_follows (opening c) no_plane_rows (opening_is_at_rest c e) (opening_is_early c) (few_opening c e) (opening_is_told c);
+  near = opening_near c;
+  router_near = opening_near c;
+  apart = tt;
+  held = none_held (opening c);
+  known = refl;
+}
+
 pub plane_behind_front_is_sound : PlaneBehindFrontIsSound
 plane_behind_front_is_sound c limit hosts acts w e right =
-    let f : Follows (whole (opening c) no_plane_rows) (opening c) =
-    whole_follows (opening c) no_plane_rows (opening_is_at_rest c e) (opening_is_early c) (few_opening c e) (opening_is_told c) in
-    goes_on w acts (record { plane = plane_at_opening c; present = none_known limit hosts }) (nobody_known limit hosts (opening c))
-    (record {
-      follows = f;
-      near = opening_near c;
-      router_near = opening_near c;
-      apart = tt;
-      held = none_held (opening c);
-      known = refl;
-    }) right
+    goes_on w acts (fronted_at_opening c limit hosts) (nobody_known limit hosts (opening c)) (along_first c limit hosts e) right
+
+-- ---- any events may come to one
+
+plain_right : (f : Fronted) (b : Both) → Along f b → (e : Event) → IsRight f.plane.split (act_given f (plain_act f.plane e))
+unfolding act_given
+plain_right f b along e = by_whose (is_the_routers f (plain_act f.plane e))
+  where
+    plain_with : (new : Event) → IsRight f.plane.split (with_event (plain_act f.plane e) new)
+    plain_with new = record {
+      telling = record {
+        all = IsPermutation-refl f.plane.split.owed;
+        once = along.apart;
+        rises =
+            rise_so f.plane.split.core f.plane.split.now f.plane.split.core.present f.plane.split.core.present f.plane.split.owed
+            (self f.plane.split.core.present) along.follows.rises;
+      };
+      denied = λ g src no. absurd cc;
+    }
+
+    by_whose : (own : Bool) → IsRight f.plane.split
+        (cond own (with_event (plain_act f.plane e) (event_given (both_before f (plain_act f.plane e)) e)) (plain_act f.plane e))
+    by_whose true = plain_with (event_given (both_before f (plain_act f.plane e)) e)
+    by_whose false = plain_with e
+
+plain_go : (es : List Event) (f : Fronted) (b : Both) → Along f b → AreRight f.plane (fronted f (plain_behind f es)).0
+unfolding plain_behind fronted fronted_after
+plain_go [] f b along = tt
+plain_go (e ∷ es) f b along =
+    let d : Act = plain_act f.plane e in
+    let right : IsRight f.plane.split (act_given f d) = plain_right f b along e in
+    ((λ own. right), plain_go es (fronted_after f d) (again_step b e).1 (act_alike f b along d (λ own. right)).1)
+
+same_events : (es : List Event) (f : Fronted) → events_in (plain_behind f es) ≡ es
+unfolding plain_behind
+same_events [] f = refl
+same_events (e ∷ es) f = ap (λ (more : List Event). e ∷ more) (same_events es (fronted_after f (plain_act f.plane e)))
+
+pub plain_acts_behind_are_right : PlainActsBehindAreRight
+plain_acts_behind_are_right c limit hosts events e =
+    let f : Fronted = fronted_at_opening c limit hosts in
+    (plain_go events f (nobody_known limit hosts (opening c)) (along_first c limit hosts e), same_events events f)

@@ -4,7 +4,7 @@ use Rattle.pim_types.{specs.declared.{config.Config.Config, event.Event.Event, o
 use Rattle.pim_model.{specs.{Judging.last_moment, Limits.config_test, State.{State, opening}}}
 use Rattle.law_scope.{specs.Rest.IsAtRest}
 use Rattle.law_plane.{specs.Split.{Notice, Split, advance_to, nothing_sent}}
-use Rattle.law_reported.{specs.{Documented.{Act, AreRight, Doing, act, acted, before, event_of, events_in, goes_at_once, is_for_core, known_then, plane_at_opening, up_to_date}, Guests.Plane, Kept.{Way, kept_up}}}
+use Rattle.law_reported.{specs.{Documented.{Act, AreRight, Doing, act, acted, before, event_of, events_in, goes_at_once, is_for_core, known_then, plain_act, plane_at_opening, up_to_date}, Guests.Plane, Kept.{Way, kept_up}}}
 use Rattle.igmp_older.{specs.{Joined.{Both, event_given, joined_step}, Laws.{nobody_known, none_known}, Presence.{Present, looked}, declared.setting.OlderHosts.OlderHosts}}
 
 -- A plane, and what the front between it and its router knows of older hosts.
@@ -58,6 +58,10 @@ fronted f (Doing.Tells told w ∷ ds) =
     let later : List Doing × Present = fronted (fronted_told f told w) ds in
     (Doing.Tells told w ∷ later.0, later.1)
 
+-- A plane beside a new router, without rows, and a front between them that knows of nobody.
+abbrev pub fronted_at_opening : Config → ℕ → List OlderHosts → Fronted
+fronted_at_opening c limit hosts = record { plane = plane_at_opening c; present = none_known limit hosts }
+
 -- ---- a front and a router alone
 
 -- An event before which a front and its router are told the present time again: the front drops the rows that don't
@@ -90,10 +94,22 @@ TellingAgainOnlyLooks = (b : Both) → IsAtRest b.state → b.state.present ≤ 
 abbrev pub PlaneBehindFrontIsSound : Type 0
 PlaneBehindFrontIsSound = (c : Config) (limit : ℕ) (hosts : List OlderHosts) (acts : List Doing) (w : Way)
     → config_test c ≡ Ok tt
-    → (let behind : List Doing × Present =
-    fronted (record { plane = plane_at_opening c; present = none_known limit hosts }) acts in
+    → (let behind : List Doing × Present = fronted (fronted_at_opening c limit hosts) acts in
     AreRight (plane_at_opening c) behind.0
     → (let ran : List Outcome × Plane = acted (plane_at_opening c) behind.0 in
     let alone : List Outcome × Both = again_ran (nobody_known limit hosts (opening c)) (events_in acts) in
     (ran.0 ≡ alone.0) × (kept_up w (ran.1).split ≡ alone.1.state)
     × (known_now alone.1.state behind.1 ≡ known_now alone.1.state alone.1.present)))
+
+-- ---- each run is one of such a plane
+
+-- A plane that reports its notes by their timestamps, reads no offer, and drops all offers.
+unfoldable pub plain_behind : Fronted → List Event → List Doing
+plain_behind f [] = []
+plain_behind f (e ∷ es) = Doing.Takes (plain_act f.plane e) ∷ plain_behind (fronted_after f (plain_act f.plane e)) es
+
+-- Any events may come to one.
+abbrev pub PlainActsBehindAreRight : Type 0
+PlainActsBehindAreRight = (c : Config) (limit : ℕ) (hosts : List OlderHosts) (events : List Event) → config_test c ≡ Ok tt
+    → (let f : Fronted = fronted_at_opening c limit hosts in
+    AreRight (plane_at_opening c) (fronted f (plain_behind f events)).0 × (events_in (plain_behind f events) ≡ events))

@@ -3,4 +3,6 @@
 
 mod laws;
 
-pub use laws::{plane_behind_front_is_sound, telling_again_only_looks};
+pub use laws::{
+    plain_acts_behind_are_right, plane_behind_front_is_sound, telling_again_only_looks,
+};
