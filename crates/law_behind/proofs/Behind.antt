@@ -1,14 +1,14 @@
 -- A plane behind a front, and a front and a router alone, go on alike.
 use Rattle.std.{proofs.{Common.{◌≡◌, ◌≤◌, ◌∙◌, ℕ, ◌&&◌, nat_le, not, Bool, true, false, cond, List, [], ◌∷◌, ◌+◌, nat_lt, Ok, refl, sym, ap, subst, arith}, lemmas.{Bool.Decides.nat_tests, List.Sorted.IsPermutation-refl}}, specs.List.list_all}
 use Rattle.pim_types.{specs.declared.{config.Config.Config, event.{Event.Event, EventKind.EventKind}, fact.GroupRecordRow.GroupRecordRow, outcome.{Outcome.Outcome}}}
-use Rattle.pim_model.{specs.{Judging.{judged, last_moment}, Limits.config_test, Registers.keepalive_period, State.{State, opening}, Step.{Answered, advanced, outcome_of, state_after, step}, Tables.Table}}
+use Rattle.pim_model.{specs.{Judging.{judged, last_moment}, Limits.config_test, Registers.keepalive_period, State.{State, opening}, Step.{Answered, advanced, outcome_of, ran, state_after, step}, Tables.Table}}
 use Rattle.law_settled.{specs.{Laws.ends_after, Ready.IsTimeless}, proofs.Steps.step_stays_ahead}
 use Rattle.law_scope.{proofs.Rest.opening_is_at_rest}
 use Rattle.law_cache.{proofs.RowsOfRuns.few_opening}
-use Rattle.law_plane.{specs.{Split.{Notice, Split, advance_to, passes_quietly}, SplitLaws.NamesEachOnce, ToldLaws.{PlaneRows, no_plane_rows}}, proofs.{Ends.{Ends, ends_later, no_ends}, Passes.ended_by, Splits.{Follows, opening_is_early, whole_follows}, Times.passes, ToldRows.opening_is_told}}
-use Rattle.law_reported.{specs.{Documented.{Act, AreRight, Doing, IsRight, IsTelling, act, acted, before, event_of, events_in, given, goes_at_once, is_for_core, kind_for_core, known_then, plain_act}, Guests.{AreHeld, Plane, guest_kind}, Kept.{Way, kept_up, told_notes}}, proofs.{AtOnce.advance_at_once, DocumentedPlanes.{Went, rise_so, heard_is, tells_goes, tells_held, tells_near, went}, GuestSplits.{asked_held, none_held}, KeptOrders.told_so_far, KeptUp.{ToldBy, kept_follows}, NearEnds.{EndsNear, opening_near, step_near}}}
+use Rattle.law_plane.{specs.{Split.{Notice, Split, advance_to, passes_quietly}, SplitLaws.NamesEachOnce, ToldLaws.{PlaneRows, no_plane_rows}}, proofs.{Ends.{ends_later, no_ends}, Passes.{Passed, ended_by}, Splits.{Follows, opening_is_early, whole_follows}, Times.passes, ToldRows.opening_is_told}}
+use Rattle.law_reported.{specs.{Documented.{Act, AreRight, Doing, IsRight, IsTelling, act, acted, event_of, events_in, given, goes_at_once, is_for_core, kind_for_core, known_then, plain_act}, Guests.{AreHeld, Plane, guest_kind}, Kept.{Way, kept_up, told_notes}}, proofs.{AtOnce.advance_at_once, DocumentedPlanes.{Went, rise_so, heard_is, tells_goes, tells_held, tells_near, went}, GuestSplits.{asked_held, none_held}, KeptOrders.{each_so_far, told_so_far}, KeptUp.{ToldBy, kept_follows}, NearEnds.{EndsNear, opening_near, step_near}}}
 use Rattle.igmp_older.{specs.{Joined.{Both, event_given, joined_step, joined_with, kind_given, known_after, known_if}, Laws.{nobody_known}, Presence.{Present, looked}, declared.setting.OlderHosts.OlderHosts}}
-use Rattle.law_behind.{specs.Behind.{Fronted, PlainActsBehindAreRight, fronted_at_opening, plain_behind, PlaneBehindFrontIsSound, TellingAgainOnlyLooks, act_given, again_ran, again_step, both_before, fronted, fronted_after, fronted_told, is_the_routers, known_now, with_event}, proofs.{Given.{IsFrame, data_given, data_known, given_for_core, judged_frame, kind_core, time, time_known, time_steps}, Looks.{looked_once, same_lasts, time_lasts}}}
+use Rattle.law_behind.{specs.Behind.{both_of, both_told, both_caught_up, Fronted, PlainActsBehindAreRight, fronted_at_opening, plain_behind, PlaneBehindFrontIsSound, TellingAgainOnlyLooks, act_given, again_ran, again_step, both_before, fronted, fronted_after, fronted_told, is_the_routers, known_now, with_event}, proofs.{Told.{quietly_looked, told_at_last, told_state}, Given.{IsFrame, data_given, data_known, given_for_core, judged_frame, kind_core, time, time_known, time_steps}, Looks.{looked_once, same_lasts, time_lasts}}}
 
 self : (n : ℕ) → n ≤ n
 self n = omega arith
@@ -51,6 +51,69 @@ module _ (f : Fronted) (b : Both) (along : Along f b) where
   -- the front alone once it was told the present time again
   abbrev again : Both
   again = record { present = known_now r b.present; state = r }
+
+  -- ---- notes that are reported
+
+  module _ (notes : List Notice) (w : Way) (telling : IsTelling x notes w) where
+    abbrev told : State
+    told = told_notes w x.core notes
+
+    abbrev told_both : Both
+    told_both = both_told w (both_of f) notes
+
+    told_is : ToldBy x.core along.follows.quiet x.now w along.follows.early along.follows.ahead along.near.ends (ended_by no_ends notes) x.now told
+    told_is = told_so_far x r w notes along.follows along.near telling.all telling.once telling.rises
+
+    abbrev up : State
+    up = state_after told (advance_to x.now ∷ [])
+
+    up_is : up ≡ r
+    up_is = heard_is x r along.follows along.near along.apart notes w telling
+
+    told_ahead : ends_after x.now told ≡ true
+    told_ahead =
+        subst (λ (u : State). ends_after x.now u ≡ true) (sym (told_is.is).same)
+        (ends_later x.now (ended_by no_ends notes) told_is.late x.core told_is.at along.follows.ahead)
+
+    told_since : told.present ≤ x.now
+    told_since = subst (λ (u : State). u.present ≤ x.now) (sym (told_is.is).same) told_is.within
+
+    told_steps : (v m : ℕ) → x.now ≤ m → m ≤ last_moment → step told_both.state (time v m) ≡ step r (time v m)
+    told_steps v m on early =
+        ap (λ (s : State). step s (time v m)) (told_state w notes (both_of f))
+        ∙ sym (advance_at_once told v x.now m (told_is.is).rests told_since on early told_ahead)
+        ∙ ap (λ (s : State). step s (time v m)) up_is
+
+    -- what is known at the present time
+    at_present : (p : Present) → looked x.core.group_records x.now p ≡ known_now r p
+    at_present p =
+        ap (λ (groups : Table GroupRecordRow). looked groups x.now p) (sym records_are)
+        ∙ ap (λ (n : ℕ). looked r.group_records n p) (sym present_is)
+
+    told_known : known_now r told_both.present ≡ known_now r b.present
+    told_known =
+        sym (at_present told_both.present)
+        ∙ told_at_last x.core along.follows.quiet x.now w along.follows.early along.follows.ahead along.near.ends notes no_ends (both_of f)
+        (each_so_far x r w notes along.follows along.near telling.all telling.once telling.rises)
+        ∙ at_present f.present
+        ∙ along.known
+
+    told_here : Passed x.core along.follows.quiet (ended_by no_ends notes) told_is.at told_both.state
+    told_here = subst (λ (s : State). Passed x.core along.follows.quiet (ended_by no_ends notes) told_is.at s) (sym (told_state w notes (both_of f))) told_is.is
+
+    -- and the present time
+    caught_up_state : (both_caught_up f notes w).state ≡ r
+    unfolding joined_step event_given kind_given state_after ran
+    caught_up_state = ap (λ (s : State). (step s (advance_to x.now)).state) (told_state w notes (both_of f)) ∙ up_is
+
+    caught_up_is : both_caught_up f notes w ≡ again
+    caught_up_is = λ j. record {
+      present = (quietly_looked x.core along.follows.quiet x.now w along.follows.early along.follows.ahead along.near.ends
+          (ended_by no_ends notes) told_both x.now told_is.at told_here told_is.within told_is.late (self x.now)
+          ∙ at_present told_both.present
+          ∙ told_known) j;
+      state = caught_up_state j;
+    }
 
   module _ (d : Act) where
     abbrev e : Event
@@ -137,8 +200,9 @@ module _ (f : Fronted) (b : Both) (along : Along f b) where
           looked_once r.present m from_r r.group_records passed.group_records
           (time_lasts r ((along.follows.is).rests).settled e.draw m) p
 
-      alike_later : looked passed.group_records m f.present ≡ looked passed.group_records m (known_now r b.present)
-      alike_later = sym (looked_later f.present) ∙ ap (λ (p : Present). looked passed.group_records m p) along.known
+      alike_later : (p : Present) → known_now r p ≡ known_now r b.present
+          → looked passed.group_records m p ≡ looked passed.group_records m (known_now r b.present)
+      alike_later p alike = sym (looked_later p) ∙ ap (λ (q : Present). looked passed.group_records m q) alike
 
       -- what is known of it by a front before such a state
       known_by : (c : Both) → step c.state e ≡ advanced r e.draw m → (joined_step c e).1.present ≡ looked passed.group_records m c.present
@@ -157,20 +221,16 @@ module _ (f : Fronted) (b : Both) (along : Along f b) where
       unfolding advanced
       quietly_alike =
           ap (λ (s : State). known_now s f.present) then_is
-          ∙ alike_later
+          ∙ alike_later f.present along.known
           ∙ sym (looked_at passed (known_now r b.present))
           ∙ ap (λ (p : Present). known_now passed p) (sym known_again)
           ∙ ap (λ (s : State). known_now s (joined_step again e).1.present) (sym then_is)
 
       -- time that is given at once
-      at_once_alike : (c : Both) → c.present ≡ f.present → step c.state e ≡ step r e
+      at_once_alike : (c : Both) → known_now r c.present ≡ known_now r b.present → step c.state e ≡ step r e
           → known_now then (joined_step c e).1.present ≡ known_now then (joined_step again e).1.present
       at_once_alike c known same =
-          ap (λ (p : Present). known_now then p)
-          (known_by c (same ∙ stepped)
-          ∙ ap (λ (p : Present). looked passed.group_records m p) known
-          ∙ alike_later
-          ∙ sym known_again)
+          ap (λ (p : Present). known_now then p) (known_by c (same ∙ stepped) ∙ alike_later c.present known ∙ sym known_again)
 
     -- ---- the plane takes it
 
@@ -245,49 +305,11 @@ module _ (f : Fronted) (b : Both) (along : Along f b) where
 
     -- ---- the router's own
 
-    abbrev told : State
-    told = told_notes d.way x.core d.told
-
-    abbrev up : State
-    up = state_after told (advance_to x.now ∷ [])
-
     abbrev found : Bool → Both
-    found once = record {
-      present = cond once f.present (looked (cond once told up).group_records x.now f.present);
-      state = cond once told up;
-    }
+    found once = cond once (both_told d.way (both_of f) d.told) (both_caught_up f d.told d.way)
 
     abbrev found_event : Bool → Event
     found_event once = event_given (found once) e
-
-    module _ (telling : IsTelling x d.told d.way) where
-      up_is : up ≡ r
-      up_is = heard_is x r along.follows along.near along.apart d.told d.way telling
-
-      found_up : found false ≡ again
-      found_up =
-          ap (λ (s : State). let c : Both = record { present = looked s.group_records x.now f.present; state = s } in c) up_is
-          ∙ ap (λ (n : ℕ). let c : Both = record { present = looked r.group_records n f.present; state = r } in c) (sym present_is)
-          ∙ ap (λ (p : Present). let c : Both = record { present = p; state = r } in c) along.known
-
-      told_is : ToldBy x.core along.follows.quiet x.now d.way along.follows.early along.follows.ahead along.near.ends (ended_by no_ends d.told) x.now told
-      told_is = told_so_far x r d.way d.told along.follows along.near telling.all telling.once telling.rises
-
-      abbrev told_ends : Ends
-      told_ends = ended_by no_ends d.told
-
-      told_ahead : ends_after x.now told ≡ true
-      told_ahead =
-          subst (λ (u : State). ends_after x.now u ≡ true) (sym (told_is.is).same)
-          (ends_later x.now told_ends told_is.late x.core told_is.at along.follows.ahead)
-
-      told_since : told.present ≤ x.now
-      told_since = subst (λ (u : State). u.present ≤ x.now) (sym (told_is.is).same) told_is.within
-
-      told_steps : (w m : ℕ) → x.now ≤ m → m ≤ last_moment → step told (time w m) ≡ step r (time w m)
-      told_steps w m on early =
-          sym (advance_at_once told w x.now m (told_is.is).rests told_since on early told_ahead)
-          ∙ ap (λ (s : State). step s (time w m)) up_is
 
     module _ (own : is_for_core x its_guests e ≡ true) where
       given_own : (c : Both) → is_for_core x its_guests (event_given c e) ≡ true
@@ -310,10 +332,12 @@ module _ (f : Fronted) (b : Both) (along : Along f b) where
           let since : x.now ≤ m = at_most x.now m on in
           let until : m ≤ last_moment = at_most m last_moment early in
           let same : timed m is since until ≡ e = same_event m is since until in
-          let steps : step told e ≡ step r e =
-          ap (λ (v : Event). step told v) (sym same) ∙ told_steps (its_telling true right) e.draw m since until ∙ ap (λ (v : Event). step r v) same in
+          let telling : IsTelling x d.told d.way = its_telling true right in
+          let steps : step (found true).state e ≡ step r e =
+          ap (λ (v : Event). step (found true).state v) (sym same) ∙ told_steps d.told d.way telling e.draw m since until
+          ∙ ap (λ (v : Event). step r v) same in
           goes_alike (found_event true) right (time_given m is since until (found true) ∙ sym (time_given m is since until again))
-          (joined_step (found true) e).1.present (at_once_alike m is since until (found true) refl steps)
+          (joined_step (found true) e).1.present (at_once_alike m is since until (found true) (told_known d.told d.way telling) steps)
       at_once right m is true false on early h = absurd cc
       at_once right m is false b on early h = absurd cc
 
@@ -325,13 +349,13 @@ module _ (f : Fronted) (b : Both) (along : Along f b) where
       by_found : (once : Bool) → goes_at_once x d.at_once e.kind ≡ once → RightFound once → FoundAlike once
       by_found true is right = once_by_kind right e.kind refl d.at_once is
       by_found false is right =
-          let same : found false ≡ again = found_up (its_telling false right) in
+          let same : found false ≡ again = caught_up_is d.told d.way (its_telling false right) in
           goes_alike (found_event false) right (ap (λ (c : Both). event_given c e) same) (joined_step (found false) e).1.present
           (ap (λ (c : Both). known_now then (joined_step c e).1.present) same)
 
       given_alike : RightOf (with_event d (event_given (both_before f d) e))
           → AreAlike (act f.plane (with_event d (event_given (both_before f d) e))) (joined_step (both_before f d) e).1.present (joined_step again e)
-      unfolding both_before before
+      unfolding both_before
       given_alike right = by_found (goes_at_once x d.at_once e.kind) refl right
 
     -- ---- either
@@ -368,12 +392,7 @@ module _ (f : Fronted) (b : Both) (along : Along f b) where
       router_near = along.router_near;
       apart = tt;
       held = tells_held x r along.follows along.near along.apart notes w telling f.plane.guests along.held;
-      known =
-          ap (λ (s : State). known_now r (looked s.group_records x.now f.present))
-          (heard_is x r along.follows along.near along.apart notes w telling)
-          ∙ ap (λ (n : ℕ). known_now r (looked r.group_records n f.present)) (sym present_is)
-          ∙ looked_at r f.present
-          ∙ along.known;
+      known = ap (λ (c : Both). known_now r c.present) (caught_up_is notes w telling) ∙ looked_at r b.present;
     }
 
 -- ---- all that a plane does

@@ -3,8 +3,8 @@ use Rattle.std.{specs.Prelude.{Bool, List, Ok, [], if◌then◌else◌, ℕ, ◌
 use Rattle.pim_types.{specs.declared.{config.Config.Config, event.Event.Event, outcome.Outcome.Outcome}}
 use Rattle.pim_model.{specs.{Judging.last_moment, Limits.config_test, State.{State, opening}}}
 use Rattle.law_scope.{specs.Rest.IsAtRest}
-use Rattle.law_plane.{specs.Split.{Notice, Split, advance_to, nothing_sent}}
-use Rattle.law_reported.{specs.{Documented.{Act, AreRight, Doing, act, acted, before, event_of, events_in, goes_at_once, is_for_core, known_then, plain_act, plane_at_opening, up_to_date}, Guests.Plane, Kept.{Way, kept_up}}}
+use Rattle.law_plane.{specs.Split.{Notice, advance_to, nothing_sent}}
+use Rattle.law_reported.{specs.{Documented.{Act, AreRight, Doing, act, acted, event_of, events_in, goes_at_once, is_for_core, known_then, plain_act, plane_at_opening, up_to_date}, Guests.Plane, Kept.{Way, is_kept, kept_up, told_note}}}
 use Rattle.igmp_older.{specs.{Joined.{Both, event_given, joined_step}, Laws.{nobody_known, none_known}, Presence.{Present, looked}, declared.setting.OlderHosts.OlderHosts}}
 
 -- A plane, and what the front between it and its router knows of older hosts.
@@ -12,16 +12,33 @@ pub record Fronted : Type 0 where
   pub plane : Plane
   pub present : Present
 
--- The front and the router when an event of the router's own comes. Where the router was advanced to the present time,
--- the front has looked at its rows.
+-- The front and the router.
+abbrev pub both_of : Fronted → Both
+both_of f = record { present = f.present; state = f.plane.split.core }
+
+-- Both after time passed.
+abbrev pub advanced_to : ℕ → Both → Both
+advanced_to m b = (joined_step b (advance_to m)).1
+
+-- Both once notes are reported. The Advance to the timestamp of a note that is reported as a seen packet comes by the
+-- front; `keep` and seen packets don't.
+unfoldable pub both_told : Way → Both → List Notice → Both
+both_told w b [] = b
+both_told w b (n ∷ ns) =
+    both_told w (record {
+      present = (if is_kept w b.state n then b.present else (advanced_to n.moment b).present);
+      state = told_note w b.state n;
+    }) ns
+
+-- Both once notes are reported and the present time.
+abbrev pub both_caught_up : Fronted → List Notice → Way → Both
+both_caught_up f told w = advanced_to f.plane.split.now (both_told w (both_of f) told)
+
+-- Both when an event of the router's own comes.
 unfoldable pub both_before : Fronted → Act → Both
 both_before f d =
-    let x : Split = f.plane.split in
-    let s : State = before x d in
-    record {
-      present = (if goes_at_once x d.at_once (event_of d).kind then f.present else looked s.group_records x.now f.present);
-      state = s;
-    }
+    if goes_at_once f.plane.split d.at_once (event_of d).kind then both_told d.way (both_of f) d.told
+    else both_caught_up f d.told d.way
 
 -- The event as it came is for the router.
 abbrev pub is_the_routers : Fronted → Act → Bool
@@ -44,9 +61,7 @@ fronted_after f d = record {
 
 -- The plane reports its notes between events, and has the router advance to the present time.
 unfoldable pub fronted_told : Fronted → List Notice → Way → Fronted
-fronted_told f told w =
-    let y : Plane = up_to_date f.plane told w in
-    record { plane = y; present = looked (y.split).core.group_records (y.split).now f.present }
+fronted_told f told w = record { plane = up_to_date f.plane told w; present = (both_caught_up f told w).present }
 
 -- What a plane does, as its router is given it, and what is known of older hosts in the end.
 unfoldable pub fronted : Fronted → List Doing → List Doing × Present
