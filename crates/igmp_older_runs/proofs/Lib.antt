@@ -1,1 +1,2 @@
 pub mod OlderHost
+pub mod BehindPlane

@@ -56,14 +56,19 @@ module _ (core : State) (quiet : IsAtRest core) (now : ℕ) (w : Way) (early : n
   at_most : (b : Bool) (m k now : ℕ) → m ≤ now → k ≤ now → cond b m k ≤ now
   at_most b m k now x y = grind arith
 
+  -- the states before each note that is reported as a seen packet, and the one after all
+  abbrev pub ToldEach : Ends → State → List Notice → Type 0
+  ToldEach f t [] = ToldBy core quiet now w early ahead near f now t
+  ToldEach f t (n ∷ ns) =
+      (is_kept w t n ≡ false → ToldBy core quiet now w early ahead near f n.moment t × (n.moment ≤ now))
+      × ToldEach (set_end f n.source (n.moment + keepalive_period)) (told_note w t n) ns
+
   -- notes before the present time are reported in order
-  pub told_in_order : (ns : List Notice) (f : Ends) (m : ℕ) (t : State) → Passed core quiet f m t → m ≤ now → Untouched f ns
+  pub each_in_order : (ns : List Notice) (f : Ends) (m : ℕ) (t : State) → Passed core quiet f m t → m ≤ now → Untouched f ns
       → NamesEachOnce ns → AllByRecursion (IsOwed core quiet) ns → AllByRecursion InTime ns → SeenRise w core m ns
-      → AreLate now f → are_fresh now ns ≡ true
-      → ToldBy core quiet now w early ahead near (ended_by f ns) now (told_notes w t ns)
-  unfolding told_notes ended_by
-  told_in_order [] f m t is on un once owed timely rises late fresh = record { at = m; within = on; late = late; is = is }
-  told_in_order (n ∷ ns) f m t is on un once owed timely rises late fresh =
+      → AreLate now f → are_fresh now ns ≡ true → ToldEach f t ns
+  each_in_order [] f m t is on un once owed timely rises late fresh = record { at = m; within = on; late = late; is = is }
+  each_in_order (n ∷ ns) f m t is on un once owed timely rises late fresh =
       let none : f (source_key 0 (group_in n.source) (source_in n.source)) ≡ None = ap f (key_is n owed.0) ∙ un.0 in
       let runs_same : is_kept w t n ≡ is_kept w core n =
       ap (λ (b : Bool). w.keeps n && b)
@@ -80,14 +85,22 @@ module _ (core : State) (quiet : IsAtRest core) (now : ℕ) (w : Way) (early : n
       bounded core (group_in n.source) (source_in n.source) core.present near end (sym end_is ∙ e) in
       let since : core.present ≤ n.moment = timely.0.0 in
       omega (arith, soon, since))
-      (λ out. rises.0 (sym runs_same ∙ out)) in
-      told_in_order ns (set_end f n.source (n.moment + keepalive_period)) (cond (is_kept w core n) m n.moment) (told_note w t n)
-      (subst (λ (b : Bool). Passed core quiet (set_end f n.source (n.moment + keepalive_period)) (cond b m n.moment)
-      (told_note w t n)) runs_same one)
-      (at_most (is_kept w core n) m n.moment now on timely.0.1)
-      (others_untouched f n.source (n.moment + keepalive_period) ns once.0 un.1) once.1 owed.1 timely.1 rises.1
-      (late_set now f n.source (n.moment + keepalive_period) late (first_so (nat_lt now (n.moment + keepalive_period)) (are_fresh now ns) fresh))
-      (second_so (nat_lt now (n.moment + keepalive_period)) (are_fresh now ns) fresh)
+      (λ out. rises.0 (sym runs_same ∙ out)) in (
+        (λ out. (record { at = m; within = rises.0 (sym runs_same ∙ out); late = late; is = is }, timely.0.1)),
+        each_in_order ns (set_end f n.source (n.moment + keepalive_period)) (cond (is_kept w core n) m n.moment) (told_note w t n)
+            (subst (λ (b : Bool). Passed core quiet (set_end f n.source (n.moment + keepalive_period)) (cond b m n.moment)
+            (told_note w t n)) runs_same one)
+            (at_most (is_kept w core n) m n.moment now on timely.0.1)
+            (others_untouched f n.source (n.moment + keepalive_period) ns once.0 un.1) once.1 owed.1 timely.1 rises.1
+            (late_set now f n.source (n.moment + keepalive_period) late (first_so (nat_lt now (n.moment + keepalive_period)) (are_fresh now ns) fresh))
+            (second_so (nat_lt now (n.moment + keepalive_period)) (are_fresh now ns) fresh),
+      )
+
+  told_by_each : (ns : List Notice) (f : Ends) (t : State) → ToldEach f t ns
+      → ToldBy core quiet now w early ahead near (ended_by f ns) now (told_notes w t ns)
+  unfolding told_notes ended_by
+  told_by_each [] f t each = each
+  told_by_each (n ∷ ns) f t each = told_by_each ns (set_end f n.source (n.moment + keepalive_period)) (told_note w t n) each.1
 
   -- and time that goes on then
   in_order : (ns : List Notice) (f : Ends) (m : ℕ) (t : State) → Passed core quiet f m t → m ≤ now → Untouched f ns
@@ -96,7 +109,7 @@ module _ (core : State) (quiet : IsAtRest core) (now : ℕ) (w : Way) (early : n
       → Passed core quiet (ended_by f ns) now (state_after (told_notes w t ns) (advance_to now ∷ []))
   unfolding state_after ran
   in_order ns f m t is on un once owed timely rises late fresh =
-      let by = told_in_order ns f m t is on un once owed timely rises late fresh in
+      let by = told_by_each ns f t (each_in_order ns f m t is on un once owed timely rises late fresh) in
       time_passes core quiet (ended_by f ns) by.at (told_notes w t ns) by.is 0 now by.within early ahead by.late
 
 -- ---- the ends are the same in any order
@@ -188,20 +201,26 @@ follows_in_order x r w told f near once perm back apart rises =
     rises (none_late x.now) fresh).same
     ∙ (ap (λ (h : Ends). with_ends h x.core x.now) (same_ends x.owed told perm back once apart) ∙ sym (f.is).same)
 
-pub told_so_far : (x : Split) (r : State) (w : Way) (told : List Notice) → (f : Follows x r) → (near : EndsNear x.core)
+pub each_so_far : (x : Split) (r : State) (w : Way) (told : List Notice) → (f : Follows x r) → (near : EndsNear x.core)
     → IsPermutation x.owed told → NamesEachOnce told → SeenRise w x.core (x.core).present told
-    → ToldBy x.core f.quiet x.now w f.early f.ahead near.ends (ended_by no_ends told) x.now (told_notes w x.core told)
-told_so_far x r w told f near perm apart rises =
+    → ToldEach x.core f.quiet x.now w f.early f.ahead near.ends no_ends x.core told
+each_so_far x r w told f near perm apart rises =
     let fresh : are_fresh x.now told ≡ true =
     list_of_each (λ (n : Notice). nat_lt x.now (n.moment + keepalive_period)) told
     (permuted (λ (n : Notice). nat_lt x.now (n.moment + keepalive_period) ≡ true) x.owed told perm
     (each_of_list (λ (n : Notice). nat_lt x.now (n.moment + keepalive_period)) x.owed f.fresh)) in
-    told_in_order x.core f.quiet x.now w f.early f.ahead near.ends told no_ends (x.core).present x.core (at_first x.core f.quiet)
+    each_in_order x.core f.quiet x.now w f.early f.ahead near.ends told no_ends (x.core).present x.core (at_first x.core f.quiet)
     (rises_to (x.core).present x.now x.owed f.rises) (all_untouched told) apart
     (permuted (IsOwed x.core f.quiet) x.owed told perm f.owed)
     (permuted (λ (n : Notice). ((x.core).present ≤ n.moment) × (n.moment ≤ x.now)) x.owed told perm
     (in_time (x.core).present x.now (x.core).present x.owed (omega arith) f.rises))
     rises (none_late x.now) fresh
+
+pub told_so_far : (x : Split) (r : State) (w : Way) (told : List Notice) → (f : Follows x r) → (near : EndsNear x.core)
+    → IsPermutation x.owed told → NamesEachOnce told → SeenRise w x.core (x.core).present told
+    → ToldBy x.core f.quiet x.now w f.early f.ahead near.ends (ended_by no_ends told) x.now (told_notes w x.core told)
+told_so_far x r w told f near perm apart rises =
+    told_by_each x.core f.quiet x.now w f.early f.ahead near.ends told no_ends x.core (each_so_far x r w told f near perm apart rises)
 
 pub kept_in_any_order : KeptInAnyOrder
 kept_in_any_order c events w told e perm apart rises =
