@@ -210,7 +210,8 @@ impl Core {
     }
 
     /// How an interface speaks IGMP from here on. Where it is to hear other older hosts, those are forgotten that were
-    /// heard there; of those that the router before this one knew it keeps whom it hears. One that the router doesn't have, since it refused another configuration, is left out.
+    /// heard there; of those that the router before this one knew it keeps whom it hears. One that the router doesn't
+    /// have, since it refused another configuration, is left out.
     pub fn speak(&mut self, iface: u32, wanted: Speech) -> Result<(), Fatal> {
         self.next = None;
         let told = self.speech.entry(iface).or_insert(Speech::NEW);

@@ -18,7 +18,8 @@ use Rattle.igmp_older.{specs.declared.{mode.OlderRow.OlderRow, setting.{OlderHos
 use Rattle.pim_types.{specs.declared.{config.Config.Config, event.Event.Event, fact.Key.Key, outcome.Emission.Emission}}
 use Rattle.pim_c.{specs.{Told.{answer_number, bytes_in, kept_number, name_of, no_interface_number, older_group_of, set_number, told_packet, written_into}, declared.told.{Forwarding.Forwarding, Interfaces.Interfaces, NamedSource.NamedSource, OlderGroup.OlderGroup, Packet.Packet, PlaneRow.PlaneRow}}}
 
--- What a session shows of a router that goes on from a state: the guard alone stands before it, and nothing is kept.
+-- What a session shows of a router that goes on from a state: the guard stands before it, and what was saved of older
+-- hosts, if anything was; nothing is kept.
 abbrev pub restored_shown : Held → ShownSession
 restored_shown h = record {
   router = begun h.state;
