@@ -46,8 +46,7 @@ def alone_first() -> Iterator[Part]:
     """What reads the sources only, while both are built."""
     yield tool("pimtext/installed.py", "packages", alone=True)
     yield tool("front", alone=True)
-    for name in ("test_bytes", "igmp_older_runs"):
-        yield Part(name, ("rt", "try", "--test"), f"crates/{name}", alone=True)
+    yield Part("test_bytes", ("rt", "try", "--test"), "crates/test_bytes", alone=True)
     for words in ("unused", "cited --check", "check_counts", "crates_table --check", "bundle_definitions --check",
                   "tables", "lint", "try_edits --front --changed"):
         yield tool(words, alone=True)

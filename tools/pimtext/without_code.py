@@ -18,8 +18,8 @@ WHOLE: dict[str, tuple[str, ...] | None] = {
 OF_KIT = ("byteorder",)
 # Files of definitions of other crates, each crate after those that it names.
 PARTS = {
-    "law_settled": ("Laws", "Ready"), "law_scope": ("Locality", "Rest", "Scopes"), "law_restored": ("Reload",),
-    "law_reloaded": ("Reloading",), "law_placed": ("Placing",), "pim_net": ("Reloading",),
+    "law_settled": ("Laws", "Ready"), "law_events": ("Locality", "Rest", "Scopes"),
+    "law_states": ("Reload", "Reloading", "Placing"), "pim_net": ("Reloading",),
     "igmp_older_saved": ("Hosts",), "pim_session": ("Front", "Placed", "Reloaded"), "pim_guard": ("Guard",),
     "pim_runs": ("Transcript",),
 }

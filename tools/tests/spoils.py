@@ -47,8 +47,8 @@ SPOILS = [
     Spoil("docs/TUTORIAL.md", "(#write-your-own)", "(#write-your-owm)", "check_docs", "#write-your-owm"),
     Spoil("docs/CALLS.md", "of the folders `specs` of `pim_model`", "of the folders `specs` of `pim_models`", "cited",
         "docs/CALLS.md: this isn't so"),
-    Spoil("docs/CALLS.md", "| `law_history` | what led", "| `law_history` | what brought", "crates_table",
-        "law_history"),
+    Spoil("docs/CALLS.md", "| `law_states` | what holds", "| `law_states` | what held", "crates_table",
+        "law_states"),
     # A scenario that stands in two places, what is stored of one, and programs that use the library.
     Spoil("examples/one_join.toml", "[[router]]", "[[router]] ", "test_copies", "one_join.toml"),
     Spoil("crates/test_scenarios/data/a_register_stop.out", "move 2 r done", "move 2 r ignored Own", "test_pimlab",

@@ -39,7 +39,7 @@ class Spoilt(unittest.TestCase):
         self.refused("pim_mfc lists pim_meter")
 
     def test_a_router_that_lists_no_meter(self):
-        self.spoil("crates.txt", " pim_tables pim_meter law_promises", " pim_tables law_promises", "")
+        self.spoil("crates.txt", " pim_tables pim_meter law_streams", " pim_tables law_streams", "")
         self.refused("pim_router lists no pim_meter")
 
     def test_a_meter_that_can_be_cloned(self):

@@ -141,7 +141,7 @@ class Walk(unittest.TestCase):
 
     def test_each_law_of_networks(self):
         law = "ghost use Rattle.low.specs.Laws.{Lemma};\n\n/// It is so.\npub fn lemma()\n    ensures { Lemma }\n{}\n"
-        with repository({**FILES, "crates/law_causes/src/lib.rt": law}) as room:
+        with repository({**FILES, "crates/law_streams/src/lib.rt": law}) as room:
             self.assertIn(("low/specs/Laws", "Lemma"), cited.trusted(room))
 
     def test_what_is_said_of_each_call(self):

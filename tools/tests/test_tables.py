@@ -125,9 +125,9 @@ class Tables(unittest.TestCase):
         for text, paths in (
             ("        metric: u32,", {"crates/pim_rows/src/table.rt"}),
             ("(e.1).winner.address (e.1).end (e.1).winner.metric", {"crates/pim_rows/specs/Printed.antt"}),
-            ("metric: self.winner.metric,", {"crates/pim_printed/src/line.rt"}),
+            ("metric: self.winner.metric,", {"crates/pim_shown/src/line.rt"}),
             ("winner.bits ∷ end ∷ metric ∷ []", {"crates/pim_runs/specs/Transcript.antt"}),
-            ("A {place} {role} {winner} {end} {metric}", {"crates/lab_stations/src/table.rt"}),
+            ("A {place} {role} {winner} {end} {metric}", {"crates/lab_parts/src/table.rt"}),
             ("row_of (Row.Assert key role winner end metric)", {
                 "crates/pim_c/specs/Rows.antt", "crates/pim_c/src/rows.rt"}),
             ("metric: of.metric", {"bindings/rust/src/rows.rs"}),

@@ -3,7 +3,7 @@ use Rattle.std.{proofs.{Common.{◌≡◌, ◌∙◌, ℕ, ◌-◌, Bool, true, 
 use Rattle.pim_types.{specs.{Keys.key_cmp, declared.fact.{GroupRecordRow.GroupRecordRow, Key.Key}}, proofs.Keys.key_cmp_total}
 use Rattle.pim_model.{specs.{State.State, Tables.{Table, keys_in, put}}}
 use Rattle.law_settled.{specs.Ready.Rises, proofs.{ListLaws.{each_passes, list_of_each}, RisingKeys.{IsBelow, Up, sorted_of_up, up_filter, up_of_sorted}}}
-use Rattle.pim_rested.{specs.{Resuming.{IsResumable, resume_test}, declared.refusal.RestoreRefusal.RestoreRefusal}, proofs.Tests.resumable_is_decided}
+use Rattle.pim_worlds.{specs.{Resuming.{IsResumable, resume_test}, declared.refusal.RestoreRefusal.RestoreRefusal}, proofs.RestedTests.resumable_is_decided}
 use Rattle.igmp_older.{specs.{Modes.running, Presence.put_rows, declared.mode.PresentRow.PresentRow}, proofs.Put.put_rising}
 use Rattle.igmp_older_saved.{specs.{declared.host.HostRow.HostRow, Hosts.{are_held, entry_resumed, entry_told, host_told, is_ahead, is_held, is_running, longest_interval, resumed_row, resumed_rows, saved_hosts}, Laws.{HostsAreResumed, SavedHostsAreHeld}, Reading.{held_test, test_behind}}}
 

@@ -4,7 +4,7 @@ use Rattle.pim_types.{specs.declared.fact.GroupRecordRow.GroupRecordRow}
 use Rattle.pim_model.{specs.{State.State, Tables.Table}}
 use Rattle.pim_saved.{specs.Laws.AreBytes}
 use Rattle.law_settled.{specs.Ready.Rises}
-use Rattle.pim_rested.{specs.Resuming.IsResumable}
+use Rattle.pim_worlds.{specs.Resuming.IsResumable}
 use Rattle.igmp_older.{specs.{Presence.put_rows, declared.mode.PresentRow.PresentRow}}
 use Rattle.igmp_older_saved.{specs.{Hosts.{resumed_rows, saved_hosts}, Reading.{held_reading, held_test}, Text.{Held, held_text, FitsHeld}}}
 

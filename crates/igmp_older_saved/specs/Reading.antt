@@ -2,7 +2,7 @@
 use Rattle.std.{specs.Prelude.{ℕ, Bool, true, false, ◌-◌, ◌==◌, if◌then◌else◌, length, take, List, [], ◌∷◌, Option, Result, Ok, Err}}
 use Rattle.pim_model.{specs.{State.State, Tables.Table}}
 use Rattle.pim_saved.{specs.{Reading.{◌>>=◌, Reader, end_at, in_turn, made, reading, table_at, undamaged, word_at}, declared.refusal.SavedRefusal.SavedRefusal}}
-use Rattle.pim_rested.{specs.{Resuming.resume_test, declared.refusal.RestoreRefusal.RestoreRefusal}}
+use Rattle.pim_worlds.{specs.{Resuming.resume_test, declared.refusal.RestoreRefusal.RestoreRefusal}}
 use Rattle.igmp_older_saved.{specs.{Hosts.are_held, Text.{Held, tag}, declared.{host.HostRow.HostRow, refusal.HeldRefusal.HeldRefusal}}}
 
 unfoldable pub host_at : Reader HostRow

@@ -1,6 +1,6 @@
 -- The numbers of what is refused.
 use Rattle.std.{specs.Prelude.ℕ}
-use Rattle.pim_rested.{specs.Refused.restore_refusal_number}
+use Rattle.pim_worlds.{specs.Refused.restore_refusal_number}
 use Rattle.igmp_older_saved.{specs.declared.refusal.HeldRefusal.HeldRefusal}
 
 -- the number under which a refusal of bytes is told

@@ -1,13 +1,13 @@
 //! The row of a group of older hosts as it is saved.
-ghost use Rattle.std.specs.Prelude.{◌≡◌, ◌++◌, OnOk};
+ghost use Rattle.igmp_older.specs.Modes.{running};
+ghost use Rattle.igmp_older_saved.specs.Hosts.{host_told, is_ahead, is_running, resumed_row};
+ghost use Rattle.igmp_older_saved.specs.Reading.{host_at};
+ghost use Rattle.igmp_older_saved.specs.Text.{host_text, FitsHost};
 ghost use Rattle.pim_saved.specs.Fits.{FitsEnd};
 ghost use Rattle.pim_saved.specs.Reading.{end_at};
 ghost use Rattle.pim_saved.specs.Text.{end_text};
 ghost use Rattle.pim_saver.specs.Read.{read};
-ghost use Rattle.igmp_older.specs.Modes.{running};
-ghost use Rattle.igmp_older_saved.specs.Hosts.{host_told, is_ahead, is_running, resumed_row};
-ghost use Rattle.igmp_older_saved.specs.Text.{host_text, FitsHost};
-ghost use Rattle.igmp_older_saved.specs.Reading.{host_at};
+ghost use Rattle.std.specs.Prelude.{◌≡◌, ◌++◌, OnOk};
 
 use igmp_older::PresentRow;
 use pim_saved::SavedRefusal;

@@ -1,8 +1,8 @@
 //! Rows of older hosts read, and the router's bytes behind them.
-ghost use Rattle.std.specs.Prelude.{◌≡◌};
-ghost use Rattle.pim_saver.specs.Read.{Gives};
 ghost use Rattle.igmp_older_saved.specs.Reading.{before_sum, hosts_at, is_tagged, opened};
 ghost use Rattle.igmp_older_saved.specs.Slices.{bytes_of};
+ghost use Rattle.pim_saver.specs.Read.{Gives};
+ghost use Rattle.std.specs.Prelude.{◌≡◌};
 
 use crate::host::HostRow;
 use crate::writing::TAG;

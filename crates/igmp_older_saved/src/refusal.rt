@@ -1,5 +1,5 @@
 //! Why no router with its groups of older hosts is made of bytes.
-use pim_rested::RestoreRefusal;
+use pim_worlds::RestoreRefusal;
 
 /// Why no router with its groups of older hosts is made of bytes: the first test that fails.
 #[derive(Clone, Copy, PartialEq, Eq, Debug)]

@@ -1,8 +1,8 @@
 //! Rows of older hosts written in front of a router's bytes.
-ghost use Rattle.std.specs.Prelude.{◌≡◌, ◌++◌, [], OnErr, OnOk};
+ghost use Rattle.igmp_older_saved.specs.Text.{hosts_text, summed, text_with, FitsHost};
 ghost use Rattle.law_settled.specs.Ready.{Rises};
 ghost use Rattle.pim_saved.specs.Fits.{FitsEntry, FitsList, FitsTable};
-ghost use Rattle.igmp_older_saved.specs.Text.{hosts_text, summed, text_with, FitsHost};
+ghost use Rattle.std.specs.Prelude.{◌≡◌, ◌++◌, [], OnErr, OnOk};
 
 use crate::host::HostRow;
 use pim_saver::{Saved, write_rows, write_sum};

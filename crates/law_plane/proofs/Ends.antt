@@ -4,7 +4,7 @@ use Rattle.std.{proofs.{Common.{◌≡◌, ◌+◌, ℕ, Bool, true, false, cond
 use Rattle.pim_types.{specs.{declared.{fact.{AssertRow.AssertRow, DownstreamRow.DownstreamRow, GroupRecordRow.GroupRecordRow, GroupRepeatRow.GroupRepeatRow, InterfaceRow.InterfaceRow, JoinTimerRow.JoinTimerRow, Key.Key, NeighbourRow.NeighbourRow, OverrideTimerRow.OverrideTimerRow, QuerierRow.QuerierRow, RegisterRow.RegisterRow, SourceRecordRow.SourceRecordRow, SourceRepeatRow.SourceRepeatRow, SourceRow.SourceRow}, timer.TimerKind.TimerKind}, Keys.{key_cmp, same_key, source_key}}, proofs.Keys.equal_keys}
 use Rattle.pim_model.{specs.{Registers.{keepalive_period, with_keepalive}, Sets.spt_bit, State.State, Tables.{Table, has_row, keys_in, put, row_at}, Timers.{Ending, ending, endings, next_query, other_querier_end, register_end, timers}}}
 use Rattle.law_settled.{specs.Laws.ends_after}
-use Rattle.law_scope.{proofs.OwnKeys.{all_later, none_below}}
+use Rattle.law_events.{proofs.OwnKeys.{all_later, none_below}}
 
 -- the new end of each key's timer, if it has one
 abbrev pub Ends : Type 0

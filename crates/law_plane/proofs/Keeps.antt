@@ -4,8 +4,7 @@ use Rattle.pim_ip.{specs.Ipv4.Packet}
 use Rattle.pim_types.{specs.{declared.fact.{Key.Key, SourceRow.SourceRow}, Keys.{group_in, same_key, source_in, source_key}}, proofs.Keys.equal_keys}
 use Rattle.pim_model.{specs.{Cache.{Plain, answers, cached}, Registers.{keepalive_period, with_keepalive}, Sets.{is_kept_alive, spt_bit}, State.{State, is_up}, Step.Answered, Tables.{has_row, row_at}}}
 use Rattle.law_settled.{proofs.{Parts.Sources, RowLaws.{has_row_put, row_put}, TableLaws.row_of_each, FineStates.{Good, IsFine, Runs, with_row}, SettledStates.{fine_is_settled, settled_is_fine}}, specs.Ready.IsOrdered}
-use Rattle.law_scope.{specs.{Locality.{AgreesBut, touching}, Rest.IsAtRest}, proofs.{EndsAgain.keepalive_again, OwnKeys.present_touches_none, QuietStates.quiet_goes_on, SameMacros.join_desired_same, Touches.agrees_then}}
-use Rattle.law_cache.{specs.Decided.{kept_if, plainly_taken}, proofs.{KeptAlive.{kept_as_it_was, now_kept, sees_kept}, PlainPackets.plain_is_stepped, SameAnswers.answers_same}}
+use Rattle.law_events.{specs.{Locality.{AgreesBut, touching}, Rest.IsAtRest, Decided.{kept_if, plainly_taken}}, proofs.{EndsAgain.keepalive_again, OwnKeys.present_touches_none, QuietStates.quiet_goes_on, SameMacros.join_desired_same, Touches.agrees_then, KeptAlive.{kept_as_it_was, now_kept, sees_kept}, PlainPackets.plain_is_stepped, SameAnswers.answers_same}}
 use Rattle.law_plane.{specs.Keeping.{KeepChangesNoAnswer, KeepChangesNoRow, KeepEndsLater, KeepIsAPacket, KeepIsAtRest, KeepStartsNone, keep, keepalive_end, kept_until}, proofs.Times.answers_later}
 
 true_lt : (a b : ℕ) → nat_lt a b ≡ true → a < b

@@ -2,9 +2,7 @@
 use Rattle.std.{proofs.Common.{◌≡◌, ◌≤◌, Bool, true, false, cond, List, [], ◌∷◌, length, refl, sym, subst, arith}}
 use Rattle.pim_types.{specs.declared.{event.Event.Event, outcome.Outcome.Outcome}}
 use Rattle.pim_model.{specs.{Judging.last_moment, Limits.most_ifaces, State.State, Step.{outcome_of, state_after, step}}}
-use Rattle.law_scope.{proofs.Rest.{opening_is_at_rest, step_is_at_rest}}
-use Rattle.law_named.{specs.Named.event_named}
-use Rattle.law_cache.{proofs.{RowsOfSteps.step_stays_configured, RowsOfRuns.few_opening}}
+use Rattle.law_events.{specs.Named.event_named, proofs.{Rest.{opening_is_at_rest, step_is_at_rest}, RowsOfSteps.step_stays_configured, RowsOfRuns.few_opening}}
 use Rattle.law_plane.{specs.{Late.{LateRouterIsSound, LateSplitIsSound, is_the_cores, late_ran, late_step, owed_again, repeated_ran}, Split.{Split, split_step, whole}, SplitLaws.{caught_late, packets_of}, ToldLaws.{AreTold, told_anew}}, proofs.{Ends.no_ends, Orders.{ended_at, heard_at, late_follows}, Passes.{Passed, ended_by}, Splits.{Follows, Goes, caught, opening_is_early, step_goes, step_stays_early, whole_follows}, ToldRows.{opening_is_told, step_keeps_told}}}
 
 module _ (x : Split) (r : State) (f : Follows x r) where

@@ -4,8 +4,7 @@ use Rattle.pim_ip.{specs.Ipv4.Packet}
 use Rattle.pim_types.{specs.{declared.{event.Event.Event, fact.Key.Key, outcome.Outcome.Outcome}, Keys.same_key}, proofs.Keys.equal_keys}
 use Rattle.pim_model.{specs.{Cache.Plain, Judging.last_moment, Plain.fact_key, Registers.keepalive_period, State.State, Step.{Answered, outcome_of, ran, run, state_after, step}}}
 use Rattle.law_settled.{specs.Laws.ends_after}
-use Rattle.law_scope.{specs.Rest.IsAtRest}
-use Rattle.law_cache.{specs.Decided.{IsDecided, plainly_taken}}
+use Rattle.law_events.{specs.{Rest.IsAtRest, Decided.{IsDecided, plainly_taken}}}
 use Rattle.law_plane.{specs.{Split.{Notice, Split, advance_to, replayed}, SplitLaws.{CatchesUpInCopies, LateIsOnceMore, PlainInAnyOrder, PlainOnceIsEnough, caught_late, packets_of}}, proofs.{Ends.{AreLate, Ends, no_ends, set_end, with_ends}, Notes.none_late, Passes.{IsOwed, Passed, RisesTo, ahead_before, are_fresh, end_if, ended_by, late_before, late_set, packet_passes, rises_to, stepped, time_passes, time_stepped}, Splits.{Follows, at_first, ran_so}}}
 
 -- ---- two packets of a moment

@@ -5,8 +5,7 @@ use Rattle.pim_ip.{specs.Ipv4.Packet}
 use Rattle.pim_types.{specs.declared.{event.{Event.Event, EventKind.EventKind}, fact.Key.Key}}
 use Rattle.pim_model.{specs.{Cache.{Plain, answers, cached}, Judging.last_moment, Plain.fact_key, Registers.keepalive_period, Sets.Set, State.State, Step.{Answered, ran, state_after, step}, Tables.has_row}}
 use Rattle.law_settled.{specs.Laws.ends_after, proofs.ListLaws.all_more}
-use Rattle.law_scope.{specs.Rest.IsAtRest, proofs.Rest.step_is_at_rest}
-use Rattle.law_cache.{specs.Decided.{IsDecided, kept_if, plainly_taken}, proofs.{KeptAlive.{no_answer_changed, with_its_row}, PlainPackets.{plain_is_stepped, plain_keeps_cache}}}
+use Rattle.law_events.{specs.{Rest.IsAtRest, Decided.{IsDecided, kept_if, plainly_taken}}, proofs.{Rest.step_is_at_rest, KeptAlive.{no_answer_changed, with_its_row}, PlainPackets.{plain_is_stepped, plain_keeps_cache}}}
 use Rattle.law_plane.{specs.{Offload.dropped, Split.{Notice, advance_to, replayed}}, proofs.{Ends.{AreLate, Ends, ends_later, kept_ended, set_end, still_there, with_ends}, Hears.data_alike, Times.{answers_later, passes, rows_later}}}
 
 -- ---- moments

@@ -3,8 +3,7 @@ use Rattle.std.{proofs.{Common.{◌≡◌, ◌+◌, ℕ, Bool, true, false, cond
 use Rattle.pim_ip.{specs.Ipv4.{Packet, copy_text}}
 use Rattle.pim_types.{specs.declared.{config.IfaceId.IfaceId, event.Event.Event, fact.SourceRow.SourceRow, outcome.{Emission.Emission, Verdict.Verdict}}}
 use Rattle.pim_model.{specs.{Cache.{Answers, Plain, answers, cached}, Forwarding.no_interface, Judging.{data_judged, frame_judged, judged, packet_judged}, Plain.{IsCopy, IsPlainEvent, fact_key}, Registers.keepalive_period, Sets.{Set, members}, State.{State, ifaces}, Step.{Answered, step}, Tables.{has_row, row_at}, Writing.{copies_of, on_link}}}
-use Rattle.law_scope.{specs.Rest.IsAtRest}
-use Rattle.law_cache.{specs.Decided.{IsDecided, decided_by_answers, kept_if, plainly_taken}, proofs.{KeptAlive.{found, kept_row}, PlainEvents.{decided_is_plain, plain_is_decided}, PlainPackets.plain_is_stepped, Puts.put_same}}
+use Rattle.law_events.{specs.{Rest.IsAtRest, Decided.{IsDecided, decided_by_answers, kept_if, plainly_taken}}, proofs.{KeptAlive.{found, kept_row}, PlainEvents.{decided_is_plain, plain_is_decided}, PlainPackets.plain_is_stepped, Puts.put_same}}
 use Rattle.law_plane.{specs.{Offload.{Handling, decision, dropped, handled, handling, handling_of, is_to_core, offload, taken_by_plane, told}, OffloadLaws.{BringsData, CopiesShowWhere, DataIsHeard, IsSilent, PlainIsPlane, PlaneIsPlain, PlaneIsStepped, SpentPacketTells}}, proofs.Decides.{row_decides, row_decides_any}}
 
 -- ---- which rows there are

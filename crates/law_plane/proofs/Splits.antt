@@ -5,9 +5,7 @@ use Rattle.pim_ip.{specs.{Ipv4.Packet, declared.refusal.Refusal.Refusal}}
 use Rattle.pim_types.{specs.declared.{config.{Config.Config, IfaceId.IfaceId}, event.{Event.Event, EventKind.EventKind}, fact.SourceRow.SourceRow, outcome.{Outcome.Outcome, Verdict.Verdict}}}
 use Rattle.pim_model.{specs.{Cache.{Answers, Plain, answers}, declared.accepted.Accepted.Accepted, Forwarding.no_interface, Full.{counted, is_full}, Judging.{Judged, advance_judged, judged, last_moment, refuse_if, ◌>>◌}, Limits.most_ifaces, Plain.fact_key, Registers.keepalive_period, Sets.{Set, members}, State.{State, opening}, Step.{Answered, advanced, concluded, outcome_of, ran, run, state_after, step, taken, taken_unless_full}, Tables.{Table, has_row}, Writing.copies_of}}
 use Rattle.law_settled.{specs.Laws.ends_after, proofs.Steps.step_stays_ahead}
-use Rattle.law_scope.{specs.Rest.IsAtRest, proofs.Rest.{opening_is_at_rest, step_is_at_rest}}
-use Rattle.law_named.{specs.Named.event_named}
-use Rattle.law_cache.{specs.{Decided.{IsDecided, plainly_taken}, Kept.SameDecision}, proofs.{RowsOfSteps.step_stays_configured, RowsOfRuns.few_opening}}
+use Rattle.law_events.{specs.{Rest.IsAtRest, Named.event_named, Decided.{IsDecided, plainly_taken}, Kept.SameDecision}, proofs.{Rest.{opening_is_at_rest, step_is_at_rest}, RowsOfSteps.step_stays_configured, RowsOfRuns.few_opening}}
 use Rattle.law_plane.{specs.{Offload.{Handling, Row, decision, dropped, handled, handling, handling_of, handling_unknown, offload, taken_by_plane, unknown_of}, Split.{Notice, Split, by_core, by_judgement, by_kind, by_plane, caught_up, handled_at, handled_by, nothing_sent, passes_quietly, sent, split_ran, split_step, time_goes, whole, with_notice}, SplitLaws.SplitRouterIsSound, ToldLaws.{AreTold, PlaneRows, told_anew}}, proofs.{Ends.{Ends, as_it_is, ended, no_ends, set_end, still_there}, Hears.data_alike, Notes.{late_by, none_late, noted_each, noted_ends, noted_fresh, noted_rises, rises_later}, Passes.{IsOwed, Passed, RisesTo, are_fresh, ended_by, packet_passes, replays, stepped, time_passes, time_stepped}, Planes.{is_decided, none_leave}, UnknownSources.{never_alive, unknown_is_stepped, unknown_needs_room}, ToldRows.{opening_is_told, step_keeps_told}}}
 
 -- ---- lists that are the same of some numbers

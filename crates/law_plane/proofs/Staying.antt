@@ -3,9 +3,7 @@ use Rattle.std.{proofs.{Common.{◌≡◌, ◌+◌, ℕ, Bool, true, false, cond
 use Rattle.pim_types.{specs.{declared.fact.{Key.Key, SourceRow.SourceRow}, Keys.{key_cmp, source_key}}, proofs.Keys.{equal_keys, key_cmp_total}}
 use Rattle.pim_model.{specs.{Cache.{Answers, answers}, Clearing.clear, Downstream.is_named as is_named_key, Firing.{fire_once, settled}, Full.{counted, distinct, needed, once_more, passes_limit, source_is_full}, Messages.Message, Reach.own_firing, Registers.{keepalive_period, with_keepalive}, Sets.is_kept_alive, State.State, Step.{Answered, done}, Tables.{Table, has_row, keys_in, put, row_at}}}
 use Rattle.law_settled.{proofs.RowLaws.has_row_put, specs.Ready.{IsOrdered, Rises}}
-use Rattle.law_scope.{specs.Rest.IsAtRest}
-use Rattle.law_named.{specs.Named.is_source_named, proofs.Calm.settled_same}
-use Rattle.law_cache.{specs.{Decided.{kept_if, plainly_taken}, Kept.SameAnswers}, proofs.{KeptAlive.no_answer_changed, PlainPackets.plain_is_stepped, SameRows.{answers_itself, row_through}, RowsOfEvents.unnamed_fact}}
+use Rattle.law_events.{specs.{Rest.IsAtRest, Named.is_source_named, Decided.{kept_if, plainly_taken}, Kept.SameAnswers}, proofs.{Calm.settled_same, KeptAlive.no_answer_changed, PlainPackets.plain_is_stepped, CacheSameRows.{answers_itself, row_through}, RowsOfEvents.unnamed_fact}}
 use Rattle.law_plane.{specs.{Keeping.kept_until, Offload.offload, Offered.{Offered, offered, unknown_row}, Staying.{FiringSourceStays, KeepOfferStays, OfferStays, OffersAlike, PlainOfferStays, SourceStays, StaysInTurn, TimeSourceStays, UnnamedSourceStays}, ToldLaws.DecideAlike}, proofs.{Keeps.{answers_as_before, keep_by, running, running_there}, OfferedRows.unknown_row_decides, ToldRows.{alike_offload, firing_answers_stay, same_itself, time_answers_stay, unknown_stays, unnamed_answers_stay}}}
 
 -- ---- what is offered

@@ -4,8 +4,7 @@ use Rattle.pim_ip.{specs.declared.refusal.Refusal.Refusal}
 use Rattle.pim_types.{specs.{declared.{event.EventKind.EventKind, outcome.{Emission.Emission, Verdict.Verdict}}, Keys.source_key}}
 use Rattle.pim_model.{specs.{Cache.{answers, cached}, declared.accepted.Accepted.Accepted, Full.is_full, Judging.{Judged, advance_judged, judged, last_moment, refuse_if, ◌>>◌}, Sets.{is_kept_alive, spt_bit}, State.State, Step.{advanced, concluded, step, taken, taken_unless_full}, Tables.has_row, Timers.{Ending, next_due}}}
 use Rattle.law_settled.{specs.Laws.ends_after, proofs.{FiringLaws.firing_stops, TimerLaws.{IsNext, is_next}, ShownEnds.shown_is_later}}
-use Rattle.law_scope.{specs.Sees.SeesSource, proofs.{SameMacros.join_desired_same, SameSights.source_at}}
-use Rattle.law_cache.{proofs.SameAnswers.answers_same}
+use Rattle.law_events.{specs.Sees.SeesSource, proofs.{SameMacros.join_desired_same, SameSights.source_at, SameAnswers.answers_same}}
 use Rattle.law_plane.{specs.Offload.dropped}
 
 pub none_due : (m : ℕ) (s : State) → ends_after m s ≡ true → next_due m s ≡ None

@@ -2,8 +2,7 @@
 use Rattle.std.{proofs.{Common.{◌≡◌, ◌+◌, ◌-◌, ◌≤◌, ℕ, zero, suc, Bool, true, false, cond, List, [], ◌∷◌, ◌++◌, length, Ok, Err, Option, Some, None, nat_lt, option_map, refl, sym, ap, subst, arith}, lemmas.{Bool.or_parts, List.Folds.list_any-append}}}
 use Rattle.pim_types.{specs.declared.{config.Config.Config, event.Event.Event, fact.Key.Key, outcome.Emission.Emission}}
 use Rattle.pim_model.{specs.{Cache.{Answers, Plain, cached, plain}, declared.accepted.Accepted.Accepted, Firing.fire_once, Full.is_full, Judging.{Judged, judged}, Limits.most_ifaces, Reach.{own_firing, told_all, told_instant, told_once, where_accepted}, Repeat.{after_next, and_then, until_none}, State.{Addressing, State, opening}, Step.{done, ran, state_after, step}, Timers.{Ending, next_due, timers}}}
-use Rattle.law_named.{specs.Named.{event_named, named_by, named_of}, proofs.{Advance.same_end, Configured.{change_configured, firing_configured}, Settled.{settled_configured, settled_keeps}}}
-use Rattle.law_cache.{specs.Kept.{Cache, Held, SameAnswers, SameDecision, SameRow, cache_after, cache_concluded, cache_taken, cache_unless_full, held_all, held_instant, held_once, is_listed, refreshed}, proofs.{Decides.decide_same, RowsOfSteps.{opening_is_cached, step_keeps_cache, step_stays_configured}, SameRows.{kept_is_same, row_itself}, RowsOfRuns.few_opening}}
+use Rattle.law_events.{specs.{Named.{event_named, named_by, named_of}, Kept.{Cache, Held, SameAnswers, SameDecision, SameRow, cache_after, cache_concluded, cache_taken, cache_unless_full, held_all, held_instant, held_once, is_listed, refreshed}}, proofs.{Advance.same_end, Configured.{change_configured, firing_configured}, Settled.{settled_configured, settled_keeps}, Decides.decide_same, RowsOfSteps.{opening_is_cached, step_keeps_cache, step_stays_configured}, CacheSameRows.{kept_is_same, row_itself}, RowsOfRuns.few_opening}}
 use Rattle.law_plane.{specs.{Offload.{Handling, decision, handled, handling, handling_unknown, offload, told}, ToldLaws.{AreTold, DecideAlike, FiringAnswersStay, MoreMayBeTold, PlaneRows, RouterKeepsTold, StepKeepsTold, TimeAnswersStay, UnnamedAnswersStay, UnnamedRowStays, no_plane_rows, told_anew, told_at_end}}, proofs.{Decides.row_decides, Times.answers_later}}
 
 -- ---- alike

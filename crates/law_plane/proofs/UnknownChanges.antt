@@ -4,10 +4,9 @@ use Rattle.std.{proofs.{Common.{◌≡◌, ◌⊎◌, inl, ℕ, Bool, true, fals
 use Rattle.pim_types.{specs.{declared.fact.{AssertRow.AssertRow, Key.Key, SourceRow.SourceRow}, Keys.{key_cmp, source_key, star_key}}, proofs.Keys.same_key_same}
 use Rattle.pim_model.{specs.{AssertMacros.could_assert_star, Asserts.{assert_forgotten, could_assert_at, data_seen, wins, with_spt_bit, without_spt, without_spt_bit}, Cache.{answers, is_contested, keeps_alive, sets_spt}, Clearing.{Cleared, assert_must_go, clear_all, clearable_count, cleared, spt_must_go, to_clear}, Desires.{is_inherited_empty, join_desired}, Forwarding.{Forwarded, forwarded, has_local_receivers, is_spt_reached, list_chosen, source_here, source_joined, spt_updated, stray, watched}, Messages.Message, Registers.{could_register, is_spt_wanted, settle_register, settle_registers, with_keepalive}, Sets.{inherited_olist_rpt, is_kept_alive, spt_bit}, State.State, Step.{change, done, step, taken, taken_unless_full}, Tables.{Table, change_row, changed_entry, has_row, row_at, same_bool, same_option}, Unicast.{is_connected, is_rpf_interface, is_rpf_interface_rp, route, rpf_interface}}}
 use Rattle.law_settled.{proofs.{ListLaws.{each_more, each_of_list, list_of_each}, RowLaws.{each_put, has_row_put, row_put}, TurnLaws.kept_to_the_end, UnchangedLaws.full_or_taken}}
-use Rattle.law_scope.{specs.{Locality.is_register_settled, Rest.IsAtRest}}
-use Rattle.law_cache.{proofs.{FirstCleared.{Kept, end_keeps, kept_of, nothing_went, spt_at}, KeptAlive.{now_kept, row_passes, with_its_row}, NothingFollows.registers_stay, Puts.{found_where_sorted, rows_are_there}, SptSets.{could_as_before, now_set, still_desired}, Wins.{star_stays, winner}, PlainSteps.reached_on_link}}
+use Rattle.law_events.{specs.{Locality.is_register_settled, Rest.IsAtRest}, proofs.{FirstCleared.{Kept, end_keeps, kept_of, nothing_went, spt_at}, KeptAlive.{now_kept, row_passes, with_its_row}, NothingFollows.registers_stay, Puts.{found_where_sorted, rows_are_there}, SptSets.{could_as_before, now_set, still_desired}, Wins.{star_stays, winner}, PlainSteps.reached_on_link}}
 use Rattle.law_plane.{specs.{Offload.{handling_unknown, is_to_core, offload}, OffloadLaws.UnknownWithoutEffectIsForPlane}, proofs.{Decides.is_the_cores, UnknownSources.{forwarded_by, here, joined, no_spt_bit}}}
-use Rattle.law_cache.proofs.Wins
+use Rattle.law_events.proofs.Wins
 
 -- ---- a timer that runs goes on through clearing
 

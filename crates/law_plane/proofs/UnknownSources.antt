@@ -4,8 +4,7 @@ use Rattle.pim_ip.{specs.Ipv4.Packet}
 use Rattle.pim_types.{specs.{declared.{config.IfaceId.IfaceId, event.Event.Event}, Keys.source_key}}
 use Rattle.pim_model.{specs.{Asserts.{data_seen, with_spt_bit}, Cache.{Answers, Plain, answers, away_from, is_contested, is_on_shared_tree, keeps_alive, opens_tunnel, plain, sets_spt}, declared.accepted.Accepted.Accepted, Desires.{is_inherited_empty, join_desired}, Downstream.is_named, Firing.settled, Forwarding.{Forwarded, forwarded, is_spt_reached, list_chosen, no_interface, source_here, source_joined, spt_updated, stray, watched, when}, Full.{distinct, is_full, needed, once_more, passes_limit, source_is_full}, Judging.Judged, Plain.fact_key, Querier.each_in_turn, Registers.{settle_register, with_keepalive}, Sets.{Set, inherited_olist_rpt, spt_bit}, State.State, Step.{Answered, change, concluded, done, packet_forwarded, step, taken, taken_unless_full}, Tables.has_row, Unicast.{is_connected, is_rpf_interface, is_rpf_interface_rp}, Writing.{all_written, tunnel_of, write_all}}}
 use Rattle.law_settled.{proofs.UnchangedLaws.full_or_taken}
-use Rattle.law_scope.{specs.Rest.IsAtRest, proofs.Differing.nothing_follows}
-use Rattle.law_cache.{specs.Decided.{kept_if, plainly_taken}, proofs.PlainSteps.reached_on_link}
+use Rattle.law_events.{specs.{Rest.IsAtRest, Decided.{kept_if, plainly_taken}}, proofs.{Differing.nothing_follows, PlainSteps.reached_on_link}}
 use Rattle.law_plane.{specs.{Offload.{Handling, Row, decision, dropped, handling, handling_unknown, offload, taken_by_plane}, OffloadLaws.{BringsData, UnknownIsRefused, UnknownIsStepped, UnknownNeedsRoom}}, proofs.{Decides.row_decides_any, Planes.plainly_dropped}}
 
 -- ---- of no change nothing follows

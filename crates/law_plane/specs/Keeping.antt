@@ -3,8 +3,7 @@ use Rattle.std.{specs.{Option.option_map_or, Prelude.{Option, Some, if◌then◌
 use Rattle.pim_ip.{specs.Ipv4.Packet}
 use Rattle.pim_types.{specs.{declared.{event.Event.Event, fact.SourceRow.SourceRow}, Keys.source_key}}
 use Rattle.pim_model.{specs.{Cache.{Plain, answers, cached}, Registers.keepalive_period, Sets.{is_kept_alive, spt_bit}, State.State, Step.step, Tables.{put, row_at}}}
-use Rattle.law_scope.{specs.Rest.IsAtRest}
-use Rattle.law_cache.{specs.Decided.IsDecided}
+use Rattle.law_events.{specs.{Rest.IsAtRest, Decided.IsDecided}}
 
 -- When KAT(S,G) expires, if it runs.
 unfoldable pub keepalive_end : State → ℕ → ℕ → Option ℕ

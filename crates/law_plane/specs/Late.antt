@@ -3,8 +3,7 @@
 use Rattle.std.{specs.Prelude.{Bool, List, Ok, [], if◌then◌else◌, length, not, true, ◌∷◌, ◌≡◌, ◌≤◌}}
 use Rattle.pim_types.{specs.declared.{config.Config.Config, event.{Event.Event, EventKind.EventKind}, outcome.Outcome.Outcome}}
 use Rattle.pim_model.{specs.{declared.accepted.Accepted.Accepted, Judging.{Judged, judged, last_moment}, Limits.{config_test, most_ifaces}, State.{State, opening}, Step.{Answered, outcome_of, state_after, step}}}
-use Rattle.law_scope.{specs.Rest.IsAtRest}
-use Rattle.law_named.{specs.Named.event_named}
+use Rattle.law_events.{specs.{Rest.IsAtRest, Named.event_named}}
 use Rattle.law_plane.{specs.{Offload.is_to_core, Split.{Split, caught_up, handled_by, passes_quietly, split_step, whole}, SplitLaws.{caught_late, packets_of}, ToldLaws.{AreTold, PlaneRows, no_plane_rows, told_anew}}}
 
 -- ---- which events are the core's

@@ -4,7 +4,7 @@ use Rattle.std.{specs.Prelude.{Bool, None, Ok, Option, Some, [], false, if◌the
 use Rattle.pim_ip.{specs.Ipv4.Packet}
 use Rattle.pim_types.{specs.declared.{config.IfaceId.IfaceId, outcome.Verdict.Verdict}}
 use Rattle.pim_model.{specs.{Cache.{Answers, Plain, answers, away_from, cached, is_on_shared_tree, keeps_alive, opens_tunnel, sets_spt}, declared.accepted.Accepted.Accepted, Forwarding.no_interface, Full.is_full, Plain.fact_key, Sets.Set, State.State, Step.Answered, Tables.{has_row, same_option}}}
-use Rattle.law_cache.{specs.Decided.plainly_taken}
+use Rattle.law_events.{specs.Decided.plainly_taken}
 
 -- ---- a row
 

@@ -3,8 +3,7 @@ use Rattle.std.{specs.Prelude.{List, Ok, Some, [], false, length, nat_le, nat_lt
 use Rattle.pim_ip.{specs.{declared.refusal.Refusal.Refusal, Ipv4.{Packet, all_pim_routers, frame_limit, ipv4_reading, is_link_local, is_multicast, protocol_igmp, protocol_pim}}}
 use Rattle.pim_types.{specs.declared.{config.IfaceId.IfaceId, event.{Event.Event, EventKind.EventKind}, fact.SourceRow.SourceRow, outcome.Stop.Stop}}
 use Rattle.pim_model.{specs.{Cache.{Answers, Plain, answers, plain}, declared.accepted.Accepted.Accepted, Full.{counted, is_full}, Judging.judged, Limits.most_ifaces, Plain.{IsPlainEvent, fact_key}, Registers.keepalive_period, Sets.{Set, members}, State.{State, iface_count, is_own, is_up}, Step.{Answered, step, stopped}, Tables.{has_row, row_at}, Unicast.is_rpf_interface, Writing.copies_of}}
-use Rattle.law_scope.{specs.Rest.IsAtRest}
-use Rattle.law_cache.{specs.Kept.{SameAnswers, SameDecision}}
+use Rattle.law_events.{specs.{Rest.IsAtRest, Kept.{SameAnswers, SameDecision}}}
 use Rattle.law_plane.{specs.Offload.{Entry, Handling, Row, cache_entry, decision, dropped, handling, handling_of, handling_unknown, is_incoming, is_to_core, offload, taken_by_plane}}
 
 -- ---- by the answers

@@ -6,7 +6,7 @@ use Rattle.pim_ip.{specs.Ipv4.Packet}
 use Rattle.pim_types.{specs.{declared.{config.IfaceId.IfaceId, event.{Event.Event, EventKind.EventKind}, fact.Key.Key, outcome.{Outcome.Outcome, Verdict.Verdict}}, Keys.same_key}}
 use Rattle.law_settled.{specs.Laws.ends_after}
 use Rattle.pim_model.{specs.{declared.accepted.Accepted.Accepted, Judging.{Judged, judged, last_moment}, Limits.most_ifaces, Plain.fact_key, Registers.keepalive_period, Sets.Set, State.State, Step.{Answered, outcome_of, state_after, step}, Writing.copies_of}}
-use Rattle.law_named.{specs.Named.event_named}
+use Rattle.law_events.{specs.Named.event_named}
 use Rattle.law_plane.{specs.{Offload.{Handling, Row, handling, unknown_of}, ToldLaws.{PlaneRows, told_anew}}}
 
 -- ---- what the core has yet to hear

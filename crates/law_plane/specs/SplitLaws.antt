@@ -5,8 +5,7 @@ use Rattle.pim_ip.{specs.Ipv4.Packet}
 use Rattle.pim_types.{specs.{declared.{config.Config.Config, event.Event.Event, outcome.Outcome.Outcome}, Keys.same_key}}
 use Rattle.law_settled.{specs.Laws.ends_after}
 use Rattle.pim_model.{specs.{Cache.Plain, Judging.last_moment, Limits.{config_test, most_ifaces}, Plain.fact_key, State.{State, opening}, Step.{run, state_after, step}, Timers.next_moment}}
-use Rattle.law_scope.{specs.Rest.IsAtRest}
-use Rattle.law_cache.{specs.Decided.IsDecided}
+use Rattle.law_events.{specs.{Rest.IsAtRest, Decided.IsDecided}}
 use Rattle.law_plane.{specs.{Split.{Notice, Split, advance_to, caught_up, replayed, split_ran, whole}, ToldLaws.{AreTold, PlaneRows, no_plane_rows}}}
 
 -- Where the plane has the rows of a state, it has the same answers, emissions and counts, event by event.

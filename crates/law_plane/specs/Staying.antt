@@ -4,9 +4,7 @@ use Rattle.std.{specs.Prelude.{Bool, None, Option, Some, false, length, true, â„
 use Rattle.pim_ip.{specs.Ipv4.Packet}
 use Rattle.pim_types.{specs.{declared.event.Event.Event, Keys.source_key}}
 use Rattle.pim_model.{specs.{Cache.{Plain, answers}, Clearing.clear, declared.accepted.Accepted.Accepted, Firing.fire_once, Full.passes_limit, Limits.most_ifaces, Reach.own_firing, State.State, Step.{change, done, step}, Tables.has_row, Timers.Ending}}
-use Rattle.law_named.{specs.Named.is_source_named}
-use Rattle.law_scope.{specs.Rest.IsAtRest}
-use Rattle.law_cache.{specs.{Decided.IsDecided, Kept.SameAnswers}}
+use Rattle.law_events.{specs.{Named.is_source_named, Rest.IsAtRest, Decided.IsDecided, Kept.SameAnswers}}
 use Rattle.law_plane.{specs.{Keeping.keep, Offered.{Offered, offered}, ToldLaws.DecideAlike}}
 
 -- Nothing is offered in both, or rows that decide a packet alike on each interface that can be configured, both of a

@@ -2,8 +2,7 @@
 use Rattle.std.{specs.Prelude.{List, None, Ok, Option, [], false, if◌then◌else◌, length, nat_lt, true, ℕ, ◌∷◌, ◌≡◌, ◌≤◌}}
 use Rattle.pim_types.{specs.declared.{config.Config.Config, event.Event.Event, fact.Key.Key}}
 use Rattle.pim_model.{specs.{Cache.answers, Clearing.clear, declared.accepted.Accepted.Accepted, Firing.fire_once, Limits.{config_test, most_ifaces}, Reach.own_firing, State.{State, opening}, Step.{change, done, state_after, step}, Timers.Ending}}
-use Rattle.law_named.{specs.Named.{event_named, is_source_named}}
-use Rattle.law_cache.{specs.Kept.{SameAnswers, SameDecision, is_listed}}
+use Rattle.law_events.{specs.{Named.{event_named, is_source_named}, Kept.{SameAnswers, SameDecision, is_listed}}}
 use Rattle.law_plane.{specs.Offload.{Row, decision, handled, told}}
 
 -- the rows of a plane, by group and source

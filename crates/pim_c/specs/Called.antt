@@ -6,10 +6,10 @@ use Rattle.pim_ifset.{specs.Members.mask_of}
 use Rattle.pim_model.{specs.{Cache.{Answers, cached}, Cause.is_on_link, Judging.last_moment, Limits.config_test, Sets.{Set, is_kept_alive}, State.{State, opening}, Step.step, Unicast.rpf_interface_rp}}
 use Rattle.pim_rows.{specs.{Printed.rows, declared.table.{Row.Row, Table.Table}}}
 use Rattle.law_plane.{specs.{Keeping.keep, Offered.{Offered, offered}}}
-use Rattle.law_history.{specs.History.Given}
-use Rattle.law_named.{specs.Named.event_named}
+use Rattle.law_states.{specs.History.Given}
+use Rattle.law_events.{specs.Named.event_named}
 use Rattle.pim_event.{specs.{Costs.IsCheap, Disturbing.event_disturbed, Listing.ListsSame, Replacing.may_differ, Staying.OffersStay}}
-use Rattle.pim_rested.{specs.Resuming.IsResumable}
+use Rattle.pim_worlds.{specs.Resuming.IsResumable}
 use Rattle.igmp_older_saved.{specs.{Reading.{held_reading, held_restore_test}, Refused.held_refusal_number, Text.{Held, held_text, FitsHeld}, declared.refusal.HeldRefusal.HeldRefusal}}
 use Rattle.pim_router.{specs.{Asked.{LeadsOn, SentIsAsked}, Standing.{Standing, begun, nothing_shown, standing, with_state}}}
 use Rattle.pim_guard.{specs.Guard.is_stopped}

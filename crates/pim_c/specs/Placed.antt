@@ -2,8 +2,7 @@
 use Rattle.std.{specs.Prelude.{[], Err, IfSome, None, Ok, Option, Result, Some, ℕ, ◌≡◌, ◌⊎◌}}
 use Rattle.pim_event.{specs.Replacing.NoneReplaced}
 use Rattle.pim_ip.{specs.{Refusal.refusal_number, declared.refusal.Refusal.Refusal}}
-use Rattle.law_history.{specs.History.Given}
-use Rattle.law_placed.{specs.Placing.{Places, reload_by}}
+use Rattle.law_states.{specs.{History.Given, Placing.{Places, reload_by}}}
 use Rattle.pim_reloader.{specs.Listing.ListsFacts}
 use Rattle.pim_router.{specs.{Asked.{LeadsOn, places_test}, Standing.{Standing, beginning}}}
 use Rattle.pim_session.{specs.{Front.emissions_left, Placed.front_reloaded_by, Session.ShownSession, Untaken.has_untaken}}

@@ -3,7 +3,7 @@ use Rattle.std.{specs.{Option.option_map_or, Prelude.{List, None, Option, Some, 
 use Rattle.pim_ifset.{specs.Members.iface_of}
 use Rattle.pim_ip.{specs.Addr.addr}
 use Rattle.pim_types.{specs.declared.{config.Config.Config, event.EventKind.EventKind}}
-use Rattle.pim_recorded.{specs.{Records.{Call, Guard, Hosts, Kept, Record, Reloaded, Seen, Version, event_record, front_text, placed_call, record_text, settings_in, summed}, declared.answered.Answered.Answered}}
+use Rattle.pim_saver.{specs.{Records.{Call, Guard, Hosts, Kept, Record, Reloaded, Seen, Version, event_record, front_text, placed_call, record_text, settings_in, summed}, declared.answered.Answered.Answered}}
 use Rattle.pim_c.{specs.{Given.{range_of, route_of}, Told.written_into, declared.{given.{GivenRange.GivenRange, GivenRoute.GivenRoute}, recorded.GivenCall.GivenCall}}}
 
 abbrev pub answered_of : GivenCall → Answered

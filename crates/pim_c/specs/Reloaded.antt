@@ -3,8 +3,7 @@ use Rattle.std.{specs.Prelude.{[], Err, IfSome, None, Ok, Option, Result, Some, 
 use Rattle.pim_event.{specs.Replacing.NoneReplaced}
 use Rattle.pim_ip.{specs.{Refusal.refusal_number, declared.refusal.Refusal.Refusal}}
 use Rattle.pim_model.{specs.Limits.config_test}
-use Rattle.law_history.{specs.History.Given}
-use Rattle.law_reloaded.{specs.Reloading.reload}
+use Rattle.law_states.{specs.{History.Given, Reloading.reload}}
 use Rattle.pim_reloader.{specs.Listing.ListsFacts}
 use Rattle.pim_router.{specs.{Asked.LeadsOn, Standing.{Standing, beginning}}}
 use Rattle.pim_session.{specs.{Front.emissions_left, Reloaded.front_reloaded, Session.ShownSession, Untaken.has_untaken}}

@@ -4,7 +4,7 @@ use Rattle.pim_ip.{specs.declared.{addr.Addr.Addr, lan.LanDelay.LanDelay}}
 use Rattle.pim_ifset.{specs.Members.has}
 use Rattle.pim_types.{specs.declared.{fact.{QuerierRole.QuerierRole, QuerierRow.QuerierRow}, path.{Hop.Hop, Path.Path}, upstream.TreeState.TreeState}}
 use Rattle.pim_router.{specs.Standing.Standing}
-use Rattle.pim_trees.{specs.{Links.{link, neighbour_at}, Trees.{source_tree, tree}, declared.{link.{Link.Link, Neighbour.Neighbour}, shared.Tree.Tree, source.SourceTree.SourceTree, upstream.RpfCause.RpfCause}}}
+use Rattle.pim_shown.{specs.{Links.{link, neighbour_at}, TreeMacros.{source_tree, tree}, declared.{link.{Link.Link, Neighbour.Neighbour}, shared.Tree.Tree, source.SourceTree.SourceTree, upstream.RpfCause.RpfCause}}}
 use Rattle.pim_c.{specs.{Called.interface_bits, Told.never, declared.trees.{ToldHop.ToldHop, ToldLanDelay.ToldLanDelay, ToldLink.ToldLink, ToldNeighbour.ToldNeighbour, ToldNumber.ToldNumber, ToldPath.ToldPath, ToldQuerier.ToldQuerier, ToldSourceTree.ToldSourceTree, ToldTree.ToldTree}}}
 
 abbrev pub number_of_option : Option ℕ → ToldNumber

@@ -1,21 +1,21 @@
 //! The functions that C calls. Each repeats the contract of the method of the handle that it calls.
-ghost use Rattle.std.specs.Option.{option_map_or};
-ghost use Rattle.std.specs.List.{slice_get};
-ghost use Rattle.std.specs.Prelude.{◌≡◌, None, length, map, nat_lt, option_and_then, option_map, unwrap_or};
-ghost use Rattle.pim_model.specs.Judging.{last_moment};
-ghost use Rattle.pim_model.specs.Timers.{next_moment};
 ghost use Rattle.law_plane.specs.Seen.{seen_event};
-ghost use Rattle.pim_types.specs.declared.event.EventKind.{EventKind};
 ghost use Rattle.pim_c.specs.Called.{CachedTold, Copied, GuardSetBy, HostsSetBy, KeepAnswered, Made, NameTold, OffloadTold, OlderRead, OlderTold, PacketTaken, ReadBy, Restored, Saved, Seen, Stepped, VersionSetBy, changed_in, cleared, may_differ_in, older_rows_in, packets_in, probes_in, rows_in, standing_in, touched_in};
+ghost use Rattle.pim_c.specs.Given.{config_of, given_event, place_of, range_of, route_of};
+ghost use Rattle.pim_c.specs.Placed.{PlacedCopy};
+ghost use Rattle.pim_c.specs.Recorded.{Written, given_text, placed_text, ranges_text, reload_text, routes_text};
+ghost use Rattle.pim_c.specs.Reloaded.{ReloadedCopy};
 ghost use Rattle.pim_c.specs.Rows.{RowTold};
+ghost use Rattle.pim_c.specs.Told.{guard_of, never, older_hosts_of, query_version_of, table_of_letter};
 ghost use Rattle.pim_c.specs.Trees.{ValueTold, link_in, link_of, neighbour_in, neighbour_of, source_tree_in, source_tree_of, tree_in, tree_of};
 ghost use Rattle.pim_ifset.specs.Members.{iface_of};
-ghost use Rattle.pim_c.specs.Placed.{PlacedCopy};
-ghost use Rattle.pim_c.specs.Reloaded.{ReloadedCopy};
-ghost use Rattle.pim_c.specs.Given.{config_of, given_event, place_of, range_of, route_of};
-ghost use Rattle.pim_c.specs.Recorded.{Written, given_text, placed_text, ranges_text, reload_text, routes_text};
-ghost use Rattle.pim_recorded.specs.Records.{sum_of};
-ghost use Rattle.pim_c.specs.Told.{guard_of, never, older_hosts_of, query_version_of, table_of_letter};
+ghost use Rattle.pim_model.specs.Judging.{last_moment};
+ghost use Rattle.pim_model.specs.Timers.{next_moment};
+ghost use Rattle.pim_saver.specs.Records.{sum_of};
+ghost use Rattle.pim_types.specs.declared.event.EventKind.{EventKind};
+ghost use Rattle.std.specs.List.{slice_get};
+ghost use Rattle.std.specs.Option.{option_map_or};
+ghost use Rattle.std.specs.Prelude.{◌≡◌, None, length, map, nat_lt, option_and_then, option_map, unwrap_or};
 
 use crate::given::{self, GivenInterface, GivenRange, GivenRoute, GivenSettings};
 use crate::handle::Handle;

@@ -1,10 +1,10 @@
 //! Records of calls, which a program writes one behind the other.
-ghost use Rattle.std.specs.Prelude.{◌≡◌, ◌++◌, IfOk, OnErr, OnOk};
 ghost use Rattle.pim_c.specs.Recorded.{Written, answered_of, given_front, given_text, placed_text, ranges_text, reload_text, routes_text};
+ghost use Rattle.std.specs.Prelude.{◌≡◌, ◌++◌, IfOk, OnErr, OnOk};
 
 use crate::given::{self, GivenRange, GivenRoute};
 use crate::told::{self, DONE, MEMORY};
-use pim_recorded::Answered;
+use pim_saver::Answered;
 use pim_types::{Addr, Config, IfaceId};
 use std::alloc::{AllocError, Global};
 
@@ -45,16 +45,16 @@ fn write_call(call: &GivenCall, packet: &[u8], out: &mut Vec<u8>) -> Result<(), 
     let group = Addr { bits: call.group };
     let answered = answered(call);
     match call.letter {
-        97 => pim_recorded::write_advance(call.draw, call.moment, answered, out),
-        102 => pim_recorded::write_frame(call.draw, iface, packet, answered, out),
-        117 => pim_recorded::write_unicast(call.draw, packet, answered, out),
-        43 => pim_recorded::write_up(call.draw, iface, answered, out),
-        45 => pim_recorded::write_down(call.draw, iface, answered, out),
-        115 => pim_recorded::write_seen(call.draw, iface, source, group, answered, out),
-        107 => pim_recorded::write_kept(source, group, call.moment, answered, out),
-        111 => pim_recorded::write_hosts(iface, call.value, answered, out),
-        113 => pim_recorded::write_version(iface, call.value, answered, out),
-        100 => pim_recorded::write_guard(call.value, answered, out),
+        97 => pim_saver::write_advance(call.draw, call.moment, answered, out),
+        102 => pim_saver::write_frame(call.draw, iface, packet, answered, out),
+        117 => pim_saver::write_unicast(call.draw, packet, answered, out),
+        43 => pim_saver::write_up(call.draw, iface, answered, out),
+        45 => pim_saver::write_down(call.draw, iface, answered, out),
+        115 => pim_saver::write_seen(call.draw, iface, source, group, answered, out),
+        107 => pim_saver::write_kept(source, group, call.moment, answered, out),
+        111 => pim_saver::write_hosts(iface, call.value, answered, out),
+        113 => pim_saver::write_version(iface, call.value, answered, out),
+        100 => pim_saver::write_guard(call.value, answered, out),
         _ => Ok(()),
     }
 }
@@ -69,7 +69,7 @@ pub fn call_record(alloc: Global, call: &GivenCall, packet: &[u8]) -> Result<Vec
     if out.is_empty() {
         return Ok(out);
     }
-    pim_recorded::end_record(&mut out)?;
+    pim_saver::end_record(&mut out)?;
     Ok(out)
 }
 
@@ -83,8 +83,8 @@ pub fn routes_record(
 {
     let routes = given::routes(alloc, routes)?;
     let mut out = Vec::new(alloc);
-    pim_recorded::write_routes(call.draw, routes.as_slice(), answered(call), &mut out)?;
-    pim_recorded::end_record(&mut out)?;
+    pim_saver::write_routes(call.draw, routes.as_slice(), answered(call), &mut out)?;
+    pim_saver::end_record(&mut out)?;
     Ok(out)
 }
 
@@ -98,8 +98,8 @@ pub fn ranges_record(
 {
     let ranges = given::ranges(alloc, ranges)?;
     let mut out = Vec::new(alloc);
-    pim_recorded::write_ranges(call.draw, ranges.as_slice(), answered(call), &mut out)?;
-    pim_recorded::end_record(&mut out)?;
+    pim_saver::write_ranges(call.draw, ranges.as_slice(), answered(call), &mut out)?;
+    pim_saver::end_record(&mut out)?;
     Ok(out)
 }
 
@@ -112,9 +112,9 @@ pub fn reload_record(
     ensures { IfOk result (λ bytes. bytes.items ≡ reload_text call.now config.now) }
 {
     let mut out = Vec::new(alloc);
-    pim_recorded::write_reloaded(
+    pim_saver::write_reloaded(
         call.draw,
-        pim_recorded::settings_in(config),
+        pim_saver::settings_in(config),
         config.interfaces.as_slice(),
         config.addresses.as_slice(),
         config.routes.as_slice(),
@@ -122,7 +122,7 @@ pub fn reload_record(
         answered(call),
         &mut out,
     )?;
-    pim_recorded::end_record(&mut out)?;
+    pim_saver::end_record(&mut out)?;
     Ok(out)
 }
 
@@ -136,8 +136,8 @@ pub fn placed_record(
     ensures { IfOk result (λ bytes. bytes.items ≡ placed_text call.now config.now places.now) }
 {
     let mut out = Vec::new(alloc);
-    pim_recorded::write_placed(call.draw, config, places, answered(call), &mut out)?;
-    pim_recorded::end_record(&mut out)?;
+    pim_saver::write_placed(call.draw, config, places, answered(call), &mut out)?;
+    pim_saver::end_record(&mut out)?;
     Ok(out)
 }
 

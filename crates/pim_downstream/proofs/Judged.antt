@@ -2,7 +2,7 @@
 use Rattle.std.{proofs.{Common.{◌≡◌, ◌+◌, ◌==◌, ◌∙◌, ℕ, Bool, true, false, not, ◌&&◌, List, [], ◌++◌, arith, filter, length, length-append, map, refl, sym, ap}, lemmas.List.{Elements.filter-append, map-append}}}
 use Rattle.pim_types.{specs.declared.fact.Key.Key}
 use Rattle.law_settled.{proofs.ListLaws.filter_shorter}
-use Rattle.law_scope.{specs.JoinPrunes.{moved_among, moves_end}}
+use Rattle.law_events.{specs.JoinPrunes.{moved_among, moves_end}}
 use Rattle.pim_model.{specs.{Downstream.{rpt_rows_joined, touched_keys}, Full.{keys_are_full, makeable_keys, needed, passes_limit}, State.State, Tables.Table}}
 use Rattle.pim_state.{proofs.Room.{needed_within, room_for_fewer}}
 use Rattle.pim_downstream.{specs.{Naming.{change_after, changes_after}, declared.effect.Change.Change}}

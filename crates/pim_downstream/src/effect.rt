@@ -1,11 +1,11 @@
 //! The effect of a message, found before its change: the rows after it, and the keys of which it changes more than when
 //! a timer expires.
-ghost use Rattle.std.specs.Prelude.{◌≡◌, ◌++◌, [], ◌∷◌, IfOk, OnOk, filter, if◌then◌else◌, map, not};
-ghost use Rattle.law_scope.specs.JoinPrunes.{moved_among, moves_end};
+ghost use Rattle.law_events.specs.JoinPrunes.{moved_among, moves_end};
 ghost use Rattle.pim_downstream.specs.Naming.{change_after, changes_after};
 ghost use Rattle.pim_model.specs.Rows.{same_both, same_downstream, same_end};
 ghost use Rattle.pim_model.specs.Sets.{is_loser};
 ghost use Rattle.pim_model.specs.Tables.{row_at};
+ghost use Rattle.std.specs.Prelude.{◌≡◌, ◌++◌, [], ◌∷◌, IfOk, OnOk, filter, if◌then◌else◌, map, not};
 
 use crate::indexed::Indexed;
 use crate::named::Named;
@@ -66,7 +66,7 @@ fn is_loser(row: Option<AssertRow>) -> bool
 
 // Whether a message changes at most when the timers of the key's row expire, and the key loses no assert by it, where
 // this is the row before the message and the change has that after it.
-#[tactic(auto, unfolding(law_scope::specs::JoinPrunes::moves_end))]
+#[tactic(auto, unfolding(law_events::specs::JoinPrunes::moves_end))]
 fn moves_end(
     world: &World,
     iface: IfaceId,

@@ -4,7 +4,7 @@ use Rattle.pim_types.{specs.{Keys.key_cmp, declared.event.Event.Event}}
 use Rattle.pim_fanout.{specs.Refreshing.{CacheValue, touches}}
 use Rattle.pim_mfc.{specs.Laws.ShowsRows}
 use Rattle.pim_model.{specs.{Cache.cached, State.State}}
-use Rattle.law_named.{specs.Named.event_named}
+use Rattle.law_events.{specs.Named.event_named}
 use Rattle.pim_event.{specs.{Caching.CacheAfter, Costs.IsCheap, Disturbing.event_touched, Listing.ListsSame, Staying.UntouchedOffersStay}}
 
 pub cache_after : {A E : Type 0} (r : Result A E) (s : State) (e : Event) (t : State) (cache : CacheValue) (probes : ℕ)

@@ -2,12 +2,11 @@
 use Rattle.std.{proofs.{Common.{◌≡◌, ◌≤◌, ◌<◌, ◌+◌, ◌*◌, ℕ, Bool, true, List, [], ◌∷◌, ◌++◌, Result, Ok, Err, OnOk, length, take, take_all, get_or, refl, ap, subst, sym, ◌∙◌, arith, add-one}, Math.Seq.take-suc}}
 use Rattle.pim_types.{specs.{declared.event.Event.Event, Keys.source_key}}
 use Rattle.pim_model.{specs.{Plain.IsPlainEvent, Reach.event_reach, State.State, Step.{ran, state_after, step}, Tables.has_row}}
-use Rattle.law_scope.{specs.Rest.IsAtRest}
+use Rattle.law_events.{specs.{Rest.IsAtRest, Named.event_named}, proofs.Few.event_names_few}
 use Rattle.pim_mfc.{specs.Kept.Kept}
 use Rattle.pim_trie.{specs.Meter.raised}
 use Rattle.pim_fanout.{specs.Refreshing.{CacheValue, touches, uncounted}}
 use Rattle.law_settled.{proofs.SettledStates.settled_is_lawful}
-use Rattle.law_named.{specs.Named.event_named, proofs.Few.event_names_few}
 use Rattle.pim_event.{specs.Costs.{IsCheap, IsLastCheap, IsWithinPath}}
 
 -- two for each named source are no more than three for each that is reached

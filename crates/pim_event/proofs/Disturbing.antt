@@ -4,7 +4,7 @@ use Rattle.pim_ip.{specs.Ipv4.Packet}
 use Rattle.pim_types.{specs.declared.{config.IfaceId.IfaceId, event.Event.Event, fact.Key.Key, outcome.Stop.Stop}}
 use Rattle.pim_model.{specs.{Cache.Plain, declared.accepted.Accepted.Accepted, Firing.{fire_instant, fire_once}, Full.{is_full, passes_limit}, Judging.{Judged, judged}, Plain.fact_key, State.State, Step.{concluded, ran, state_after, step, taken_unless_full}, Tables.{has_row, same_bool}, Timers.{Ending, next_due}}}
 use Rattle.law_settled.{specs.Laws.{IsFirable, IsReady, ends_from}}
-use Rattle.law_cache.{specs.Decided.decided_by_answers}
+use Rattle.law_events.{specs.Decided.decided_by_answers}
 use Rattle.pim_state.{specs.declared.touched.Touched.Touched}
 use Rattle.pim_fanout.{specs.Disturbed.joined}
 use Rattle.pim_event.{specs.{Disturbing.{IsLastDisturbed, disturbed_of, disturbed_with_room, ended_all, ended_instant, event_disturbed, event_touched, goes_by_answers, joined_all, disturbed_at, where_disturbed}, Ends.disturbed_by_end, Replacing.Disturbance, Staying.disturbed_by}, proofs.Firings.{all_ended, instant_ended}}

@@ -3,8 +3,7 @@ use Rattle.std.{proofs.{Common.{◌≡◌, true, List, [], ◌∷◌, inl, refl,
 use Rattle.pim_types.{specs.{declared.{fact.Key.Key, timer.TimerKind.TimerKind}, Keys.names_source}}
 use Rattle.pim_model.{specs.{Firing.fired, State.State, Timers.Ending, Upstream.fact_keys, Reach.own_firing}}
 use Rattle.law_settled.{proofs.FewerFacts.{IsFewer, ended_fewer, fewer_both, no_other}, specs.Ready.IsLawful}
-use Rattle.law_scope.{proofs.{OwnKeys.present_touches_none, SilentEvents.timer_touches, Touches.{agrees_then, widened}}, specs.{Locality.{AgreesBut, touching}, Touches.{isnt_neighbour, touched_by}}}
-use Rattle.law_named.{specs.Adjacent.keys_of_end, proofs.Hellos.end_adjoins}
+use Rattle.law_events.{specs.{Locality.{AgreesBut, touching}, Touches.{isnt_neighbour, touched_by}, Adjacent.keys_of_end}, proofs.{OwnKeys.present_touches_none, SilentEvents.timer_touches, Touches.{agrees_then, widened}, Hellos.end_adjoins}}
 use Rattle.pim_fanout.{specs.Contains.Contains}
 use Rattle.pim_views.{specs.{Covers.Concerns, Openings.has_facts}}
 use Rattle.pim_rerouted.{specs.Few.few_or_all}

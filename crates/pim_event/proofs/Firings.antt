@@ -3,7 +3,7 @@ use Rattle.std.{proofs.Common.{◌≡◌, ◌≤◌, ◌<◌, ◌+◌, ◌-◌, 
 use Rattle.pim_types.{specs.declared.{outcome.Emission.Emission, fact.Key.Key}}
 use Rattle.pim_model.{specs.{Firing.{fire_all, fire_instant, fire_once}, Reach.{own_firing, told_all, told_instant, told_once}, Repeat.and_then, State.State, Timers.{Ending, next_due, timers}}}
 use Rattle.law_settled.{specs.Laws.{IsAhead, IsFirable, IsReady, ends_from}, proofs.{FiringLaws.{firing_goes_on, firing_is_complete, instant_goes_on, instant_is_complete}, TimerLaws.{IsNext, from_shown, is_next}, TurnLaws.{same_when_none, unrolls_with}, ShownEnds.shown_is_later}}
-use Rattle.law_named.{specs.Named.named_by, proofs.Advance.same_end}
+use Rattle.law_events.{specs.Named.named_by, proofs.Advance.same_end}
 use Rattle.pim_event.{specs.Disturbing.{ended_all, ended_instant, ended_once}}
 
 abbrev as_it_is : State → State

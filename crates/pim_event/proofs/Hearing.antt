@@ -4,7 +4,7 @@ use Rattle.pim_ip.{specs.Ipv4.Packet}
 use Rattle.pim_types.{specs.declared.{config.IfaceId.IfaceId, event.{Event.Event, EventKind.EventKind}, outcome.Stop.Stop}}
 use Rattle.pim_mrib.{specs.Routes.RouteTable}
 use Rattle.pim_model.{specs.{Cache.cached, Judging.{Judged, frame_judged, judged}, State.{State, interfaces_of}, declared.accepted.Accepted.Accepted}}
-use Rattle.law_scope.{specs.Rest.IsAtRest}
+use Rattle.law_events.{specs.Rest.IsAtRest}
 use Rattle.pim_mfc.{specs.{Kept.{ForwardsAs, Kept, decided}, Laws.ShowsRows, declared.forward.Forward.Forward}}
 use Rattle.pim_intake.{specs.{Brought.IsTableOf, Memory.is_frame}}
 use Rattle.pim_plan.{specs.Naming.Brings}

@@ -3,7 +3,7 @@ use Rattle.std.{proofs.{Common.{◌≡◌, ◌≤◌, ◌<◌, ℕ, nat_le, Bool
 use Rattle.pim_types.{specs.declared.{fact.{Key.Key, SourceRow.SourceRow}, outcome.Emission.Emission, timer.{Timer.Timer, TimerKind.TimerKind}}}
 use Rattle.pim_model.{specs.{Firing.{fire_all, fire_instant, fire_once, fire_row, fired, keepalive_due, silent}, Messages.Message, Reach.own_firing, Repeat.and_then, State.State, Tables.row_at, Timers.{Ending, next_due, next_ending}}}
 use Rattle.law_settled.{specs.{Laws.{IsReady, due_by, ends_from}, Ready.IsLawful}, proofs.{FiringLaws.{InInstant, ahead_is_ready, begins, fewer_due, fewer_instants, firing_goes_on, firing_stops, instant_goes_on, instant_is_complete, instant_stops, instants_left, ready_at_present, sound_of, still_due, still_inside}, TimerLaws.{from_shown, next_due_is_next, shown_from}, LawfulFiring.{instant_is_lawful, one_firing_is_lawful}}}
-use Rattle.law_scope.{proofs.Rest.{instant_is_quiet, one_firing_quiets}, specs.Locality.IsQuiet}
+use Rattle.law_events.{specs.Locality.IsQuiet, proofs.Rest.{instant_is_quiet, one_firing_quiets}}
 use Rattle.pim_state.{specs.{Turns.{Taking, saying}, declared.touched.Touched.Touched}}
 use Rattle.pim_views.{specs.{Openings.opening_of, declared.opening.GroupOpening.GroupOpening}}
 use Rattle.pim_store.{specs.PimTables.{AreKeyed, pim_tables}}

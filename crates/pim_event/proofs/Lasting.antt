@@ -3,10 +3,9 @@ use Rattle.std.{proofs.Common.{◌≡◌, ◌&&◌, ◌==◌, ℕ, Bool, true, f
 use Rattle.pim_types.{specs.{declared.fact.NeighbourRow.NeighbourRow, Keys.{neighbour_key, star_key}}}
 use Rattle.pim_wire.{specs.declared.hello.Hello.Hello as HelloValue}
 use Rattle.pim_model.{specs.{Hellos.{hello_holdtime_of, hello_received, is_generation_changed, neighbour_replaced}, Neighbours.is_dr, State.State, Tables.{has_row, row_at, same_bool, same_option}}}
-use Rattle.law_scope.{specs.{Locality.{AgreesBut, touching}, Scopes.scope}, proofs.RefreshedNeighbours.hello_again_touches_none}
+use Rattle.law_events.{specs.{Locality.{AgreesBut, touching}, Scopes.scope, Adjacent.hello_keeps_dr}, proofs.{RefreshedNeighbours.hello_again_touches_none, Unreached.dr_around}}
 use Rattle.pim_neighbours.{specs.Refreshed.is_refreshed}
 use Rattle.law_settled.{specs.Ready.Rises}
-use Rattle.law_named.{proofs.Unreached.dr_around, specs.Adjacent.hello_keeps_dr}
 use Rattle.pim_plan.{proofs.Repeats.so_false}
 
 kept_by_none : (s t : State) → AgreesBut (touching []) s t → (i : ℕ) → is_dr s i ≡ is_dr t i

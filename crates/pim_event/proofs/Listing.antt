@@ -5,9 +5,7 @@ use Rattle.pim_ip.{specs.Ipv4.Packet}
 use Rattle.pim_types.{specs.{declared.{config.IfaceId.IfaceId, event.Event.Event, fact.Key.Key, outcome.Stop.Stop, name.SourceGroup.SourceGroup}, Keys.{key_cmp, same_key, source_key}}}
 use Rattle.pim_model.{specs.{Cache.Plain, Clearing.clear, declared.accepted.Accepted.Accepted, Firing.{fire_instant, fire_once}, Full.is_full, Judging.{Judged, judged}, Plain.fact_key, Reach.{own_firing, told_all, told_instant, where_accepted}, State.State, Step.{change, ran, state_after, step}, Tables.has_row, Timers.{Ending, next_due}}}
 use Rattle.law_settled.{specs.Laws.{IsFirable, IsReady, ends_from}}
-use Rattle.law_scope.{specs.{Locality.IsQuiet, Rest.IsAtRest}}
-use Rattle.law_named.{specs.Named.{event_named, named_by, named_of}}
-use Rattle.law_cache.{specs.{Decided.decided_by_answers, Kept.is_listed}, proofs.PlainNames.plain_names_none}
+use Rattle.law_events.{specs.{Locality.IsQuiet, Rest.IsAtRest, Named.{event_named, named_by, named_of}, Decided.decided_by_answers, Kept.is_listed}, proofs.PlainNames.plain_names_none}
 use Rattle.pim_state.{specs.declared.touched.Touched.Touched}
 use Rattle.pim_fanout.{specs.Named.keys_of, proofs.{Listed.names_are_named, Opened.names_rise}}
 use Rattle.pim_settling.{specs.Settling.AreNames}

@@ -3,8 +3,7 @@ use Rattle.std.{proofs.Common.{◌≡◌, ◌<◌, Bool, true, false, Option, So
 use Rattle.pim_ip.{specs.Ipv4.Packet}
 use Rattle.pim_types.{specs.{Keys.source_key, declared.{config.IfaceId.IfaceId, event.Event.Event, fact.SourceRow.SourceRow, outcome.{Outcome.Outcome, Stop.Stop}}}}
 use Rattle.pim_model.{specs.{Cache.{Plain, answers, cached, plain}, declared.accepted.Accepted.Accepted, Judging.judged, Plain.{IsPlainEvent, fact_key}, State.State, Step.{Answered, outcome_of, step}, Tables.{Table, has_row, row_at}}}
-use Rattle.law_scope.{specs.Rest.IsAtRest}
-use Rattle.law_cache.{specs.{Decided.{IsDecided, decided_by_answers as answered, plainly_taken}, Kept.SameDecision}, proofs.{PlainEvents.plain_is_decided, PlainPackets.{plain_is_stepped, plain_keeps_cache}}}
+use Rattle.law_events.{specs.{Rest.IsAtRest, Decided.{IsDecided, decided_by_answers as answered, plainly_taken}, Kept.SameDecision}, proofs.{PlainEvents.plain_is_decided, PlainPackets.{plain_is_stepped, plain_keeps_cache}}}
 use Rattle.pim_macros.{specs.{Rows.answers_of, declared.rows.SourceAnswers.SourceAnswers}}
 use Rattle.pim_mfc.{specs.{declared.forward.Forward.Forward, Kept.{ForwardsAs, Kept, decided}, Laws.{ShowsRow, ShowsRows}}, proofs.Shown.shown_decide}
 use Rattle.pim_event.{specs.Plainly.Forwards}

@@ -3,7 +3,7 @@ use Rattle.std.{proofs.Common.{◌≡◌, ℕ, List, [], append-nil, ap, refl, s
 use Rattle.pim_types.{specs.declared.{fact.Key.Key, outcome.Emission.Emission}}
 use Rattle.pim_model.{specs.{declared.accepted.Accepted.Accepted, Messages.Message, State.State, Step.{change, taken}, Tables.ascending, Upstream.groups_of, Writing.write_all, Querier.each_in_turn}}
 use Rattle.pim_state.{specs.{Turns.Taking, declared.touched.Touched.Touched}}
-use Rattle.law_scope.{specs.Locality.IsQuiet as IsQuietState}
+use Rattle.law_events.{specs.Locality.IsQuiet as IsQuietState}
 use Rattle.pim_store.{specs.PimTables.{AreKeyed, pim_tables}}
 use Rattle.pim_views.{specs.{Openings.opening_of, declared.opening.GroupOpening.GroupOpening}}
 use Rattle.pim_register.{specs.Settling.{opened_source_keys, registers_by}}

@@ -3,8 +3,7 @@
 use Rattle.std.{specs.{Prelude.{if◌then◌else◌, option_and_then}, Cmp.Derive.both_true}, proofs.Common.{◌≡◌, ◌≤◌, ◌&&◌, ◌||◌, ℕ, Bool, true, false, not, Option, List, Result, Ok, Err, OnOk, length, refl, ap, subst, sym, ◌∙◌}}
 use Rattle.pim_types.{specs.declared.{config.{Route.Route, RpRange.RpRange}, event.Event.Event}}
 use Rattle.pim_model.{specs.{declared.accepted.Accepted.Accepted, Full.{is_full, passes_limit}, Judging.{Judged, judged}, Rows.{same_both, same_path}, State.State, Step.{change, concluded, done, rps_replaced, step, taken, taken_unless_full}, Tables.{same_bool, same_option}, Unicast.{route, rp_among, rp_of, rp_route}}}
-use Rattle.law_scope.{specs.Rest.IsAtRest, proofs.SameRows.flags}
-use Rattle.law_named.{specs.Named.{has_same_routes, has_same_rp}, proofs.{SameRows.{not_false, options}, Sights.paths_same}}
+use Rattle.law_events.{specs.{Rest.IsAtRest, Named.{has_same_routes, has_same_rp}}, proofs.{SameRows.flags, NamedSameRows.{not_false, options}, Sights.paths_same}}
 use Rattle.pim_state.{specs.declared.touched.Touched.Touched}
 use Rattle.law_plane.{specs.{Offered.offered, Staying.{OffersAlike, SourceStays}}, proofs.Staying.offer_stays}
 use Rattle.pim_rerouted.{specs.OtherRoutes.{group_has_other_rp, has_other_route, with_routes}}

@@ -4,8 +4,7 @@ use Rattle.std.{proofs.Common.{◌≡◌, ◌≤◌, ◌&&◌, ℕ, true, false,
 use Rattle.pim_types.{specs.{declared.config.{Route.Route, RpRange.RpRange}, Keys.source_key}}
 use Rattle.pim_model.{specs.{declared.accepted.Accepted.Accepted, Clearing.clear, Firing.settled, Messages.Message, Rows.{same_both, same_path}, State.State, Step.{change, done, rps_replaced}, Tables.same_option, Unicast.{route, route_among, rp_among, rp_of, rp_route}, Upstream.upstream}}
 use Rattle.law_settled.{proofs.Unsettled.{Unsettled, settling_leaves}}
-use Rattle.law_scope.{specs.{Locality.{AgreesBut, IsQuiet, touching}, Scopes.{reads, scope}}, proofs.{QuietStates.{frame_packets, frame_upstream}, SharedMacros.route_local, Touches.agrees_then}}
-use Rattle.law_named.{specs.{Moved.IsRerouted, Named.{has_same_routes, has_same_rp, is_source_named}}, proofs.{Reached.{Keeps, clearing_keeps}, Rerouted.{around_rerouted, rerouted_beside, rerouted_unnamed, routes_reroute, rps_reroute}, SameRows.{options, paths}, Sights.{options_same, paths_same}}}
+use Rattle.law_events.{specs.{Locality.{AgreesBut, IsQuiet, touching}, Scopes.{reads, scope}, Moved.IsRerouted, Named.{has_same_routes, has_same_rp, is_source_named}}, proofs.{QuietStates.{frame_packets, frame_upstream}, SharedMacros.route_local, Touches.agrees_then, Reached.{Keeps, clearing_keeps}, Rerouted.{around_rerouted, rerouted_beside, rerouted_unnamed, routes_reroute, rps_reroute}, NamedSameRows.{options, paths}, Sights.{options_same, paths_same}}}
 use Rattle.law_plane.{specs.Staying.SourceStays, proofs.Staying.unnamed_source_stays}
 
 -- the same routes, either way

@@ -3,9 +3,7 @@ use Rattle.std.{proofs.{Common.{◌≡◌, ◌≤◌, ◌+◌, ◌*◌, ℕ, fal
 use Rattle.pim_types.{specs.declared.{fact.Key.Key, name.SourceGroup.SourceGroup}}
 use Rattle.pim_trie.{specs.Meter.raised}
 use Rattle.pim_model.{specs.{Cache.cached, Clearing.clear, declared.accepted.Accepted.Accepted, Firing.fire_once, Full.is_full, Reach.{own_firing, told_all, where_accepted}, State.{InterfaceTable, State, interfaces_of}, Step.{change, done, taken}, Tables.Table, Timers.Ending}}
-use Rattle.law_scope.{specs.Locality.IsQuiet}
-use Rattle.law_named.{specs.Named.{named_by, named_of}}
-use Rattle.law_cache.{specs.Kept.refreshed}
+use Rattle.law_events.{specs.{Locality.IsQuiet, Named.{named_by, named_of}, Kept.refreshed}}
 use Rattle.pim_macros.{specs.declared.rows.SourceAnswers.SourceAnswers}
 use Rattle.pim_mfc.{specs.Laws.ShowsRows}
 use Rattle.pim_views.{specs.{Openings.opening_of, declared.opening.GroupOpening.GroupOpening}}

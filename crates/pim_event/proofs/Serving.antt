@@ -2,8 +2,7 @@
 use Rattle.std.{proofs.Common.{◌≡◌, ℕ, Bool, true, false, not, List, refl, ap}, specs.Prelude.Some}
 use Rattle.pim_types.{specs.{declared.{fact.Key.Key, timer.TimerKind.TimerKind}, Keys.star_key}}
 use Rattle.pim_model.{specs.{declared.accepted.Accepted.Accepted, Firing.fired, Neighbours.is_dr, Reach.own_firing, State.State, Step.{change, rps_replaced}, Timers.Ending}}
-use Rattle.law_scope.{specs.{Events.touched_by_event, Locality.{AgreesBut, touching}, Scopes.scope, Touches.{isnt_neighbour, touched_by}}, proofs.{EventLaws.change_touches, SilentEvents.timer_touches}}
-use Rattle.law_named.{proofs.{Configured.{beyond, untouched}, Unreached.{Around, dr_around}, Hellos.{end_dr, hello_dr}}}
+use Rattle.law_events.{specs.{Events.touched_by_event, Locality.{AgreesBut, touching}, Scopes.scope, Touches.{isnt_neighbour, touched_by}}, proofs.{EventLaws.change_touches, SilentEvents.timer_touches, Configured.{beyond, untouched}, Unreached.{Around, dr_around}, Hellos.{end_dr, hello_dr}}}
 use Rattle.pim_event.{specs.{Ends.end_moves_dr, Staying.moves_dr}}
 
 -- ---- what touches some keys alone leaves the DR

@@ -3,7 +3,7 @@ use Rattle.std.{proofs.Common.{◌≡◌, ℕ, ◌==◌, ◌&&◌, ◌||◌, Boo
 use Rattle.pim_types.{specs.{declared.fact.{Key.Key, SourceRecordRow.SourceRecordRow}, Keys.{group_in, iface_in, key_cmp, same_key, source_in, source_key, star_key}}, proofs.Keys.equal_keys}
 use Rattle.pim_model.{specs.{Querier.{group_end, source_record_due}, Records.{is_at_group, with_repeats_of_rows}, State.State, Tables.{Table, change_row, drop_at, drop_where, keys_in}}}
 use Rattle.law_settled.{specs.Laws.is_under_source, proofs.{ListLaws.{any_more, each_of_list}, RowChanges.{changed_elsewhere, dropped_elsewhere}, TableLaws.any_in_filter}}
-use Rattle.law_scope.{specs.{Locality.{AgreesBut, touching}, Scopes.{reads, scope}}, proofs.{Membership.source_end_here, Touches.source_records_agree}}
+use Rattle.law_events.{specs.{Locality.{AgreesBut, touching}, Scopes.{reads, scope}}, proofs.{Membership.source_end_here, Touches.source_records_agree}}
 use Rattle.pim_querier.{proofs.OneSource.{AreSources, after, end_excludes, end_includes, endless}}
 use Rattle.pim_event.{specs.Ends.{has_other_sources, keeps_group, touched_by_source}}
 

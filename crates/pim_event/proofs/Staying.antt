@@ -4,9 +4,7 @@ use Rattle.std.{proofs.{Common.{◌≡◌, ◌≤◌, ◌<◌, ◌+◌, ℕ, Boo
 use Rattle.pim_ip.{specs.Ipv4.Packet}
 use Rattle.pim_types.{specs.{declared.{event.Event.Event, fact.Key.Key}, Keys.source_key}}
 use Rattle.pim_model.{specs.{Cache.{Answers, Plain, answers}, declared.accepted.Accepted.Accepted, Firing.{fire_once, fired, settled}, Messages.Message, Full.passes_limit, Reach.own_firing, State.{InterfaceTable, State, interfaces_of}, Step.{change, done, ran, state_after, step, taken}, Tables.has_row, Timers.Ending, Neighbours.is_dr}}
-use Rattle.law_scope.{specs.{Locality.{IsQuiet, touching}, Rest.IsAtRest, Scopes.reads}, proofs.SameRows.flags}
-use Rattle.law_named.{specs.{Keeps.KeepsAnswers, Named.{is_source_named, is_same_beside, is_same_fact, is_same_sight}, Adjacent.{AdjoinsAlone, with_neighbour_rows}}, proofs.{Configured.configured_beside, Kept.unnamed_keeps, Reached.IsConfigured, SameRows.{both_of, not_false}, Settled.settled_configured, NeighbourStays.adjoins_stays}}
-use Rattle.law_cache.{specs.{Decided.IsDecided, Kept.SameAnswers}, proofs.SameRows.kept_is_same}
+use Rattle.law_events.{specs.{Locality.{IsQuiet, touching}, Rest.IsAtRest, Scopes.reads, Keeps.KeepsAnswers, Named.{is_source_named, is_same_beside, is_same_fact, is_same_sight}, Adjacent.{AdjoinsAlone, with_neighbour_rows}, Decided.IsDecided, Kept.SameAnswers}, proofs.{SameRows.flags, Configured.configured_beside, KeptSources.unnamed_keeps, Reached.IsConfigured, NamedSameRows.{both_of, not_false}, Settled.settled_configured, NeighbourStays.adjoins_stays, CacheSameRows.kept_is_same}}
 use Rattle.pim_state.{specs.declared.touched.Touched.Touched}
 use Rattle.pim_fanout.{specs.{Contains.{Adjoins, Contains}, Disturbed.{is_disturbed, joined}}, proofs.Untouched.untouched_is_unnamed}
 use Rattle.law_plane.{specs.{Offered.offered, Staying.{KeepsRoutes, OffersAlike, SourceStays, is_rerouting}}, proofs.{Routed.{event_keeps_routes, firing_keeps_routes}, Staying.{firing_source_stays, offer_stays, plain_offer_stays, stays_in_turn, stays_itself, time_source_stays, unnamed_source_stays}}}

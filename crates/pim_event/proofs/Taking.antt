@@ -7,7 +7,7 @@ use Rattle.pim_state.{specs.{Turns.Taking, declared.touched.Touched.Touched}}
 use Rattle.pim_intake.{specs.Memory.is_tested_in_memory}
 use Rattle.pim_views.{specs.{Openings.opening_of, declared.opening.GroupOpening.GroupOpening}}
 use Rattle.pim_store.{specs.PimTables.{AreKeyed, pim_tables}}
-use Rattle.law_scope.{specs.{Locality.IsQuiet as IsQuietState, Rest.IsAtRest}, proofs.Rest.step_is_at_rest}
+use Rattle.law_events.{specs.{Locality.IsQuiet as IsQuietState, Rest.IsAtRest}, proofs.Rest.step_is_at_rest}
 use Rattle.pim_data.{specs.declared.leaving.Leaving.Leaving}
 use Rattle.pim_fanout.{specs.Contains.Contains}
 use Rattle.pim_settling.{specs.Settling.settled_by, proofs.Settling.settled_as_opened}

@@ -4,7 +4,7 @@ use Rattle.pim_types.{specs.{declared.{event.Event.Event, fact.Key.Key}, Keys.ke
 use Rattle.pim_model.{specs.{Cache.cached, State.State}}
 use Rattle.pim_fanout.{specs.Refreshing.{CacheValue, touches}}
 use Rattle.pim_mfc.{specs.Laws.ShowsRows}
-use Rattle.law_named.{specs.Named.event_named}
+use Rattle.law_events.{specs.Named.event_named}
 use Rattle.pim_event.{specs.{Costs.IsCheap, Disturbing.event_touched, Listing.{ListsMore, ListsSame}, Staying.{StaysBeside, UntouchedOffersStay}}}
 
 -- The cache after a change of the state from `s` to `t`, between which the listed sources are named. Its rows are those

@@ -4,7 +4,7 @@
 use Rattle.std.{specs.Prelude.{Bool, Err, List, Ok, [], false, if◌then◌else◌, is_some, length, ℕ, ◌&&◌, ◌+◌, ◌-◌, ◌∷◌, ◌≡◌}}
 use Rattle.pim_types.{specs.declared.event.Event.Event}
 use Rattle.pim_model.{specs.{declared.accepted.Accepted.Accepted, Firing.fire_once, Full.{is_full, passes_limit}, Judging.{Judged, judged}, Plain.fact_key, Repeat.until_none, State.State, Step.step, Tables.{has_row, same_bool}, Timers.{Ending, next_due, timers}}}
-use Rattle.law_cache.{specs.Decided.decided_by_answers}
+use Rattle.law_events.{specs.Decided.decided_by_answers}
 use Rattle.pim_state.{specs.declared.touched.Touched.Touched}
 use Rattle.pim_fanout.{specs.Disturbed.joined}
 use Rattle.pim_event.{specs.{Ends.disturbed_by_end, Replacing.{Disturbance, event_replaced}, Staying.disturbed_by}}

@@ -2,8 +2,7 @@
 use Rattle.std.{specs.{List.list_any, Prelude.{Bool, [], false, if◌then◌else◌, is_some, not, ℕ, ◌&&◌, ◌==◌, ◌∷◌, ◌||◌}}}
 use Rattle.pim_types.{specs.{declared.{fact.Key.Key, timer.{Timer.Timer, TimerKind.TimerKind}}, Keys.{group_in, iface_in, source_in, source_key, star_key}}}
 use Rattle.pim_model.{specs.{Querier.group_end, Records.is_at_group, State.State, Timers.Ending}}
-use Rattle.law_scope.{specs.Touches.touched_by}
-use Rattle.law_named.{specs.Adjacent.{end_keeps_dr, keys_of_end}}
+use Rattle.law_events.{specs.{Touches.touched_by, Adjacent.{end_keeps_dr, keys_of_end}}}
 use Rattle.pim_state.{specs.declared.touched.Touched.Touched}
 use Rattle.pim_rerouted.{specs.Few.few_or_all}
 

@@ -2,8 +2,7 @@
 use Rattle.std.{specs.Prelude.{List, [], ℕ, ◌++◌, ◌∷◌, ◌≡◌}}
 use Rattle.pim_types.{specs.declared.{event.Event.Event, fact.Key.Key}}
 use Rattle.pim_model.{specs.{State.State, Step.step}}
-use Rattle.law_cache.{specs.Kept.is_listed}
-use Rattle.law_named.{specs.Named.event_named}
+use Rattle.law_events.{specs.{Kept.is_listed, Named.event_named}}
 
 -- Two lists have the same sources.
 abbrev pub ListsSame : List Key → List Key → Type 0

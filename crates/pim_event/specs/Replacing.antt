@@ -3,7 +3,7 @@
 use Rattle.std.{specs.Prelude.{Bool, Err, List, Ok, if◌then◌else◌, not, ℕ}}
 use Rattle.pim_types.{specs.declared.{config.{Route.Route, RpRange.RpRange}, event.Event.Event}}
 use Rattle.pim_model.{specs.{declared.accepted.Accepted.Accepted, Full.passes_limit, Judging.{Judged, judged}, State.State, Step.step, Tables.same_bool}}
-use Rattle.law_named.{specs.Named.has_same_routes}
+use Rattle.law_events.{specs.Named.has_same_routes}
 use Rattle.pim_state.{specs.declared.touched.Touched.Touched}
 use Rattle.pim_fanout.{specs.Disturbed.is_disturbed}
 use Rattle.pim_event.{specs.declared.replaced.Kept.Kept}

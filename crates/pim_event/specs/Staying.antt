@@ -2,7 +2,7 @@
 use Rattle.std.{specs.Prelude.{Bool, List, [], false, if◌then◌else◌, not, true, ℕ, ◌||◌, ◌∷◌, ◌≡◌}}
 use Rattle.pim_types.{specs.declared.event.Event.Event}
 use Rattle.pim_model.{specs.{declared.accepted.Accepted.Accepted, State.State, Step.step}}
-use Rattle.law_named.{specs.Adjacent.hello_keeps_dr}
+use Rattle.law_events.{specs.Adjacent.hello_keeps_dr}
 use Rattle.pim_state.{specs.declared.touched.Touched.Touched}
 use Rattle.pim_fanout.{specs.Disturbed.is_disturbed}
 use Rattle.law_plane.{specs.{Offered.offered, Staying.{OffersAlike, SourceStays, is_rerouting}}}

@@ -4,8 +4,7 @@ use Rattle.pim_ip.{specs.declared.fault.Fault.Fault}
 use Rattle.pim_types.{specs.{Keys.key_cmp, declared.{event.Event.Event, fact.Key.Key, outcome.Outcome.Outcome}}}
 use Rattle.pim_mrib.{specs.Routes.RouteTable}
 use Rattle.pim_model.{specs.{Cache.cached, declared.accepted.Accepted.Accepted, Judging.judged, Plain.IsPlainEvent, Reach.{told_all, where_accepted}, Step.{Answered, advanced, outcome_of, step, taken, taken_unless_full}}}
-use Rattle.law_scope.{specs.Rest.IsAtRest}
-use Rattle.law_named.{specs.Named.{named_by, named_of}}
+use Rattle.law_events.{specs.{Rest.IsAtRest, Named.{named_by, named_of}}}
 use Rattle.pim_mfc.{specs.Laws.ShowsRows}
 use Rattle.pim_state.{specs.{Turns.Taking, declared.touched.Touched.Touched}}
 use Rattle.pim_fanout.{specs.{Disturbed.joined, Refreshing.touches}}

@@ -1,12 +1,12 @@
 //! A packet of data that the row of its source decides.
-ghost use Rattle.std.specs.Prelude.{◌≡◌, IfOk, IsOkUnless, OnOk, true};
-ghost use Rattle.law_cache.specs.Decided.{plainly_taken};
+ghost use Rattle.law_events.specs.Decided.{plainly_taken};
+ghost use Rattle.pim_event.specs.Plainly.{Forwards};
 ghost use Rattle.pim_ip.specs.declared.fault.Fault.{Fault};
 ghost use Rattle.pim_model.specs.Cache.{Plain};
 ghost use Rattle.pim_model.specs.Plain.{fact_key};
 ghost use Rattle.pim_model.specs.Step.{outcome_of};
 ghost use Rattle.pim_model.specs.Tables.{has_row};
-ghost use Rattle.pim_event.specs.Plainly.{Forwards};
+ghost use Rattle.std.specs.Prelude.{◌≡◌, IfOk, IsOkUnless, OnOk, true};
 
 use pim_data::copies;
 use pim_intake::PlainWorld;
@@ -19,7 +19,7 @@ use pim_types::{Fault, Outcome, Series, SourceGroup, Verdict};
 /// Forwards a packet as its row says: KAT(S,G) is set or not, and copies leave on links. Nothing else changes, and
 /// nothing is sent upstream, where the source has a row. The row is found by the place that the caller keeps, without a
 /// look-up.
-#[tactic(auto, unfolding(law_cache::specs::Decided::plainly_taken, law_cache::specs::Decided::kept_if))]
+#[tactic(auto, unfolding(law_events::specs::Decided::plainly_taken, law_events::specs::Decided::kept_if))]
 pub(crate) fn take_plain<W: PlainWorld>(
     room: &mut Room,
     world: &mut W,

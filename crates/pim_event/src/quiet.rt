@@ -1,14 +1,14 @@
 //! A change that touches nothing: it moves only when timers expire, or forwards a packet. Nothing is opened before it,
 //! and nothing follows of it.
-ghost use Rattle.std.specs.Prelude.{◌≡◌, [], IfOk, IsOkUnless, IsTrue, OnOk};
-ghost use Rattle.law_scope.specs.Rest.{IsAtRest};
+ghost use Rattle.law_events.specs.Rest.{IsAtRest};
+ghost use Rattle.pim_event.specs.Replacing.{replaced_after};
 ghost use Rattle.pim_ip.specs.declared.fault.Fault.{Fault};
 ghost use Rattle.pim_model.specs.Step.{outcome_of, taken};
 ghost use Rattle.pim_plan.specs.Acting.{act_event};
 ghost use Rattle.pim_plan.specs.Naming.{IsConfigured};
 ghost use Rattle.pim_plan.specs.Planning.{Fits};
-ghost use Rattle.pim_event.specs.Replacing.{replaced_after};
 ghost use Rattle.pim_state.specs.declared.touched.Touched.{Touched as TouchedValue};
+ghost use Rattle.std.specs.Prelude.{◌≡◌, [], IfOk, IsOkUnless, IsTrue, OnOk};
 
 use crate::change::apply;
 use crate::replaced::Replaced;

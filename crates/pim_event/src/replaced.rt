@@ -1,9 +1,9 @@
 //! The routes or the RP ranges that an event replaced. Their table is kept until the next event: by it is told of which
 //! sources the routes are others.
-ghost use Rattle.std.specs.Prelude.{◌≡◌, if◌then◌else◌, not};
+ghost use Rattle.law_events.specs.Named.{has_same_routes};
 ghost use Rattle.pim_event.specs.Replacing.{NoneReplaced, RangesReplaced, RoutesReplaced, may_differ, with_ranges};
 ghost use Rattle.pim_rerouted.specs.OtherRoutes.{with_routes};
-ghost use Rattle.law_named.specs.Named.{has_same_routes};
+ghost use Rattle.std.specs.Prelude.{◌≡◌, if◌then◌else◌, not};
 
 use pim_fanout::Disturbed;
 use pim_mrib::Mrib;

@@ -1,31 +1,31 @@
 //! Time that passes: timers expire one after the other, and what follows of each is settled before the next.
-ghost use Rattle.std.specs.Prelude.{◌≡◌, ◌≤◌, ◌^◌, ◌++◌, [], IfOk, IfSome, IsOkUnless, OnOk, if◌then◌else◌, option_map, true};
-ghost use Rattle.pim_fanout.specs.Disturbed.{joined};
-ghost use Rattle.pim_fanout.specs.Laws.{names_of};
-ghost use Rattle.pim_fanout.specs.Refreshing.{touches, touches_in};
-ghost use Rattle.pim_fanout.specs.Named.{keys_of};
-ghost use Rattle.pim_ip.specs.declared.fault.Fault.{Fault};
+ghost use Rattle.law_events.specs.Locality.{IsQuiet};
+ghost use Rattle.law_events.specs.Named.{named_by};
+ghost use Rattle.law_events.specs.Rest.{IsAtRest};
 ghost use Rattle.law_settled.specs.Laws.{IsReady, ends_from};
-ghost use Rattle.pim_macros.specs.Sights.{IsSourceSight};
-ghost use Rattle.pim_mfc.specs.Laws.{ShowsRows};
-ghost use Rattle.pim_model.specs.Cache.{cached};
-ghost use Rattle.pim_model.specs.Reach.{own_firing, told_all, told_instant};
-ghost use Rattle.law_named.specs.Named.{named_by};
-ghost use Rattle.pim_event.specs.Stepping.{TurnsInTime};
-ghost use Rattle.pim_settling.specs.Settling.{AreNames};
-ghost use Rattle.law_scope.specs.Locality.{IsQuiet};
-ghost use Rattle.law_scope.specs.Rest.{IsAtRest};
-ghost use Rattle.pim_trie.specs.Meter.{raised};
-ghost use Rattle.pim_state.specs.Turns.{saying};
-ghost use Rattle.pim_model.specs.Firing.{fire_all, fire_instant, fire_once, fired};
-ghost use Rattle.pim_model.specs.Step.{advanced};
-ghost use Rattle.pim_model.specs.Timers.{next_due};
 ghost use Rattle.law_settled.specs.Ready.{IsLawful};
 ghost use Rattle.pim_event.specs.Caching.{CacheFollows};
 ghost use Rattle.pim_event.specs.Disturbing.{ended_all, ended_instant, joined_all, disturbed_at};
-ghost use Rattle.pim_state.specs.declared.touched.Touched.{Touched as TouchedValue};
 ghost use Rattle.pim_event.specs.Ends.{disturbed_by_end, end_moves_dr, ending_of, has_other_sources, keeps_group, touched_by_end, touched_by_neighbour, touched_by_source};
+ghost use Rattle.pim_event.specs.Stepping.{TurnsInTime};
+ghost use Rattle.pim_fanout.specs.Disturbed.{joined};
+ghost use Rattle.pim_fanout.specs.Laws.{names_of};
+ghost use Rattle.pim_fanout.specs.Named.{keys_of};
+ghost use Rattle.pim_fanout.specs.Refreshing.{touches, touches_in};
+ghost use Rattle.pim_ip.specs.declared.fault.Fault.{Fault};
+ghost use Rattle.pim_macros.specs.Sights.{IsSourceSight};
+ghost use Rattle.pim_mfc.specs.Laws.{ShowsRows};
+ghost use Rattle.pim_model.specs.Cache.{cached};
+ghost use Rattle.pim_model.specs.Firing.{fire_all, fire_instant, fire_once, fired};
+ghost use Rattle.pim_model.specs.Reach.{own_firing, told_all, told_instant};
+ghost use Rattle.pim_model.specs.Step.{advanced};
+ghost use Rattle.pim_model.specs.Timers.{next_due};
+ghost use Rattle.pim_settling.specs.Settling.{AreNames};
+ghost use Rattle.pim_state.specs.Turns.{saying};
+ghost use Rattle.pim_state.specs.declared.touched.Touched.{Touched as TouchedValue};
 ghost use Rattle.pim_tables.specs.Ends.{due_of};
+ghost use Rattle.pim_trie.specs.Meter.{raised};
+ghost use Rattle.std.specs.Prelude.{◌≡◌, ◌≤◌, ◌^◌, ◌++◌, [], IfOk, IfSome, IsOkUnless, OnOk, if◌then◌else◌, option_map, true};
 
 use crate::parts::Core;
 use pim_fanout::{Cache, Gathered};
@@ -322,7 +322,7 @@ fn fire_all(
 }
 
 /// Lets time pass until a timestamp (ms): all timers that are due by then expire in their order.
-#[tactic(auto, unfolding(pim_model::specs::Step::advanced, law_named::specs::Named::named_of))]
+#[tactic(auto, unfolding(pim_model::specs::Step::advanced, law_events::specs::Named::named_of))]
 pub(crate) fn advance(
     core: &mut Core,
     turn: &mut Turn,

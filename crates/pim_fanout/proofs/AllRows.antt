@@ -4,7 +4,7 @@ use Rattle.pim_types.{proofs.Keys.{equal_keys, same_key_same}, specs.{Keys.{grou
 use Rattle.law_settled.{proofs.RowLaws.has_row_any}
 use Rattle.pim_macros.{specs.declared.rows.SourceAnswers.SourceAnswers}
 use Rattle.pim_model.{specs.{Cache.{answers, cached}, State.State, Tables.{Table, has_row}}}
-use Rattle.law_cache.{proofs.SameRows.row_itself, specs.Kept.{IsCached, SameRow, is_listed, no_rows, refreshed}}
+use Rattle.law_events.{specs.Kept.{IsCached, SameRow, is_listed, no_rows, refreshed}, proofs.CacheSameRows.row_itself}
 use Rattle.pim_mfc.{specs.Laws.ShowsRows, proofs.Shown.{none_shown, refreshed_are_shown}}
 use Rattle.pim_trie.{specs.Meter.raised}
 use Rattle.pim_fanout.{specs.Refreshing.{CacheValue, IsUncounted, Refreshes, touches, uncounted}}

@@ -3,8 +3,7 @@ use Rattle.std.{proofs.Common.{◌≡◌, ◌≤◌, ◌||◌, ℕ, Bool, true, 
 use Rattle.pim_types.{specs.{declared.fact.Key.Key, Keys.{group_in, same_key, source_in, source_key}}}
 use Rattle.pim_model.{specs.{Clearing.clear, declared.accepted.Accepted.Accepted, Reach.{differs_among, own_firing, passes}, State.State, Step.change, Tables.has_row, Timers.Ending, Upstream.groups_of}}
 use Rattle.law_settled.{proofs.ListLaws.{each_append, each_both, each_filter, each_passes, list_of_each}}
-use Rattle.law_named.{specs.{Named.{is_source_named, named, named_by}, Calm.is_calm}, proofs.{Within.rising_within, Configured.{change_configured, firing_configured}, Reached.{IsConfigured, named_is_reached}}}
-use Rattle.law_cache.{specs.Kept.is_listed, proofs.Listed.listed}
+use Rattle.law_events.{specs.{Named.{is_source_named, named, named_by}, Calm.is_calm, Kept.is_listed}, proofs.{Within.rising_within, Configured.{change_configured, firing_configured}, Reached.{IsConfigured, named_is_reached}, Listed.listed}}
 use Rattle.pim_state.{specs.{declared.touched.Touched.Touched, Touches.concerned_keys}}
 use Rattle.pim_views.{specs.Openings.touched_sources}
 use Rattle.pim_fanout.{specs.{Before.opened_sources, Named.{is_changed, named_among}}, proofs.{Listed.passing, Opened.names_rise}}

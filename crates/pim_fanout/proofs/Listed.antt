@@ -4,9 +4,7 @@ use Rattle.pim_ip.{specs.declared.addr.Addr.Addr}
 use Rattle.pim_types.{specs.{declared.fact.{Key.Key, SourceRow.SourceRow}, Keys.{group_in, is_of_group, names_source, same_key, source_in, source_key}}, proofs.Keys.equal_keys}
 use Rattle.pim_model.{specs.{Clearing.{Cleared, ClearAssert, ClearSptBit, clear, clear_all, clearable_count, cleared, to_clear}, Asserts.{assert_forgotten, without_spt, without_spt_bit}, Reach.with_facts, Registers.settle_registers, State.State, Tables.{has_row, is_among, keys_in}, Upstream.{fact_keys, groups_of, sources_of}}}
 use Rattle.law_settled.{proofs.{ListLaws.{any_more, either}, Numbers.any_ascending, RowLaws.{has_row_any, still_absent}, TableLaws.{any_in_filter, any_of_either, any_of_map}, TurnLaws.kept_to_the_end}}
-use Rattle.law_scope.{specs.{Locality.{IsQuiet, touching}, Scopes.reads}}
-use Rattle.law_named.{specs.Named.{is_source_named, named, named_by}, proofs.{Moved.moved_names, Taken.facts_stay, Touched.touched_names, NeighbourStays.adjoins_names}}
-use Rattle.law_cache.{specs.Kept.is_listed, proofs.Listed.listed}
+use Rattle.law_events.{specs.{Locality.{IsQuiet, touching}, Scopes.reads, Named.{is_source_named, named, named_by}, Kept.is_listed}, proofs.{Moved.moved_names, Taken.facts_stay, Touched.touched_names, NeighbourStays.adjoins_names, Listed.listed}}
 use Rattle.pim_state.{specs.declared.touched.Touched.Touched}
 use Rattle.pim_views.{specs.Openings.{facts_of_whole, has_facts, is_of_all, opened_keys, touched_sources}}
 use Rattle.pim_fanout.{specs.{Before.opened_sources, Contains.Contains, Named.{is_changed, named_among}}, proofs.Opened.opened}

@@ -3,9 +3,7 @@
 use Rattle.std.{proofs.Common.{◌≡◌, ◌≤◌, ◌||◌, ℕ, true, false, length}}
 use Rattle.pim_types.{specs.{declared.fact.SourceRow.SourceRow, Keys.source_key}}
 use Rattle.pim_model.{specs.{Clearing.clear, declared.accepted.Accepted.Accepted, Firing.fire_once, Limits.most_ifaces, Reach.own_firing, State.State, Step.{change, done}, Tables.{Table, has_row}, Timers.Ending}}
-use Rattle.law_scope.{specs.Locality.IsQuiet}
-use Rattle.law_named.{specs.Keeps.KeepsAnswers, proofs.{Calm.{event_facts, firing_facts}, Settled.{event_keeps, firing_keeps}}}
-use Rattle.law_cache.{specs.Kept.is_listed}
+use Rattle.law_events.{specs.{Locality.IsQuiet, Keeps.KeepsAnswers, Kept.is_listed}, proofs.{Calm.{event_facts, firing_facts}, Settled.{event_keeps, firing_keeps}}}
 use Rattle.pim_state.{specs.declared.touched.Touched.Touched}
 use Rattle.pim_fanout.{specs.{Contains.Contains, Named.named_among}, proofs.Listed.unlisted_is_unnamed}
 

@@ -3,7 +3,7 @@ use Rattle.std.{proofs.Common.{◌≡◌, true, List, [], ◌∷◌, ◌++◌}}
 use Rattle.pim_ip.{specs.declared.addr.Addr.Addr}
 use Rattle.pim_types.{specs.{declared.fact.Key.Key, Keys.source_key}}
 use Rattle.pim_model.{specs.{Cache.answers, State.State, Tables.has_row}}
-use Rattle.law_cache.{specs.Kept.{Cache, refreshed}}
+use Rattle.law_events.{specs.Kept.{Cache, refreshed}}
 use Rattle.pim_macros.{specs.Rows.{MadeRow, ShowsAnswers}}
 use Rattle.pim_mfc.{specs.{Kept.{Kept, with_source_row}, Laws.ShowsRows}, proofs.Shown.put_refreshes}
 

@@ -3,7 +3,7 @@ use Rattle.std.{proofs.{Common.{◌≡◌, ◌&&◌, ◌+◌, ◌≤◌, ◌<◌
 use Rattle.pim_ifset.{specs.Members.{Members, has}}
 use Rattle.pim_types.{specs.Keys.{group_in, source_in, source_key}}
 use Rattle.pim_model.{specs.{Rows.{same_both, same_path, same_register_state}, Limits.most_ifaces, Sets.Set, State.State, Tables.{has_row, same_bool, same_hop, same_option}}}
-use Rattle.law_named.{specs.Named.{IsMask, is_source_named, is_same_beside, is_same_sight, is_same_star, same_set}, proofs.{Kept.Low, Masks.same_masks}}
+use Rattle.law_events.{specs.Named.{IsMask, is_source_named, is_same_beside, is_same_sight, is_same_star, same_set}, proofs.{KeptSources.Low, Masks.same_masks}}
 use Rattle.pim_macros.{specs.{Sights.{ShowsSource, ShowsStar}, declared.sight.{SourceSight.SourceSight, StarSight.StarSight}}}
 use Rattle.pim_fanout.{specs.{Before.{IsKnown, KnownAs, seen_key}, Named.{is_changed, is_same_source}, Same.{same_asserts, same_beside, same_common, same_members, same_routes, same_sight, same_source, same_star, same_star_routes}, declared.before.KnownSource.KnownSource}}
 

@@ -3,9 +3,7 @@ use Rattle.std.{proofs.Common.{◌≡◌, ◌≤◌, ℕ, List, [], cond, length
 use Rattle.pim_ip.{specs.Ipv4.Packet}
 use Rattle.pim_types.{specs.{declared.{config.Config.Config, event.Event.Event, fact.Key.Key}, Keys.source_key}}
 use Rattle.pim_model.{specs.{Cache.{Plain, cached}, Clearing.clear, declared.accepted.Accepted.Accepted, Firing.fire_once, Limits.most_ifaces, Reach.own_firing, State.{State, opening}, Step.{change, done, step}, Tables.{Table, row_at}, Timers.Ending}}
-use Rattle.law_scope.{specs.{Locality.IsQuiet, Rest.IsAtRest}}
-use Rattle.law_named.{specs.Named.named_by}
-use Rattle.law_cache.{specs.{Decided.IsDecided, Kept.{Cache, IsCached, SameRow, is_listed, no_rows, refreshed}}, proofs.{PlainPackets.plain_keeps_cache, RowsOfEvents.{event_keeps_cache, firing_keeps_cache, present_keeps_cache}, RowsOfSteps.opening_is_cached, SameRows.row_itself}}
+use Rattle.law_events.{specs.{Locality.IsQuiet, Rest.IsAtRest, Named.named_by, Decided.IsDecided, Kept.{Cache, IsCached, SameRow, is_listed, no_rows, refreshed}}, proofs.{PlainPackets.plain_keeps_cache, RowsOfEvents.{event_keeps_cache, firing_keeps_cache, present_keeps_cache}, RowsOfSteps.opening_is_cached, CacheSameRows.row_itself}}
 use Rattle.pim_macros.{specs.declared.rows.SourceAnswers.SourceAnswers}
 use Rattle.pim_mfc.{specs.Laws.{ShowsRow, ShowsRows}, proofs.Shown.{none_shown, refreshed_are_shown}}
 use Rattle.pim_state.{specs.declared.touched.Touched.Touched}

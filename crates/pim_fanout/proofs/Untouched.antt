@@ -3,7 +3,7 @@
 use Rattle.std.{proofs.Common.{◌≡◌, ℕ, List, inl, inr, true, sym, ap, ◌∙◌}, specs.{Cmp.Derive.both_true, Prelude.option_and_then}}
 use Rattle.pim_types.{specs.declared.config.{Route.Route, RpRange.RpRange}}
 use Rattle.pim_model.{specs.{State.State, Unicast.{route, route_among, rp_among, rp_of, rp_route}}}
-use Rattle.law_named.{specs.{Moved.IsRerouted, Named.{has_same_routes, has_same_rp}}, proofs.{Rerouted.{around_rerouted, rerouted_beside, rerouted_unnamed}, Sights.{options_same, paths_same}, Touched.touched_names}}
+use Rattle.law_events.{specs.{Moved.IsRerouted, Named.{has_same_routes, has_same_rp}}, proofs.{Rerouted.{around_rerouted, rerouted_beside, rerouted_unnamed}, Sights.{options_same, paths_same}, Touched.touched_names}}
 use Rattle.pim_state.{specs.declared.touched.Touched.Touched}
 use Rattle.pim_fanout.{specs.{Disturbed.is_disturbed, Laws.UntouchedIsUnnamed}}
 

@@ -1,7 +1,7 @@
 -- What follows of a change concerns the touched keys alone.
 use Rattle.std.{specs.Prelude.◌⊎◌}
 use Rattle.pim_model.{specs.State.State}
-use Rattle.law_named.{specs.{Moved.MovesAlone, Adjacent.AdjoinsAlone}}
+use Rattle.law_events.{specs.{Moved.MovesAlone, Adjacent.AdjoinsAlone}}
 use Rattle.pim_state.{specs.declared.touched.Touched.Touched}
 use Rattle.pim_views.{specs.Covers.Covers}
 

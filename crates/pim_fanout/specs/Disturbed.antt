@@ -2,7 +2,7 @@
 -- of a group that they name whole.
 use Rattle.std.{specs.Prelude.{Bool, true, ℕ, ◌++◌}}
 use Rattle.pim_types.{specs.Keys.source_key}
-use Rattle.law_scope.{specs.Locality.touching}
+use Rattle.law_events.{specs.Locality.touching}
 use Rattle.pim_state.{specs.declared.touched.Touched.Touched}
 
 -- What two changes touch together.

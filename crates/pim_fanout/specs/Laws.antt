@@ -3,9 +3,7 @@ use Rattle.std.{specs.{List.Sorted.IsStrictlySortedBy, Prelude.{List, [], false,
 use Rattle.pim_ip.{specs.Ipv4.Packet}
 use Rattle.pim_types.{specs.{declared.{config.Config.Config, event.Event.Event, fact.Key.Key}, Keys.{key_cmp, source_key}}}
 use Rattle.pim_model.{specs.{Cache.{Plain, cached}, Clearing.clear, declared.accepted.Accepted.Accepted, Firing.fire_once, Limits.most_ifaces, Reach.{differs_among, own_firing, passes}, State.{State, opening}, Step.{change, done, step}, Tables.{Table, has_row}, Timers.Ending}}
-use Rattle.law_scope.{specs.{Locality.IsQuiet, Rest.IsAtRest}}
-use Rattle.law_named.{specs.{Calm.is_calm, Keeps.KeepsAnswers, Named.{is_source_named, named_by}}}
-use Rattle.law_cache.{specs.{Decided.IsDecided, Kept.{is_listed, refreshed}}}
+use Rattle.law_events.{specs.{Locality.IsQuiet, Rest.IsAtRest, Calm.is_calm, Keeps.KeepsAnswers, Named.{is_source_named, named_by}, Decided.IsDecided, Kept.{is_listed, refreshed}}}
 use Rattle.pim_state.{specs.declared.touched.Touched.Touched}
 use Rattle.pim_macros.{specs.declared.rows.SourceAnswers.SourceAnswers}
 use Rattle.pim_mfc.{specs.Laws.ShowsRows}

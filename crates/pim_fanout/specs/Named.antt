@@ -4,7 +4,7 @@ use Rattle.std.{specs.Prelude.{Bool, List, filter, map, ℕ, ◌&&◌, ◌||◌}
 use Rattle.pim_types.{specs.{Keys.{group_in, source_in}, declared.{fact.Key.Key, name.SourceGroup.SourceGroup}}}
 use Rattle.pim_model.{specs.{State.State, Tables.has_row}}
 use Rattle.pim_state.{specs.declared.touched.Touched.Touched}
-use Rattle.law_named.{specs.Named.{is_source_named, is_same_beside, is_same_sight}}
+use Rattle.law_events.{specs.Named.{is_source_named, is_same_beside, is_same_sight}}
 use Rattle.pim_fanout.{specs.Before.{name_key, opened_sources}}
 
 -- what is compared of a source is the same in both states

@@ -6,7 +6,7 @@ use Rattle.pim_types.{specs.declared.fact.Key.Key}
 use Rattle.pim_model.{specs.{State.State, Tables.{Table, has_row}}}
 use Rattle.pim_state.{specs.declared.touched.Touched.Touched}
 use Rattle.pim_macros.{specs.declared.rows.SourceAnswers.SourceAnswers}
-use Rattle.law_cache.{specs.Kept.{Cache, refreshed}}
+use Rattle.law_events.{specs.Kept.{Cache, refreshed}}
 use Rattle.pim_mfc.{specs.{Kept.Kept, Laws.ShowsRows}}
 
 -- The forwarding cache as its users see it: its rows, how many were evaluated, which sources changed, and what changes

@@ -1,7 +1,7 @@
 -- Two sights of one source, compared field by field. What is configured never changes, and isn't compared.
 use Rattle.std.{specs.Prelude.{Bool, ◌&&◌, ◌==◌}}
 use Rattle.pim_ifset.{specs.Members.{Members, has}}
-use Rattle.law_named.{specs.Named.same_set}
+use Rattle.law_events.{specs.Named.same_set}
 use Rattle.pim_model.{specs.{Rows.{same_both, same_path, same_register_state}, Tables.{same_address, same_bool, same_hop}}}
 use Rattle.pim_macros.{specs.declared.sight.{SourceSight.SourceSight, StarSight.StarSight}}
 use Rattle.pim_fanout.{specs.declared.before.KnownSource.KnownSource}

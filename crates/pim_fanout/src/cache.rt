@@ -1,17 +1,17 @@
 //! The forwarding cache, with the count of what an event costs it.
-ghost use Rattle.std.specs.List.Sorted.{IsStrictlySortedBy};
-ghost use Rattle.std.specs.Prelude.{◌≡◌, ℕ, ◌++◌, [], IfOk, IfSome, OnOk, if◌then◌else◌, map};
-ghost use Rattle.law_cache.specs.Kept.{is_listed};
+ghost use Rattle.law_events.specs.Kept.{is_listed};
 ghost use Rattle.pim_fanout.specs.Before.{name_key};
 ghost use Rattle.pim_fanout.specs.Disturbed.{joined};
-ghost use Rattle.pim_fanout.specs.Refreshing.{IsUncounted, Refreshes, RefreshesOne, nothing_cached, touches, touches_in, touches_of, uncounted};
 ghost use Rattle.pim_fanout.specs.Named.{keys_of};
+ghost use Rattle.pim_fanout.specs.Refreshing.{IsUncounted, Refreshes, RefreshesOne, nothing_cached, touches, touches_in, touches_of, uncounted};
 ghost use Rattle.pim_macros.specs.Sights.{IsSourceSight};
 ghost use Rattle.pim_mfc.specs.Laws.{ShowsRows};
 ghost use Rattle.pim_model.specs.Cache.{cached};
+ghost use Rattle.pim_state.specs.declared.touched.Touched.{Touched as TouchedValue};
 ghost use Rattle.pim_trie.specs.Meter.{raised};
 ghost use Rattle.pim_types.specs.Keys.{group_in, key_cmp, source_in, source_key};
-ghost use Rattle.pim_state.specs.declared.touched.Touched.{Touched as TouchedValue};
+ghost use Rattle.std.specs.List.Sorted.{IsStrictlySortedBy};
+ghost use Rattle.std.specs.Prelude.{◌≡◌, ℕ, ◌++◌, [], IfOk, IfSome, OnOk, if◌then◌else◌, map};
 
 use crate::disturbed::Disturbed;
 use crate::evaluates::Evaluates;
@@ -142,7 +142,7 @@ impl Cache {
     }
 
     /// Lists each changed source once, ascending by group and then by source; all else stays. No memory is taken.
-    #[tactic(auto, unfolding(law_cache::specs::Kept::is_listed))]
+    #[tactic(auto, unfolding(law_events::specs::Kept::is_listed))]
     pub fn list_once(&mut self)
         ensures kept { self.new ≡ record self.old { changed = self.new.changed } }
         ensures same { (g src : ℕ) → is_listed self.new.changed g src ≡ is_listed self.old.changed g src }

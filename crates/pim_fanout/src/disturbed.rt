@@ -1,10 +1,10 @@
 //! Which sources changes may have disturbed, whether they have a fact or not.
-ghost use Rattle.std.specs.Prelude.{◌≡◌, ◌++◌, [], OnOk};
+ghost use Rattle.law_events.specs.Locality.{touching};
+ghost use Rattle.law_events.specs.Scopes.{reads};
 ghost use Rattle.pim_fanout.specs.Disturbed.{is_disturbed, joined};
-ghost use Rattle.law_scope.specs.Locality.{touching};
-ghost use Rattle.law_scope.specs.Scopes.{reads};
-ghost use Rattle.pim_types.specs.Keys.{source_key};
 ghost use Rattle.pim_state.specs.declared.touched.Touched.{Touched as TouchedValue};
+ghost use Rattle.pim_types.specs.Keys.{source_key};
+ghost use Rattle.std.specs.Prelude.{◌≡◌, ◌++◌, [], OnOk};
 
 use pim_state::Touched;
 use pim_types::{Addr, Key, SourceGroup};
@@ -34,7 +34,7 @@ impl Model for Disturbed {
 }
 
 // Whether a fact under the key is read by the machines of the source.
-#[tactic(auto, unfolding(law_scope::specs::Scopes::reads))]
+#[tactic(auto, unfolding(law_events::specs::Scopes::reads))]
 fn is_read(name: SourceGroup, key: Key) -> bool
     ensures { result ≡ reads (source_key 0 name.group.bits name.source.bits) key }
 {
@@ -43,7 +43,7 @@ fn is_read(name: SourceGroup, key: Key) -> bool
 }
 
 // Whether the machines of the source read a fact under one of the keys.
-#[tactic(auto, unfolding(law_scope::specs::Locality::touching))]
+#[tactic(auto, unfolding(law_events::specs::Locality::touching))]
 fn is_touched(keys: &[Key], name: SourceGroup) -> bool
     ensures { result ≡ touching keys.now (source_key 0 name.group.bits name.source.bits) }
 {

@@ -5,7 +5,7 @@ use Rattle.igmp_wire.{specs.{Messages.igmp_reading, declared.view.IgmpView.IgmpV
 use Rattle.pim_types.{specs.declared.{config.IfaceId.IfaceId, event.{Event.Event, EventKind.EventKind}, outcome.{Emission.Emission, Ignored.Ignored, Stop.Stop, Verdict.Verdict}}}
 use Rattle.pim_wire.{specs.{Messages.pim_reading, RegisterParts.registered_group, Values.{Register, Encapsulated, Null}, declared.view.PimView.PimView}}
 use Rattle.pim_model.{specs.{Cause.{done_as, if_done, packet_in}, Hellos.hello_holdtime_of, Judging.{Judged, last_moment, data_judged, frame_judged, igmp_judged, igmp_message_judged, ignore_if, judged, packet_judged, pim_judged, pim_message_judged, pim_to_me_judged, refuse_if, register_judged, register_stop_judged, unicast_judged, unicast_packet_judged, hello_judged, join_prune_judged, assert_judged, of_read, up_judged, down_judged, advance_judged, routes_judged, rps_judged, ◌>>◌}, Limits.{are_routes, are_rps}, Neighbours.is_neighbour, State.{State, iface_count, is_own, is_up, my_address}, Step.step, Unicast.is_rp, declared.accepted.Accepted.Accepted}}
-use Rattle.law_promises.{specs.Copies.{IsLower, happens}, proofs.Copies.ttl_falls}
+use Rattle.law_streams.{specs.Copies.{IsLower, happens}, proofs.Copies.ttl_falls}
 use Rattle.pim_guard.{specs.{Guard.{brings_control, guarded, guarded_if, is_control, is_forwarded_pim, is_frame_stopped, is_kind_stopped, is_link_reading_stopped, is_message_stopped, is_packet_stopped, is_reading_stopped, is_unicast_stopped}, Laws.{GuardedCopiesAreData, IsOfData, WithoutGuardNothingChanges}}}
 
 pub without_guard_nothing_changes : WithoutGuardNothingChanges

@@ -3,7 +3,7 @@ use Rattle.std.{specs.{List.All, Prelude.{◌≡◌, ℕ, true, false, Some}}}
 use Rattle.pim_ip.{specs.Ipv4.{Packet, copy_text}}
 use Rattle.pim_types.{specs.declared.{event.Event.Event, outcome.Emission.Emission}}
 use Rattle.pim_model.{specs.{Cause.{done_as, packet_in}, State.State, Writing.on_link}}
-use Rattle.law_promises.{specs.Copies.{copies_at, happens}}
+use Rattle.law_streams.{specs.Copies.{copies_at, happens}}
 use Rattle.pim_guard.{specs.Guard.{guarded, is_control}}
 
 -- A copy of the packet that an event brings, which is neither IGMP nor PIM, and doesn't go to 224.0.0.0/24.

@@ -2,7 +2,7 @@
 use Rattle.std.{proofs.Common.{◌≡◌, ◌++◌, ℕ, Bool, true, false, List, [], ◌∷◌, append-nil, filter, map, refl, sym, ap, ◌∙◌}}
 use Rattle.pim_types.{specs.{Keys.{source_key, star_key}, declared.fact.Key.Key}}
 use Rattle.pim_model.{specs.{State.State, Unicast.{route, rp_route}, Upstream.{fact_keys, sources_of}}}
-use Rattle.law_named.{specs.Adjacent.{dr_keys, keys_of_dr, leads_to, led_of_group, led_sources}}
+use Rattle.law_events.{specs.Adjacent.{dr_keys, keys_of_dr, leads_to, led_of_group, led_sources}}
 
 module _ (s : State) (i address g : ℕ) (led : Bool) (is : led ≡ leads_to i address (rp_route s g)) where
   pub all_led : led ≡ true → star_key 0 g ∷ [] ≡ led_of_group s i address g

@@ -4,7 +4,7 @@ use Rattle.pim_ip.{specs.{Prefixes.{contains, longest_match}, declared.addr.Pref
 use Rattle.pim_types.{specs.{declared.{config.{InterfaceConfig.InterfaceConfig, Route.Route}, fact.{InterfaceRow.InterfaceRow, Key.Key}, path.Path.Path}, Keys.{iface_key, is_of_group, source_in}}}
 use Rattle.pim_model.{specs.{State.{Addressing, State, is_own_among}, Tables.{Table, below, has_row, keys_in}, Unicast.{is_on_link_among, link_among, link_path, path_if_up, route, route_among, route_path, routed_among, subnet}, Upstream.{fact_keys, groups_of, sources_of}}}
 use Rattle.law_settled.{proofs.{ListLaws.any_more, Numbers.any_ascending, TableLaws.{any_in_filter, any_of_map}}}
-use Rattle.law_named.{specs.Adjacent.{is_linked, linked_of_group, linked_sources}}
+use Rattle.law_events.{specs.Adjacent.{is_linked, linked_of_group, linked_sources}}
 use Rattle.pim_state.{proofs.GatheredSources.{both_are_all, member_keys, stored_keys}}
 use Rattle.pim_hello.{specs.Linked.{is_within, may_link}}
 

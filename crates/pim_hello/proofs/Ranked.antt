@@ -3,7 +3,7 @@ use Rattle.std.{proofs.Common.{◌≡◌, ◌&&◌, ◌||◌, ℕ, Bool, true, f
 use Rattle.pim_types.{specs.{declared.fact.{Key.Key, NeighbourRow.NeighbourRow}, Keys.{iface_in, is_on, key_cmp, same_key}}, proofs.Keys.equal_keys}
 use Rattle.pim_model.{specs.{Neighbours.{all_have_priority, is_better_dr, is_dr_among}, Tables.{Table, drop_at, drop_where, has_row, keys_in, put, rows_on, set_row}}}
 use Rattle.law_settled.{proofs.{ListLaws.or_swapped, TableLaws.any_in_filter}}
-use Rattle.law_scope.{proofs.{OwnKeys.{all_later, none_below}, Registers.nothing_dropped}}
+use Rattle.law_events.{proofs.{OwnKeys.{all_later, none_below}, Registers.nothing_dropped}}
 use Rattle.pim_hello.{specs.Election.{is_other, is_unranked, some_other}}
 
 -- ---- what passes in a table where one row is set

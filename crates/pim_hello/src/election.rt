@@ -1,11 +1,11 @@
 //! Whether a Hello, or the expiry of a neighbour, leaves unchanged whether the router is the DR of the interface (RFC
 //! 7761, section 4.3.2).
-ghost use Rattle.std.specs.Prelude.{◌≡◌, ◌||◌, None, Some, is_none, not};
-ghost use Rattle.law_named.specs.Adjacent.{end_keeps_dr, hello_keeps_dr};
+ghost use Rattle.law_events.specs.Adjacent.{end_keeps_dr, hello_keeps_dr};
 ghost use Rattle.pim_hello.specs.Election.{is_dr_with, is_other, is_unranked, some_other};
 ghost use Rattle.pim_model.specs.Neighbours.{is_better_dr};
 ghost use Rattle.pim_model.specs.State.{my_address, my_priority};
 ghost use Rattle.pim_types.specs.Keys.{same_key};
+ghost use Rattle.std.specs.Prelude.{◌≡◌, ◌||◌, None, Some, is_none, not};
 
 use pim_neighbours::{is_better_dr, row_of_hello};
 use pim_state::World;
@@ -131,7 +131,7 @@ fn is_dr_with(world: &World, key: Key, row: Option<NeighbourRow>) -> bool
 }
 
 /// Whether a Hello from the address leaves unchanged whether the router is the DR of the interface.
-#[tactic(auto, unfolding(law_named::specs::Adjacent::hello_keeps_dr, pim_model::specs::Hellos::neighbour_replaced, pim_model::specs::Hellos::neighbours_replaced, pim_model::specs::Neighbours::is_dr))]
+#[tactic(auto, unfolding(law_events::specs::Adjacent::hello_keeps_dr, pim_model::specs::Hellos::neighbour_replaced, pim_model::specs::Hellos::neighbours_replaced, pim_model::specs::Neighbours::is_dr))]
 pub fn hello_keeps_dr(world: &World, iface: IfaceId, from: Addr, hello: &Hello) -> bool
     ensures { result ≡ hello_keeps_dr world.now iface.number from.bits hello.now }
 {
@@ -141,7 +141,7 @@ pub fn hello_keeps_dr(world: &World, iface: IfaceId, from: Addr, hello: &Hello) 
 }
 
 /// Whether the expiry of the neighbour with this key leaves unchanged whether the router is the DR of its interface.
-#[tactic(auto, unfolding(law_named::specs::Adjacent::end_keeps_dr, pim_model::specs::Hellos::neighbour_due, pim_model::specs::Neighbours::is_dr, pim_model::specs::Tables::set_row))]
+#[tactic(auto, unfolding(law_events::specs::Adjacent::end_keeps_dr, pim_model::specs::Hellos::neighbour_due, pim_model::specs::Neighbours::is_dr, pim_model::specs::Tables::set_row))]
 pub fn end_keeps_dr(world: &World, key: Key) -> bool
     ensures { result ≡ end_keeps_dr world.now key }
 {

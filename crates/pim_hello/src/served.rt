@@ -1,11 +1,11 @@
 //! What asks whether the router is the DR of an interface: the groups and the sources with a receiver there, and the
 //! sources on its link.
+ghost use Rattle.law_events.specs.Adjacent.{is_linked, keys_of_dr, linked_of_group, linked_sources, receiver_sources, receiver_stars};
+ghost use Rattle.pim_model.specs.Unicast.{route};
+ghost use Rattle.pim_state.specs.Groups.{numbers_of};
+ghost use Rattle.pim_types.specs.Keys.{source_key};
 ghost use Rattle.std.specs.List.{flat_map};
 ghost use Rattle.std.specs.Prelude.{◌≡◌, ◌++◌, OnOk, filter, map};
-ghost use Rattle.law_named.specs.Adjacent.{is_linked, keys_of_dr, linked_of_group, linked_sources, receiver_sources, receiver_stars};
-ghost use Rattle.pim_model.specs.Unicast.{route};
-ghost use Rattle.pim_types.specs.Keys.{source_key};
-ghost use Rattle.pim_state.specs.Groups.{numbers_of};
 
 use crate::linked::may_link;
 use pim_state::{Meter, Turn, World};
@@ -24,7 +24,7 @@ fn is_linked(iface: IfaceId, path: Option<Path>) -> bool
 }
 
 // Puts the groups with a receiver of all their sources on the interface behind other keys.
-#[tactic(auto, unfolding(law_named::specs::Adjacent::receiver_stars))]
+#[tactic(auto, unfolding(law_events::specs::Adjacent::receiver_stars))]
 fn put_stars(world: &World, iface: IfaceId, keys: &mut Vec<Key>) -> Result<(), AllocError>
     ensures { OnOk result (keys.new.items ≡ keys.old.items ++ receiver_stars world.now iface.number) }
 {
@@ -37,7 +37,7 @@ fn put_stars(world: &World, iface: IfaceId, keys: &mut Vec<Key>) -> Result<(), A
 }
 
 // Puts the sources with a receiver on the interface behind other keys.
-#[tactic(auto, unfolding(law_named::specs::Adjacent::receiver_sources))]
+#[tactic(auto, unfolding(law_events::specs::Adjacent::receiver_sources))]
 fn put_sources(world: &World, iface: IfaceId, keys: &mut Vec<Key>) -> Result<(), AllocError>
     ensures { OnOk result (keys.new.items ≡ keys.old.items ++ receiver_sources world.now iface.number) }
 {
@@ -74,7 +74,7 @@ fn put_linked(
 }
 
 // Puts the sources of the group with any fact that are on the interface's link behind other keys.
-#[tactic(auto, unfolding(law_named::specs::Adjacent::linked_of_group))]
+#[tactic(auto, unfolding(law_events::specs::Adjacent::linked_of_group))]
 fn put_linked_of(
     world: &World,
     alloc: Global,
@@ -109,7 +109,7 @@ fn put_linked_of_groups(
 
 // Puts all sources with any fact that are on the interface's link behind other keys. If none is in its subnet, no group is
 // read.
-#[tactic(auto, unfolding(law_named::specs::Adjacent::linked_sources))]
+#[tactic(auto, unfolding(law_events::specs::Adjacent::linked_sources))]
 fn put_linked_sources(
     world: &World,
     alloc: Global,
@@ -128,7 +128,7 @@ fn put_linked_sources(
 
 /// Puts the keys of what asks whether the router is the DR of the interface behind other keys. The meter rises by the
 /// nodes visited.
-#[tactic(auto, unfolding(law_named::specs::Adjacent::keys_of_dr))]
+#[tactic(auto, unfolding(law_events::specs::Adjacent::keys_of_dr))]
 pub(crate) fn put_keys_of_dr(
     world: &World,
     turn: &Turn,

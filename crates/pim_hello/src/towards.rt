@@ -1,16 +1,16 @@
 //! What looks to a neighbour: each group to whose RP it leads, of the other groups the sources to which it leads, and
 //! the asserts that the router lost to it.
+ghost use Rattle.law_events.specs.Adjacent.{keys_of_end, keys_of_hello, keys_of_neighbour, keys_towards, leads_to, led_keys, led_of_group, may_lead};
+ghost use Rattle.pim_model.specs.Unicast.{route, rp_route};
+ghost use Rattle.pim_state.specs.Groups.{numbers_of};
+ghost use Rattle.pim_types.specs.Keys.{source_key};
 ghost use Rattle.std.specs.List.{flat_map};
 ghost use Rattle.std.specs.Prelude.{◌≡◌, ◌++◌, IfOk, OnOk, filter, map};
-ghost use Rattle.law_named.specs.Adjacent.{keys_of_end, keys_of_hello, keys_of_neighbour, keys_towards, leads_to, led_keys, led_of_group, may_lead};
-ghost use Rattle.pim_model.specs.Unicast.{route, rp_route};
-ghost use Rattle.pim_types.specs.Keys.{source_key};
-ghost use Rattle.pim_state.specs.Groups.{numbers_of};
 
 use crate::election::{end_keeps_dr, hello_keeps_dr};
 use crate::restarted::asserts_lost_to;
 use crate::served::put_keys_of_dr;
-use law_named::neighbours::leads_nowhere;
+use law_events::neighbours::leads_nowhere;
 use pim_state::{Meter, Turn, World};
 use pim_types::{Addr, Hop, IfaceId, Key, Path, SourceGroup};
 use pim_wire::{DEFAULT_HOLDTIME, Hello};
@@ -110,7 +110,7 @@ fn keys_of_groups(
 
 // Whether a path may lead to a neighbour with the address: it is a route's next hop, a range's RP, or a source of which
 // there is a fact.
-#[tactic(auto, unfolding(law_named::specs::Adjacent::may_lead))]
+#[tactic(auto, unfolding(law_events::specs::Adjacent::may_lead))]
 fn may_lead(world: &World, address: Addr, meter: &mut Meter) -> bool
     ensures { result ≡ may_lead world.now address.bits }
 {
@@ -119,7 +119,7 @@ fn may_lead(world: &World, address: Addr, meter: &mut Meter) -> bool
 
 // The groups to whose RP the path leads over the neighbour, and the sources to which it does. If no path may lead
 // there, no group is read.
-#[tactic(auto, unfolding(law_named::specs::Adjacent::led_keys))]
+#[tactic(auto, unfolding(law_events::specs::Adjacent::led_keys))]
 fn keys_by_paths(
     world: &World,
     alloc: Global,
@@ -138,7 +138,7 @@ fn keys_by_paths(
 }
 
 // The keys with facts of what depends on the neighbour.
-#[tactic(auto, unfolding(law_named::specs::Adjacent::keys_towards))]
+#[tactic(auto, unfolding(law_events::specs::Adjacent::keys_towards))]
 fn keys_towards(
     world: &World,
     turn: &Turn,
@@ -156,7 +156,7 @@ fn keys_towards(
 
 // The keys of what a Hello moves but for what asks for the DR. For a neighbour that stays they are the asserts that the
 // router lost to it, which are removed where it restarted; for one that comes or goes they are all that depends on it.
-#[tactic(auto, unfolding(law_named::specs::Adjacent::keys_of_neighbour))]
+#[tactic(auto, unfolding(law_events::specs::Adjacent::keys_of_neighbour))]
 fn keys_of_neighbour(
     world: &World,
     turn: &Turn,

@@ -2,7 +2,7 @@
 use Rattle.std.{proofs.Common.{◌≡◌, List, Option, ℕ, inl, inr, arith}, specs.Io.KnownBytes.Appends}
 use Rattle.pim_ip.{specs.declared.fault.Fault.Fault}
 use Rattle.pim_scenario.{specs.{Complaints.{IsTold, line_of}, declared.complaint.Complaint.Complaint}}
-use Rattle.lab_stations.{specs.{Troubles.complaint_of, declared.trouble.Trouble.Trouble}}
+use Rattle.lab_parts.{specs.{Troubles.complaint_of, declared.trouble.Trouble.Trouble}}
 
 no_two : {status : ℕ} → status ≡ 2 → status ≡ 4 → ⊥
 no_two two four = omega (arith, two, four)

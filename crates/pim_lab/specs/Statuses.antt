@@ -4,7 +4,7 @@ use Rattle.pim_ip.{specs.declared.{fault.Fault.Fault, refusal.Refusal.Refusal}}
 use Rattle.pim_model.{specs.Network.nodes_test}
 use Rattle.pim_scenario.{specs.{Scenario.IsReadFrom, declared.scenario.{Link.Link, RouterText.RouterText, Scenario.Scenario}}}
 use Rattle.pim_types.{specs.declared.config.Config.Config}
-use Rattle.lab_stations.{specs.declared.trouble.Trouble.Trouble}
+use Rattle.lab_parts.{specs.declared.trouble.Trouble.Trouble}
 
 -- The configuration of a router, with the number of the link of each interface.
 abbrev pub router_node : RouterText → Config × List ℕ

@@ -1,16 +1,14 @@
 //! Moves over a network, and the lines that they print.
-ghost use Rattle.std.specs.Prelude.{◌≡◌, IfErr, IfOk, Ok, OnOk, map};
-ghost use Rattle.pim_net.specs.Showing.{node_of};
 ghost use Rattle.pim_lab.specs.Statuses.{IsFault, IsTroubleOf, router_node, routers_test};
+ghost use Rattle.pim_net.specs.Showing.{node_of};
+ghost use Rattle.std.specs.Prelude.{◌≡◌, IfErr, IfOk, Ok, OnOk, map};
 
 use crate::front::{Asked, run_behind};
 use crate::nodes::{reloaded_of, station_of};
 use crate::saved::Unresumed;
 use igmp_older::Presence;
 use igmp_older_saved::{HostRow, are_held, open_saved, resumed_rows, saved_hosts, write_saved};
-use lab_stations::{
-    Delivery, Frames, Lines, Names, OlderLine, Reloaded, RowLine, Station, Trouble,
-};
+use lab_parts::{Delivery, Frames, Lines, Names, OlderLine, Reloaded, RowLine, Station, Trouble};
 use pim_net::{Net, NetLog, Node, Renewal, Router, Unrestored, Wire};
 use pim_rows::Table;
 use pim_saver::ReadFault;

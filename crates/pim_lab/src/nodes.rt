@@ -1,10 +1,10 @@
 //! The routers of a scenario, as the lab and the network have them.
-ghost use Rattle.std.specs.Prelude.{◌≡◌, IfOk};
-ghost use Rattle.pim_net.specs.Showing.{node_of};
-ghost use Rattle.lab_stations.specs.Stations.{nobody_behind, own_addresses};
+ghost use Rattle.lab_parts.specs.Stations.{nobody_behind, own_addresses};
 ghost use Rattle.pim_lab.specs.Statuses.{router_node};
+ghost use Rattle.pim_net.specs.Showing.{node_of};
+ghost use Rattle.std.specs.Prelude.{◌≡◌, IfOk};
 
-use lab_stations::{Reloaded, Station, link_numbers};
+use lab_parts::{Reloaded, Station, link_numbers};
 use pim_net::{Node, Renewal};
 use pim_scenario::{FrontText, Link, RouterText};
 use pim_types::{Config, Series};

@@ -1,15 +1,15 @@
 //! Scenarios played from their text.
-ghost use Rattle.std.specs.Io.KnownBytes.{Appends};
-ghost use Rattle.std.specs.Prelude.{◌≡◌, ◌⊎◌, IfErr, IfOk, OnOk, codes};
 ghost use Rattle.pim_ip.specs.declared.fault.Fault.{Fault};
 ghost use Rattle.pim_ip.specs.declared.refusal.Refusal.{Refusal};
 ghost use Rattle.pim_lab.specs.Statuses.{IsAccepted, IsFault, IsRefused, Stops};
 ghost use Rattle.pim_scenario.specs.Complaints.{line_of};
 ghost use Rattle.pim_scenario.specs.Scenario.{IsReadFrom};
 ghost use Rattle.pim_scenario.specs.declared.complaint.Complaint.{Complaint};
+ghost use Rattle.std.specs.Io.KnownBytes.{Appends};
+ghost use Rattle.std.specs.Prelude.{◌≡◌, ◌⊎◌, IfErr, IfOk, OnOk, codes};
 
 use crate::lab::Lab;
-use lab_stations::{Lines, Trouble};
+use lab_parts::{Lines, Trouble};
 use pim_net::{MemoryWire, Wire};
 use pim_scenario::{Scenario, ScenarioMove, Tables, fault, read_scenario};
 use pim_types::{Fault, Series};

@@ -1,11 +1,11 @@
 //! Scenarios in which routers begin in saved states, or in which the states of some are saved at the end.
-ghost use Rattle.std.specs.Prelude.{◌≡◌, ◌⊎◌};
 ghost use Rattle.pim_lab.specs.Statuses.{IsAccepted};
+ghost use Rattle.std.specs.Prelude.{◌≡◌, ◌⊎◌};
 
 use crate::lab::Lab;
 use crate::playing::{Opened, make_moves, open_scenario, print_tables};
 use igmp_older_saved::HeldRefusal;
-use lab_stations::{Lines, Trouble};
+use lab_parts::{Lines, Trouble};
 use pim_net::{Unrestored, Wire};
 use pim_scenario::{Complaint, ScenarioMove, Tables};
 use pim_types::{Fault, Series};
@@ -103,7 +103,7 @@ impl From<Trouble> for Stop<'_> {
 impl From<Fault> for Stop<'_> {
     ghost use Rattle.std.specs.Prelude.{◌≡◌};
     ghost use Rattle.pim_lab.specs.declared.saved.Stop.{Stop};
-    ghost use Rattle.lab_stations.specs.declared.trouble.Trouble.{Trouble};
+    ghost use Rattle.lab_parts.specs.declared.trouble.Trouble.{Trouble};
 
     ghost from_gives = { λ fault stop. stop ≡ Stop.Trouble (Trouble.Fault fault) };
 

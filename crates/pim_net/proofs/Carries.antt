@@ -3,7 +3,7 @@ use Rattle.std.{proofs.Common.{◌≡◌, ◌∙◌, Bool, true, false, List, Op
 use Rattle.pim_ip.{specs.declared.fault.Fault.Fault}
 use Rattle.pim_types.{specs.declared.{config.IfaceId.IfaceId, event.Event.Event, outcome.Outcome.Outcome}}
 use Rattle.pim_model.{specs.Network.{Network, Sent, Station, bad_move, event_of, frame_at, is_on_frame_link, moved, moved_at, station_at}}
-use Rattle.lab_wires.{specs.{Carrying.IsCarried, Wires.failures_after}}
+use Rattle.lab_parts.{specs.{Carrying.IsCarried, Wires.failures_after}}
 use Rattle.pim_net.{specs.{Carried.{IsMove, IsMoveOf, MovesTo, bytes_of_kind, carried_packet, moved_with, port_of}, Showing.{brought_on, brought_to, move_of}, declared.moves.Move.Move}, proofs.Events.{moved_event, moved_none, moved_some}}
 use Rattle.pim_model.specs.Network as written
 

@@ -3,7 +3,7 @@ use Rattle.std.{proofs.{Common.{◌≡◌, ◌∙◌, ◌≤◌, ◌++◌, ℕ, 
 use Rattle.pim_ip.{specs.declared.{fault.Fault.Fault, refusal.Refusal.Refusal}}
 use Rattle.pim_types.{specs.declared.{config.Config.Config, outcome.{Emission.Emission, Outcome.Outcome}}}
 use Rattle.pim_model.{specs.{Limits.config_test, Network.{Network, Sent, Station, bad_move, is_node, sent_by, station_at}, State.State}}
-use Rattle.law_placed.{specs.Placing.Places}
+use Rattle.law_states.{specs.Placing.Places}
 use Rattle.pim_net.{specs.{Reloading.{done_with, node_test, put_by, put_test, refused_as, reloaded, reloaded_at, reloaded_if}, Showing.all_of}, proofs.{Lookups.{Shows, shown}, Stations.{none_there, of_some, one_replaced, one_there}}}
 use Rattle.law_settled.{proofs.Accepted.few_interfaces}
 

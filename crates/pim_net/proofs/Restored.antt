@@ -2,7 +2,7 @@
 use Rattle.std.{proofs.Common.{◌≡◌, ◌∙◌, ℕ, Bool, true, false, List, Option, Some, None, Result, Ok, Err, ap, refl}, specs.{List.slice_get, Prelude.{IfOk, IfSome, OnErr, OnOk, if◌then◌else◌, is_some, set}}}
 use Rattle.pim_ip.{specs.declared.fault.Fault.Fault}
 use Rattle.pim_model.{specs.{Network.{Network, Sent, Station, station_at}, State.State}}
-use Rattle.pim_rested.{specs.Resuming.{read_test, restore_test}}
+use Rattle.pim_worlds.{specs.Resuming.{read_test, restore_test}}
 use Rattle.pim_saved.{specs.{Reading.reading, declared.refusal.SavedRefusal.SavedRefusal}}
 use Rattle.pim_net.{specs.{Showing.{Wired, all_of, with_state_at}, declared.unrestored.Unrestored.Unrestored}, proofs.{Lookups.{Shows, shown, shows}, Stations.{if_some, one_replaced, one_there}}}
 

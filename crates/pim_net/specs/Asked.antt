@@ -2,8 +2,8 @@
 use Rattle.std.{specs.Prelude.{List, Some, [], map, ℕ, ◌++◌, ◌≡◌}}
 use Rattle.pim_types.{specs.declared.{config.Config.Config, outcome.Outcome.Outcome}}
 use Rattle.pim_model.{specs.{Cause.OutcomesAreAsked, Network.{Move, Network, Station, station_at}, State.opening}}
-use Rattle.law_causes.{specs.Networks.{events_in, outcomes_in}}
-use Rattle.law_history.{specs.History.{Given, IsLedTo, past_given}}
+use Rattle.law_streams.{specs.Networks.{events_in, outcomes_in}}
+use Rattle.law_states.{specs.History.{Given, IsLedTo, past_given}}
 
 -- Whatever led a router of the network to its state, each copy that the router makes in these moves has its cause in
 -- that, or in what comes to it in these moves before.

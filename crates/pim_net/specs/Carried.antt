@@ -2,7 +2,7 @@
 use Rattle.std.{specs.{Option.option_map_or, Prelude.{Bool, IsSome, List, None, Option, Some, [], get_or, length, option_and_then, option_map, slice_get, take, true, ℕ, ◌+◌, ◌<◌, ◌≡◌, ◌∷◌}}}
 use Rattle.pim_types.{specs.declared.{config.IfaceId.IfaceId, event.{Event.Event, EventKind.EventKind}, outcome.Outcome.Outcome}}
 use Rattle.pim_model.{specs.Network.{Network, Station, event_of, moved, moved_at, station_at}}
-use Rattle.lab_wires.{specs.Carrying.IsCarried}
+use Rattle.lab_parts.{specs.Carrying.IsCarried}
 use Rattle.pim_net.{specs.{Showing.{brought_on, brought_to, move_of}, declared.moves.Move.Move}}
 
 -- the bytes of the packet that an event brings

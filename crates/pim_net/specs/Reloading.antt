@@ -3,8 +3,7 @@ use Rattle.std.{specs.{Option.option_map_or, Prelude.{Err, List, Ok, Result, [],
 use Rattle.pim_ip.{specs.{Tests.{expect, ◌>>◌}, declared.refusal.Refusal.Refusal}}
 use Rattle.pim_types.{specs.declared.{config.Config.Config, outcome.{Emission.Emission, Outcome.Outcome, Verdict.Verdict}}}
 use Rattle.pim_model.{specs.{Limits.config_test, Network.{Network, Station, bad_move, is_node, sent_by, station_at}, State.{State, iface_count}}}
-use Rattle.law_reloaded.{specs.Reloading.reload}
-use Rattle.law_placed.{specs.Placing.{Places, are_places, reload_by}}
+use Rattle.law_states.{specs.{Reloading.reload, Placing.{Places, are_places, reload_by}}}
 
 -- a reload by a map of places, or, where that is empty, without one
 unfoldable pub put_by : Places → State → Config → ℕ → State × List Emission

@@ -8,7 +8,7 @@ pub mod node;
 mod station;
 pub mod unrestored;
 
-pub use lab_wires::{MemoryWire, UdpWire, Wire, failures_after};
+pub use lab_parts::{MemoryWire, UdpWire, Wire, failures_after};
 pub use moves::Move;
 pub use net::{Net, NetLog};
 pub use node::{Node, Renewal};

@@ -1,25 +1,25 @@
 //! A network over a wire: moves in, outcomes out.
-ghost use Rattle.std.specs.Prelude.{Err, IfErr, IfNone, IfOk, IfSome, IsOk, IsOkUnless, IsSome, None, Ok, OnErr, OnOk, Some, [], get_or, is_some, map, option_map, true, ◌↔◌, ◌≡◌};
+ghost use Rattle.lab_parts.specs.Wires.{IsFaultOver, failures_after};
 ghost use Rattle.pim_ip.specs.declared.fault.Fault.{Fault};
 ghost use Rattle.pim_model.specs.Network.{network, network_ran, nodes_test};
+ghost use Rattle.pim_model.specs.State.{State};
 ghost use Rattle.pim_net.specs.Asked.{AreAsked, LeadOn};
 ghost use Rattle.pim_net.specs.Carried.{HasMoved, IsPartWay, MovesTo, carried_packet, fetched};
 ghost use Rattle.pim_net.specs.Ports.{first_ports};
 ghost use Rattle.pim_net.specs.Reloading.{reloaded_at};
-ghost use Rattle.pim_model.specs.State.{State};
-ghost use Rattle.pim_rested.specs.Resuming.{restore_test};
-ghost use Rattle.pim_rested.specs.declared.refusal.RestoreRefusal.{RestoreRefusal};
-ghost use Rattle.pim_saved.specs.Reading.{reading};
 ghost use Rattle.pim_net.specs.Showing.{move_of, node_of, shown_state, with_bytes_at, with_state_at};
-ghost use Rattle.pim_net.specs.declared.unrestored.Unrestored.{Unrestored};
-ghost use Rattle.lab_wires.specs.Wires.{IsFaultOver, failures_after};
 ghost use Rattle.pim_net.specs.declared.moves.Move.{Move};
+ghost use Rattle.pim_net.specs.declared.unrestored.Unrestored.{Unrestored};
+ghost use Rattle.pim_saved.specs.Reading.{reading};
+ghost use Rattle.pim_worlds.specs.Resuming.{restore_test};
+ghost use Rattle.pim_worlds.specs.declared.refusal.RestoreRefusal.{RestoreRefusal};
+ghost use Rattle.std.specs.Prelude.{Err, IfErr, IfNone, IfOk, IfSome, IsOk, IsOkUnless, IsSome, None, Ok, OnErr, OnOk, Some, [], get_or, is_some, map, option_map, true, ◌↔◌, ◌≡◌};
 
 use crate::moves::Move;
 use crate::network::{Network, bad_move};
 use crate::node::{Node, Renewal};
 use crate::unrestored::Unrestored;
-use lab_wires::{Wire, carry};
+use lab_parts::{Wire, carry};
 use pim_router::Router;
 use pim_types::{EventKind, Fault, IfaceId, Outcome, Refusal, Series};
 use std::alloc::Global;

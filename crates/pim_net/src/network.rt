@@ -1,22 +1,22 @@
 //! The routers of a network and every frame that they ever sent, without the wire.
-ghost use Rattle.std.specs.List.{list_all};
-ghost use Rattle.std.specs.Prelude.{Err, IfErr, IfNone, IfOk, IfSome, IsOkUnless, IsSome, None, Ok, OnErr, OnOk, Some, length, map, nat_le, option_copied, option_map, true, ℕ, ◌&&◌, ◌++◌, ◌≡◌, ◌≤◌};
 ghost use Rattle.pim_ip.specs.declared.fault.Fault.{Fault};
 ghost use Rattle.pim_ip.specs.declared.refusal.Refusal.{Refusal as RefusalValue};
 ghost use Rattle.pim_model.specs.Limits.{most_ifaces};
-ghost use Rattle.pim_model.specs.Network.{Deliver, DeliverUnicast, configs_test, event_of, frame_at, is_node, most_routers, moved_at, network, nodes_test, sent_by, station_at, station_of};
 ghost use Rattle.pim_model.specs.Network as written;
+ghost use Rattle.pim_model.specs.Network.{Deliver, DeliverUnicast, configs_test, event_of, frame_at, is_node, most_routers, moved_at, network, nodes_test, sent_by, station_at, station_of};
+ghost use Rattle.pim_model.specs.State.{State};
 ghost use Rattle.pim_model.specs.Step.{outcome_of, step};
 ghost use Rattle.pim_net.specs.Carried.{link_count};
 ghost use Rattle.pim_net.specs.Ports.{first_ports};
 ghost use Rattle.pim_net.specs.Reloading.{done_with, node_test, put_by, refused_as, reloaded_at};
-ghost use Rattle.pim_model.specs.State.{State};
-ghost use Rattle.pim_rested.specs.Resuming.{restore_test};
-ghost use Rattle.pim_rested.specs.declared.refusal.RestoreRefusal.{RestoreRefusal};
-ghost use Rattle.pim_saved.specs.Reading.{reading};
 ghost use Rattle.pim_net.specs.Showing.{brought_on, brought_to, node_of, shown_state, with_bytes_at, with_state_at};
-ghost use Rattle.pim_net.specs.declared.unrestored.Unrestored.{Unrestored};
 ghost use Rattle.pim_net.specs.declared.node.Node.{Node};
+ghost use Rattle.pim_net.specs.declared.unrestored.Unrestored.{Unrestored};
+ghost use Rattle.pim_saved.specs.Reading.{reading};
+ghost use Rattle.pim_worlds.specs.Resuming.{restore_test};
+ghost use Rattle.pim_worlds.specs.declared.refusal.RestoreRefusal.{RestoreRefusal};
+ghost use Rattle.std.specs.List.{list_all};
+ghost use Rattle.std.specs.Prelude.{Err, IfErr, IfNone, IfOk, IfSome, IsOkUnless, IsSome, None, Ok, OnErr, OnOk, Some, length, map, nat_le, option_copied, option_map, true, ℕ, ◌&&◌, ◌++◌, ◌≡◌, ◌≤◌};
 
 use crate::node::{Node, Renewal};
 use crate::station::{Frame, Station};

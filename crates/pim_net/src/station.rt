@@ -1,17 +1,17 @@
 //! A frame that was sent, and a router with the links and ports of its interfaces.
-ghost use Rattle.std.specs.Prelude.{◌≡◌, ◌≤◌, ◌++◌, Err, IfErr, IfOk, IfSome, IsOkUnless, Ok, OnErr, OnOk, Some, is_some, length, option_map};
 ghost use Rattle.pim_ip.specs.declared.fault.Fault.{Fault};
 ghost use Rattle.pim_model.specs.Limits.{config_test, most_ifaces};
 ghost use Rattle.pim_model.specs.Network.{is_on_frame_link, sent_by, station_of};
-ghost use Rattle.pim_model.specs.Step.{outcome_of, step};
 ghost use Rattle.pim_model.specs.State.{State};
+ghost use Rattle.pim_model.specs.Step.{outcome_of, step};
 ghost use Rattle.pim_net.specs.Reloading.{put_by, put_test};
-ghost use Rattle.pim_rested.specs.Resuming.{restore_test};
-ghost use Rattle.pim_rested.specs.declared.refusal.RestoreRefusal.{RestoreRefusal};
-ghost use Rattle.pim_router.specs.Standing.{begun};
-ghost use Rattle.pim_saved.specs.Reading.{reading};
 ghost use Rattle.pim_net.specs.Showing.{node_of};
 ghost use Rattle.pim_net.specs.declared.unrestored.Unrestored.{Unrestored};
+ghost use Rattle.pim_router.specs.Standing.{begun};
+ghost use Rattle.pim_saved.specs.Reading.{reading};
+ghost use Rattle.pim_worlds.specs.Resuming.{restore_test};
+ghost use Rattle.pim_worlds.specs.declared.refusal.RestoreRefusal.{RestoreRefusal};
+ghost use Rattle.std.specs.Prelude.{◌≡◌, ◌≤◌, ◌++◌, Err, IfErr, IfOk, IfSome, IsOkUnless, Ok, OnErr, OnOk, Some, is_some, length, option_map};
 
 use crate::node::Node;
 use crate::unrestored::Unrestored;

@@ -1,5 +1,5 @@
 //! Why a router isn't put into a saved state.
-use pim_rested::RestoreRefusal;
+use pim_worlds::RestoreRefusal;
 
 /// Why a router of a network isn't put into a saved state.
 #[derive(Clone, Copy, PartialEq, Eq, Debug)]

@@ -4,8 +4,7 @@ use Rattle.std.{proofs.{Common.{◌≡◌, ◌<◌, ◌&&◌, ◌||◌, ◌∙�
 use Rattle.pim_types.{specs.{declared.fact.{Key.Key, RegisterRow.RegisterRow, RegisterState.RegisterState, SourceRow.SourceRow}, Keys.source_key}}
 use Rattle.law_settled.{proofs.{ListLaws.by_cond, RowChanges.{dropped_elsewhere, put_elsewhere}, RowLaws.row_put}}
 use Rattle.pim_model.{specs.{Asserts.with_spt_bit, Desires.{is_inherited_empty, join_desired}, Forwarding.{Forwarded, forwarded, is_spt_reached, list_chosen, source_here, source_joined, spt_updated, stray, watched, when}, Registers.{could_register, settle_register, settled_register, with_keepalive}, Sets.{inherited_olist, inherited_olist_rpt, is_empty, is_kept_alive, lost_assert, spt_bit}, State.{State, iface_count}, Tables.{Table, drop_at, has_row, put, rows_where, same_option}, Unicast.{is_connected, is_rpf_interface, is_rpf_interface_rp, route, rpf_interface, rpf_interface_rp}}}
-use Rattle.law_cache.{proofs.KeptAlive.now_kept}
-use Rattle.law_scope.{proofs.{Packets.{keepalive_here, when_here}, Touches.{agrees_same, agrees_then, registers_agree, sources_agree, touches_itself, unread_of}}, specs.{Locality.{AgreesBut, touching}, Scopes.reads}}
+use Rattle.law_events.{specs.{Locality.{AgreesBut, touching}, Scopes.reads}, proofs.{KeptAlive.now_kept, Packets.{keepalive_here, when_here}, Touches.{agrees_same, agrees_then, registers_agree, sources_agree, touches_itself, unread_of}}}
 use Rattle.pim_plan.{specs.Repeats.is_direct}
 
 -- of no configured interface means not of this one

@@ -2,7 +2,7 @@
 use Rattle.std.{proofs.{Common.{◌≡◌, Bool, true, false, cond, List, ◌++◌, ◌||◌, ◌&&◌, Option, Some, None, refl, ap, sym, ◌∙◌}, lemmas.{Bool.{or_left, or_right}, List.Folds.list_any-append}}, specs.{Cmp.first_so, List.list_any}}
 use Rattle.pim_types.{specs.{declared.fact.{AssertRow.AssertRow, DownstreamRow.DownstreamRow, JoinTimerRow.JoinTimerRow, Key.Key, OverrideTimerRow.OverrideTimerRow, SourceRow.SourceRow}, Keys.same_key}}
 use Rattle.pim_model.{specs.{Messages.Message, State.State, Tables.{Table, has_row, keys_in, put, set_row}, Upstream.fact_keys}}
-use Rattle.law_scope.{proofs.Differing.{passing_named, row_named}}
+use Rattle.law_events.{proofs.Differing.{passing_named, row_named}}
 use Rattle.law_settled.{proofs.{FewerFacts.{IsFewer, row_without}, ListLaws.{any_more, either}, RowLaws.any_of_put, TableLaws.any_of_map}}
 
 -- ---- keys among others

@@ -4,7 +4,7 @@ use Rattle.std.{proofs.Common.{◌≡◌, ◌&&◌, ◌||◌, ◌∷◌, Bool, L
 use Rattle.law_settled.{proofs.{ListLaws.by_cond, RowChanges.{changed_elsewhere, dropped_elsewhere, put_elsewhere}, RowLaws.row_put}}
 use Rattle.pim_types.{specs.{declared.fact.{AssertMetric.AssertMetric, AssertRow.AssertRow, Key.Key}, Keys.{group_in, source_in, source_key}}}
 use Rattle.pim_model.{specs.{AssertMacros.is_infinite, Asserts.{assert_as_loser, assert_as_winner, assert_at, assert_forgotten, assert_in_no_info, is_acceptable, is_challenge, is_from_winner, is_inferior, is_of_tree, is_tracking_at, loses, loses_first, wins, wins_again, with_spt_bit}, Messages.Message, Sets.{is_better, is_winner}, State.State, Tables.{has_row, put, row_at}}}
-use Rattle.law_scope.{specs.{Locality.{AgreesBut, touching}, Scopes.reads}, proofs.{Events.{agrees_if, wins_only}, Touches.{agrees_same, agrees_then, asserts_agree, sources_agree, touches_itself, unread_of}}}
+use Rattle.law_events.{specs.{Locality.{AgreesBut, touching}, Scopes.reads}, proofs.{Events.{agrees_if, wins_only}, Touches.{agrees_same, agrees_then, asserts_agree, sources_agree, touches_itself, unread_of}}}
 
 module _ (k : Key) where
   abbrev Only : State → State → Type 0

@@ -5,9 +5,8 @@ use Rattle.igmp_wire.{specs.declared.report.RecordType.RecordType}
 use Rattle.pim_types.{specs.{declared.fact.{Key.Key, SourceRecordRow.SourceRecordRow}, Keys.{key_cmp, same_key, source_in, source_key}}, proofs.Keys.equal_keys}
 use Rattle.pim_model.{specs.{Records.{SourceState, Absent, Excluded, Included, GroupRecord, Member, apply_record, from_exclude, from_include, source_state_in, is_at_group, is_no_record, kept_or_until, members_of, put_member, record_with}, Tables.{Table, drop_where, has_row, is_among, keys_in, row_at}, Cause.is_including}}
 use Rattle.law_settled.{proofs.{ListLaws.either, TableLaws.row_is_there}}
-use Rattle.law_cache.{proofs.KeptAlive.with_its_row}
+use Rattle.law_events.{specs.Scopes.only_running, proofs.{KeptAlive.with_its_row, Rows.{cut_entry, row_at_cut}, SourceMacros.cut_source}}
 use Rattle.pim_filters.{proofs.{Applying.all_of, Merging.source_state_among}}
-use Rattle.law_scope.{specs.Scopes.only_running, proofs.{Rows.{cut_entry, row_at_cut}, SourceMacros.cut_source}}
 use Rattle.pim_querier.{specs.Reports.{keeps_others, stays}, proofs.{NamedRecords.{all_among, gone_of, is_member, neither, none_written}, NamedSources.{anew, anew_elsewhere, anew_row, known, known_row, made, row_of, up_anew}, OneSource.{AreSources, rebuilt, member_after, row_after}}}
 use Rattle.pim_tables.{proofs.RisingRows.{Above, Up, head_row, up_of_sorted}}
 

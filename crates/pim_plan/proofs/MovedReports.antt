@@ -4,7 +4,7 @@ use Rattle.igmp_wire.{specs.{Values.Record, declared.report.RecordType.RecordTyp
 use Rattle.pim_types.{specs.{declared.fact.{GroupRecordRow.GroupRecordRow, GroupRepeatRow.GroupRepeatRow, Key.Key, SendingRow.SendingRow, SourceRecordRow.SourceRecordRow, SourceRepeatRow.SourceRepeatRow}, Keys.{group_in, iface_in, is_of_group, is_on, key_cmp, same_key, source_in, source_key, star_key}}, proofs.Keys.{equal_keys, same_key_same}}
 use Rattle.pim_model.{specs.{Downstream.is_named, Full.reported_sources, Messages.Message, Querier.{each_in_turn, exceeds, group_end, group_membership_interval, is_querier, is_skipped, lower_group, lower_sources, lowered, query_asked, query_end, query_group, query_sources, record_seen, report_seen, robustness, send_sources, source_end, sources_sent}, Records.{AskGroup, AskSources, Asked, GroupRecord, Member, apply_record, is_at_group, is_no_record, put_member, record_of, with_members, with_record, with_repeats_of_rows}, Rows.{same_both, same_source_record}, State.State, Tables.{Table, drop_at, drop_where, has_row, is_among, is_empty_list, keys_in, put, row_at, rows_where}, Upstream.fact_keys, Cause.is_including}}
 use Rattle.law_settled.{proofs.{ListLaws.{any_more, by_cond, each_filter, either}, RowLaws.{each_put, has_row_without, row_drop_away, row_put, row_put_away}, TableLaws.{any_in_filter, any_of_map}, TurnLaws.{kept_by_fold, kept_in_turn}}, specs.Laws.is_under_source}
-use Rattle.law_scope.{specs.{Locality.{AgreesBut, touching}, Scopes.{is_mode_read, modes_read, only_mode, only_running, only_side, reads, scope}}, proofs.{Differing.{passing_named, row_named}, Rows.{cut_entry, row_at_cut, row_in_scope, row_out_of_scope}, SameRows.of_source_records, SameTables.seen_found_alike, SourceMacros.cut_source, StarMacros.{cut_group, some_cut}}}
+use Rattle.law_events.{specs.{Locality.{AgreesBut, touching}, Scopes.{is_mode_read, modes_read, only_mode, only_running, only_side, reads, scope}}, proofs.{Differing.{passing_named, row_named}, Rows.{cut_entry, row_at_cut, row_in_scope, row_out_of_scope}, SameRows.of_source_records, SameTables.seen_found_alike, SourceMacros.cut_source, StarMacros.{cut_group, some_cut}}}
 use Rattle.pim_querier.{specs.Reports.{all_keep_modes, keeps_mode, keeps_others, moved_by, moved_named, moved_others, moved_sources, stays}, proofs.OneSource.AreSources}
 use Rattle.pim_tables.{proofs.RisingRows.{Above, Up, same_rows, sorted_of_up, up_filtered, up_of_sorted, up_put}}
 use Rattle.pim_plan.{proofs.{Growing.{any_left, any_right, row_among}, MovedEnds.{Fares, IsMoved, any_kept, applied_moved, is_left, keys_alike, own_here, row_alike, side, up_cut}}}

@@ -4,7 +4,7 @@ use Rattle.pim_ip.{specs.Ipv4.Packet}
 use Rattle.law_settled.{proofs.ListLaws.{by_cond, either}}
 use Rattle.pim_types.{specs.{declared.fact.{AssertRow.AssertRow, Key.Key, RegisterRow.RegisterRow, RegisterState.RegisterState, SourceRow.SourceRow}, Keys.{names_source, source_key, star_key}}}
 use Rattle.pim_model.{specs.{Asserts.{could_assert_at, data_seen, wins, with_spt_bit}, Forwarding.{Forwarded, forwarded, is_spt_reached, list_chosen, register_at_rp, register_received, source_here, source_joined, spt_updated, stray, watched, when}, Messages.Message, Registers.{could_register, is_spt_wanted, settle_register, settled_register, with_keepalive}, Sets.{Set, inherited_olist, inherited_olist_rpt, spt_bit}, State.State, Tables.{Table, drop_at, has_row, keys_in, put, set_row}, Unicast.{is_connected, is_rp, is_rpf_interface, is_rpf_interface_rp}, Upstream.fact_keys}}
-use Rattle.law_scope.{specs.Touches.packet_keys}
+use Rattle.law_events.{specs.Touches.packet_keys}
 use Rattle.pim_views.{specs.Covers.NewAreNamed}
 use Rattle.pim_plan.{proofs.{IgmpFacts.star_names_none, Growing.{FactsGrow, Grows, both_grow, facts_grow, grows_on, grows_so, one_more, stays}}}
 

@@ -2,7 +2,7 @@
 use Rattle.std.{specs.{Box.box_value, Prelude.if◌then◌else◌}, proofs.Common.{◌≡◌, ◌<◌, ℕ, Bool, Box, Global, true, false, List, ap, inl, inr, refl, subst, sym, ◌∙◌}}
 use Rattle.pim_types.{specs.declared.{fact.Key.Key, config.{IfaceId.IfaceId, Route.Route, RpRange.RpRange}}}
 use Rattle.pim_model.{specs.{declared.accepted.Accepted.Accepted, Full.{is_full, join_prune_is_full, keys_are_full, source_is_full}, State.{State, iface_count}, Step.{change, rps_replaced}, Downstream.{joined_keys, pruned_keys}}}
-use Rattle.law_scope.{specs.Rest.IsAtRest}
+use Rattle.law_events.{specs.{Rest.IsAtRest, Moved.{MovesAlone, keys_by_routes, keys_by_rps}}, proofs.MovedKeys.{routes_move, rps_move}}
 use Rattle.pim_rerouted.{specs.{Few.few_or_all, OtherRoutes.with_routes}}
 use Rattle.pim_plan.{specs.{Repeats.keys_of_packet, Acting.{HasRead, IsSightOf, act_event}, Planning.{Fits, IsPlanned, touched_of}, declared.{act.{Act.Act, Control.Control}, plan.{Plan.Plan, Planning.Planning}}}, proofs.Touching.{MakesNone, facts_covered, packet_covered}}
 use Rattle.pim_macros.{specs.{Sights.IsSourceSight, declared.sight.SourceSight.SourceSight}}
@@ -10,7 +10,6 @@ use Rattle.pim_ip.{specs.Ipv4.Packet}
 use Rattle.pim_views.{specs.Covers.Concerns}
 use Rattle.pim_fanout.{specs.Contains.Contains}
 use Rattle.pim_mrib.{specs.Routes.RouteTable}
-use Rattle.law_named.{specs.Moved.{MovesAlone, keys_by_routes, keys_by_rps}, proofs.MovedKeys.{routes_move, rps_move}}
 use Rattle.pim_state.{specs.declared.touched.Touched.Touched}
 use Rattle.pim_wire.{specs.Values.JoinPrune}
 

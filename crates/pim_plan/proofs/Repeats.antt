@@ -2,12 +2,11 @@
 -- an Assert of the known winner, be it the router.
 use Rattle.std.{proofs.{Common.{◌≡◌, ◌==◌, ◌&&◌, ◌||◌, ◌++◌, ◌∙◌, ◌∷◌, Bool, List, [], None, Option, Some, ap, append-nil, cond, filter, false, is_some, not, refl, subst, sym, true, ℕ}, lemmas.{Bool.or_left, List.Folds.list_any-append}}, specs.{Cmp.{first_so, second_so}, List.list_any, Option.option_map_or, Prelude.if◌then◌else◌}}
 use Rattle.pim_ip.{specs.Ipv4.Packet}
-use Rattle.law_cache.{proofs.{Forwards.on_its_tree, KeptAlive.{register_is_settled, row_passes}}}
+use Rattle.law_events.{specs.{Locality.{AgreesBut, touching}, Rest.IsAtRest}, proofs.{Forwards.on_its_tree, KeptAlive.{register_is_settled, row_passes}, EndsAgain.{keepalive_again, loses_again}, Events.assert_touches, SameRows.of_asserts, Touches.widened}}
 use Rattle.law_settled.{proofs.ListLaws.either}
 use Rattle.pim_types.{specs.{declared.fact.{AssertMetric.AssertMetric, AssertRole.AssertRole, AssertRow.AssertRow, Key.Key, SourceRow.SourceRow}, Keys.{iface_in, is_star, names_source, source_key, star_key}}}
 use Rattle.pim_wire.{specs.declared.assert.Assert.Assert as AssertMessage}
 use Rattle.pim_model.{specs.{AssertMacros.is_infinite, Asserts.{assert_as_loser, assert_as_winner, assert_at, assert_forgotten, assert_in_no_info, assert_received, could_assert_at, data_seen, is_from_winner, is_tracking_at, loses, my_metric_at, theirs_of, wins, with_spt_bit}, Cache.{answers, may_register, opens_tunnel, sets_spt}, Clearing.{assert_must_go, is_rpf_at}, Desires.join_desired, Forwarding.{Forwarded, forwarded, is_spt_reached, list_chosen, register_at_rp, register_received, source_here, source_joined, spt_updated, stray, watched, when}, Full.asserted_keys, Messages.Message, Neighbours.is_neighbour, Registers.{could_register, has_other_rp, is_dr_of_path, is_spt_wanted, with_keepalive}, Rows.same_metric, Sets.{Set, inherited_olist, inherited_olist_rpt, is_better, is_kept_alive, is_loser, is_winner, spt_bit}, State.State, Tables.{has_row, keys_in, row_at}, Unicast.{is_connected, is_rp, is_rpf_interface, is_rpf_interface_rp, route}, Upstream.fact_keys}}
-use Rattle.law_scope.{proofs.{EndsAgain.{keepalive_again, loses_again}, Events.assert_touches, SameRows.of_asserts, Touches.widened}, specs.{Locality.{AgreesBut, touching}, Rest.IsAtRest}}
 use Rattle.pim_views.{specs.{Covers.{Concerns, NewAreNamed}, Openings.has_facts}}
 use Rattle.pim_plan.{specs.Repeats.{asserted_key, asserts_anew, is_assert_known, is_direct, is_lost_to_metric, is_unmoved, is_watched, is_won_against, moved_asserts, moves_at_most_the_keepalive_end}, proofs.{Asserted.asserted_named, Growing.{any_left, any_right, row_among}, IgmpFacts.star_names_none, Machines.{machine_only, still_no_info}, Packets.keepalive_grows, WonAgain.winner_agrees}}
 

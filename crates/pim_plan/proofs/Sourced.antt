@@ -4,8 +4,7 @@ use Rattle.pim_ip.{specs.declared.addr.Addr.Addr}
 use Rattle.pim_types.{specs.Keys.is_star}
 use Rattle.pim_model.{specs.{State.State, Tables.{Table, keys_in}}}
 use Rattle.law_settled.{proofs.ListLaws.{each_more, each_of_list, list_of_each}}
-use Rattle.law_scope.{proofs.Registers.all_keys}
-use Rattle.law_named.{specs.Adjacent.AreSourced}
+use Rattle.law_events.{specs.Adjacent.AreSourced, proofs.Registers.all_keys}
 use Rattle.pim_store.{specs.PimTables.{AreKeyed, is_source_key, pim_tables}}
 
 not_star : (o : Option Addr) → is_some o ≡ true → not (is_none o) ≡ true

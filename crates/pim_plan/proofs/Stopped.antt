@@ -4,7 +4,7 @@ use Rattle.pim_types.{specs.{declared.fact.{Key.Key, RegisterRow.RegisterRow, Re
 use Rattle.pim_wire.{specs.declared.register.RegisterStop.RegisterStop}
 use Rattle.pim_ip.{specs.declared.addr.Addr.Addr}
 use Rattle.pim_model.{specs.{Registers.{is_meant, register_stop_seen, state_after_stop}, State.State, Step.change, Tables.{Table, delay_in, keys_in, rows_where}, declared.accepted.Accepted.Accepted}}
-use Rattle.law_scope.{specs.{Events.touched_by_event, Locality.{AgreesBut, touching}, Scopes.reads}, proofs.{EventLaws.change_touches, Touches.registers_agree}}
+use Rattle.law_events.{specs.{Events.touched_by_event, Locality.{AgreesBut, touching}, Scopes.reads}, proofs.{EventLaws.change_touches, Touches.registers_agree}}
 use Rattle.pim_plan.{specs.Tunnels.{is_stoppable, keys_of_stop, stoppable_keys}}
 
 neither : (b c : Bool) → (b || c) ≡ false → (b ≡ false) × (c ≡ false)

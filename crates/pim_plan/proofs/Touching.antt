@@ -5,8 +5,7 @@ use Rattle.pim_wire.{specs.{RegisterParts.{is_null, registered_group, registered
 use Rattle.pim_ip.{specs.{declared.addr.Addr.Addr, Ipv4.Packet}}
 use Rattle.pim_model.{specs.{Forwarding.register_received, declared.accepted.Accepted.Accepted, Downstream.{asserts_after_joins, is_named, joined_keys, keys_taken, pruned_keys, row_after, to_me, touched_keys}, Full.{reported_groups, reported_sources}, Hellos.{hello_holdtime_of, hello_received, is_generation_changed}, Querier.{is_skipped, querier_up, querying}, Seen.seen, Sets.{is_loser, is_kept_alive}, State.{State, iface_count}, Step.{change, decapsulated, iface_up}, Tables.{keys_in, row_at, same_option, set_row}, Upstream.fact_keys, Registers.register_stop_seen}}
 use Rattle.law_settled.{proofs.{FewerFacts.{IsFewer, down_fewer, no_other, rows_left}, ListLaws.{either, each_of_list}}, specs.{Ready.{IsOrdered, Rises, IsSettled}, Laws.is_under_source}}
-use Rattle.law_scope.{proofs.{EventLaws.change_touches, JoinPrunes.{join_prune_touches_moved, new_rows_moved}, RefreshedNeighbours.hello_again_touches_none, SilentEvents.seen_touches_none, Touches.widened}, specs.{Events.touched_by_event, JoinPrunes.{moved_among, moved_keys}, Locality.{AgreesBut, touching}, Touches.packet_keys, Scopes.reads, Rest.IsAtRest}}
-use Rattle.law_named.{specs.Adjacent.{AdjoinsAlone, keys_of_hello}, proofs.Hellos.{hello_adjoins, hello_leaves_facts}}
+use Rattle.law_events.{specs.{Events.touched_by_event, JoinPrunes.{moved_among, moved_keys}, Locality.{AgreesBut, touching}, Touches.packet_keys, Scopes.reads, Rest.IsAtRest, Adjacent.{AdjoinsAlone, keys_of_hello}}, proofs.{EventLaws.change_touches, JoinPrunes.{join_prune_touches_moved, new_rows_moved}, RefreshedNeighbours.hello_again_touches_none, SilentEvents.seen_touches_none, Touches.widened, Hellos.{hello_adjoins, hello_leaves_facts}}}
 use Rattle.pim_fanout.{specs.Contains.Contains}
 use Rattle.pim_state.{specs.declared.touched.Touched.Touched}
 use Rattle.pim_views.{specs.{Covers.{Concerns, IsWithin, NewAreNamed}, Openings.has_facts}}

@@ -3,7 +3,7 @@ use Rattle.std.{proofs.Common.{◌≡◌, ◌∙◌, ◌+◌, Bool, true, false,
 use Rattle.pim_types.{specs.{declared.fact.{AssertMetric.AssertMetric, AssertRow.AssertRow, Key.Key}, Keys.same_key}, proofs.Keys.equal_keys}
 use Rattle.pim_model.{specs.{Asserts.{assert_as_winner, is_inferior, loses, winner_time, wins_again}, Messages.Message, Rows.{same_assert, same_both, same_group_record, same_source_record, same_downstream, same_source, same_register}, Sets.is_better, State.State, Tables.{Table, change_row, changed_entry, row_at}}}
 use Rattle.law_settled.{proofs.{RowLaws.{changed_key, row_change_away}, RisingKeys.{sorted_of_up, up_filter_map, up_of_sorted}}, specs.Ready.{IsOrdered, Rises}}
-use Rattle.law_scope.{specs.{Differing.{is_same_at, same_at}, Locality.{AgreesBut, touching}}, proofs.{Differing.{all_six, named_keys_cover}, JoinPrunes.{as_before, itself, unequal}, SameRows.{of_asserts, of_downstream, of_group_records, of_registers, of_source_records, of_sources}, SourceMacros.{cut_kept, cut_kind, cut_register, cut_source}, StarMacros.{cut_assert, cut_group}}}
+use Rattle.law_events.{specs.{Differing.{is_same_at, same_at}, Locality.{AgreesBut, touching}}, proofs.{Differing.{all_six, named_keys_cover}, JoinPrunes.{as_before, itself, unequal}, SameRows.{of_asserts, of_downstream, of_group_records, of_registers, of_source_records, of_sources}, SourceMacros.{cut_kept, cut_kind, cut_register, cut_source}, StarMacros.{cut_assert, cut_group}}}
 
 module _ (k : Key) (r later : AssertRow) where
   abbrev moved : AssertRow → Option AssertRow

@@ -3,8 +3,7 @@ use Rattle.std.{specs.Prelude.{[], false, filter, if◌then◌else◌, not, true
 use Rattle.pim_types.{specs.Keys.{is_star, source_key}}
 use Rattle.pim_wire.{specs.RegisterParts.{registered_group, registered_source}}
 use Rattle.pim_model.{specs.{declared.accepted.Accepted.Accepted, Downstream.pruned_keys, Full.{is_full, reported_groups, reported_sources}, State.State, Step.{change, rps_replaced}, Sets.is_kept_alive}}
-use Rattle.law_scope.{specs.JoinPrunes.moved_keys}
-use Rattle.law_named.{specs.{Moved.{keys_by_routes, keys_by_rps}, Adjacent.keys_of_hello}}
+use Rattle.law_events.{specs.{JoinPrunes.moved_keys, Moved.{keys_by_routes, keys_by_rps}, Adjacent.keys_of_hello}}
 use Rattle.pim_neighbours.{specs.Refreshed.is_refreshed}
 use Rattle.pim_querier.{specs.Reports.{all_keep_modes, moved_sources}}
 use Rattle.pim_state.{specs.declared.touched.Touched.Touched}

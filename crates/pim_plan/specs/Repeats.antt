@@ -3,7 +3,7 @@ use Rattle.std.{specs.{Option.option_map_or, Prelude.{Bool, List, Option, Some, 
 use Rattle.pim_types.{specs.{declared.fact.{AssertMetric.AssertMetric, AssertRow.AssertRow, Key.Key}, Keys.{is_star, source_key, star_key}}}
 use Rattle.pim_wire.{specs.declared.assert.Assert.Assert as AssertMessage}
 use Rattle.pim_model.{specs.{AssertMacros.is_infinite, Asserts.theirs_of, Desires.join_desired, Forwarding.has_local_receivers, Full.asserted_keys, Registers.is_spt_wanted, Rows.same_metric, Sets.{inherited_olist, inherited_olist_rpt, is_better, is_kept_alive, is_loser, is_winner, spt_bit}, State.State, Tables.{has_row, row_at}, Unicast.{is_connected, is_rpf_interface, is_rpf_interface_rp}}}
-use Rattle.law_scope.{specs.Touches.packet_keys}
+use Rattle.law_events.{specs.Touches.packet_keys}
 
 -- ---- an Assert
 

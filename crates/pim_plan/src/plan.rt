@@ -1,21 +1,21 @@
 //! The plan of an event, made before its change: whether there is room for the facts that it names, what its change
 //! touches, and what it is to do. Each kind of event says all three in one place.
-ghost use Rattle.std.specs.Prelude.{◌≡◌, ◌<◌, ◌∷◌, [], IfOk, filter, not};
-ghost use Rattle.pim_types.specs.Keys.{is_star};
-ghost use Rattle.pim_wire.specs.RegisterParts.{registered_group, registered_source};
+ghost use Rattle.law_events.specs.Rest.{IsAtRest};
+ghost use Rattle.law_events.specs.Touches.{packet_keys};
+ghost use Rattle.pim_macros.specs.Sights.{IsSourceSight};
 ghost use Rattle.pim_model.specs.State.{iface_count};
 ghost use Rattle.pim_model.specs.declared.accepted.Accepted.{Accepted as AcceptedValue};
-ghost use Rattle.law_scope.specs.Rest.{IsAtRest};
-ghost use Rattle.law_scope.specs.Touches.{packet_keys};
-ghost use Rattle.pim_macros.specs.Sights.{IsSourceSight};
-ghost use Rattle.pim_plan.specs.Repeats.{keys_of_packet};
 ghost use Rattle.pim_plan.specs.Naming.{Brings, IsConfigured};
 ghost use Rattle.pim_plan.specs.Planning.{IsPlanned};
+ghost use Rattle.pim_plan.specs.Repeats.{keys_of_packet};
 ghost use Rattle.pim_plan.specs.Tunnels.{is_stoppable, keys_of_stop, stoppable_keys};
 ghost use Rattle.pim_plan.specs.declared.act.Act.{Act as ActValue};
 ghost use Rattle.pim_plan.specs.declared.act.Control.{Control as ControlValue};
 ghost use Rattle.pim_plan.specs.declared.plan.Planning.{Planning as PlanningValue};
 ghost use Rattle.pim_state.specs.declared.touched.Touched.{Touched as TouchedValue};
+ghost use Rattle.pim_types.specs.Keys.{is_star};
+ghost use Rattle.pim_wire.specs.RegisterParts.{registered_group, registered_source};
+ghost use Rattle.std.specs.Prelude.{◌≡◌, ◌<◌, ◌∷◌, [], IfOk, filter, not};
 
 use crate::act::{Act, Control};
 use crate::again::{
@@ -264,7 +264,7 @@ fn name_of(sight: &SourceSight) -> SourceGroup
 }
 
 // The keys that a packet of data may touch: its source, and its group where it may make an assert of (*,G).
-#[tactic(auto, unfolding(law_scope::specs::Touches::packet_keys))]
+#[tactic(auto, unfolding(law_events::specs::Touches::packet_keys))]
 fn packet_keys(
     world: &World,
     alloc: Global,

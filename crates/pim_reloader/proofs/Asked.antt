@@ -7,7 +7,7 @@ use Rattle.law_settled.{specs.Rows.all_changed, proofs.ChosenRows.{chosen_change
 use Rattle.igmp_membership.{specs.MembershipTables.{MembershipTables, are_of_kind, is_held_querier, is_querier_key, is_star_kind}}
 use Rattle.pim_tables.{proofs.Rows.{absent_is_unchanged, always, written_is_changed}}
 use Rattle.pim_state.{specs.Lending.{membership_tables, with_membership}}
-use Rattle.law_reloaded.{specs.Reloading.{queriers_under, row_under}}
+use Rattle.law_states.{specs.Reloading.{queriers_under, row_under}}
 use Rattle.pim_reloader.{specs.Asking.asking}
 
 -- ---- the key of a querier

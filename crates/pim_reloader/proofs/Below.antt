@@ -5,8 +5,7 @@ use Rattle.pim_types.{proofs.Keys.{equal_keys, same_key_same}, specs.{declared.{
 use Rattle.pim_model.{specs.{State.{State, iface_count, is_up}, Step.{run, state_after}, Tables.{Table, has_row}}}
 use Rattle.law_settled.{proofs.{ListLaws.{any_among_all, each_both, each_more, each_of_list, list_of_each}, RowLaws.has_row_any}}
 use Rattle.pim_ifaces.{specs.Interfaces.is_up_key}
-use Rattle.law_reloaded.{specs.{Laws.AreConfigured, Reloading.{down_event, removals, sent_by}}, proofs.Removed.left_low}
-use Rattle.law_restored.{specs.Reload.config_of}
+use Rattle.law_states.{specs.{ReloadLaws.AreConfigured, Reloading.{down_event, removals, sent_by}, Reload.config_of}, proofs.Removed.left_low}
 
 both : (a b : Bool) → (a && b) ≡ true → (a ≡ true) × (b ≡ true)
 both true b e = (refl, e)

@@ -3,11 +3,9 @@ use Rattle.std.{proofs.{Common.{◌≡◌, ◌≤◌, ◌+◌, ◌-◌, ◌&&◌
 use Rattle.pim_types.{specs.declared.{config.{Config.Config, InterfaceConfig.InterfaceConfig}, outcome.Emission.Emission}}
 use Rattle.pim_model.{specs.{Limits.config_test, State.{InterfaceTable, State, iface_count, interfaces_of, opening, settings_of}}}
 use Rattle.law_settled.{specs.Ready.IsSettled, proofs.ListLaws.all_more}
-use Rattle.law_scope.{specs.Rest.IsAtRest}
-use Rattle.law_restored.{specs.Reload.config_of, proofs.Reloads.accepted_setting}
-use Rattle.law_reloaded.{proofs.Ground.replaced_is_under}
-use Rattle.law_placed.{specs.Placing.{Places, are_places, gone_on, in_order, index_of, kept_places, leaving_on, moved, new_order, number_at, old_order, reload_by, resubnetted, to_order}, proofs.{Accepted.orders_are_accepted, Apart.{new_count, old_count}, Moved.moved_is_under, Orders.{all_found, new_low, places_are_there}, Rest.moved_is_at_rest, Ups.{as_many, each_low, each_once, few_kept, no_more_kept, old_many}}}
-use Rattle.pim_placed.{specs.{Leading.LeadWithin, Ordered.AreOrders, declared.orders.Orders.Orders}}
+use Rattle.law_events.{specs.Rest.IsAtRest}
+use Rattle.law_states.{specs.{Reload.config_of, Placing.{Places, are_places, gone_on, in_order, index_of, kept_places, leaving_on, moved, new_order, number_at, old_order, reload_by, resubnetted, to_order}}, proofs.{Reloads.accepted_setting, Ground.replaced_is_under, PlacedAccepted.orders_are_accepted, Apart.{new_count, old_count}, Moved.moved_is_under, Orders.{all_found, new_low, places_are_there}, PlacedRest.moved_is_at_rest, Ups.{as_many, each_low, each_once, few_kept, no_more_kept, old_many}}}
+use Rattle.pim_worlds.{specs.{Leading.LeadWithin, Ordered.AreOrders, declared.orders.Orders.Orders}}
 use Rattle.pim_reloader.{specs.Reloads.{AreReady, halfway}}
 
 -- ---- where places lead

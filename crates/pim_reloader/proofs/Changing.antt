@@ -2,8 +2,7 @@
 use Rattle.std.{proofs.Common.{◌≡◌, List, ap, filter, fold, ◌∙◌}, specs.List.Sorted.IsStrictlySortedBy}
 use Rattle.pim_types.{specs.{Keys.key_cmp, declared.{config.RpRange.RpRange, fact.{AssertRow.AssertRow, Key.Key}}}}
 use Rattle.pim_model.{specs.{State.{State, settings_of}, Step.rps_replaced, Tables.{Table, drop_at, keys_in}}}
-use Rattle.law_restored.{specs.Reload.config_of}
-use Rattle.law_reloaded.{specs.Reloading.{asserts_under, is_won_before, queriers_under, under}}
+use Rattle.law_states.{specs.{Reload.config_of, Reloading.{asserts_under, is_won_before, queriers_under, under}}}
 use Rattle.pim_reloader.{proofs.Dropped.passing_dropped}
 
 abbrev moved : State → State → State

@@ -3,14 +3,13 @@ use Rattle.std.{proofs.Common.{◌≡◌, ◌++◌, List, [], inl, not, refl, sy
 use Rattle.pim_types.{specs.{declared.config.Config.Config, Keys.{is_of_group, names_source}}}
 use Rattle.pim_model.{specs.{Messages.Message, State.{addressing_of, State, settings_of}, Upstream.fact_keys}}
 use Rattle.law_settled.{proofs.{FewerFacts.{IsFewer, fewer_both, no_other, rows_left, table_fewer}, Parts.Asserts}}
-use Rattle.law_scope.{specs.Rest.IsAtRest}
+use Rattle.law_events.{specs.Rest.IsAtRest}
 use Rattle.pim_store.{specs.PimTables.{AreKeyed, pim_tables}}
 use Rattle.pim_state.{specs.{Turns.{Taking, saying}, declared.touched.Touched.Touched}}
 use Rattle.pim_views.{specs.{Covers.IsWithin, Openings.opening_of, declared.opening.GroupOpening.GroupOpening}}
 use Rattle.pim_settling.{specs.Settling.settled_by, proofs.Settling.settled_as_opened}
 use Rattle.pim_plan.{proofs.Tunnelled.rps_leave_facts}
-use Rattle.law_restored.{specs.Reload.config_of}
-use Rattle.law_reloaded.{specs.Reloading.{asserts_under, hellos_anew, is_won_before, queriers_under, replaced, under}}
+use Rattle.law_states.{specs.{Reload.config_of, Reloading.{asserts_under, hellos_anew, is_won_before, queriers_under, replaced, under}}}
 
 within_so : (s t : State) → IsFewer s t → IsWithin s t
 within_so s t fewer = record {

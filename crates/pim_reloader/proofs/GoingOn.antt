@@ -2,8 +2,7 @@
 use Rattle.std.{proofs.{Common.{◌≡◌, ◌<◌, ◌≤◌, ⊎_elim, inr, ◌+◌, ◌-◌, ◌++◌, ℕ, nat_lt, Bool, true, false, List, map, append_assoc, sym, ap, ◌∙◌, arith, lt-ltb}, lemmas.Bool.{cases_lt, Decides.nat_tests}}, specs.List.{list_all, range_with_len}}
 use Rattle.pim_types.{specs.{Keys.iface_in, declared.{config.Config.Config, fact.{InterfaceRow.InterfaceRow, Key.Key}, outcome.Emission.Emission}}}
 use Rattle.pim_model.{specs.{State.{State, addressing_of, iface_count, is_up}, Step.{ran, run, state_after}}}
-use Rattle.law_reloaded.{specs.{Laws.AreConfigured, Reloading.{down_event, goodbyes, replaced, sent_by}}, proofs.Removed.{gone_are_down, gone_keeps}}
-use Rattle.law_placed.{specs.Placing.gone_on}
+use Rattle.law_states.{specs.{ReloadLaws.AreConfigured, Reloading.{down_event, goodbyes, replaced, sent_by}, Placing.gone_on}, proofs.Removed.{gone_are_down, gone_keeps}}
 use Rattle.pim_ifaces.{specs.Interfaces.is_up_key}
 use Rattle.pim_reloader.{proofs.{Below.{are_configured, rows_low}, Removing.downs}}
 

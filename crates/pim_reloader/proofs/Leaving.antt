@@ -3,7 +3,7 @@ use Rattle.std.{proofs.Common.{◌≡◌, ◌++◌, ℕ, List, [], ◌∷◌, re
 use Rattle.pim_ip.{specs.{Checksum.{ones, sum16, sum_of_words, with_checksum}, Ipv4.{all_pim_routers, pim_packet_text}}}
 use Rattle.pim_wire.{specs.Encoded.pim_text}
 use Rattle.pim_model.{specs.{State.{State, my_address}, Writing.{on_link, pim_on_link}}}
-use Rattle.law_reloaded.{specs.Reloading.{goodbye, goodbye_text}}
+use Rattle.law_states.{specs.Reloading.{goodbye, goodbye_text}}
 
 abbrev written : List ℕ
 written = 0x20 ∷ 0 ∷ 0xdf ∷ 0xfc ∷ 0 ∷ 1 ∷ 0 ∷ 2 ∷ 0 ∷ 0 ∷ []

@@ -2,7 +2,7 @@
 use Rattle.std.{proofs.Common.{◌≡◌, ◌++◌, ℕ, List, [], filter, fold, append_assoc, sym, subst, ap, ◌∙◌}, specs.List.Sorted.IsStrictlySortedBy}
 use Rattle.pim_types.{specs.{Keys.{iface_in, key_cmp}, declared.{fact.{Key.Key, NeighbourRow.NeighbourRow}, outcome.Emission.Emission}}}
 use Rattle.pim_model.{specs.{Clearing.{clear, clear_all}, Firing.settled, Hellos.neighbour_due, Messages.Message, Registers.settle_registers, State.State, Tables.{Table, drop_at, drop_where, is_among, keys_in}, Upstream.{fact_keys, upstream}, Writing.write_all}}
-use Rattle.law_placed.{specs.Placing.without_neighbours}
+use Rattle.law_states.{specs.Placing.without_neighbours}
 use Rattle.pim_store.{specs.PimTables.{AreKeyed, pim_tables}}
 use Rattle.pim_state.{specs.{Turns.Taking, declared.touched.Touched.Touched}}
 use Rattle.pim_views.{specs.{Covers.IsWithin, Openings.opening_of, declared.opening.GroupOpening.GroupOpening}}

@@ -1,9 +1,9 @@
 -- Interfaces that go down one after the other.
 use Rattle.std.{proofs.Common.{◌≡◌, ℕ, suc, ◌+◌, ◌-◌, ◌<◌, ◌≤◌, List, [], ◌∷◌, ◌++◌, map, refl, sym, ap, ◌∙◌, arith, append_assoc, append-nil}, specs.List.range_with_len}
 use Rattle.pim_types.{specs.declared.{event.Event.Event, outcome.Emission.Emission}}
-use Rattle.law_scope.{specs.Rest.IsAtRest}
+use Rattle.law_events.{specs.Rest.IsAtRest}
 use Rattle.pim_model.{specs.{State.State, Step.{ran, run, state_after, step}}}
-use Rattle.law_reloaded.{specs.Reloading.{down_event, sent_by}}
+use Rattle.law_states.{specs.Reloading.{down_event, sent_by}}
 
 -- from a number on
 abbrev pub downs : ℕ → ℕ → ℕ → List Event

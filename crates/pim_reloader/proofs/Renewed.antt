@@ -4,7 +4,7 @@ use Rattle.pim_types.{proofs.Keys.{equal_keys, same_key_same}, specs.{Keys.{grou
 use Rattle.law_settled.{proofs.RowLaws.has_row_any}
 use Rattle.pim_model.{specs.{Cache.{answers, cached}, State.State, Tables.{Table, has_row}}}
 use Rattle.pim_macros.{specs.declared.rows.SourceAnswers.SourceAnswers}
-use Rattle.law_cache.{proofs.SameRows.row_itself, specs.Kept.{IsCached, SameRow, is_listed, refreshed}}
+use Rattle.law_events.{specs.Kept.{IsCached, SameRow, is_listed, refreshed}, proofs.CacheSameRows.row_itself}
 use Rattle.pim_mfc.{specs.Laws.ShowsRows, proofs.Shown.refreshed_are_shown}
 use Rattle.pim_fanout.{specs.{Refreshing.Refreshes, Disturbed.joined}}
 use Rattle.pim_state.{specs.declared.touched.Touched.Touched}

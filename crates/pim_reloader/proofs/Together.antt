@@ -2,7 +2,7 @@
 use Rattle.std.{proofs.Common.{◌≡◌, ◌++◌, ℕ, List, ap, append_assoc, ◌∙◌}}
 use Rattle.pim_types.{specs.declared.{config.Config.Config, outcome.Emission.Emission}}
 use Rattle.pim_model.{specs.{State.{State, addressing_of}, Step.{run, state_after}}}
-use Rattle.law_reloaded.{specs.Reloading.{goodbyes, reload, removals, replaced, sent_by}}
+use Rattle.law_states.{specs.Reloading.{goodbyes, reload, removals, replaced, sent_by}}
 
 module _ (s m n : State) (c : Config) (w v : ℕ) (left : m ≡ state_after s (removals s c w)) (same : v ≡ w) where
   pub whole_state : n ≡ (replaced m c v).0 → n ≡ (reload s c w).0

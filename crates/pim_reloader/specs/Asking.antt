@@ -2,7 +2,7 @@
 use Rattle.std.{specs.Prelude.{Option, Some}}
 use Rattle.pim_types.{specs.declared.fact.QuerierRow.QuerierRow}
 use Rattle.pim_model.{specs.State.State}
-use Rattle.law_reloaded.{specs.Reloading.row_under}
+use Rattle.law_states.{specs.Reloading.row_under}
 
 -- by the settings and the present time of a state
 abbrev pub asking : State → QuerierRow → Option QuerierRow

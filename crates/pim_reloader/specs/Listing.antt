@@ -2,7 +2,7 @@
 use Rattle.std.{specs.Prelude.{List, map, true, ℕ, ◌++◌, ◌||◌, ◌≡◌}}
 use Rattle.pim_types.{specs.{declared.fact.Key.Key, Keys.{group_in, source_in, source_key}}}
 use Rattle.pim_model.{specs.{State.State, Tables.has_row}}
-use Rattle.law_cache.{specs.Kept.is_listed}
+use Rattle.law_events.{specs.Kept.is_listed}
 
 -- the keys of all sources with a fact
 abbrev pub sources_in : State → List Key

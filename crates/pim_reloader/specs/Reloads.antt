@@ -3,11 +3,9 @@ use Rattle.std.{specs.{Global.Vec, List.Sorted.IsStrictlySortedBy, Prelude.{List
 use Rattle.pim_ip.{specs.declared.fault.Fault.Fault}
 use Rattle.pim_types.{specs.{Keys.key_cmp, declared.{config.Config.Config, event.Event.Event, outcome.Emission.Emission}}}
 use Rattle.pim_model.{specs.{Cache.cached, Limits.config_test, State.{State, iface_count}, Step.{run, state_after}}}
-use Rattle.law_restored.{specs.Reload.config_of}
-use Rattle.law_reloaded.{specs.Reloading.sent_by}
-use Rattle.law_placed.{specs.Placing.{gone_on, in_order, moved, resubnetted}}
+use Rattle.law_states.{specs.{Reload.config_of, Reloading.sent_by, Placing.{gone_on, in_order, moved, resubnetted}}}
 use Rattle.pim_mfc.{specs.Laws.ShowsRows}
-use Rattle.pim_placed.{specs.{Leading.LeadWithin, declared.orders.Orders.Orders}}
+use Rattle.pim_worlds.{specs.{Leading.LeadWithin, declared.orders.Orders.Orders}}
 use Rattle.pim_state.{specs.declared.touched.Touched.Touched}
 use Rattle.pim_event.{specs.{Replacing.NoneReplaced, Stepping.Rests, declared.parts.Core.Core}}
 use Rattle.pim_reloader.{specs.Listing.ListsFacts}

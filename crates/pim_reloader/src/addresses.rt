@@ -1,7 +1,7 @@
 //! Addresses that change: goodbyes from those of before, and the asserts that were won with them.
-ghost use Rattle.std.specs.Prelude.{◌≡◌, ◌&&◌, ◌++◌, IfOk, OnOk, Some, filter, fold};
-ghost use Rattle.law_reloaded.specs.Reloading.{asserts_under, goodbye, goodbyes, is_readdressed, is_won_before, leaves_address};
+ghost use Rattle.law_states.specs.Reloading.{asserts_under, goodbye, goodbyes, is_readdressed, is_won_before, leaves_address};
 ghost use Rattle.pim_model.specs.Tables.{drop_at, keys_in};
+ghost use Rattle.std.specs.Prelude.{◌≡◌, ◌&&◌, ◌++◌, IfOk, OnOk, Some, filter, fold};
 
 use pim_ip::write_pim_packet;
 use pim_state::{Meter, World};
@@ -23,7 +23,7 @@ fn is_readdressed(world: &World, next: &World, iface: IfaceId) -> bool
 }
 
 // The goodbye of the interface, from its address.
-#[tactic(auto, unfolding(law_reloaded::specs::Reloading::goodbye, pim_model::specs::Writing::pim_on_link))]
+#[tactic(auto, unfolding(law_states::specs::Reloading::goodbye, pim_model::specs::Writing::pim_on_link))]
 fn goodbye(world: &World, alloc: Global, iface: IfaceId) -> Result<Emission, AllocError>
     ensures { IfOk result (λ e. e ≡ goodbye world.now iface.number) }
 {
@@ -41,7 +41,7 @@ fn goodbye(world: &World, alloc: Global, iface: IfaceId) -> Result<Emission, All
 }
 
 // Whether the interface is up, and has another address in the next world.
-#[tactic(auto, unfolding(law_reloaded::specs::Reloading::leaves_address))]
+#[tactic(auto, unfolding(law_states::specs::Reloading::leaves_address))]
 fn leaves_address(world: &World, next: &World, iface: IfaceId) -> bool
     ensures { result ≡ leaves_address world.now next.now.configured iface.number }
 {
@@ -50,7 +50,7 @@ fn leaves_address(world: &World, next: &World, iface: IfaceId) -> bool
 
 /// Puts a goodbye behind what is sent for each interface that is up and has another address in the next world. The error
 /// is want of memory.
-#[tactic(auto, unfolding(law_reloaded::specs::Reloading::goodbyes))]
+#[tactic(auto, unfolding(law_states::specs::Reloading::goodbyes))]
 pub(crate) fn say_goodbye(
     world: &World,
     alloc: Global,
@@ -69,7 +69,7 @@ pub(crate) fn say_goodbye(
 }
 
 // Whether the assert was won on an interface that has another address in the next world.
-#[tactic(auto, unfolding(law_reloaded::specs::Reloading::is_won_before))]
+#[tactic(auto, unfolding(law_states::specs::Reloading::is_won_before))]
 fn is_won_before(world: &World, next: &World, key: Key, row: AssertRow) -> bool
     ensures { result ≡ is_won_before world.now next.now.configured (key, row) }
 {

@@ -1,6 +1,6 @@
 //! The Hellos that leave at once where a configuration is replaced.
+ghost use Rattle.law_states.specs.Reloading.{hellos_anew, says_other, says_same, tells_anew};
 ghost use Rattle.std.specs.Prelude.{◌≡◌, ◌++◌, OnOk};
-ghost use Rattle.law_reloaded.specs.Reloading.{hellos_anew, says_other, says_same, tells_anew};
 
 use pim_messages::Outbox;
 use pim_state::World;
@@ -8,7 +8,7 @@ use pim_types::{IfaceId, InterfaceConfig};
 use std::alloc::AllocError;
 
 // Whether a Hello of the interface says the same by both configurations.
-#[tactic(auto, unfolding(law_reloaded::specs::Reloading::says_same))]
+#[tactic(auto, unfolding(law_states::specs::Reloading::says_same))]
 fn says_same(before: InterfaceConfig, after: InterfaceConfig) -> bool
     ensures { result ≡ says_same before after }
 {
@@ -32,7 +32,7 @@ fn says_other(before: Option<InterfaceConfig>, after: Option<InterfaceConfig>) -
 }
 
 // Whether the interface is up, and its Hello says something else by the configuration of the next world.
-#[tactic(auto, unfolding(law_reloaded::specs::Reloading::tells_anew, pim_model::specs::State::iface_config))]
+#[tactic(auto, unfolding(law_states::specs::Reloading::tells_anew, pim_model::specs::State::iface_config))]
 fn tells_anew(world: &World, next: &World, iface: IfaceId) -> bool
     ensures { result ≡ tells_anew world.now next.now.configured iface.number }
 {
@@ -46,7 +46,7 @@ fn tells_anew(world: &World, next: &World, iface: IfaceId) -> bool
 }
 
 /// Says the Hellos that leave at once by the configuration of the next world.
-#[tactic(auto, unfolding(law_reloaded::specs::Reloading::hellos_anew))]
+#[tactic(auto, unfolding(law_states::specs::Reloading::hellos_anew))]
 pub(crate) fn tell(world: &World, out: &mut Outbox, next: &World) -> Result<(), AllocError>
     ensures { OnOk result (out.new ≡ out.old ++ hellos_anew world.now next.now.configured) }
 {

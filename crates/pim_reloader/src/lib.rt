@@ -1,4 +1,4 @@
-//! Another configuration in a router that works, as the specification (law_reloaded) says.
+//! Another configuration in a router that works, as the specification (law_states) says.
 #![tactic(auto)]
 
 mod addresses;

@@ -1,8 +1,6 @@
 //! Facts that go to other places, with the neighbours that some of these lose, and what follows of that.
-ghost use Rattle.std.specs.List.Sorted.{IsStrictlySortedBy};
-ghost use Rattle.std.specs.Prelude.{◌≡◌, [], IfOk, IsOkUnless, Ok, OnOk, filter, fold, length};
-ghost use Rattle.law_placed.specs.Placing.{moved, without_neighbours};
-ghost use Rattle.law_restored.specs.Reload.{config_of};
+ghost use Rattle.law_states.specs.Placing.{moved, without_neighbours};
+ghost use Rattle.law_states.specs.Reload.{config_of};
 ghost use Rattle.pim_event.specs.Replacing.{NoneReplaced};
 ghost use Rattle.pim_fanout.specs.Named.{keys_of};
 ghost use Rattle.pim_ip.specs.declared.fault.Fault.{Fault};
@@ -12,19 +10,21 @@ ghost use Rattle.pim_model.specs.Firing.{settled};
 ghost use Rattle.pim_model.specs.Limits.{config_test};
 ghost use Rattle.pim_model.specs.State.{iface_count};
 ghost use Rattle.pim_model.specs.Tables.{drop_at, is_among, keys_in};
-ghost use Rattle.pim_placed.specs.Leading.{LeadWithin};
 ghost use Rattle.pim_reloader.specs.Listing.{AreListed};
 ghost use Rattle.pim_reloader.specs.Reloads.{LeadsTo};
 ghost use Rattle.pim_state.specs.declared.touched.Touched.{Touched as TouchedValue};
 ghost use Rattle.pim_types.specs.Keys.{iface_in, key_cmp};
+ghost use Rattle.pim_worlds.specs.Leading.{LeadWithin};
+ghost use Rattle.std.specs.List.Sorted.{IsStrictlySortedBy};
+ghost use Rattle.std.specs.Prelude.{◌≡◌, [], IfOk, IsOkUnless, Ok, OnOk, filter, fold, length};
 
 use crate::replace::add_sources;
 use pim_event::Core;
 use pim_fanout::Gathered;
-use pim_placed::{is_among, world_at};
 use pim_settling::settle::settle;
 use pim_state::{Meter, Touched, Turn, World};
 use pim_types::{Emission, Fault, Key, Series, SourceGroup};
+use pim_worlds::{is_among, world_at};
 use std::alloc::{AllocError, Global};
 
 // The keys of the neighbours of these places.
@@ -51,7 +51,7 @@ fn remove_neighbours(world: &mut World, keys: &[Key])
 }
 
 // Removes the neighbours of these places.
-#[tactic(auto, unfolding(law_placed::specs::Placing::without_neighbours))]
+#[tactic(auto, unfolding(law_states::specs::Placing::without_neighbours))]
 fn part(world: &mut World, alloc: Global, places: &[u32]) -> Result<(), AllocError>
     ensures { OnOk result (world.new ≡ without_neighbours places.now world.old) }
 {

@@ -1,9 +1,9 @@
 //! Packets that leave on a link, by another numbering of the interfaces.
+ghost use Rattle.law_states.specs.Placing.{index_of, leaving_on, number_at};
 ghost use Rattle.std.specs.Prelude.{◌≡◌, ◌≤◌, length, map};
-ghost use Rattle.law_placed.specs.Placing.{index_of, leaving_on, number_at};
 
-use pim_placed::{index_of, number_at};
 use pim_types::Emission;
+use pim_worlds::{index_of, number_at};
 
 // Lets a packet leave on the interface whose number has the index of its own.
 fn leave_by_number(numbers: &[u32], emission: &mut Emission)

@@ -1,12 +1,12 @@
 //! A reload by a map of places: facts go to an order between, interfaces that have no place go down, the configuration is
 //! replaced, and facts go to their places.
-ghost use Rattle.std.specs.Prelude.{◌≡◌, ◌≤◌, IfOk, Ok, length, true};
-ghost use Rattle.law_placed.specs.Placing.{are_places, gone_on, is_resubnetted, keeps_subnet, reload_by, resubnetted};
-ghost use Rattle.law_restored.specs.Reload.{config_of};
+ghost use Rattle.law_states.specs.Placing.{are_places, gone_on, is_resubnetted, keeps_subnet, reload_by, resubnetted};
+ghost use Rattle.law_states.specs.Reload.{config_of};
 ghost use Rattle.pim_event.specs.Stepping.{Rests};
 ghost use Rattle.pim_model.specs.Limits.{config_test};
 ghost use Rattle.pim_model.specs.State.{iface_count};
 ghost use Rattle.pim_reloader.specs.Reloads.{AreReady, LeadsTo, Reloads, halfway};
+ghost use Rattle.std.specs.Prelude.{◌≡◌, ◌≤◌, IfOk, Ok, length, true};
 
 use crate::addresses::say_goodbye;
 use crate::moved::move_facts;
@@ -14,9 +14,9 @@ use crate::numbering::{leave_by_indices, leave_by_numbers};
 use crate::remove::{count_of, proof_kinds, take_all_down};
 use crate::replace::{add_sources, replace};
 use pim_event::Core;
-use pim_placed::{Orders, push_where, world_in_order};
 use pim_state::{Meter, Turn, World};
 use pim_types::{Emission, Fault, InterfaceConfig};
+use pim_worlds::{Orders, push_where, world_in_order};
 use std::alloc::{AllocError, Global};
 
 // Whether an interface is in both configurations, with the same address and the same subnet.
@@ -33,7 +33,7 @@ fn keeps_subnet(before: Option<InterfaceConfig>, after: Option<InterfaceConfig>)
 }
 
 // Whether the interface at the place has another address, or a subnet of another length, by the second list.
-#[tactic(auto, unfolding(law_placed::specs::Placing::is_resubnetted))]
+#[tactic(auto, unfolding(law_states::specs::Placing::is_resubnetted))]
 fn is_resubnetted(old: &[InterfaceConfig], new: &[InterfaceConfig], place: u32) -> bool
     ensures { result ≡ is_resubnetted old.now new.now place }
 {
@@ -43,7 +43,7 @@ fn is_resubnetted(old: &[InterfaceConfig], new: &[InterfaceConfig], place: u32) 
 }
 
 // Those of the first places.
-#[tactic(auto, unfolding(law_placed::specs::Placing::resubnetted))]
+#[tactic(auto, unfolding(law_states::specs::Placing::resubnetted))]
 fn resubnetted(
     alloc: Global,
     count: u32,

@@ -1,11 +1,11 @@
 //! Queriers under other settings.
-ghost use Rattle.std.specs.Prelude.{◌≡◌, ◌≤◌, IfOk, IsTrue, OnOk};
-ghost use Rattle.std.specs.List.{list_all};
 ghost use Rattle.igmp_membership.specs.MembershipTables.{is_querier_key};
-ghost use Rattle.law_reloaded.specs.Reloading.{queriers_under, row_under};
 ghost use Rattle.law_settled.specs.Rows.{all_changed};
+ghost use Rattle.law_states.specs.Reloading.{queriers_under, row_under};
 ghost use Rattle.pim_model.specs.Tables.{change_row, keys_in};
 ghost use Rattle.pim_reloader.specs.Asking.{asking};
+ghost use Rattle.std.specs.List.{list_all};
+ghost use Rattle.std.specs.Prelude.{◌≡◌, ◌≤◌, IfOk, IsTrue, OnOk};
 
 use pim_state::World;
 use pim_types::Key;

@@ -1,15 +1,15 @@
 //! Interfaces that are removed go down.
-ghost use Rattle.std.specs.List.{list_all, range_with_len};
-ghost use Rattle.std.specs.Prelude.{◌≡◌, ◌-◌, IfOk, IsOkUnless, OnOk, length, map, nat_lt, true};
+ghost use Rattle.law_states.specs.Reload.{config_of};
+ghost use Rattle.law_states.specs.Reloading.{down_event, removals};
+ghost use Rattle.pim_event.specs.Stepping.{Rests};
 ghost use Rattle.pim_ifaces.specs.Interfaces.{is_up_key};
 ghost use Rattle.pim_ip.specs.declared.fault.Fault.{Fault};
-ghost use Rattle.pim_event.specs.Stepping.{Rests};
 ghost use Rattle.pim_model.specs.State.{iface_count};
 ghost use Rattle.pim_model.specs.Step.{step};
-ghost use Rattle.law_reloaded.specs.Reloading.{down_event, removals};
-ghost use Rattle.law_restored.specs.Reload.{config_of};
 ghost use Rattle.pim_reloader.specs.Reloads.{Removes};
 ghost use Rattle.pim_types.specs.Keys.{iface_in};
+ghost use Rattle.std.specs.List.{list_all, range_with_len};
+ghost use Rattle.std.specs.Prelude.{◌≡◌, ◌-◌, IfOk, IsOkUnless, OnOk, length, map, nat_lt, true};
 
 use pim_event::{Core, take_in};
 use pim_intake::LentEvent;

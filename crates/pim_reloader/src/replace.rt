@@ -1,18 +1,18 @@
 //! A configuration replaced: the change, what follows of it, and the rows of the forwarding cache.
-ghost use Rattle.std.specs.List.{list_all};
-ghost use Rattle.std.specs.List.Sorted.{IsStrictlySortedBy};
-ghost use Rattle.std.specs.Prelude.{◌≡◌, ◌++◌, [], IfOk, IsOkUnless, OnOk, length, map, nat_lt, true};
+ghost use Rattle.law_events.specs.Rest.{IsAtRest};
+ghost use Rattle.law_states.specs.Reload.{config_of};
+ghost use Rattle.law_states.specs.Reloading.{hellos_anew, replaced, under};
 ghost use Rattle.pim_fanout.specs.Named.{keys_of};
 ghost use Rattle.pim_ip.specs.declared.fault.Fault.{Fault};
-ghost use Rattle.law_scope.specs.Rest.{IsAtRest};
 ghost use Rattle.pim_mfc.specs.Laws.{ShowsRows};
 ghost use Rattle.pim_model.specs.Cache.{cached};
-ghost use Rattle.law_reloaded.specs.Reloading.{hellos_anew, replaced, under};
 ghost use Rattle.pim_reloader.specs.Listing.{AreListed, sources_in};
-ghost use Rattle.law_restored.specs.Reload.{config_of};
-ghost use Rattle.pim_types.specs.Keys.{group_in, iface_in, key_cmp, source_in, source_key};
 ghost use Rattle.pim_state.specs.Turns.{saying};
 ghost use Rattle.pim_state.specs.declared.touched.Touched.{Touched as TouchedValue};
+ghost use Rattle.pim_types.specs.Keys.{group_in, iface_in, key_cmp, source_in, source_key};
+ghost use Rattle.std.specs.List.Sorted.{IsStrictlySortedBy};
+ghost use Rattle.std.specs.List.{list_all};
+ghost use Rattle.std.specs.Prelude.{◌≡◌, ◌++◌, [], IfOk, IsOkUnless, OnOk, length, map, nat_lt, true};
 
 use crate::addresses::{forget_asserts, won_before};
 use crate::hellos::tell;
@@ -28,7 +28,7 @@ use std::alloc::AllocError;
 
 // Puts the world under the configuration of the next one, and says the Hellos that leave at once. All facts stay but what
 // queriers go by, and asserts that were won from addresses of before.
-#[tactic(auto, unfolding(law_reloaded::specs::Reloading::under, law_restored::specs::Reload::config_of, pim_model::specs::State::settings_of))]
+#[tactic(auto, unfolding(law_states::specs::Reloading::under, law_states::specs::Reload::config_of, pim_model::specs::State::settings_of))]
 fn reconfigure(
     world: &mut World,
     turn: &mut Turn,
@@ -51,7 +51,7 @@ fn reconfigure(
 }
 
 // Puts the world under the configuration of the next one, and does what follows. The result is what is sent.
-#[tactic(auto, unfolding(law_reloaded::specs::Reloading::replaced))]
+#[tactic(auto, unfolding(law_states::specs::Reloading::replaced))]
 fn follow(
     world: &mut World,
     turn: &mut Turn,

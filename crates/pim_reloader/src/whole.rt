@@ -1,7 +1,7 @@
 //! A reload: interfaces that are removed go down, then the configuration is replaced.
+ghost use Rattle.law_states.specs.Reload.{config_of};
+ghost use Rattle.law_states.specs.Reloading.{reload};
 ghost use Rattle.pim_event.specs.Stepping.{Rests};
-ghost use Rattle.law_reloaded.specs.Reloading.{reload};
-ghost use Rattle.law_restored.specs.Reload.{config_of};
 ghost use Rattle.pim_reloader.specs.Reloads.{Reloads};
 
 use crate::addresses::say_goodbye;
@@ -15,7 +15,7 @@ use pim_types::{Emission, Fault};
 /// as `reload` of the specification says. The rows of the forwarding cache are those of the new state; all sources with a
 /// fact before or after are listed as changed, and all sources count as disturbed. The result is what is sent. The fault
 /// is want of memory.
-#[tactic(auto, unfolding(law_reloaded::specs::Reloading::reload))]
+#[tactic(auto, unfolding(law_states::specs::Reloading::reload))]
 pub fn reload(
     core: &mut Core,
     meter: &mut Meter,

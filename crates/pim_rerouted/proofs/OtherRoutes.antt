@@ -2,8 +2,7 @@
 use Rattle.std.{proofs.{Common.{◌≡◌, ℕ, Bool, true, false, not, List, [], ◌∷◌, ◌++◌, Some, None, filter, map, refl, ap, subst, sym, ◌∙◌, eq-eqb}, lemmas.List.Concat.flat_map-cons}, specs.{Cmp.Derive.both_true, List.flat_map, Prelude.if◌then◌else◌}}
 use Rattle.pim_types.{specs.{declared.{config.{Route.Route, RpRange.RpRange}, fact.{Key.Key, RegisterRow.RegisterRow, RegisterState.RegisterState}}, Keys.{group_in, source_key, star_key}}}
 use Rattle.pim_model.{specs.{Registers.registers_after_rps, Rows.{same_both, same_path}, State.State, Step.rps_replaced, Tables.{Table, same_option}, Unicast.{route, rp_of, rp_route}, Upstream.{fact_keys, groups_of, sources_of}}}
-use Rattle.law_named.{specs.{Moved.{keys_by_routes, keys_by_rps, moved_of_group, rerouted_sources}, Named.has_same_rp}, proofs.Sights.{options_same, paths_same}}
-use Rattle.law_scope.{proofs.Differing.none_left}
+use Rattle.law_events.{specs.{Moved.{keys_by_routes, keys_by_rps, moved_of_group, rerouted_sources}, Named.has_same_rp}, proofs.{Sights.{options_same, paths_same}, Differing.none_left}}
 use Rattle.pim_rerouted.{specs.OtherRoutes.{has_other_route, with_routes}}
 
 turned : (m b d : Bool) → m ≡ not b → m ≡ not d → b ≡ d

@@ -1,16 +1,16 @@
 //! Which keys new routes, or new RP ranges, touch: those of the groups and sources with facts that they move. The new
 //! routes or ranges stand in the table that was made to test them, and each address is looked up once in the present
 //! table and once in the new one.
-ghost use Rattle.std.specs.List.{flat_map};
-ghost use Rattle.std.specs.Prelude.{◌≡◌, ◌++◌, IfOk, OnOk, filter, map, not};
-ghost use Rattle.pim_types.specs.Keys.{source_key, star_key};
+ghost use Rattle.law_events.specs.Moved.{keys_by_routes, keys_by_rps, moved_of_group};
+ghost use Rattle.law_events.specs.Named.{has_same_rp};
 ghost use Rattle.pim_model.specs.Step.{rps_replaced};
 ghost use Rattle.pim_model.specs.Unicast.{route};
-ghost use Rattle.law_named.specs.Moved.{keys_by_routes, keys_by_rps, moved_of_group};
-ghost use Rattle.law_named.specs.Named.{has_same_rp};
+ghost use Rattle.pim_rerouted.specs.OtherRoutes.{has_other_route, group_has_other_rp, with_routes};
 ghost use Rattle.pim_state.specs.Groups.{numbers_of};
 ghost use Rattle.pim_state.specs.declared.touched.Touched.{Touched as TouchedValue};
-ghost use Rattle.pim_rerouted.specs.OtherRoutes.{has_other_route, group_has_other_rp, with_routes};
+ghost use Rattle.pim_types.specs.Keys.{source_key, star_key};
+ghost use Rattle.std.specs.List.{flat_map};
+ghost use Rattle.std.specs.Prelude.{◌≡◌, ◌++◌, IfOk, OnOk, filter, map, not};
 
 use pim_fanout::{is_same_address, is_same_path};
 use pim_mrib::Mrib;

@@ -1,14 +1,13 @@
 -- A router stays under a configuration that is accepted, and its timers end within their periods.
 use Rattle.std.{proofs.{Common.{◌≡◌, ℕ, Err, Ok, Result, true, subst, sym}, lemmas.Result.on_ok_weaker}, specs.Prelude.OnOk}
 use Rattle.pim_types.{specs.declared.{config.Config.Config, event.Event.Event}}
-use Rattle.law_scope.{specs.Rest.IsAtRest}
+use Rattle.law_events.{specs.Rest.IsAtRest}
 use Rattle.pim_mfc.{specs.Laws.ShowsRows}
 use Rattle.pim_event.{specs.declared.parts.Core.Core}
 use Rattle.pim_router.{specs.Stepping.Stands}
 use Rattle.pim_model.{specs.{Cache.cached, Limits.config_test, State.{State, opening, settings_of}, Step.step}}
 use Rattle.law_plane.{specs.Keeping.{keep, kept_until}}
-use Rattle.law_near.{specs.Near.is_near, proofs.Near.near_stays}
-use Rattle.law_restored.{proofs.Accepted.accepted_stays, specs.Reload.config_of}
+use Rattle.law_states.{specs.{NearStates.is_near, Reload.config_of}, proofs.{NearStates.near_stays, Accepted.accepted_stays}}
 
 abbrev IsAccepted : State → Type 0
 IsAccepted s = config_test (config_of s) ≡ Ok tt

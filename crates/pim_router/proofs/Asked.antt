@@ -4,9 +4,7 @@ use Rattle.pim_ip.{specs.declared.{fault.Fault.Fault, refusal.Refusal.Refusal}}
 use Rattle.pim_types.{specs.declared.{config.Config.Config, event.Event.Event, outcome.{Emission.Emission, Outcome.Outcome, Verdict.Verdict}}}
 use Rattle.pim_model.{specs.{Cause.CopiesAreAsked, Limits.config_test, State.{State, iface_count, opening}, Step.{outcome_of, step}}}
 use Rattle.law_plane.{specs.Keeping.keep}
-use Rattle.law_reloaded.{specs.Reloading.reload}
-use Rattle.law_placed.{specs.Placing.{Places, are_places, reload_by}}
-use Rattle.law_history.{specs.History.{Given, past_given, state_given}, proofs.{Asked.call_is_asked, Histories.calls_lead_on}}
+use Rattle.law_states.{specs.{Reloading.reload, Placing.{Places, are_places, reload_by}, History.{Given, past_given, state_given}}, proofs.{Asked.call_is_asked, Histories.calls_lead_on}}
 use Rattle.pim_router.{specs.{Asked.{LeadsOn, SentIsAsked}, Standing.{Shown, Standing, beginning, standing, with_state}}}
 
 pub step_asked : (s : State) (e : Event) (answer : Result Verdict Refusal) (sent : List Emission)

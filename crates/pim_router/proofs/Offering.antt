@@ -4,7 +4,7 @@ use Rattle.pim_types.{specs.{declared.fact.SourceRow.SourceRow, Keys.source_key}
 use Rattle.pim_model.{specs.{Cache.{Answers, answers, cached}, Full.source_is_full, Sets.is_kept_alive, State.State, Tables.{Table, has_row, row_at}}}
 use Rattle.pim_macros.{specs.{Rows.{ShowsAnswers, answers_of}, declared.rows.SourceAnswers.SourceAnswers}}
 use Rattle.pim_mfc.{specs.{Laws.{ShowsRow, ShowsRows}, Shown.{ShowsOffered, TellsOffload, known_offer, unknown_offer}, declared.offered.Offered.Offered}, proofs.OfferedAsShown.{shown_is_known, shown_is_unknown}}
-use Rattle.law_scope.{specs.Rest.IsAtRest}
+use Rattle.law_events.{specs.Rest.IsAtRest}
 use Rattle.law_plane.{specs.{Keeping.{keep, keepalive_end, kept_until}, Offered.offered}, proofs.Keeps.{keep_changes_no_row, keep_is_at_rest}}
 
 -- ---- what is offered

@@ -1,12 +1,9 @@
 -- What a reload leaves in a router.
 use Rattle.std.{proofs.Common.{◌≡◌, ℕ, Ok, length, true, subst, sym, ap, ◌∙◌}}
 use Rattle.pim_types.{specs.declared.config.Config.Config}
-use Rattle.law_scope.{specs.Rest.IsAtRest}
+use Rattle.law_events.{specs.Rest.IsAtRest}
 use Rattle.pim_model.{specs.{Limits.config_test, State.{State, iface_count, opening, settings_of}}}
-use Rattle.law_reloaded.{specs.Reloading.reload, proofs.{Ground.reload_is_under, Rest.reload_leaves_rest}}
-use Rattle.law_placed.{specs.Placing.{Places, are_places, reload_by}, proofs.{Moved.placed_reload_is_under, Rest.placed_reload_leaves_rest}}
-use Rattle.law_near.{specs.Near.is_near, proofs.Near.near_stays}
-use Rattle.law_restored.{specs.Reload.config_of}
+use Rattle.law_states.{specs.{Reloading.reload, Placing.{Places, are_places, reload_by}, NearStates.is_near, Reload.config_of}, proofs.{Ground.reload_is_under, Rest.reload_leaves_rest, Moved.placed_reload_is_under, PlacedRest.placed_reload_leaves_rest, NearStates.near_stays}}
 
 -- the configuration of an opening
 pub opens_with : (c : Config) (s : State) → s ≡ opening c → config_of s ≡ c

@@ -1,11 +1,11 @@
 -- Runs, event after event.
 use Rattle.std.{proofs.{Common.{◌≡◌, ℕ, Bool, false, Some, suc, ◌+◌, ◌*◌, ◌<◌, ◌≤◌, List, [], ◌∷◌, ◌++◌, length, drop, get_or, refl, ap, sym, subst, ◌∙◌, append_assoc, append-nil, add-one}, Math.{ListN.drop_of_length-le, Seq.drop-cons}}, specs.Prelude.{IfSome, if◌then◌else◌}}
 use Rattle.pim_types.{specs.declared.{event.Event.Event, fact.Key.Key, outcome.Outcome.Outcome, config.Config.Config}}
-use Rattle.law_scope.{specs.Rest.IsAtRest}
-use Rattle.law_promises.{specs.Bounded.counted_beside_asserts}
+use Rattle.law_events.{specs.Rest.IsAtRest}
+use Rattle.law_streams.{specs.Bounded.counted_beside_asserts}
 use Rattle.pim_event.{specs.Replacing.Disturbance}
 use Rattle.pim_model.{specs.{Cause.OutcomesAreAsked, Full.counted, State.{State, opening}, Step.{outcome_of, ran, run, state_after, step}}}
-use Rattle.law_history.{specs.History.{Given, IsLedTo, greatest_count, greatest_limit, past_given}, proofs.{Asked.nothing_flows_unasked_over_reloads, Counts.counted_stay_within_the_greatest, Limits.facts_stay_within_the_greatest}}
+use Rattle.law_states.{specs.History.{Given, IsLedTo, greatest_count, greatest_limit, past_given}, proofs.{Asked.nothing_flows_unasked_over_reloads, Counts.counted_stay_within_the_greatest, Limits.facts_stay_within_the_greatest}}
 use Rattle.pim_router.{specs.Standing.{Shown, Standing, nothing_shown}, proofs.Shown.stands}
 
 -- what was told with what is left is all of it, and the router is at rest

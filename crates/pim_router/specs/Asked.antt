@@ -3,8 +3,7 @@ use Rattle.std.{specs.Prelude.{List, Result, [], length, ℕ, ◌++◌, ◌∷�
 use Rattle.pim_ip.{specs.{Tests.{expect, ◌>>◌}, declared.refusal.Refusal.Refusal}}
 use Rattle.pim_types.{specs.declared.{config.Config.Config, event.Event.Event, outcome.{Emission.Emission, Verdict.Verdict}}}
 use Rattle.pim_model.{specs.{Cause.CopiesAreAsked, Limits.config_test, State.{State, iface_count, opening}}}
-use Rattle.law_placed.{specs.Placing.{Places, are_places}}
-use Rattle.law_history.{specs.History.{Given, IsLedTo, past_given}}
+use Rattle.law_states.{specs.{Placing.{Places, are_places}, History.{Given, IsLedTo, past_given}}}
 
 -- Whatever events, reloads and reports of a plane led to the state, each copy among these packets, which an event's call
 -- sent, has its cause among them.

@@ -3,9 +3,8 @@ use Rattle.std.{specs.{Global.Vec, List.Sorted.IsStrictlySortedBy, Prelude.{List
 use Rattle.pim_ip.{specs.declared.fault.Fault.Fault}
 use Rattle.pim_types.{specs.{Keys.key_cmp, declared.{event.Event.Event, outcome.Outcome.Outcome}}}
 use Rattle.pim_model.{specs.{Cache.cached, Limits.config_test, Step.{run, state_after}}}
-use Rattle.law_scope.{specs.Rest.IsAtRest}
-use Rattle.law_restored.{specs.Reload.config_of}
-use Rattle.law_near.{specs.Near.is_near}
+use Rattle.law_events.{specs.Rest.IsAtRest}
+use Rattle.law_states.{specs.{Reload.config_of, NearStates.is_near}}
 use Rattle.pim_mfc.{specs.Laws.ShowsRows}
 use Rattle.pim_fanout.{specs.Refreshing.touches}
 use Rattle.pim_event.{specs.{Costs.IsLastCheap, Disturbing.IsLastDisturbed, Listing.IsLastListed, Replacing.Disturbance, Staying.LastOffersStay, declared.parts.Core.Core}}

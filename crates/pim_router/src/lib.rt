@@ -6,7 +6,7 @@ mod probes;
 pub mod router;
 
 pub use pim_mfc::{Offered, OffloadRow};
-pub use pim_rested::RestoreRefusal;
 pub use pim_rows::{Row, Table};
-pub use pim_trees::{Link, Neighbour, RpfCause, SourceTree, Tree};
+pub use pim_shown::{Link, Neighbour, RpfCause, SourceTree, Tree};
+pub use pim_worlds::RestoreRefusal;
 pub use router::Router;

@@ -1,20 +1,20 @@
 //! What the router offers to a data plane (a kernel or a chip that forwards by rows that it was given), and what a data
 //! plane reports to the router.
-ghost use Rattle.std.specs.Prelude.{◌≡◌, ◌≤◌, ◌^◌, IfOk, Ok, OnOk, true};
-ghost use Rattle.law_scope.specs.Rest.{IsAtRest};
+ghost use Rattle.law_events.specs.Rest.{IsAtRest};
+ghost use Rattle.law_plane.specs.Keeping.{keep, keepalive_end, kept_until};
+ghost use Rattle.law_plane.specs.Offered.{offered};
+ghost use Rattle.law_plane.specs.Seen.{bare_text};
+ghost use Rattle.law_states.specs.NearStates.{is_near};
+ghost use Rattle.law_states.specs.Reload.{config_of};
 ghost use Rattle.pim_macros.specs.declared.rows.SourceAnswers.{SourceAnswers};
 ghost use Rattle.pim_mfc.specs.Laws.{ShowsRows};
+ghost use Rattle.pim_mfc.specs.Shown.{TellsOffload};
 ghost use Rattle.pim_model.specs.Cache.{cached};
 ghost use Rattle.pim_model.specs.Limits.{config_test};
 ghost use Rattle.pim_model.specs.Sets.{is_kept_alive};
 ghost use Rattle.pim_model.specs.Tables.{Table, has_row};
 ghost use Rattle.pim_types.specs.Keys.{source_key};
-ghost use Rattle.law_plane.specs.Keeping.{keep, keepalive_end, kept_until};
-ghost use Rattle.law_plane.specs.Offered.{offered};
-ghost use Rattle.law_plane.specs.Seen.{bare_text};
-ghost use Rattle.pim_mfc.specs.Shown.{TellsOffload};
-ghost use Rattle.law_near.specs.Near.{is_near};
-ghost use Rattle.law_restored.specs.Reload.{config_of};
+ghost use Rattle.std.specs.Prelude.{◌≡◌, ◌≤◌, ◌^◌, IfOk, Ok, OnOk, true};
 
 use pim_fanout::Cache;
 use pim_ip::{ControlHeader, write_header};

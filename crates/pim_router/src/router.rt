@@ -1,46 +1,46 @@
 //! The router, as its users call it.
+ghost use Rattle.law_events.specs.Named.{event_named};
+ghost use Rattle.law_events.specs.Rest.{IsAtRest};
+ghost use Rattle.law_plane.specs.Keeping.{keep};
+ghost use Rattle.law_plane.specs.Offered.{offered};
+ghost use Rattle.law_plane.specs.Seen.{seen_event};
+ghost use Rattle.law_states.specs.History.{Given, IsLedTo, greatest_count, greatest_limit, past_given};
+ghost use Rattle.law_states.specs.Reload.{config_of};
+ghost use Rattle.law_streams.specs.Bounded.{counted_beside_asserts};
+ghost use Rattle.pim_event.specs.Costs.{IsCheap, IsLastCheap};
+ghost use Rattle.pim_event.specs.Disturbing.{IsLastDisturbed, event_disturbed};
+ghost use Rattle.pim_event.specs.Listing.{IsLastListed, ListsSame};
+ghost use Rattle.pim_event.specs.Replacing.{may_differ};
+ghost use Rattle.pim_event.specs.Staying.{LastOffersStay, OffersStay};
+ghost use Rattle.pim_event.specs.Stepping.{Steps};
+ghost use Rattle.pim_fanout.specs.Named.{keys_of};
+ghost use Rattle.pim_fanout.specs.Refreshing.{touches};
+ghost use Rattle.pim_ip.specs.declared.fault.Fault.{Fault};
+ghost use Rattle.pim_macros.specs.Rows.{number_of};
+ghost use Rattle.pim_mfc.specs.Laws.{ShowsRows, TellsRow};
+ghost use Rattle.pim_mfc.specs.Shown.{TellsOffload};
+ghost use Rattle.pim_model.specs.Cache.{cached};
+ghost use Rattle.pim_model.specs.Cause.{OutcomesAreAsked};
+ghost use Rattle.pim_model.specs.Full.{counted};
+ghost use Rattle.pim_model.specs.Judging.{last_moment};
+ghost use Rattle.pim_model.specs.Limits.{config_test};
+ghost use Rattle.pim_model.specs.Sets.{is_kept_alive};
+ghost use Rattle.pim_model.specs.State.{opening};
+ghost use Rattle.pim_model.specs.Step.{run, step};
+ghost use Rattle.pim_model.specs.Sure.{needs_no_memory};
+ghost use Rattle.pim_model.specs.Timers.{next_moment};
+ghost use Rattle.pim_model.specs.Unicast.{rpf_interface_rp};
+ghost use Rattle.pim_router.specs.Asked.{LeadsOn, SentIsAsked};
+ghost use Rattle.pim_router.specs.Standing.{begun, nothing_shown, last_copies, standing, standing_after, with_state};
+ghost use Rattle.pim_router.specs.Stepping.{RunsTo, Stands, disturbance};
+ghost use Rattle.pim_rows.specs.Printed.{rows};
+ghost use Rattle.pim_types.specs.Keys.{key_cmp};
+ghost use Rattle.pim_types.specs.declared.config.Config.{Config as ConfigValue};
+ghost use Rattle.pim_types.specs.declared.outcome.Emission.{Emission as EmissionValue};
 ghost use Rattle.std.specs.List.Sorted.{IsStrictlySortedBy};
 ghost use Rattle.std.specs.Option.{option_map_or};
 ghost use Rattle.std.specs.Prelude.{◌≡◌, ◌*◌, ◌+◌, ◌<◌, ◌≤◌, ◌++◌, ◌↔◌, [], Err, IfErr, IfOk, IfSome, IsOk, IsOkUnless, IsTrue, List, None, Ok, OnErr, OnOk, Some, length, min, option_and_then, true};
 ghost use Rattle.std.specs.Vec.{vec_capacity, vec_len};
-ghost use Rattle.pim_fanout.specs.Refreshing.{touches};
-ghost use Rattle.pim_mfc.specs.Laws.{ShowsRows, TellsRow};
-ghost use Rattle.pim_model.specs.Cache.{cached};
-ghost use Rattle.pim_event.specs.Costs.{IsCheap, IsLastCheap};
-ghost use Rattle.pim_event.specs.Disturbing.{IsLastDisturbed, event_disturbed};
-ghost use Rattle.pim_model.specs.Judging.{last_moment};
-ghost use Rattle.pim_model.specs.Sets.{is_kept_alive};
-ghost use Rattle.law_plane.specs.Keeping.{keep};
-ghost use Rattle.law_plane.specs.Offered.{offered};
-ghost use Rattle.law_plane.specs.Seen.{seen_event};
-ghost use Rattle.pim_mfc.specs.Shown.{TellsOffload};
-ghost use Rattle.pim_event.specs.Listing.{IsLastListed, ListsSame};
-ghost use Rattle.pim_event.specs.Replacing.{may_differ};
-ghost use Rattle.pim_event.specs.Staying.{LastOffersStay, OffersStay};
-ghost use Rattle.pim_fanout.specs.Named.{keys_of};
-ghost use Rattle.law_history.specs.History.{Given, IsLedTo, greatest_count, greatest_limit, past_given};
-ghost use Rattle.pim_router.specs.Asked.{LeadsOn, SentIsAsked};
-ghost use Rattle.law_named.specs.Named.{event_named};
-ghost use Rattle.pim_ip.specs.declared.fault.Fault.{Fault};
-ghost use Rattle.pim_model.specs.Step.{run, step};
-ghost use Rattle.pim_model.specs.Full.{counted};
-ghost use Rattle.pim_model.specs.Limits.{config_test};
-ghost use Rattle.pim_model.specs.State.{opening};
-ghost use Rattle.pim_model.specs.Cause.{OutcomesAreAsked};
-ghost use Rattle.pim_rows.specs.Printed.{rows};
-ghost use Rattle.pim_macros.specs.Rows.{number_of};
-ghost use Rattle.pim_model.specs.Timers.{next_moment};
-ghost use Rattle.pim_model.specs.Unicast.{rpf_interface_rp};
-ghost use Rattle.law_restored.specs.Reload.{config_of};
-ghost use Rattle.pim_router.specs.Stepping.{RunsTo, Stands, disturbance};
-ghost use Rattle.pim_event.specs.Stepping.{Steps};
-ghost use Rattle.pim_router.specs.Standing.{begun, nothing_shown, last_copies, standing, standing_after, with_state};
-ghost use Rattle.pim_types.specs.Keys.{key_cmp};
-ghost use Rattle.pim_types.specs.declared.config.Config.{Config as ConfigValue};
-ghost use Rattle.pim_types.specs.declared.outcome.Emission.{Emission as EmissionValue};
-ghost use Rattle.pim_model.specs.Sure.{needs_no_memory};
-ghost use Rattle.law_scope.specs.Rest.{IsAtRest};
-ghost use Rattle.law_promises.specs.Bounded.{counted_beside_asserts};
 
 mod hosts;
 mod places;
@@ -81,13 +81,13 @@ impl Model for Router {
     ghost use Rattle.std.specs.List.Sorted.{IsStrictlySortedBy};
     ghost use Rattle.std.specs.Prelude.{Ok, Some, false, if◌then◌else◌, true, ◌≡◌};
     ghost use Rattle.pim_fanout.specs.Refreshing.{touches};
-    ghost use Rattle.law_scope.specs.Rest.{IsAtRest};
+    ghost use Rattle.law_events.specs.Rest.{IsAtRest};
     ghost use Rattle.pim_mfc.specs.Laws.{ShowsRows};
     ghost use Rattle.pim_model.specs.Cache.{cached};
     ghost use Rattle.pim_model.specs.Full.{counted};
     ghost use Rattle.pim_model.specs.Limits.{config_test};
-    ghost use Rattle.law_near.specs.Near.{is_near};
-    ghost use Rattle.law_restored.specs.Reload.{config_of};
+    ghost use Rattle.law_states.specs.NearStates.{is_near};
+    ghost use Rattle.law_states.specs.Reload.{config_of};
     ghost use Rattle.pim_router.specs.Standing.{Shown, nothing_shown};
     ghost use Rattle.pim_types.specs.Keys.{key_cmp};
 
@@ -286,7 +286,7 @@ impl Router {
         }
         let mut outside = self.probes.outside();
         let alloc = self.core.room.alloc;
-        Ok(pim_printed::rows(&self.core.world, alloc, table, &mut outside.meter)?)
+        Ok(pim_shown::rows(&self.core.world, alloc, table, &mut outside.meter)?)
     }
 
     /// Takes one event: it is done, ignored or refused. The packets that leave are added at the end of `emissions`, in

@@ -2,10 +2,9 @@
 use Rattle.std.{proofs.Common.{◌≡◌, ◌∷◌, [], Ok, refl}}
 use Rattle.pim_model.{specs.{Limits.config_test, Step.step}}
 use Rattle.igmp_wire.{specs.declared.report.RecordType.RecordType}
-use Rattle.law_reloaded.{specs.Reloading.{asserts_under, goodbyes, hellos_anew, is_won_before, leaves_address, queriers_under, reload, removals, replaced, says_same, tells_anew, under}}
-use Rattle.law_history.{specs.History.{AreAccepted, IsLedTo, state_given}}
-use Rattle.law_members.{specs.Members.{IsReported, is_answered, may_be_given, may_happen, next_general, waiting_after, waiting_given}, proofs.Members.member_keeps_its_record}
-use Rattle.pim_runs.{proofs.OnLiterals.machine_on_literals, specs.{Answering.{MemberAnswers, MemberIsKept, PatientQueriesComeTooLate, SlowAnswersComeTooLate, before, joins, later, opened, quick}, Base.{base, group}}}
+use Rattle.law_states.{specs.{Reloading.{asserts_under, goodbyes, hellos_anew, is_won_before, leaves_address, queriers_under, reload, removals, replaced, says_same, tells_anew, under}, History.{AreAccepted, IsLedTo, state_given}}}
+use Rattle.law_hosts.{specs.Members.{IsReported, is_answered, may_be_given, may_happen, next_general, waiting_after, waiting_given}, proofs.RecordsKept.member_keeps_its_record}
+use Rattle.pim_runs.{specs.{Answering.{MemberAnswers, MemberIsKept, PatientQueriesComeTooLate, SlowAnswersComeTooLate, before, joins, later, opened, quick}, Base.{base, group}}, proofs.OnLiterals.machine_on_literals}
 
 accepted : config_test base ≡ Ok tt
 unfolding machine_on_literals

@@ -1,12 +1,10 @@
 -- The premises, computed.
 use Rattle.std.{proofs.{Common.{◌≡◌, ◌∙◌, ℕ, ◌+◌, ◌<◌, ◌≤◌, nat_lt, max, false, [], ◌∷◌, inl, inr, drop, length, Option, Some, None, refl, sym, ap, subst, arith, lit≤, lit<}, lemmas.Bool.Decides.nat_tests}, specs.Prelude.unwrap_or}
 use Rattle.pim_types.{specs.{Keys.{iface_key, neighbour_key}, declared.{event.Event.Event, fact.{InterfaceRow.InterfaceRow, NeighbourRow.NeighbourRow}}}}
-use Rattle.law_promises.{specs.Copies.happens}
+use Rattle.law_streams.{specs.{Copies.happens, Adjacent.{HelloComesBy, HelloInTime, IsKnownFirst, Sends, begins_or_ends, shortens}, Hellos.hello_of, InTimeJoins.{IsBy, IsReady, time_at}, Neighbours.HoldsNeighbour, OneDr.{Among, KnowEachOther, KnowsOnly, Seat}}, proofs.{Timed.run_is_timed, Adjacent.neighbours_stay, OneDr.at_least_one_dr, Computed.{IsFirst, at_another, event_in, only_new, stand, stands_there, with_event, with_station}}}
 use Rattle.pim_model.{specs.{Cause.done_as, Network.{At, Deliver, Move, Network, Station, event_of, frame_at, moved, station_at}, State.{State, opening}, Tables.{later_end, row_at}}}
-use Rattle.law_scope.{proofs.Rest.{opening_is_at_rest, run_is_at_rest}}
-use Rattle.law_served.{proofs.Timed.run_is_timed}
-use Rattle.law_in_time.{specs.{Adjacent.{HelloComesBy, HelloInTime, IsKnownFirst, Sends, begins_or_ends, shortens}, Hellos.hello_of, Joins.{IsBy, IsReady, time_at}, Neighbours.HoldsNeighbour, OneDr.{Among, KnowEachOther, KnowsOnly, Seat}}, proofs.{Adjacent.neighbours_stay, OneDr.at_least_one_dr, Computed.{IsFirst, at_another, event_in, only_new, stand, stands_there, with_event, with_station}}}
-use Rattle.pim_runs.{proofs.{InTime.accepted_second, OnLiterals.machine_on_literals}, specs.{Words.{address, advance}, InTime.{late, started}, HellosInTime.{HellosAreInTime, NeighbourStays, adjacent, OneIsDr, first_met, greets, met, seats, second_met}, ServedChain.{first, hello_from, second, station}}}
+use Rattle.law_events.{proofs.Rest.{opening_is_at_rest, run_is_at_rest}}
+use Rattle.pim_runs.{specs.{Words.{address, advance}, InTime.{late, started}, HellosInTime.{HellosAreInTime, NeighbourStays, adjacent, OneIsDr, first_met, greets, met, seats, second_met}, ServedChain.{first, hello_from, second, station}}, proofs.{InTime.accepted_second, OnLiterals.machine_on_literals}}
 
 abbrev nowhere : Station
 nowhere = record { links = []; state = opening first }

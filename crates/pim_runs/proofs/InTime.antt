@@ -2,12 +2,10 @@
 use Rattle.std.{proofs.{Common.{◌≡◌, suc, ◌+◌, ◌*◌, ◌<◌, ◌≤◌, inl, inr, false, [], ◌∷◌, drop, length, Some, None, Ok, refl, lit≤, lit<}, lemmas.List.Elements.All-nil}}
 use Rattle.pim_types.{specs.declared.{event.Event.Event, fact.JoinTimerRow.JoinTimerRow}}
 use Rattle.pim_model.{specs.{declared.accepted.Accepted.Accepted, Full.is_full, Limits.config_test, Network.{At, Deliver, Move, Network, Station, event_of, moved, station_at}, Sets.prunes, State.{opening}}}
-use Rattle.law_scope.{proofs.Rest.{opening_is_at_rest, run_is_at_rest}}
-use Rattle.law_served.{specs.{Joins.{IsWritable, join_packet, join_value}}, proofs.Timed.run_is_timed}
+use Rattle.law_events.{proofs.Rest.{opening_is_at_rest, run_is_at_rest}}
+use Rattle.law_streams.{specs.{Joins.{IsWritable, join_packet, join_value}, Passing.{Passes, Receiver, Tree, has_moved, is_lost, takes_effect}, InTimeJoins.{Always, AreThere, ComesBy, IsCovered, IsInTime, IsJoin, IsReady, Wants, entry_of, frame_of, prunes_of, time_at}, InTimeStreams.{IsPassing, NoneEndsOtherwise, ends_otherwise}}, proofs.{Timed.run_is_timed, Computed.{at_another, event_in, joins_told, none_pruned, none_shared, stand, stands_there, timely, with_event, with_station, with_timer}, Pairs.joins_are_shared, InTimeStreams.joins_keep_stream}}
 use Rattle.law_settled.{specs.Ready.IsSettled, proofs.Steps.run_is_settled}
-use Rattle.law_stream.{specs.Passing.{Passes, Receiver, Tree, has_moved, is_lost, takes_effect}}
-use Rattle.law_in_time.{specs.{Joins.{Always, AreThere, ComesBy, IsCovered, IsInTime, IsJoin, IsReady, Wants, entry_of, frame_of, prunes_of, time_at}, Streams.{IsPassing, NoneEndsOtherwise, ends_otherwise}}, proofs.{Computed.{at_another, event_in, joins_told, none_pruned, none_shared, stand, stands_there, timely, with_event, with_station, with_timer}, Pairs.joins_are_shared, Streams.joins_keep_stream}}
-use Rattle.pim_runs.{proofs.OnLiterals.machine_on_literals, specs.{Words.advance, ServedChain.{asked_group, first, second, sender, station}, InTime.{JoinStaysHeld, JoinsAreInTime, StreamGoesOn, both, first_events, joined, late, pair, repeats, second_events, started}}}
+use Rattle.pim_runs.{specs.{Words.advance, ServedChain.{asked_group, first, second, sender, station}, InTime.{JoinStaysHeld, JoinsAreInTime, StreamGoesOn, both, first_events, joined, late, pair, repeats, second_events, started}}, proofs.OnLiterals.machine_on_literals}
 
 abbrev nowhere : Station
 nowhere = record { links = []; state = opening first }

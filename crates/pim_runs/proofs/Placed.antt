@@ -1,12 +1,8 @@
 -- A list of interfaces without its first one, computed.
 use Rattle.std.{proofs.Common.{◌≡◌, Ok, refl}}
 use Rattle.pim_model.{specs.Limits.config_test}
-use Rattle.law_restored.{specs.Reload.config_of}
-use Rattle.law_reloaded.{specs.Reloading.{asserts_under, goodbyes, hellos_anew, is_won_before, leaves_address, queriers_under, replaced, says_same, tells_anew, under}}
-use Rattle.law_placed.{specs.Placing.{are_places, gone_on, in_order, index_of, is_kept, is_left_out, is_new, is_resubnetted, moved, new_order, number_at, old_order, placed_under, reload_by, resubnetted, to_order, without_neighbours}}
-use Rattle.law_history.{specs.History.{past_given, state_given}, proofs.Asked.call_is_asked}
-use Rattle.pim_runs.{proofs.OnLiterals.machine_on_literals, specs.{Words.frame, ServedChain.sent_packet, Switch.switching}}
-use Rattle.pim_runs.{specs.Placed.{CauseIsRenumbered, PlacedIsAsked, PlacesLead, StreamGoesOn, left, with_one_before, without_it}}
+use Rattle.law_states.{specs.{Reload.config_of, Reloading.{asserts_under, goodbyes, hellos_anew, is_won_before, leaves_address, queriers_under, replaced, says_same, tells_anew, under}, Placing.{are_places, gone_on, in_order, index_of, is_kept, is_left_out, is_new, is_resubnetted, moved, new_order, number_at, old_order, placed_under, reload_by, resubnetted, to_order, without_neighbours}, History.{past_given, state_given}}, proofs.Asked.call_is_asked}
+use Rattle.pim_runs.{specs.{Words.frame, ServedChain.sent_packet, Switch.switching, Placed.{CauseIsRenumbered, PlacedIsAsked, PlacesLead, StreamGoesOn, left, with_one_before, without_it}}, proofs.OnLiterals.machine_on_literals}
 
 accepted : config_test with_one_before ≡ Ok tt
 unfolding machine_on_literals

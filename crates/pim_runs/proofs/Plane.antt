@@ -1,11 +1,9 @@
 -- Computed.
 use Rattle.std.{proofs.Common.{◌≡◌, Ok, refl}}
 use Rattle.pim_model.{specs.Limits.config_test}
-use Rattle.pim_runs.{proofs.{OnLiterals.machine_on_literals, SplitLiterals.split_on_literals}, specs.{History.smaller, Switch.switching}}
-use Rattle.law_reloaded.{specs.Reloading.{asserts_under, goodbyes, hellos_anew, is_won_before, leaves_address, queriers_under, reload, removals, replaced, says_same, tells_anew, under}}
+use Rattle.pim_runs.{specs.{History.smaller, Switch.switching, Plane.{PlaneGoesOn, PlaneOwesANote, made_again, told_after}}, proofs.{OnLiterals.machine_on_literals, SplitLiterals.split_on_literals}}
+use Rattle.law_states.{specs.{Reloading.{asserts_under, goodbyes, hellos_anew, is_won_before, leaves_address, queriers_under, reload, removals, replaced, says_same, tells_anew, under}, Anew.{plain_stages, stage, staged}, Documented.{act, acted, before, given, is_for_core, plain_acts}, Guests.{guest_handled, guest_of}, Kept.{kept_core, kept_time, told_note, told_notes}}, proofs.{Anew.plain_stages_are_right, DocumentedPlanes.plain_acts_are_right}}
 use Rattle.law_plane.{specs.Keeping.{keep, keepalive_end, kept_until}}
-use Rattle.law_reported.{specs.{Anew.{plain_stages, stage, staged}, Documented.{act, acted, before, given, is_for_core, plain_acts}, Guests.{guest_handled, guest_of}, Kept.{kept_core, kept_time, told_note, told_notes}}, proofs.{Anew.plain_stages_are_right, DocumentedPlanes.plain_acts_are_right}}
-use Rattle.pim_runs.{specs.Plane.{PlaneGoesOn, PlaneOwesANote, made_again, told_after}}
 
 accepted_smaller : config_test smaller ≡ Ok tt
 unfolding machine_on_literals

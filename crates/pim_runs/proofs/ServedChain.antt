@@ -4,9 +4,8 @@ use Rattle.pim_ip.{specs.Ipv4.packet_of}
 use Rattle.pim_model.{specs.{declared.accepted.Accepted.Accepted, Cause.done_as, Limits.config_test, Network.{At, network_ran}}}
 use Rattle.igmp_wire.{specs.declared.report.RecordType.RecordType}
 use Rattle.law_settled.{proofs.Steps.run_is_settled}
-use Rattle.pim_runs.{proofs.OnLiterals.machine_on_literals, specs.{Words.unicast, ServedChain.{ChainIsServed, PacketIsServed, asked_group, chain, content, first, first_meets, first_place, register, report, request, root, second, second_meets, second_place, sender, sent_packet, third, third_meets, third_place}}}
-use Rattle.law_promises.{specs.Copies.happens}
-use Rattle.law_served.{specs.{Roots.{CanRegister, IsRegister}, Served.{Asks, CanCarry, CanServeHost}, Ways.{CanGoOn, CanTake, IsGroup, IsNew, state_of, up_address}}, proofs.{Hosts.host_asks, Registered.register_is_brought, Whole.each_packet_is_served}}
+use Rattle.pim_runs.{specs.{Words.unicast, ServedChain.{ChainIsServed, PacketIsServed, asked_group, chain, content, first, first_meets, first_place, register, report, request, root, second, second_meets, second_place, sender, sent_packet, third, third_meets, third_place}}, proofs.OnLiterals.machine_on_literals}
+use Rattle.law_streams.{specs.{Copies.happens, Roots.{CanRegister, IsRegister}, HostsServed.{Asks, CanCarry, CanServeHost}, Ways.{CanGoOn, CanTake, IsGroup, IsNew, state_of, up_address}}, proofs.{Hosts.host_asks, ServedRegistered.register_is_brought, Whole.each_packet_is_served}}
 
 is_group : IsGroup asked_group root
 unfolding machine_on_literals

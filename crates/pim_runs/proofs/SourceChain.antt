@@ -2,13 +2,9 @@
 use Rattle.std.{proofs.Common.{◌≡◌, ◌∙◌, ℕ, ◌+◌, [], ◌∷◌, length, Ok, None, Some, true, false, refl, sym, ap, subst, lit≤, lit<}}
 use Rattle.pim_ip.{specs.Ipv4.{copy_text, is_link_local, is_multicast, packet_of}}
 use Rattle.pim_model.{specs.{Limits.config_test, Network.{Network, frame_at, network_ran, station_at}}}
-use Rattle.law_causes.{specs.Networks.events_in, proofs.Networks.runs_alone}
+use Rattle.law_streams.{specs.{Networks.events_in, Flows.IsCarried, Joins.join_packet, Ways.{Place, state_of, up_address}, Climbing.delivered, Streams.later_place, SourceTreeClimbing.{CanGoOnToSource, CanTakeSource, IsSource, IsSourceWayOver, source_frame}, Turning.{TurnsAt, may_turn}}, proofs.{Networks.runs_alone, Passing.stays_settled, Streams.later_stand, SourceTreeClimbing.source_join_climbs_over, SourceTreeWays.source_tree_begins, Computed.alike_delivered}}
 use Rattle.law_settled.{specs.Ready.IsSettled, proofs.Steps.run_is_settled}
-use Rattle.law_served.{specs.{Flows.IsCarried, Joins.join_packet, Ways.{Place, state_of, up_address}}}
-use Rattle.law_stream.{specs.{Climbing.{delivered}, Streams.later_place}, proofs.{Passing.stays_settled, Streams.later_stand}}
-use Rattle.law_source_tree.{specs.{Climbing.{CanGoOnToSource, CanTakeSource, IsSource, IsSourceWayOver, source_frame}, Turning.{TurnsAt, may_turn}}, proofs.{Climbing.source_join_climbs_over, Ways.source_tree_begins}}
-use Rattle.law_in_time.{proofs.Computed.alike_delivered}
-use Rattle.pim_runs.{proofs.OnLiterals.machine_on_literals, specs.{ServedChain.{asked_group, content, sender, sent_packet}, SourceChain.{SourceIsJoined, TreeBegins, below_copy, copied_there, edge, joining, lower, lower_meets, lower_place, middle, middle_meets, middle_place, stops, to_lower, to_middle, to_the_copy, to_upper, upper_place}, StreamChain.all_at, Words.address}}
+use Rattle.pim_runs.{specs.{ServedChain.{asked_group, content, sender, sent_packet}, SourceChain.{SourceIsJoined, TreeBegins, below_copy, copied_there, edge, joining, lower, lower_meets, lower_place, middle, middle_meets, middle_place, stops, to_lower, to_middle, to_the_copy, to_upper, upper_place}, StreamChain.all_at, Words.address}, proofs.OnLiterals.machine_on_literals}
 
 accepted_lower : config_test lower ≡ Ok tt
 unfolding machine_on_literals

@@ -1,11 +1,9 @@
 -- The premises, computed.
 use Rattle.std.{proofs.Common.{◌≡◌, ◌+◌, [], ◌∷◌, length, Some, None, Ok, false, refl, lit≤}}
-use Rattle.pim_runs.{proofs.OnLiterals.machine_on_literals, specs.{ServedChain.{asked_group, chain, content, first, first_meets, first_place, register, root, second, second_meets, second_place, sender, sent_packet, third, third_meets, third_place}, Words.{address, unicast}, StreamChain.{NextIsServed, NoneEnds, SecondBegins, WayStreams, asked_then, second_then, receivers, trees, climb, climbed, later, way}}}
+use Rattle.pim_runs.{specs.{ServedChain.{asked_group, chain, content, first, first_meets, first_place, register, root, second, second_meets, second_place, sender, sent_packet, third, third_meets, third_place}, Words.{address, unicast}, StreamChain.{NextIsServed, NoneEnds, SecondBegins, WayStreams, asked_then, second_then, receivers, trees, climb, climbed, later, way}}, proofs.OnLiterals.machine_on_literals}
 use Rattle.pim_model.{specs.{Limits.config_test, Network.{network_ran, station_at, frame_at}, Sets.prunes, State.State}}
-use Rattle.law_causes.{specs.Networks.events_in, proofs.Networks.runs_alone}
+use Rattle.law_streams.{specs.{Networks.events_in, Joins.join_packet, Ways.{Place, state_of, CanTake, IsGroup}, Roots.{IsBrought, IsRegister}, Passing.{Receiver, Tree, any_ends_passing, ends_passing, has_expired, has_moved, is_lost, membership_ends, takes_effect}, Climbing.{CanStream, join_frame}, Streams.{PassesAt, later_place}, StreamRoots.{Sends, any_ends_sending, ends_sending}}, proofs.{Networks.runs_alone, Begins.join_begins_stream, Passing.{none_ends, stays_settled}, Streams.later_stand, StreamRoots.{each_of_stream_is_served, each_register_is_brought, none_ends_sending}}}
 use Rattle.law_settled.{specs.Ready.IsSettled, proofs.Steps.run_is_settled}
-use Rattle.law_served.{specs.{Joins.join_packet, Ways.{Place, state_of, CanTake, IsGroup}, Roots.{IsBrought, IsRegister}}}
-use Rattle.law_stream.{specs.{Passing.{Receiver, Tree, any_ends_passing, ends_passing, has_expired, has_moved, is_lost, membership_ends, takes_effect}, Climbing.{CanStream, join_frame}, Streams.{PassesAt, later_place}, Roots.{Sends, any_ends_sending, ends_sending}}, proofs.{Begins.join_begins_stream, Passing.{none_ends, stays_settled}, Streams.later_stand, Roots.{each_of_stream_is_served, each_register_is_brought, none_ends_sending}}}
 use Rattle.pim_ip.{specs.Ipv4.packet_of}
 
 accepted_first : config_test first ≡ Ok tt

@@ -1,9 +1,9 @@
 -- The premises, computed.
 use Rattle.std.{proofs.Common.{◌≡◌, [], Ok, false, true, refl, lit≤, ℕ}}
-use Rattle.pim_runs.{proofs.OnLiterals.machine_on_literals, specs.{ServedChain.{asked_group, sender}, Switch.{Switches, asked, first_on_source, meets, on_shared, on_source, still_shared, switched, switching}}}
+use Rattle.pim_runs.{specs.{ServedChain.{asked_group, sender}, Switch.{Switches, asked, first_on_source, meets, on_shared, on_source, still_shared, switched, switching}}, proofs.OnLiterals.machine_on_literals}
 use Rattle.pim_model.{specs.Limits.config_test}
 use Rattle.law_settled.{specs.Ready.IsSettled, proofs.Steps.{run_is_settled, step_is_settled}}
-use Rattle.law_stream.{specs.Passing.{Passes, Receiver, Tree, any_ends_passing, ends_passing, has_expired, has_moved, is_lost, membership_ends}, proofs.Passing.{none_ends, stays_settled}}
+use Rattle.law_streams.{specs.Passing.{Passes, Receiver, Tree, any_ends_passing, ends_passing, has_expired, has_moved, is_lost, membership_ends}, proofs.Passing.{none_ends, stays_settled}}
 
 accepted : config_test switching ≡ Ok tt
 unfolding machine_on_literals

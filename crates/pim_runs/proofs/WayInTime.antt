@@ -2,10 +2,9 @@
 use Rattle.std.{proofs.{Common.{◌≡◌, ℕ, suc, ◌+◌, ◌*◌, ◌<◌, ◌≤◌, ◌⊎◌, inl, inr, false, List, [], ◌∷◌, drop, length, Some, None, Ok, refl, lit≤, lit<}, lemmas.List.Elements.All-nil}}
 use Rattle.pim_types.{specs.declared.fact.JoinTimerRow.JoinTimerRow}
 use Rattle.pim_model.{specs.{declared.accepted.Accepted.Accepted, Full.is_full, Limits.config_test, Network.{At, Deliver, Move, Network, Station, moved, station_at}, State.opening}}
-use Rattle.law_scope.{proofs.Rest.{opening_is_at_rest, run_is_at_rest}}
-use Rattle.law_served.{specs.Joins.{IsWritable, join_packet, join_value}, proofs.Timed.run_is_timed}
-use Rattle.law_in_time.{specs.Joins.{Always, AreThere, ComeInTime, ComesBy, IsCovered, IsInTime, IsJoin, IsReady, IsUnlost, Wants, entry_of, frame_of, prunes_of, time_at}, proofs.{Computed.{at_another, joins_told, none_new, none_pruned, none_shared, stand, stands_there, timely, with_station, with_timer}, Pairs.way_stays_joined}}
-use Rattle.pim_runs.{proofs.OnLiterals.machine_on_literals, specs.{InTime.{first_events, joined, late, pair, second_events, started}, ServedChain.{asked_group, first, second, station, third}, WayInTime.{WayIsInTime, WayStaysHeld, repeats_twice, third_events, three, upper_pair}, Words.advance}}
+use Rattle.law_events.{proofs.Rest.{opening_is_at_rest, run_is_at_rest}}
+use Rattle.law_streams.{specs.{Joins.{IsWritable, join_packet, join_value}, InTimeJoins.{Always, AreThere, ComeInTime, ComesBy, IsCovered, IsInTime, IsJoin, IsReady, IsUnlost, Wants, entry_of, frame_of, prunes_of, time_at}}, proofs.{Timed.run_is_timed, Computed.{at_another, joins_told, none_new, none_pruned, none_shared, stand, stands_there, timely, with_station, with_timer}, Pairs.way_stays_joined}}
+use Rattle.pim_runs.{specs.{InTime.{first_events, joined, late, pair, second_events, started}, ServedChain.{asked_group, first, second, station, third}, WayInTime.{WayIsInTime, WayStaysHeld, repeats_twice, third_events, three, upper_pair}, Words.advance}, proofs.OnLiterals.machine_on_literals}
 
 abbrev nowhere : Station
 nowhere = record { links = []; state = opening first }

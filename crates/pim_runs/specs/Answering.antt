@@ -3,8 +3,8 @@
 use Rattle.std.{specs.Prelude.{List, [], false, map, suc, true, zero, ℕ, ◌+◌, ◌∷◌, ◌≡◌}}
 use Rattle.pim_types.{specs.declared.{config.Config.Config, event.Event.Event}}
 use Rattle.pim_model.{specs.{Receivers.local_receiver_star, State.{State, opening}, Step.step}}
-use Rattle.law_history.{specs.History.{AreAccepted, Given, IsLedTo, state_given}}
-use Rattle.law_members.{specs.Members.{ForQuery, IsReported, answers_before, answers_still, is_answered, margin}}
+use Rattle.law_states.{specs.History.{AreAccepted, Given, IsLedTo, state_given}}
+use Rattle.law_hosts.{specs.Members.{ForQuery, IsReported, answers_before, answers_still, is_answered, margin}}
 use Rattle.pim_runs.{specs.{Base.{base, group, opening_events}, Packets.{is_exclude, to_exclude}, Words.{advance, frame}}}
 
 -- the same router that asks every 10 s, for responses within 1 s

@@ -3,7 +3,7 @@ use Rattle.std.{specs.Prelude.{List, [], ◌∷◌}}
 use Rattle.pim_types.{specs.declared.event.Event.Event}
 use Rattle.pim_model.{specs.Network.{At, Deliver, Move, Network}}
 use Rattle.pim_runs.{specs.{InTime.{late, started}, Words.{address, advance, frame, up}, ServedChain.{first, hello_from, second, station}}}
-use Rattle.law_in_time.{specs.{Adjacent.{Adjacent, HellosInTime, IsKnown}, Joins.Always, OneDr.{HasDr, KnowEachOther, Seat}}}
+use Rattle.law_streams.{specs.{Adjacent.{Adjacent, HellosInTime, IsKnown}, InTimeJoins.Always, OneDr.{HasDr, KnowEachOther, Seat}}}
 
 abbrev pub adjacent : Adjacent
 adjacent = record { lower = 0; iface = 1; link = 1; upper = 1; down = 0; address = address 10 0 1 1 }

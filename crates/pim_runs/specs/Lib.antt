@@ -32,3 +32,7 @@ pub mod Registered
 pub mod WayInTime
 pub mod SourceChain
 pub mod HellosInTime
+pub mod OlderPackets
+pub mod OlderHeld
+pub mod OlderMoved
+pub mod Behind

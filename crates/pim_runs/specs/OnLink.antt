@@ -6,8 +6,7 @@ use Rattle.pim_types.{specs.declared.{config.Config.Config, event.Event.Event}}
 use Rattle.pim_wire.{specs.declared.join_prune.EntryKind.EntryKind}
 use Rattle.pim_model.{specs.{Messages.entry, Network.{At, Deliver, Move, Network, Station, network_ran, station_at}, Tables.{hop_at, row_at}}}
 use Rattle.pim_runs.{specs.{Base.interface, Words.{address, advance, frame, up}, InTime.{joined, late, started}, ServedChain.{asked_group, first, first_meets, hello_from, report, request, root, second, second_meets, station}}}
-use Rattle.law_served.{specs.Joins.join_packet}
-use Rattle.law_in_time.{specs.{Joins.{Always, IsHeld, Pair, join_key}, Shared.AreOnLink}}
+use Rattle.law_streams.{specs.{Joins.join_packet, InTimeJoins.{Always, IsHeld, Pair, join_key}, Shared.AreOnLink}}
 
 -- the first router and the second are those of the chain; the other one has a link of hosts of its own
 abbrev pub other_address : ℕ

@@ -4,8 +4,7 @@ use Rattle.pim_ip.{specs.Ipv4.{copy_text, igmp_packet_text, packet_of}}
 use Rattle.pim_types.{specs.declared.{config.Config.Config, event.Event.Event}}
 use Rattle.igmp_wire.{specs.Reports.report_text}
 use Rattle.pim_model.{specs.{Cause.{CopiesAreAsked, copies_in, has_cause}, State.{State, opening}, Step.{outcome_of, step}, Writing.on_link}}
-use Rattle.law_placed.{specs.Placing.Places}
-use Rattle.law_history.{specs.History.{Given, IsLedTo, past_given, state_given}}
+use Rattle.law_states.{specs.{Placing.Places, History.{Given, IsLedTo, past_given, state_given}}}
 use Rattle.pim_runs.{specs.{Base.{interface, prefix, route_by}, Words.{address, frame, up}, ServedChain.{asked_group, hello_from, request, sender, sent_packet}, Switch.switching}}
 
 -- the router with one more interface, before the others

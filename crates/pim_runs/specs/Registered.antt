@@ -4,8 +4,7 @@ use Rattle.pim_types.{specs.declared.{config.Config.Config, event.Event.Event}}
 use Rattle.pim_wire.{specs.declared.join_prune.EntryKind.EntryKind}
 use Rattle.pim_model.{specs.{Messages.entry, Network.Network, Tables.hop_at}}
 use Rattle.pim_runs.{specs.{Base.{all_groups, base, interface, prefix, route_by, rp_for}, Words.{address, frame, up}, ServedChain.{asked_group, content, first, first_meets, first_place, packet_living, report, root, second, second_meets, second_place, sender, station, third, third_meets, third_place}}}
-use Rattle.law_served.{specs.{Joins.join_packet, Ways.Place}}
-use Rattle.law_source_tree.{specs.Registered.IsRegistered}
+use Rattle.law_streams.{specs.{Joins.join_packet, Ways.Place, Registered.IsRegistered}}
 
 -- the source is on the link of the DR's first interface, and the RP behind the second
 abbrev pub dr : Config

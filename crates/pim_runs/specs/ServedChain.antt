@@ -6,7 +6,7 @@ use Rattle.pim_wire.{specs.{Hellos.hello_text, Registers.register_text}}
 use Rattle.igmp_wire.{specs.{Reports.report_text, Values.Record, declared.report.RecordType.RecordType}}
 use Rattle.pim_model.{specs.{Network.{At, Network, Station, moved, network_ran}, State.opening, Step.state_after, Tables.hop_at}}
 use Rattle.pim_runs.{specs.{Base.{all_groups, base, interface, prefix, route_by, rp_for}, Words.{address, frame, unicast, up}}}
-use Rattle.law_served.{specs.{Flows.IsFlowed, Ways.Place, Whole.IsServedFrom}}
+use Rattle.law_streams.{specs.{Flows.IsFlowed, Ways.Place, Whole.IsServedFrom}}
 
 abbrev pub asked_group : ℕ
 asked_group = address 239 1 1 1

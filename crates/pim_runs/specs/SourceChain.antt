@@ -4,9 +4,7 @@ use Rattle.std.{specs.Prelude.{List, [], ℕ, ◌++◌, ◌∷◌}}
 use Rattle.pim_types.{specs.declared.{config.Config.Config, event.Event.Event}}
 use Rattle.pim_model.{specs.{Network.{At, Deliver, Move, Network, network_ran}, Tables.hop_at}}
 use Rattle.pim_runs.{specs.{Base.{all_groups, base, interface, prefix, route_by, rp_for}, Words.{address, frame, up}, ServedChain.{asked_group, content, hello_from, root, sender, sent_packet, station}, StreamChain.all_at}}
-use Rattle.law_served.{specs.Ways.Place}
-use Rattle.law_stream.{specs.{Climbing.Stop, Streams.later_place}}
-use Rattle.law_source_tree.{specs.{Climbing.{IsSourceClimbedOver, source_frame}, Turning.IsTurned}}
+use Rattle.law_streams.{specs.{Ways.Place, Climbing.Stop, Streams.later_place, SourceTreeClimbing.{IsSourceClimbedOver, source_frame}, Turning.IsTurned}}
 
 -- link 3 is below the first router, link 1 between the first and the second, link 2 between the second and the last
 abbrev pub lower : Config

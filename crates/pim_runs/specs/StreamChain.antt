@@ -2,9 +2,8 @@
 use Rattle.std.{specs.Prelude.{List, Some, [], length, suc, zero, ℕ, ◌++◌, ◌∷◌, ◌≡◌}}
 use Rattle.pim_model.{specs.{Network.{At, Deliver, Move, Network, moved, network_ran, station_at}, Messages.entry, State.State}}
 use Rattle.pim_runs.{specs.{Words.{address, advance, frame, unicast}, ServedChain.{asked_group, chain, content, first_place, register, report, root, second_place, sender}}}
-use Rattle.law_served.{specs.{Flows.IsFlowed, Joins.join_packet, Ways.Place, Served.became}}
+use Rattle.law_streams.{specs.{Flows.IsFlowed, Joins.join_packet, Ways.Place, HostsServed.became, Climbing.delivered, Passing.{Passes, Receiver, Tree}, Streams.{IsStreamed, NoneEndsStream, later_place}}}
 use Rattle.pim_wire.{specs.declared.join_prune.EntryKind.EntryKind}
-use Rattle.law_stream.{specs.{Climbing.delivered, Passing.{Passes, Receiver, Tree}, Streams.{IsStreamed, NoneEndsStream, later_place}}}
 
 -- the moves that bring all three routers to a timestamp
 abbrev pub all_at : ℕ → List Move

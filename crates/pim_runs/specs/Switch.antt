@@ -3,7 +3,7 @@ use Rattle.std.{specs.Prelude.{List, [], ◌∷◌, ◌≡◌, true}}
 use Rattle.pim_types.{specs.declared.{config.Config.Config, event.Event.Event}}
 use Rattle.pim_model.{specs.{State.{State, opening}, Step.{state_after, step}}}
 use Rattle.pim_runs.{specs.{Base.{all_groups, base, interface, prefix, route_by, rp_for}, Words.{address, advance, frame, up}, ServedChain.{asked_group, hello_from, report, root, sender, sent_packet}}}
-use Rattle.law_stream.{specs.Passing.{NoneEndsPassing, Passes, Receiver, Tree, ends_passing}}
+use Rattle.law_streams.{specs.Passing.{NoneEndsPassing, Passes, Receiver, Tree, ends_passing}}
 
 abbrev pub switching : Config
 switching = record base {

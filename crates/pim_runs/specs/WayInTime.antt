@@ -4,8 +4,7 @@ use Rattle.pim_types.{specs.declared.event.Event.Event}
 use Rattle.pim_wire.{specs.declared.join_prune.EntryKind.EntryKind}
 use Rattle.pim_model.{specs.{Messages.entry, Network.{At, Deliver, Move, Network}, Tables.hop_at}}
 use Rattle.pim_runs.{specs.{Words.{address, advance, frame}, InTime.{first_events, joined, late, pair, second_events, started}, ServedChain.{asked_group, first, root, second, station, third, third_meets}}}
-use Rattle.law_served.{specs.Joins.join_packet}
-use Rattle.law_in_time.{specs.Joins.{AreHeld, IsWayUp, Pair}}
+use Rattle.law_streams.{specs.{Joins.join_packet, InTimeJoins.{AreHeld, IsWayUp, Pair}}}
 
 -- the RP took the second router's Join at one second
 abbrev pub third_events : List Event

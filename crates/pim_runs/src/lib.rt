@@ -1,6 +1,6 @@
 //! Worked runs of the specification, which the kernel checks by computing with the definitions: of routers, of networks
-//! that meet the premises of the laws, and of a router beside a data plane. Each is the contract of a function with
-//! nothing to do.
+//! that meet the premises of the laws, of a router beside a data plane, and of one behind the front for older hosts.
+//! Each is the contract of a function with nothing to do.
 #![tactic(auto)]
 
 pub mod addresses;
@@ -16,6 +16,9 @@ pub mod limits;
 pub mod members;
 pub mod membership;
 pub mod neighbours;
+pub mod older_held;
+pub mod older_moved;
+pub mod older_packets;
 pub mod reached;
 pub mod readings;
 pub mod routes;

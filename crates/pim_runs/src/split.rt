@@ -1,8 +1,8 @@
 //! Worked runs of a split data plane.
 #![tactic(auto, unfolding(crate::proofs::SplitLiterals::split_on_literals))]
 
-ghost use Rattle.pim_runs.specs.Split.{CoreCatchesUp, DrNamesWhatItServes, EachLinkIsHandled, HostIsHeardOf, LastPacketIsOwed, UnknownIsForwarded};
 ghost use Rattle.pim_runs.specs.Plane.{PlaneGoesOn, PlaneOwesANote};
+ghost use Rattle.pim_runs.specs.Split.{CoreCatchesUp, DrNamesWhatItServes, EachLinkIsHandled, HostIsHeardOf, LastPacketIsOwed, UnknownIsForwarded};
 
 /// What the row of a joined source says of a packet on each link.
 pub fn each_link_is_handled()

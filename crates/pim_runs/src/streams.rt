@@ -1,9 +1,9 @@
 //! Networks that meet the premises of the laws of streams, computed by the kernel.
+ghost use Rattle.pim_runs.specs.LastHop.{LastHopCanChange, LastHopChanges};
+ghost use Rattle.pim_runs.specs.Registered.{SourceIsRegistered};
 ghost use Rattle.pim_runs.specs.SourceChain.{SourceIsJoined, TreeBegins};
 ghost use Rattle.pim_runs.specs.StreamChain.{NextIsServed, NoneEnds, SecondBegins, WayStreams};
 ghost use Rattle.pim_runs.specs.Switch.{Switches};
-ghost use Rattle.pim_runs.specs.LastHop.{LastHopCanChange, LastHopChanges};
-ghost use Rattle.pim_runs.specs.Registered.{SourceIsRegistered};
 
 /// Two routers below the RP pass the stream, the first to a host and the second to a router.
 pub fn way_streams()

@@ -1,8 +1,8 @@
 //! Configured values.
-ghost use Rattle.std.specs.Prelude.{◌≡◌, ◌++◌, OnOk};
 ghost use Rattle.pim_saved.specs.Fits.{FitsInterface, FitsPrefix, FitsRange, FitsRoute, FitsSettings};
 ghost use Rattle.pim_saved.specs.Reading.{interface_at, prefix_at, range_at, route_at, settings_at};
 ghost use Rattle.pim_saved.specs.Text.{interface_text, prefix_text, range_text, route_text, settings_text};
+ghost use Rattle.std.specs.Prelude.{◌≡◌, ◌++◌, OnOk};
 
 use crate::saved::Saved;
 use pim_ip::{Addr, Prefix};

@@ -1,6 +1,6 @@
 //! CRC-32 (RFC 1952, section 8).
-ghost use Rattle.std.specs.Prelude.{◌≡◌, ◌<◌};
 ghost use Rattle.pim_saved.specs.Crc.{after_bytes, crc32, entry, ended, with_byte};
+ghost use Rattle.std.specs.Prelude.{◌≡◌, ◌<◌};
 
 // What each byte makes of a register of 0.
 const ENTRIES: [u32; 256] = [

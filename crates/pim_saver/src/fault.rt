@@ -1,6 +1,6 @@
 //! Why no state was read.
-ghost use Rattle.std.specs.Prelude.{◌≡◌};
 ghost use Rattle.pim_saver.specs.declared.fault.ReadFault.TheVariants.{Memory};
+ghost use Rattle.std.specs.Prelude.{◌≡◌};
 
 use pim_saved::SavedRefusal;
 use std::alloc::{AllocError, AllocFailed};

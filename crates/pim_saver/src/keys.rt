@@ -1,8 +1,8 @@
 //! The key of every fact.
-ghost use Rattle.std.specs.Prelude.{◌≡◌, ◌++◌, OnOk};
 ghost use Rattle.pim_saved.specs.Fits.{FitsKey};
 ghost use Rattle.pim_saved.specs.Reading.{key_at};
 ghost use Rattle.pim_saved.specs.Text.{key_text};
+ghost use Rattle.std.specs.Prelude.{◌≡◌, ◌++◌, OnOk};
 
 use crate::option::{read_option, write_option};
 use crate::saved::Saved;

@@ -1,8 +1,8 @@
 //! Keys and rows.
-ghost use Rattle.std.specs.Prelude.{◌≡◌, ◌++◌, OnOk};
 ghost use Rattle.pim_saved.specs.Fits.{FitsAssert, FitsDownstream, FitsGroupRecord, FitsGroupRepeat, FitsJoinTimer, FitsLanDelay, FitsMetric, FitsNeighbour, FitsOverrideTimer, FitsQuerier, FitsRegister, FitsSending, FitsSource, FitsSourceRecord, FitsSourceRepeat, FitsUp};
 ghost use Rattle.pim_saved.specs.Reading.{assert_at, downstream_at, group_record_at, group_repeat_at, join_timer_at, lan_delay_at, metric_at, neighbour_at, override_timer_at, querier_at, register_at, sending_at, source_at, source_record_at, source_repeat_at, up_at};
 ghost use Rattle.pim_saved.specs.Text.{assert_text, downstream_text, group_record_text, group_repeat_text, join_timer_text, lan_delay_text, metric_text, neighbour_text, override_timer_text, querier_text, register_text, sending_text, source_record_text, source_repeat_text, source_text, up_text};
+ghost use Rattle.std.specs.Prelude.{◌≡◌, ◌++◌, OnOk};
 
 use crate::option::{read_option, write_option};
 use crate::saved::Saved;

@@ -1,7 +1,7 @@
 //! What is written with a text of its own, and read again.
-ghost use Rattle.std.specs.Prelude.{◌≡◌, ◌++◌, List, OnOk, ℕ};
 ghost use Rattle.pim_saved.specs.Reading.{Reader};
 ghost use Rattle.pim_saver.specs.Read.{read};
+ghost use Rattle.std.specs.Prelude.{◌≡◌, ◌++◌, List, OnOk, ℕ};
 
 use pim_saved::SavedRefusal;
 use std::alloc::AllocError;

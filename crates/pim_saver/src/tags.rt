@@ -1,8 +1,8 @@
 //! Values of a few kinds, each behind its tag.
-ghost use Rattle.std.specs.Prelude.{◌≡◌, ◌++◌, OnOk};
 ghost use Rattle.pim_saved.specs.Fits.{Always, FitsQuerierRole, FitsRegisterState};
 ghost use Rattle.pim_saved.specs.Reading.{assert_role_of, flag_at, made, querier_role_at, register_state_at, spt_of};
 ghost use Rattle.pim_saved.specs.Text.{assert_role_text, querier_role_text, register_state_text, spt_text};
+ghost use Rattle.std.specs.Prelude.{◌≡◌, ◌++◌, OnOk};
 
 use crate::saved::Saved;
 use pim_saved::SavedRefusal;

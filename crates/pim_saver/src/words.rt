@@ -1,9 +1,9 @@
 //! Numbers, flags and addresses.
-ghost use Rattle.std.specs.Prelude.{◌≡◌, ◌<◌, ◌^◌, ◌++◌, OnOk};
 ghost use Rattle.pim_saved.specs.Fits.{FitsAddress, FitsByte, FitsHalf, FitsMoment, FitsWord, Always};
 ghost use Rattle.pim_saved.specs.Reading.{address_at, byte_at, flag_at, half_at, iface_at, moment_at, word_at};
 ghost use Rattle.pim_saved.specs.Text.{address_text, byte_text, flag_text, half_text, moment_text, word_text};
 ghost use Rattle.pim_saver.specs.Read.{iface_text, FitsIface};
+ghost use Rattle.std.specs.Prelude.{◌≡◌, ◌<◌, ◌^◌, ◌++◌, OnOk};
 
 use crate::saved::Saved;
 use pim_ip::Addr;

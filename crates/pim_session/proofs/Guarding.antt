@@ -3,8 +3,8 @@ use Rattle.std.{specs.{List.All, Option.option_map_or}, proofs.Common.{◌≡◌
 use Rattle.pim_ip.{specs.{Checksum.with_checksum, Ipv4.{header_text, igmp_packet_text, ipv4_reading}, declared.refusal.Refusal.Refusal}}
 use Rattle.pim_types.{specs.declared.{event.{Event.Event, EventKind.EventKind}, outcome.Stop.Stop}}
 use Rattle.pim_model.{specs.{Full.passes_limit, Judging.{judged, unicast_judged}, State.State, Step.{step, stopped}, Sure.needs_no_memory, Tables.same_bool}}
-use Rattle.law_named.{specs.Named.event_named}
-use Rattle.law_promises.{specs.Copies.copies_at}
+use Rattle.law_events.{specs.Named.event_named}
+use Rattle.law_streams.{specs.Copies.copies_at}
 use Rattle.pim_state.{specs.declared.touched.Touched.Touched}
 use Rattle.pim_event.{specs.{Disturbing.{disturbed_with_room, event_disturbed, event_touched}, Listing.ListsSame, Replacing.{NoneReplaced, event_replaced}}}
 use Rattle.pim_router.{specs.Standing.{Shown, Standing, beginning, nothing_shown, standing}}

@@ -4,7 +4,7 @@ use Rattle.pim_ip.{specs.declared.refusal.Refusal.Refusal}
 use Rattle.pim_types.{specs.declared.{event.Event.Event, outcome.{Emission.Emission, Verdict.Verdict}}}
 use Rattle.pim_model.{specs.{State.State, Step.step}}
 use Rattle.igmp_older_saved.{specs.{Reading.held_reading, Text.Held}, proofs.Spelled.held_text_is_read}
-use Rattle.law_history.{specs.History.{Given, IsLedTo}}
+use Rattle.law_states.{specs.History.{Given, IsLedTo}}
 use Rattle.pim_router.{specs.{Asked.{LeadsOn, SentIsAsked}, Standing.{Shown, Standing, beginning, begun, standing}}, proofs.Asked.{leads_now, step_asked, step_leads}}
 use Rattle.pim_session.{specs.{Leaving.{GoesOnFrom, LeftIsAsked}, Front.{Front, emissions_left}}}
 

@@ -3,7 +3,7 @@ use Rattle.std.{proofs.Common.{◌≡◌, ◌∙◌, ℕ, Bool, List, [], Option
 use Rattle.pim_ip.{specs.declared.fault.Fault.Fault}
 use Rattle.pim_model.{specs.{State.State, Tables.Table}}
 use Rattle.pim_saved.{specs.{declared.refusal.SavedRefusal.SavedRefusal, Reading.reading}}
-use Rattle.pim_rested.{specs.{Resuming.{read_test, restore_test}, declared.refusal.RestoreRefusal.RestoreRefusal}}
+use Rattle.pim_worlds.{specs.{Resuming.{read_test, restore_test}, declared.refusal.RestoreRefusal.RestoreRefusal}}
 use Rattle.pim_router.{specs.Standing.{Shown, begun}}
 use Rattle.igmp_older_saved.{specs.{declared.{host.HostRow.HostRow, refusal.HeldRefusal.HeldRefusal}, Hosts.{are_held, is_held}, Reading.{held_in, held_read_test, held_reading, held_restore_test, opened, state_behind, test_behind}, Text.Held}}
 use Rattle.pim_session.{specs.{Front.Front, Saved.front_resumed}}

@@ -4,7 +4,7 @@ use Rattle.pim_ip.{specs.declared.{fault.Fault.Fault, refusal.Refusal.Refusal}}
 use Rattle.pim_types.{specs.declared.{config.IfaceId.IfaceId, event.{Event.Event, EventKind.EventKind}, fact.Key.Key, outcome.{Emission.Emission, Verdict.Verdict}}}
 use Rattle.pim_model.{specs.{Querier.group_membership_interval, State.{State}, Step.{Answered, step}, Sure.needs_no_memory, Tables.{has_row, row_at}}}
 use Rattle.law_settled.{proofs.UnchangedLaws.{ignored_unchanged, refused_unchanged}}
-use Rattle.law_named.{specs.Named.event_named}
+use Rattle.law_events.{specs.Named.event_named}
 use Rattle.pim_event.{specs.{Costs.IsCheap, Disturbing.event_disturbed, Listing.ListsSame, Staying.OffersStay}}
 use Rattle.pim_router.{specs.Standing.{Shown as RouterShown, Standing, standing}}
 use Rattle.igmp_older.{specs.{Joined.{bytes_given, event_given, joined_step, kind_given, known_after, known_if, noted_answered, noted_if, older_in, older_of, present_end, rows_of}, Presence.{Present, hosts_on, left, live_rows, looked}, Routers.{OlderQueried, Wrote, queried, query_packet}, Translation.{Gives, Translation, packet_given, translation}, declared.{front.Given.Given, older.Older.Older}}}

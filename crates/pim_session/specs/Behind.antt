@@ -3,7 +3,7 @@ use Rattle.std.{specs.Prelude.{◌≡◌, ◌++◌, Bool, true, false, ℕ, List
 use Rattle.pim_ip.{specs.declared.refusal.Refusal.Refusal}
 use Rattle.pim_types.{specs.declared.{config.IfaceId.IfaceId, event.{Event.Event, EventKind.EventKind}, outcome.{Emission.Emission, Verdict.Verdict}}}
 use Rattle.pim_model.{specs.{State.State, Step.step}}
-use Rattle.law_named.{specs.Named.event_named}
+use Rattle.law_events.{specs.Named.event_named}
 use Rattle.pim_event.{specs.{Costs.IsCheap, Disturbing.event_disturbed, Listing.ListsSame, Staying.OffersStay}}
 use Rattle.pim_router.{specs.Standing.{Shown as RouterShown, standing}}
 use Rattle.igmp_older.{specs.{Joined.{event_given, joined_step}, declared.front.Given.Given}}

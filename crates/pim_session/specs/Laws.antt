@@ -3,7 +3,7 @@ use Rattle.std.{specs.{List.{All}, Prelude.{◌≡◌, List, [], ◌∷◌, Err,
 use Rattle.pim_ip.{specs.declared.refusal.Refusal.Refusal}
 use Rattle.pim_types.{specs.declared.{event.Event.Event, outcome.Outcome.Outcome}}
 use Rattle.pim_model.{specs.{State.State, Step.{Answered, outcome_of, run, state_after, step}}}
-use Rattle.law_promises.{specs.Copies.copies_at}
+use Rattle.law_streams.{specs.Copies.copies_at}
 use Rattle.pim_guard.{specs.{Guard.{guarded, is_kind_stopped}, Laws.IsOfData}}
 use Rattle.igmp_older.{specs.Joined.{joined}}
 use Rattle.pim_session.{specs.Front.{Front, both, emissions_left, event_queried, front_after, given}}

@@ -4,7 +4,7 @@ use Rattle.pim_ip.{specs.declared.refusal.Refusal.Refusal}
 use Rattle.pim_types.{specs.declared.{config.Config.Config, event.Event.Event, outcome.{Emission.Emission, Verdict.Verdict}}}
 use Rattle.pim_model.{specs.State.State}
 use Rattle.igmp_older_saved.{specs.Text.{Held, held_text, FitsHeld}}
-use Rattle.law_history.{specs.History.{Given, IsLedTo}}
+use Rattle.law_states.{specs.History.{Given, IsLedTo}}
 use Rattle.pim_router.{specs.Asked.SentIsAsked}
 use Rattle.pim_session.{specs.Front.{Front, emissions_left}}
 

@@ -1,14 +1,14 @@
 //! A router's bytes with the rows of older hosts that stand before it, and both made of them.
-ghost use Rattle.std.specs.Prelude.{◌≡◌, ◌++◌, Err, IfErr, IfOk, IfSome, IsOkUnless, Ok, OnErr, OnOk};
-ghost use Rattle.pim_ip.specs.declared.fault.Fault.{Fault};
-ghost use Rattle.law_settled.specs.Ready.{Rises};
-ghost use Rattle.pim_model.specs.State.{State};
-ghost use Rattle.pim_rested.specs.Resuming.{IsResumable};
-ghost use Rattle.pim_router.specs.Standing.{begun};
-ghost use Rattle.pim_saved.specs.Reading.{reading};
 ghost use Rattle.igmp_older_saved.specs.Reading.{held_in, held_read_test, held_reading, held_restore_test};
 ghost use Rattle.igmp_older_saved.specs.Text.{Held, held_text, FitsHeld};
+ghost use Rattle.law_settled.specs.Ready.{Rises};
+ghost use Rattle.pim_ip.specs.declared.fault.Fault.{Fault};
+ghost use Rattle.pim_model.specs.State.{State};
+ghost use Rattle.pim_router.specs.Standing.{begun};
+ghost use Rattle.pim_saved.specs.Reading.{reading};
 ghost use Rattle.pim_session.specs.Saved.{front_resumed, held_of, hosts_of};
+ghost use Rattle.pim_worlds.specs.Resuming.{IsResumable};
+ghost use Rattle.std.specs.Prelude.{◌≡◌, ◌++◌, Err, IfErr, IfOk, IfSome, IsOkUnless, Ok, OnErr, OnOk};
 
 use crate::asked::Asked;
 use crate::behind::times_in;

@@ -3,8 +3,7 @@ use Rattle.std.{proofs.{Common.{◌≡◌, ◌==◌, ◌&&◌, ◌++◌, ℕ, tr
 use Rattle.pim_types.{specs.{declared.{fact.Key.Key, outcome.Emission.Emission}, Keys.{iface_in, names_source}}}
 use Rattle.pim_model.{specs.{Clearing.{clear, clear_all}, Firing.settled, Messages.Message, Registers.settle_registers, State.State, Upstream.upstream, Writing.write_all}}
 use Rattle.law_settled.{proofs.ListLaws.all_more}
-use Rattle.law_scope.{specs.Locality.{IsQuiet, own_settled, own_upstream, touched_clear, touched_registers, touching}, proofs.{Registers.{registers_agree, registers_of_touched}, Settling.settling_is_own, TouchedClearing.clear_of_touched, Touches.touching_is_closed}}
-use Rattle.law_named.{specs.{Moved.{HaveSources, MovesAlone}, Adjacent.AdjoinsAlone}, proofs.{Moved.{moved_goes, moved_settles}, Taken.facts_stay, Goes.adjoins_goes, NeighbourSettles.adjoins_settles}}
+use Rattle.law_events.{specs.{Locality.{IsQuiet, own_settled, own_upstream, touched_clear, touched_registers, touching}, Moved.{HaveSources, MovesAlone}, Adjacent.AdjoinsAlone}, proofs.{Registers.{registers_agree, registers_of_touched}, Settling.settling_is_own, TouchedClearing.clear_of_touched, Touches.touching_is_closed, Moved.{moved_goes, moved_settles}, Taken.facts_stay, Goes.adjoins_goes, NeighbourSettles.adjoins_settles}}
 use Rattle.pim_store.{specs.PimTables.{AreKeyed, is_source_key, pim_tables}}
 use Rattle.pim_state.{specs.declared.touched.Touched.Touched}
 use Rattle.pim_views.{specs.{Covers.{IsWithin, NewAreNamed}, Openings.{has_facts, opening_of}, declared.opening.GroupOpening.GroupOpening}}

@@ -2,7 +2,7 @@
 use Rattle.std.{proofs.Common.{◌≡◌, ℕ, Bool, false, ◌&&◌, nat_lt, List, [], Option, None, Some, option_map, option_and_then, IfSome, refl, ap, subst, sym, ◌∙◌}, specs.Option.option_map_or}
 use Rattle.pim_types.{specs.{declared.{fact.{AssertRow.AssertRow, InterfaceRow.InterfaceRow, JoinTimerRow.JoinTimerRow, Key.Key, OverrideTimerRow.OverrideTimerRow}, path.Path.Path, upstream.SourceView.SourceView}, Keys.{rpt_key, source_key, star_key}}}
 use Rattle.law_settled.{proofs.{ListLaws.by_cond, TurnLaws.kept_in_turn}}
-use Rattle.law_scope.{proofs.{QuietStates.frame_packets, SharedMacros.route_local}, specs.{Locality.touching, Scopes.{reads, scope}}}
+use Rattle.law_events.{specs.{Locality.touching, Scopes.{reads, scope}}, proofs.{QuietStates.frame_packets, SharedMacros.route_local}}
 use Rattle.pim_model.{specs.{Desires.winner_hop, Messages.Message, Neighbours.{is_dr, nbr}, Receivers.{is_exclude, local_receiver_exclude, local_receiver_include}, Registers.is_dr_of_path, Sets.{assert_source, assert_star, is_beaten, is_better, is_kept_alive, joins, joins_star, prunes, route_metric, spt_bit, spt_metric, tunnel}, State.{State, is_own, my_address}, Tables.Table, Unicast.{route, rp_of, rp_route, rpf_interface, rpf_interface_rp}, Upstream.{Cancel, Keep, LowerTo, SetTo, TimerChange, moved_join_timer, moved_override_timer, rpt_told, source_told, source_view, with_join_timer, with_override_timer}, Writing.write_all}}
 use Rattle.pim_macros.{specs.{Sights.{IsSourceSight, ShowsSource, ShowsStar}, declared.sight.{SourceSight.SourceSight, StarSight.StarSight}}}
 use Rattle.pim_views.{specs.declared.opening.{GroupOpening.GroupOpening, SourceOpening.SourceOpening}}

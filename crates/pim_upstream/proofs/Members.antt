@@ -4,7 +4,7 @@ use Rattle.pim_ip.{specs.declared.addr.Addr.Addr}
 use Rattle.pim_types.{specs.{declared.fact.Key.Key, Keys.{group_in, is_of_group, names_source, source_in}}}
 use Rattle.pim_model.{specs.{State.State, Upstream.{fact_keys, sources_of}}}
 use Rattle.law_settled.{proofs.{Numbers.{RisesFrom, any_ascending, rises_ascending, rises_filtered, same_numbers}, TableLaws.{any_in_filter, any_of_map}}}
-use Rattle.law_scope.{specs.{Locality.touching, Scopes.reads}}
+use Rattle.law_events.{specs.{Locality.touching, Scopes.reads}}
 use Rattle.pim_state.{specs.declared.touched.Touched.Touched}
 use Rattle.pim_views.{specs.{Openings.{facts_of_whole, has_facts, is_of_all, touched_sources}, Covers.NewAreNamed}}
 

@@ -2,7 +2,7 @@
 use Rattle.std.{proofs.{Common.{◌≡◌, ◌==◌, ◌||◌, if◌then◌else◌, ℕ, Bool, true, false, List, [], ◌++◌, map, refl, sym, ap, ◌∙◌}, lemmas.List.Folds.list_any-append}, specs.List.{filter, list_any}}
 use Rattle.pim_types.{specs.{declared.fact.Key.Key, Keys.{group_in, is_of_group, star_key}}}
 use Rattle.pim_model.{specs.{Messages.Message, Querier.each_in_turn, State.State, Upstream.{Told, fact_keys, group_upstream, groups_of, source_upstream, sources_of, star_told, star_view, upstream, with_join_timer}, Tables.is_among}}
-use Rattle.law_scope.{specs.Locality.{own_keys, own_upstream, touching}, proofs.OwnKeys.{own_touched, upstream_is_own}}
+use Rattle.law_events.{specs.Locality.{own_keys, own_upstream, touching}, proofs.OwnKeys.{own_touched, upstream_is_own}}
 use Rattle.law_settled.{proofs.{Numbers.{any_ascending, members_tell}, TableLaws.any_of_map}}
 use Rattle.pim_state.{specs.declared.touched.Touched.Touched}
 use Rattle.pim_views.{specs.{Openings.{group_opening, opening_of, source_opening, touched_sources}, Covers.{Covers, IsWithin, NewAreNamed}}}

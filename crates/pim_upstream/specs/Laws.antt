@@ -2,7 +2,7 @@
 use Rattle.std.{specs.Prelude.{List, ℕ, ◌≡◌}}
 use Rattle.pim_types.{specs.declared.fact.Key.Key}
 use Rattle.pim_model.{specs.{State.State, Upstream.upstream}}
-use Rattle.law_scope.{specs.Locality.own_upstream}
+use Rattle.law_events.{specs.Locality.own_upstream}
 use Rattle.pim_state.{specs.declared.touched.Touched.Touched}
 use Rattle.pim_views.{specs.{Covers.{Covers, IsWithin, NewAreNamed}, Openings.opening_of}}
 use Rattle.pim_upstream.{specs.Told.upstream_by}

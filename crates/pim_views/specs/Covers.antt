@@ -2,7 +2,7 @@
 use Rattle.std.{specs.{List.list_any, Prelude.{Bool, List, true, ℕ, ◌||◌, ◌≡◌}}}
 use Rattle.pim_types.{specs.{Keys.{is_of_group, names_source}, declared.fact.Key.Key}}
 use Rattle.pim_model.{specs.{State.State, Upstream.fact_keys}}
-use Rattle.law_scope.{specs.Locality.{AgreesBut, touching}}
+use Rattle.law_events.{specs.Locality.{AgreesBut, touching}}
 use Rattle.pim_state.{specs.declared.touched.Touched.Touched}
 use Rattle.pim_views.{specs.Openings.has_facts}
 

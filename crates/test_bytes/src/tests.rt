@@ -1,4 +1,5 @@
 //! Tests against known bytes and values.
 mod components;
 mod known_packets;
+mod older_hosts;
 mod saved_states;

@@ -1,7 +1,7 @@
 //! A sum of what the router of a handle sent.
-ghost use Rattle.std.specs.Prelude.{◌≡◌};
 ghost use Rattle.pim_c.specs.Called.{packets_in};
-ghost use Rattle.pim_recorded.specs.Records.{sum_of};
+ghost use Rattle.pim_saver.specs.Records.{sum_of};
+ghost use Rattle.std.specs.Prelude.{◌≡◌};
 
 use super::Handle;
 use std::alloc::Global;
@@ -13,9 +13,9 @@ impl Handle {
         ensures stays { self.new.place.inside ≡ self.old.place.inside }
     {
         let Some(session) = self.take(alloc) else {
-            return pim_recorded::sum_of(&[]);
+            return pim_saver::sum_of(&[]);
         };
-        let sum = pim_recorded::sum_of(session.sent());
+        let sum = pim_saver::sum_of(session.sent());
         self.put(session);
         sum
     }

@@ -1,24 +1,24 @@
 //! Another configuration in a running router, by a map of places.
-ghost use Rattle.std.specs.Prelude.{◌≡◌, ◌++◌, ◌↔◌, Err, IfErr, IfOk, IfSome, IsOkUnless, None, Ok, OnErr, OnOk, Some, length, true};
+ghost use Rattle.law_states.specs.History.{Given};
+ghost use Rattle.law_states.specs.Placing.{are_places, reload_by};
 ghost use Rattle.pim_event.specs.Replacing.{NoneReplaced};
 ghost use Rattle.pim_ip.specs.declared.fault.Fault.{Fault};
 ghost use Rattle.pim_model.specs.Limits.{config_test};
 ghost use Rattle.pim_model.specs.State.{iface_count, opening};
-ghost use Rattle.law_history.specs.History.{Given};
-ghost use Rattle.law_placed.specs.Placing.{are_places, reload_by};
 ghost use Rattle.pim_reloader.specs.Listing.{ListsFacts};
 ghost use Rattle.pim_reloader.specs.Reloads.{Reloads};
 ghost use Rattle.pim_router.specs.Asked.{LeadsOn, places_test};
-ghost use Rattle.pim_router.specs.Stepping.{Stands};
 ghost use Rattle.pim_router.specs.Standing.{beginning, nothing_shown};
+ghost use Rattle.pim_router.specs.Stepping.{Stands};
 ghost use Rattle.pim_state.specs.declared.touched.Touched.{Touched as TouchedValue};
+ghost use Rattle.std.specs.Prelude.{◌≡◌, ◌++◌, ◌↔◌, Err, IfErr, IfOk, IfSome, IsOkUnless, None, Ok, OnErr, OnOk, Some, length, true};
 
 use super::{Router, hand_over};
 use crate::probes::Probes;
 use pim_event::Core;
-use pim_placed::are_places;
 use pim_state::World;
 use pim_types::{Config, Emission, Fault, Refusal};
+use pim_worlds::are_places;
 use std::alloc::AllocError;
 
 impl Router {

@@ -1,17 +1,17 @@
 //! Another configuration in a running router.
-ghost use Rattle.std.specs.Prelude.{◌≡◌, ◌++◌, ◌↔◌, Err, IfErr, IfOk, IfSome, IsOkUnless, None, Ok, OnErr, OnOk, Some};
+ghost use Rattle.law_states.specs.History.{Given};
+ghost use Rattle.law_states.specs.Reloading.{reload};
 ghost use Rattle.pim_event.specs.Replacing.{NoneReplaced};
 ghost use Rattle.pim_ip.specs.declared.fault.Fault.{Fault};
 ghost use Rattle.pim_model.specs.Limits.{config_test};
 ghost use Rattle.pim_model.specs.State.{opening};
-ghost use Rattle.law_reloaded.specs.Reloading.{reload};
 ghost use Rattle.pim_reloader.specs.Listing.{ListsFacts};
 ghost use Rattle.pim_reloader.specs.Reloads.{Reloads};
-ghost use Rattle.law_history.specs.History.{Given};
 ghost use Rattle.pim_router.specs.Asked.{LeadsOn};
-ghost use Rattle.pim_router.specs.Stepping.{Stands};
 ghost use Rattle.pim_router.specs.Standing.{beginning, nothing_shown};
+ghost use Rattle.pim_router.specs.Stepping.{Stands};
 ghost use Rattle.pim_state.specs.declared.touched.Touched.{Touched as TouchedValue};
+ghost use Rattle.std.specs.Prelude.{◌≡◌, ◌++◌, ◌↔◌, Err, IfErr, IfOk, IfSome, IsOkUnless, None, Ok, OnErr, OnOk, Some};
 
 use super::{Router, hand_over};
 use crate::probes::Probes;

@@ -1,20 +1,19 @@
 //! A router's state as bytes, and a router made of them.
-ghost use Rattle.std.specs.Prelude.{◌≡◌, ◌++◌, ◌↔◌, Err, IfErr, IfOk, IfSome, IsOkUnless, None, Ok, OnErr, OnOk};
 ghost use Rattle.pim_ip.specs.declared.fault.Fault.{Fault};
 ghost use Rattle.pim_model.specs.State.{State};
-ghost use Rattle.pim_rested.specs.Resuming.{IsResumable, restore_test};
 ghost use Rattle.pim_router.specs.Standing.{begun};
 ghost use Rattle.pim_saved.specs.Fits.{FitsState};
 ghost use Rattle.pim_saved.specs.Reading.{reading};
 ghost use Rattle.pim_saved.specs.Text.{text};
+ghost use Rattle.pim_worlds.specs.Resuming.{IsResumable, restore_test};
+ghost use Rattle.std.specs.Prelude.{◌≡◌, ◌++◌, ◌↔◌, Err, IfErr, IfOk, IfSome, IsOkUnless, None, Ok, OnErr, OnOk};
 
 use super::Router;
 use crate::probes::Probes;
 use pim_event::{Core, Replaced};
 use pim_messages::Room;
-use pim_refilled::write_world;
-use pim_rested::{RestoreRefusal, Resumed, proof_resumable, resume};
 use pim_types::Fault;
+use pim_worlds::{RestoreRefusal, Resumed, proof_resumable, resume, write_world};
 use std::alloc::Global;
 
 impl Router {

@@ -1,10 +1,10 @@
 //! What the router tells of its trees and its links.
+ghost use Rattle.pim_shown.specs.Links.{link, neighbour_at};
+ghost use Rattle.pim_shown.specs.TreeMacros.{source_tree, tree};
 ghost use Rattle.std.specs.Prelude.{◌≡◌, option_and_then, option_map};
-ghost use Rattle.pim_trees.specs.Links.{link, neighbour_at};
-ghost use Rattle.pim_trees.specs.Trees.{source_tree, tree};
 
 use super::Router;
-use pim_trees::{Link, Neighbour, SourceTree, Tree};
+use pim_shown::{Link, Neighbour, SourceTree, Tree};
 use pim_types::{Addr, IfaceId, SourceGroup};
 
 impl Router {

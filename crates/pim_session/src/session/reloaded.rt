@@ -1,11 +1,10 @@
 //! Another configuration in the session's router.
-ghost use Rattle.std.specs.Prelude.{◌≡◌, ◌↔◌, [], Err, IfErr, IfOk, IfSome, IsOkUnless, IsTrue, None, Ok, OnErr, OnOk, Some};
+ghost use Rattle.law_states.specs.History.{Given};
+ghost use Rattle.law_states.specs.Reloading.{reload};
 ghost use Rattle.pim_event.specs.Replacing.{NoneReplaced};
 ghost use Rattle.pim_ip.specs.declared.fault.Fault.{Fault};
 ghost use Rattle.pim_model.specs.Limits.{config_test};
-ghost use Rattle.law_reloaded.specs.Reloading.{reload};
 ghost use Rattle.pim_reloader.specs.Listing.{ListsFacts};
-ghost use Rattle.law_history.specs.History.{Given};
 ghost use Rattle.pim_router.specs.Asked.{LeadsOn};
 ghost use Rattle.pim_router.specs.Standing.{beginning};
 ghost use Rattle.pim_session.specs.Front.{emissions_left};
@@ -13,6 +12,7 @@ ghost use Rattle.pim_session.specs.Reloaded.{front_reloaded};
 ghost use Rattle.pim_session.specs.Untaken.{IsMemoryAlone, Stopped, has_untaken};
 ghost use Rattle.pim_session.specs.declared.stop.Stop.{Stop as StopValue};
 ghost use Rattle.pim_state.specs.declared.touched.Touched.{Touched as TouchedValue};
+ghost use Rattle.std.specs.Prelude.{◌≡◌, ◌↔◌, [], Err, IfErr, IfOk, IfSome, IsOkUnless, IsTrue, None, Ok, OnErr, OnOk, Some};
 
 use super::Session;
 use crate::behind::times_in;

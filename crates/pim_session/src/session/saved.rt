@@ -1,12 +1,12 @@
 //! The session as bytes, and a session made of them.
-ghost use Rattle.std.specs.Prelude.{◌≡◌, ◌++◌, ◌↔◌, [], Err, IfErr, IfOk, IfSome, IsOkUnless, None, Ok, OnErr, OnOk, true};
-ghost use Rattle.pim_ip.specs.declared.fault.Fault.{Fault};
-ghost use Rattle.pim_rested.specs.Resuming.{IsResumable};
-ghost use Rattle.pim_router.specs.Standing.{begun};
 ghost use Rattle.igmp_older_saved.specs.Reading.{held_reading, held_restore_test};
 ghost use Rattle.igmp_older_saved.specs.Text.{Held, held_text, FitsHeld};
+ghost use Rattle.pim_ip.specs.declared.fault.Fault.{Fault};
+ghost use Rattle.pim_router.specs.Standing.{begun};
 ghost use Rattle.pim_session.specs.Leaving.{GoesOnFrom};
 ghost use Rattle.pim_session.specs.Saved.{front_resumed, held_of};
+ghost use Rattle.pim_worlds.specs.Resuming.{IsResumable};
+ghost use Rattle.std.specs.Prelude.{◌≡◌, ◌++◌, ◌↔◌, [], Err, IfErr, IfOk, IfSome, IsOkUnless, None, Ok, OnErr, OnOk, true};
 
 use super::Session;
 use crate::saved;

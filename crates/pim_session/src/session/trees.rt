@@ -1,7 +1,7 @@
 //! What the session's router tells of its trees and its links.
+ghost use Rattle.pim_shown.specs.Links.{link, neighbour_at};
+ghost use Rattle.pim_shown.specs.TreeMacros.{source_tree, tree};
 ghost use Rattle.std.specs.Prelude.{◌≡◌, option_and_then, option_map};
-ghost use Rattle.pim_trees.specs.Links.{link, neighbour_at};
-ghost use Rattle.pim_trees.specs.Trees.{source_tree, tree};
 
 use super::Session;
 use pim_router::{Link, Neighbour, SourceTree, Tree};

@@ -1,5 +1,5 @@
 use Rattle.std.{proofs.Common.{◌≡◌, ◌++◌, filter, map, not, take}}
-use Rattle.law_scope.{specs.JoinPrunes.moves_end}
+use Rattle.law_events.{specs.JoinPrunes.moves_end}
 use Rattle.pim_downstream.{specs.Naming.change_after}
 use Rattle.pim_downstream.proofs.effect.judge_keys.Given as goal
 

@@ -3,7 +3,7 @@ use Rattle.pim_types.{specs.{Keys.key_cmp, declared.fact.Key.Key}}
 use Rattle.pim_fanout.{specs.Refreshing.{CacheValue, touches}}
 use Rattle.pim_mfc.{specs.Laws.ShowsRows}
 use Rattle.pim_model.{specs.{Cache.cached, Judging.judged, Step.{Answered, outcome_of, step, taken_unless_full}}}
-use Rattle.law_named.{specs.Named.event_named}
+use Rattle.law_events.{specs.Named.event_named}
 use Rattle.pim_event.{proofs.{Costs.{is_cheap, touched_so}, Disturbing.{room_alike, turn_disturbs}, Listing.{listed_alone, named_in_turn}, Replacing.turn_replaces, Staying.{offers_with_room, stays_the_same}, Configured.configured, Taking.in_turn}, specs.{Caching.CacheFollows, Listing.ListsSame}}
 use Rattle.pim_state.{specs.Turns.Taking}
 use Rattle.pim_event.proofs.event.take_in_own_turn.Goals as goal

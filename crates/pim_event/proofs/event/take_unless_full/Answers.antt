@@ -1,7 +1,7 @@
 use Rattle.std.{proofs.Common.{◌≡◌, true, List, IfOk, OnOk, ap, arith, subst, sym, ◌∙◌}}
 use Rattle.pim_types.{specs.declared.fact.Key.Key}
 use Rattle.pim_model.{specs.{declared.accepted.Accepted.Accepted, Full.is_full, Step.{Answered, outcome_of, taken, taken_unless_full}}}
-use Rattle.law_named.{specs.Named.named_of}
+use Rattle.law_events.{specs.Named.named_of}
 use Rattle.pim_event.{proofs.{Rows.{named_in_time, named_with_room}, Taking.{time_is_taken, with_room, without_room}, Disturbing.{disturbed_in_room, disturbed_in_time, undisturbed_when_full}, Listing.{named_without_room, nothing_more, once_alone}, Replacing.full_replaces_none}, specs.{Caching.CacheFollows, Disturbing.disturbed_of, Replacing.replaced_after}}
 use Rattle.pim_plan.{specs.{Acting.act_event, Naming.IsConfigured, Planning.{Fits, IsPlanned}, declared.plan.Planning.Planning}}
 use Rattle.pim_state.{specs.declared.touched.Touched.Touched}

@@ -3,7 +3,7 @@ use Rattle.pim_types.{specs.declared.outcome.{Emission.Emission, Outcome.Outcome
 use Rattle.pim_fanout.{specs.Refreshing.{CacheValue, touches}}
 use Rattle.pim_mfc.{specs.Laws.ShowsRows}
 use Rattle.pim_model.{specs.{Cache.cached, Firing.fire_all, Reach.told_all, State.State, Step.advanced}}
-use Rattle.law_named.{specs.Named.named_by}
+use Rattle.law_events.{specs.Named.named_by}
 use Rattle.pim_event.{specs.Staying.StaysBeside, proofs.{Rows.rows_present, Staying.stays_present}}
 use Rattle.law_settled.{proofs.FiringLaws.ahead_is_ready}
 use Rattle.pim_event.proofs.time.advance.Goals as goal

@@ -1,7 +1,7 @@
 use Rattle.std.{proofs.Common.{◌≡◌, ◌≤◌, ◌+◌, ◌*◌, ◌++◌, length, ap, arith, refl, subst, sym, ◌∙◌}}
 use Rattle.pim_fanout.{specs.{Refreshing.touches, Disturbed.joined}}
 use Rattle.pim_model.{specs.{Reach.told_instant, Firing.fire_instant, Timers.next_due}}
-use Rattle.law_named.{specs.Named.named_by}
+use Rattle.law_events.{specs.Named.named_by}
 use Rattle.pim_event.{specs.{Disturbing.{ended_instant, joined_all, disturbed_at}, Listing.ListsMore, Ends.ending_of}, proofs.{Disturbing.{all_disturbed, all_disturbs_none, instant_disturbs}, Firings.{all_cost, all_costs_none, all_ended_silently, all_silent, instant_costs}, Listing.{all_listed, all_lists_none, instant_lists}, Instants.{ending_told, firing_begins, firing_ends, instant_follows, none_told, sooner_after}}}
 use Rattle.law_settled.{proofs.FiringLaws.{next_is_due, next_is_least}}
 use Rattle.pim_event.proofs.time.fire_all.Goals as goal

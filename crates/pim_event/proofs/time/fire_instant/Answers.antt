@@ -1,7 +1,7 @@
 use Rattle.std.{proofs.Common.{◌≤◌, ◌++◌, ap, arith, refl, sym, ◌∙◌}}
 use Rattle.pim_fanout.{specs.Refreshing.touches}
 use Rattle.law_settled.{proofs.{FiringLaws.next_is_due, TimerLaws.shown_from}}
-use Rattle.law_named.{specs.Named.named_by}
+use Rattle.law_events.{specs.Named.named_by}
 use Rattle.pim_event.{proofs.{Disturbing.{firing_disturbs, instant_disturbed, instant_disturbs_none}, Firings.{firing_costs, instant_cost, instant_costs_none, instant_ended_silently, instant_silent}, Listing.{firing_lists, instant_listed, instant_lists_none}, Instants.{ending_told, fewer_after, firing_follows, instant_begins, instant_ends, none_told}}, specs.{Disturbing.disturbed_at, Ends.ending_of}}
 use Rattle.pim_model.{specs.{Firing.fire_once, Timers.next_due}}
 use Rattle.pim_event.proofs.time.fire_instant.Goals as goal

@@ -1,5 +1,5 @@
 use Rattle.std.{proofs.Common.{◌≡◌, drop}}
-use Rattle.law_scope.{specs.Locality.touching}
+use Rattle.law_events.{specs.Locality.touching}
 use Rattle.pim_types.{specs.Keys.source_key}
 use Rattle.pim_fanout.proofs.disturbed.is_touched.Given as goal
 

@@ -1,7 +1,7 @@
 use Rattle.std.{proofs.Common.{◌≡◌, ◌++◌, filter, map}}
 use Rattle.pim_types.{specs.Keys.source_key}
 use Rattle.pim_model.{specs.Unicast.route}
-use Rattle.law_named.{specs.Adjacent.is_linked}
+use Rattle.law_events.{specs.Adjacent.is_linked}
 use Rattle.pim_state.{specs.Groups.numbers_of}
 use Rattle.pim_hello.proofs.served.put_linked.Given as goal
 

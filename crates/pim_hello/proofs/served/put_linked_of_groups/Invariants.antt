@@ -1,5 +1,5 @@
 use Rattle.std.{proofs.Common.{◌≡◌, ◌++◌}, specs.List.flat_map}
-use Rattle.law_named.{specs.Adjacent.linked_of_group}
+use Rattle.law_events.{specs.Adjacent.linked_of_group}
 use Rattle.pim_state.{specs.Groups.numbers_of}
 use Rattle.pim_hello.proofs.served.put_linked_of_groups.Given as goal
 

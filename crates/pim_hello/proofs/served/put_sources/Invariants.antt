@@ -1,6 +1,6 @@
 use Rattle.std.{proofs.Common.{◌≡◌, ◌++◌, filter, map}}
 use Rattle.pim_types.{specs.Keys.{group_in, is_on, source_in, source_key}}
-use Rattle.law_named.{specs.Adjacent.receiver_sources}
+use Rattle.law_events.{specs.Adjacent.receiver_sources}
 use Rattle.pim_hello.proofs.served.put_sources.Given as goal
 
 abbrev pub invariant-loop-key : goal.invariant-loop-key

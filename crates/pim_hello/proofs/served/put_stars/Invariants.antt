@@ -1,6 +1,6 @@
 use Rattle.std.{proofs.Common.{◌≡◌, ◌&&◌, ◌++◌, filter, is_some, map}}
 use Rattle.pim_types.{specs.Keys.{group_in, is_on, star_key}}
-use Rattle.law_named.{specs.Adjacent.receiver_stars}
+use Rattle.law_events.{specs.Adjacent.receiver_stars}
 use Rattle.pim_hello.proofs.served.put_stars.Given as goal
 
 abbrev pub invariant-loop-key : goal.invariant-loop-key

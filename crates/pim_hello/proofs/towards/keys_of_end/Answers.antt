@@ -1,6 +1,6 @@
 use Rattle.std.{proofs.Common.{ap, ◌∙◌}}
 use Rattle.pim_types.{specs.{declared.config.IfaceId.IfaceId, Keys.{iface_in, source_in}}}
-use Rattle.law_named.{specs.Adjacent.{end_keeps_dr, keys_of_end, keys_towards}}
+use Rattle.law_events.{specs.Adjacent.{end_keeps_dr, keys_of_end, keys_towards}}
 use Rattle.pim_hello.{proofs.Led.{own_alone, with_dr}}
 use Rattle.pim_hello.proofs.towards.keys_of_end.Goals as goal
 

@@ -1,4 +1,4 @@
-use Rattle.law_named.{specs.Adjacent.{hello_keeps_dr, keys_of_hello, keys_of_neighbour}}
+use Rattle.law_events.{specs.Adjacent.{hello_keeps_dr, keys_of_hello, keys_of_neighbour}}
 use Rattle.pim_hello.{proofs.Led.{own_alone, with_dr}}
 use Rattle.pim_hello.proofs.towards.keys_of_hello.Goals as goal
 

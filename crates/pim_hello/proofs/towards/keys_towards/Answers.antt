@@ -1,6 +1,6 @@
 use Rattle.std.{proofs.Common.{List, ap, ◌++◌, ◌∙◌}}
 use Rattle.pim_types.{specs.declared.fact.Key.Key}
-use Rattle.law_named.{specs.Adjacent.{keys_towards, led_keys}}
+use Rattle.law_events.{specs.Adjacent.{keys_towards, led_keys}}
 use Rattle.pim_hello.proofs.towards.keys_towards.Goals as goal
 
 pub returns : goal.returns

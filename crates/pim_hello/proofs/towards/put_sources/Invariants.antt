@@ -1,7 +1,7 @@
 use Rattle.std.{proofs.Common.{◌≡◌, ◌++◌, filter, map}}
 use Rattle.pim_types.{specs.Keys.source_key}
 use Rattle.pim_model.{specs.Unicast.route}
-use Rattle.law_named.{specs.Adjacent.leads_to}
+use Rattle.law_events.{specs.Adjacent.leads_to}
 use Rattle.pim_state.{specs.Groups.numbers_of}
 use Rattle.pim_hello.proofs.towards.put_sources.Given as goal
 

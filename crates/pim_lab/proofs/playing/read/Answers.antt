@@ -1,7 +1,7 @@
 -- A text that is refused says no scenario.
 use Rattle.std.{proofs.Common.{rules, ◌≡◌, inl, Err}}
 use Rattle.pim_ip.{specs.declared.refusal.Refusal.Refusal}
-use Rattle.lab_stations.{specs.declared.trouble.Trouble.Trouble}
+use Rattle.lab_parts.{specs.declared.trouble.Trouble.Trouble}
 use Rattle.pim_lab.{proofs.Opening.says_none}
 use Rattle.pim_lab.proofs.playing.read.Goals as goal
 

@@ -1,5 +1,5 @@
 use Rattle.std.{proofs.Common.{◌≡◌, ◌∙◌, ◌+◌, ℕ, ap, get_or, refl, subst}}
-use Rattle.lab_wires.{specs.Carrying.IsCarried}
+use Rattle.lab_parts.{specs.Carrying.IsCarried}
 use Rattle.pim_net.{specs.{Carried.port_of, declared.moves.Move.Move}, proofs.{Carries.{delivered, is_there, packet_to, refused, uncounted}, Stations.{if_some, of_some, on_err}}}
 use Rattle.pim_net.proofs.net.deliver_unicast.Goals as goal
 

@@ -1,6 +1,6 @@
 use Rattle.std.{proofs.Common.{◌≡◌, Ok}}
 use Rattle.pim_model.{specs.State.State}
-use Rattle.pim_rested.{specs.Resuming.restore_test}
+use Rattle.pim_worlds.{specs.Resuming.restore_test}
 use Rattle.pim_router.{specs.Standing.{Shown, begun}}
 use Rattle.pim_saved.{specs.Reading.reading}
 use Rattle.pim_net.{proofs.{Restored.read_as, Stations.of_ok}}

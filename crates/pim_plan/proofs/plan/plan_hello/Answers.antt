@@ -2,7 +2,7 @@ use Rattle.std.{proofs.Common.{List, [], ap, refl, sym, ◌∙◌}}
 use Rattle.pim_types.{specs.declared.fact.{Key.Key, NeighbourRow.NeighbourRow}}
 use Rattle.pim_model.{specs.{declared.accepted.Accepted.Accepted, Full.is_full, Tables.Table}}
 use Rattle.pim_neighbours.{specs.Refreshed.is_refreshed}
-use Rattle.law_named.{specs.Adjacent.keys_of_hello}
+use Rattle.law_events.{specs.Adjacent.keys_of_hello}
 use Rattle.pim_rerouted.{specs.Few.few_or_all}
 use Rattle.pim_plan.{specs.{Planning.touched_of, declared.act.{Act.Act, Control.Control}}, proofs.{Plans.{adjoins_fit, else_where, keys_fit, keys_where}, Touching.{hello_moves, refreshed_covered}}}
 use Rattle.pim_state.{specs.declared.touched.Touched.Touched}

@@ -3,7 +3,7 @@ use Rattle.pim_types.{specs.declared.config.Route.Route}
 use Rattle.pim_state.{specs.declared.touched.Touched.Touched}
 use Rattle.pim_model.{specs.declared.accepted.Accepted.Accepted}
 use Rattle.pim_mrib.{specs.Routes.RouteTable}
-use Rattle.law_named.{specs.Moved.keys_by_routes}
+use Rattle.law_events.{specs.Moved.keys_by_routes}
 use Rattle.pim_rerouted.{specs.OtherRoutes.with_routes, proofs.OtherRoutes.none_by_same_routes}
 use Rattle.pim_plan.{specs.{Planning.IsPlanned, declared.plan.Planning.Planning}, proofs.Plans.routes_fit}
 use Rattle.pim_plan.proofs.plan.plan_routes.Goals as goal

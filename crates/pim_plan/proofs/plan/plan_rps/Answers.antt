@@ -3,7 +3,7 @@ use Rattle.pim_types.{specs.declared.config.RpRange.RpRange}
 use Rattle.pim_state.{specs.declared.touched.Touched.Touched}
 use Rattle.pim_model.{specs.{declared.accepted.Accepted.Accepted, Step.rps_replaced}}
 use Rattle.pim_mrib.{specs.Routes.RouteTable}
-use Rattle.law_named.{specs.Moved.keys_by_rps}
+use Rattle.law_events.{specs.Moved.keys_by_rps}
 use Rattle.pim_rerouted.{proofs.OtherRoutes.none_by_same_rps}
 use Rattle.pim_plan.{specs.{Planning.IsPlanned, declared.plan.Planning.Planning}, proofs.Plans.rps_fit}
 use Rattle.pim_plan.proofs.plan.plan_rps.Goals as goal

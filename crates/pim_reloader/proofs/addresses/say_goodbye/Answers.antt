@@ -1,6 +1,6 @@
 use Rattle.std.{proofs.Common.{ap, sym, ◌∷◌, ◌++◌, [], ◌∙◌}}
 use Rattle.pim_types.{specs.declared.outcome.Emission.Emission}
-use Rattle.law_reloaded.{specs.Reloading.{goodbye, leaves_address}}
+use Rattle.law_states.{specs.Reloading.{goodbye, leaves_address}}
 use Rattle.pim_reloader.{proofs.{Told.{told_else, told_then}, addresses.say_goodbye.Goals.{then-leaves_address+in_ok-goodbye+in_ok-push, else-leaves_address}}}
 use Rattle.pim_reloader.proofs.addresses.say_goodbye.Goals as goal
 

@@ -1,5 +1,5 @@
 use Rattle.std.{proofs.Common.{◌≡◌, ◌++◌, filter, map}, specs.List.range_with_len}
-use Rattle.law_reloaded.{specs.Reloading.{goodbye, leaves_address}}
+use Rattle.law_states.{specs.Reloading.{goodbye, leaves_address}}
 use Rattle.pim_reloader.proofs.addresses.say_goodbye.Given as goal
 
 abbrev pub invariant-loop-number : goal.invariant-loop-number

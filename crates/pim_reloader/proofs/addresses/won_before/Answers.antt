@@ -1,5 +1,5 @@
 use Rattle.law_settled.{proofs.FoundRows.{all_found, found, passed}}
-use Rattle.law_reloaded.{specs.Reloading.is_won_before}
+use Rattle.law_states.{specs.Reloading.is_won_before}
 use Rattle.pim_reloader.proofs.addresses.won_before.Goals as goal
 
 pub loop-key-preserved-in-Continue-1 : goal.loop-key-preserved-in-Continue-1

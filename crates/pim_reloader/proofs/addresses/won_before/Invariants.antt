@@ -1,7 +1,7 @@
 use Rattle.std.{proofs.Common.filter}
 use Rattle.pim_model.{specs.Tables.keys_in}
 use Rattle.law_settled.{proofs.FoundRows.Keeps}
-use Rattle.law_reloaded.{specs.Reloading.is_won_before}
+use Rattle.law_states.{specs.Reloading.is_won_before}
 use Rattle.pim_reloader.proofs.addresses.won_before.Given as goal
 
 abbrev pub invariant-loop-key : goal.invariant-loop-key

@@ -1,6 +1,6 @@
 use Rattle.std.{proofs.Common.{sym, ◌∙◌}}
 use Rattle.pim_model.{specs.Messages.Message}
-use Rattle.law_reloaded.{specs.Reloading.tells_anew}
+use Rattle.law_states.{specs.Reloading.tells_anew}
 use Rattle.pim_reloader.{proofs.{Told.{told_else, told_then}, hellos.tell.Goals.{then-tells_anew+in_ok-hello, else-tells_anew}}}
 use Rattle.pim_reloader.proofs.hellos.tell.Goals as goal
 

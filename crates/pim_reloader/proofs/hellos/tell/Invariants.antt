@@ -1,6 +1,6 @@
 use Rattle.std.{proofs.Common.{◌≡◌, ◌++◌, filter, map}, specs.List.range_with_len}
 use Rattle.pim_model.{specs.Messages.Message}
-use Rattle.law_reloaded.{specs.Reloading.tells_anew}
+use Rattle.law_states.{specs.Reloading.tells_anew}
 use Rattle.pim_reloader.proofs.hellos.tell.Given as goal
 
 abbrev pub invariant-loop-number : goal.invariant-loop-number

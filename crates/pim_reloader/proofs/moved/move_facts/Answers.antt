@@ -1,8 +1,7 @@
 use Rattle.std.{proofs.Common.{List, ◌++◌, ap, subst, sym, ◌∙◌}}
 use Rattle.pim_types.{specs.declared.fact.Key.Key}
-use Rattle.law_cache.{specs.Kept.is_listed}
-use Rattle.law_placed.{specs.Placing.moved}
-use Rattle.law_restored.{specs.Reload.config_of}
+use Rattle.law_events.{specs.Kept.is_listed}
+use Rattle.law_states.{specs.{Placing.moved, Reload.config_of}}
 use Rattle.pim_fanout.{specs.{Named.keys_of, Refreshing.CacheValue}}
 use Rattle.pim_mfc.{specs.Laws.ShowsRows}
 use Rattle.pim_model.{specs.Cache.cached}

@@ -1,6 +1,6 @@
 use Rattle.std.{proofs.Common.{[], ap, ◌∙◌}}
 use Rattle.pim_model.{specs.{Firing.settled, State.State}}
-use Rattle.law_placed.{specs.Placing.{moved, without_neighbours}}
+use Rattle.law_states.{specs.Placing.{moved, without_neighbours}}
 use Rattle.pim_reloader.proofs.moved.move_in_turn.Goals as goal
 
 pub returns-clause-state : goal.returns-clause-state

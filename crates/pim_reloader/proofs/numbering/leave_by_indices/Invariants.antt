@@ -1,5 +1,5 @@
 use Rattle.std.{proofs.Common.{◌≡◌, ◌++◌, map, take, drop}}
-use Rattle.law_placed.{specs.Placing.{index_of, leaving_on}}
+use Rattle.law_states.{specs.Placing.{index_of, leaving_on}}
 use Rattle.pim_reloader.proofs.numbering.leave_by_indices.Given as goal
 
 abbrev pub invariant-loop-emission : goal.invariant-loop-emission

@@ -1,7 +1,6 @@
 use Rattle.std.proofs.Common.{List, ap, ◌∙◌, ℕ}
 use Rattle.pim_model.{specs.State.opening}
-use Rattle.law_placed.{specs.Placing.{in_order, resubnetted}}
-use Rattle.law_restored.{specs.Reload.config_of}
+use Rattle.law_states.{specs.{Placing.{in_order, resubnetted}, Reload.config_of}}
 use Rattle.pim_reloader.{proofs.ByPlaces.{begun_few, begun_rests, configured_is, half_sent, halved, next_few, old_lead, opened_accepted}}
 use Rattle.pim_reloader.proofs.places.go_between.Goals as goal
 

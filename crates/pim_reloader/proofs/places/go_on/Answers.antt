@@ -2,8 +2,7 @@ use Rattle.std.{proofs.Common.{ap, subst, sym, ◌∙◌, ℕ}}
 use Rattle.pim_fanout.{specs.Refreshing.CacheValue}
 use Rattle.pim_mfc.{specs.Laws.ShowsRows}
 use Rattle.pim_model.{specs.{Cache.cached, Step.{run, state_after}}}
-use Rattle.law_reloaded.{specs.Reloading.sent_by}
-use Rattle.law_restored.{specs.Reload.config_of}
+use Rattle.law_states.{specs.{Reloading.sent_by, Reload.config_of}}
 use Rattle.pim_state.{specs.Turns.Taking}
 use Rattle.pim_reloader.{proofs.{GoingOn.{gone_below, gone_sent, gone_state}, Removing.downs}}
 use Rattle.pim_reloader.proofs.places.go_on.Goals as goal

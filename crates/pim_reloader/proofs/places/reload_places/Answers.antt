@@ -1,6 +1,5 @@
 use Rattle.std.proofs.Common.{List, [], ap, map, rules, ◌++◌, ◌∙◌, ℕ}
-use Rattle.law_placed.{specs.Placing.{index_of, leaving_on, moved, number_at}}
-use Rattle.law_restored.{specs.Reload.config_of}
+use Rattle.law_states.{specs.{Placing.{index_of, leaving_on, moved, number_at}, Reload.config_of}}
 use Rattle.pim_types.{specs.declared.name.SourceGroup.SourceGroup}
 use Rattle.pim_fanout.{specs.Named.keys_of}
 use Rattle.pim_reloader.{specs.Listing.sources_in, proofs.{ByPlaces.{are_ready, comes, few_interfaces, few_new_order, few_places, halfway_is_under, orders_are, sent_by_places, whole_by_places, written_over}, Renewed.lists_facts}}

@@ -1,6 +1,6 @@
 use Rattle.std.{proofs.{Common.{List, ap, filter, ◌++◌, ◌∙◌, ℕ, arith}, lemmas.Grind.common_steps}}
 use Rattle.pim_model.{specs.Tables.below}
-use Rattle.law_placed.{specs.Placing.{is_resubnetted, resubnetted}}
+use Rattle.law_states.{specs.Placing.{is_resubnetted, resubnetted}}
 use Rattle.pim_reloader.proofs.places.resubnetted.Goals as goal
 
 pub returns : goal.returns

@@ -1,6 +1,6 @@
 use Rattle.std.{proofs.Common.{◌++◌, List, ap, subst, sym, ◌∙◌}}
 use Rattle.pim_types.{specs.declared.fact.Key.Key}
-use Rattle.law_cache.{specs.Kept.is_listed}
+use Rattle.law_events.{specs.Kept.is_listed}
 use Rattle.pim_fanout.{specs.{Named.keys_of, Refreshing.CacheValue}}
 use Rattle.pim_mfc.{specs.Laws.ShowsRows}
 use Rattle.pim_model.{specs.Cache.cached}

@@ -3,7 +3,7 @@ use Rattle.pim_types.{specs.declared.name.SourceGroup.SourceGroup}
 use Rattle.pim_fanout.{specs.{Named.keys_of, Refreshing.CacheValue}}
 use Rattle.pim_mfc.{specs.Laws.ShowsRows}
 use Rattle.pim_model.{specs.Cache.cached}
-use Rattle.law_restored.{specs.Reload.config_of}
+use Rattle.law_states.{specs.Reload.config_of}
 use Rattle.pim_state.{specs.Turns.Taking}
 use Rattle.pim_reloader.{specs.Listing.sources_in, proofs.{Renewed.lists_facts, Together.{whole_sent, whole_state}}}
 use Rattle.pim_reloader.proofs.whole.reload.Goals as goal

@@ -1,5 +1,5 @@
 use Rattle.std.{proofs.Common.{◌≡◌, ◌++◌}, specs.List.flat_map}
-use Rattle.law_named.{specs.Moved.moved_of_group}
+use Rattle.law_events.{specs.Moved.moved_of_group}
 use Rattle.pim_state.{specs.Groups.numbers_of}
 use Rattle.pim_rerouted.{specs.OtherRoutes.with_routes}
 use Rattle.pim_rerouted.proofs.rerouted.keys_of_groups.Given as goal

@@ -1,6 +1,6 @@
 use Rattle.std.{proofs.Common.{List, ap, ◌∙◌, ℕ}, specs.List.flat_map}
 use Rattle.pim_state.{specs.declared.touched.Touched.Touched}
-use Rattle.law_named.{specs.Moved.{keys_by_routes, moved_of_group}}
+use Rattle.law_events.{specs.Moved.{keys_by_routes, moved_of_group}}
 use Rattle.pim_rerouted.{specs.OtherRoutes.with_routes}
 use Rattle.pim_rerouted.proofs.rerouted.touched_by_routes.Goals as goal
 

@@ -2,7 +2,7 @@ use Rattle.std.{proofs.Common.{List, ap, filter, map, ◌∙◌, ℕ}}
 use Rattle.pim_types.{specs.Keys.star_key}
 use Rattle.pim_state.{specs.declared.touched.Touched.Touched}
 use Rattle.pim_model.{specs.Step.rps_replaced}
-use Rattle.law_named.{specs.Moved.keys_by_rps}
+use Rattle.law_events.{specs.Moved.keys_by_rps}
 use Rattle.pim_rerouted.{specs.OtherRoutes.group_has_other_rp}
 use Rattle.pim_rerouted.proofs.rerouted.touched_by_rps.Goals as goal
 

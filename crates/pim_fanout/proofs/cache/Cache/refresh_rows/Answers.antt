@@ -1,7 +1,7 @@
 use Rattle.std.{proofs.{Common.{◌≡◌, ◌+◌, ◌++◌, [], ◌∷◌, ap, get_or, refl, subst, sym, take, ◌∙◌}, lemmas.List.{map-append, take_all, take_more}}}
 use Rattle.pim_ip.{specs.Addr.addr}
 use Rattle.pim_trie.{specs.Meter.raised}
-use Rattle.law_cache.{specs.Kept.{is_listed, refreshed}}
+use Rattle.law_events.{specs.Kept.{is_listed, refreshed}}
 use Rattle.pim_mfc.{specs.Laws.ShowsRows}
 use Rattle.pim_fanout.{specs.{Before.name_key, Named.keys_of, Refreshing.{touches, touches_in, touches_of}}, proofs.Counts.one_more}
 use Rattle.pim_types.{specs.declared.name.SourceGroup.SourceGroup}

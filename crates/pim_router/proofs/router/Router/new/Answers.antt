@@ -3,7 +3,7 @@ use Rattle.pim_types.{specs.Keys.key_cmp}
 use Rattle.pim_fanout.{specs.Refreshing.CacheValue, proofs.Shown.opening_shows_rows}
 use Rattle.pim_mfc.{specs.Laws.ShowsRows}
 use Rattle.pim_model.{specs.{Cache.cached, State.State}}
-use Rattle.law_scope.{proofs.Rest.opening_is_at_rest, specs.Rest.IsAtRest}
+use Rattle.law_events.{specs.Rest.IsAtRest, proofs.Rest.opening_is_at_rest}
 use Rattle.pim_router.{proofs.Accepted.{opening_accepted, opening_near}}
 use Rattle.pim_router.proofs.router.Router.new.Goals as goal
 

@@ -1,8 +1,7 @@
 use Rattle.std.{proofs.{Common.{◌≡◌, true, length, Ok, subst, sym}, lemmas.Result.on_ok_weaker}}
 use Rattle.pim_types.{specs.declared.config.Config.Config}
 use Rattle.pim_model.{specs.{Limits.config_test, State.iface_count}}
-use Rattle.law_placed.{specs.Placing.{are_places, reload_by}}
-use Rattle.law_restored.{specs.Reload.config_of}
+use Rattle.law_states.{specs.{Placing.{are_places, reload_by}, Reload.config_of}}
 use Rattle.pim_reloader.{specs.Reloads.Reloads}
 use Rattle.pim_router.{proofs.{Accepted.stands_next, Reloaded.{opens_with, placed_accepted, placed_near, placed_rests}}}
 use Rattle.pim_router.proofs.router.places.place_next.Goals as goal

@@ -1,6 +1,6 @@
 use Rattle.std.{proofs.{Common.subst, lemmas.Result.on_ok_weaker}}
 use Rattle.pim_types.{specs.declared.config.Config.Config}
-use Rattle.law_reloaded.{specs.Reloading.reload}
+use Rattle.law_states.{specs.Reloading.reload}
 use Rattle.pim_reloader.{specs.Reloads.Reloads}
 use Rattle.pim_router.{proofs.{Accepted.stands_next, Reloaded.{opens_with, reloaded_accepted, reloaded_near, reloaded_rests}}}
 use Rattle.pim_router.proofs.router.reload.reload_next.Goals as goal

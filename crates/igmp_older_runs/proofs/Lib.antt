@@ -1,2 +1,0 @@
-pub mod OlderHost
-pub mod BehindPlane

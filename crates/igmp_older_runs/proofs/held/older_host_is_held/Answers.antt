@@ -1,5 +1,0 @@
-use Rattle.igmp_older_runs.{proofs.OlderHost.older_host_is_held}
-use Rattle.igmp_older_runs.proofs.held.older_host_is_held.Goals as goal
-
-pub returns : goal.returns
-returns c = older_host_is_held

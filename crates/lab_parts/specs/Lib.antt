@@ -1,0 +1,7 @@
+pub mod Carrying
+pub mod Keeping
+pub mod Wires
+pub mod Queries
+pub mod Settling
+pub mod Stations
+pub mod Troubles

@@ -1,4 +1,0 @@
-pub mod Queries
-pub mod Settling
-pub mod Stations
-pub mod Troubles

@@ -1,5 +1,0 @@
-use Rattle.law_cache.{proofs.RowsOfSteps.all_keep}
-use Rattle.law_cache.proofs.kept.held_is_cached.Goals as goal
-
-pub returns : goal.returns
-returns c = λ w moment h few held. (all_keep w moment h (few, held)).1

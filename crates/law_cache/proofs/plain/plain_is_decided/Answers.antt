@@ -1,5 +1,0 @@
-use Rattle.law_cache.{proofs.PlainEvents.plain_is_decided}
-use Rattle.law_cache.proofs.plain.plain_is_decided.Goals as goal
-
-pub returns : goal.returns
-returns c = plain_is_decided

@@ -1,5 +1,0 @@
-use Rattle.law_cache.{proofs.PlainPackets.plain_keeps_cache}
-use Rattle.law_cache.proofs.plain.plain_keeps_cache.Goals as goal
-
-pub returns : goal.returns
-returns c = plain_keeps_cache

@@ -1,6 +1,0 @@
-use Rattle.std.{proofs.Common.sym}
-use Rattle.law_cache.{proofs.KeptAlive.register_is_settled}
-use Rattle.law_cache.proofs.plain.registered_where_it_could.Goals as goal
-
-pub returns : goal.returns
-returns c = λ s g src rests there. sym (register_is_settled g src s rests there)

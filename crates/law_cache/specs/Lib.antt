@@ -1,4 +1,0 @@
-pub mod Decided
-pub mod PlainLaws
-pub mod Kept
-pub mod KeptLaws

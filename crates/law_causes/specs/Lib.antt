@@ -1,3 +1,0 @@
-pub mod Asked
-pub mod Networks
-pub mod Told

@@ -1,5 +1,0 @@
-use Rattle.law_history.{proofs.Counts.counted_stay_within_the_greatest}
-use Rattle.law_history.proofs.laws.counted_stay_within_the_greatest.Goals as goal
-
-pub returns : goal.returns
-returns c = counted_stay_within_the_greatest

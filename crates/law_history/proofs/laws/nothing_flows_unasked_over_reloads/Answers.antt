@@ -1,5 +1,0 @@
-use Rattle.law_history.{proofs.Asked.nothing_flows_unasked_over_reloads}
-use Rattle.law_history.proofs.laws.nothing_flows_unasked_over_reloads.Goals as goal
-
-pub returns : goal.returns
-returns c = nothing_flows_unasked_over_reloads

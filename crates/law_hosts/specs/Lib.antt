@@ -1,0 +1,5 @@
+pub mod Held
+pub mod Staying
+pub mod Sure
+pub mod Members
+pub mod Behind

@@ -1,5 +1,0 @@
-use Rattle.law_in_time.{proofs.OneDr.at_least_one_dr}
-use Rattle.law_in_time.proofs.laws.at_least_one_dr.Goals as goal
-
-pub returns : goal.returns
-returns c = at_least_one_dr

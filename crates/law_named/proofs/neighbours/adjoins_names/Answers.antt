@@ -1,5 +1,0 @@
-use Rattle.law_named.{proofs.NeighbourStays.adjoins_names}
-use Rattle.law_named.proofs.neighbours.adjoins_names.Goals as goal
-
-pub returns : goal.returns
-returns c = adjoins_names

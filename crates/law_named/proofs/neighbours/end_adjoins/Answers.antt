@@ -1,5 +1,0 @@
-use Rattle.law_named.{proofs.Hellos.end_adjoins}
-use Rattle.law_named.proofs.neighbours.end_adjoins.Goals as goal
-
-pub returns : goal.returns
-returns c = end_adjoins

@@ -1,9 +1,0 @@
-pub mod AssertEnds
-pub mod Bounds
-pub mod Grouped
-pub mod Near
-pub mod NextQueries
-pub mod OwnAddresses
-pub mod Steps
-pub mod StillEnds
-pub mod WonAddresses

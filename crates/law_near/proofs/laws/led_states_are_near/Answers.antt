@@ -1,5 +1,0 @@
-use Rattle.law_near.{proofs.Near.led_states_are_near}
-use Rattle.law_near.proofs.laws.led_states_are_near.Goals as goal
-
-pub returns : goal.returns
-returns c = led_states_are_near

@@ -1,5 +1,0 @@
-pub mod Ends
-pub mod Kinds
-pub mod Near
-pub mod Own
-pub mod Queries

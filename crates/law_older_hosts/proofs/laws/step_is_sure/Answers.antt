@@ -1,5 +1,0 @@
-use Rattle.law_older_hosts.{proofs.SureSteps.step_is_sure}
-use Rattle.law_older_hosts.proofs.laws.step_is_sure.Goals as goal
-
-pub returns : goal.returns
-returns c = step_is_sure

@@ -1,5 +1,0 @@
-use Rattle.law_placed.{proofs.Identity.identity_places_are_reload}
-use Rattle.law_placed.proofs.laws.identity_places_are_reload.Goals as goal
-
-pub returns : goal.returns
-returns c = identity_places_are_reload

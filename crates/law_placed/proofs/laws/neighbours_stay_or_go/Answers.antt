@@ -1,5 +1,0 @@
-use Rattle.law_placed.{proofs.Moved.neighbours_stay_or_go}
-use Rattle.law_placed.proofs.laws.neighbours_stay_or_go.Goals as goal
-
-pub returns : goal.returns
-returns c = neighbours_stay_or_go

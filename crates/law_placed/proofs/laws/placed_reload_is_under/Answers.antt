@@ -1,5 +1,0 @@
-use Rattle.law_placed.{proofs.Moved.placed_reload_is_under}
-use Rattle.law_placed.proofs.laws.placed_reload_is_under.Goals as goal
-
-pub returns : goal.returns
-returns c = placed_reload_is_under

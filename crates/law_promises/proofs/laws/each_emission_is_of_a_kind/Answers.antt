@@ -1,5 +1,0 @@
-use Rattle.law_promises.{proofs.Copies.each_emission_is_of_a_kind}
-use Rattle.law_promises.proofs.laws.each_emission_is_of_a_kind.Goals as goal
-
-pub returns : goal.returns
-returns c = each_emission_is_of_a_kind

@@ -1,5 +1,0 @@
-use Rattle.law_promises.{proofs.EndSoon.each_override_ends_soon}
-use Rattle.law_promises.proofs.laws.each_override_ends_soon.Goals as goal
-
-pub returns : goal.returns
-returns c = each_override_ends_soon

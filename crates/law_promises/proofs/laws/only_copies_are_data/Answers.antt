@@ -1,5 +1,0 @@
-use Rattle.law_promises.{proofs.Copies.only_copies_are_data}
-use Rattle.law_promises.proofs.laws.only_copies_are_data.Goals as goal
-
-pub returns : goal.returns
-returns c = only_copies_are_data

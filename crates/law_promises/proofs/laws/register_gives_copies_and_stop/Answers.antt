@@ -1,5 +1,0 @@
-use Rattle.law_promises.{proofs.Own.register_gives_copies_and_stop}
-use Rattle.law_promises.proofs.laws.register_gives_copies_and_stop.Goals as goal
-
-pub returns : goal.returns
-returns c = register_gives_copies_and_stop

@@ -1,9 +1,0 @@
-pub mod Goodbyes
-pub mod Queriers
-pub mod WonAsserts
-pub mod Ground
-pub mod Rest
-pub mod Settings
-pub mod Removed
-pub mod Hellos
-pub mod Unseen

@@ -1,6 +1,0 @@
-use Rattle.law_reported.{proofs.DocumentedPlanes.documented_plane_is_sound}
-use Rattle.law_reported.proofs.laws.documented_plane_is_sound.Goals as goal
-
--- src/lib.rt:54:1
-pub returns : goal.returns
-returns c = documented_plane_is_sound

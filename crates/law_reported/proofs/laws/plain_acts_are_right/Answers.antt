@@ -1,6 +1,0 @@
-use Rattle.law_reported.{proofs.DocumentedPlanes.plain_acts_are_right}
-use Rattle.law_reported.proofs.laws.plain_acts_are_right.Goals as goal
-
--- src/lib.rt:60:1
-pub returns : goal.returns
-returns c = plain_acts_are_right

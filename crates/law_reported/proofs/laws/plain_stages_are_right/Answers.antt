@@ -1,5 +1,0 @@
-use Rattle.law_reported.{proofs.Anew.plain_stages_are_right}
-use Rattle.law_reported.proofs.laws.plain_stages_are_right.Goals as goal
-
-pub returns : goal.returns
-returns c = plain_stages_are_right

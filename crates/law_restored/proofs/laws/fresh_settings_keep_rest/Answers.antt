@@ -1,5 +1,0 @@
-use Rattle.law_restored.{proofs.Settings.fresh_settings_keep_rest}
-use Rattle.law_restored.proofs.laws.fresh_settings_keep_rest.Goals as goal
-
-pub returns : goal.returns
-returns c = fresh_settings_keep_rest

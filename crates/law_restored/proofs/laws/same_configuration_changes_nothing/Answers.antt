@@ -1,5 +1,0 @@
-use Rattle.law_restored.{proofs.Reloads.same_configuration_changes_nothing}
-use Rattle.law_restored.proofs.laws.same_configuration_changes_nothing.Goals as goal
-
-pub returns : goal.returns
-returns c = same_configuration_changes_nothing

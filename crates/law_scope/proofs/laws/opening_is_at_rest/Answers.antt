@@ -1,5 +1,0 @@
-use Rattle.law_scope.{proofs.Rest.opening_is_at_rest}
-use Rattle.law_scope.proofs.laws.opening_is_at_rest.Goals as goal
-
-pub returns : goal.returns
-returns c = opening_is_at_rest

@@ -1,5 +1,0 @@
-use Rattle.law_scope.{proofs.Rest.run_is_at_rest}
-use Rattle.law_scope.proofs.laws.run_is_at_rest.Goals as goal
-
-pub returns : goal.returns
-returns c = run_is_at_rest

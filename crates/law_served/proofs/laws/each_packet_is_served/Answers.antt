@@ -1,5 +1,0 @@
-use Rattle.law_served.{proofs.Whole.each_packet_is_served}
-use Rattle.law_served.proofs.laws.each_packet_is_served.Goals as goal
-
-pub returns : goal.returns
-returns c = each_packet_is_served

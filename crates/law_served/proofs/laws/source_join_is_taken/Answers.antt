@@ -1,5 +1,0 @@
-use Rattle.law_served.{proofs.Taken.source_join_is_taken}
-use Rattle.law_served.proofs.laws.source_join_is_taken.Goals as goal
-
-pub returns : goal.returns
-returns c = source_join_is_taken

@@ -1,5 +1,0 @@
-use Rattle.law_served.{proofs.Sources.source_join_leaves}
-use Rattle.law_served.proofs.laws.source_join_leaves.Goals as goal
-
-pub returns : goal.returns
-returns c = source_join_leaves

@@ -1,5 +1,0 @@
-use Rattle.law_served.{proofs.Serves.who_asks_is_served}
-use Rattle.law_served.proofs.laws.who_asks_is_served.Goals as goal
-
-pub returns : goal.returns
-returns c = who_asks_is_served

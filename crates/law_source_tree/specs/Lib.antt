@@ -1,5 +1,0 @@
-pub mod Climbing
-pub mod Turning
-pub mod Registered
-pub mod LastHop
-pub mod Room

@@ -1,5 +1,0 @@
-use Rattle.law_stream.{proofs.Begun.each_of_begun_stream_is_served}
-use Rattle.law_stream.proofs.laws.each_of_begun_stream_is_served.Goals as goal
-
-pub returns : goal.returns
-returns c = each_of_begun_stream_is_served

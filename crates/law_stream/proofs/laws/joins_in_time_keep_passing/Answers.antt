@@ -1,5 +1,0 @@
-use Rattle.law_stream.{proofs.InTime.joins_in_time_keep_passing}
-use Rattle.law_stream.proofs.laws.joins_in_time_keep_passing.Goals as goal
-
-pub returns : goal.returns
-returns c = joins_in_time_keep_passing

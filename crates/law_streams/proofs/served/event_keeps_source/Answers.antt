@@ -1,0 +1,5 @@
+use Rattle.law_streams.{proofs.Keeps.event_keeps_source}
+use Rattle.law_streams.proofs.served.event_keeps_source.Goals as goal
+
+pub returns : goal.returns
+returns c = event_keeps_source

@@ -1,0 +1,5 @@
+use Rattle.law_streams.{proofs.ReadBack.join_is_seen}
+use Rattle.law_streams.proofs.served.join_is_seen.Goals as goal
+
+pub returns : goal.returns
+returns c = join_is_seen

@@ -1,0 +1,5 @@
+use Rattle.law_streams.{proofs.Keeps.run_keeps_source}
+use Rattle.law_streams.proofs.served.run_keeps_source.Goals as goal
+
+pub returns : goal.returns
+returns c = run_keeps_source

@@ -1,0 +1,5 @@
+use Rattle.law_streams.{proofs.Begun.each_of_begun_stream_is_served}
+use Rattle.law_streams.proofs.stream.each_of_begun_stream_is_served.Goals as goal
+
+pub returns : goal.returns
+returns c = each_of_begun_stream_is_served

@@ -1,6 +1,0 @@
-use Rattle.std.{proofs.Common.{◌≡◌, drop}}
-use Rattle.law_placed.{specs.Placing.are_once}
-use Rattle.pim_placed.proofs.orders.are_once.Given as goal
-
-abbrev pub invariant-loop-index : goal.invariant-loop-index
-invariant-loop-index l = are_once (drop l.index l.numbers) ≡ are_once l.numbers

@@ -1,5 +1,0 @@
-use Rattle.pim_recorded.{proofs.SpelledRecords.reading_is_record}
-use Rattle.pim_recorded.proofs.laws.one_text_a_record.Goals as goal
-
-pub returns : goal.returns
-returns c = reading_is_record

@@ -1,7 +1,0 @@
-use Rattle.std.{proofs.Common.{ap, ◌∙◌}}
-use Rattle.pim_saved.{specs.Crc.{begun, ended}}
-use Rattle.pim_recorded.{proofs.Entries.after_sent_is}
-use Rattle.pim_recorded.proofs.sent.sum_of.Goals as goal
-
-pub returns : goal.returns
-returns c = c.ended.ensures ∙ ap ended (c.with_emissions.ensures ∙ after_sent_is c.args.sent.now begun)

@@ -1,4 +1,0 @@
-pub mod Fits
-pub mod Laws
-pub mod Reading
-pub mod Records

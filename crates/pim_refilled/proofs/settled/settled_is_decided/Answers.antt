@@ -1,5 +1,0 @@
-use Rattle.pim_refilled.{proofs.SettledTests.settled_is_decided}
-use Rattle.pim_refilled.proofs.settled.settled_is_decided.Goals as goal
-
-pub returns : goal.returns
-returns c = settled_is_decided

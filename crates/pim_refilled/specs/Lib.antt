@@ -1,4 +1,0 @@
-pub mod Recorded
-pub mod Refilled
-pub mod Rows
-pub mod Settled

@@ -1,4 +1,0 @@
-mod Ordered
-mod Read
-pub mod Tests
-mod Unmoved

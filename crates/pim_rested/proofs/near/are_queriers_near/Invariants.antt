@@ -1,8 +1,0 @@
-use Rattle.std.{proofs.Common.◌≡◌, specs.List.list_all}
-use Rattle.law_reloaded.{specs.Laws.is_near_by}
-use Rattle.pim_rested.proofs.near.are_queriers_near.Given as goal
-
-abbrev pub invariant-loop-row : goal.invariant-loop-row
-invariant-loop-row l =
-    list_all (λ e. is_near_by l.world.present l.world.settings e.1 (e.1).role) l.row-iterator
-    ≡ list_all (λ e. is_near_by l.fn.world.present l.fn.world.settings e.1 (e.1).role) l.fn.rows

@@ -1,9 +1,0 @@
-use Rattle.pim_rested.proofs.resumed.proof_resumable.Goals as goal
-
-pub returns : goal.returns
-returns c = record {
-  held = c.proof_held.ensures c.requires.accepted;
-  accepted = c.requires.accepted;
-  rest = c.requires.rest;
-  near = c.requires.near;
-}

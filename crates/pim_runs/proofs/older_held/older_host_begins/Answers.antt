@@ -1,0 +1,5 @@
+use Rattle.pim_runs.{proofs.OlderHost.older_host_begins}
+use Rattle.pim_runs.proofs.older_held.older_host_begins.Goals as goal
+
+pub returns : goal.returns
+returns c = older_host_begins
