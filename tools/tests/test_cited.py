@@ -156,6 +156,16 @@ class Walk(unittest.TestCase):
                 "### law_low", "- `Lemma`: It is so, of (\\*,G). Always.",
                 "### pim_router", "- `Router::bits`: Its bits. (by `standing`)"], list(cited.call_items(room)))
 
+    def test_each_file_of_laws_has_a_heading(self):
+        law = "//! Laws.\n\n/// It is so.\npub fn lemma()\n    ensures { Lemma }\n{}\n"
+        files = {**FILES, "crates/law_low/src/lib.rt": "pub mod kept;\npub mod plain;\n",
+                 "crates/law_low/src/kept.rt": law, "crates/law_low/src/plain.rt": law,
+                 "crates.txt": FILES["crates.txt"].replace("low:\n", "low:\n# laws\nlaw_low: low\n")}
+        with repository(files) as room:
+            of_laws = list(cited.call_items(room))[2:-2]
+            self.assertEqual(["### law_low", "#### kept", "- `Lemma`: It is so.", "#### plain", "- `Lemma`: It is so."],
+                             of_laws)
+
     def test_what_calls_ask(self):
         with repository(FILES) as room:
             self.assertEqual(["1 public calls below the router have a `requires` (`tools/cited --requires`)",
