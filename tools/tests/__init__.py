@@ -1,8 +1,9 @@
-"""Tests of the tools; `tools/try_tools` runs them."""
+"""Tests of the tools; `dev/try_tools` runs them."""
 import sys
 from pathlib import Path
 
 from pimtext import PACKAGE
 
-# The packages `lab` and `viqeshor` are there.
-sys.path += [str(Path(__file__).resolve().parent.parent / "networks"), str(PACKAGE)]
+# The packages `lab`, `viqeshor` and `upkeep` are there.
+TOP = Path(__file__).resolve().parent.parent.parent
+sys.path += [str(TOP / "tools" / "networks"), str(PACKAGE), str(TOP / "dev")]

@@ -1,10 +1,10 @@
-"""Spoilt files, each with the part of `tools/try_all` that has to be red for it, and what it has to say then.
+"""Spoilt files, each with the part of `dev/try_all` that has to be red for it, and what it has to say then.
 
     tools/tests/spoils.py [--in FOLDER] [NAME ..]
 
 Each spoil, or those that are named, is made in a copy of the files that git knows, and its part is run there. A line
 tells whether the part was red for it, and the exit status is 1 where one wasn't. With --in the copy is made in FOLDER,
-or used as it is where that exists, so that what was compiled there is taken again. `tools/try_tools spoils` tries those
+or used as it is where that exists, so that what was compiled there is taken again. `dev/try_tools spoils` tries those
 whose part takes a second.
 """
 import argparse
@@ -114,7 +114,7 @@ def is_red(spoil: Spoil, top: Path) -> bool:
     file, was = top / spoil.file, (top / spoil.file).read_bytes()
     file.write_text(spoil.text(top), encoding="utf-8")
     try:
-        words = [sys.executable, "tools/try_all", spoil.part]
+        words = [sys.executable, "dev/try_all", spoil.part]
         ran = subprocess.run(words, cwd=top, stdout=subprocess.PIPE, text=True, env=os.environ)
     finally:
         file.write_bytes(was)

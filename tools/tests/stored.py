@@ -5,6 +5,7 @@ from importlib.util import module_from_spec, spec_from_loader
 from pathlib import Path
 
 TOOLS = Path(__file__).resolve().parent.parent
+HOUSES = [TOOLS.parent / name for name in ("tools", "dev", "torture")]
 DATA = TOOLS.parent / "crates" / "test_scenarios" / "data"
 EXAMPLES = TOOLS.parent / "examples"
 
@@ -18,7 +19,8 @@ def played():
 
 def tool(name):
     """The tool of this name as a module."""
-    loader = SourceFileLoader(f"tool_{name}", str(TOOLS / name))
+    path = next(path for house in HOUSES if (path := house / name).is_file())
+    loader = SourceFileLoader(f"tool_{name}", str(path))
     module = module_from_spec(spec_from_loader(loader.name, loader))
     # Its dataclasses look their module up.
     sys.modules[loader.name] = module

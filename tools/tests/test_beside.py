@@ -8,7 +8,7 @@ import types
 import unittest
 from unittest import mock
 
-from pimtext import beside
+from upkeep import beside
 from tests.rooms import repository
 
 EDIT = "refused: number same\nfile: src/lib.rt\nold: 1\nnew: 2\n"

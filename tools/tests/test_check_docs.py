@@ -1,4 +1,4 @@
-"""`tools/check_docs`: the files, functions and words of code that a document names."""
+"""`dev/check_docs`: the files, functions and words of code that a document names."""
 import unittest
 from pathlib import Path
 from tempfile import TemporaryDirectory

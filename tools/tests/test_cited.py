@@ -1,4 +1,4 @@
-"""`tools/cited` on a small tree, whole and spoilt."""
+"""`dev/cited` on a small tree, whole and spoilt."""
 import contextlib
 import io
 import unittest
@@ -168,7 +168,7 @@ class Walk(unittest.TestCase):
 
     def test_what_calls_ask(self):
         with repository(FILES) as room:
-            self.assertEqual(["1 public calls below the router have a `requires` (`tools/cited --requires`)",
+            self.assertEqual(["1 public calls below the router have a `requires` (`dev/cited --requires`)",
                 "of `low` `Bits::most`"],
                              list(cited.asking_items(room)))
 

@@ -1,4 +1,4 @@
-"""`tools/computed_run`: which equations it makes of a scenario, and what it makes of the kernel's answers.
+"""`dev/computed_run`: which equations it makes of a scenario, and what it makes of the kernel's answers.
 
 The kernel is a stand-in here. With KERNEL=1 in the environment the kit's own is asked too, which takes minutes the
 first time.
@@ -388,7 +388,7 @@ class Sample(unittest.TestCase):
 @unittest.skipUnless(os.environ.get("KERNEL"), "KERNEL=1 asks the kit's kernel")
 class WithTheKernel(unittest.TestCase):
     def called(self, room, *words):
-        return subprocess.run([sys.executable, stored.TOOLS / "computed_run", "--seconds", "1200", *words,
+        return subprocess.run([sys.executable, run.ROOT / "dev" / "computed_run", "--seconds", "1200", *words,
                                *sorted(room.glob("*.toml"))], capture_output=True, text=True)
 
     def test_right_lines_hold_and_wrong_ones_do_not(self):

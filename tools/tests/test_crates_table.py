@@ -1,4 +1,4 @@
-"""`tools/crates_table`: the table that crates.txt says, and the one that docs/CALLS.md has."""
+"""`dev/crates_table`: the table that crates.txt says, and the one that docs/CALLS.md has."""
 import unittest
 
 from tests import stored

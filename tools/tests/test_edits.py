@@ -1,7 +1,7 @@
 """Edits as they are read, and the prover's lines that tell what refuses them."""
 import unittest
 
-from pimtext.edits import Crate
+from upkeep.edits import Crate
 from tests.rooms import repository
 
 SOURCE = """//! Numbers halved and raised.

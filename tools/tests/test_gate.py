@@ -1,4 +1,4 @@
-"""`tools/gate` on a small crate, beside a stand-in for the kit."""
+"""`dev/gate` on a small crate, beside a stand-in for the kit."""
 import contextlib
 import io
 import os
@@ -7,7 +7,7 @@ import unittest
 from pathlib import Path
 from unittest import mock
 
-from pimtext import turns
+from upkeep import turns
 from tests import stored
 from tests.rooms import kit, repository
 
@@ -31,7 +31,7 @@ def refused(*names):
 def ended(names, printed, status=0, words=("--alone",), listed="", more=(), **environment):
     """The gate's lines, what the kit was called with and asked to try, and the file of crates whose edits were all
     tried, beside a kit that prints these."""
-    files = {"crates.txt": "# Words\nlow:\nother: low\n", "tools/wrong_bodies.txt": listed,
+    files = {"crates.txt": "# Words\nlow:\nother: low\n", "dev/wrong_bodies.txt": listed,
              "crates/low/src/lib.rt": "1",
              "crates/low/edits.txt": "".join(f"edit: {name}\n{EDIT}" for name in names), **dict(more)}
     out = io.StringIO()
@@ -104,7 +104,7 @@ class Gate(unittest.TestCase):
         self.assertEqual("ci --anew low; --anew low", ended(GOOD, lines(refused(*GOOD)), words=["--anew", "low"])[1])
 
     def test_what_is_printed_goes_to_a_file(self):
-        with repository({"crates.txt": "low:\n", "tools/wrong_bodies.txt": ""}) as room:
+        with repository({"crates.txt": "low:\n", "dev/wrong_bodies.txt": ""}) as room:
             script = "; ".join(f"echo '{line}'" for line in [*PROVED, "1 passed, 0 failed"]) + "; echo 'rt: so' >&2"
             with mock.patch.object(gate, "TOP", room), kit(room, script), contextlib.redirect_stdout(io.StringIO()):
                 (room / "out").mkdir()
@@ -154,7 +154,7 @@ class Beside(unittest.TestCase):
     """The quick tier beside it."""
 
     def ended(self, script):
-        more = {"tools/try_all": f"#!/bin/sh\n{script}\n"}
+        more = {"dev/try_all": f"#!/bin/sh\n{script}\n"}
 
         def executable(words, *_, **how):
             for path in (Path(it) for it in words if str(it).endswith("/try_all")):
@@ -168,8 +168,8 @@ class Beside(unittest.TestCase):
         self.assertEqual("11 passed, 0 failed", self.ended("echo '7 passed, 0 failed'")[-1])
 
     def test_it_is_told_what_is_red(self):
-        printed = self.ended("echo 'RED lint: tools/lint'; echo '6 passed, 1 failed'; exit 1")
-        self.assertIn("RED lint: tools/lint", printed)
+        printed = self.ended("echo 'RED lint: dev/lint'; echo '6 passed, 1 failed'; exit 1")
+        self.assertIn("RED lint: dev/lint", printed)
         self.assertEqual("10 passed, 1 failed", printed[-1])
 
     def test_one_that_ends_without_its_counts(self):

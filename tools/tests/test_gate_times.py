@@ -4,7 +4,7 @@ import io
 import unittest
 from unittest import mock
 
-from pimtext.forecast import Gate
+from upkeep.forecast import Gate
 from tests import stored
 from tests.rooms import kit, repository
 

@@ -9,7 +9,7 @@ import tempfile
 import unittest
 from pathlib import Path
 
-from pimtext import declared
+from upkeep import declared
 
 CC = os.environ.get("CC", "cc")
 # Where FRR's own headers are: those that its package for developers installs, or its sources.
@@ -124,7 +124,7 @@ class Abi(unittest.TestCase):
     headers = [path.read_text() for path in declared.HEADERS]
 
     def test_the_number_stands_for_what_the_headers_have(self):
-        """Where it fails: `tools/tables --write` raises VIQ_ABI, and writes what it stands for."""
+        """Where it fails: `dev/tables --write` raises VIQ_ABI, and writes what it stands for."""
         self.assertEqual(declared.abi_text(self.headers), declared.ABI.read_text())
 
     def test_the_bindings_have_the_same_number(self):

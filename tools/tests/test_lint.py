@@ -1,4 +1,4 @@
-"""`tools/lint`: which lines it says are too long, and which functions it says have no type hints."""
+"""`dev/lint`: which lines it says are too long, and which functions it says have no type hints."""
 import tempfile
 import unittest
 from pathlib import Path
@@ -62,7 +62,7 @@ class Lint(unittest.TestCase):
     def test_tests_need_no_hints(self):
         self.assertEqual(self.said(lint.missing_hints, UNHINTED, "tests/file.py"), [])
         self.assertTrue(lint.is_test(lint.TOP / "tools" / "tests" / "test_lint.py"))
-        self.assertFalse(lint.is_test(lint.TOP / "tools" / "lint"))
+        self.assertFalse(lint.is_test(lint.TOP / "dev" / "lint"))
 
     def test_what_is_no_python(self):
         (line,) = self.said(lint.missing_hints, "def one(:\n")
@@ -79,7 +79,7 @@ class Lint(unittest.TestCase):
         self.assertIn("error", "".join(self.said(lint.unread, "int one(void) { return two; }\n", "file.c")))
 
     def test_languages(self):
-        wanted = {"test": "bash", "tools/lint": "python", "tools/bench/memory.c": "c", "HANDLES": None}
+        wanted = {"test": "bash", "dev/lint": "python", "tools/bench/memory.c": "c", "HANDLES": None}
         self.assertEqual({name: lint.language(lint.TOP / name) for name in wanted}, wanted)
 
 

@@ -3,7 +3,7 @@ import hashlib
 import unittest
 from unittest import mock
 
-from pimtext import quick
+from upkeep import quick
 from tests.rooms import kit, repository
 
 

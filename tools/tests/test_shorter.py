@@ -1,11 +1,11 @@
-"""`tools/shorter`: which copies it tries, what it takes of those that pass, and what it takes out."""
+"""`dev/shorter`: which copies it tries, what it takes of those that pass, and what it takes out."""
 import argparse
 import contextlib
 import io
 import unittest
 from unittest import mock
 
-from pimtext import lemmas as parse
+from upkeep import lemmas as parse
 from tests import stored
 from tests.rooms import kit, repository
 

@@ -1,9 +1,9 @@
-"""Spoilt files turn `tools/try_all` red: those whose part takes a second or a few."""
+"""Spoilt files turn `dev/try_all` red: those whose part takes a second or a few."""
 import tempfile
 import unittest
 from pathlib import Path
 
-from pimtext import parts
+from upkeep import parts
 from tests import spoils
 
 QUICK = ("crates_table", "front", "linux_layout", "rust_layout", "test_copies", "test_packets")

@@ -1,4 +1,4 @@
-"""`tools/tables`: a fact that is one line of a table is written wherever it stands."""
+"""`dev/tables`: a fact that is one line of a table is written wherever it stands."""
 import contextlib
 import io
 import shutil
@@ -7,7 +7,7 @@ import unittest
 from pathlib import Path
 from unittest import mock
 
-from pimtext import declared
+from upkeep import declared
 
 from tests import stored
 

@@ -4,8 +4,8 @@ from contextlib import contextmanager
 from pathlib import Path
 from unittest import mock
 
-from pimtext import together
-from pimtext.edits import Crate
+from upkeep import together
+from upkeep.edits import Crate
 from tests.rooms import repository
 
 NUMBER = "/// The number.\npub fn {0}(n: u32) -> u32\n    ensures same {{ result ≡ n }}\n{{\n    n {1}\n}}\n"

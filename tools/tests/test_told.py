@@ -1,7 +1,7 @@
 """What is told of a run of the kit's gate, by lines as the kit prints them."""
 import unittest
 
-from pimtext.told import Told
+from upkeep.told import Told
 
 NAMES = ["pim_ip", "pim_meter", "pim_types", "pim_wire", "pimlab"]
 # As the kit prints of a crate that is proved, of one that isn't, and of tests.

@@ -1,11 +1,11 @@
-"""`tools/try_all`: how parts run, what is said of them, and that all that there is has a part."""
+"""`dev/try_all`: how parts run, what is said of them, and that all that there is has a part."""
 import contextlib
 import io
 import sys
 import unittest
 from unittest import mock
 
-from pimtext import installed, parts
+from upkeep import installed, parts
 from tests import stored
 
 try_all = stored.tool("try_all")
@@ -35,7 +35,7 @@ class Run(unittest.TestCase):
         red = part("one", "print('why'); raise SystemExit(2)")
         status, lines = self.ran(red, part("two", ""), part("three", ""))
         self.assertEqual((status, lines[0], lines[1].strip()), (1, "RED one: ", "why"))
-        self.assertIn("alone: tools/try_all one", lines[2])
+        self.assertIn("alone: dev/try_all one", lines[2])
         self.assertEqual((lines[3], lines[-1]), ("not begun: two, three", "0 passed, 1 failed"))
 
     def test_all_goes_on(self):
@@ -74,7 +74,7 @@ class Table(unittest.TestCase):
 
     def test_each_test_of_the_tools_is_a_part(self):
         for path in (stored.TOOLS / "tests").glob("test_*.py"):
-            self.assertIn(f"`tools/try_tools {path.stem.removeprefix('test_')}`", self.said)
+            self.assertIn(f"`dev/try_tools {path.stem.removeprefix('test_')}`", self.said)
 
     def test_each_bench_is_a_part(self):
         for path in (stored.TOOLS / "bench").iterdir():

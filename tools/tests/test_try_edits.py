@@ -1,4 +1,4 @@
-"""`tools/try_edits`, beside a stand-in for the kit."""
+"""`dev/try_edits`, beside a stand-in for the kit."""
 import contextlib
 import io
 import unittest
@@ -15,7 +15,7 @@ FILES = {
     "crates.txt": "# the crates\nmiddle: low\nlow: std\nother: std\n",
     "crates/low/src/lib.rt": CODE, "crates/low/edits.txt": f"edit: weak\n{EDIT}",
     "crates/middle/src/lib.rt": CODE, "crates/middle/edits.txt": f"edit: one\n{UNNAMED}\nedit: two\n{EDIT}",
-    "tools/rt": '#!/bin/sh\nexec rt "$@"\n',
+    "dev/rt": '#!/bin/sh\nexec rt "$@"\n',
 }
 GOAL = ("note: src/lib.rt:2:1: it is not proved that what the function ensures holds when it returns "
         "(`returns-clause-same`)")
@@ -26,7 +26,7 @@ def tried(printed, *words, files=FILES):
     """The status, what is printed, what the kit was asked, and the edits of `middle` after it."""
     out = io.StringIO()
     with repository(files) as room, mock.patch.object(try_edits, "ROOT", room), contextlib.chdir(room):
-        (room / "tools/rt").chmod(0o755)
+        (room / "dev/rt").chmod(0o755)
         (room / "printed").write_text("".join(f"{line}\n" for line in printed))
         with kit(room, f'echo "$*; $VIQESHOR_EDITS" > {room}/asked; cat {room}/printed'):
             with mock.patch("sys.argv", ["try_edits", *words]), contextlib.redirect_stdout(out):
@@ -101,7 +101,7 @@ class Tried(unittest.TestCase):
                 status, printed, asked, _ = tried([], "--front")
                 self.assertEqual((1, ["middle", "low"], ""), (status, seen, asked))
                 self.assertIn("low/weak: NOT AS IT SAYS: error[borrow]", printed)
-                files = {**FILES, "tools/edits_tried.txt": f"low {self.sum_of_low()}\n"}
+                files = {**FILES, "dev/edits_tried.txt": f"low {self.sum_of_low()}\n"}
                 for known, wanted in ((files, ["middle"]), (FILES, [])):
                     seen.clear()
                     tried([], "--front", "--changed", files=known)

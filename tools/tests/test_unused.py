@@ -1,4 +1,4 @@
-"""`tools/unused`: what it lists, and what it knows to be used though nothing names it."""
+"""`dev/unused`: what it lists, and what it knows to be used though nothing names it."""
 import unittest
 from unittest import mock
 

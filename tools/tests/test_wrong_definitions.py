@@ -1,4 +1,4 @@
-"""tools/wrong_definitions: each stands where it says, changes what is there once, and is judged by the prover's
+"""dev/wrong_definitions: each stands where it says, changes what is there once, and is judged by the prover's
 lines."""
 import unittest
 

@@ -1,4 +1,4 @@
--- One name under which all definitions compute, for the computed runs. Written by tools/bundle_definitions.
+-- One name under which all definitions compute, for the computed runs. Written by dev/bundle_definitions.
 use Rattle.std.{specs.Prelude.⊤}
 use Rattle.pim_ip.{specs.{Checksum.{ones, sum16, sum_of_words, with_checksum}, Ipv4.{copy_text, header_text, igmp_packet_text, ipv4_reading, packet_of, pim_packet_text}, Prefixes.{contains, is_host_clear, longer, longest_match}, View.{copied_header, lowered_header}}}
 use Rattle.pim_types.{specs.{Keys.{addr_cmp, key_cmp, names_source}, Packed.{lower, source_number, upper}, Timers.{rank, timer_cmp}}}

@@ -1,4 +1,4 @@
-//! Each metric, with what the exporter says of it: `tools/tables` writes them of tables/metrics.toml.
+//! Each metric, with what the exporter says of it: `dev/tables` writes them of tables/metrics.toml.
 use super::{Family, Kind};
 
 pub const PIM_NEIGHBORS: Family =

@@ -1,4 +1,4 @@
-"""The answers of the core, its printed rows and what holds where nothing is said, for the tools: `tools/tables` writes
+"""The answers of the core, its printed rows and what holds where nothing is said, for the tools: `dev/tables` writes
 all of it."""
 
 # ---- answers

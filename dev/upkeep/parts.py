@@ -1,0 +1,92 @@
+"""The parts of `dev/try_all`: what each runs, where, and what it waits for."""
+import os
+import sys
+from collections.abc import Iterator
+from dataclasses import dataclass
+from pathlib import Path
+
+TOP = Path(__file__).resolve().parent.parent.parent
+TESTS = TOP / "tools" / "tests"
+LINUX = ("--offline", "--config", "debian.toml")
+STRICT = ("--all-targets", "--", "-D", "warnings")
+# The part that builds the program and the library without proofs, for all others, and installs the library here.
+BUILD = "build"
+INSTALLED = TOP / "out" / "quick" / "installed"
+# The tests that take longest, which begin first; and those that want neither the program nor the library.
+LONG = ("embed", "check_counts", "why", "lab", "pimlab", "unproved", "mend", "mroute", "usual_mistakes", "recorded",
+    "play")
+ALONE = ("beside", "check_counts", "check_docs", "cited", "copies", "crates_table", "edits", "embed", "gate",
+    "gate_times", "hostile", "lint", "packets", "rt", "spoils", "tables", "together", "told", "try_all", "try_edits",
+    "unused", "wrong_definitions")
+
+
+@dataclass(frozen=True)
+class Part:
+    """A command with the folder in which it runs. It waits for the build unless it stands alone."""
+    name: str
+    words: tuple[str, ...]
+    folder: str = "."
+    alone: bool = False
+
+    def environment(self) -> dict[str, str]:
+        """Cargo's commands have a folder each, so that they don't wait for one another."""
+        return os.environ | {
+            "PIMLAB_BUILD": "unproved", "CARGO_TARGET_DIR": str(TOP / "out" / "cargo" / self.name),
+            "CARGO_TERM_COLOR": "never", "VIQESHOR_LIB_DIR": str(INSTALLED / "lib"),
+        }
+
+
+def tool(words: str, name: str | None = None, alone: bool = False) -> Part:
+    """A tool's own check, by its command."""
+    command, *rest = words.split()
+    return Part(name or Path(command).name, (sys.executable, command, *rest), alone=alone)
+
+
+def alone_first() -> Iterator[Part]:
+    """What reads the sources only, while both are built."""
+    yield tool("dev/upkeep/installed.py", "packages", alone=True)
+    yield tool("dev/front", alone=True)
+    yield Part("test_bytes", ("rt", "try", "--test"), "crates/test_bytes", alone=True)
+    for words in ("unused", "cited --check", "check_counts", "crates_table --check", "bundle_definitions --check",
+                  "tables", "lint", "try_edits --front --changed"):
+        yield tool(f"dev/{words}", alone=True)
+    yield Part("linux_layout", ("cargo", "fmt", "--check"), "linux", alone=True)
+    yield Part("rust_layout", ("cargo", "fmt", "--check"), "bindings/rust", alone=True)
+
+
+def tests(alone: bool) -> Iterator[Part]:
+    """The tests of the tools: those that take longest first."""
+    found = {path.stem.removeprefix("test_") for path in TESTS.glob("test_*.py")}
+    names = [*(name for name in LONG if name in found), *sorted(found - set(LONG))]
+    for name in names:
+        if (name in ALONE) == alone:
+            yield tool(f"dev/try_tools {name}", f"test_{name}", alone)
+
+
+def benches() -> Iterator[Part]:
+    """Each measurement of `tools/bench` on a small size: that it runs, and finds what it should; its figures say
+    nothing."""
+    small = {"events": "--facts 10", "forward": "--rows 10 --copies 1 --packets 640"}
+    for name, sizes in small.items():
+        yield tool(f"tools/bench/{name} --unproved {sizes}", f"bench_{name}")
+    yield Part("bench_run", (sys.executable, "tools/bench/run", "--unproved", "1", "", "1000"), alone=True)
+
+
+def parts() -> list[Part]:
+    """All, in the order in which they begin."""
+    return [
+        tool(f"tools/library --unproved --install {INSTALLED.relative_to(TOP)}", BUILD, alone=True),
+        *alone_first(),
+        *tests(True),
+        tool("tools/library --unproved"),
+        Part("linux", ("cargo", "test", *LINUX), "linux"),
+        Part("linux_lint", ("cargo", "clippy", *LINUX, *STRICT), "linux"),
+        *tests(False),
+        tool("dev/check_docs"),
+        tool("tools/restarted --unproved --runs 10 --spoilt 20 --facts 1000"),
+        tool("tools/plane --unproved --runs 100"),
+        tool("tools/refuse_memory --unproved --seconds 20"),
+        tool("tools/refuse_program --every 10"),
+        *benches(),
+        Part("rust_lint", ("cargo", "clippy", "--offline", *STRICT), "bindings/rust"),
+    ]
