@@ -1303,7 +1303,7 @@ static void messages(void) {
     is("a name of none", strcmp(viq_message_text(99), "no packet"), 0);
 }
 
-/* As tools/library_threads.c has it, written by hand. */
+/* As torture/library_threads.c has it, written by hand. */
 static void reports(void) {
     static const uint8_t wanted[] = {0x46, 0xc0, 0, 0x28, 0, 0, 0, 0, 1, 2, 0x38, 0xf1, 10, 0, 1, 9, 224, 0, 0, 22, 0x94, 4,
         0, 0, 0x22, 0, 0xe9, 0xfb, 0, 0, 0, 1, 4, 0, 0, 0, 239, 1, 1, 1};

@@ -15,7 +15,7 @@ GIVES = {
 }
 
 
-# The daemon and the Rust crate are compiled by Rust 1.63 too, which Debian 12 has, and tools/bench by this one.
+# The daemon and the Rust crate are compiled by Rust 1.63 too, which Debian 12 has, and torture/bench by this one.
 RUST = (1, 85)
 
 
@@ -44,7 +44,7 @@ def main() -> int:
         return 1
     said = subprocess.run(["rustc", "--version"], stdout=subprocess.PIPE, text=True).stdout
     if is_old(said):
-        print(f"{said.strip()} is older than {'.'.join(map(str, RUST))}, which tools/bench wants: https://rustup.rs")
+        print(f"{said.strip()} is older than {'.'.join(map(str, RUST))}, which torture/bench wants: https://rustup.rs")
         return 1
     return 0
 

@@ -64,12 +64,12 @@ def tests(alone: bool) -> Iterator[Part]:
 
 
 def benches() -> Iterator[Part]:
-    """Each measurement of `tools/bench` on a small size: that it runs, and finds what it should; its figures say
+    """Each measurement of `torture/bench` on a small size: that it runs, and finds what it should; its figures say
     nothing."""
     small = {"events": "--facts 10", "forward": "--rows 10 --copies 1 --packets 640"}
     for name, sizes in small.items():
-        yield tool(f"tools/bench/{name} --unproved {sizes}", f"bench_{name}")
-    yield Part("bench_run", (sys.executable, "tools/bench/run", "--unproved", "1", "", "1000"), alone=True)
+        yield tool(f"torture/bench/{name} --unproved {sizes}", f"bench_{name}")
+    yield Part("bench_run", (sys.executable, "torture/bench/run", "--unproved", "1", "", "1000"), alone=True)
 
 
 def parts() -> list[Part]:
@@ -83,10 +83,10 @@ def parts() -> list[Part]:
         Part("linux_lint", ("cargo", "clippy", *LINUX, *STRICT), "linux"),
         *tests(False),
         tool("dev/check_docs"),
-        tool("tools/restarted --unproved --runs 10 --spoilt 20 --facts 1000"),
-        tool("tools/plane --unproved --runs 100"),
-        tool("tools/refuse_memory --unproved --seconds 20"),
-        tool("tools/refuse_program --every 10"),
+        tool("torture/restarted --unproved --runs 10 --spoilt 20 --facts 1000"),
+        tool("torture/plane --unproved --runs 100"),
+        tool("torture/refuse_memory --unproved --seconds 20"),
+        tool("torture/refuse_program --every 10"),
         *benches(),
         Part("rust_lint", ("cargo", "clippy", "--offline", *STRICT), "bindings/rust"),
     ]

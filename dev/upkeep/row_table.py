@@ -363,7 +363,7 @@ def c_columns(row: Row) -> Iterator[str]:
 
 
 def mixed_columns(rows: list[Row]) -> Iterator[str]:
-    """What tools/refuse adds up of each row."""
+    """What torture/refuse adds up of each row."""
     for row in rows:
         columns = [f"row->of.{row.member}.{it.name}" for it in row.columns]
         yield from wrapped(f"    case '{row.letter}': return MIXED(", ["sum", *columns], ");")

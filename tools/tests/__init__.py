@@ -4,6 +4,6 @@ from pathlib import Path
 
 from pimtext import PACKAGE
 
-# The packages `lab`, `viqeshor` and `upkeep` are there.
+# The packages `lab`, `viqeshor`, `upkeep` and `stress` are there.
 TOP = Path(__file__).resolve().parent.parent.parent
-sys.path += [str(TOP / "tools" / "networks"), str(PACKAGE), str(TOP / "dev")]
+sys.path += [str(TOP / "tools" / "networks"), str(PACKAGE), str(TOP / "dev"), str(TOP / "torture")]

@@ -81,9 +81,9 @@ SPOILS = [
         "test_packets", "FAILED"),
     Spoil("tools/library_calls.c", "viq_packets(NULL), 0)", "viq_packets(NULL), 1)", "library",
         "packets without a router"),
-    Spoil("tools/bench/forwarder/plain.rs", "const FRAME_LIMIT: usize = 1500", "const FRAME_LIMIT: usize = 15",
+    Spoil("torture/bench/forwarder/plain.rs", "const FRAME_LIMIT: usize = 1500", "const FRAME_LIMIT: usize = 15",
         "bench_forward", "returned non-zero"),
-    Spoil("tools/refuse_program", "if status == 3 and kind", "if status == 5 and kind", "refuse_program", " 1 other"),
+    Spoil("torture/refuse_program", "if status == 3 and kind", "if status == 5 and kind", "refuse_program", " 1 other"),
     Spoil(".ci/run", "exec ", "exec $(", "lint", ".ci/run"),
     # The crates: a rule, a type, the layout, a definition that can't be read.
     Spoil("crates/pim_register/src/source_timers.rt", "REGISTER_PROBE_TIME: u64 = 5_000",

@@ -5,7 +5,7 @@ from importlib.util import module_from_spec, spec_from_loader
 from pathlib import Path
 
 TOOLS = Path(__file__).resolve().parent.parent
-HOUSES = [TOOLS.parent / name for name in ("tools", "dev", "torture")]
+TORTURE = TOOLS.parent / "torture"
 DATA = TOOLS.parent / "crates" / "test_scenarios" / "data"
 EXAMPLES = TOOLS.parent / "examples"
 
@@ -19,7 +19,7 @@ def played():
 
 def tool(name):
     """The tool of this name as a module."""
-    path = next(path for house in HOUSES if (path := house / name).is_file())
+    path = next(path for house in (TOOLS, TOOLS.parent / "dev", TORTURE) if (path := house / name).is_file())
     loader = SourceFileLoader(f"tool_{name}", str(path))
     module = module_from_spec(spec_from_loader(loader.name, loader))
     # Its dataclasses look their module up.

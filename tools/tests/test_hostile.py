@@ -1,4 +1,4 @@
-"""`tools/hostile`: how it spoils packets, and that what it writes is what is stored."""
+"""`torture/hostile`: how it spoils packets, and that what it writes is what is stored."""
 import tempfile
 import unittest
 from pathlib import Path

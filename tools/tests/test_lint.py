@@ -79,7 +79,7 @@ class Lint(unittest.TestCase):
         self.assertIn("error", "".join(self.said(lint.unread, "int one(void) { return two; }\n", "file.c")))
 
     def test_languages(self):
-        wanted = {"test": "bash", "dev/lint": "python", "tools/bench/memory.c": "c", "HANDLES": None}
+        wanted = {"test": "bash", "dev/lint": "python", "torture/bench/memory.c": "c", "HANDLES": None}
         self.assertEqual({name: lint.language(lint.TOP / name) for name in wanted}, wanted)
 
 

@@ -1,4 +1,4 @@
-"""tools/plane: a plane that keeps its duties sends what the router alone sends, and one that forgets any of them
+"""torture/plane: a plane that keeps its duties sends what the router alone sends, and one that forgets any of them
 doesn't.
 """
 import os

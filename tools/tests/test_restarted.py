@@ -1,4 +1,4 @@
-"""tools/restarted: a router that is saved and restored after each event does what an unbroken one does, and one that
+"""torture/restarted: a router that is saved and restored after each event does what an unbroken one does, and one that
 is restored of other bytes doesn't."""
 import os
 import random

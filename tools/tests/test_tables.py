@@ -135,7 +135,7 @@ class Tables(unittest.TestCase):
             ("    metric: int\n", {"bindings/python/src/viqeshor/lab/printed.py"}),
             ("WINNER END METRIC` |", {"docs/SCENARIOS.md"}), ("METRIC is an odd metric |", {"docs/SCENARIOS.md"}),
             ("uint64_t end; uint32_t metric", {"bindings/c/abi.txt"}),
-            ("row->of.asserted.metric", {"tools/refuse/library.c"}),
+            ("row->of.asserted.metric", {"torture/refuse/library.c"}),
         ):
             with self.subTest(text):
                 self.assertEqual(self.holders(text), paths)

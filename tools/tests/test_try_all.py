@@ -77,9 +77,9 @@ class Table(unittest.TestCase):
             self.assertIn(f"`dev/try_tools {path.stem.removeprefix('test_')}`", self.said)
 
     def test_each_bench_is_a_part(self):
-        for path in (stored.TOOLS / "bench").iterdir():
+        for path in (stored.TORTURE / "bench").iterdir():
             if path.is_file() and not path.suffix:
-                self.assertIn(f"`tools/bench/{path.name} ", self.said)
+                self.assertIn(f"`torture/bench/{path.name} ", self.said)
 
     def test_each_program_of_rust_is_tested(self):
         for manifest in TOP.glob("*/**/Cargo.toml"):

@@ -32,13 +32,14 @@ Options:
 
 @unittest.skipUnless(shutil.which(CC), "there is no C compiler")
 class Wires(unittest.TestCase):
-    """A library is preloaded that stands between the program and the system (tools/refuse/sockets.c)."""
+    """A library is preloaded that stands between the program and the system (torture/refuse/sockets.c)."""
 
     @classmethod
     def setUpClass(cls) -> None:
         cls.room = Path(cls.enterClassContext(tempfile.TemporaryDirectory()))
         cls.shim, cls.count = cls.room / "shim.so", cls.room / "count"
-        words = ["-O2", "-Wall", "-Werror", "-shared", "-fPIC", "-o", cls.shim, stored.TOOLS / "refuse" / "sockets.c"]
+        source = stored.TORTURE / "refuse" / "sockets.c"
+        words = ["-O2", "-Wall", "-Werror", "-shared", "-fPIC", "-o", cls.shim, source]
         subprocess.run([CC, *words], check=True)
         cls.binary = program.kept()
 

@@ -184,7 +184,7 @@ int main(int words, char **word) {
         play(part + 5, true);
         break;
     }
-    /* At this `write` tools/bench/memory.c tells what is held. */
+    /* At this `write` torture/bench/memory.c tells what is held. */
     viq_clear(router);
     return write(STDOUT_FILENO, "\n", 1) != 1;
 }

@@ -11,7 +11,7 @@ from viqeshor import Answer
 from viqeshor.lab import packets
 
 if TYPE_CHECKING:
-    from pimtext.happenings import Event
+    from stress.happenings import Event
 
 KEEPALIVE_PERIOD = 210_000
 LAST_MOMENT = 2**62

@@ -1,11 +1,11 @@
-"""The packets that come to a router that holds much, and the states and events of tools/bench/events."""
+"""The packets that come to a router that holds much, and the states and events of torture/bench/events."""
 import sys
 from collections.abc import Callable, Iterable
 from dataclasses import dataclass
 from pathlib import Path
 
-TOOLS = Path(__file__).resolve().parent.parent
-sys.path += [str(TOOLS), str(TOOLS.parent / "bindings" / "python" / "src")]
+TOP = Path(__file__).resolve().parent.parent.parent
+sys.path += [str(TOP / "tools"), str(TOP / "bindings" / "python" / "src")]
 from viqeshor.lab import packets  # noqa: E402
 from viqeshor.lab.addresses import dotted  # noqa: E402
 from viqeshor.lab.packets import Entry, GroupEntries, Record  # noqa: E402

@@ -1,0 +1,1 @@
+"""What the programs of `torture` share: random events, and a data plane whose duties can be forgotten."""
