@@ -6,7 +6,19 @@ use Rattle.pim_model.{specs.{State.State, Step.step}}
 use Rattle.igmp_older_saved.{specs.{Reading.held_reading, Text.Held}, proofs.Spelled.held_text_is_read}
 use Rattle.law_states.{specs.History.{Given, IsLedTo}}
 use Rattle.pim_router.{specs.{Asked.{LeadsOn, SentIsAsked}, Standing.{Shown, Standing, beginning, begun, standing}}, proofs.Asked.{leads_now, step_asked, step_leads}}
-use Rattle.pim_session.{specs.{Behind.Stepped, Front.{Front, given}, Leaving.{GoesOnFrom, LeftIsAsked}}}
+use Rattle.pim_session.{specs.{Behind.Stepped, Front.{Front, given}, Leaving.{GoesOnFrom, LeftIsAsked}, Session.ShownSession}}
+
+-- a session that keeps what left of an event shows what its router shows
+pub kept_by : (e : Event) (answer : Result Verdict Refusal) (now kept : ShownSession) (before after : Shown) (leaving : List Emission)
+    (front known : Option Front)
+    → before ≡ now.router → front ≡ now.front → kept.router ≡ after → kept.sent ≡ leaving
+    → IfSome before.standing (λ r. Stepped front r.state e answer after leaving known)
+    → IfSome now.router.standing (λ r. Stepped now.front r.state e answer kept.router kept.sent known)
+kept_by e answer now kept before after leaving front known is_router is_front keeps sends told =
+    subst (λ (x : Shown). IfSome x.standing (λ r. Stepped now.front r.state e answer kept.router kept.sent known)) is_router
+    (subst (λ (f : Option Front). IfSome before.standing (λ r. Stepped f r.state e answer kept.router kept.sent known)) is_front
+    (subst (λ (x : Shown). IfSome before.standing (λ r. Stepped front r.state e answer x kept.sent known)) (sym keeps)
+    (subst (λ (xs : List Emission). IfSome before.standing (λ r. Stepped front r.state e answer after xs known)) (sym sends) told)))
 
 -- what leaves of an event is asked for
 pub asked_by : (front : Option Front) (e : Event) (was : Option Standing) (answer : Result Verdict Refusal) (shown : Shown)

@@ -146,7 +146,6 @@ impl Session {
     /// stays as it is, and lists nothing as changed. After a fault the session answers `Failed` from then on. A session
     /// that hasn't failed, and has no untaken packets, answers an event that is stopped or ignored, or is refused for its
     /// bytes, its timestamp or its interface, if its packet was given to the router as it came.
-    #[tactic(auto, using(crate::proofs::Leaving::asked_by, crate::proofs::Leaving::led_by))]
     pub fn step(
         &mut self,
         alloc: Global,
