@@ -304,9 +304,10 @@ impl Handle {
         ensures moment { result ≡ unwrap_or (option_and_then (λ r. next_moment r.state) (standing_in self.old.place.inside)) never }
         ensures stays { self.new.place.inside ≡ self.old.place.inside }
     {
-        let Some(session) = self.take(alloc) else {
+        let Some(mut session) = self.take(alloc) else {
             return NEVER;
         };
+        session.keep_next();
         let next = session.next_moment().unwrap_or(NEVER);
         self.put(session);
         next

@@ -152,6 +152,14 @@ impl Router {
         }
     }
 
+    /// Keeps which timer expires first, so that neither `next_moment` nor an `Advance` looks for it before a timer
+    /// changes. Nothing that the router shows changes. Takes no memory.
+    pub fn keep_next(&mut self)
+        ensures { self.new ≡ self.old }
+    {
+        self.core.world.keep_next();
+    }
+
     /// How many copies of a data packet the last event sent on links: 0 before the first event, and where the router
     /// has failed. They are the last packets that the event sent on links. Takes no memory.
     pub fn copies(&self) -> u32

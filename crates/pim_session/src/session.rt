@@ -502,6 +502,14 @@ impl Session {
         self.router.next_moment()
     }
 
+    /// Keeps which timer expires first, so that neither `next_moment` nor an `Advance` looks for it before a timer
+    /// changes. Nothing that the session shows changes.
+    pub fn keep_next(&mut self)
+        ensures { self.new ≡ self.old }
+    {
+        self.router.keep_next();
+    }
+
     /// How many copies of a data packet the last event sent on links; 0 after a fault.
     pub fn copies(&self) -> u32
         ensures { result ≡ option_map_or (λ r. r.copies) self.now.router.standing 0 }
