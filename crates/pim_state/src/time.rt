@@ -47,7 +47,10 @@ impl World {
     pub fn keep_next(&mut self)
         ensures { self.new ≡ self.old }
     {
-        self.next = self.next();
+        if self.next.is_some() {
+            return;
+        }
+        self.next = self.find_next();
     }
 
     /// Sets the present time, in ms.

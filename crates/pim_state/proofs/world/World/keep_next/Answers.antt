@@ -11,6 +11,6 @@ invariant_of-self c = (
   c.self.invariant.2,
   c.self.invariant.3,
   c.self.invariant.4,
-  next_is_kept (the_view c.self.inside) c.next-self-inside.result
-      (c.next-self-inside.ensures ∙ ap (λ (s : State). option_map due_of (next_ending s)) (sym c.self.view_is)),
+  next_is_kept (the_view c.self.inside) c.find_next-self-inside.result
+      (c.find_next-self-inside.ensures ∙ ap (λ (s : State). option_map due_of (next_ending s)) (sym c.self.view_is)),
 )
