@@ -1,0 +1,4 @@
+pub mod NextHops
+pub mod LinkDr
+pub mod NextHopRun
+pub mod LinkQuerier

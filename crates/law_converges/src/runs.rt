@@ -1,0 +1,12 @@
+//! Networks that meet the premises of the laws, computed by the kernel.
+ghost use Rattle.law_converges.specs.NextHopRun.{OtherTakesOver, RouterTurns};
+
+/// The first router of the chain turns from one next hop to another.
+pub fn router_turns()
+    ensures { RouterTurns }
+{}
+
+/// The other one takes over by the delivery of its Join, and the old one is pruned.
+pub fn other_takes_over()
+    ensures { OtherTakesOver }
+{}
