@@ -1,5 +1,5 @@
 -- What holds of each neighbour's row, event after event, where it holds of what a Hello leaves.
-use Rattle.std.{proofs.Common.{◌≡◌, ◌∙◌, ℕ, ◌+◌, ◌≤◌, ◌==◌, nat_le, not, ◌&&◌, ◌||◌, Bool, true, false, List, [], ◌∷◌, filter, Option, Some, None, Ok, refl, sym, ap, subst, arith}, specs.{List.{AllByRecursion, list_all, list_any}, Option.option_map_or}}
+use Rattle.std.{proofs.Common.{◌≡◌, ◌∙◌, ℕ, not, Bool, true, false, List, [], Option, Some, None, Ok, refl, sym, ap, subst, arith}, specs.{List.{list_all}, Option.option_map_or}}
 use Rattle.pim_types.{specs.{Keys.{is_on, neighbour_key, same_key}, declared.{event.Event.Event, fact.{Key.Key, NeighbourRow.NeighbourRow}, timer.TimerKind.TimerKind}}}
 use Rattle.pim_wire.{specs.{Values.{Encapsulated, Null}, declared.hello.Hello.Hello as HelloValue}}
 use Rattle.pim_model.{specs.{declared.accepted.Accepted.Accepted, Asserts.assert_received, Cause.{done_as, if_done}, Downstream.{downstream_expired, to_me}, Firing.{fire_row, fired, keepalive_due, settled}, Forwarding.{forwarded, source_here}, Hellos.{hello_due, hello_received, neighbour_due, neighbours_replaced, row_of_hello}, Judging.{Judged, judged}, Messages.Message, Querier.{general_query_due, group_record_due, group_repeat_due, other_querier_gone, querier_up, query_seen, querying, querying_on, report_seen, source_record_due, source_repeat_due, sources_sent}, Records.{with_members, with_repeats_of_rows}, Registers.{register_due, register_stop_seen, settle_register, with_keepalive}, Seen.seen, State.State, Step.{advanced, change, concluded, done, iface_down, iface_up, rps_replaced, step, taken, taken_unless_full}, Tables.{Table, drop_at, drop_where, set_row}, Upstream.{join_timer_due, override_timer_due}}}

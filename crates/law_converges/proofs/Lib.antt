@@ -7,3 +7,5 @@ pub mod Roles
 pub mod Queries
 pub mod QueryRead
 pub mod LinkQuerier
+pub mod LeftGroups
+pub mod LeftGroupRun

@@ -1,9 +1,9 @@
 -- Of the routers of a link exactly one is the DR.
-use Rattle.std.{proofs.{Common.{◌≡◌, ◌∙◌, ℕ, ◌+◌, ◌*◌, ◌<◌, ◌≤◌, ◌==◌, nat_le, nat_lt, not, ◌&&◌, ◌||◌, Bool, true, false, cond, List, [], ◌∷◌, ◌⊎◌, inl, inr, filter, map, Option, Some, None, is_some, refl, sym, ap, subst, arith, eqb-true, eq-eqb}, lemmas.Bool.{both_ways, Decides.nat_tests}}, specs.{Cmp.{first_so, second_so}, List.{AllByRecursion, list_all, list_any}, Option.option_map_or, Prelude.unwrap_or}}
-use Rattle.pim_types.{specs.{Keys.{iface_key, is_on, neighbour_key, source_in}, declared.{event.Event.Event, fact.{Key.Key, NeighbourRow.NeighbourRow}, timer.TimerKind.TimerKind}}}
+use Rattle.std.{proofs.{Common.{◌≡◌, ◌∙◌, ℕ, ◌+◌, ◌*◌, ◌<◌, ◌≤◌, ◌==◌, nat_le, nat_lt, not, ◌&&◌, ◌||◌, Bool, true, false, cond, List, [], ◌∷◌, ◌⊎◌, inl, inr, filter, map, Option, Some, None, is_some, refl, sym, ap, subst, arith, eqb-true, eq-eqb}, lemmas.Bool.{both_ways, Decides.nat_tests}}, specs.{Cmp.{first_so, second_so}, List.{AllByRecursion, list_any}, Option.option_map_or, Prelude.unwrap_or}}
+use Rattle.pim_types.{specs.{Keys.{is_on, neighbour_key, source_in}, declared.{event.Event.Event, fact.{Key.Key, NeighbourRow.NeighbourRow}, timer.TimerKind.TimerKind}}}
 use Rattle.pim_model.{specs.{declared.accepted.Accepted.Accepted, Cause.done_as, Hellos.hello_holdtime_of, Downstream.holdtime_end_from, Neighbours.{all_have_priority, is_dr, is_neighbour, neighbours_on}, Network.{Move, Network, Station, event_of, moved, station_at}, State.{State, my_address, my_priority}, Step.step, Tables.{Table, has_row, row_at, rows_on, same_option}}}
-use Rattle.law_settled.{specs.Ready.IsSettled, proofs.{Ends.Ends, FineStates.Runs, ListLaws.{each_both, each_more, each_of_list, list_of_each}, Parts.{end_of, is_sound, part_of}, ShownEnds.{rows_run, shown_is_later}, TableLaws.row_of_each}}
-use Rattle.law_streams.{specs.{Adjacent.{IsKnown, IsKnownAfter, Sends}, Copies.happens, InTimeJoins.{Always, IsBy, IsReady, time_at}, OneDr.{Among, HasDr, IsOf, KnowEachOther, Knows, KnowsOnly, Seat}}, proofs.{Adjacent.neighbours_come_to_be_known, Climbs.swapped, OneDr.{at_least_one_dr, at_most_one_dr}, Pairs.{Steps, one_router, ready_then, same_station}}}
+use Rattle.law_settled.{specs.Ready.IsSettled, proofs.{FineStates.Runs, ListLaws.{each_both, each_more, each_of_list, list_of_each}, Parts.{end_of, is_sound, part_of}, ShownEnds.{rows_run, shown_is_later}, TableLaws.row_of_each}}
+use Rattle.law_streams.{specs.{Adjacent.{IsKnown, IsKnownAfter, Sends}, Copies.happens, InTimeJoins.{Always, IsBy, IsReady, time_at}, OneDr.{Among, HasDr, IsOf, KnowEachOther, Knows, KnowsOnly, Seat}}, proofs.{Adjacent.neighbours_come_to_be_known, Climbs.swapped, OneDr.{at_least_one_dr, at_most_one_dr}, Pairs.{Steps, one_router, ready_then}}}
 use Rattle.law_converges.{specs.LinkDr.{AllPast, AreOfMembers, ExactlyOneDr, ForgetsBy, HasOneDr, IsDrOf, IsOne, Member, OneDrAfter, Stands, between, is_known, is_of, is_of_member}, proofs.KnownRows.{Each, event_each, is_fresh}}
 
 -- ---- lists

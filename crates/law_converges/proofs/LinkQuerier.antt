@@ -1,12 +1,12 @@
 -- Of the routers of a link exactly that of the lowest address is the querier: by Refresh, its row's timer and the rows of
 -- the others.
-use Rattle.std.{proofs.{Common.{◌≡◌, ◌∙◌, ℕ, ◌+◌, ◌*◌, ◌<◌, ◌≤◌, ◌==◌, ◌&&◌, nat_le, nat_lt, Bool, true, false, List, [], ◌∷◌, ◌⊎◌, inl, inr, Option, Some, None, refl, sym, ap, subst, arith}, lemmas.Bool.Decides.nat_tests}, specs.Option.option_map_or}
+use Rattle.std.{proofs.{Common.{◌≡◌, ◌∙◌, ℕ, ◌+◌, ◌*◌, ◌<◌, ◌≤◌, ◌==◌, ◌&&◌, nat_le, nat_lt, true, false, List, [], ◌∷◌, ◌⊎◌, inl, inr, Option, Some, None, refl, sym, ap, subst, arith}, lemmas.Bool.Decides.nat_tests}, specs.Option.option_map_or}
 use Rattle.pim_ip.{specs.{Addr.addr, Ipv4.is_unicast}}
 use Rattle.pim_types.{specs.{Keys.iface_key, declared.{config.{IfaceId.IfaceId, Settings.Settings}, event.{Event.Event, EventKind.EventKind}, fact.{Key.Key, QuerierRole.QuerierRole, QuerierRow.QuerierRow}, timer.TimerKind.TimerKind}}}
-use Rattle.pim_model.{specs.{declared.accepted.Accepted.Accepted, Cause.done_as, Network.{Move, Network, Station, event_of, frame_at, moved, station_at}, Querier.{is_querier, is_querier_role, querier_on}, State.{Addressing, State, address_among}, Step.step, Timers.other_querier_end}}
-use Rattle.law_settled.{specs.Ready.IsSettled, proofs.{Ends.Ends, FineStates.Runs, Parts.{end_of, is_sound, part_of}, ShownEnds.{rows_run, shown_is_later}, TableLaws.row_of_each}}
-use Rattle.law_streams.{specs.{Adjacent.{Adjacent, begins_or_ends}, Copies.happens, Hellos.Listens, InTimeJoins.{Always, IsBy, IsReady, time_at}}, proofs.{Deliveries.{IsNewOn, IsStepped, is_delivered}, Pairs.{Steps, frame_stays, one_router, ready_then, same_station}, Refresh.{Ever, EverAfter, Held, Keeps, Sent as SentBy, Soon, Turned, Turns, all_moves, comes_to_hold}, Settings.step_configured, Upper.moves_on}}
-use Rattle.law_converges.{specs.{LinkDr.{AllPast, IsOne, Member, between}, LinkQuerier.{AskInTime, Asks, ExactlyOneQuerier, HasOneQuerier, HoldsBack, IsQuerierOf, KeepsLead, LeadsBy, OneQuerierAfter, QueriesInTime, QueryComes, QueryComesBy, QueryInTime, cuts, ends_holding, general_of, interval_of, is_own, present_for, query_packet, role_end, takes_lead}}, proofs.{Queries.{QueriesBy, SendsQuery, each_event_query}, QueryRead.{query_holds_back, query_is_done, query_keeps_time}, Roles.event_holds_back}}
+use Rattle.pim_model.{specs.{declared.accepted.Accepted.Accepted, Cause.done_as, Network.{Move, Network, Station, event_of, frame_at, moved, station_at}, Querier.{is_querier, is_querier_role, querier_on}, State.{State}, Step.step, Timers.other_querier_end}}
+use Rattle.law_settled.{specs.Ready.IsSettled, proofs.{FineStates.Runs, Parts.{end_of, is_sound, part_of}, ShownEnds.{rows_run, shown_is_later}, TableLaws.row_of_each}}
+use Rattle.law_streams.{specs.{Adjacent.{Adjacent, begins_or_ends}, Copies.happens, InTimeJoins.{Always, IsBy, IsReady, time_at}}, proofs.{Deliveries.{IsNewOn, IsStepped, is_delivered}, Pairs.{Steps, frame_stays, one_router, ready_then, same_station}, Refresh.{EverAfter, Held, Keeps, Sent as SentBy, Soon, Turned, Turns, comes_to_hold}, Upper.moves_on}}
+use Rattle.law_converges.{specs.{LinkDr.{AllPast, IsOne, Member, between}, LinkQuerier.{Asks, ExactlyOneQuerier, HasOneQuerier, HoldsBack, IsQuerierOf, KeepsLead, LeadsBy, OneQuerierAfter, QueriesInTime, QueryComes, QueryComesBy, QueryInTime, cuts, ends_holding, general_of, interval_of, is_own, present_for, query_packet, role_end, takes_lead}}, proofs.{Queries.{QueriesBy, SendsQuery, each_event_query}, QueryRead.{query_holds_back, query_is_done}, Roles.event_holds_back}}
 
 -- what isn't time to the end, Up, Down or a query that cuts it
 isnt_end : (s : State) (e : Event) (i end : ℕ) → ((step s e).state).present < end

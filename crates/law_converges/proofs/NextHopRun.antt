@@ -1,7 +1,6 @@
 -- The premises, computed.
-use Rattle.std.{proofs.{Common.{◌≡◌, ◌+◌, ◌≤◌, ◌<◌, [], ◌∷◌, Some, None, refl, lit≤, lit<}, lemmas.List.Elements.All-nil}}
-use Rattle.pim_types.{specs.declared.fact.DownstreamRow.DownstreamRow}
-use Rattle.pim_model.{specs.{declared.accepted.Accepted.Accepted, Network.{Deliver, Network, Station, moved, station_at}, State.opening}}
+use Rattle.std.{proofs.{Common.{[], Some, None, refl, lit≤, lit<}, lemmas.List.Elements.All-nil}}
+use Rattle.pim_model.{specs.{declared.accepted.Accepted.Accepted, Network.{Deliver, Network, Station, moved}, State.opening}}
 use Rattle.pim_runs.{specs.{InTime.joined, ServedChain.{asked_group, first}, Words.routes_to}, proofs.OnLiterals.machine_on_literals}
 use Rattle.law_streams.{specs.{InTimeJoins.IsJoin, Joins.join_packet}, proofs.Computed.{stand, stands_there}}
 use Rattle.law_converges.{specs.{NextHops.{CanTakeOver, HoldsNow}, NextHopRun.{OtherTakesOver, RouterTurns, other_station, over_other, pair, turn, two}}, proofs.TakesOver.new_next_hop_takes_over}

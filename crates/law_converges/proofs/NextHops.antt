@@ -1,11 +1,11 @@
 -- A Join that follows the next hop, and the Prune to the one that it was.
-use Rattle.std.{proofs.{Common.{◌≡◌, ◌∙◌, ℕ, suc, zero, ◌<◌, ◌==◌, ◌&&◌, Bool, true, false, List, [], ◌∷◌, ◌++◌, filter, take, Option, Some, option_map, refl, sym, ap, subst, arith}, lemmas.{Bool.or_right, List.{Folds.list_any-append, Elements.{Contains-append_left, Contains-append_right}}}}, specs.List.{AllByRecursion, Contains, list_any}}
+use Rattle.std.{proofs.{Common.{◌≡◌, ◌∙◌, ℕ, suc, zero, ◌==◌, ◌&&◌, Bool, true, false, List, [], ◌∷◌, ◌++◌, filter, take, Option, Some, option_map, refl, sym, ap, subst, arith}, lemmas.{Bool.or_right, List.{Folds.list_any-append, Elements.{Contains-append_left, Contains-append_right}}}}, specs.List.{AllByRecursion, Contains, list_any}}
 use Rattle.pim_ip.{specs.Addr.addr}
-use Rattle.pim_types.{specs.{Keys.{names_source, source_key, star_key}, declared.{event.Event.Event, fact.{Key.Key, NeighbourRow.NeighbourRow}, outcome.Emission.Emission, path.Hop.Hop, upstream.{SourceView.SourceView, StarView.StarView}}}}
+use Rattle.pim_types.{specs.{Keys.{names_source, star_key}, declared.{event.Event.Event, fact.{Key.Key, NeighbourRow.NeighbourRow}, outcome.Emission.Emission, path.Hop.Hop, upstream.{SourceView.SourceView, StarView.StarView}}}}
 use Rattle.pim_wire.{specs.declared.join_prune.{Entry.Entry, EntryKind.EntryKind}}
-use Rattle.pim_model.{specs.{declared.accepted.Accepted.Accepted, Cause.done_as, Clearing.clear, Desires.{join_desired, join_desired_star, rpf_source, rpf_star}, Firing.settled, Messages.{Message, entry}, Neighbours.is_neighbour, Querier.each_in_turn, State.State, Step.{Answered, change, done, step}, Tables.{Table, same_hop, same_iface}, Unicast.rp_of, Upstream.{Told, fact_keys, group_upstream, groups_of, if_neighbour, is_due_to_assert, is_pruned_with_star, join_prune_to, join_source_to, join_star_to, most_pruned, prune_source_to, prune_star_to, pruned_with_star, source_stays, source_told, source_upstream, source_view, sources_of, star_stays, star_told, star_view, upstream, with_join_timer}}}
+use Rattle.pim_model.{specs.{declared.accepted.Accepted.Accepted, Cause.done_as, Clearing.clear, Desires.{join_desired, join_desired_star}, Firing.settled, Messages.{Message, entry}, Neighbours.is_neighbour, Querier.each_in_turn, State.State, Step.{Answered, change, done, step}, Tables.{Table, same_hop, same_iface}, Upstream.{Told, fact_keys, group_upstream, groups_of, if_neighbour, is_pruned_with_star, join_prune_to, join_source_to, join_star_to, most_pruned, prune_source_to, prune_star_to, pruned_with_star, source_stays, source_told, source_upstream, source_view, sources_of, star_stays, star_told, star_view, upstream, with_join_timer}}}
 use Rattle.law_settled.{proofs.{ListLaws.{each_more, each_passes}, Unsettled.{Untold, cleared_in_the_end}}}
-use Rattle.law_streams.{specs.{Copies.happens, Joins.{is_time, join_packet, join_to}, InTimeJoins.{Join, Source, Star, entry_of, prunes_of, rpf_of}}, proofs.{Made.step_taken, Leaves.{group_is_listed, in_turn, is_pruned_at_end, same_star_view, taken_is_done, told_leaves, wanted_is_fact}, Sources.{its_group_is_listed, same_source_view, source_is_listed, wanted_is_named}}}
+use Rattle.law_streams.{specs.{Copies.happens, Joins.{is_time, join_packet, join_to}, InTimeJoins.{Join, Source, Star, entry_of, rpf_of}}, proofs.{Made.step_taken, Leaves.{group_is_listed, in_turn, is_pruned_at_end, same_star_view, taken_is_done, told_leaves, wanted_is_fact}, Sources.{its_group_is_listed, same_source_view, source_is_listed, wanted_is_named}}}
 use Rattle.law_converges.{specs.NextHops.{JoinFollowsNextHop, OldNextHopIsPruned, SendsTo, TurnsTo, prune_to}}
 
 head_there : {X : Type 0} (x : X) (xs : List X) → Contains (x ∷ xs) x

@@ -1,10 +1,10 @@
 -- A querier's row stays as it is, or a general query leaves, and the next one within the query interval.
-use Rattle.std.{proofs.{Common.{◌≡◌, ◌∙◌, ℕ, ◌+◌, ◌*◌, ◌-◌, ◌/◌, ◌<◌, ◌≤◌, ◌&&◌, ◌==◌, nat_lt, Bool, true, false, is_some, List, [], ◌∷◌, ◌++◌, ◌⊎◌, inl, inr, length, Option, Some, None, Ok, refl, sym, ap, subst, arith, eqb-true}, lemmas.{Bool.{both_ways}, List.Elements.{Contains-append_left, Contains-append_right}}}, specs.{Cmp.{first_so, second_so}, List.{Contains, list_any}, Option.option_map_or, Prelude.if◌then◌else◌}}
+use Rattle.std.{proofs.{Common.{◌≡◌, ◌∙◌, ℕ, ◌+◌, ◌*◌, ◌-◌, ◌/◌, ◌≤◌, ◌&&◌, ◌==◌, nat_lt, Bool, true, false, is_some, List, [], ◌∷◌, ◌++◌, ◌⊎◌, inl, inr, length, Some, Ok, refl, sym, ap, subst, arith, eqb-true}, lemmas.{Bool.{both_ways}, List.Elements.{Contains-append_left, Contains-append_right}}}, specs.{Cmp.{first_so, second_so}, List.{Contains}, Prelude.if◌then◌else◌}}
 use Rattle.pim_ip.{specs.Ipv4.{all_systems, igmp_packet_text}}
-use Rattle.pim_types.{specs.{Keys.{iface_in, iface_key, same_key}, declared.{config.Settings.Settings, event.Event.Event, fact.{Key.Key, QuerierRole.QuerierRole, QuerierRow.QuerierRow}, outcome.Emission.Emission, timer.TimerKind.TimerKind}}}
+use Rattle.pim_types.{specs.{Keys.{iface_in, iface_key}, declared.{config.Settings.Settings, event.Event.Event, fact.{Key.Key, QuerierRole.QuerierRole, QuerierRow.QuerierRow}, outcome.Emission.Emission, timer.TimerKind.TimerKind}}}
 use Rattle.igmp_wire.{specs.{Codes.value_code, Queries.query_text}}
-use Rattle.pim_model.{specs.{declared.accepted.Accepted.Accepted, Cause.{done_as, if_done}, Clearing.clear, Firing.{fire_all, fire_instant, fire_once, fire_row, fired, settled, startup_left}, Judging.{Judged, judged}, Messages.Message, Querier.{each_in_turn, general_query, general_query_due, other_querier_gone, querier_on, querier_row, query_interval, query_sent, querying_on, robustness, startup_query_interval}, Reach.own_firing, State.{Addressing, State, address_among}, Step.{Answered, advanced, change, concluded, done, step, taken, taken_unless_full}, Tables.{Table, change_row, changed_entry, has_row, row_at, same_option}, Timers.{Ending, next_due, next_query, other_querier_end, timers}, Upstream.upstream, Writing.{all_written, emission_of, on_link, write_all, written}}}
-use Rattle.law_settled.{specs.Ready.{IsLawful, IsSettled}, proofs.{Ends.{Ends, shows}, LawfulFiring.one_firing_is_lawful, SettledStates.settled_is_lawful, TimerLaws.{IsNext, is_next}, TurnLaws.kept_to_the_end, UnchangedLaws.{full_or_taken, taken_done}, Unsettled.{Unsettled, settling_leaves}}}
+use Rattle.pim_model.{specs.{declared.accepted.Accepted.Accepted, Cause.{done_as, if_done}, Clearing.clear, Firing.{fire_all, fire_instant, fire_once, fire_row, fired, settled, startup_left}, Judging.{Judged, judged}, Messages.Message, Querier.{each_in_turn, general_query, general_query_due, other_querier_gone, querier_on, querier_row, query_interval, query_sent, querying_on, robustness, startup_query_interval}, Reach.own_firing, State.{Addressing, State, address_among}, Step.{Answered, advanced, change, concluded, done, step, taken, taken_unless_full}, Tables.{Table, change_row, changed_entry, has_row, row_at, same_option}, Timers.{Ending, next_due, next_query, timers}, Upstream.upstream, Writing.{all_written, emission_of, on_link, write_all, written}}}
+use Rattle.law_settled.{specs.Ready.{IsLawful, IsSettled}, proofs.{Ends.{Ends, shows}, LawfulFiring.one_firing_is_lawful, SettledStates.settled_is_lawful, TimerLaws.{is_next}, TurnLaws.kept_to_the_end, UnchangedLaws.{full_or_taken, taken_done}, Unsettled.{Unsettled, settling_leaves}}}
 use Rattle.law_events.{proofs.Configured.{Ground, firing_ground}}
 use Rattle.law_streams.{specs.Copies.happens, proofs.{Leaves.{ends_configured, told_configured}, Turns.to_the_end}}
 use Rattle.law_converges.{specs.LinkQuerier.{general_of, interval_of, is_own, takes_lead}, proofs.Roles.{done_row, fired_row, its_end, leaves_row, settled_row}}

@@ -1,9 +1,9 @@
 -- A general query as bytes is read as it was written, and holds back who reads it from a lower address.
-use Rattle.std.{proofs.{Common.{◌≡◌, ◌∙◌, ℕ, ◌+◌, ◌*◌, ◌<◌, ◌≤◌, ◌^◌, nat_le, nat_lt, true, false, List, [], length, Some, Ok, refl, sym, ap, subst, arith, append-nil, length-append, lit≤, lit<}, lemmas.Bool.Decides.nat_tests}, specs.List.All}
+use Rattle.std.{proofs.{Common.{◌≡◌, ◌∙◌, ℕ, ◌+◌, ◌<◌, ◌≤◌, ◌^◌, nat_lt, true, false, List, [], length, Some, Ok, refl, sym, ap, subst, arith, append-nil, lit<}, lemmas.Bool.Decides.nat_tests}, specs.List.All}
 use Rattle.pim_ip.{specs.{declared.addr.Addr.Addr, Addr.addr, Checksum.with_checksum, Ipv4.{Packet, all_systems, frame_limit, header_text, igmp_packet_text, ipv4_reading, is_source, is_unicast, packet_limit, protocol_igmp, router_alert}, View.written_packet}, proofs.ViewLemmas.written_reads}
 use Rattle.pim_types.{specs.declared.{config.{IfaceId.IfaceId, Settings.Settings}, event.{Event.Event, EventKind.EventKind}}}
 use Rattle.igmp_wire.{specs.{Messages.igmp_reading, Queries.query_text, Values.Query as QueryValue, declared.view.IgmpView.IgmpView}, proofs.RoundTrip.query_reads}
-use Rattle.pim_model.{specs.{declared.accepted.Accepted.Accepted, Cause.done_as, Full.is_full, Judging.{frame_judged, igmp_judged, igmp_message_judged, judged, packet_judged}, Messages.Message, Querier.{is_lower_querier, query_seen}, State.{State, iface_count}, Step.{Answered, change, done, step}}}
+use Rattle.pim_model.{specs.{declared.accepted.Accepted.Accepted, Cause.done_as, Full.is_full, Judging.{frame_judged, igmp_judged, igmp_message_judged, judged, packet_judged}, Messages.Message, Querier.{is_lower_querier}, State.{State, iface_count}, Step.{Answered, change, done, step}}}
 use Rattle.law_settled.{proofs.Unsettled.{Unsettled, settling_leaves}}
 use Rattle.law_streams.{specs.{Copies.happens, Hellos.Listens}, proofs.{EndSoon.change_present, Leaves.taken_is_done, Made.step_taken, Passes.done_if, ReadBack.within_range}}
 use Rattle.law_converges.{specs.LinkQuerier.{HoldsBack, general_of, present_for, query_packet}, proofs.Roles.{query_there, settled_row}}

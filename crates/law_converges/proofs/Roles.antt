@@ -1,9 +1,9 @@
 -- The querier's row of an interface: what leaves it as it is, and what another router's query makes of it.
-use Rattle.std.{proofs.{Common.{◌≡◌, ◌∙◌, ℕ, ◌+◌, ◌*◌, ◌-◌, ◌/◌, ◌<◌, ◌≤◌, ◌&&◌, ◌==◌, not, nat_le, nat_lt, max, Bool, true, false, cond, is_some, List, [], ◌∷◌, length, Option, Some, None, Ok, refl, sym, ap, subst, arith, eqb-true, eq-eqb}, lemmas.{Bool.{Decides.nat_tests, false_from_ne_true}}}, specs.{Cmp.first_so, List.list_any, Option.option_map_or}}
-use Rattle.pim_types.{specs.{Keys.{iface_in, iface_key, is_on, same_key}, declared.{config.Settings.Settings, event.Event.Event, fact.{Key.Key, QuerierRole.QuerierRole, QuerierRow.QuerierRow, RegisterRow.RegisterRow}, timer.TimerKind.TimerKind}}, proofs.Keys.equal_keys}
+use Rattle.std.{proofs.{Common.{◌≡◌, ◌∙◌, ℕ, ◌+◌, ◌*◌, ◌-◌, ◌/◌, ◌<◌, ◌≤◌, ◌&&◌, ◌==◌, not, nat_le, nat_lt, Bool, true, false, cond, List, length, Option, Some, Ok, refl, sym, ap, subst, arith, eqb-true, eq-eqb}, lemmas.{Bool.{Decides.nat_tests, false_from_ne_true}}}, specs.{Cmp.first_so, List.list_any, Option.option_map_or}}
+use Rattle.pim_types.{specs.{Keys.{iface_in, iface_key, is_on, same_key}, declared.{event.Event.Event, fact.{Key.Key, QuerierRole.QuerierRole, QuerierRow.QuerierRow, RegisterRow.RegisterRow}, timer.TimerKind.TimerKind}}, proofs.Keys.equal_keys}
 use Rattle.pim_wire.{specs.Values.{Encapsulated, Null}}
 use Rattle.igmp_wire.{specs.{Codes.code_value, Values.Query as QueryValue}}
-use Rattle.pim_model.{specs.{declared.accepted.Accepted.Accepted, Asserts.{assert_due, assert_received}, Cause.{done_as, if_done}, Downstream.{downstream_expired, prune_pending_due, to_me}, Firing.{fire_all, fire_instant, fire_once, fire_row, fired, keepalive_due, settled}, Forwarding.{forwarded, register_received}, Hellos.{hello_due, hello_received, neighbour_due}, Judging.{Judged, judged}, Messages.Message, Querier.{general_query_due, given_or, group_record_due, group_repeat_due, is_lower_querier, lower_queried, other_querier_gone, other_querier_interval, querier_elected, querier_on, querier_row, querier_up, query_interval, query_seen, querying, querying_on, report_seen, robustness, source_record_due, source_repeat_due, sources_sent}, Records.{with_members, with_repeats_of_rows}, Registers.{register_due, register_stop_seen}, Seen.seen, State.State, Step.{advanced, change, concluded, done, iface_down, iface_up, rps_replaced, step, taken, taken_unless_full}, Tables.{Table, change_row, put, row_at, same_option}, Timers.{Ending, next_due, next_query, other_querier_end, timers}, Upstream.{join_timer_due, override_timer_due}}}
+use Rattle.pim_model.{specs.{declared.accepted.Accepted.Accepted, Asserts.{assert_due, assert_received}, Cause.{done_as, if_done}, Downstream.{downstream_expired, prune_pending_due, to_me}, Firing.{fire_all, fire_instant, fire_once, fire_row, fired, keepalive_due, settled}, Forwarding.{forwarded, register_received}, Hellos.{hello_due, hello_received, neighbour_due}, Judging.{Judged, judged}, Messages.Message, Querier.{general_query_due, given_or, group_record_due, group_repeat_due, is_lower_querier, lower_queried, other_querier_gone, other_querier_interval, querier_elected, querier_on, querier_row, querier_up, query_interval, query_seen, querying, querying_on, report_seen, robustness, source_record_due, source_repeat_due, sources_sent}, Records.{with_members, with_repeats_of_rows}, Registers.{register_due, register_stop_seen}, Seen.seen, State.State, Step.{advanced, change, concluded, done, iface_down, iface_up, rps_replaced, step, taken, taken_unless_full}, Tables.{Table, put, row_at, same_option}, Timers.{Ending, next_due, next_query, other_querier_end, timers}, Upstream.{join_timer_due, override_timer_due}}}
 use Rattle.law_settled.{specs.{Laws.is_querier_entry, Ready.{IsLawful, IsSettled}}, proofs.{Ends.{Ends, shows}, LawfulFiring.one_firing_is_lawful, ListLaws.{any_among_all, each_of_list}, RowLaws.{row_change_away, row_kept, row_put, row_put_away}, SettledStates.settled_is_lawful, TimerLaws.{IsNext, is_next}, TurnLaws.kept_to_the_end, UnchangedLaws.{full_or_taken, taken_done}}}
 use Rattle.law_streams.{specs.Copies.happens, proofs.{Climbs.swapped, Lasts.only_row, LiesUnder.row_fires}}
 use Rattle.law_states.{proofs.{Queriers.{Asked as Read, asked, settled_asked}, NextQueries.{assert_asked, assert_due_asked, data_asked, hello_asked, lowered_asked, pending_asked, register_asked, report_asked, seen_asked, to_me_asked}}}

@@ -1,9 +1,9 @@
 -- A router turns to another next hop, to which its Join is delivered.
-use Rattle.std.{proofs.Common.{◌≡◌, ℕ, ◌+◌, List, Option, Some, refl, sym, subst}, specs.List.Contains}
-use Rattle.pim_types.{specs.declared.event.{Event.Event, EventKind.EventKind}}
+use Rattle.std.{proofs.Common.{◌≡◌, ℕ, List, Some, refl, sym, subst}, specs.List.Contains}
+use Rattle.pim_types.{specs.declared.event.{Event.Event}}
 use Rattle.pim_model.{specs.{Network.{Deliver, Move, Network, Station, event_of, frame_at, moved, moved_at, network_ran, station_at, stepped}, State.State, Step.step, Writing.on_link}}
-use Rattle.law_streams.{specs.{Joins.{HoldsTree, join_packet, join_to}, InTimeJoins.{IsJoin, Join, Listens, Pair, entry_of, frame_of, join_key, prunes_of}}, proofs.{Climbing.frames_stay, Deliveries.{IsNewOn, IsStepped, is_delivered, is_stepped}, Upper.{join_event, now_held}}}
-use Rattle.law_converges.{specs.NextHops.{CanTakeOver, HoldsNow, IsOnItsWay, NewNextHopTakesOver, SendsTo, TurnsBy}, proofs.NextHops.join_follows_next_hop}
+use Rattle.law_streams.{specs.{Joins.{join_packet, join_to}, InTimeJoins.{IsJoin, Join, Pair, entry_of, frame_of, prunes_of}}, proofs.{Climbing.frames_stay, Deliveries.{IsNewOn, IsStepped, is_delivered, is_stepped}, Upper.{join_event, now_held}}}
+use Rattle.law_converges.{specs.NextHops.{CanTakeOver, HoldsNow, NewNextHopTakesOver, SendsTo, TurnsBy}, proofs.NextHops.join_follows_next_hop}
 
 -- a move that is an event at a router
 moved_so : (n : Network) (m : Move) (r : ℕ) (e : Event) (st : Station) → event_of n m ≡ Some (r, e) → station_at n r ≡ Some st

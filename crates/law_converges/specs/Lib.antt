@@ -2,3 +2,5 @@ pub mod NextHops
 pub mod LinkDr
 pub mod NextHopRun
 pub mod LinkQuerier
+pub mod LeftGroups
+pub mod LeftGroupRun

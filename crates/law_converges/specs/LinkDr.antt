@@ -1,5 +1,5 @@
 -- One DR on a link, some time after the last change (RFC 7761, 4.3.2).
-use Rattle.std.{specs.{List.{list_all, list_any}, Option.option_map_or, Prelude.{Bool, List, None, Option, Some, [], false, nat_le, not, true, ℕ, ◌&&◌, ◌*◌, ◌+◌, ◌<◌, ◌==◌, ◌||◌, ◌∷◌, ◌≡◌, ◌≤◌, ◌⊎◌}}}
+use Rattle.std.{specs.{List.{list_all, list_any}, Option.option_map_or, Prelude.{Bool, List, Option, Some, [], false, nat_le, not, true, ℕ, ◌&&◌, ◌*◌, ◌+◌, ◌<◌, ◌==◌, ◌||◌, ◌∷◌, ◌≡◌, ◌≤◌, ◌⊎◌}}}
 use Rattle.pim_types.{specs.{Keys.{iface_key, is_on, source_in}, declared.{event.Event.Event, fact.{InterfaceRow.InterfaceRow, Key.Key, NeighbourRow.NeighbourRow}}}}
 use Rattle.pim_model.{specs.{declared.accepted.Accepted.Accepted, Cause.done_as, Neighbours.is_dr, Network.{Move, Network, Station, event_of, moved, station_at}, State.my_priority, Tables.{row_at, same_option}}}
 use Rattle.law_streams.{specs.{Adjacent.{Adjacent, HellosInTime, Sends, most_late_hello}, Copies.happens, InTimeJoins.{Always, IsReady, time_at}}}

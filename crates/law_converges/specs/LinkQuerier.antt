@@ -1,5 +1,5 @@
 -- One querier on a link, some time after the last change (RFC 3376, 6.6.2).
-use Rattle.std.{specs.{Option.option_map_or, Prelude.{Bool, List, None, Option, Some, [], false, length, nat_le, nat_lt, slice_get, true, ℕ, ◌&&◌, ◌*◌, ◌+◌, ◌/◌, ◌<◌, ◌==◌, ◌∷◌, ◌≡◌, ◌≤◌, ◌⊎◌}}}
+use Rattle.std.{specs.{Prelude.{Bool, List, Option, Some, [], false, length, nat_le, nat_lt, slice_get, true, ℕ, ◌&&◌, ◌*◌, ◌+◌, ◌/◌, ◌<◌, ◌==◌, ◌∷◌, ◌≡◌, ◌≤◌, ◌⊎◌}}}
 use Rattle.pim_ip.{specs.Ipv4.{all_systems, igmp_packet_text, is_unicast}}
 use Rattle.pim_types.{specs.declared.{config.Settings.Settings, event.Event.Event, fact.{QuerierRole.QuerierRole, QuerierRow.QuerierRow}}}
 use Rattle.igmp_wire.{specs.{Codes.{code_value, value_code}, Queries.query_text, Values.Query as QueryValue}}

@@ -1,5 +1,5 @@
 -- A router turns from one next hop to another, which takes over; computed by the kernel.
-use Rattle.std.{specs.Prelude.{List, Some, [], map, option_map, ℕ, ◌∷◌, ◌≡◌}}
+use Rattle.std.{specs.Prelude.{List, Some, [], map, ◌∷◌, ◌≡◌}}
 use Rattle.pim_ip.{specs.Ipv4.{all_pim_routers, pim_packet_text}}
 use Rattle.pim_types.{specs.declared.{config.{Config.Config, Route.Route}, event.Event.Event}}
 use Rattle.pim_wire.{specs.{JoinPrunes.join_prune_text, declared.join_prune.EntryKind.EntryKind}}

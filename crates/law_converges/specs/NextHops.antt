@@ -4,7 +4,7 @@ use Rattle.std.{specs.{List.{AllByRecursion, Contains}, Prelude.{Bool, List, Opt
 use Rattle.pim_ip.{specs.Ipv4.{all_pim_routers, pim_packet_text}}
 use Rattle.pim_types.{specs.declared.{config.IfaceId.IfaceId, event.Event.Event, outcome.Emission.Emission, path.{Hop.Hop, Path.Path}}}
 use Rattle.pim_wire.{specs.{JoinPrunes.join_prune_text, declared.join_prune.Entry.Entry}}
-use Rattle.pim_model.{specs.{declared.accepted.Accepted.Accepted, Cause.done_as, Full.is_full, Neighbours.{is_neighbour, nbr}, Network.{Deliver, Move, Network, Station, event_of, frame_at, moved, network_ran, station_at}, State.{State, my_address}, Step.step, Tables.{same_hop, same_iface}, Upstream.{is_pruned_with_star, most_pruned}, Writing.on_link}}
+use Rattle.pim_model.{specs.{declared.accepted.Accepted.Accepted, Cause.done_as, Full.is_full, Neighbours.{is_neighbour, nbr}, Network.{Deliver, Move, Network, Station, event_of, frame_at, moved, network_ran, station_at}, State.{State, my_address}, Step.step, Tables.{same_hop, same_iface}, Upstream.{is_pruned_with_star}, Writing.on_link}}
 use Rattle.law_streams.{specs.{Copies.happens, Joins.{HoldsTree, IsWritable, is_time, join_to, join_value}, InTimeJoins.{IsJoin, IsRp, Join, Listens, Pair, entry_of, frame_of, is_wanted, join_key, prunes_of, rpf_of, way_to}}}
 
 -- ---- at one router
