@@ -9,3 +9,4 @@ pub mod QueryRead
 pub mod LinkQuerier
 pub mod LeftGroups
 pub mod LeftGroupRun
+pub mod LinkDrRun

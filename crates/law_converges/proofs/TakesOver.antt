@@ -6,7 +6,7 @@ use Rattle.law_streams.{specs.{Joins.{join_packet, join_to}, InTimeJoins.{IsJoin
 use Rattle.law_converges.{specs.NextHops.{CanTakeOver, HoldsNow, NewNextHopTakesOver, SendsTo, TurnsBy}, proofs.NextHops.join_follows_next_hop}
 
 -- a move that is an event at a router
-moved_so : (n : Network) (m : Move) (r : ℕ) (e : Event) (st : Station) → event_of n m ≡ Some (r, e) → station_at n r ≡ Some st
+pub moved_so : (n : Network) (m : Move) (r : ℕ) (e : Event) (st : Station) → event_of n m ≡ Some (r, e) → station_at n r ≡ Some st
     → (moved n m).1 ≡ (stepped n r e st).1
 unfolding moved moved_at
 moved_so n m r e st is there = rw is (rw there refl)

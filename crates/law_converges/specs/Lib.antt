@@ -4,3 +4,4 @@ pub mod NextHopRun
 pub mod LinkQuerier
 pub mod LeftGroups
 pub mod LeftGroupRun
+pub mod LinkDrRun
