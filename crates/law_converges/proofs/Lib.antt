@@ -10,3 +10,4 @@ pub mod LinkQuerier
 pub mod LeftGroups
 pub mod LeftGroupRun
 pub mod LinkDrRun
+pub mod LinkQuerierRun

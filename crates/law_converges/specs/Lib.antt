@@ -5,3 +5,4 @@ pub mod LinkQuerier
 pub mod LeftGroups
 pub mod LeftGroupRun
 pub mod LinkDrRun
+pub mod LinkQuerierRun

@@ -1,6 +1,7 @@
 //! Networks that meet the premises of the laws, computed by the kernel.
 ghost use Rattle.law_converges.specs.LeftGroupRun.{SilentGroupEnds};
 ghost use Rattle.law_converges.specs.LinkDrRun.{BothGreet, OneComesToBeDr};
+ghost use Rattle.law_converges.specs.LinkQuerierRun.{OneComesToQuery, QueriesComeInTime};
 ghost use Rattle.law_converges.specs.NextHopRun.{OtherTakesOver, RouterTurns};
 
 /// The first router of the chain turns from one next hop to another.
@@ -26,4 +27,14 @@ pub fn both_greet()
 /// So one of them is the DR of their link, and the other isn't.
 pub fn one_comes_to_be_dr()
     ensures { OneComesToBeDr }
+{}
+
+/// The query of one of two routers, each of which takes itself for the querier of their link, comes to the other.
+pub fn queries_come_in_time()
+    ensures { QueriesComeInTime }
+{}
+
+/// So in the end it alone is the querier.
+pub fn one_comes_to_query()
+    ensures { OneComesToQuery }
 {}
