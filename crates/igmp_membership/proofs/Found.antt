@@ -179,6 +179,12 @@ module _ (g n : ℕ) where
 less_of : (m n : ℕ) → nat_cmp m n ≡ Less → m < n
 less_of m n e = grind (arith, nat_tests)
 
+-- what passes among the keys of each kind of fact
+pub any_of_five : (p : Key → Bool) (a b c d e : List Key)
+    → list_any p (a ++ b ++ c ++ d ++ e)
+    ≡ (list_any p a || (list_any p b || (list_any p c || (list_any p d || list_any p e))))
+any_of_five p a b c d e = simp (list_any-append, or_assoc)
+
 -- facts of sources are source records and sendings
 pub any_member : (g n : ℕ) (m : MembershipTables) → NameNone m.group_records → NameNone m.group_repeats
     → NameNone m.source_repeats
@@ -193,12 +199,7 @@ any_member g n m groups repeats more =
       nothing_named g n m.group_repeats repeats,
       nothing_named g n m.source_repeats more,
     )
-    (ap (λ (b : Bool). b || list_any (names_source g n) (keys_in m.sendings)) (or-false _ ∙ or-false _))
-  where
-    any_of_five : (p : Key → Bool) (a b c d e : List Key)
-        → list_any p (a ++ b ++ c ++ d ++ e)
-        ≡ ((((list_any p a || list_any p b) || list_any p c) || list_any p d) || list_any p e)
-    any_of_five p a b c d e = simp (list_any-append, or_assoc)
+    refl
 
 module _ {U : Type 0} where
   abbrev numbers : List (Addr × U) → List ℕ

@@ -546,6 +546,18 @@ impl Membership {
         self.sendings.proof_rising();
     }
 
+    /// Whether a fact of a group or a source is of the interface.
+    #[tactic(auto, using(crate::proofs::Found::any_of_five), unfolding(crate::specs::MembershipTables::membership_keys))]
+    pub fn has_on(&self, iface: IfaceId) -> bool
+        ensures { result ≡ list_any (is_on iface.number) (membership_keys self.now) }
+    {
+        self.group_records.has_on(iface)
+            || self.source_records.has_on(iface)
+            || self.group_repeats.has_on(iface)
+            || self.source_repeats.has_on(iface)
+            || self.sendings.has_on(iface)
+    }
+
     /// Removes all facts of the interface.
     pub fn drop_on(&mut self, iface: IfaceId, meter: &mut Meter)
         ensures { self.new ≡ record {

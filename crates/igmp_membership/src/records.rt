@@ -329,6 +329,13 @@ impl<R: Record> Records<R> {
         Some(*key)
     }
 
+    // Whether a record is of the interface.
+    pub(crate) fn has_on(&self, iface: IfaceId) -> bool
+        ensures { result ≡ list_any (is_on iface.number) (keys_in self.now) }
+    {
+        self.rows.rows().has_on(iface)
+    }
+
     // Removes the group's records on the interface.
     pub(crate) fn drop_group(&mut self, iface: IfaceId, group: Addr, meter: &mut Meter)
         ensures { self.new ≡ drop_where (is_at_group iface.number group.bits) self.old }

@@ -1,4 +1,5 @@
 //! Repeats of queries, group by group.
+ghost use Rattle.std.specs.List.{list_any};
 ghost use Rattle.std.specs.List.Sorted.{IsStrictlySortedBy};
 ghost use Rattle.std.specs.Prelude.{◌≡◌, [], OnOk, option_map};
 ghost use Rattle.pim_model.specs.Clearing.{first_by};
@@ -124,6 +125,13 @@ impl<R: Ends> Repeats<R> {
             return Ok(());
         };
         self.rows.change(key, row)
+    }
+
+    // Whether a repeat is of the interface.
+    pub(crate) fn has_on(&self, iface: IfaceId) -> bool
+        ensures { result ≡ list_any (is_on iface.number) (keys_in self.now) }
+    {
+        self.rows.rows().has_on(iface)
     }
 
     // Removes the repeats on the interface.

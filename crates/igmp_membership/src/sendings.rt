@@ -149,6 +149,13 @@ impl Sendings {
         self.rows.remove(key);
     }
 
+    // Whether a sending is of the interface.
+    pub(crate) fn has_on(&self, iface: IfaceId) -> bool
+        ensures { result ≡ list_any (is_on iface.number) (keys_in self.now) }
+    {
+        self.rows.has_on(iface)
+    }
+
     // Removes the sendings on the interface.
     pub(crate) fn drop_on(&mut self, iface: IfaceId)
         ensures { self.new ≡ drop_where (is_on iface.number) self.old }

@@ -1,10 +1,10 @@
 -- No event and no firing changes the settings or what is configured, and none but new routes and RP ranges changes
 -- these.
-use Rattle.std.{proofs.Common.{◌≡◌, ℕ, suc, ◌≤◌, Bool, true, false, List, [], ◌∷◌, Some, max, refl, sym, ap, arith}, specs.List.list_any}
-use Rattle.pim_types.{specs.{declared.{config.{Route.Route, RpRange.RpRange, Settings.Settings}, fact.Key.Key, timer.TimerKind.TimerKind}, Keys.{group_in, star_key}}}
+use Rattle.std.{proofs.Common.{◌≡◌, ℕ, suc, ◌≤◌, Bool, true, false, List, [], ◌∷◌, Some, map, max, refl, sym, ap, arith}, specs.List.list_any}
+use Rattle.pim_types.{specs.{declared.{config.{Route.Route, RpRange.RpRange, Settings.Settings}, fact.{InterfaceRow.InterfaceRow, Key.Key}, timer.TimerKind.TimerKind}, Keys.{group_in, star_key}}}
 use Rattle.pim_wire.{specs.declared.hello.Hello.Hello as HelloValue}
-use Rattle.pim_model.{specs.{declared.accepted.Accepted.Accepted, Firing.fired, Hellos.{hello_received, hello_triggered, neighbour_due, neighbour_replaced, neighbour_restarted}, Querier.{querier_up, querying}, Reach.own_firing, State.{Addressing, State}, Step.{change, iface_down, iface_up, rps_replaced}, Timers.Ending}}
-use Rattle.law_events.{specs.{Events.touched_by_event, Locality.{AgreesBut, touching}, Scopes.{reads, scope}, Touches.{isnt_neighbour, touched_by}}, proofs.{EventLaws.change_touches, SilentEvents.timer_touches, Reached.IsConfigured}}
+use Rattle.pim_model.{specs.{declared.accepted.Accepted.Accepted, Firing.fired, Hellos.{hello_received, hello_triggered, neighbour_due, neighbour_replaced, neighbour_restarted}, Querier.{querier_up, querying}, Reach.own_firing, State.{Addressing, State}, Step.{change, iface_down, iface_up, rps_replaced}, Tables.Table, Timers.Ending}}
+use Rattle.law_events.{specs.{Events.touched_by_event, Locality.{AgreesBut, touching}, Scopes.{only_up, reads, scope}, Switched.is_switch, Touches.{isnt_neighbour, touched_by}}, proofs.{EventLaws.change_touches, Hellos.hello_ups, SilentEvents.timer_touches, Reached.IsConfigured}}
 
 -- ---- a group of no key
 
@@ -75,7 +75,38 @@ pub change_configured : (s : State) (w : ℕ) (a : Accepted) → IsConfigured s 
 unfolding change rps_replaced
 change_configured s w a = grind (arith, is_configured, change_ground)
 
+-- which interfaces are up
+abbrev pub ups : State → Table InterfaceRow
+ups s = map only_up s.interfaces
+
+ups_beside : (keys : List Key) (s t : State) → AgreesBut (touching keys) s t → ups t ≡ ups s
+unfolding scope
+ups_beside keys s t agree =
+    sym (ap (λ (u : State). u.interfaces) (agree (star_key 0 (beyond keys)) (untouched keys)))
+
+-- no event changes which interfaces are up, but that one goes up or down
+pub change_ups : (s : State) (w : ℕ) (a : Accepted) → is_switch a ≡ false → ups (change s w a).state ≡ ups s
+unfolding change rps_replaced touched_by_event
+change_ups s w (Accepted.Advance moment) e = refl
+change_ups s w (Accepted.Up i) e = cc
+change_ups s w (Accepted.Down i) e = cc
+change_ups s w (Accepted.Routes routes) e = refl
+change_ups s w (Accepted.Rps ranges) e = refl
+change_ups s w (Accepted.Hello i from h) e = hello_ups s i.number from.bits w h
+change_ups s w a e = ups_beside _ s (change s w a).state (change_touches s w a _ refl)
+
 -- ---- firings
+
+fired_ups : (s : State) (kind : TimerKind) (k : Key) (b : Bool) → isnt_neighbour kind ≡ b
+    → ups (fired s kind k).0 ≡ ups s
+unfolding fired neighbour_due
+fired_ups s TimerKind.Neighbour k b e = refl
+fired_ups s kind k true e = ups_beside (touched_by kind k) s (fired s kind k).0 (timer_touches s k kind e)
+fired_ups s kind k false e = cc
+
+pub firing_ups : (s : State) (e : Ending) → ups (own_firing s e) ≡ ups s
+unfolding own_firing
+firing_ups s e = grind (arith, fired_ups)
 
 fired_ground : (s : State) (kind : TimerKind) (k : Key) (b : Bool) → isnt_neighbour kind ≡ b
     → ground (fired s kind k).0 ≡ ground s

@@ -149,6 +149,14 @@ module _ (s : State) (i a w : ℕ) (h : HelloValue) where
   })
   agrees false false q out = refl
 
+  ups_after : (triggers restarts : Bool) → map only_up (after triggers restarts).interfaces ≡ map only_up s.interfaces
+  unfolding hello_triggered neighbour_replaced neighbour_restarted
+  ups_after triggers restarts = grind (arith, up_so)
+
+  pub hello_ups : map only_up (hello_received s i a h w).interfaces ≡ map only_up s.interfaces
+  unfolding hello_received
+  hello_ups = ups_after (changed || not (is_neighbour s i a)) changed
+
   dr_there : (triggers restarts : Bool) → is_dr (neighbour_replaced s i a h) i ≡ is_dr (after triggers restarts) i
   unfolding hello_triggered neighbour_replaced neighbour_restarted is_dr
   dr_there triggers restarts = grind arith

@@ -44,6 +44,7 @@ pub mod KeptSources
 pub mod Masks
 pub mod Moved
 pub mod MovedKeys
+pub mod Switched
 pub mod MovedTold
 pub mod Reached
 pub mod Rerouted

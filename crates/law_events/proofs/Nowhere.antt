@@ -8,10 +8,10 @@ use Rattle.law_events.{specs.Adjacent.{leads_to, led_keys, led_of_group, led_sou
 
 -- ---- tests that fail
 
-neither_first : (a b : Bool) → (a || b) ≡ false → a ≡ false
+pub neither_first : (a b : Bool) → (a || b) ≡ false → a ≡ false
 neither_first a b e = grind arith
 
-neither_second : (a b : Bool) → (a || b) ≡ false → b ≡ false
+pub neither_second : (a b : Bool) → (a || b) ≡ false → b ≡ false
 neither_second a b e = grind arith
 
 -- a test that passes fewer fails where the other does
@@ -29,12 +29,19 @@ module _ {X : Type 0} (prefix_of : X → Prefix) (test : X → Bool) where
       → option_map_or test (if b then Some (longer prefix_of x best) else best) false ≡ false
   match_fails x best b here later = grind (arith, longer_fails)
 
-  longest_fails : (address : ℕ) (xs : List X) → list_any test xs ≡ false
+  pub longest_fails : (address : ℕ) (xs : List X) → list_any test xs ≡ false
       → option_map_or test (longest_match prefix_of xs address) false ≡ false
   unfolding longest_match
   longest_fails address [] none = refl
   longest_fails address (x ∷ xs) none =
       grind (arith, longest_fails address xs (neither_second (test x) (list_any test xs) none), match_fails, neither_first, neither_second)
+
+-- no source of a group passes
+pub sources_fail : (test : ℕ → Bool) (keys : List Key)
+    → list_any (λ k. is_some k.source && test (source_in k)) keys ≡ false → (g : ℕ)
+    → list_any test (sources_of g keys) ≡ false
+unfolding sources_of
+sources_fail test keys none g = grind (arith, any_ascending, any_of_map, any_in_filter, fewer_fail, any_more)
 
 -- ---- a route to another address
 
@@ -112,8 +119,7 @@ module _ (s : State) (i address : ℕ) (none : may_lead s address ≡ false) whe
 
   -- no source of a group is the address
   of_others : (g : ℕ) → list_any (λ n. n == address) (sources_of g (fact_keys s)) ≡ false
-  unfolding sources_of
-  of_others g = grind (arith, any_ascending, any_of_map, any_in_filter, fewer_fail, any_more, no_source)
+  of_others g = sources_fail (λ n. n == address) (fact_keys s) no_source g
 
   nothing_of : (g : ℕ) → led_of_group s i address g ≡ []
   unfolding led_of_group led_sources

@@ -11,6 +11,7 @@ pub mod Calm
 pub mod Named
 pub mod Keeps
 pub mod Moved
+pub mod Switched
 pub mod NamedLaws
 pub mod Adjacent
 pub mod Decided

@@ -11,9 +11,16 @@ use Rattle.law_events.{specs.{Locality.{IsQuiet, own_settled, touched_clear, tou
 abbrev pub is_of_place : ℕ → ℕ → Key → Bool
 is_of_place g src k = (group_in k == g) && (source_in k == src)
 
--- the routes and the RP ranges are new, and the registers of what they move are others
+-- which interfaces are up, the queriers, the routes and the RP ranges are new, and the registers of what they move are
+-- others
 pub record IsRerouted (o c : State) : Type 0 where
-  pub only : c ≡ record o { routes = c.routes; ranges = c.ranges; registers = c.registers }
+  pub only : c ≡ record o {
+    interfaces = c.interfaces;
+    queriers = c.queriers;
+    routes = c.routes;
+    ranges = c.ranges;
+    registers = c.registers;
+  }
   pub keys : keys_in c.registers ≡ keys_in o.registers
   pub registers : (g src : ℕ) → has_same_routes g src o c ≡ true
       → rows_where (is_of_place g src) o.registers ≡ rows_where (is_of_place g src) c.registers

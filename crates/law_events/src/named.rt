@@ -3,6 +3,7 @@
 //! the definitions, each the contract of a function with nothing to do.
 
 ghost use Rattle.law_events.specs.Moved.{MovedGoes, MovedNames, MovedSettles, RoutesMove, RoutesReroute, RpsMove, RpsReroute};
+ghost use Rattle.law_events.specs.Switched.{DownMovesNone, UpMovesNone};
 ghost use Rattle.law_events.specs.NamedLaws.{EventFacts, EventIsCalm, EventKeeps, EventNamesFew, FiredAreFew, FiredIsReached, FiredNames, FiringFacts, FiringKeeps, NamedAreFew, NamedIsReached, RisingWithin, RoutesName, RpsName, SameMasks, ToldFires, TouchedAlone, TouchedNames, UnnamedKeeps, UnreachedIsSame, UnreachedSees};
 
 /// Where nothing differs that counts for a source, its macros read the same.
@@ -162,4 +163,16 @@ pub fn routes_move()
 #[tactic(auto, using(crate::proofs::MovedKeys::rps_move))]
 pub fn rps_move()
     ensures { RpsMove }
+{}
+
+/// An interface that goes up moves nothing where nothing with facts may be routed over it.
+#[tactic(auto, using(crate::proofs::Switched::up_moves_none))]
+pub fn up_moves_none()
+    ensures { UpMovesNone }
+{}
+
+/// An interface that goes down with nothing on it moves nothing where nothing with facts may be routed over it.
+#[tactic(auto, using(crate::proofs::Switched::down_moves_none))]
+pub fn down_moves_none()
+    ensures { DownMovesNone }
 {}

@@ -20,8 +20,8 @@ unfolding past_given past_after
 past_alone past s [] = refl
 past_alone past s (e ∷ es) = past_alone (happened s e ∷ past) (step s e).state es
 
-pub events_alone_are_the_past : EventsAloneAreThePast
-events_alone_are_the_past s events = past_alone [] s events
+pub past_of_events : EventsAloneAreThePast
+past_of_events s events = past_alone [] s events
 
 -- ---- at rest
 

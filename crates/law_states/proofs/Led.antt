@@ -3,7 +3,7 @@ use Rattle.std.{proofs.Common.{◌≡◌, ◌∙◌, ℕ, true, List, [], ◌∷
 use Rattle.pim_types.{specs.declared.{config.Config.Config, event.Event.Event}}
 use Rattle.pim_model.{specs.{Limits.config_test, State.{State, iface_count, opening, settings_of}, Step.step, Tables.{has_row, row_at}}}
 use Rattle.law_events.{specs.Rest.IsAtRest, proofs.Rest.{opening_is_at_rest, step_is_at_rest}}
-use Rattle.law_states.{specs.{Reload.config_of, ReloadLaws.AreConfigured, Reloading.reload, Placing.{Places, are_places, reload_by}, History.{AreAccepted, Given, IsLedTo, state_given}}, proofs.{Accepted.accepted_stays, Ground.reload_is_under, Removed.removed_are_down, Rest.reload_leaves_rest, Moved.placed_reload_is_under, PlacedRest.placed_reload_leaves_rest, Ups.placed_are_configured, Configured.{keep_configures, step_configures}}}
+use Rattle.law_states.{specs.{Reload.config_of, ReloadLaws.AreConfigured, Reloading.reload, Placing.{Places, are_places, reload_by}, History.{AreAccepted, Given, IsLedTo, state_given}}, proofs.{Accepted.accepted_stays, Ground.reload_is_under, Removed.reload_keeps_configured, Rest.reload_leaves_rest, Moved.placed_reload_is_under, PlacedRest.placed_reload_leaves_rest, Ups.placed_are_configured, Configured.{keep_configures, step_configures}}}
 use Rattle.law_plane.{specs.Keeping.{keep, kept_until}, proofs.Keeps.{keep_by, keep_is_at_rest}}
 
 -- it is at rest under an accepted configuration, which has each interface that is up
@@ -38,7 +38,7 @@ pub reload_led : (s : State) (c : Config) (w : ℕ) → config_test c ≡ Ok tt 
 reload_led s c w e f = record {
   rest = reload_leaves_rest s c w e f.rest;
   accepted = ap config_test (reload_is_under s c w) ∙ e;
-  configured = removed_are_down s c w f.configured;
+  configured = reload_keeps_configured s c w f.configured;
 }
 
 pub placed_led : (s : State) (m : Places) (c : Config) (w : ℕ) → config_test c ≡ Ok tt

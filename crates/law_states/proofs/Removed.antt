@@ -5,7 +5,7 @@ use Rattle.pim_types.{specs.{declared.{config.Config.Config, fact.{InterfaceRow.
 use Rattle.pim_model.{specs.{declared.accepted.Accepted.Accepted, Asserts.{assert_forgotten, without_spt_bit}, Clearing.clear, Firing.settled, Full.is_full, Judging.{down_judged, ignore_if, judged, refuse_if, ◌>>◌}, Messages.Message, Registers.settle_registers, State.{addressing_of, State, iface_count, interfaces_of, is_up}, Step.{Answered, change, concluded, done, iface_down, ran, rps_replaced, step, taken, taken_unless_full}, Tables.{Table, has_row}, Upstream.{moved_join_timer, moved_override_timer, upstream}, Writing.{hellos_paid, write_all}}}
 use Rattle.law_settled.{proofs.{ListLaws.all_more, RowLaws.{has_row_dropped, has_row_map}, SettlingLaws.{kept_by_clearing, kept_by_telling, kept_by_writing}}, specs.Ready.IsTidy}
 use Rattle.law_events.{proofs.Configured.Ground}
-use Rattle.law_states.{specs.{Reload.config_of, ReloadLaws.{AreConfigured, AreOfFirst, KeptStayUp, NoneOfRemoved, RemovedAreDown}, Reloading.{down_event, hellos_anew, reload, removals, replaced, under}}, proofs.{Accepted.settled_ground, Ground.reload_is_under, Rest.reload_leaves_rest}}
+use Rattle.law_states.{specs.{Reload.config_of, ReloadLaws.{AreConfigured, AreOfFirst, KeptStayUp, NoneOfRemoved, ReloadKeepsConfigured}, Reloading.{down_event, hellos_anew, reload, removals, replaced, under}}, proofs.{Accepted.settled_ground, Ground.reload_is_under, Rest.reload_leaves_rest}}
 
 -- ---- what follows of a change brings no interface up or down
 
@@ -194,9 +194,9 @@ module _ (s : State) (c : Config) (w : ℕ) where
 pub kept_stay_up : KeptStayUp
 kept_stay_up s c w i low = replaced_up s c w i ∙ kept_up s c w i (ltb-true i (length c.interfaces) low)
 
-pub removed_are_down : RemovedAreDown
+pub reload_keeps_configured : ReloadKeepsConfigured
 unfolding config_of
-removed_are_down s c w are i up =
+reload_keeps_configured s c w are i up =
     ap (λ (d : Config). nat_lt i (length d.interfaces)) (reload_is_under s c w) ∙ low_or_down s c w are i up
 
 -- ---- facts of interfaces

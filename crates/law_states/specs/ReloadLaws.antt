@@ -77,8 +77,8 @@ KeptStayUp = (s : State) (c : Config) (w i : ℕ) → nat_lt i (length c.interfa
     → is_up (reload s c w).0 i ≡ is_up s i
 
 -- After a reload only interfaces of the new configuration are up.
-abbrev pub RemovedAreDown : Type 0
-RemovedAreDown = (s : State) (c : Config) (w : ℕ) → AreConfigured s → AreConfigured (reload s c w).0
+abbrev pub ReloadKeepsConfigured : Type 0
+ReloadKeepsConfigured = (s : State) (c : Config) (w : ℕ) → AreConfigured s → AreConfigured (reload s c w).0
 
 -- All facts of interfaces are of the first n interfaces.
 pub record AreOfFirst (n : ℕ) (s : State) : Type 0 where

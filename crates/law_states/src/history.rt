@@ -8,7 +8,7 @@ pub fn events_alone_are_a_run()
 {}
 
 /// Without a reload the past is that of a run.
-pub fn events_alone_are_the_past()
+pub fn past_of_events()
     ensures { EventsAloneAreThePast }
 {}
 

@@ -11,8 +11,8 @@ mod restored;
 
 pub use history::{
     call_is_asked, calls_lead_on, counted_stay_within_the_greatest, events_alone_are_a_run,
-    events_alone_are_the_past, facts_stay_within_the_greatest, led_states_rest,
-    nothing_flows_unasked_over_reloads, read_state_is_led_to, removals_copy_nothing,
+    facts_stay_within_the_greatest, led_states_rest, nothing_flows_unasked_over_reloads,
+    past_of_events, read_state_is_led_to, removals_copy_nothing,
 };
 pub use placed::{
     addresses_go_along, facts_go_with_their_link, identity_places_are_reload,
@@ -21,8 +21,9 @@ pub use placed::{
 };
 pub use reloaded::{
     appended_move_nothing, delays_move_nothing, goodbye_reads, hellos_leave_first, kept_stay_up,
-    next_query_is_near_anew, no_other_hello, none_of_removed, reload_is_under, reload_leaves_rest,
-    removed_are_down, same_reload_changes_nothing, settings_move_nothing, untold_says_same,
+    next_query_is_near_anew, no_other_hello, none_of_removed, reload_is_under,
+    reload_keeps_configured, reload_leaves_rest, same_reload_changes_nothing,
+    settings_move_nothing, untold_says_same,
 };
 pub use restored::{
     accepted_stays, fresh_settings_keep_rest, later_run_is_asked, later_state_is_reached,

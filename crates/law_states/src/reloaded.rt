@@ -1,6 +1,6 @@
 //! What holds of a running router that is given another configuration. Each law is the contract of a function with
 //! nothing to do.
-ghost use Rattle.law_states.specs.ReloadLaws.{AppendedMoveNothing, DelaysMoveNothing, GoodbyeReads, HellosLeaveFirst, KeptStayUp, NextQueryIsNearAnew, NoneOfRemoved, NoOtherHello, ReloadIsUnder, ReloadLeavesRest, RemovedAreDown, SameReloadChangesNothing, SettingsMoveNothing, UntoldSaysSame};
+ghost use Rattle.law_states.specs.ReloadLaws.{AppendedMoveNothing, DelaysMoveNothing, GoodbyeReads, HellosLeaveFirst, KeptStayUp, NextQueryIsNearAnew, NoneOfRemoved, NoOtherHello, ReloadIsUnder, ReloadLeavesRest, ReloadKeepsConfigured, SameReloadChangesNothing, SettingsMoveNothing, UntoldSaysSame};
 
 /// A reload with the configuration that there is changes nothing, and sends nothing, where the next general queries are
 /// near (`next_query_is_near`), as after any events and reloads.
@@ -39,8 +39,8 @@ pub fn kept_stay_up()
 {}
 
 /// After a reload only interfaces of the new configuration are up.
-pub fn removed_are_down()
-    ensures { RemovedAreDown }
+pub fn reload_keeps_configured()
+    ensures { ReloadKeepsConfigured }
 {}
 
 /// No fact stays of an interface that is removed.

@@ -12,8 +12,8 @@ pub record IsSource (g src : ℕ) : Type 0 where
   pub host : is_unicast src ≡ true
 
 -- the frame of a Join(S,G) on a link
-abbrev pub source_frame : (g src from to link : ℕ) → Sent
-source_frame g src from to link =
+abbrev pub join_source_packet : (g src from to link : ℕ) → Sent
+join_source_packet g src from to link =
     record { link = Some link; bytes = join_packet from to g (entry EntryKind.Source src) [] }
 
 -- ---- what a router on the way to the source has to know
@@ -44,7 +44,7 @@ IsSourceWayOver g src from to link n (w ∷ []) =
 IsSourceWayOver g src from to link n (w ∷ v ∷ ws) =
     (station_at (network_ran n w.waits).1 (w.place).router ≡ Some (w.place).station) × CanTakeSource from to link w.place
     × CanGoOnToSource g src w.place
-    × ((k : ℕ) → frame_at (network_ran n w.waits).1 k ≡ Some (source_frame g src from to link)
+    × ((k : ℕ) → frame_at (network_ran n w.waits).1 k ≡ Some (join_source_packet g src from to link)
     → IsSourceWayOver g src (up_address w.place) ((w.place).next).address.bits (w.place).next_link
     (delivered (network_ran n w.waits).1 w.place k) (v ∷ ws))
 
@@ -60,7 +60,7 @@ pub record HasTakenSource (n : Network) (g src : ℕ) (p : Place) : Type 0 where
 -- The router takes the Join(S,G) by the delivery of a frame, and what is asked of the rest holds after it.
 pub record TakesSourceAt (m : Network) (g src from to link : ℕ) (p : Place) (Rest : Network → Type 0) : Type 0 where
   pub number : ℕ
-  pub is : frame_at m number ≡ Some (source_frame g src from to link)
+  pub is : frame_at m number ≡ Some (join_source_packet g src from to link)
   pub taken : HasTakenSource (delivered m p number) g src p
   pub rest : Rest (delivered m p number)
 
@@ -74,5 +74,5 @@ IsSourceClimbedOver g src from to link n (w ∷ ws) =
 -- A Join(S,G) climbs the way to its source with any moves of the network between its deliveries.
 abbrev pub SourceJoinClimbsOver : Type 0
 SourceJoinClimbsOver = (n : Network) (g src from to link k : ℕ) (ws : List Stop)
-    → IsSource g src → IsSourceWayOver g src from to link n ws → frame_at n k ≡ Some (source_frame g src from to link)
+    → IsSource g src → IsSourceWayOver g src from to link n ws → frame_at n k ≡ Some (join_source_packet g src from to link)
     → IsSourceClimbedOver g src from to link n ws

@@ -19,7 +19,7 @@ joined_in_turn (Touched.Keys a) Touched.All v = refl
 joined_in_turn (Touched.Keys a) (Touched.Keys b) Touched.All = refl
 joined_in_turn (Touched.Keys a) (Touched.Keys b) (Touched.Keys c) = ap (λ (ks : List Key). Touched.Keys ks) (append_assoc a b c)
 
-joined_last : (t : Touched) → joined t (Touched.Keys []) ≡ t
+pub joined_last : (t : Touched) → joined t (Touched.Keys []) ≡ t
 unfolding joined
 joined_last Touched.All = refl
 joined_last (Touched.Keys keys) = ap (λ (ks : List Key). Touched.Keys ks) (append-nil keys)

@@ -13,6 +13,7 @@ pub mod Listing
 mod Judgements
 mod Lasting
 mod Plainly
+mod Repeating
 mod Rows
 mod Sending
 pub mod Staying

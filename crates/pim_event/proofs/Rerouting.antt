@@ -25,7 +25,7 @@ turned s t g src e =
 abbrev placed : List Route → List RpRange → State → State
 placed routes ranges s = record s { routes = routes; ranges = ranges }
 
-module _ (o c : State) (is : IsRerouted o c) (messages : List Message) (w : ℕ) where
+module _ (o c : State) (is : IsRerouted o c) (up : c.interfaces ≡ o.interfaces) (messages : List Message) (w : ℕ) where
   abbrev after : State
   after = (clear o c).0
 
@@ -47,8 +47,7 @@ module _ (o c : State) (is : IsRerouted o c) (messages : List Message) (w : ℕ)
   placed_after routes ranges a =
       let configured : after.configured ≡ o.configured =
       sym kept.configured ∙ ap (λ (u : State). u.configured) is.only in
-      let interfaces : after.interfaces ≡ o.interfaces =
-      sym kept.interfaces ∙ ap (λ (u : State). u.interfaces) is.only in
+      let interfaces : after.interfaces ≡ o.interfaces = sym kept.interfaces ∙ up in
       λ j. route_among (configured j) (interfaces j) routes a
 
   placed_route : (routes : List Route) (ranges : List RpRange) (a : ℕ)
@@ -91,7 +90,7 @@ module _ (o c : State) (is : IsRerouted o c) (messages : List Message) (w : ℕ)
   unfolding route
   placed_change a =
       let configured : o.configured ≡ c.configured = sym (ap (λ (u : State). u.configured) is.only) in
-      let interfaces : o.interfaces ≡ c.interfaces = sym (ap (λ (u : State). u.interfaces) is.only) in
+      let interfaces : o.interfaces ≡ c.interfaces = sym up in
       λ j. route_among (configured j) (interfaces j) c.routes a
 
   -- the change has the routes that the opening has by its lists
@@ -124,10 +123,10 @@ module _ (s : State) (quiet : IsQuiet s) (few : length s.configured.interfaces �
       let end : State = (settled s (c, []) w).0 in
       let calm : has_same_routes g src end (placed s.routes s.ranges end) ≡ true =
       ap (λ (ranges : List RpRange). has_same_routes g src end (placed s.routes ranges end))
-      (sym (ranges_end s c is [] w))
+      (sym (ranges_end s c is refl [] w))
       ∙ same in
       unnamed_source_stays s w (Accepted.Routes routes) few g src
-      (unnamed_where_same s c is [] w quiet g src (same_after_change s c is [] w g src calm))
+      (unnamed_where_same s c is refl [] w quiet g src (same_after_change s c is refl [] w g src calm))
 
   pub same_rps_stay : (ranges : List RpRange)
       → (let end : State = (done s w (change s w (Accepted.Rps ranges))).state in
@@ -139,7 +138,7 @@ module _ (s : State) (quiet : IsQuiet s) (few : length s.configured.interfaces �
       let end : State = (settled s (c, []) w).0 in
       let calm : has_same_routes g src end (placed s.routes s.ranges end) ≡ true =
       ap (λ (routes : List Route). has_same_routes g src end (placed routes s.ranges end))
-      (sym (routes_end s c is [] w))
+      (sym (routes_end s c is refl [] w))
       ∙ same in
       unnamed_source_stays s w (Accepted.Rps ranges) few g src
-      (unnamed_where_same s c is [] w quiet g src (same_after_change s c is [] w g src calm))
+      (unnamed_where_same s c is refl [] w quiet g src (same_after_change s c is refl [] w g src calm))

@@ -1,5 +1,5 @@
 -- Which rows of the cache are made anew after a change, and that all rows are those of the state then.
-use Rattle.std.{proofs.{Common.{◌≡◌, ◌≤◌, ◌+◌, ◌*◌, ℕ, false, List, Result, Ok, Err, IfOk, length, refl, ap, subst, sym, ◌∙◌, arith}, lemmas.List.length-map}}
+use Rattle.std.{proofs.{Common.{◌≡◌, ◌≤◌, ◌+◌, ◌*◌, ℕ, false, List, Ok, length, refl, ap, subst, sym, ◌∙◌, arith}, lemmas.List.length-map}}
 use Rattle.pim_types.{specs.declared.{fact.Key.Key, name.SourceGroup.SourceGroup}}
 use Rattle.pim_trie.{specs.Meter.raised}
 use Rattle.pim_model.{specs.{Cache.cached, Clearing.clear, declared.accepted.Accepted.Accepted, Firing.fire_once, Full.is_full, Reach.{own_firing, told_all, where_accepted}, State.{InterfaceTable, State, interfaces_of}, Step.{change, done, taken}, Tables.Table, Timers.Ending}}
@@ -38,10 +38,6 @@ few_of o changed touched names are =
     (names_are_few o changed touched) in
     let same : length (keys_of names) ≡ length names = length-map names _ in
     omega (arith, here, same)
-
-pub each_ok : {A E : Type 0} {P Q : A → Type 0} (r : Result A E) → ((x : A) → P x → Q x) → IfOk r P → IfOk r Q
-each_ok (Ok x) f p = f x p
-each_ok (Err e) f p = tt
 
 -- their rows, and no others, are touched
 pub touches_named : (o changed t : State) (touched : Touched) (names : List SourceGroup) (old new : ℕ)

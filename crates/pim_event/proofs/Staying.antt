@@ -1,12 +1,12 @@
 -- Which sources stay as they were, whether they have a fact or not: after an event, after the expiry of a timer, and
 -- over firings and events in turn.
-use Rattle.std.{proofs.{Common.{◌≡◌, ◌≤◌, ◌<◌, ◌+◌, ℕ, Bool, true, false, ◌&&◌, ◌||◌, ◌⊎◌, inl, inr, cond, List, [], ◌∷◌, ◌++◌, Result, Ok, Err, OnOk, length, take, take_all, get_or, add-one, refl, ap, subst, sym, ◌∙◌}, Math.Seq.take-suc, lemmas.{Bool.or_parts, List.Folds.list_any-append}}, specs.Prelude.if◌then◌else◌}
+use Rattle.std.{proofs.{Common.{◌≡◌, ◌≤◌, ◌<◌, ◌+◌, ℕ, Bool, true, false, ◌&&◌, ◌||◌, ◌⊎◌, inl, inr, cond, List, [], ◌∷◌, ◌++◌, Result, Ok, Err, OnOk, length, take, take_all, get_or, add-one, refl, ap, subst, sym, ◌∙◌, arith}, Math.Seq.take-suc, lemmas.{Bool.or_parts, List.Folds.list_any-append}}, specs.Prelude.if◌then◌else◌}
 use Rattle.pim_ip.{specs.Ipv4.Packet}
 use Rattle.pim_types.{specs.{declared.{event.Event.Event, fact.Key.Key}, Keys.source_key}}
 use Rattle.pim_model.{specs.{Cache.{Answers, Plain, answers}, declared.accepted.Accepted.Accepted, Firing.{fire_once, fired, settled}, Messages.Message, Full.passes_limit, Reach.own_firing, State.{InterfaceTable, State, interfaces_of}, Step.{change, done, ran, state_after, step, taken}, Tables.has_row, Timers.Ending, Neighbours.is_dr}}
-use Rattle.law_events.{specs.{Locality.{IsQuiet, touching}, Rest.IsAtRest, Scopes.reads, Keeps.KeepsAnswers, Named.{is_source_named, is_same_beside, is_same_fact, is_same_sight}, Adjacent.{AdjoinsAlone, with_neighbour_rows}, Decided.IsDecided, Kept.SameAnswers}, proofs.{SameRows.flags, Configured.configured_beside, KeptSources.unnamed_keeps, Reached.IsConfigured, NamedSameRows.{both_of, not_false}, Settled.settled_configured, NeighbourStays.adjoins_stays, CacheSameRows.kept_is_same}}
+use Rattle.law_events.{specs.{Locality.{IsQuiet, touching}, Rest.IsAtRest, Scopes.reads, Keeps.KeepsAnswers, Named.{is_source_named, is_same_beside, is_same_fact, is_same_sight}, Adjacent.{AdjoinsAlone, with_neighbour_rows}, Decided.IsDecided, Kept.SameAnswers, Switched.is_switch}, proofs.{SameRows.flags, Configured.{change_ups, configured_beside, firing_ups}, KeptSources.unnamed_keeps, Reached.IsConfigured, NamedSameRows.{both_of, not_false}, Settled.settled_configured, NeighbourStays.adjoins_stays, CacheSameRows.kept_is_same}}
 use Rattle.pim_state.{specs.declared.touched.Touched.Touched}
-use Rattle.pim_fanout.{specs.{Contains.{Adjoins, Contains}, Disturbed.{is_disturbed, joined}}, proofs.Untouched.untouched_is_unnamed}
+use Rattle.pim_fanout.{specs.{Contains.{Adjoins, Contains}, Disturbed.{is_disturbed, joined}}, proofs.Untouched.{switched_is_unnamed, untouched_is_unnamed}}
 use Rattle.law_plane.{specs.{Offered.offered, Staying.{KeepsRoutes, OffersAlike, SourceStays, is_rerouting}}, proofs.{Routed.{event_keeps_routes, firing_keeps_routes}, Staying.{firing_source_stays, offer_stays, plain_offer_stays, stays_in_turn, stays_itself, time_source_stays, unnamed_source_stays}}}
 use Rattle.pim_event.{specs.{Ends.end_moves_dr, Staying.{LastOffersStay, OffersStay, UntouchedOffersStay, StaysBeside, disturbed_by, moves_all, moves_dr}, Replacing.Disturbance}, proofs.{Serving.{event_dr, firing_dr}, Taking.taken_is_done}}
 
@@ -108,6 +108,11 @@ adjoined_firing_stays s w e quiet few (Touched.Keys keys) adjoins same_dr g src 
     let changed : State × List Message = fired (record s { present = e.end }) e.timer.kind e.timer.key in
     adjoined_stays s changed.0 quiet few keys adjoins same_dr changed.1 w g src out
 
+-- an event that changes no DR is no interface that goes up or down
+no_switch : (s : State) (a : Accepted) → moves_dr s a ≡ false → is_switch a ≡ false
+unfolding moves_dr
+no_switch s a still = grind arith
+
 pub stays_after : (o s t : State) (w : ℕ) (a : Accepted) → ((m : ℕ) → ¬ (a ≡ Accepted.Advance m)) → (touched : Touched)
     → Contains touched s (change s w a).state → IsQuiet s → (lent : InterfaceTable) → lent ≡ interfaces_of s
     → length lent.configured.interfaces ≤ 120 → t ≡ (taken s w a).state → (before after : Touched)
@@ -124,8 +129,12 @@ stays_after o s t w a timeless touched covers quiet lent lends few is before aft
     (either_way covers
     (λ known. unnamed_source_stays s w a (few_of s lent lends few) g src
     (untouched_is_unnamed s (change s w a).state quiet touched known g src routed.routes routed.ranges calm.1))
+    (λ beside. either_way beside
     (λ adjoins. adjoined_event_stays s w a quiet (few_of s lent lends few) touched adjoins (event_dr s w a still.1) g src
-    calm.1)))
+    calm.1)
+    (λ switches. unnamed_source_stays s w a (few_of s lent lends few) g src
+    (switched_is_unnamed s (change s w a).state quiet touched switches routed.routes routed.ranges
+    (change_ups s w a (no_switch s a still.1)) g src)))))
 
 pub stays_fired : (o s t : State) (w : ℕ) (e : Ending) (touched : Touched) → Contains touched s (own_firing s e)
     → IsQuiet s → (lent : InterfaceTable) → lent ≡ interfaces_of s → length lent.configured.interfaces ≤ 120
@@ -142,8 +151,11 @@ stays_fired o s t w e touched covers quiet lent lends few is moves moving before
     (either_way covers
     (λ known. firing_source_stays s w e (few_of s lent lends few) g src
     (untouched_is_unnamed s (own_firing s e) quiet touched known g src routed.routes routed.ranges calm.1))
+    (λ beside. either_way beside
     (λ adjoins. adjoined_firing_stays s w e quiet (few_of s lent lends few) touched adjoins
-    (firing_dr s e (sym moving ∙ calm.0)) g src calm.1)))
+    (firing_dr s e (sym moving ∙ calm.0)) g src calm.1)
+    (λ switches. firing_source_stays s w e (few_of s lent lends few) g src
+    (switched_is_unnamed s (own_firing s e) quiet touched switches routed.routes routed.ranges (firing_ups s e) g src)))))
 
 pub stays_present : (o s t : State) (m : ℕ) (disturbed : Touched) → t ≡ record s { present = m }
     → StaysBeside disturbed o s → StaysBeside disturbed o t

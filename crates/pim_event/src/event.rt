@@ -25,8 +25,10 @@ ghost use Rattle.pim_settling.specs.Settling.{AreNames};
 ghost use Rattle.pim_state.specs.declared.touched.Touched.{Touched as TouchedValue};
 ghost use Rattle.pim_trie.specs.Meter.{raised};
 ghost use Rattle.pim_types.specs.declared.event.EventKind.{EventKind as EventValue};
-ghost use Rattle.std.specs.Prelude.{◌≡◌, ◌≤◌, [], IfOk, IfSome, IsOk, IsOkUnless, IsTrue, None, OnOk, false, if◌then◌else◌, length, not, true};
+ghost use Rattle.pim_types.specs.declared.outcome.Verdict.{Verdict as VerdictValue};
+ghost use Rattle.std.specs.Prelude.{◌≡◌, ◌≤◌, [], IfOk, IfSome, IsOk, IsOkUnless, IsTrue, None, Ok, OnOk, false, if◌then◌else◌, length, not, true};
 
+use crate::again::take_again;
 use crate::change::apply;
 use crate::hear::{Heard, hear};
 use crate::parts::Core;
@@ -49,6 +51,17 @@ use pim_trie::Meter;
 use pim_types::{Addr, Fault, IfaceId, Outcome, Refusal, Series, SourceGroup, Stop, Verdict};
 use pim_wire::Hello;
 use std::alloc::Global;
+
+// The outcome of an event that was done, of which nothing is sent.
+fn done_silently(alloc: Global) -> Outcome
+    ensures { result ≡ record { answer = Ok VerdictValue.Done; emissions = []; copies = 0 } }
+{
+    Outcome {
+        answer: Ok(Verdict::Done),
+        emissions: Series::new(alloc),
+        copies: 0,
+    }
+}
 
 // The outcome of an event that changes nothing.
 fn stopped(alloc: Global, stop: Stop) -> Outcome
@@ -260,8 +273,8 @@ fn take_change(
     Ok(outcome)
 }
 
-// Takes an accepted event: an Advance lets time pass, and any other event is refused where there is no room for the
-// facts that it names.
+// Takes an accepted event: an Advance lets time pass, a Join/Prune that repeats what is known moves the ends of its rows,
+// and any other event is refused where there is no room for the facts that it names.
 fn take_unless_full(
     core: &mut Core,
     turn: &mut Turn,
@@ -277,6 +290,16 @@ fn take_unless_full(
     match planning {
         Planning::Time { moment } => advance(core, turn, meter, moment),
         Planning::Full => Ok(stopped(turn.alloc, Stop::Refuse(Refusal::Full))),
+        Planning::Again {
+            iface,
+            holdtime,
+            named,
+        } => {
+            // For the proof: the interface is below 120.
+            core.world.interfaces().proof_few();
+            take_again(&mut core.world, meter, iface, holdtime, &named)?;
+            Ok(done_silently(turn.alloc))
+        }
         Planning::Change(plan) => take_change(core, turn, meter, plan),
     }
 }

@@ -2,6 +2,7 @@
 //! what follows of the change.
 #![tactic(auto)]
 
+mod again;
 pub mod change;
 pub mod event;
 mod hear;

@@ -208,7 +208,9 @@ fn fire_world(
     fired(world, turn, meter, due.1)?;
     // For the proof: asserts, sources and registers are under keys of their kind.
     world.proof_keyed();
-    settle(world, turn, meter, &gathered, emissions, last)
+    let names = settle(world, turn, meter, &gathered, emissions, last)?;
+    world.keep_next();
+    Ok(names)
 }
 
 // Lets a timer expire, and then evaluates the rows of the named sources again. Messages of an earlier turn are dropped
@@ -335,6 +337,7 @@ pub(crate) fn advance(
     ensures { TurnsInTime core.old turn.old.draw moment result core.new }
 {
     let mut emissions = Vec::new(turn.alloc);
+    core.world.keep_next();
     fire_all(core, turn, meter, moment, &mut emissions)?;
     // Several of the timers may have named the same source.
     core.cache.list_once();

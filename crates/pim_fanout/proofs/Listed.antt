@@ -4,7 +4,7 @@ use Rattle.pim_ip.{specs.declared.addr.Addr.Addr}
 use Rattle.pim_types.{specs.{declared.fact.{Key.Key, SourceRow.SourceRow}, Keys.{group_in, is_of_group, names_source, same_key, source_in, source_key}}, proofs.Keys.equal_keys}
 use Rattle.pim_model.{specs.{Clearing.{Cleared, ClearAssert, ClearSptBit, clear, clear_all, clearable_count, cleared, to_clear}, Asserts.{assert_forgotten, without_spt, without_spt_bit}, Reach.with_facts, Registers.settle_registers, State.State, Tables.{has_row, is_among, keys_in}, Upstream.{fact_keys, groups_of, sources_of}}}
 use Rattle.law_settled.{proofs.{ListLaws.{any_more, either}, Numbers.any_ascending, RowLaws.{has_row_any, still_absent}, TableLaws.{any_in_filter, any_of_either, any_of_map}, TurnLaws.kept_to_the_end}}
-use Rattle.law_events.{specs.{Locality.{IsQuiet, touching}, Scopes.reads, Named.{is_source_named, named, named_by}, Kept.is_listed}, proofs.{Moved.moved_names, Taken.facts_stay, Touched.touched_names, NeighbourStays.adjoins_names, Listed.listed}}
+use Rattle.law_events.{specs.{Locality.{IsQuiet, touching}, Scopes.reads, Moved.MovesAlone, Named.{is_source_named, named, named_by}, Kept.is_listed}, proofs.{Moved.moved_names, Taken.facts_stay, Touched.touched_names, NeighbourStays.adjoins_names, Listed.listed}}
 use Rattle.pim_state.{specs.declared.touched.Touched.Touched}
 use Rattle.pim_views.{specs.Openings.{facts_of_whole, has_facts, is_of_all, opened_keys, touched_sources}}
 use Rattle.pim_fanout.{specs.{Before.opened_sources, Contains.Contains, Named.{is_changed, named_among}}, proofs.Opened.opened}
@@ -187,23 +187,29 @@ module _ (o changed : State) (quiet : IsQuiet o) (g src : ℕ) where
       go true e = refl
       go false e = sym (unnamed e) ∙ named
 
-  named_is_opened : (touched : Touched) → Contains touched o changed → has_one ≡ true → is_source_named g src o after ≡ true
-      → list_any (same_key (source_key 0 g src)) (opened_sources o touched) ≡ true
-  named_is_opened Touched.All (inl (inl within)) known named =
-      opened_of_all o g src (was_known (has_facts o g src) (λ e. e) (within.sources g src) known)
-  named_is_opened Touched.All (inl (inr none)) known named = absurd none
-  named_is_opened Touched.All (inr none) known named = absurd none
-  named_is_opened (Touched.Keys keys) (inl (inl concerns)) known named =
-      opened_if_touched keys (touched_names keys o changed quiet concerns.agrees g src) named
-      (was_known (has_facts o g src || list_any (names_source g src) keys)
-      (or_left (has_facts o g src) (list_any (names_source g src) keys)) (concerns.named g src) known)
-  named_is_opened (Touched.Keys keys) (inl (inr moves)) known named =
+  moved_is_opened : (keys : List Key) → MovesAlone keys o changed → has_one ≡ true → is_source_named g src o after ≡ true
+      → list_any (same_key (source_key 0 g src)) (opened_sources o (Touched.Keys keys)) ≡ true
+  moved_is_opened keys moves known named =
       let had : has_facts o g src ≡ true =
       was_known (has_facts o g src) (λ e. e)
       (λ e. ap (λ (ks : List Key). list_any (names_source g src) ks) (sym (facts_stay keys o changed moves)) ∙ e) known in
       opened_if_touched keys (moved_names keys o changed quiet moves g src had) named
       (or_left (has_facts o g src) (list_any (names_source g src) keys) had)
-  named_is_opened (Touched.Keys keys) (inr adjoins) known named =
+
+  named_is_opened : (touched : Touched) → Contains touched o changed → has_one ≡ true → is_source_named g src o after ≡ true
+      → list_any (same_key (source_key 0 g src)) (opened_sources o touched) ≡ true
+  named_is_opened Touched.All (inl (inl within)) known named =
+      opened_of_all o g src (was_known (has_facts o g src) (λ e. e) (within.sources g src) known)
+  named_is_opened Touched.All (inl (inr none)) known named = absurd none
+  named_is_opened Touched.All (inr (inl none)) known named = absurd none
+  named_is_opened Touched.All (inr (inr none)) known named = absurd none
+  named_is_opened (Touched.Keys keys) (inl (inl concerns)) known named =
+      opened_if_touched keys (touched_names keys o changed quiet concerns.agrees g src) named
+      (was_known (has_facts o g src || list_any (names_source g src) keys)
+      (or_left (has_facts o g src) (list_any (names_source g src) keys)) (concerns.named g src) known)
+  named_is_opened (Touched.Keys keys) (inl (inr moves)) known named = moved_is_opened keys moves.0 known named
+  named_is_opened (Touched.Keys keys) (inr (inr switches)) known named = moved_is_opened keys switches known named
+  named_is_opened (Touched.Keys keys) (inr (inl adjoins)) known named =
       let had : has_facts o g src ≡ true =
       was_known (has_facts o g src) (λ e. e) (adjoins.facts (names_source g src)) known in
       opened_if_touched keys (adjoins_names keys o changed quiet adjoins g src had) named

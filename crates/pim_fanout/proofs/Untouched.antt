@@ -1,18 +1,20 @@
 -- A source that a change doesn't touch isn't named, whether it has a fact or not, where routes and RP ranges are as
 -- they were.
-use Rattle.std.{proofs.Common.{◌≡◌, ℕ, List, inl, inr, true, sym, ap, ◌∙◌}, specs.{Cmp.Derive.both_true, Prelude.option_and_then}}
+use Rattle.std.{proofs.Common.{◌≡◌, ℕ, List, false, inl, inr, map, true, sym, ap, ◌∙◌}, specs.{Cmp.Derive.both_true, Prelude.option_and_then}}
 use Rattle.pim_types.{specs.declared.config.{Route.Route, RpRange.RpRange}}
-use Rattle.pim_model.{specs.{State.State, Unicast.{route, route_among, rp_among, rp_of, rp_route}}}
-use Rattle.law_events.{specs.{Moved.IsRerouted, Named.{has_same_routes, has_same_rp}}, proofs.{Rerouted.{around_rerouted, rerouted_beside, rerouted_unnamed}, Sights.{options_same, paths_same}, Touched.touched_names}}
+use Rattle.pim_model.{specs.{Clearing.clear, State.State, Unicast.{route, route_among, rp_among, rp_of, rp_route}}}
+use Rattle.law_events.{specs.{Locality.IsQuiet, Moved.IsRerouted, Named.{has_same_routes, has_same_rp, is_source_named}, Scopes.only_up}, proofs.{Configured.ups, Rerouted.{around_rerouted, rerouted_beside, rerouted_unnamed}, SharedMacros.route_cut, Sights.{options_same, paths_same}, Touched.touched_names}}
 use Rattle.pim_state.{specs.declared.touched.Touched.Touched}
-use Rattle.pim_fanout.{specs.{Disturbed.is_disturbed, Laws.UntouchedIsUnnamed}}
+use Rattle.pim_fanout.{specs.{Contains.Switches, Disturbed.is_disturbed, Laws.UntouchedIsUnnamed}}
 
-module _ (o c : State) (is : IsRerouted o c) (routes : o.routes ≡ c.routes) (ranges : o.ranges ≡ c.ranges) where
+module _ (o c : State) (is : IsRerouted o c) (routes : o.routes ≡ c.routes) (ranges : o.ranges ≡ c.ranges)
+    (ups : ups c ≡ ups o) where
   route_same : (address : ℕ) → route o address ≡ route c address
   unfolding route
   route_same address =
-      ap (λ (rs : List Route). route_among o.configured o.interfaces rs address) routes
-      ∙ sym (ap (λ (u : State). route_among u.configured u.interfaces c.routes address) is.only)
+      sym (route_cut o.configured o.interfaces address o.routes)
+      ∙ (λ j. route_among (ap (λ (u : State). u.configured) (sym is.only) j) (sym ups j) (routes j) address)
+      ∙ route_cut c.configured c.interfaces address c.routes
 
   rp_same : (g : ℕ) → rp_of o g ≡ rp_of c g
   unfolding rp_of
@@ -31,11 +33,24 @@ module _ (o c : State) (is : IsRerouted o c) (routes : o.routes ≡ c.routes) (r
       (paths_same (rp_route o g) (rp_route c g) (rp_route_same g)))
       (paths_same (route o src) (route c src) (route_same src))
 
+-- where routes, RP ranges and interfaces that are up are as they were, a source isn't named
+pub unmoved_is_unnamed : (o c : State) → IsQuiet o → IsRerouted o c → o.routes ≡ c.routes → o.ranges ≡ c.ranges
+    → ups c ≡ ups o → (g src : ℕ) → is_source_named g src o (clear o c).0 ≡ false
+unmoved_is_unnamed o c quiet is routes ranges same g src =
+    rerouted_unnamed o c (around_rerouted o c is) (rerouted_beside o c is) quiet g src
+    (routes_same o c is routes ranges same g src)
+
+-- an interface that goes up or down changes no such thing
+pub switched_is_unnamed : (o c : State) → IsQuiet o → (touched : Touched) → Switches touched o c → o.routes ≡ c.routes
+    → o.ranges ≡ c.ranges → ups c ≡ ups o → (g src : ℕ) → is_source_named g src o (clear o c).0 ≡ false
+switched_is_unnamed o c quiet Touched.All none routes ranges same g src = absurd none
+switched_is_unnamed o c quiet (Touched.Keys keys) switches routes ranges same g src =
+    unmoved_is_unnamed o c quiet switches.rerouted routes ranges same g src
+
 pub untouched_is_unnamed : UntouchedIsUnnamed
 unfolding is_disturbed
 untouched_is_unnamed o c quiet Touched.All covers g src routes ranges out = cc
 untouched_is_unnamed o c quiet (Touched.Keys keys) (inl concerns) g src routes ranges out =
     touched_names keys o c quiet concerns.agrees g src out
 untouched_is_unnamed o c quiet (Touched.Keys keys) (inr moves) g src routes ranges out =
-    rerouted_unnamed o c (around_rerouted o c moves.rerouted) (rerouted_beside o c moves.rerouted) quiet g src
-    (routes_same o c moves.rerouted routes ranges g src)
+    unmoved_is_unnamed o c quiet (moves.0).rerouted routes ranges (ap (map only_up) (sym moves.1)) g src

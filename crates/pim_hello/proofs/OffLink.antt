@@ -3,56 +3,10 @@ use Rattle.std.{proofs.{Common.{◌≡◌, ◌==◌, ◌&&◌, ◌||◌, ◌++�
 use Rattle.pim_ip.{specs.{Prefixes.{contains, longest_match}, declared.addr.Prefix.Prefix}}
 use Rattle.pim_types.{specs.{declared.{config.{InterfaceConfig.InterfaceConfig, Route.Route}, fact.{InterfaceRow.InterfaceRow, Key.Key}, path.Path.Path}, Keys.{iface_key, is_of_group, source_in}}}
 use Rattle.pim_model.{specs.{State.{Addressing, State, is_own_among}, Tables.{Table, below, has_row, keys_in}, Unicast.{is_on_link_among, link_among, link_path, path_if_up, route, route_among, route_path, routed_among, subnet}, Upstream.{fact_keys, groups_of, sources_of}}}
-use Rattle.law_settled.{proofs.{ListLaws.any_more, Numbers.any_ascending, TableLaws.{any_in_filter, any_of_map}}}
-use Rattle.law_events.{specs.Adjacent.{is_linked, linked_of_group, linked_sources}}
-use Rattle.pim_state.{proofs.GatheredSources.{both_are_all, member_keys, stored_keys}}
-use Rattle.pim_hello.{specs.Linked.{is_within, may_link}}
-
--- ---- what passes among the keys of each kind of fact
-
-module _ (p : Prefix) {R : Type 0} (rows rest : Table R) (e : Key × R) (is : rows ≡ e ∷ rest) where
-  pub first_within : is_within p e.0 ≡ true → list_any (is_within p) (keys_in rows) ≡ true
-  unfolding keys_in
-  first_within names =
-      ap (λ (t : Table R). list_any (is_within p) (keys_in t)) is
-      ∙ ap (λ (b : Bool). b || list_any (is_within p) (keys_in rest)) names
-
-  pub later_within : is_within p e.0 ≡ false → list_any (is_within p) (keys_in rows) ≡ list_any (is_within p) (keys_in rest)
-  unfolding keys_in
-  later_within names =
-      ap (λ (t : Table R). list_any (is_within p) (keys_in t)) is
-      ∙ ap (λ (b : Bool). b || list_any (is_within p) (keys_in rest)) names
-
-pub none_within : (p : Prefix) {R : Type 0} (rows : Table R) → rows ≡ [] → list_any (is_within p) (keys_in rows) ≡ false
-unfolding keys_in
-none_within p {R = R} rows is = ap (λ (t : Table R). list_any (is_within p) (keys_in t)) is
-
-pub any_of_five : (p : Key → Bool) (a b c d e : List Key)
-    → list_any p (a ++ b ++ c ++ d ++ e)
-    ≡ (list_any p a || (list_any p b || (list_any p c || (list_any p d || list_any p e))))
-any_of_five p a b c d e = simp (list_any-append, or_assoc)
-
-pub any_of_six : (p : Key → Bool) (a b c d e f : List Key)
-    → list_any p (a ++ b ++ c ++ d ++ e ++ f)
-    ≡ (list_any p a || (list_any p b || (list_any p c || (list_any p d || (list_any p e || list_any p f)))))
-any_of_six p a b c d e f = simp (list_any-append, or_assoc)
-
-pub any_within : (s : State) (p : Prefix)
-    → list_any (is_within p) (fact_keys s)
-    ≡ (list_any (is_within p) (member_keys s) || list_any (is_within p) (stored_keys s))
-any_within s p =
-    ap (λ (ks : List Key). list_any (is_within p) ks) (sym (both_are_all s))
-    ∙ list_any-append (is_within p) (member_keys s) (stored_keys s)
+use Rattle.law_events.{specs.Adjacent.{is_linked, linked_of_group, linked_sources}, proofs.Nowhere.{neither_first, neither_second, sources_fail}}
+use Rattle.pim_state.{specs.Sources.{is_within, may_link}}
 
 -- ---- a source that is on the link is in the subnet
-
-neither_first : (a b : Bool) → (a || b) ≡ false → a ≡ false
-neither_first true b e = cc
-neither_first false b e = refl
-
-neither_second : (a b : Bool) → (a || b) ≡ false → b ≡ false
-neither_second true b e = cc
-neither_second false b e = e
 
 -- what is found passes the test
 found_passes : (test : ℕ → Bool) (ns : List ℕ) (n : ℕ) → find test ns ≡ Some n → test n ≡ true
@@ -108,10 +62,6 @@ module _ (configured : Addressing) (up : Table InterfaceRow) (routes : List Rout
 
 -- ---- of all groups
 
-fewer_fail : (a b : Bool) → (a ≡ true → b ≡ true) → b ≡ false → a ≡ false
-fewer_fail true b more fails = sym (more refl) ∙ fails
-fewer_fail false b more fails = refl
-
 module _ (s : State) (i : ℕ) (none : may_link s i ≡ false) where
   abbrev within : ℕ → Bool
   within a = has_address s.configured i a
@@ -142,18 +92,7 @@ module _ (s : State) (i : ℕ) (none : may_link s i ≡ false) where
       (none_of ns (neither_second (within n) _ others))
 
   of_group : (g : ℕ) → list_any within (sources_of g (fact_keys s)) ≡ false
-  unfolding sources_of
-  of_group g =
-      let of_it : Key → Bool = λ k. is_of_group g k && is_some k.source in
-      any_ascending within (map source_in (filter of_it (fact_keys s)))
-      ∙ any_of_map within source_in (filter of_it (fact_keys s))
-      ∙ any_in_filter of_it (λ k. within (source_in k)) (fact_keys s)
-      ∙ fewer_fail _ _ (any_more (λ k. of_it k && within (source_in k)) (λ k. is_some k.source && within (source_in k))
-      (λ k e. from_it (is_of_group g k) (is_some k.source) (within (source_in k)) e) (fact_keys s)) none_in
-    where
-      from_it : (a b c : Bool) → ((a && b) && c) ≡ true → (b && c) ≡ true
-      from_it true b c e = e
-      from_it false b c e = cc
+  of_group g = sources_fail within (fact_keys s) none_in g
 
   nothing_of : (g : ℕ) → linked_of_group s i g ≡ []
   unfolding linked_of_group

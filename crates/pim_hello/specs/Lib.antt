@@ -1,4 +1,3 @@
 pub mod Ends
 pub mod Election
 pub mod Towards
-pub mod Linked

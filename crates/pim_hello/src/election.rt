@@ -78,7 +78,7 @@ fn some_other_better(world: &World, by_priority: bool, own: &InterfaceConfig, ke
 }
 
 // Whether the router is the DR where no neighbour has the key.
-fn is_dr_without(world: &World, key: Key) -> bool
+fn is_dr_if_gone(world: &World, key: Key) -> bool
     ensures { result ≡ is_dr_with world.now key None }
 {
     // For the proof: the keys of neighbours rise.
@@ -126,7 +126,7 @@ fn is_dr_with(world: &World, key: Key, row: Option<NeighbourRow>) -> bool
 {
     match row {
         Some(row) => is_dr_beside(world, key, row),
-        None => is_dr_without(world, key),
+        None => is_dr_if_gone(world, key),
     }
 }
 
@@ -145,7 +145,7 @@ pub fn hello_keeps_dr(world: &World, iface: IfaceId, from: Addr, hello: &Hello) 
 pub fn end_keeps_dr(world: &World, key: Key) -> bool
     ensures { result ≡ end_keeps_dr world.now key }
 {
-    let after = is_dr_without(world, key);
+    let after = is_dr_if_gone(world, key);
     if world.is_dr(key.iface) {
         after
     } else {

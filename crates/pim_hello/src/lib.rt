@@ -6,7 +6,6 @@ pub mod election;
 pub mod full;
 pub mod hello;
 pub mod hello_timers;
-mod linked;
 mod restarted;
 mod served;
 pub mod towards;

@@ -7,7 +7,6 @@ ghost use Rattle.pim_types.specs.Keys.{source_key};
 ghost use Rattle.std.specs.List.{flat_map};
 ghost use Rattle.std.specs.Prelude.{◌≡◌, ◌++◌, OnOk, filter, map};
 
-use crate::linked::may_link;
 use pim_state::{Meter, Turn, World};
 use pim_types::{Addr, IfaceId, Key, Path, SourceGroup};
 use std::alloc::{AllocError, Global};
@@ -119,7 +118,7 @@ fn put_linked_sources(
 ) -> Result<(), AllocError>
     ensures { OnOk result (keys.new.items ≡ keys.old.items ++ linked_sources world.now iface.number) }
 {
-    if !may_link(world, meter, iface) {
+    if !world.may_link(iface, meter) {
         return Ok(());
     }
     let groups = world.groups(alloc, meter)?;

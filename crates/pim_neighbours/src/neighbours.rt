@@ -5,6 +5,7 @@ ghost use Rattle.pim_model.specs.Clearing.{first_by};
 ghost use Rattle.pim_model.specs.Downstream.{holdtime_end_from};
 ghost use Rattle.pim_model.specs.Hellos.{is_generation_changed_among, neighbours_replaced, row_of_hello};
 ghost use Rattle.pim_model.specs.Neighbours.{all_have_priority, is_better_dr, is_dr_among, is_suppression_among, nbr_among, override_interval_among, propagation_delay_among, t_override_among, t_suppressed_among};
+ghost use Rattle.std.specs.List.{list_any};
 ghost use Rattle.pim_model.specs.Tables.{drop_at, drop_where, has_row, keys_in, put, row_at, rows_on, same_option};
 ghost use Rattle.pim_model.specs.Timers.{endings, is_ending_first};
 ghost use Rattle.pim_neighbours.specs.Refreshed.{is_refreshed};
@@ -156,6 +157,13 @@ impl Neighbours {
         ensures { result ≡ length (rows_on iface.number self.now) }
     {
         self.rows.rows().count_on(iface)
+    }
+
+    /// Whether there is a neighbour on the interface.
+    pub fn has_on(&self, iface: IfaceId) -> bool
+        ensures { result ≡ list_any (is_on iface.number) (keys_in self.now) }
+    {
+        self.rows.rows().has_on(iface)
     }
 
     /// What the neighbour with the address on the interface announced.

@@ -8,6 +8,7 @@ mod MovedEnds
 mod MovedReports
 mod Packets
 mod Plans
+pub mod Rejoined
 pub mod Repeats
 pub mod Sourced
 mod Stopped

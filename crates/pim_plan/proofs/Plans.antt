@@ -1,5 +1,5 @@
 -- Plans of events: each kind's fits where its parts do.
-use Rattle.std.{specs.{Box.box_value, Prelude.if◌then◌else◌}, proofs.Common.{◌≡◌, ◌<◌, ℕ, Bool, Box, Global, true, false, List, ap, inl, inr, refl, subst, sym, ◌∙◌}}
+use Rattle.std.{specs.{Box.box_value, Prelude.if◌then◌else◌}, proofs.Common.{◌≡◌, ◌<◌, ℕ, Bool, Box, Global, true, false, List, [], ap, inl, inr, refl, subst, sym, ◌∙◌}}
 use Rattle.pim_types.{specs.declared.{fact.Key.Key, config.{IfaceId.IfaceId, Route.Route, RpRange.RpRange}}}
 use Rattle.pim_model.{specs.{declared.accepted.Accepted.Accepted, Full.{is_full, join_prune_is_full, keys_are_full, source_is_full}, State.{State, iface_count}, Step.{change, rps_replaced}, Downstream.{joined_keys, pruned_keys}}}
 use Rattle.law_events.{specs.{Rest.IsAtRest, Moved.{MovesAlone, keys_by_routes, keys_by_rps}}, proofs.MovedKeys.{routes_move, rps_move}}
@@ -8,7 +8,7 @@ use Rattle.pim_plan.{specs.{Repeats.keys_of_packet, Acting.{HasRead, IsSightOf, 
 use Rattle.pim_macros.{specs.{Sights.IsSourceSight, declared.sight.SourceSight.SourceSight}}
 use Rattle.pim_ip.{specs.Ipv4.Packet}
 use Rattle.pim_views.{specs.Covers.Concerns}
-use Rattle.pim_fanout.{specs.Contains.Contains}
+use Rattle.pim_fanout.{specs.Contains.{Contains, Moves}}
 use Rattle.pim_mrib.{specs.Routes.RouteTable}
 use Rattle.pim_state.{specs.declared.touched.Touched.Touched}
 use Rattle.pim_wire.{specs.Values.JoinPrune}
@@ -36,6 +36,13 @@ module _ (s : State) (a : Accepted) (planning : Planning) (act : Act) (event : a
         covers = λ w. inl (inl (facts_covered s w a none));
       })
 
+  -- an interface that goes up or down moves nothing
+  pub none_fits : (let p : Plan = record { touched = Touched.Keys []; act = act } in planning ≡ Planning.Change p)
+      → Touched.Keys [] ≡ touched_of s a → ((w : ℕ) → MovesAlone [] s (change s w a).state) → IsPlanned s a planning
+  none_fits is touches moves =
+      subst (λ (p : Planning). IsPlanned s a p) (sym is)
+      (record { event = event; read = read; room = room; touches = touches; covers = λ w. inr (inr (moves w)) })
+
 -- what is planned of an event whose kind is known
 pub planned_of : (s : State) (a b : Accepted) (planning : Planning) → a ≡ b → IsPlanned s b planning → IsPlanned s a planning
 planned_of s a b planning is planned = subst (λ (x : Accepted). IsPlanned s x planning) (sym is) planned
@@ -52,6 +59,13 @@ adjoins_fit s act keys touched read those touches room covers = record {
   touches = those ∙ touches;
   covers = λ w. subst (λ (t : Touched). Contains t s (change s w (act_event act)).state) (sym those) (covers w);
 }
+
+-- all is touched, or nothing
+pub all_where : (on : Bool) → on ≡ true → Touched.All ≡ (if on then Touched.All else Touched.Keys [])
+all_where on is = rw is refl
+
+pub none_where : (on : Bool) → on ≡ false → Touched.Keys [] ≡ (if on then Touched.All else Touched.Keys [])
+none_where on isnt = rw isnt refl
 
 -- keys that are touched on a condition
 pub keys_where : (on : Bool) (keys none : List Key) (otherwise : Touched) → on ≡ true → keys ≡ none
@@ -74,7 +88,7 @@ those_where on keys first second is are = rw is (ap Touched.Keys are)
 -- these keys are touched, which take all that is moved
 module _ (s : State) (a : Accepted) (touched : Touched) (act : Act) (keys : List Key) where
   moved_fits : act_event act ≡ a → HasRead s act → Touched.Keys keys ≡ touched_of s a → is_full s a ≡ false
-      → ((w : ℕ) → MovesAlone keys s (change s w a).state) → touched ≡ Touched.Keys keys
+      → ((w : ℕ) → Moves (Touched.Keys keys) s (change s w a).state) → touched ≡ Touched.Keys keys
       → (let p : Plan = record { touched = touched; act = act } in Fits s a p)
   moved_fits event read touches room moves those = record {
     event = event;
@@ -91,16 +105,16 @@ pub routes_fit : (s : State) (routes : List Route) (touched : Touched) (table : 
 unfolding is_full change touched_of
 routes_fit s routes touched table those brings =
     moved_fits s (Accepted.Routes routes) touched (Act.Control (Control.Routes table))
-    (keys_by_routes s (with_routes s routes)) (ap Accepted.Routes brings) tt refl refl (λ w. routes_move s w routes) those
+    (keys_by_routes s (with_routes s routes)) (ap Accepted.Routes brings) tt refl refl (λ w. (routes_move s w routes, refl)) those
 
 pub rps_fit : (s : State) (ranges : List RpRange) (touched : Touched) (table : Box RouteTable Global)
     → touched ≡ Touched.Keys (keys_by_rps s (rps_replaced s ranges)) → (box_value table).ranges ≡ ranges
     → (let p : Plan = record { touched = touched; act = Act.Control (Control.Ranges table) } in
     Fits s (Accepted.Rps ranges) p)
-unfolding is_full change touched_of
+unfolding is_full change touched_of rps_replaced
 rps_fit s ranges touched table those brings =
     moved_fits s (Accepted.Rps ranges) touched (Act.Control (Control.Ranges table))
-    (keys_by_rps s (rps_replaced s ranges)) (ap Accepted.Rps brings) tt refl refl (λ w. rps_move s w ranges) those
+    (keys_by_rps s (rps_replaced s ranges)) (ap Accepted.Rps brings) tt refl refl (λ w. (rps_move s w ranges, refl)) those
 
 -- ---- room
 

@@ -92,7 +92,7 @@ module _ (s : State) (i a : ℕ) (h : HelloValue) where
 pub few_contain : (keys : List Key) (s c : State) → AdjoinsAlone keys s c → IsWithin s c → (many : Bool)
     → Contains (if many then Touched.All else Touched.Keys keys) s c
 few_contain keys s c adjoins within true = inl (inl within)
-few_contain keys s c adjoins within false = inr adjoins
+few_contain keys s c adjoins within false = inr (inl adjoins)
 
 -- what touches some keys touches them and more
 touching_more : (keys more : List Key) (s t : State) → AgreesBut (touching keys) s t

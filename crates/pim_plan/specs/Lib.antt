@@ -1,5 +1,6 @@
 pub mod Acting
 pub mod Naming
 pub mod Planning
+pub mod Rejoining
 pub mod Repeats
 pub mod Tunnels

@@ -4,6 +4,7 @@
 
 pub mod act;
 mod again;
+mod joins;
 pub mod plan;
 
 pub use act::{Act, Control};

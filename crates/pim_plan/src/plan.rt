@@ -21,6 +21,7 @@ use crate::act::{Act, Control};
 use crate::again::{
     is_assert_known, is_direct, is_kept_alive, moved_asserts, moves_at_most_the_keepalive_end,
 };
+use crate::joins::repeats;
 use igmp_wire::{QueryView, ReportView};
 use pim_downstream::{Effect, Named};
 use pim_hello::keys_of_hello;
@@ -29,7 +30,9 @@ use pim_macros::{SourceSight, StarSight};
 use pim_model::Accepted;
 use pim_mrib::Mrib;
 use pim_register::source_is_full;
-use pim_rerouted::{are_many, few_or_all, touched_by_routes, touched_by_rps};
+use pim_rerouted::{
+    are_many, few_or_all, is_in_use, may_lead_over, touched_by_routes, touched_by_rps,
+};
 use pim_state::{Meter, Touched, Turn, World};
 use pim_types::fact::RegisterState;
 use pim_types::{Addr, IfaceId, Key, Route, RpRange, Series, SourceGroup};
@@ -49,9 +52,18 @@ pub struct Plan<'a> {
 #[derive(Drop)]
 pub enum Planning<'a> {
     /// Time passes until this timestamp (ms). The expiry of each timer is planned by itself.
-    Time { moment: u64 },
+    Time {
+        moment: u64,
+    },
     /// The event names facts for which there is no room.
     Full,
+    /// The event is a Join/Prune with these keys and this holdtime, in seconds, that repeats what is known: it changes no
+    /// more than when the rows expire that it joins.
+    Again {
+        iface: IfaceId,
+        holdtime: u16,
+        named: Named,
+    },
     /// The event has a change of its own.
     Change(Plan<'a>),
 }
@@ -134,7 +146,8 @@ fn plan_hello<'a>(
     Ok(Planning::Change(Plan { touched, act }))
 }
 
-// Plans a Join/Prune to the router: it touches the keys of which it changes more than when a timer expires.
+// Plans a Join/Prune to the router: it touches the keys of which it changes more than when a timer expires. One that
+// repeats what is known touches none, and makes no fact.
 fn plan_join_prune<'a>(
     world: &World,
     turn: &Turn,
@@ -147,6 +160,13 @@ fn plan_join_prune<'a>(
 {
     let named = Named::of(world, turn, meter, iface, &message)?;
     let holdtime = message.holdtime();
+    if repeats(world, turn, holdtime, &named)? {
+        return Ok(Planning::Again {
+            iface,
+            holdtime,
+            named,
+        });
+    }
     if pim_downstream::is_full(world, turn, holdtime, &named)? {
         return Ok(Planning::Full);
     }
@@ -407,7 +427,7 @@ fn keys_of_stop(
 
 // Plans a Register-Stop: it touches the source that it names, or the registers of its group that it changes where it
 // names 0.0.0.0, and makes no facts.
-fn plan_stop<'a>(
+fn plan_register_stop<'a>(
     world: &World,
     turn: &Turn,
     from: Addr,
@@ -421,6 +441,28 @@ fn plan_stop<'a>(
     };
     let keys = keys_of_stop(world, turn.alloc, stopped)?;
     Ok(Planning::of_keys(keys, Act::Control(Control::RegisterStop { from, stop })))
+}
+
+// Plans that an interface goes up: it touches nothing where nothing with facts may be routed over it.
+fn plan_up<'a>(world: &World, turn: &Turn, meter: &mut Meter, iface: IfaceId) -> Planning<'a>
+    ensures { IsPlanned world.now (AcceptedValue.Up iface) result }
+{
+    let act = Act::Control(Control::Up { iface });
+    if may_lead_over(world, meter, iface) {
+        return Planning::of_all(act);
+    }
+    Planning::of_nothing(turn.alloc, act)
+}
+
+// Plans that an interface goes down: it touches nothing where it isn't in use.
+fn plan_down<'a>(world: &World, turn: &Turn, meter: &mut Meter, iface: IfaceId) -> Planning<'a>
+    ensures { IsPlanned world.now (AcceptedValue.Down iface) result }
+{
+    let act = Act::Control(Control::Down { iface });
+    if is_in_use(world, meter, iface) {
+        return Planning::of_all(act);
+    }
+    Planning::of_nothing(turn.alloc, act)
 }
 
 // Plans new routes: they touch what they move, and make no facts. If they equal the present routes, nothing is looked
@@ -487,8 +529,8 @@ pub fn planned<'a>(
 {
     match accepted {
         Accepted::Advance { moment } => Ok(Planning::Time { moment }),
-        Accepted::Up { iface } => Ok(Planning::of_all(Act::Control(Control::Up { iface }))),
-        Accepted::Down { iface } => Ok(Planning::of_all(Act::Control(Control::Down { iface }))),
+        Accepted::Up { iface } => Ok(plan_up(world, turn, meter, iface)),
+        Accepted::Down { iface } => Ok(plan_down(world, turn, meter, iface)),
         Accepted::Routes { routes } => plan_routes(
             world,
             turn,
@@ -517,6 +559,6 @@ pub fn planned<'a>(
         Accepted::Register { packet, register } => plan_register(
             world, turn, meter, packet, register,
         ),
-        Accepted::RegisterStop { from, stop } => plan_stop(world, turn, from, stop),
+        Accepted::RegisterStop { from, stop } => plan_register_stop(world, turn, from, stop),
     }
 }

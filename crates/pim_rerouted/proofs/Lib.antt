@@ -1,1 +1,3 @@
+mod Between
 pub mod OtherRoutes
+mod InUse

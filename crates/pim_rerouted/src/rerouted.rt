@@ -5,6 +5,7 @@ ghost use Rattle.law_events.specs.Moved.{keys_by_routes, keys_by_rps, moved_of_g
 ghost use Rattle.law_events.specs.Named.{has_same_rp};
 ghost use Rattle.pim_model.specs.Step.{rps_replaced};
 ghost use Rattle.pim_model.specs.Unicast.{route};
+ghost use Rattle.pim_rerouted.specs.Between.{Follows};
 ghost use Rattle.pim_rerouted.specs.OtherRoutes.{has_other_route, group_has_other_rp, with_routes};
 ghost use Rattle.pim_state.specs.Groups.{numbers_of};
 ghost use Rattle.pim_state.specs.declared.touched.Touched.{Touched as TouchedValue};
@@ -12,6 +13,7 @@ ghost use Rattle.pim_types.specs.Keys.{source_key, star_key};
 ghost use Rattle.std.specs.List.{flat_map};
 ghost use Rattle.std.specs.Prelude.{◌≡◌, ◌++◌, IfOk, OnOk, filter, map, not};
 
+use crate::changed::NextRoutes;
 use pim_fanout::{is_same_address, is_same_path};
 use pim_mrib::Mrib;
 use pim_state::{Meter, Touched, World};
@@ -49,20 +51,44 @@ pub fn group_has_other_rp(world: &World, meter: &mut Meter, next: &Mrib, group: 
     !is_same_address(before, after)
 }
 
+// Whether the address has another route in the next table.
+#[tactic(auto, using(crate::proofs::Between::not_moved))]
+fn is_moved(world: &World, meter: &mut Meter, next: &NextRoutes<'_>, address: Addr) -> bool
+    requires { Follows world.now next.now }
+    ensures { result ≡ has_other_route world.now (with_routes world.now next.now.table.now.routes) address.bits }
+{
+    if next.leave(address) {
+        return false;
+    }
+    has_other_route(world, meter, next.table, address)
+}
+
+// Whether the RP of the group has another route in the next table.
+fn is_rp_moved(world: &World, meter: &mut Meter, next: &NextRoutes<'_>, group: Addr) -> bool
+    requires { Follows world.now next.now }
+    ensures { result ≡ not (has_same_rp group.bits world.now (with_routes world.now next.now.table.now.routes)) }
+{
+    match world.rp(group, meter) {
+        Some(rp) => is_moved(world, meter, next, rp),
+        None => false,
+    }
+}
+
 // Adds the keys of those sources of a group that have another route.
 fn put_sources(
     world: &World,
     meter: &mut Meter,
-    next: &Mrib,
+    next: &NextRoutes<'_>,
     group: Addr,
     sources: &BTreeMap<Addr, (), Global>,
     keys: &mut Vec<Key>,
 ) -> Result<(), AllocError>
+    requires { Follows world.now next.now }
     ensures { OnOk result (keys.new.items ≡ keys.old.items ++ map (source_key 0 group.bits)
-        (filter (has_other_route world.now (with_routes world.now next.now.routes)) (numbers_of sources.now.entries))) }
+        (filter (has_other_route world.now (with_routes world.now next.now.table.now.routes)) (numbers_of sources.now.entries))) }
 {
     for (source, ()) in sources.iter() {
-        if has_other_route(world, meter, next, *source) {
+        if is_moved(world, meter, next, *source) {
             let name = SourceGroup {
                 source: *source,
                 group,
@@ -79,14 +105,15 @@ fn put_group(
     world: &World,
     alloc: Global,
     meter: &mut Meter,
-    next: &Mrib,
+    next: &NextRoutes<'_>,
     group: Addr,
     keys: &mut Vec<Key>,
 ) -> Result<(), AllocError>
+    requires { Follows world.now next.now }
     ensures { OnOk result (keys.new.items ≡ keys.old.items
-        ++ moved_of_group world.now (with_routes world.now next.now.routes) group.bits) }
+        ++ moved_of_group world.now (with_routes world.now next.now.table.now.routes) group.bits) }
 {
-    if is_group_moved(world, meter, next, group) {
+    if is_rp_moved(world, meter, next, group) {
         keys.push(Key::group(group))?;
         return Ok(());
     }
@@ -99,11 +126,12 @@ fn keys_of_groups(
     world: &World,
     alloc: Global,
     meter: &mut Meter,
-    next: &Mrib,
+    next: &NextRoutes<'_>,
     groups: &BTreeMap<Addr, (), Global>,
 ) -> Result<Series<Key>, AllocError>
+    requires { Follows world.now next.now }
     ensures { IfOk result (λ keys. keys
-        ≡ flat_map (moved_of_group world.now (with_routes world.now next.now.routes)) (numbers_of groups.now.entries)) }
+        ≡ flat_map (moved_of_group world.now (with_routes world.now next.now.table.now.routes)) (numbers_of groups.now.entries)) }
 {
     let mut keys = Vec::new(alloc);
     for (group, ()) in groups.iter() {
@@ -134,7 +162,7 @@ fn keys_with_other_rp(
 
 /// What the routes of the next table touch: the groups with any fact whose RP has another route, and of the other
 /// groups the sources with any fact that have another route. The meter rises by the nodes that the look-ups visit, at
-/// least those of the RP of each group and of the routes that are compared.
+/// least those of the RP of each group.
 pub fn touched_by_routes(
     world: &World,
     alloc: Global,
@@ -145,7 +173,8 @@ pub fn touched_by_routes(
         ≡ TouchedValue.Keys (keys_by_routes world.now (with_routes world.now next.now.routes))) }
 {
     let groups = world.groups(alloc, meter)?;
-    Ok(Touched::Keys(keys_of_groups(world, alloc, meter, next, &groups)?))
+    let next = NextRoutes::of(world.routes(), next);
+    Ok(Touched::Keys(keys_of_groups(world, alloc, meter, &next, &groups)?))
 }
 
 /// What the RP ranges of the next table touch: the groups with any fact that have another RP. The meter rises by the

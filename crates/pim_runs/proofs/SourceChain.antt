@@ -2,7 +2,7 @@
 use Rattle.std.{proofs.Common.{◌≡◌, ◌∙◌, ℕ, ◌+◌, [], ◌∷◌, length, Ok, None, Some, true, false, refl, sym, ap, subst, lit≤, lit<}}
 use Rattle.pim_ip.{specs.Ipv4.{copy_text, is_link_local, is_multicast, packet_of}}
 use Rattle.pim_model.{specs.{Limits.config_test, Network.{Network, frame_at, network_ran, station_at}}}
-use Rattle.law_streams.{specs.{Networks.events_in, Flows.IsCarried, Joins.join_packet, Ways.{Place, state_of, up_address}, Climbing.delivered, Streams.later_place, SourceTreeClimbing.{CanGoOnToSource, CanTakeSource, IsSource, IsSourceWayOver, source_frame}, Turning.{TurnsAt, may_turn}}, proofs.{Networks.runs_alone, Passing.stays_settled, Streams.later_stand, SourceTreeClimbing.source_join_climbs_over, SourceTreeWays.source_tree_begins, Computed.alike_delivered}}
+use Rattle.law_streams.{specs.{Networks.events_in, Flows.IsCarried, Joins.join_packet, Ways.{Place, state_of, up_address}, Climbing.delivered, Streams.later_place, SourceTreeClimbing.{CanGoOnToSource, CanTakeSource, IsSource, IsSourceWayOver, join_source_packet}, Turning.{TurnsAt, may_turn}}, proofs.{Networks.runs_alone, Passing.stays_settled, Streams.later_stand, SourceTreeClimbing.source_join_climbs_over, SourceTreeWays.source_tree_begins, Computed.alike_delivered}}
 use Rattle.law_settled.{specs.Ready.IsSettled, proofs.Steps.run_is_settled}
 use Rattle.pim_runs.{specs.{ServedChain.{asked_group, content, sender, sent_packet}, SourceChain.{SourceIsJoined, TreeBegins, below_copy, copied_there, edge, joining, lower, lower_meets, lower_place, middle, middle_meets, middle_place, stops, to_lower, to_middle, to_the_copy, to_upper, upper_place}, StreamChain.all_at, Words.address}, proofs.OnLiterals.machine_on_literals}
 
@@ -81,7 +81,7 @@ at_two = (network_ran after_one (all_at 3000)).1
 abbrev after_two : Network
 after_two = delivered at_two two 8
 
-first_join : frame_at at_one 1 ≡ Some (source_frame asked_group sender edge (address 10 0 3 1) 3)
+first_join : frame_at at_one 1 ≡ Some (join_source_packet asked_group sender edge (address 10 0 3 1) 3)
 unfolding machine_on_literals network_ran join_packet
 first_join = refl
 
@@ -89,14 +89,14 @@ up_from_one : up_address one ≡ address 10 0 1 1
 unfolding machine_on_literals events_in network_ran join_packet
 up_from_one = refl
 
-second_frame : frame_at (network_ran joining to_middle).1 8 ≡ Some (source_frame asked_group sender (address 10 0 1 1) (address 10 0 1 2) 1)
+second_frame : frame_at (network_ran joining to_middle).1 8 ≡ Some (join_source_packet asked_group sender (address 10 0 1 1) (address 10 0 1 2) 1)
 unfolding machine_on_literals network_ran join_packet
 second_frame = refl
 
-second_join : frame_at at_two 8 ≡ Some (source_frame asked_group sender (up_address one) (address 10 0 1 2) 1)
+second_join : frame_at at_two 8 ≡ Some (join_source_packet asked_group sender (up_address one) (address 10 0 1 2) 1)
 unfolding network_ran
 second_join =
-    second_frame ∙ ap (λ (from : ℕ). Some (source_frame asked_group sender from (address 10 0 1 2) 1)) (sym up_from_one)
+    second_frame ∙ ap (λ (from : ℕ). Some (join_source_packet asked_group sender from (address 10 0 1 2) 1)) (sym up_from_one)
 
 one_stands : station_at at_one 0 ≡ Some one.station
 unfolding station_at
@@ -137,7 +137,7 @@ is_source : IsSource asked_group sender
 unfolding machine_on_literals
 is_source = record { multicast = refl; goes_far = refl; host = refl }
 
-edge_sent : frame_at joining 1 ≡ Some (source_frame asked_group sender edge (address 10 0 3 1) 3)
+edge_sent : frame_at joining 1 ≡ Some (join_source_packet asked_group sender edge (address 10 0 3 1) 3)
 unfolding frame_at
 edge_sent = refl
 

@@ -4,7 +4,7 @@ use Rattle.std.{specs.Prelude.{List, [], ℕ, ◌++◌, ◌∷◌}}
 use Rattle.pim_types.{specs.declared.{config.Config.Config, event.Event.Event}}
 use Rattle.pim_model.{specs.{Network.{At, Deliver, Move, Network, network_ran}, Tables.hop_at}}
 use Rattle.pim_runs.{specs.{Base.{all_groups, base, interface, prefix, route_by, rp_for}, Words.{address, frame, up}, ServedChain.{asked_group, content, hello_from, root, sender, sent_packet, station}, StreamChain.all_at}}
-use Rattle.law_streams.{specs.{Ways.Place, Climbing.Stop, Streams.later_place, SourceTreeClimbing.{IsSourceClimbedOver, source_frame}, Turning.IsTurned}}
+use Rattle.law_streams.{specs.{Ways.Place, Climbing.Stop, Streams.later_place, SourceTreeClimbing.{IsSourceClimbedOver, join_source_packet}, Turning.IsTurned}}
 
 -- link 3 is below the first router, link 1 between the first and the second, link 2 between the second and the last
 abbrev pub lower : Config
@@ -46,7 +46,7 @@ joining = record {
   stations =
       station (3 ∷ 1 ∷ []) lower lower_meets ∷ station (1 ∷ 2 ∷ []) middle middle_meets
       ∷ station (2 ∷ 4 ∷ []) upper upper_meets ∷ [];
-  frames = source_frame asked_group sender edge (address 10 0 3 1) 3 ∷ [];
+  frames = join_source_packet asked_group sender edge (address 10 0 3 1) 3 ∷ [];
 }
 
 abbrev pub lower_place : Place

@@ -90,6 +90,12 @@ module _ (o a : State) (quiet : IsQuiet o) (keyed : AreKeyed (pim_tables a)) whe
         (upstream_of_keys keys o (clear_by opening s).0 w
         (named_within keys o s (clear_by opening s).0 here (clearing_is_within opening s)))
 
+    by_moves : (keys : List Key) → MovesAlone keys o a
+        → settled o (a, messages) w ≡ settled_by (opening_of o (Touched.Keys keys)) a messages w
+    by_moves keys moves =
+        by_keys keys (moved_named keys o a moves)
+        (moved_settles keys o a quiet moves sources_have registers_have messages w)
+
     pub settled_as_opened : (touched : Touched) → Contains touched o a
         → settled o (a, messages) w ≡ settled_by (opening_of o touched) a messages w
     unfolding settled clear
@@ -104,13 +110,13 @@ module _ (o a : State) (quiet : IsQuiet o) (keyed : AreKeyed (pim_tables a)) whe
         (upstream_of_all o (clear_by opening s).0 w
         (within_both o s (clear_by opening s).0 here (clearing_is_within opening s)))
     settled_as_opened Touched.All (inl (inr none)) = absurd none
-    settled_as_opened Touched.All (inr none) = absurd none
+    settled_as_opened Touched.All (inr (inl none)) = absurd none
+    settled_as_opened Touched.All (inr (inr none)) = absurd none
     settled_as_opened (Touched.Keys keys) (inl (inl concerns)) =
         by_keys keys concerns.named (settling_is_own keys o quiet (a, messages) w concerns.agrees)
-    settled_as_opened (Touched.Keys keys) (inl (inr moves)) =
-        by_keys keys (moved_named keys o a moves)
-        (moved_settles keys o a quiet moves sources_have registers_have messages w)
-    settled_as_opened (Touched.Keys keys) (inr adjoins) =
+    settled_as_opened (Touched.Keys keys) (inl (inr moves)) = by_moves keys moves.0
+    settled_as_opened (Touched.Keys keys) (inr (inr switches)) = by_moves keys switches
+    settled_as_opened (Touched.Keys keys) (inr (inl adjoins)) =
         by_keys keys (adjoined_named keys o a adjoins) (adjoins_settles keys o a quiet adjoins messages w)
 
   -- ---- what clearing leaves, by what was opened
@@ -130,6 +136,11 @@ module _ (o a : State) (quiet : IsQuiet o) (keyed : AreKeyed (pim_tables a)) whe
       ∙ ap (λ (p : State × List Message). p.0)
       (touched_go_by_opened keys o s here left left.asserts_rise left.sources_rise)
 
+  cleared_by_moves : (keys : List Key) → MovesAlone keys o a
+      → (clear o a).0 ≡ (cleared_by (opening_of o (Touched.Keys keys)) a).0
+  cleared_by_moves keys moves =
+      cleared_by_keys keys (moved_named keys o a moves) (moved_goes keys o a quiet moves sources_have registers_have)
+
   pub cleared_as_opened : (touched : Touched) → Contains touched o a
       → (clear o a).0 ≡ (cleared_by (opening_of o touched) a).0
   unfolding clear cleared_by
@@ -141,14 +152,14 @@ module _ (o a : State) (quiet : IsQuiet o) (keyed : AreKeyed (pim_tables a)) whe
       ap (λ (t : State). (clear_all o t).0) (registers_of_all o a within keyed keyed.registers_rise)
       ∙ ap (λ (p : State × List Message). p.0) (all_go_by_opened o s here left left.asserts_rise left.sources_rise)
   cleared_as_opened Touched.All (inl (inr none)) = absurd none
-  cleared_as_opened Touched.All (inr none) = absurd none
+  cleared_as_opened Touched.All (inr (inl none)) = absurd none
+  cleared_as_opened Touched.All (inr (inr none)) = absurd none
   cleared_as_opened (Touched.Keys keys) (inl (inl concerns)) =
       cleared_by_keys keys concerns.named
       (ap (clear_all o) (registers_of_touched (touching keys) (touching_is_closed keys) o quiet a concerns.agrees)
       ∙ clear_of_touched (touching keys) o (touching_is_closed keys) quiet (touched_registers (touching keys) a)
       (registers_agree (touching keys) (touching_is_closed keys) o a concerns.agrees))
-  cleared_as_opened (Touched.Keys keys) (inl (inr moves)) =
-      cleared_by_keys keys (moved_named keys o a moves)
-      (moved_goes keys o a quiet moves sources_have registers_have)
-  cleared_as_opened (Touched.Keys keys) (inr adjoins) =
+  cleared_as_opened (Touched.Keys keys) (inl (inr moves)) = cleared_by_moves keys moves.0
+  cleared_as_opened (Touched.Keys keys) (inr (inr switches)) = cleared_by_moves keys switches
+  cleared_as_opened (Touched.Keys keys) (inr (inl adjoins)) =
       cleared_by_keys keys (adjoined_named keys o a adjoins) (adjoins_goes keys o a quiet adjoins)

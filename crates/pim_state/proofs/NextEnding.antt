@@ -1,11 +1,11 @@
 -- The first end of all tables, by the first of each component's.
-use Rattle.std.{proofs.{Common.{◌≡◌, List, ◌++◌, Some, arith, length-append}, lemmas.List.Elements.filter-append}}
-use Rattle.pim_types.{specs.declared.{fact.{AssertRow.AssertRow, DownstreamRow.DownstreamRow, GroupRecordRow.GroupRecordRow, GroupRepeatRow.GroupRepeatRow, InterfaceRow.InterfaceRow, JoinTimerRow.JoinTimerRow, NeighbourRow.NeighbourRow, OverrideTimerRow.OverrideTimerRow, QuerierRow.QuerierRow, RegisterRow.RegisterRow, SourceRecordRow.SourceRecordRow, SourceRepeatRow.SourceRepeatRow, SourceRow.SourceRow}, timer.TimerKind.TimerKind}}
+use Rattle.std.{proofs.{Common.{◌≡◌, ℕ, List, ◌++◌, None, Option, Some, ap, arith, length-append, option_map, subst, sym, ◌∙◌}, lemmas.List.Elements.filter-append}}
+use Rattle.pim_types.{specs.declared.{fact.{AssertRow.AssertRow, DownstreamRow.DownstreamRow, GroupRecordRow.GroupRecordRow, GroupRepeatRow.GroupRepeatRow, InterfaceRow.InterfaceRow, JoinTimerRow.JoinTimerRow, NeighbourRow.NeighbourRow, OverrideTimerRow.OverrideTimerRow, QuerierRow.QuerierRow, RegisterRow.RegisterRow, SourceRecordRow.SourceRecordRow, SourceRepeatRow.SourceRepeatRow, SourceRow.SourceRow}, timer.{Timer.Timer, TimerKind.TimerKind}}}
 use Rattle.pim_model.{specs.{Clearing.first_by, State.State, Timers.{Ending, endings, is_ending_first, next_ending, next_query, other_querier_end, register_end, timers}}}
 use Rattle.igmp_membership.{specs.MembershipTables.membership_endings}
 use Rattle.pim_store.{specs.PimTables.{pim_tables, stored_endings}}
-use Rattle.pim_tables.{proofs.Orders.first_of_counted}
-use Rattle.pim_state.{specs.Lending.membership_tables}
+use Rattle.pim_tables.{specs.Ends.due_of, proofs.Orders.first_of_counted}
+use Rattle.pim_state.{specs.{Lending.membership_tables, Next.{IsNext, next_among}}}
 
 regrouped : (n p d gr sr a k r o j q g s y h : List Ending)
     → first_by is_ending_first (n ++ (p ++ d ++ a ++ k ++ r ++ o ++ j) ++ (gr ++ sr ++ (q ++ y) ++ g ++ s) ++ h)
@@ -34,3 +34,22 @@ next_of_parts s = regrouped
     (endings TimerKind.SourceRepeat (λ (r : SourceRepeatRow). Some r.next) s.source_repeats)
     (endings TimerKind.GeneralQuery (λ (r : QuerierRow). next_query r.role) s.queriers)
     (endings TimerKind.Hello (λ (r : InterfaceRow). Some r.hello_end) s.interfaces)
+
+-- what is looked for in the tables of a state
+next_in : (s : State) → next_among s.interfaces s.neighbours (membership_tables s) (pim_tables s)
+    ≡ option_map due_of (next_ending s)
+next_in s = ap (option_map due_of) (next_of_parts s)
+
+pub kept_is_next : (s : State) (kept : Option (ℕ × Timer)) (due : ℕ × Timer) → kept ≡ Some due
+    → IsNext kept (next_among s.interfaces s.neighbours (membership_tables s) (pim_tables s))
+    → Some due ≡ option_map due_of (next_ending s)
+kept_is_next s kept due is next =
+    sym (subst (λ k. IsNext k (next_among s.interfaces s.neighbours (membership_tables s) (pim_tables s))) is next) ∙ next_in s
+
+next_given : (kept next : Option (ℕ × Timer)) → kept ≡ next → IsNext kept next
+next_given None next e = tt
+next_given (Some due) next e = sym e
+
+pub next_is_kept : (s : State) (kept : Option (ℕ × Timer)) → kept ≡ option_map due_of (next_ending s)
+    → IsNext kept (next_among s.interfaces s.neighbours (membership_tables s) (pim_tables s))
+next_is_kept s kept e = next_given kept _ (e ∙ sym (next_in s))

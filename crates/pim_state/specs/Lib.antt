@@ -1,6 +1,7 @@
 pub mod Configurations
 pub mod Groups
 pub mod Lending
+pub mod Next
 pub mod PartsOf
 pub mod Shown
 pub mod Short

@@ -39,6 +39,7 @@ impl World {
             → meter.new ≡ meter.old) }
     {
         let end = self.present() + KEEPALIVE_PERIOD;
+        self.next = None;
         self.store.keep_alive(name, end, hint, meter)
     }
 
@@ -59,6 +60,7 @@ impl World {
             keepalive: self.keepalive_end(name),
             spt: true,
         };
+        self.next = None;
         self.store.set_source(name, Some(row), meter)
     }
 }

@@ -71,6 +71,7 @@ impl World {
         ensures { OnOk result (self.new
             ≡ record self.old { interfaces = hellos_triggered iface.number end self.old.interfaces }) }
     {
+        self.next = None;
         self.interfaces.owe_hello(iface, end)
     }
 
@@ -85,6 +86,7 @@ impl World {
         ensures { OnOk result (self.new ≡ neighbour_replaced self.old iface.number from.bits hello.now) }
     {
         let own = self.own(iface);
+        self.next = None;
         self.neighbours.hello(iface, from, hello, self.present)?;
         let is_dr = self.neighbours.is_dr(iface, &own);
         self.dr = with_member(self.dr, iface, is_dr);

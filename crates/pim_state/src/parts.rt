@@ -79,6 +79,7 @@ impl World {
             dr,
             membership,
             store,
+            next: None,
         })
     }
 }

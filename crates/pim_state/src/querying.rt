@@ -47,6 +47,7 @@ impl World {
         ensures { OnOk result (self.new ≡ querying self.old iface.number next_query startup_left) }
     {
         let row = self.querier_row(next_query, startup_left);
+        self.next = None;
         self.membership.put_querier(iface, row)
     }
 
@@ -62,6 +63,7 @@ impl World {
         ensures { OnOk result (self.new ≡ querying_on self.old iface.number next_query startup_left) }
     {
         let row = self.querier_row(next_query, startup_left);
+        self.next = None;
         self.membership.change_querier(iface, row)
     }
 
@@ -76,6 +78,7 @@ impl World {
           sendings = drop_where (is_on iface.number) self.old.sendings;
         }) }
     {
+        self.next = None;
         self.membership.put_querier(iface, row)?;
         self.membership.drop_repeats_on(iface);
         Ok(())
@@ -127,6 +130,7 @@ impl World {
         let lowered = GroupRecordRow {
             end: lowered(row.end, end),
         };
+        self.next = None;
         self.membership
             .change_group_record(iface, group, lowered, meter)
     }

@@ -22,6 +22,7 @@ impl World {
         ensures sent { OnOk result (emissions.new.items ≡ emissions.old.items ++ (write_all self.old out.now).1) }
         ensures fault { IsOkUnless result Fault.Memory }
     {
+        self.next = None;
         out.write(room, &mut self.interfaces, emissions)
     }
 }

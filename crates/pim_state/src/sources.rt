@@ -1,4 +1,4 @@
-//! The sources of a group that have any fact.
+//! The sources of a group that have any fact, and whether any fact's source is in a prefix.
 ghost use Rattle.std.specs.List.{list_any};
 ghost use Rattle.std.specs.Prelude.{◌≡◌, [], ◌∷◌, IfOk, OnOk};
 ghost use Rattle.pim_types.specs.Keys.{is_of_group, names_source};
@@ -7,14 +7,15 @@ ghost use Rattle.pim_state.specs.Groups.{gathered, numbers_of};
 ghost use Rattle.igmp_membership.specs.MembershipTables.{membership_keys};
 ghost use Rattle.pim_model.specs.Tables.{keys_in};
 ghost use Rattle.pim_store.specs.PimTables.{stored_keys};
-ghost use Rattle.pim_state.specs.Sources.{is_from, sources_among};
+ghost use Rattle.pim_state.specs.Sources.{is_from, is_within, may_link, sources_among};
 
 use crate::world::World;
 use igmp_membership::Membership;
+use pim_ip::Prefix;
 use pim_store::{JoinTimerRows, Sources, Store};
 use pim_tables::PlacedRows;
 use pim_trie::Meter;
-use pim_types::{Addr, Key, SourceGroup};
+use pim_types::{Addr, IfaceId, Key, SourceGroup};
 use std::alloc::{AllocError, Global};
 use std::collections::BTreeMap;
 use std::collections::btree_map::Iter;
@@ -42,82 +43,112 @@ impl World {
         self.membership.has_facts(name, meter) || self.store.has_facts(name, meter)
     }
 
+    /// Whether a fact of any group names a source in the prefix. The keys of all facts are gone through. The meter rises
+    /// by the nodes visited.
+    #[tactic(auto, using(crate::proofs::Named::any_within), unfolding(igmp_membership::specs::MembershipTables::membership_keys, pim_store::specs::PimTables::stored_keys))]
+    pub fn has_source_in(&self, prefix: Prefix, meter: &mut Meter) -> bool
+        ensures { result ≡ list_any (is_within prefix) (fact_keys self.now) }
+    {
+        is_among_members(&self.membership, prefix) || is_among_stored(&self.store, prefix, meter)
+    }
+
     /// Whether a fact of any group names the address as its source. The keys of all facts are gone through. The meter
     /// rises by the nodes visited.
-    #[tactic(auto, using(crate::proofs::Named::any_from), unfolding(igmp_membership::specs::MembershipTables::membership_keys, pim_store::specs::PimTables::stored_keys))]
+    #[tactic(auto, using(crate::proofs::Named::within_host))]
     pub fn is_source(&self, address: Addr, meter: &mut Meter) -> bool
         ensures { result ≡ list_any (is_from address.bits) (fact_keys self.now) }
     {
-        is_source_of_members(&self.membership, address)
-            || is_source_of_store(&self.store, address, meter)
+        let host = Prefix {
+            address,
+            length: 32,
+        };
+        self.has_source_in(host, meter)
+    }
+
+    /// Whether a fact's source is in the subnet of the interface. The keys of all facts are gone through. The meter rises
+    /// by the nodes visited.
+    #[tactic(auto, unfolding(crate::specs::Sources::may_link))]
+    pub fn may_link(&self, iface: IfaceId, meter: &mut Meter) -> bool
+        ensures { result ≡ may_link self.now iface.number }
+    {
+        match self.interfaces.config(iface) {
+            Some(config) => {
+                let subnet = Prefix {
+                    address: config.address,
+                    length: config.length,
+                };
+                self.has_source_in(subnet, meter)
+            }
+            None => false,
+        }
     }
 }
 
-// Whether a fact of IGMP names the address as its source.
-#[tactic(auto, using(crate::proofs::Named::any_of_five), unfolding(igmp_membership::specs::MembershipTables::membership_keys))]
-fn is_source_of_members(membership: &Membership, address: Addr) -> bool
-    ensures { result ≡ list_any (is_from address.bits) (membership_keys membership.now) }
+// Whether a fact of IGMP names a source in the prefix.
+#[tactic(auto, using(igmp_membership::proofs::Found::any_of_five), unfolding(igmp_membership::specs::MembershipTables::membership_keys))]
+fn is_among_members(membership: &Membership, prefix: Prefix) -> bool
+    ensures { result ≡ list_any (is_within prefix) (membership_keys membership.now) }
 {
-    is_source_among(membership.group_record_rows(), address)
-        || is_source_among(membership.source_record_rows(), address)
-        || is_source_among(membership.group_repeat_rows(), address)
-        || is_source_among(membership.source_repeat_rows(), address)
-        || is_source_among(membership.sending_rows(), address)
+    is_among(membership.group_record_rows(), prefix)
+        || is_among(membership.source_record_rows(), prefix)
+        || is_among(membership.group_repeat_rows(), prefix)
+        || is_among(membership.source_repeat_rows(), prefix)
+        || is_among(membership.sending_rows(), prefix)
 }
 
-// Whether a fact of PIM names the address as its source.
+// Whether a fact of PIM names a source in the prefix.
 #[tactic(auto, using(crate::proofs::Named::any_of_six), unfolding(pim_store::specs::PimTables::stored_keys))]
-fn is_source_of_store(store: &Store, address: Addr, meter: &mut Meter) -> bool
-    ensures { result ≡ list_any (is_from address.bits) (stored_keys store.now) }
+fn is_among_stored(store: &Store, prefix: Prefix, meter: &mut Meter) -> bool
+    ensures { result ≡ list_any (is_within prefix) (stored_keys store.now) }
 {
-    is_source_among(store.downstream_rows(), address)
-        || is_source_among(store.assert_rows(), address)
-        || is_source_among_timers(store.join_timer_rows(meter), address)
-        || is_source_among(store.override_timer_rows(), address)
-        || is_source_among_placed(store.source_rows(), address)
-        || is_source_among(store.register_rows(), address)
+    is_among(store.downstream_rows(), prefix)
+        || is_among(store.assert_rows(), prefix)
+        || is_among_timers(store.join_timer_rows(meter), prefix)
+        || is_among(store.override_timer_rows(), prefix)
+        || is_among_placed(store.source_rows(), prefix)
+        || is_among(store.register_rows(), prefix)
 }
 
-// Whether the key names the address as its source.
-fn is_from(key: Key, address: Addr) -> bool
-    ensures { result ≡ is_from address.bits key }
+// Whether the key names a source in the prefix.
+fn is_within(key: Key, prefix: Prefix) -> bool
+    ensures { result ≡ is_within prefix key }
 {
     match key.source {
-        Some(source) => source == address,
+        Some(source) => prefix.contains(source),
         None => false,
     }
 }
 
-// Whether the key of one of the Join timers names the address as its source.
-fn is_source_among_timers(timers: JoinTimerRows<'_>, address: Addr) -> bool
-    ensures { result ≡ list_any (is_from address.bits) (keys_in timers.entry) }
+// Whether the key of one of the Join timers names a source in the prefix.
+fn is_among_timers(timers: JoinTimerRows<'_>, prefix: Prefix) -> bool
+    ensures { result ≡ list_any (is_within prefix) (keys_in timers.entry) }
 {
     for (key, _) in timers {
-        if is_from(key, address) {
+        if is_within(key, prefix) {
             return true;
         }
     }
     false
 }
 
-// Whether the key of one of the facts names the address as its source.
-fn is_source_among<R>(facts: Iter<'_, Key, R>, address: Addr) -> bool
-    ensures { result ≡ list_any (is_from address.bits) (keys_in facts.entry) }
+// Whether the key of one of the facts names a source in the prefix.
+fn is_among<R>(facts: Iter<'_, Key, R>, prefix: Prefix) -> bool
+    ensures { result ≡ list_any (is_within prefix) (keys_in facts.entry) }
 {
     for (key, _) in facts {
-        if is_from(*key, address) {
+        if is_within(*key, prefix) {
             return true;
         }
     }
     false
 }
 
-// Whether the key of one of the facts, which keep their places, names the address as its source.
-fn is_source_among_placed<R>(facts: PlacedRows<'_, R>, address: Addr) -> bool
-    ensures { result ≡ list_any (is_from address.bits) (keys_in facts.entry) }
+// Whether the key of one of the facts, which keep their places, names a source in the prefix.
+fn is_among_placed<R>(facts: PlacedRows<'_, R>, prefix: Prefix) -> bool
+    ensures { result ≡ list_any (is_within prefix) (keys_in facts.entry) }
 {
     for (key, _) in facts {
-        if is_from(*key, address) {
+        if is_within(*key, prefix) {
             return true;
         }
     }

@@ -29,8 +29,25 @@ impl World {
     pub fn next(&self) -> Option<(u64, Timer)>
         ensures { result ≡ option_map due_of (next_ending self.now) }
     {
+        match self.next {
+            Some(due) => Some(due),
+            None => self.find_next(),
+        }
+    }
+
+    // Which timer expires first, by the first of each table.
+    fn find_next(&self) -> Option<(u64, Timer)>
+        ensures { result ≡ option_map due_of (next_ending self.now) }
+    {
         let pim = earlier(self.neighbours.next(), self.store.next());
         earlier(earlier(pim, self.membership.next()), self.interfaces.next())
+    }
+
+    /// Keeps which timer expires first: `next` looks at no table until one with timers is lent or changed.
+    pub fn keep_next(&mut self)
+        ensures { self.new ≡ self.old }
+    {
+        self.next = self.next();
     }
 
     /// Sets the present time, in ms.
@@ -54,6 +71,7 @@ impl World {
     pub fn set_down(&mut self, iface: IfaceId, meter: &mut Meter)
         ensures { self.new ≡ iface_down self.old iface.number }
     {
+        self.next = None;
         self.interfaces.set_down(iface);
         self.neighbours.drop_on(iface);
         self.membership.drop_on(iface, meter);
@@ -67,6 +85,7 @@ impl World {
         ensures { self.new ≡ neighbour_due self.old key }
     {
         let own = self.own(key.iface);
+        self.next = None;
         self.neighbours.remove_at(key);
         let is_dr = self.neighbours.is_dr(key.iface, &own);
         self.dr = with_member(self.dr, key.iface, is_dr);
@@ -86,6 +105,7 @@ impl World {
             hello_end: self.present + HELLO_PERIOD,
             ..row
         };
+        self.next = None;
         self.interfaces.change(key, restarted)?;
         Ok(true)
     }

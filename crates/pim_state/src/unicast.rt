@@ -1,14 +1,16 @@
 //! Unicast routes and RPs in the present state (RFC 7761, section 4.1.5).
 ghost use Rattle.std.specs.List.{list_any};
 ghost use Rattle.std.specs.Prelude.{◌≡◌, ◌==◌, ℕ, option_map};
+ghost use Rattle.pim_ip.specs.Prefixes.{contains};
 ghost use Rattle.pim_model.specs.Unicast.{is_rp, route, rp_of, rp_route};
 ghost use Rattle.pim_mrib.specs.Routes.{rp_nodes};
 ghost use Rattle.pim_trie.specs.Meter.{raised};
 ghost use Rattle.pim_state.specs.Short.{IsShort};
 
 use crate::world::World;
+use pim_ip::Prefix;
 use pim_trie::Meter;
-use pim_types::{Addr, Path};
+use pim_types::{Addr, IfaceId, Path};
 
 impl World {
     /// RP(G): none of a source-specific group. The meter rises by the nodes visited, 33 at most.
@@ -62,6 +64,23 @@ impl World {
         ensures { result ≡ list_any (λ range. range.rp.bits == address.bits) self.now.ranges }
     {
         self.mrib.is_some_rp(address)
+    }
+
+    /// Whether a route is over the interface.
+    pub fn has_route_over(&self, iface: IfaceId) -> bool
+        ensures { result ≡ list_any (λ route. route.iface.number == iface.number) self.now.routes }
+    {
+        self.mrib.routes().iter().any(|route| route.iface == iface)
+    }
+
+    /// Whether a range has its RP in the prefix.
+    pub fn has_rp_in(&self, prefix: Prefix) -> bool
+        ensures { result ≡ list_any (λ range. contains prefix range.rp.bits) self.now.ranges }
+    {
+        self.mrib
+            .ranges()
+            .iter()
+            .any(|range| prefix.contains(range.rp))
     }
 
     /// For the proof: the preferences of all routes have 31 bits.

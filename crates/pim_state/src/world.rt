@@ -23,7 +23,7 @@ use pim_neighbours::Neighbours;
 use pim_store::Store;
 use pim_trie::Meter;
 use pim_types::fact::InterfaceRow;
-use pim_types::{Addr, Config, Fault, IfaceId, Refusal, Settings};
+use pim_types::{Addr, Config, Fault, IfaceId, Refusal, Settings, Timer};
 use std::alloc::{AllocError, Global};
 use std::marker::Model;
 
@@ -39,6 +39,8 @@ pub struct World {
     pub(crate) dr: IfSet,
     pub(crate) membership: Membership,
     pub(crate) store: Store,
+    // The timer that expires first, if it was looked for since a table with timers was lent or changed.
+    pub(crate) next: Option<(u64, Timer)>,
 }
 
 // Written out, so that it is proved once (docs/PROOF_NOTES.md, Drops).
@@ -53,6 +55,7 @@ impl Drop for World {
             dr: _,
             membership: _,
             store: _,
+            next: _,
         } = self;
     }
 }
@@ -85,10 +88,12 @@ impl Model for World {
       registers = w.store.registers;
     } };
 
+    ghost use Rattle.pim_state.specs.Next.{IsNext, next_among};
     ghost use Rattle.pim_state.specs.Shown.{Shows, is_dr_on};
 
     ghost invariant = { λ w. (w.present ≤ 2 ^ 62) × (2 ≤ w.settings.robustness) × (w.settings.robustness ≤ 7)
-        × Shows w.dr (is_dr_on w.interfaces.configured w.neighbours) × (w.settings.query_interval ≤ 31744) };
+        × Shows w.dr (is_dr_on w.interfaces.configured w.neighbours) × (w.settings.query_interval ≤ 31744)
+        × IsNext w.next (next_among w.interfaces.rows w.neighbours w.membership w.store) };
 }
 
 impl World {
@@ -149,6 +154,7 @@ impl World {
             dr: IfSet::below(IfSet::LIMIT),
             membership: Membership::new(alloc),
             store: Store::new(alloc)?,
+            next: None,
         })
     }
 
@@ -208,6 +214,7 @@ impl World {
         ensures* writes_back { sem 𝓛 (LendsMembership self.entry result) }
         ensures value { result.now ≡ membership_tables self.old }
     {
+        self.next = None;
         &mut self.membership
     }
 
@@ -223,6 +230,7 @@ impl World {
         ensures* writes_back { sem 𝓛 (LendsStore self.entry result) }
         ensures value { result.now ≡ pim_tables self.old }
     {
+        self.next = None;
         &mut self.store
     }
 
@@ -249,6 +257,7 @@ impl World {
         requires { iface.number < iface_count self.old }
         ensures { OnOk result (self.new ≡ record self.old { interfaces = put self.old.interfaces (iface_key iface.number) row }) }
     {
+        self.next = None;
         self.interfaces.set_up(iface, row)
     }
 
@@ -273,7 +282,9 @@ impl World {
             dr: _,
             membership: _,
             store: _,
+            next: _,
         } = other;
+        self.next = None;
         self.interfaces.reconfigure(interfaces);
         self.dr = elected(&self.interfaces, &self.neighbours);
         self.settings = settings;

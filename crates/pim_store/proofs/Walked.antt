@@ -468,3 +468,7 @@ module _ (g : ℕ) (marks : Table Marks) (f : PimTables) (entries : AreEntries m
       ∙ ap (λ ks. map source_in (filter (λ (k : Key). is_some k.source) ks)) (keys_filtered (is_of_group g) marks)
       ∙ ap (λ ks. map source_in ks) (both_filters (is_of_group g) (λ (k : Key). is_some k.source) (keys_in marks))
       ∙ all_sources
+
+-- what passes among the keys of two kinds of facts
+pub any_of_both : (p : Key → Bool) (a b : List Key) → list_any p (a ++ b) ≡ (list_any p a || list_any p b)
+any_of_both p a b = list_any-append p a b

@@ -457,6 +457,14 @@ impl Store {
         }
     }
 
+    /// Whether a downstream state or an assert is of the interface.
+    #[tactic(auto, using(crate::proofs::Walked::any_of_both))]
+    pub fn has_on(&self, iface: IfaceId) -> bool
+        ensures { result ≡ list_any (is_on iface.number) (keys_in self.now.downstream ++ keys_in self.now.asserts) }
+    {
+        self.downstream.rows().has_on(iface) || self.asserts.rows().has_on(iface)
+    }
+
     /// Removes the downstream states and the asserts of the interface.
     pub fn drop_on(&mut self, iface: IfaceId, meter: &mut Meter)
         ensures { self.new ≡ record self.old {

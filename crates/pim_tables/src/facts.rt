@@ -213,6 +213,14 @@ impl<R: Copy> Facts<R> {
         count
     }
 
+    /// Whether a fact is of the interface.
+    #[tactic(auto, using(crate::proofs::Counting::first_is_any))]
+    pub fn has_on(&self, iface: IfaceId) -> bool
+        ensures { result ≡ list_any (is_on iface.number) (keys_in self.now) }
+    {
+        self.first_on(iface).is_some()
+    }
+
     // The key of the interface's first fact.
     fn first_on(&self, iface: IfaceId) -> Option<Key>
         ensures { result ≡ first_key (rows_on iface.number self.now) }

@@ -2,7 +2,7 @@ use Rattle.std.{proofs.Common.{◌≡◌, true, List, IfOk, OnOk, ap, arith, sub
 use Rattle.pim_types.{specs.declared.fact.Key.Key}
 use Rattle.pim_model.{specs.{declared.accepted.Accepted.Accepted, Full.is_full, Step.{Answered, outcome_of, taken, taken_unless_full}}}
 use Rattle.law_events.{specs.Named.named_of}
-use Rattle.pim_event.{proofs.{Rows.{named_in_time, named_with_room}, Taking.{time_is_taken, with_room, without_room}, Disturbing.{disturbed_in_room, disturbed_in_time, undisturbed_when_full}, Listing.{named_without_room, nothing_more, once_alone}, Replacing.full_replaces_none}, specs.{Caching.CacheFollows, Disturbing.disturbed_of, Replacing.replaced_after}}
+use Rattle.pim_event.{proofs.{Rows.{named_in_time, named_with_room}, Taking.{time_is_taken, with_room, without_room}, Disturbing.{disturbed_in_room, disturbed_in_time, undisturbed_when_full}, Listing.{named_without_room, nothing_more, once_alone}, Repeating.{iface_below, keys_on, planned_again, turns_again}, Replacing.full_replaces_none}, specs.{Caching.CacheFollows, Disturbing.disturbed_of, Replacing.replaced_after}}
 use Rattle.pim_plan.{specs.{Acting.act_event, Naming.IsConfigured, Planning.{Fits, IsPlanned}, declared.plan.Planning.Planning}}
 use Rattle.pim_state.{specs.declared.touched.Touched.Touched}
 use Rattle.pim_fanout.{specs.Disturbed.joined}
@@ -38,6 +38,32 @@ returns-in-Time c =
           ≡ replaced_after c.args.core.now.world a c.args.core.now.replaced)) (sym is) c.advance.ensures.replaced;
       fault = c.advance.ensures.fault;
     }
+
+pub take_again-requires-clause-within : goal.take_again-requires-clause-within
+take_again-requires-clause-within c =
+    iface_below c.args.core.now.world c.args.accepted c.in-Again.iface c.in-Again.holdtime c.in-Again.named
+    (planned_again c.args.core.now.world c.args.accepted _ _ _ _ c.in-Again.is c.in_ok-planning.ensures)
+    c.interfaces.result.now c.interfaces.ensures c.proof_few.ensures c.requires.begun.configured
+
+pub take_again-requires-clause-ordered : goal.take_again-requires-clause-ordered
+take_again-requires-clause-ordered c = c.requires.begun.rest.settled.ordered
+
+pub take_again-requires-clause-joined : goal.take_again-requires-clause-joined
+take_again-requires-clause-joined c =
+    keys_on c.args.core.now.world c.args.accepted c.in-Again.iface c.in-Again.holdtime c.in-Again.named
+    (planned_again c.args.core.now.world c.args.accepted _ _ _ _ c.in-Again.is c.in_ok-planning.ensures)
+
+pub take_again-requires-clause-again : goal.take_again-requires-clause-again
+take_again-requires-clause-again c =
+    (planned_again c.args.core.now.world c.args.accepted _ _ _ _ c.in-Again.is c.in_ok-planning.ensures).again
+
+pub returns-in_ok-take_again-in-Again : goal.returns-in_ok-take_again-in-Again
+returns-in_ok-take_again-in-Again c =
+    turns_again c.args.core.now c.args.turn.now.draw c.args.accepted c.in-Again.iface c.in-Again.holdtime c.in-Again.named
+    c.take_again.new.world c.done_silently.result c.interfaces.result.now c.requires.begun.rest c.requires.begun.shown
+    c.requires.begun.unlisted
+    (planned_again c.args.core.now.world c.args.accepted _ _ _ _ c.in-Again.is c.in_ok-planning.ensures)
+    c.in_ok-take_again-in-Again.ensures c.done_silently.ensures c.interfaces.ensures c.proof_few.ensures
 
 pub take_change-requires-clause-begun : goal.take_change-requires-clause-begun
 take_change-requires-clause-begun c =

@@ -18,4 +18,5 @@ invariant_of-self c =
           ∙ ap (λ (s : State). is_dr_on s.configured new i) (sym c.self.view_is))
           c.with_member-self-inside.ensures,
       c.self.invariant.4,
+      tt,
     )

@@ -11,4 +11,5 @@ invariant_of-self c =
           (elected_after_down c.args.iface.number w.interfaces.configured w.dr c.with_member-self-inside.result
           w.neighbours c.drop_on.new.self c.drop_on.ensures c.self.invariant.3 c.with_member-self-inside.ensures),
       c.self.invariant.4,
+      tt,
     )

@@ -13,4 +13,5 @@ invariant_of-result c = (
       (sym c.new.ensures)
       (elected_alone c.args.interfaces.configured c.below.result c.below.ensures.interfaces),
   c.requires.interval,
+  tt,
 )

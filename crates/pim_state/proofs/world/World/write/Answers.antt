@@ -1,4 +1,4 @@
-use Rattle.std.{proofs.Common.{◌≡◌, ◌≤◌, ◌^◌, List, Ok, Err, OnOk, Result, ap, subst, sym, ◌∙◌}}
+use Rattle.std.{proofs.Common.{◌≡◌, List, Ok, Err, OnOk, Result, ap, subst, sym, ◌∙◌}}
 use Rattle.pim_ip.{specs.declared.fault.Fault.Fault}
 use Rattle.pim_model.{specs.{Messages.Message, State.{Addressing, InterfaceTable, State, interfaces_of}, Writing.{all_written, write_all}}}
 use Rattle.pim_state.{specs.{contracts.world.World.the_view, Shown.{Shows, is_dr_on}}, proofs.Written.keeps_configured}
@@ -24,6 +24,11 @@ returns-clause-state c =
 
 pub invariant_of-self : goal.invariant_of-self
 invariant_of-self c =
-    let w = c.self.inside in
-    subst (λ (cs : Addressing). (w.present ≤ 2 ^ 62) × (2 ≤ w.settings.robustness) × (w.settings.robustness ≤ 7)
-    × Shows w.dr (is_dr_on cs w.neighbours) × (w.settings.query_interval ≤ 31744)) (sym c.write.ensures.configured) c.self.invariant
+    let w = c.self.inside in (
+      c.self.invariant.0,
+      c.self.invariant.1,
+      c.self.invariant.2,
+      subst (λ (cs : Addressing). Shows w.dr (is_dr_on cs w.neighbours)) (sym c.write.ensures.configured) c.self.invariant.3,
+      c.self.invariant.4,
+      tt,
+    )

@@ -1,8 +1,0 @@
-use Rattle.std.{proofs.Common.◌≡◌, specs.List.list_any}
-use Rattle.pim_model.{specs.Tables.keys_in}
-use Rattle.pim_hello.{specs.Linked.is_within}
-use Rattle.pim_hello.proofs.linked.is_among.Given as goal
-
-abbrev pub invariant-loop-key : goal.invariant-loop-key
-invariant-loop-key g l =
-    list_any (is_within l.subnet) (keys_in l.key-iterator) ≡ list_any (is_within l.subnet) (keys_in l.fn.facts)
