@@ -36,3 +36,4 @@ pub mod OlderPackets
 pub mod OlderHeld
 pub mod OlderMoved
 pub mod Behind
+pub mod Anycast

@@ -4,6 +4,7 @@
 #![tactic(auto)]
 
 pub mod addresses;
+pub mod anycast;
 pub mod asserts;
 pub mod cached;
 pub mod causes;

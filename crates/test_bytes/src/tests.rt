@@ -1,4 +1,6 @@
 //! Tests against known bytes and values.
+mod anycast;
+mod bootstraps;
 mod components;
 mod known_packets;
 mod older_hosts;

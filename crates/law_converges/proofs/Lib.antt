@@ -1,0 +1,12 @@
+pub mod NextHops
+pub mod TakesOver
+pub mod KnownRows
+pub mod LinkDr
+pub mod NextHopRun
+pub mod Roles
+pub mod Queries
+pub mod QueryRead
+pub mod LinkQuerier
+pub mod LeftGroups
+pub mod LeftGroupRun
+pub mod LinkDrRun

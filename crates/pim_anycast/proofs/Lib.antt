@@ -1,0 +1,10 @@
+pub mod Alive
+pub mod Due
+pub mod JoinedLaws
+pub mod Learning
+pub mod MembersLaws
+pub mod NullLength
+pub mod Once
+pub mod Taken
+pub mod Telling
+pub mod Unset

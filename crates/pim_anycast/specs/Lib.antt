@@ -1,0 +1,6 @@
+pub mod Announced
+pub mod Joined
+pub mod Laws
+pub mod Members
+pub mod Passed
+pub mod Sets

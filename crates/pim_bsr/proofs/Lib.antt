@@ -1,0 +1,10 @@
+mod Counts
+pub mod Accepted
+pub mod JoinedLaws
+mod Lasting
+pub mod Lists
+mod Others
+pub mod Ranges
+mod Same
+pub mod Sounder
+pub mod Told

@@ -1,0 +1,82 @@
+//! Which RP of a range is chosen.
+ghost use Rattle.std.specs.List.{list_any};
+ghost use Rattle.std.specs.Prelude.{◌≡◌, ◌<◌, ◌^◌};
+ghost use Rattle.pim_model.specs.Limits.{same_prefix};
+ghost use Rattle.pim_bsr.specs.Choice.{hash_value, is_beaten_by, is_better, is_chosen, masked, range_value};
+
+use crate::learned::Learned;
+use pim_ip::{Addr, Prefix};
+
+/// Whether two prefixes are equal.
+pub(crate) fn same_prefix(first: Prefix, second: Prefix) -> bool
+    ensures { result ≡ same_prefix first second }
+{
+    first.address.bits == second.address.bits && first.length == second.length
+}
+
+/// The first so many bits of a group; the rest are 0.
+#[tactic(auto, unfolding(crate::specs::Choice::masked))]
+pub(crate) fn masked(length: u8, group: Addr) -> u64
+    ensures value { result ≡ masked length group.bits }
+    ensures small { result < 2 ^ 32 }
+{
+    let host = 1u64 << 32u32.saturating_sub(u32::from(length));
+    let group = u64::from(group.bits);
+    group / host * host
+}
+
+/// The hash function's value for a group and an RP, with a mask of so many bits (RFC 7761, section 4.7.2).
+#[tactic(auto, unfolding(crate::specs::Choice::hash_value))]
+fn hash_value(length: u8, group: Addr, rp: Addr) -> u32
+    ensures { result ≡ hash_value length group.bits rp.bits }
+{
+    let first = 1_103_515_245 * masked(length, group) + 12_345;
+    let mixed = u128::from(first ^ u64::from(rp.bits));
+    ((1_103_515_245 * mixed + 12_345) % 0x8000_0000) as u32
+}
+
+/// The value of an RP at the address of its range.
+#[tactic(auto, unfolding(crate::specs::Choice::range_value))]
+fn range_value(learned: Learned) -> u32
+    ensures { result ≡ range_value learned }
+{
+    hash_value(learned.hash_length, learned.prefix.address, learned.rp)
+}
+
+/// Whether the first of two RPs of a range is better.
+#[tactic(auto, unfolding(crate::specs::Choice::is_better))]
+fn is_better(first: Learned, second: Learned) -> bool
+    ensures { result ≡ is_better first second }
+{
+    if first.priority != second.priority {
+        return first.priority < second.priority;
+    }
+    let value = range_value(first);
+    let other = range_value(second);
+    if other != value {
+        return other < value;
+    }
+    second.rp.bits < first.rp.bits
+}
+
+/// Whether another RP is better, of the same range.
+fn is_beaten_by(learned: Learned, other: Learned) -> bool
+    ensures { result ≡ is_beaten_by learned other }
+{
+    same_prefix(learned.prefix, other.prefix) && is_better(other, learned)
+}
+
+/// Whether any of the RPs of its range is better.
+fn is_beaten(rps: &[Learned], learned: Learned) -> bool
+    ensures { result ≡ list_any (is_beaten_by learned) rps.now }
+{
+    rps.iter().any(|other| is_beaten_by(learned, *other))
+}
+
+/// Whether none of the RPs of its range is better.
+#[tactic(auto, unfolding(crate::specs::Choice::is_chosen))]
+pub(crate) fn is_chosen(rps: &[Learned], learned: Learned) -> bool
+    ensures { result ≡ is_chosen rps.now learned }
+{
+    !is_beaten(rps, learned)
+}
