@@ -117,6 +117,20 @@ uint32_t viq_frame(struct viq_router *router, uint32_t iface, const uint8_t *pac
     return viq_core_frame(CORE(router), draw.bits, iface, packet, length);
 }
 
+/* Whether the program has nothing to do before the next event, after one that was answered so. */
+static bool goes_on(const struct viq_router *router, uint32_t answer) {
+    return !viq_is_lost(answer) && router != NULL && viq_packets(router) == 0 && viq_touched(router) == 0;
+}
+
+size_t viq_frames(struct viq_router *router, const struct viq_received *frames, size_t count, uint32_t *answers) {
+    for (size_t at = 0; at < count; at++) {
+        const struct viq_received *frame = &frames[at];
+        answers[at] = viq_frame(router, frame->iface, frame->packet, frame->length, frame->draw);
+        if (!goes_on(router, answers[at])) return at + 1;
+    }
+    return count;
+}
+
 uint32_t viq_unicast(struct viq_router *router, const uint8_t *packet, size_t length, struct viq_draw draw) {
     return viq_core_unicast(CORE(router), draw.bits, packet, length);
 }

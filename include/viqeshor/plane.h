@@ -45,6 +45,10 @@
  *    fact (is_known is false) where viq_may_differ answers true, or all such rows, and reads one when a packet comes.
  *    (Neglected: as in a plane that lags, for as long as the source sends.)
  *
+ *    viq_frames is the events of the packets that were given, of which all but the last changed no row of a source with a
+ *    fact. Where one of them but the last was answered VIQ_DONE, the plane drops all rows of sources without a fact. So a
+ *    plane with many of these gives each packet by viq_frame.
+ *
  *    viq_reload and viq_reload_places count as an event for duties 1, 5 and 6. A row that is read then names interfaces
  *    by the numbers of the other configuration, and none that was removed.
  *

@@ -1,9 +1,9 @@
 /* The multicast router in programs of other languages: PIM Sparse Mode (RFC 7761) and IGMPv3 (RFC 3376).
  *
- * A program gives the router its events, by one call an event, and after each event takes the packets that are to be
- * sent: until then the router takes no other event. The router starts no thread, opens no socket and reads no clock.
- * With the program's own `clock_ms`, `receive`, `wait_until` and `send`, and a `send_all` that is one line, `while
- * (viq_take(router, &packet, room, sizeof room)) send(&packet, room);`:
+ * A program gives the router its events, by one call an event, or by one many frames (viq_frames), and after each event
+ * takes the packets that are to be sent: until then the router takes no other event. The router starts no thread, opens
+ * no socket and reads no clock. With the program's own `clock_ms`, `receive`, `wait_until` and `send`, and a `send_all`
+ * that is one line, `while (viq_take(router, &packet, room, sizeof room)) send(&packet, room);`:
  *
  *     while (viq_advance(router, clock_ms(), viq_draw(random())) == VIQ_DONE) {        time passes
  *         send_all(router);                                                            packets out
@@ -346,6 +346,26 @@ uint32_t viq_advance(struct viq_router *router, uint64_t moment, struct viq_draw
 VIQ_READ_ANSWER
 uint32_t viq_frame(struct viq_router *router, uint32_t iface, const uint8_t *packet, size_t length,
                    struct viq_draw draw);
+
+/* A packet that came on an interface, and the draw of its event: what viq_frame is given. */
+struct viq_received {
+    uint32_t iface;
+    const uint8_t *packet;
+    size_t length;
+    struct viq_draw draw;
+};
+
+/* Packets came on interfaces, to groups, one after the other: each is an event, and is given to the router in its turn as
+ * by viq_frame. The call stops behind the first one after which packets are untaken, viq_touched isn't 0, or the router
+ * is lost or NULL. It answers how many were given: 0 where count is 0, else at least 1. `answers` points to `count`
+ * numbers, and may be NULL where that is 0: what each of those was answered is written there, and the rest is unchanged.
+ *
+ * So each that was given but the last one sent nothing, and changed no row of a source with a fact. What the calls below
+ * tell of the last event, they tell of the last one that was given: the program does what it does after an event, and
+ * gives those that are left by another call. For the rows of sources without a fact viq_may_differ tells of that last
+ * one alone; plane.h says what a data plane does of the others (duty 6). */
+VIQ_READ_ANSWER
+size_t viq_frames(struct viq_router *router, const struct viq_received *frames, size_t count, uint32_t *answers);
 
 /* A PIM packet came for an address of the router: a Register or a Register-Stop. */
 VIQ_READ_ANSWER

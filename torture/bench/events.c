@@ -4,11 +4,12 @@
  * NEXT_HOP IFACE` or `range PREFIX LENGTH RP`, which are kept, and `routes` or `ranges`, which take those kept in place
  * of the router's; `seen`, `offload` or `differs IFACE SOURCE GROUP`; `reload`, by the configuration that is; `save`;
  * `restore`, which goes on with a router of what was saved; or `take`, which takes what is to be sent. Before any other
- * event that is taken and not counted. What is counted begins with a full stop, and goes by the function `counted`.
+ * event that is taken and not counted. `kept IFACE HEX` keeps a frame, and `many` gives those kept by one call. What is
+ * counted begins with a full stop, and goes by the function `counted`.
  *
  * A line `kind` begins a part: it goes on from what stands before the first of them, in a process of its own unless it
- * is the last. At its end a line is printed: the process, how many were counted (of `take`, packets), an answer that
- * isn't VIQ_DONE or 0, by how much the meter of trie nodes rose, the bytes given and sent, and nanoseconds. */
+ * is the last. At its end a line is printed: the process, how many were counted (of `take` and `many`, packets), an
+ * answer that isn't VIQ_DONE or 0, by how much the meter of trie nodes rose, the bytes given and sent, and nanoseconds. */
 #define _POSIX_C_SOURCE 200809L
 #include <stdio.h>
 #include <stdlib.h>
@@ -20,6 +21,8 @@
 #include <valgrind/callgrind.h>
 #include <viqeshor/plane.h>
 
+enum { MOST_KEPT = 100 };
+
 static struct viq_router *router = NULL, *restored = NULL;
 static struct viq_settings settings = VIQ_USUAL_SETTINGS;
 static struct viq_interface interfaces[VIQ_MOST_INTERFACES];
@@ -29,11 +32,22 @@ static size_t interface_count, route_count = 0, range_count = 2, saved_size, tak
 static bool are_routes_taken = true, are_ranges_taken = true, is_counting = false;
 static uint8_t packet[VIQ_MOST_BYTES], room[VIQ_MOST_BYTES], *saved = NULL;
 static unsigned long long numbers[3], moved, probes, count, nanoseconds;
+static uint8_t kept_bytes[MOST_KEPT][VIQ_MOST_BYTES];
+static struct viq_received kept[MOST_KEPT];
+static size_t kept_count;
 
 static uint32_t take_all(void) {
     struct viq_packet told;
     for (taken = 0; viq_take(router, &told, room, sizeof room); taken++) moved += told.length;
     return VIQ_DONE;
+}
+
+/* Gives the frames that are kept, of which none but the last is to send or to change a row. */
+static uint32_t many(void) {
+    uint32_t answers[MOST_KEPT], wrong = VIQ_DONE;
+    if (viq_frames(router, kept, kept_count, answers) != kept_count) return VIQ_UNTAKEN;
+    for (size_t at = 0; at < kept_count; at++) wrong |= answers[at];
+    return wrong;
 }
 
 /* What is counted. */
@@ -54,6 +68,7 @@ __attribute__((noinline)) uint32_t counted(const char *word, size_t length) {
     case 'o' << 8 | 'f': return viq_offload(router, source, group, &row) ? VIQ_DONE : VIQ_FAILED;
     case 's' << 8 | 'a': return viq_save(router, saved, saved_size, &saved_size);
     case 't' << 8 | 'a': return take_all();
+    case 'm' << 8 | 'a': return many();
     case 'r' << 8 | 'e':
         if (word[2] == 's') return viq_restore(&restored, VIQ_ABI, saved, saved_size);
         return viq_reload(router, &settings, interfaces, interface_count, routes, route_count, ranges, range_count,
@@ -68,6 +83,16 @@ static size_t bytes(const char *hex) {
     for (; length < sizeof packet && sscanf(hex + 2 * length, "%2x", &byte) == 1; length++)
         packet[length] = (uint8_t)byte;
     return length;
+}
+
+static bool is_kept_frame(const char *line) {
+    struct viq_received *frame = &kept[kept_count];
+    char hex[2 * VIQ_MOST_BYTES + 1];
+    if (sscanf(line, "kept %u %3056s", &frame->iface, hex) != 2 || kept_count == MOST_KEPT) return false;
+    frame->length = bytes(hex);
+    frame->packet = memcpy(kept_bytes[kept_count++], packet, frame->length);
+    frame->draw = viq_draw(7);
+    return true;
 }
 
 static bool is_kept(const char *line) {
@@ -89,6 +114,7 @@ static bool is_kept(const char *line) {
 /* How many bytes an event is given, or a save answers. */
 static size_t given_by(const char *word, size_t length) {
     if (!strcmp(word, "save") || !strcmp(word, "restore")) return saved_size;
+    if (!strcmp(word, "many")) return kept_count * kept[0].length;
     return word[0] == 'r' ? route_count * sizeof routes[0] + range_count * sizeof ranges[0] : length;
 }
 
@@ -102,7 +128,7 @@ static uint32_t measured(const char *word, size_t length) {
     nanoseconds += (unsigned long long)(to.tv_sec - from.tv_sec) * 1000000000ULL;
     nanoseconds += (unsigned long long)to.tv_nsec - (unsigned long long)from.tv_nsec;
     probes += viq_probes(router);
-    count += word[0] == 't' ? taken : 1;
+    count += word[0] == 't' ? taken : word[0] == 'm' ? kept_count : 1;
     if (word[0] != 't') take_all();
     moved += given_by(word, length);
     return answer;
@@ -114,7 +140,7 @@ static uint32_t take(char *line) {
     char word[16] = "", hex[2 * VIQ_MOST_BYTES + 1] = "";
     unsigned long long before = moved;
     line += is_counted;
-    if (is_kept(line)) return VIQ_DONE;
+    if (is_kept(line) || is_kept_frame(line)) return VIQ_DONE;
     memset(numbers, 0, sizeof numbers);
     if (sscanf(line, "frame %llu %3056s", &numbers[0], hex) < 1 && sscanf(line, "unicast %3056s", hex) < 1)
         sscanf(line, "%*s %llu %llu %llu", &numbers[0], &numbers[1], &numbers[2]);

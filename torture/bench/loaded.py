@@ -260,6 +260,8 @@ FIRST = member_record(ALLOW, FIRST_GROUP, [FIRST_SOURCE])
 TO_RP, OTHER_SOURCE = routes(f"{RP} 32"), routes(f"{FIRST_SOURCE} 32")
 KINDS = [Kind(*row) for row in (
     ("join-again", "Join(\\*,G) again", groups, each(lambda at: joined(star(at)))),
+    ("join-many", "the same, as one of 70 of a `viq_frames`", groups,
+        lambda n: [*(joined(star(at % n)).replace("frame", "kept", 1) for at in range(70)), ".many"]),
     ("join-new", "Join(\\*,G) of a new group", groups, new(lambda at: joined(star(at)))),
     ("prune", "Prune(\\*,G)", groups, each(lambda at: joined(star_pruned(at)))),
     ("no-row", "data of a source without a row, down the RP's tree", groups, each(lambda at: data(at, 0, at))),

@@ -1,4 +1,5 @@
-// Preloaded into a program with a router: adds up the sizes of the blocks that it holds. `torture/bench/memory` builds it and says by the environment:
+// Preloaded into a program with a router: adds up the sizes of the blocks that it holds. `torture/bench/events` builds
+// it and says by the environment:
 //
 //   BYTES_ALLOC, BYTES_REALLOC, BYTES_DEALLOC  where the program's own functions lie, in hexadecimal
 //   BYTES_SAID     a file in which stands at the end what was held at the last write: bytes and blocks

@@ -307,10 +307,13 @@ static int is_lost(struct viq_router *router, uint64_t rows) {
                           viq_frame(router, 0, none, 0, viq_draw(1)), viq_unicast(router, none, 0, viq_draw(1)),
                           viq_routes(router, routes, first_routes, viq_draw(1)), viq_ranges(router, ranges, first_ranges, viq_draw(1)),
                           viq_seen(router, 0, 0x0a000009, 0xe8010101, viq_draw(1)), viq_keep(router, 0x0a000009, 0xe8010101, 1)};
+    struct viq_received frames[2] = {{0, none, 0, {1}}, {0, none, 0, {1}}};
+    uint32_t told[2] = {VIQ_DONE, VIQ_DONE};
     struct viq_plane_row offered;
     struct viq_source_group name;
     size_t size;
     if (viq_save(router, saved, sizeof saved, &size) != VIQ_FAILED) return 0;
+    if (viq_frames(router, frames, 2, told) != 1 || told[0] != VIQ_FAILED || told[1] != VIQ_DONE) return 0;
     for (size_t at = 0; at < sizeof answers / sizeof *answers; at++)
         if (answers[at] != VIQ_FAILED) return 0;
     for (const char *table = tables; *table; table++)

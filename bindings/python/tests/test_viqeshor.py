@@ -3,6 +3,7 @@ examples/library."""
 import gc
 import ipaddress
 import os
+import random
 import shutil
 import subprocess
 import tempfile
@@ -184,6 +185,67 @@ class Routers(unittest.TestCase):
         self.assertGreaterEqual(router.probes(), 1)
         router.frame(0, bytes.fromhex(DATA))
         self.assertEqual(router.touched(), 0)
+
+    def given_both(self, received, draws):
+        """The same packets, each by a call of its own at one router, and all by one at another: what became of both."""
+        one, other = self.router(), self.router()
+        for router in (one, other):
+            self.assertEqual([router.up(iface, draw=7) for iface in range(3)], [Answer.DONE] * 3)
+        with mock.patch.object(other, "_call", wraps=other._call) as calls:
+            told = other.frames(received, draws), other.packets(), other.save()
+        each = [one.frame(iface, packet, draw) for (iface, packet), draw in zip(received, draws)]
+        self.assertEqual(told, (each, one.packets(), one.save()))
+        return told[0], [call.args[2] for call in calls.call_args_list if call.args[0] == "frames"]
+
+    def test_many_frames(self):
+        """Something leaves after the Join and each packet, and a row changes by the first report: a call ends there."""
+        above, below, join, data = (bytes.fromhex(text) for text in (HELLO_ABOVE, HELLO_BELOW, JOIN, DATA))
+        report = hosts.join("10.0.2.9", "225.1.1.1", "10.0.3.5")
+        received = [(0, above), (1, below), (1, b""), (3, above), (1, bytearray(join)), (1, join), (0, data), (1, join),
+                    (2, report), (2, report), (0, memoryview(data))]
+        answers, left = self.given_both(received, range(7, 18))
+        wanted = [Answer.DONE] * 11
+        wanted[2:4] = Answer.SHORT, Answer.BAD_INTERFACE
+        self.assertEqual((answers, left), (wanted, [11, 6, 4, 2]))
+        self.assertEqual(self.given_both([], []), ([], []))
+
+    def test_many_frames_of_any_order(self):
+        chance = random.Random(7)
+        texts = [bytes.fromhex(text) for text in (HELLO_ABOVE, HELLO_BELOW, JOIN, JOIN, DATA, "")]
+        reports = [said("10.0.2.9", "225.1.1.1", "10.0.3.5") for said in (hosts.join, hosts.leave)]
+        for _ in range(20):
+            received = [(chance.randrange(4), chance.choice([*texts, *reports])) for _ in range(50)]
+            self.given_both(received, [chance.getrandbits(32) for _ in received])
+
+    def test_draws_of_many_frames(self):
+        """Those that are given, or as `frame` draws them. A new neighbour is sent a Hello 1 ms and its draw's later."""
+        received = [(0, bytes.fromhex(HELLO_ABOVE)), (1, bytes.fromhex(HELLO_BELOW))]
+
+        def next_moment(give):
+            router = self.router()
+            for iface in range(2):
+                router.up(iface, draw=7)
+            router.run_to(100)
+            random.seed(7)
+            give(router)
+            return router.next_moment()
+
+        for draws, first in (([1_200, 3_400], 1_200), ([3_400, 1_200], 1_200), ([3_400, 2_400], 2_400)):
+            self.assertEqual(next_moment(lambda router, draws=draws: router.frames(received, draws)), 100 + 1 + first)
+        each = next_moment(lambda router: [router.frame(*one) for one in received])
+        self.assertEqual(next_moment(lambda router: router.frames(received)), each)
+
+    def test_many_frames_that_are_wrong(self):
+        router = self.router()
+        data = bytes.fromhex(DATA)
+        for received, draws, wrong in (
+            ([(2**32, data)], None, ValueError), ([(-1, data)], None, ValueError), ([("0", data)], None, TypeError),
+            ([(0, data)], [2**32], ValueError), ([(0, data)], [], ValueError), ([(0, data)], [1, 2], ValueError),
+            ([(0, "data")], None, TypeError), ([(0, 7)], None, TypeError), ([(0, data), (0,)], None, ValueError),
+        ):
+            self.assertRaises(wrong, router.frames, received, draws)
+        router.end()
+        self.assertRaises(Closed, router.frames, [(0, data)])
 
     def test_what_the_router_knows(self):
         router = self.joined()

@@ -1,9 +1,10 @@
 //! A multicast router: PIM Sparse Mode (RFC 7761) and IGMPv3 (RFC 3376). It is what `include/viqeshor/viqeshor.h`
 //! describes.
 //!
-//! A program gives a [`Router`] its events, by one call an event, and after each takes the packets that are to be sent:
-//! until then the router takes no other event, and answers [`Error::Untaken`]. The router starts no thread, opens no
-//! socket and reads no clock. With the program's own `clock_ms`, `receive`, `wait_until`, `send` and `random`:
+//! A program gives a [`Router`] its events, by one call an event, or by one many frames ([`Router::frames`]), and after
+//! each takes the packets that are to be sent: until then the router takes no other event, and answers
+//! [`Error::Untaken`]. The router starts no thread, opens no socket and reads no clock. With the program's own
+//! `clock_ms`, `receive`, `wait_until`, `send` and `random`:
 //!
 //! ```ignore
 //! loop {
@@ -608,6 +609,29 @@ pub fn report(host: Ipv4Addr, asks: Asks, group: Ipv4Addr, sources: &[Ipv4Addr])
     (size > 0).then_some(room)
 }
 
+/// A packet that came on an interface, to a group, as [`Router::frame`] is given it.
+#[derive(Clone, Copy, Debug, PartialEq, Eq)]
+pub struct Received<'a> {
+    /// Where it came.
+    pub iface: u32,
+    /// All of it, from the IP header on.
+    pub packet: &'a [u8],
+    /// Of its event.
+    pub draw: u32,
+}
+
+impl Received<'_> {
+    // With the packet's pointer, which has to live as long.
+    fn given(&self) -> raw::Received {
+        raw::Received {
+            iface: self.iface,
+            packet: self.packet.as_ptr(),
+            length: self.packet.len(),
+            draw: Draw { bits: self.draw },
+        }
+    }
+}
+
 /// A packet that is to be sent.
 #[derive(Clone, Debug, PartialEq, Eq, Hash)]
 #[non_exhaustive]
@@ -876,6 +900,14 @@ mod raw {
     pub struct Draw {
         pub bits: u32,
     }
+
+    #[repr(C)]
+    pub struct Received {
+        pub iface: u32,
+        pub packet: *const u8,
+        pub length: usize,
+        pub draw: Draw,
+    }
 }
 use raw::Draw;
 
@@ -944,6 +976,7 @@ extern "C" {
     fn viq_end(router: *mut c_void);
     fn viq_advance(router: *mut c_void, moment: u64, draw: Draw) -> u32;
     fn viq_frame(router: *mut c_void, iface: u32, packet: *const u8, length: usize, draw: Draw) -> u32;
+    fn viq_frames(router: *mut c_void, frames: *const raw::Received, count: usize, answers: *mut u32) -> usize;
     fn viq_unicast(router: *mut c_void, packet: *const u8, length: usize, draw: Draw) -> u32;
     fn viq_up(router: *mut c_void, iface: u32, draw: Draw) -> u32;
     fn viq_down(router: *mut c_void, iface: u32, draw: Draw) -> u32;
@@ -1206,6 +1239,19 @@ impl Router {
     pub fn frame(&mut self, iface: u32, packet: &[u8], draw: u32) -> Result<Verdict, Error> {
         // SAFETY: the router is there and borrowed alone; the packet is passed as its pointer and its length.
         verdict(unsafe { viq_frame(self.at_mut(), iface, packet.as_ptr(), packet.len(), Draw { bits: draw }) })
+    }
+
+    /// Packets came on interfaces, to groups, one after the other: each is an event, as by `frame`, in its turn. Returns
+    /// what became of those that were given: all up to the first one after which packets are untaken, `touched` isn't 0,
+    /// or the router is lost; at least one where there is one. Each but the last of them sent nothing, and changed no row
+    /// of a source with a fact. The program does what it does after an event, and gives the rest by another call.
+    pub fn frames(&mut self, frames: &[Received<'_>]) -> Vec<Result<Verdict, Error>> {
+        let given: Vec<_> = frames.iter().map(Received::given).collect();
+        let mut answers = vec![DONE; given.len()];
+        // SAFETY: the router is there and borrowed alone; the list is passed as its pointer and its length, each packet in
+        // it too, and there are as many answers.
+        let count = unsafe { viq_frames(self.at_mut(), given.as_ptr(), given.len(), answers.as_mut_ptr()) };
+        answers.into_iter().take(count).map(verdict).collect()
     }
 
     /// A PIM packet came for an address of the router.

@@ -2,8 +2,9 @@
 use std::net::Ipv4Addr;
 use viqeshor::{
     message, refused_range, refused_route, ActiveRow, Asks, Call, DownstreamRow, DownstreamState, Error, GroupRow, Hop,
-    Interface, NeighbourRow, NoPrefix, OlderHosts, OlderRow, Prefix, Querier, QueryVersion, Range, Reason, Refusal,
-    RefusedAt, Route, Router, Row, Rpf, RptState, Sent, Settings, Table, Target, UpstreamRow, Verdict, MOST_BYTES,
+    Interface, NeighbourRow, NoPrefix, OlderHosts, OlderRow, Prefix, Querier, QueryVersion, Range, Reason, Received,
+    Refusal, RefusedAt, Route, Router, Row, Rpf, RptState, Sent, Settings, Table, Target, UpstreamRow, Verdict,
+    MOST_BYTES,
 };
 
 const HELLO_ABOVE: &str = "45C0001E000000000167CEAB0A000001E000000D2000DFFC00010002FFFF";
@@ -235,6 +236,42 @@ fn a_join_a_packet_and_its_copy() {
     assert!(router.probes() >= 1);
     assert_eq!(router.frame(0, &bytes_of(DATA), 0), DONE);
     assert_eq!(router.touched(), 0);
+}
+
+/// The same frames, each by a call of its own and all by few calls: the same answers, packets and state.
+#[test]
+fn many_frames_by_one_call() {
+    let report =
+        viqeshor::report(address([10, 0, 2, 9]), Asks::Allow, address([225, 1, 1, 1]), &[address([10, 0, 3, 5])]);
+    let report = report.unwrap();
+    let packets = [HELLO_ABOVE, HELLO_BELOW, "", HELLO_ABOVE, JOIN, JOIN, DATA].map(bytes_of);
+    let mut frames: Vec<_> = [0, 1, 1, 3, 1, 1, 0].into_iter().zip(packets.iter().map(Vec::as_slice)).collect();
+    frames.extend([(1, packets[5].as_slice()), (2, &report), (2, &report), (0, &packets[6])]);
+    let frames = (7..).zip(frames).map(|(draw, (iface, packet))| Received { iface, packet, draw });
+    let frames: Vec<_> = frames.collect();
+    let (mut one, mut other) = (router(), router());
+    for router in [&mut one, &mut other] {
+        assert_eq!([0, 1, 2].map(|iface| (router.up(iface, 7), router.clear()).0), [DONE; 3]);
+    }
+    let (mut answers, mut sent) = (Vec::new(), Vec::new());
+    for frame in &frames {
+        answers.push(one.frame(frame.iface, frame.packet, frame.draw));
+        sent.extend(taken(&mut one));
+    }
+    let (mut told, mut others, mut counts) = (Vec::new(), Vec::new(), Vec::new());
+    while told.len() < frames.len() {
+        let given = other.frames(&frames[told.len()..]);
+        counts.push(given.len());
+        told.extend(given);
+        others.extend(taken(&mut other));
+    }
+    assert_eq!((&told, &others, other.save()), (&answers, &sent, one.save()));
+    // There is something to do behind the Join and each packet, which send, and the first report, which changes a row.
+    assert_eq!(counts, [5, 2, 2, 2]);
+    let refused = [Refusal::Short, Refusal::BadInterface].map(|refusal| Err(Error::Refused(refusal)));
+    assert_eq!((&told[2..4], told.iter().filter(|answer| **answer == DONE).count()), (&refused[..], 9));
+    assert_eq!((other.frames(&[]), other.frame(0, &packets[6], 0)), (Vec::new(), DONE));
+    assert_eq!(other.frames(&frames), [Err(Error::Untaken)]);
 }
 
 #[test]

@@ -23,12 +23,14 @@ import enum
 import operator
 import os
 import random
+import struct
 import threading
 import weakref
 from collections.abc import Callable, Iterable, Iterator, Sequence
 from ctypes import POINTER, Structure, byref, c_bool, c_char_p, c_size_t, c_uint8, c_uint32, c_uint64, c_void_p
 from functools import cache, lru_cache
 from ipaddress import IPv4Address, IPv4Interface
+from itertools import accumulate
 from pathlib import Path
 from typing import Any, Literal, NamedTuple, Self, SupportsIndex, TypeAlias, overload
 
@@ -272,6 +274,10 @@ class ToldPlaneRow(Structure):
     _fields_ = [("is_known", c_bool), ("incoming", c_uint32), ("outgoing", Words), ("alive", Words), ("to_core", Words)]
 
 
+# A packet that came, struct viq_received: its interface, its bytes and their number, and its draw.
+RECEIVED = struct.Struct("@IPNI0P")
+
+
 class GivenCall(Structure):
     """A call that is recorded (`viqeshor.recording`)."""
     _fields_ = [
@@ -358,6 +364,7 @@ CALLS: dict[str, tuple[list[Any], Any]] = {
     "save": ([POINTER(c_uint8), c_size_t, POINTER(c_size_t)], c_uint32),
     "advance": ([c_uint64, Draw], c_uint32),
     "frame": ([c_uint32, c_char_p, c_size_t, Draw], c_uint32),
+    "frames": ([c_void_p, c_size_t, c_void_p], c_size_t),
     "unicast": ([c_char_p, c_size_t, Draw], c_uint32),
     "up": ([c_uint32, Draw], c_uint32),
     "down": ([c_uint32, Draw], c_uint32),
@@ -459,6 +466,24 @@ def number(value: SupportsIndex, bits: int, what: str) -> int:
     return whole
 
 
+def numbers_of(values: Iterable[SupportsIndex], what: str) -> list[int]:
+    """Many numbers of 32 bits, each as `number` has it."""
+    whole = list(map(operator.index, values))
+    for extreme in (min(whole, default=0), max(whole, default=0)):
+        number(extreme, 32, what)
+    return whole
+
+
+def draws_of(draws: Iterable[int] | None, count: int) -> Sequence[int]:
+    """So many draws: random ones where none are given."""
+    if draws is None:
+        return struct.unpack(f"={count}I", random.randbytes(4 * count))
+    given = numbers_of(draws, "a draw")
+    if len(given) != count:
+        raise ValueError(f"{len(given)} draws of {count} packets")
+    return given
+
+
 def all_numbers(kind: Any, values: Iterable[SupportsIndex]) -> Any:
     """A value of C of these numbers, one for each field."""
     names, given = [name for name, *_ in kind._fields_], list(values)
@@ -529,6 +554,11 @@ def place_of(place: int | None) -> int:
 
 def bytes_of(packet: Buffer) -> bytes:
     return packet if isinstance(packet, bytes) else memoryview(packet).tobytes()
+
+
+def place_in(data: bytes) -> int:
+    """Where the bytes lie, as long as they are there."""
+    return ctypes.cast(c_char_p(data), c_void_p).value or 0
 
 
 class Router:
@@ -707,6 +737,35 @@ class Router:
         """A packet came on an interface, to a group."""
         data = bytes_of(packet)
         return self._event("frame", draw, number(iface, 32, "an interface"), data, len(data))
+
+    def frames(self, received: Iterable[tuple[int, Buffer]], draws: Iterable[int] | None = None) -> list[Answer]:
+        """Packets came on interfaces, to groups, one after the other: each an interface and a packet, which is an event
+        as by `frame`, in its turn. Returns an answer for each. A call of the library takes all up to one behind which
+        something is to be sent or a row has changed. What is told of the last event is of the last packet alone, so a
+        data plane gives packets by `frame`. Draws are random, or one is given for each packet."""
+        ifaces, packets = tuple(zip(*received)) or ((), ())
+        numbers, data = numbers_of(ifaces, "an interface"), list(map(bytes_of, packets))
+        bits = draws_of(draws, len(data))
+        with self.lock:
+            if self._took is not None:  # Each is recorded with what it sent.
+                return list(map(self.frame, numbers, data, bits))
+            answers = self._give(numbers, data, bits)
+        meanings = {answer: Answer(answer) for answer in set(answers)}
+        return list(map(meanings.__getitem__, answers))
+
+    def _give(self, ifaces: Sequence[int], data: Sequence[bytes], draws: Sequence[int]) -> list[int]:
+        """Gives the packets to the library, and keeps what is to be sent."""
+        whole, lengths, answers = b"".join(data), list(map(len, data)), (c_uint32 * len(data))()
+        places = accumulate(lengths, initial=place_in(whole))
+        frames = b"".join(map(RECEIVED.pack, ifaces, places, lengths, draws))
+        given = 0
+        while given < len(data):
+            at, left = place_in(frames) + given * RECEIVED.size, len(data) - given
+            given += self._call("frames", at, left, byref(answers, given * ctypes.sizeof(c_uint32)))
+            self._take()
+            if (last := Answer(answers[given - 1])) in RAISED:
+                self._raise(last)
+        return list(answers)
 
     def unicast(self, packet: Buffer, draw: int | None = None) -> Answer:
         """A PIM packet came for an address of the router."""
