@@ -23,7 +23,7 @@ _viqeshord() {
     esac
     case $sub in
         run) COMPREPLY=($(compgen -W "--check --help" -- "$word") $(compgen -f -- "$word")) ;;
-        import) COMPREPLY=($(compgen -W "--vrf --help" -- "$word") $(compgen -f -- "$word")) ;;
+        import) COMPREPLY=($(compgen -W "--vrf --json --help" -- "$word") $(compgen -f -- "$word")) ;;
         show) COMPREPLY=($(compgen -W "$topics --json --watch --instance --socket --help" -- "$word")) ;;
         clear) COMPREPLY=($(compgen -W "counters mroute interface --instance --socket --help" -- "$word")) ;;
     esac

@@ -6,12 +6,17 @@ from dataclasses import dataclass
 from pathlib import Path
 
 TOP = Path(__file__).resolve().parent.parent.parent
-TESTS = TOP / "tools" / "tests"
+TESTS = [TOP / house / "tests" for house in ("tools", "dev", "torture")]
 LINUX = ("--offline", "--config", "debian.toml")
 STRICT = ("--all-targets", "--", "-D", "warnings")
 # The part that builds the program and the library without proofs, for all others, and installs the library here.
 BUILD = "build"
 INSTALLED = TOP / "out" / "quick" / "installed"
+# The part that builds the router for Linux, which reads FRR's configurations; where it is then, and the tests that want
+# it.
+ROUTER = "router"
+VIQESHORD = TOP / "out" / "cargo" / "linux" / "debug" / "viqeshord"
+OF_FRR = ("from_frr", "from_pcap", "kinds")
 # The tests that take longest, which begin first; and those that want neither the program nor the library.
 LONG = ("embed", "check_counts", "why", "lab", "pimlab", "unproved", "mend", "mroute", "usual_mistakes", "recorded",
     "play")
@@ -22,24 +27,27 @@ ALONE = ("beside", "check_counts", "check_docs", "cited", "copies", "crates_tabl
 
 @dataclass(frozen=True)
 class Part:
-    """A command with the folder in which it runs. It waits for the build unless it stands alone."""
+    """A command with the folder in which it runs. It waits for the part `after` unless it stands alone."""
     name: str
     words: tuple[str, ...]
     folder: str = "."
     alone: bool = False
+    after: str = BUILD
 
     def environment(self) -> dict[str, str]:
-        """Cargo's commands have a folder each, so that they don't wait for one another."""
+        """Cargo's commands have a folder each, so that they don't wait for one another; what the router is built of is
+        what its tests are built of."""
+        target = "linux" if self.name == ROUTER else self.name
         return os.environ | {
-            "PIMLAB_BUILD": "unproved", "CARGO_TARGET_DIR": str(TOP / "out" / "cargo" / self.name),
-            "CARGO_TERM_COLOR": "never", "VIQESHOR_LIB_DIR": str(INSTALLED / "lib"),
+            "PIMLAB_BUILD": "unproved", "CARGO_TARGET_DIR": str(TOP / "out" / "cargo" / target),
+            "CARGO_TERM_COLOR": "never", "VIQESHOR_LIB_DIR": str(INSTALLED / "lib"), "VIQESHORD": str(VIQESHORD),
         }
 
 
-def tool(words: str, name: str | None = None, alone: bool = False) -> Part:
+def tool(words: str, name: str | None = None, alone: bool = False, after: str = BUILD) -> Part:
     """A tool's own check, by its command."""
     command, *rest = words.split()
-    return Part(name or Path(command).name, (sys.executable, command, *rest), alone=alone)
+    return Part(name or Path(command).name, (sys.executable, command, *rest), alone=alone, after=after)
 
 
 def alone_first() -> Iterator[Part]:
@@ -54,13 +62,16 @@ def alone_first() -> Iterator[Part]:
     yield Part("rust_layout", ("cargo", "fmt", "--check"), "bindings/rust", alone=True)
 
 
+def names_of_tests() -> list[str]:
+    return sorted(path.stem.removeprefix("test_") for folder in TESTS for path in folder.glob("test_*.py"))
+
+
 def tests(alone: bool) -> Iterator[Part]:
     """The tests of the tools: those that take longest first."""
-    found = {path.stem.removeprefix("test_") for path in TESTS.glob("test_*.py")}
-    names = [*(name for name in LONG if name in found), *sorted(found - set(LONG))]
-    for name in names:
+    found = names_of_tests()
+    for name in [*(name for name in LONG if name in found), *(name for name in found if name not in LONG)]:
         if (name in ALONE) == alone:
-            yield tool(f"dev/try_tools {name}", f"test_{name}", alone)
+            yield tool(f"dev/try_tools {name}", f"test_{name}", alone, ROUTER if name in OF_FRR else BUILD)
 
 
 def benches() -> Iterator[Part]:
@@ -79,10 +90,11 @@ def parts() -> list[Part]:
         *alone_first(),
         *tests(True),
         tool("tools/library --unproved"),
-        Part("linux", ("cargo", "test", *LINUX), "linux"),
+        Part(ROUTER, ("cargo", "build", *LINUX, "--bin", "viqeshord"), "linux"),
         Part("linux_lint", ("cargo", "clippy", *LINUX, *STRICT), "linux"),
+        Part("linux", ("cargo", "test", *LINUX), "linux", after=ROUTER),
         *tests(False),
-        tool("dev/check_docs"),
+        tool("dev/check_docs", after=ROUTER),
         tool("torture/restarted --unproved --runs 10 --spoilt 20 --facts 1000"),
         tool("torture/plane --unproved --runs 100"),
         tool("torture/refuse_memory --unproved --seconds 20"),

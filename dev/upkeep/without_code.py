@@ -16,6 +16,8 @@ WHOLE: dict[str, tuple[str, ...] | None] = {
     "igmp_older": ("front", "kept", "mode", "older", "router", "setting"),
 }
 OF_KIT = ("byteorder",)
+# Files of these that no definition computes with: what laws say, and the list of files, which is written anew.
+NOT_COMPUTED = ("Laws", "Lib")
 # Files of definitions of other crates, each crate after those that it names.
 PARTS = {
     "law_settled": ("Laws", "Ready"), "law_events": ("Locality", "Rest", "Scopes"),
@@ -73,7 +75,9 @@ def specs_of(crate: str) -> list[Path]:
     if crate == LAB_CRATE:
         return [LAB]
     folder = ROOT / "crates" / crate / "specs"
-    return [folder / f"{name}.antt" for name in PARTS[crate]] if crate in PARTS else sorted(folder.glob("*.antt"))
+    if crate in PARTS:
+        return [folder / f"{name}.antt" for name in PARTS[crate]]
+    return sorted(path for path in folder.glob("*.antt") if path.stem not in NOT_COMPUTED)
 
 
 def module_of(path: Path) -> str:

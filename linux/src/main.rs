@@ -27,6 +27,8 @@ mod program;
 mod recorder;
 mod routes;
 mod said;
+#[cfg(test)]
+mod schemas;
 mod server;
 mod settings;
 mod show;
@@ -92,7 +94,7 @@ enum What {
         #[command(flatten)]
         at: At,
     },
-    /// Print settings that are made from FRR's configuration; standard error has the lines that they leave out
+    /// Print settings made from FRR's configuration; standard error has the lines that they leave out
     Import {
         /// FRR's configuration
         #[arg(default_value = FRR_FILE)]
@@ -100,6 +102,9 @@ enum What {
         /// Read the part of this VRF
         #[arg(long, value_name = "NAME")]
         vrf: Option<String>,
+        /// Print what was read as JSON, in the place of settings
+        #[arg(long)]
+        json: bool,
     },
     /// Start counters, the kernel's entries or an interface of a running router again
     Clear {
@@ -230,15 +235,22 @@ fn run(file: &Path, only_check: bool) -> ExitCode {
     }
 }
 
-fn import(file: &Path, vrf: Option<&str>) -> ExitCode {
+/// Prints settings made from FRR's configuration, or as JSON what was read.
+fn import(file: &Path, vrf: Option<&str>, is_json: bool) -> ExitCode {
     let name = file.display();
-    let imported = match std::fs::read_to_string(file) {
-        Ok(text) => import::of(&text, vrf),
+    let text = match std::fs::read_to_string(file) {
+        Ok(text) => text,
         Err(error) => {
             eprintln!("{name}: {error}");
             return ExitCode::from(2);
         }
     };
+    if is_json {
+        let told = serde_json::to_string_pretty(&import::read(&text, vrf)).map_err(io::Error::from);
+        let is_told = told.and_then(|told| writeln!(io::stdout(), "{told}"));
+        return if is_told.is_ok() { ExitCode::SUCCESS } else { ExitCode::FAILURE };
+    }
+    let imported = import::of(&text, vrf);
     imported.left.iter().for_each(|left| eprintln!("{name}: {left}"));
     let problems = settings::read(&imported.settings).err().unwrap_or_default();
     problems.iter().for_each(|problem| eprintln!("{name}: the settings that were made of it: {problem}"));
@@ -258,7 +270,7 @@ fn main() -> ExitCode {
                 None => client::show(&shown, &at.path()),
             }
         }
-        What::Import { file, vrf } => import(&file, vrf.as_deref()),
+        What::Import { file, vrf, json } => import(&file, vrf.as_deref(), json),
         What::Clear { what, name, at } => client::clear(what, name.as_deref(), &at.path()),
     }
 }

@@ -185,11 +185,13 @@ mod tests {
 
     #[test]
     fn a_program_that_hangs_keeps_nobody_waiting() {
-        let hangs = program("hangs", "#!/bin/sh\nexec sleep 60\n");
+        // The shell may open its file only after the other one is in its place.
+        const HANGS: &str = "#!/bin/sh\nexec sleep 60\n";
+        let hangs = program("hangs", HANGS);
         let mut asking = hangs.ask(Path::new("the-file")).unwrap();
         assert_eq!(asking.answer(), None);
         assert!(hangs.is_asked(&asking));
-        std::fs::write(hangs.path.with_extension("new"), "two").unwrap();
+        std::fs::write(hangs.path.with_extension("new"), HANGS).unwrap();
         std::fs::rename(hangs.path.with_extension("new"), &hangs.path).unwrap();
         assert!(!hangs.is_asked(&asking));
         asking.end = Instant::now() - Duration::from_millis(1);

@@ -10,7 +10,7 @@ use crate::policy::lists::{
 use crate::recorder;
 use crate::tables::Domain;
 use log::LevelFilter;
-use serde::Deserialize;
+use serde::{Deserialize, Serialize, Serializer};
 use std::collections::{BTreeMap, HashSet};
 use std::fmt;
 use std::net::{Ipv4Addr, SocketAddr};
@@ -81,6 +81,12 @@ impl fmt::Display for Subnet {
 
 pub fn mask(length: u8) -> u32 {
     u32::MAX.checked_shl(32 - u32::from(length)).unwrap_or(0)
+}
+
+impl Serialize for Subnet {
+    fn serialize<S: Serializer>(&self, to: S) -> Result<S::Ok, S::Error> {
+        to.collect_str(self)
+    }
 }
 
 impl Subnet {

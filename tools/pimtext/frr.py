@@ -1,18 +1,30 @@
-"""Configurations of FRR routers, as `show running-config` has them, read into plain objects. What a configuration
-says and what this doesn't carry over is kept with its file, its line and the reason."""
+"""Configurations of FRR routers, as `viqeshord import --json` reads them, with what FRR printed beside them. What isn't
+carried over is kept with its file, its line and the reason."""
 import json
-import re
-from collections.abc import Iterable, Iterator
+import os
+import shutil
+import subprocess
 from dataclasses import dataclass, field
-from ipaddress import IPv4Interface, IPv4Network
+from ipaddress import IPv4Interface
 from pathlib import Path
 from typing import Any
 
-ALL_GROUPS = "224.0.0.0/4"
+from pimtext.kept import TOP, released
+
 DEFAULT = "default"
+# Where programs like viqeshord are installed, which not every user's PATH has.
+SBIN = ["/usr/local/sbin", "/usr/sbin"]
 # FRR's own values, which are those of RFC 3376 too: seconds, and tenths of a second.
-IGMP_TIMES = {"query-interval": 125, "query-max-response-time": 100, "last-member-query-interval": 10}
-PROTOCOLS = ("ospf", "isis", "bgp", "rip", "eigrp", "babel", "openfabric")
+IGMP_TIMES = {"query_interval": 125, "query_response": 100, "last_member_query": 10}
+# What is read of an interface and isn't carried over.
+UNLIKE = {
+    "passive": "our router speaks PIM on each of its interfaces",
+    "hello": "Hellos leave every 30 s, and hold for 105 s",
+    "bfd": "there is no BFD",
+    "boundary": "there are no boundaries",
+    "neighbors": "there are no lists of what is accepted",
+    "version_2": "our router speaks IGMPv3, and asks as version 3 does",
+}
 
 
 @dataclass(frozen=True)
@@ -35,16 +47,14 @@ class Left:
 
 @dataclass
 class Interface:
-    """`times` are IGMP's by their words in the configuration, `joins` groups and sources (or None) that it joins
-    itself."""
+    """`times` are IGMP's by their keys, `joins` groups and sources (or None) that it joins itself."""
     name: str
-    vrf: str
     place: Place
+    is_pim: bool
+    is_igmp: bool
+    is_shut: bool
+    priority: int
     addresses: list = field(default_factory=list)
-    is_pim: bool = False
-    is_igmp: bool = False
-    is_shut: bool = False
-    priority: int = 1
     times: dict = field(default_factory=dict)
     joins: list = field(default_factory=list)
 
@@ -60,235 +70,60 @@ class Interface:
         return self.name.startswith(("lo", "dummy")) or self.is_apart()
 
 
-@dataclass(frozen=True)
-class Listed:
-    """An entry of a prefix list."""
-    number: int
-    is_permit: bool
-    prefix: str
-    place: Place
-
-
 @dataclass
 class Router:
-    """`rps` are an RP, its range or None, its prefix list or None, and the line; `statics` prefix, next hop,
-    distance and line."""
+    """`ranges` are groups and their RP, `statics` prefix, next hop, distance and line."""
     name: str
-    vrf: str
+    file: str
     interfaces: dict = field(default_factory=dict)
-    rps: list = field(default_factory=list)
-    lists: dict = field(default_factory=dict)
-    ssm: tuple | None = None
+    ranges: list = field(default_factory=list)
     spt_never: Place | None = None
     resolves_by_default: bool = False
     statics: list = field(default_factory=list)
-    protocols: set = field(default_factory=set)
+    has_protocol: bool = False
     left: list = field(default_factory=list)
     routes: list | None = None
 
     def leave(self, place: Place, reason: str) -> None:
         self.left.append(Left(place, reason))
 
-    def here(self) -> list[Interface]:
-        """The interfaces of its VRF."""
-        return [each for each in self.interfaces.values() if each.vrf == self.vrf]
-
     def has(self, address: str) -> bool:
-        return any(str(own.ip) == address for each in self.here() for own, _ in each.addresses)
+        return any(str(own.ip) == address for each in self.interfaces.values() for own, _ in each.addresses)
 
+    # ---- what is read of its configuration
 
-# ---- lines that are taken
+    def place(self, said: dict[str, Any]) -> Place:
+        return Place(self.file, said["line"], said["text"])
 
+    def take(self, said: dict[str, Any]) -> None:
+        """Takes what is read, and leaves what a network hasn't."""
+        self.interfaces = {row["name"]: self.interface(row) for row in said["interfaces"]}
+        self.ranges = [(row["value"]["groups"], row["value"]["address"]) for row in said["rps"]]
+        self.spt_never = self.place(said["spt_never"]) if said["spt_never"] else None
+        self.resolves_by_default, self.has_protocol = said["uses_default_route"], bool(said["protocols"])
+        for row in said["static_routes"]:
+            route = row["value"]
+            self.statics.append((route["prefix"], route["next_hop"], route["distance"], self.place(row)))
+        for row in said["left"] + said["others"]:
+            self.leave(self.place(row), row["reason"])
+        for row in said["protocols"]:
+            self.leave(self.place(row), "routing protocols don't run: routes are those that they found")
+        if said["register"]:
+            self.leave(self.place(said["register"]), "Registers of every source are accepted")
 
-def take_address(router: Router, port: Interface, place: Place, text: str, *_: object) -> None:
-    try:
-        port.addresses.append((IPv4Interface(text), place))
-    except ValueError:
-        return router.leave(place, "it is no IPv4 address with its length")
-    if len(port.addresses) > 1 and not (port.is_apart() and port.addresses[-1][0].network.prefixlen == 32):
-        router.leave(place, "an interface has one address here, the first")
-
-
-def take_pim(router: Router, port: Interface, place: Place) -> None:
-    port.is_pim = True
-
-
-def take_igmp(router: Router, port: Interface, place: Place) -> None:
-    port.is_igmp = True
-
-
-def take_shutdown(router: Router, port: Interface, place: Place) -> None:
-    port.is_shut = True
-
-
-def take_priority(router: Router, port: Interface, place: Place, text: str) -> None:
-    port.priority = int(text)
-
-
-def take_time(router: Router, port: Interface, place: Place, key: str, text: str) -> None:
-    port.times[key] = int(text), place
-
-
-def take_join(router: Router, port: Interface, place: Place, group: str, source: str | None) -> None:
-    port.joins.append((group, source, place))
-
-
-def take_rp(router: Router, _: Interface | None, place: Place, address: str, groups: str | None) -> None:
-    router.rps.append((address, groups or ALL_GROUPS, None, place))
-
-
-def take_rp_list(router: Router, _: Interface | None, place: Place, address: str, name: str) -> None:
-    router.rps.append((address, None, name, place))
-
-
-def take_ssm(router: Router, _: Interface | None, place: Place, name: str) -> None:
-    router.ssm = name, place
-
-
-def take_spt(router: Router, _: Interface | None, place: Place) -> None:
-    router.spt_never = place
-
-
-def take_default(router: Router, *_: object) -> None:
-    router.resolves_by_default = True
-
-
-def take_listed(
-    router: Router,
-    _: Interface | None,
-    place: Place,
-    name: str,
-    number: str | None,
-    verb: str,
-    prefix: str,
-    bounds: str,
-) -> None:
-    number = int(number) if number else 5 * (1 + len(router.lists.get(name, ())))
-    router.lists.setdefault(name, []).append(Listed(number, verb == "permit", prefix, place))
-
-
-def take_static(router: Router, _: Interface | None, place: Place, prefix: str, hop: str, distance: str | None) -> None:
-    router.statics.append((prefix, hop, int(distance or 1), place))
-
-
-INTERFACE_LINES = [(re.compile(pattern + r"$"), take) for pattern, take in [
-    (r"ip address (\S+)( label \S+)?", take_address), (r"ip pim( sm)?", lambda *words: take_pim(*words[:3])),
-    (r"ip igmp", take_igmp), (r"shutdown", take_shutdown), (r"ip pim drpriority (\d+)", take_priority),
-    (r"ip igmp (query-interval|query-max-response-time|last-member-query-interval) (\d+)", take_time),
-    (r"ip igmp join(?:-group)? (\S+)(?: (\d\S+))?", take_join),
-]]
-GLOBAL_LINES = [(re.compile(pattern + r"$"), take) for pattern, take in [
-    (r"ip pim rp (\S+) prefix-list (\S+)", take_rp_list), (r"ip pim rp (\S+)(?: (\d\S+))?", take_rp),
-    (r"ip pim ssm prefix-list (\S+)", take_ssm), (r"ip pim spt-switchover infinity-and-beyond", take_spt),
-    (r"ip prefix-list (\S+)(?: seq (\d+))? (permit|deny) (\d\S+|any)((?: [gl]e \d+)*)", take_listed),
-    (r"ip route (\S+) (\d+\.\S+)(?: (\d+))?", take_static), (r"ip nht resolve-via-default", take_default),
-    (r"frr defaults datacenter", take_default),
-]]
-# What says nothing of a network, or is what the network does in any case.
-QUIET = [re.compile(pattern) for pattern in (
-    r"frr (version|defaults) ", r"hostname ", r"service ", r"log ", r"password ", r"description ",
-    r"(no )?ip(v6)? forwarding", r"ip igmp version 3$", r"Building configuration", r"Current configuration",
-    r"line vty", r"no shutdown$",
-)]
-REASONS = [(re.compile(pattern), reason) for pattern, reason in [
-    (r"no ", "a line that takes something back isn't looked at"),
-    (r"ip pim hello ", "Hellos leave every 30 s, and hold for 105 s"),
-    (r"ip pim join-prune-interval ", "Joins are repeated every 60 s"),
-    (r"ip pim (rp )?keep-alive-timer ", "the keepalive period is 210 s, and the RP's that of RFC 7761"),
-    (r"ip pim register-suppress-time ", "the register suppression time is 60 s"),
-    (r"ip pim ecmp", "of several next hops one is used, the first"),
-    (r"ip pim passive", "our router speaks PIM on each of its interfaces"),
-    (r"ip pim bsm|ip pim unicast-bsm", "there is no bootstrap router: RPs are static"),
-    (r"ip pim use-source", "Hellos leave from the interface's address"),
-    (r"ip pim bfd", "there is no BFD"), (r"ip pim register-accept-list", "Registers of every source are accepted"),
-    (r"ip pim allow-rp", "there are no lists of what is accepted"),
-    (r"ip pim spt-switchover infinity-and-beyond prefix-list",
-     "whether a router leaves the RP's tree is decided for all groups alike"),
-    (r"ip pim (active-active|packets|send-v6-secondary)", "it has no counterpart"),
-    (r"ip igmp version 2", "our router speaks IGMPv3, and asks as version 3 does"),
-    (r"ip igmp last-member-query-count ", "it is the robustness variable, 2"),
-    (r"ip igmp ", "it has no counterpart"), (r"ip multicast boundary", "there are no boundaries"),
-    (r"ip mroute ", "there are no static trees, nor routes for multicast alone"),
-    (r"ip msdp |msdp ", "there is no MSDP"),
-    (r"ip route ", "its next hop is no address, or it has words that this doesn't know"),
-    (r"ip prefix-list |route-map |access-list ", "no range of RPs or of SSM is made of it"),
-    (r"ip ospf |ip rip |isis |router |mpls |ipv6 ", "routing protocols don't run: routes are those that they found"),
-    (r"vlan |bandwidth |link-detect|multicast|mtu ", "it is of the link, of which nothing is carried over"),
-]]
-NOT_KNOWN = "this line isn't known to tools/from_frr"
-
-
-# ---- a configuration, line by line
-
-
-@dataclass
-class Block:
-    """What the indented lines after a line belong to: its kind, its VRF, and its interface."""
-    kind: str
-    vrf: str = DEFAULT
-    port: Interface | None = None
-
-
-class Reader:
-    def __init__(self, name: str, vrf: str) -> None:
-        self.router, self.block = Router(name, vrf), Block("")
-
-    def read(self, path: Path, shown: str) -> Router:
-        for number, line in enumerate(path.read_text("utf-8").splitlines(), 1):
-            text = " ".join(line.split())
-            if text and text[0] not in "!#":
-                self.line(Place(shown, number, text), line[0].isspace())
-        return self.router
-
-    def line(self, place: Place, is_inside: bool) -> None:
-        if place.text in ("exit", "end", "exit-vrf", "exit-address-family"):
-            return
-        if not is_inside:
-            self.block = Block("")
-            if self.begins(place):
-                return
-        self.take(place)
-
-    def begins(self, place: Place) -> bool:
-        """Whether a line begins a block."""
-        words = place.text.split()
-        vrf = words[words.index("vrf") + 1] if "vrf" in words[:-1] else DEFAULT
-        if words[0] == "interface":
-            port = self.router.interfaces.setdefault(words[1], Interface(words[1], vrf, place))
-            self.block = Block("interface", vrf, port)
-        elif words[0] == "vrf" and len(words) == 2:
-            self.block = Block("vrf", words[1])
-        elif words[:2] == ["router", "pim"]:
-            self.block = Block("router pim", vrf)
-        elif words[0] in ("router", "line", "route-map", "key"):
-            self.block = Block("other")
-            self.protocol(place, words)
-        return bool(self.block.kind)
-
-    def protocol(self, place: Place, words: list[str]) -> None:
-        if words[0] == "router" and words[1].rstrip("6d") in PROTOCOLS:
-            self.router.protocols.add(words[1])
-        if words[0] != "line":
-            self.left_over(place)
-
-    def take(self, place: Place) -> None:
-        """Takes a line of a block, or leaves it."""
-        if self.block.kind == "other":
-            return None
-        if self.block.vrf != self.router.vrf and not place.text.startswith("ip prefix-list"):
-            return self.router.leave(place, f"it is of the VRF {self.block.vrf}, not of {self.router.vrf}")
-        text = f"ip pim {place.text}" if self.block.kind == "router pim" else place.text
-        known = INTERFACE_LINES if self.block.port else GLOBAL_LINES
-        for pattern, take in known:
-            if found := pattern.match(text):
-                return take(self.router, self.block.port, place, *found.groups())
-        return self.left_over(place, text)
-
-    def left_over(self, place: Place, text: str | None = None) -> None:
-        text = text or place.text
-        if not any(pattern.match(text) for pattern in QUIET):
-            found = [reason for pattern, reason in REASONS if pattern.match(text)]
-            self.router.leave(place, found[0] if found else NOT_KNOWN)
+    def interface(self, row: dict[str, Any]) -> Interface:
+        flags = row["has_pim"], row["has_igmp"], row["is_shut_down"]
+        port = Interface(row["name"], self.place(row), *flags, 1 if row["priority"] is None else row["priority"])
+        port.addresses = [(IPv4Interface(each["value"]), self.place(each)) for each in row["addresses"]]
+        for own, place in port.addresses[1:]:
+            if not (port.is_apart() and own.network.prefixlen == 32):
+                self.leave(place, "an interface has one address here, the first")
+        port.times = {key: (row[key]["value"], self.place(row[key])) for key in IGMP_TIMES if row[key]}
+        port.joins = [(each["value"]["group"], each["value"]["source"], self.place(each)) for each in row["joins"]]
+        for key, reason in UNLIKE.items():
+            if row[key]:
+                self.leave(self.place(row[key]), reason)
+        return port
 
 
 # ---- a folder of routers
@@ -319,16 +154,41 @@ def beside(path: Path, name: str, kind: str) -> tuple[str, str, Any] | None:
     return None
 
 
-def routers_of(folder: str | Path, vrf: str = DEFAULT) -> list[Router]:
-    """The routers of a folder, with their routes where those are there."""
-    found = []
-    for name, path in configurations(Path(folder)).items():
-        shown = str(path.relative_to(folder))
-        router = Reader(name, vrf).read(path, shown)
+def routers_of(folder: str | Path, vrf: str = DEFAULT, program: str | None = None) -> list[Router]:
+    """The routers of a folder, with their routes where those are there; `program` is viqeshord, where it is named."""
+    paths, found = configurations(Path(folder)), []
+    reader = importer(program)
+    for name, path in paths.items():
+        router = Router(name, str(path.relative_to(folder)))
+        router.take(read(reader, path, vrf))
         router.routes = routes_in(router, beside(path, name, "routes"))
         add_addresses(router, beside(path, name, "interfaces"))
         found.append(router)
     return found
+
+
+def importer(named: str | None = None) -> str:
+    """What reads configurations: the viqeshord that is named, here or by VIQESHORD in the environment, that of a
+    release, or one that is installed."""
+    own = str(TOP / "sbin" / "viqeshord") if released() else None
+    path = os.pathsep.join([os.environ.get("PATH", os.defpath), *SBIN])
+    found = named or os.environ.get("VIQESHORD") or own or shutil.which("viqeshord", path=path)
+    if found is None:
+        raise Unreadable("there is no viqeshord, which reads FRR's configurations: docs/LINUX.md says how it is built; "
+                         "VIQESHORD in the environment names it where it isn't installed")
+    return found
+
+
+def read(program: str, path: Path, vrf: str) -> dict[str, Any]:
+    """What `viqeshord import --json` reads of a configuration: docs/schemas/import.json."""
+    words = [program, "import", path, "--json", *([] if vrf == DEFAULT else ["--vrf", vrf])]
+    try:
+        ran = subprocess.run(words, capture_output=True, text=True)
+    except OSError as reason:
+        raise Unreadable(f"{program} can't be run: {reason.strerror}") from None
+    if ran.returncode:
+        raise Unreadable(ran.stderr.partition("\n")[0] or f"{program} can't read {path}")
+    return json.loads(ran.stdout)
 
 
 def add_addresses(router: Router, said: tuple[str, str, Any] | None) -> None:
@@ -337,7 +197,7 @@ def add_addresses(router: Router, said: tuple[str, str, Any] | None) -> None:
     for name, row in rows.items():
         texts = [each["address"] for each in row.get("ipAddresses", ()) if ":" not in each["address"]]
         if name in router.interfaces and not router.interfaces[name].addresses and texts:
-            take_address(router, router.interfaces[name], Place(said[0], 1, name), texts[0])
+            router.interfaces[name].addresses.append((IPv4Interface(texts[0]), Place(said[0], 1, name)))
 
 
 @dataclass(frozen=True)
@@ -378,45 +238,3 @@ def route_of(router: Router, prefix: str, entry: dict[str, Any], place: Place) -
     first = hops[0]
     numbers = entry.get("distance", 0), entry.get("metric", 0)
     return [Route(prefix, first["ip"], first.get("interfaceName", ""), *numbers, entry["protocol"], place)]
-
-
-def ranges(router: Router) -> list[tuple[str, str]]:
-    """The RP ranges as pairs of a prefix and an RP. What can't be one is left."""
-    found = []
-    for address, groups, name, place in router.rps:
-        if name is not None and name not in router.lists:
-            router.leave(place, f"there is no prefix list {name}")
-        rows = [(groups, place)] if name is None else permitted(router, name)
-        found += [(prefix, address) for prefix in group_ranges(router, rows)]
-    return found
-
-
-def permitted(router: Router, name: str) -> list[tuple[str, Place]]:
-    """What a prefix list permits, with the lines; a refusal in it is left."""
-    rows = sorted(router.lists.get(name, ()), key=lambda row: row.number)
-    for row in rows:
-        if not row.is_permit:
-            router.leave(row.place, "a range of an RP has no exceptions here")
-    return [(row.prefix, row.place) for row in rows if row.is_permit]
-
-
-def group_ranges(router: Router, rows: Iterable[tuple[str, Place]]) -> Iterator[str]:
-    """The prefixes as ranges of groups; one that has all groups and more is that of all groups."""
-    everything = IPv4Network(ALL_GROUPS)
-    for prefix, place in rows:
-        wanted = IPv4Network("0.0.0.0/0" if prefix == "any" else prefix, strict=False)
-        if wanted.subnet_of(everything) or everything.subnet_of(wanted):
-            yield str(wanted if wanted.subnet_of(everything) else everything)
-        else:
-            router.leave(place, "it is no range of groups")
-
-
-def is_usual_ssm(router: Router) -> bool:
-    """Whether the SSM groups are 232.0.0.0/8 alone."""
-    rows = router.lists.get(router.ssm[0], [])
-    return [(row.is_permit, row.prefix) for row in rows] == [(True, "232.0.0.0/8")]
-
-
-def used_lists(router: Router) -> set[str | None]:
-    return {name for _, _, name, _ in router.rps} | ({router.ssm[0]} if router.ssm else set())
-

@@ -15,7 +15,7 @@ from pimtext.frr import IGMP_TIMES
 if TYPE_CHECKING:
     from viqeshor.lab.network import Network
 
-KEYS = {"query-interval": "qi", "query-max-response-time": "qri", "last-member-query-interval": "lmqi"}
+KEYS = {"query_interval": "qi", "query_response": "qri", "last_member_query": "lmqi"}
 FIRST, THEN, STREAM = 10, 5, 20
 
 
@@ -53,11 +53,11 @@ class Plan:
 
     def __init__(self, routers: list[frr.Router], sends: Sequence[tuple[str, str]] = ()) -> None:
         self.routers, self.links, self.taken = routers, {}, {address for address, _ in sends}
-        self.ranges = {router.name: frr.ranges(router) for router in routers}
+        self.ranges = {router.name: router.ranges for router in routers}
         self.own = {router.name: [] for router in routers}
         self.roots = {address for ranges in self.ranges.values() for _, address in ranges}
         for router in routers:
-            for port in router.here():
+            for port in router.interfaces.values():
                 if is_carried(router, port, self.roots, self.taken):
                     (self.keep if port.is_apart() else self.plug)(router, port)
         self.name_links()
@@ -172,16 +172,13 @@ class Plan:
                 router.leave(port.place, "it has no `ip igmp`; our router serves hosts on each interface")
             if not port.is_pim:
                 router.leave(port.place, "it has no `ip pim`; our router speaks PIM on each interface")
-        if router.ssm and not frr.is_usual_ssm(router):
-            router.leave(router.ssm[1], "the groups of SSM are 232.0.0.0/8, and no others")
         if router.spt_never and any(router.has(root) for root in self.roots):
             router.leave(router.spt_never, "as RP ours doesn't join the sources' trees then either")
-        judge_lists(router)
         judge_statics(router)
 
     def is_alone(self, router: frr.Router) -> bool:
         """Whether it has no other routes than those: it runs no routing protocol."""
-        return not router.protocols
+        return not router.has_protocol
 
 
 def is_carried(router: frr.Router, port: frr.Interface, roots: set[str], taken: set[str]) -> bool:
@@ -222,7 +219,7 @@ def found_route(router: frr.Router, route: frr.Route, numbers: dict[str, int]) -
 def igmp_times(router: frr.Router) -> dict[str, int | str]:
     """IGMP's times, which are one for all interfaces: those of the first interface with IGMP. Another one's are
     left."""
-    ports, options = [port for port in router.here() if port.is_igmp], {}
+    ports, options = [port for port in router.interfaces.values() if port.is_igmp], {}
     for key, usual in IGMP_TIMES.items():
         values = [port.times.get(key, (usual, port.place)) for port in ports]
         for value, place in values[1:]:
@@ -231,13 +228,6 @@ def igmp_times(router: frr.Router) -> dict[str, int | str]:
         if values and values[0][0] != usual:
             options[KEYS[key]] = values[0][0]
     return options
-
-
-def judge_lists(router: frr.Router) -> None:
-    used = frr.used_lists(router)
-    unused = [row for name, rows in router.lists.items() if name not in used for row in rows]
-    for row in unused:
-        router.leave(row.place, "no RP and no `ip pim ssm` names this prefix list")
 
 
 def judge_statics(router: frr.Router) -> None:

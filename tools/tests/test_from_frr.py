@@ -6,6 +6,7 @@ import subprocess
 import tempfile
 import unittest
 from pathlib import Path
+from unittest import mock
 
 from pimtext import frr, frr_lab
 from tests import rooms, stored
@@ -152,6 +153,17 @@ class Carried(unittest.TestCase):
         self.assertIn("resolve-via-default", said["r1.conf:10"])
         self.assertNotIn("r2/frr.conf:2", said)
 
+    def test_what_a_network_has_not_is_listed(self):
+        text = "ip pim register-accept-list L\nip prefix-list L permit any\ninterface eth0\n ip address 10.0.1.3/24\n"
+        text += " ip pim\n ip pim passive\n ip pim bfd\n ip pim allowed-neighbors prefix-list L\n"
+        text += " ip multicast boundary oil L\n shutdown\n"
+        said = left(plan_of({"a.conf": text.replace(" shutdown\n", ""), "r2.conf": OTHER}))
+        wanted = {1: "every source", 6: "speaks PIM", 7: "no BFD", 8: "no lists", 9: "no boundaries"}
+        self.assertEqual({f"a.conf:{number}" for number in wanted}, {key for key in said if key.startswith("a.")})
+        for number, words in wanted.items():
+            self.assertIn(words, said[f"a.conf:{number}"])
+        self.assertEqual(left(plan_of({"a.conf": text, "r2.conf": OTHER}))["a.conf:3"], "it is shut down")
+
     def test_another_vrf(self):
         files = {"r1.conf": NEWER}
         self.assertEqual(plan_of(files, vrf="red").ranges["r1"], [("224.0.0.0/4", "10.0.7.7")])
@@ -181,6 +193,26 @@ class Carried(unittest.TestCase):
         plan = plan_of({"r1.conf": OLDER, "r2/frr.conf": OTHER})
         net = from_frr.played(frr_lab.text_of(plan, "here"))
         self.assertEqual(net.routers["r1"].neighbours(), {"r2"})
+
+    def test_what_reads_configurations_is_named_or_found(self):
+        given = mock.patch.dict(os.environ, PATH="/nowhere", VIQESHORD="/own")
+        with given, mock.patch.object(frr, "SBIN", ["/nowhere"]):
+            self.assertEqual((frr.importer("/named"), frr.importer()), ("/named", "/own"))
+            del os.environ["VIQESHORD"]
+            with self.assertRaises(frr.Unreadable) as raised:
+                plan_of({"r2.conf": OTHER})
+            self.assertIn("docs/LINUX.md says how it is built", str(raised.exception))
+            with rooms.repository({"viqeshord": "#!/bin/sh\n"}) as room:
+                (room / "viqeshord").chmod(0o755)
+                with mock.patch.object(frr, "SBIN", [str(room)]):
+                    self.assertEqual(frr.importer(), str(room / "viqeshord"))
+
+    def test_what_cannot_read_configurations(self):
+        for program, text in (("/nowhere", "/nowhere can't be run: No such file"), ("false", "false can't read ")):
+            words = [stored.TOOLS / "from_frr", FRR / "line", "--viqeshord", program]
+            ran = subprocess.run(words, capture_output=True, text=True)
+            self.assertEqual((ran.returncode, ran.stdout), (1, ""))
+            self.assertRegex(ran.stderr, f"^tools/from_frr: {text}.*\n$")
 
     def test_what_cannot_be_read(self):
         for files, text in (({"a.txt": ""}, "has no NAME.conf"), ({"a.conf": "", "a.routes.json": "{"}, "isn't JSON")):

@@ -40,7 +40,7 @@ NOT_RUN = {
     "./pimlab run FILE": "it wants the kit; test_pimlab runs it",
     "tools/release": "it wants a ./test that passed; with --unproved it made what is tried here",
     "apt-get install $(cat dev/packages.txt)": "it changes the machine; the part `packages` says what is missing",
-    "systemctl restart": "it wants systemd; linux/trials/by_systemd runs it",
+    "systemctl restart": "it wants systemd; linux/trials/systemd.py runs it",
 }
 SPAN = re.compile(r"`((?:\./|tools/|linux/|bin/|viq |apt-get |systemctl )[^`]*)`")
 release = stored.tool("release")

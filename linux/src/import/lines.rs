@@ -1,39 +1,12 @@
 //! A configuration read line by line.
+use super::configuration::{BfdTimes, Configuration, HelloTimes, Interface, Join, Place, Route, Said};
 use super::lists::{subnet, Entry};
-use super::Left;
+use super::{reasons, Left};
 use crate::settings::Subnet;
-use std::collections::BTreeMap;
 use std::net::Ipv4Addr;
 
-/// A line, with its number and its words joined by one space.
-#[derive(Clone, Debug, PartialEq, Eq)]
-pub struct Place {
-    pub line: usize,
-    pub text: String,
-}
-
-/// An interface of the configuration.
-#[derive(Debug, Default)]
-pub struct Interface {
-    pub name: String,
-    pub address: Option<Subnet>,
-    pub has_pim: bool,
-    pub has_hosts: bool,
-    pub is_passive: bool,
-    pub priority: Option<u32>,
-    /// The interval and the holdtime, in seconds.
-    pub hello: Option<(u32, Option<u32>)>,
-    /// The interval, in ms, and the multiplier, where they aren't the usual ones.
-    pub bfd: Option<Option<(u32, u32)>>,
-    pub boundary: Option<(Place, String)>,
-    pub neighbours: Option<(Place, String)>,
-    /// In seconds, in tenths of one, and in tenths of one.
-    pub query_interval: Option<(Place, u32)>,
-    pub query_response: Option<(Place, u32)>,
-    pub last_member_query: Option<(Place, u32)>,
-    /// Its queries are those of IGMPv2.
-    pub asks_by_two: bool,
-}
+/// The routing protocols that find routes for IPv4.
+const PROTOCOLS: [&str; 7] = ["ospf", "isis", "bgp", "rip", "eigrp", "babel", "openfabric"];
 
 /// Which groups an RP has.
 #[derive(Debug)]
@@ -42,210 +15,181 @@ pub enum Groups {
     List(String),
 }
 
-/// What the lines belong to.
-#[derive(Clone, Debug, PartialEq, Eq)]
-enum Block {
-    Top,
-    Interface(usize),
-    /// `vrf NAME` and `router pim`, of the VRF that is wanted.
+/// What lines belong to.
+#[derive(Clone, Copy, Debug, PartialEq, Eq)]
+enum Kind {
+    /// The whole router, or `vrf NAME`.
+    Whole,
+    /// `router pim`, whose lines leave out what those of the whole begin with.
     Pim,
-    /// Of another VRF, with its name.
-    OtherVrf(String),
-    /// Of another protocol.
+    Interface(usize),
+    /// Another protocol.
     Elsewhere,
 }
 
-/// What was read.
-pub struct Reader<'a> {
-    pub vrf: Option<&'a str>,
-    pub interfaces: Vec<Interface>,
-    pub lists: BTreeMap<String, Vec<Entry>>,
+/// What lines belong to, and in which VRF it is.
+#[derive(Clone, Debug)]
+struct Block {
+    kind: Kind,
+    vrf: Option<String>,
+}
+
+impl Block {
+    fn new(kind: Kind, vrf: Option<&str>) -> Block {
+        Block { kind, vrf: vrf.map(str::to_string) }
+    }
+}
+
+/// What was read so far. RPs and SSM wait until each list is known.
+pub struct Reader {
+    pub found: Configuration,
     pub rps: Vec<(Place, Ipv4Addr, Groups)>,
-    pub stays_on_shared_tree: bool,
-    pub ssm: Option<(Place, String)>,
-    pub register: Option<(Place, String)>,
-    pub left: Vec<Left>,
+    pub ssm: Option<Said<String>>,
     block: Block,
 }
 
-/// The beginnings of lines about multicast.
-const MULTICAST: [&str; 9] = [
-    "ip pim",
-    "ip igmp",
-    "ip multicast",
-    "ip mroute",
-    "ip msdp",
-    "ipv6 pim",
-    "ipv6 mld",
-    "ipv6 mroute",
-    "ipv6 multicast",
-];
-/// Lines that say what is so here anyway: of FRR's usual times, of the version, of what isn't done.
-const SAME: [&str; 12] = [
-    "ip pim join-prune-interval 60",
-    "ip pim keep-alive-timer 210",
-    "ip pim register-suppress-time 60",
-    "ip pim send-v6-secondary",
-    "no ip pim bsm",
-    "no ip pim unicast-bsm",
-    "no ip pim send-v6-secondary",
-    "ip igmp version 3",
-    "ip igmp last-member-query-count 2",
-    "ip multicast-routing",
-    "no ip igmp proxy",
-    "no ip pim passive",
-];
-/// Why a line that begins so is left.
-const REASONS: [(&str, &str); 25] = [
-    ("no ", "a line that begins with `no` isn't read"),
-    ("ipv6 ", "the router is for IPv4 only"),
-    ("ip pim bfd", "its times are in a profile of bfdd: set `bfd_interval` and `bfd_multiplier` of the interface"),
-    ("ip pim ecmp", "of several next hops the highest address is taken"),
-    ("ip pim join-prune-interval", "Joins are repeated every 60 s"),
-    ("ip pim keep-alive-timer", "the keepalive period is 210 s"),
-    ("ip pim rp keep-alive-timer", "the RP's keepalive period is that of RFC 7761"),
-    ("ip pim register-suppress-time", "the register suppression time is 60 s"),
-    ("ip pim packets", "the router reads packets from all sockets in turn"),
-    ("ip pim bsm", "there is no bootstrap router: RPs are those of the file"),
-    ("ip pim unicast-bsm", "there is no bootstrap router: RPs are those of the file"),
-    ("ip pim bsr", "there is no bootstrap router: RPs are those of the file"),
-    ("ip pim use-source", "Hellos leave from the interface's address: set `address`"),
-    ("ip pim spt-switchover", "`spt` says for all groups alike whether the router leaves the RP's tree"),
-    ("ip pim hello", "the interval has to be at most 30 s, and the holdtime longer"),
-    ("ip pim", "it has no counterpart"),
-    ("ip igmp join", "the router joins nothing itself; a program on it that joins receives"),
-    ("ip igmp static-group", "there are no static joins; a program on the router that joins has the same effect"),
-    ("ip igmp version", "its queries can be of version 2 or 3"),
-    ("ip igmp last-member-query-count", "it is the robustness, which all interfaces share: set `robustness` of [igmp]"),
-    ("ip igmp", "it has no counterpart"),
-    ("ip multicast boundary", "only `oil` with a prefix list is taken, as `join` of the interface"),
-    ("ip multicast", "it has no counterpart"),
-    ("ip mroute", "there are no static trees"),
-    ("ip msdp", "there is no MSDP"),
-];
-
-impl<'a> Reader<'a> {
-    pub fn new(vrf: Option<&'a str>) -> Reader<'a> {
-        Reader {
-            vrf,
-            interfaces: Vec::new(),
-            lists: BTreeMap::new(),
-            rps: Vec::new(),
-            stays_on_shared_tree: false,
-            ssm: None,
-            register: None,
-            left: Vec::new(),
-            block: Block::Top,
-        }
-    }
-
-    pub fn leave(&mut self, place: &Place, reason: &str) {
-        self.left.push(Left { line: place.line, text: place.text.clone(), reason: reason.to_string() });
+impl Reader {
+    pub fn new(vrf: Option<&str>) -> Reader {
+        let found = Configuration { vrf: vrf.map(str::to_string), ..Configuration::default() };
+        Reader { found, rps: Vec::new(), ssm: None, block: Block::new(Kind::Whole, None) }
     }
 
     pub fn read(&mut self, configuration: &str) {
         for (at, raw) in configuration.lines().enumerate() {
             let words: Vec<_> = raw.split_whitespace().collect();
-            match words[..] {
-                [] => {}
-                [first, ..] if first.starts_with(['!', '#']) => {}
-                ["exit" | "end" | "exit-vrf"] => self.block = Block::Top,
-                _ => {
-                    let is_inside = raw.starts_with(char::is_whitespace);
-                    self.line(&Place { line: at + 1, text: words.join(" ") }, &words, is_inside);
-                }
+            if words.first().map_or(true, |first| first.starts_with(['!', '#'])) {
+                continue;
+            }
+            if !raw.starts_with(char::is_whitespace) {
+                self.block = Block::new(Kind::Whole, None);
+            }
+            if !matches!(words[..], ["exit" | "end" | "exit-vrf" | "exit-address-family"]) {
+                self.line(&Place { line: at + 1, text: words.join(" ") }, &words);
             }
         }
     }
 
-    fn line(&mut self, place: &Place, words: &[&str], is_inside: bool) {
-        if !is_inside {
-            self.block = Block::Top;
-        }
-        if let Some(block) = self.begins(words) {
+    fn line(&mut self, place: &Place, words: &[&str]) {
+        if let Some(block) = self.begins(place, words) {
             self.block = block;
             return;
         }
-        match self.block.clone() {
-            Block::Top => self.of_all(place, words),
-            Block::Interface(at) => self.of_interface(at, place, words),
-            Block::Pim => self.of_all(place, &with_prefix(words)),
-            Block::OtherVrf(name) => {
-                let whole = with_prefix(words).join(" ");
-                if is_multicast(&whole) {
-                    self.leave(place, &format!("it is of the VRF {name}: import --vrf {name} reads it"));
-                }
-            }
-            Block::Elsewhere => {}
+        let words = match self.block.kind {
+            Kind::Elsewhere => return,
+            Kind::Pim => with_prefix(words),
+            _ => words.to_vec(),
+        };
+        match (self.block.kind, &words[..]) {
+            (_, ["ip", "prefix-list", ..]) => self.of_all(place, &words),
+            _ if self.block.vrf != self.found.vrf => self.of_other_vrf(place, &words.join(" ")),
+            (Kind::Interface(at), _) => self.of_interface(at, place, &words),
+            _ => self.of_all(place, &words),
         }
     }
 
     /// What a line begins.
-    fn begins(&mut self, words: &[&str]) -> Option<Block> {
-        let of_vrf = |name: Option<&str>| name.map_or_else(|| "default".to_string(), str::to_string);
-        let in_vrf = |name: Option<&str>, block: Block| match name == self.vrf {
-            true => block,
-            false => Block::OtherVrf(of_vrf(name)),
-        };
+    fn begins(&mut self, place: &Place, words: &[&str]) -> Option<Block> {
         match words {
-            ["interface", name, rest @ ..] => {
-                let vrf = match rest {
-                    ["vrf", vrf] => Some(*vrf),
-                    _ => None,
-                };
-                let at = self.interfaces.iter().position(|it| it.name == *name).unwrap_or(self.interfaces.len());
-                let block = in_vrf(vrf, Block::Interface(at));
-                if at == self.interfaces.len() && block == Block::Interface(at) {
-                    self.interfaces.push(Interface { name: name.to_string(), ..Interface::default() });
-                }
-                Some(block)
+            ["interface", name, rest @ ..] => Some(self.interface(place, name, vrf_in(rest))),
+            ["vrf", name] => Some(Block::new(Kind::Whole, Some(name))),
+            ["router", "pim", rest @ ..] => Some(Block::new(Kind::Pim, vrf_in(rest))),
+            ["router", name, rest @ ..] => {
+                self.protocol(place, name, vrf_in(rest));
+                Some(Block::new(Kind::Elsewhere, None))
             }
-            ["vrf", name] => Some(in_vrf(Some(name), Block::Pim)),
-            ["router", "pim"] => Some(in_vrf(None, Block::Pim)),
-            ["router", "pim", "vrf", name] => Some(in_vrf(Some(name), Block::Pim)),
-            ["router" | "route-map" | "line" | "key" | "bfd", ..] => Some(Block::Elsewhere),
+            ["route-map" | "key", ..] => {
+                self.left_over(place, &place.text);
+                Some(Block::new(Kind::Elsewhere, None))
+            }
+            ["line" | "bfd", ..] => Some(Block::new(Kind::Elsewhere, None)),
             _ => None,
         }
     }
 
-    /// A line that can't be taken as it stands, where it is about multicast.
+    fn interface(&mut self, place: &Place, name: &str, vrf: Option<&str>) -> Block {
+        if vrf != self.found.vrf.as_deref() {
+            return Block::new(Kind::Whole, vrf);
+        }
+        let all = &mut self.found.interfaces;
+        let at = all.iter().position(|it| it.name == name).unwrap_or(all.len());
+        if at == all.len() {
+            all.push(Interface { name: name.to_string(), place: place.clone(), ..Interface::default() });
+        }
+        Block::new(Kind::Interface(at), vrf)
+    }
+
+    fn protocol(&mut self, place: &Place, name: &str, vrf: Option<&str>) {
+        if !PROTOCOLS.contains(&name) {
+            self.left_over(place, &place.text);
+        } else if vrf == self.found.vrf.as_deref() {
+            self.found.protocols.push(Said { place: place.clone(), value: name.to_string() });
+        }
+    }
+
+    // ---- lines that aren't read
+
+    /// A line that can't be taken as it stands, unless it says nothing.
     fn left_over(&mut self, place: &Place, text: &str) {
-        let is_taken_back = text.strip_prefix("no ").map_or(false, is_multicast);
-        if SAME.contains(&text) || !(is_multicast(text) || is_taken_back) {
+        if reasons::says_nothing(text) {
             return;
         }
-        let reason = REASONS.iter().find(|(beginning, _)| text.starts_with(beginning)).map(|(_, reason)| *reason);
-        self.leave(place, reason.unwrap_or("it has no counterpart"));
+        let (reason, advice) = reasons::why(text);
+        self.leave(text, Left::new(place, reason, advice));
+    }
+
+    fn of_other_vrf(&mut self, place: &Place, text: &str) {
+        if reasons::says_nothing(text) {
+            return;
+        }
+        let name = |vrf: &Option<String>| vrf.clone().unwrap_or_else(|| "default".to_string());
+        let reason = format!("it is of the VRF {}, not of {}", name(&self.block.vrf), name(&self.found.vrf));
+        let advice = match &self.block.vrf {
+            Some(name) => format!("import --vrf {name} reads it"),
+            None => "import without --vrf reads it".to_string(),
+        };
+        self.leave(text, Left::new(place, &reason, Some(&advice)));
+    }
+
+    fn leave(&mut self, text: &str, left: Left) {
+        match reasons::is_multicast(text) {
+            true => self.found.left.push(left),
+            false => self.found.others.push(left),
+        }
     }
 
     // ---- lines of all interfaces
 
     fn of_all(&mut self, place: &Place, words: &[&str]) {
+        let named = |name: &str| Some(Said { place: place.clone(), value: name.to_string() });
         match words {
             ["ip", "prefix-list", _, "description", ..] => {}
             ["ip", "prefix-list", name, rest @ ..] => self.list(place, name, rest),
-            ["ip", "pim", ..] if self.vrf.is_some() && self.block == Block::Top => {
-                self.leave(place, "it is of the VRF default: import without --vrf reads it")
-            }
             ["ip", "pim", "rp", address, groups @ ..] if address.parse::<Ipv4Addr>().is_ok() => {
                 self.rp(place, address, groups)
             }
-            ["ip", "pim", "spt-switchover", "infinity-and-beyond"] => self.stays_on_shared_tree = true,
-            ["ip", "pim", "ssm", "prefix-list", name] => self.ssm = Some((place.clone(), name.to_string())),
-            ["ip", "pim", "register-accept-list", name] => self.register = Some((place.clone(), name.to_string())),
+            ["ip", "pim", "spt-switchover", "infinity-and-beyond"] => self.found.spt_never = Some(place.clone()),
+            ["ip", "pim", "ssm", "prefix-list", name] => self.ssm = named(name),
+            ["ip", "pim", "register-accept-list", name] => self.found.register = named(name),
+            ["ip", "nht", "resolve-via-default"] | ["frr", "defaults", "datacenter"] => {
+                self.found.uses_default_route = true
+            }
+            ["ip", "route", rest @ ..] => match route(rest) {
+                Some(value) => self.found.static_routes.push(Said { place: place.clone(), value }),
+                None => self.left_over(place, &place.text),
+            },
             other => self.left_over(place, &other.join(" ")),
         }
     }
 
     fn list(&mut self, place: &Place, name: &str, rest: &[&str]) {
-        let list = self.lists.entry(name.to_string()).or_default();
-        let before = list.iter().map(Entry::sequence).max().unwrap_or(0);
-        match Entry::read(place.line, &place.text, rest, before) {
+        let rules = self.found.list(name);
+        let before = rules.iter().map(Entry::sequence).max().unwrap_or(0);
+        match Entry::read(place, rest, before) {
             Some(entry) => {
-                list.push(entry);
-                list.sort_by_key(Entry::sequence);
+                rules.push(entry);
+                rules.sort_by_key(Entry::sequence);
             }
-            None => self.leave(place, "this rule of a prefix list can't be read"),
+            None => self.found.leave(place, "this rule of a prefix list can't be read"),
         }
     }
 
@@ -259,74 +203,124 @@ impl<'a> Reader<'a> {
         };
         match (address.parse(), groups) {
             (Ok(address), Some(groups)) => self.rps.push((place.clone(), address, groups)),
-            _ => self.leave(place, "an RP has an address, and a range of groups or a prefix list"),
+            _ => self.found.leave(place, "an RP has an address, and a range of groups or a prefix list"),
         }
     }
 
     // ---- lines of an interface
 
     fn of_interface(&mut self, at: usize, place: &Place, words: &[&str]) {
-        if !self.is_taken(at, place, words) {
+        if !taken(&mut self.found.interfaces[at], place, words) {
             self.left_over(place, &words.join(" "));
         }
     }
+}
 
-    fn is_taken(&mut self, at: usize, place: &Place, words: &[&str]) -> bool {
-        let it = &mut self.interfaces[at];
-        let with_number = |text: &str| Some((place.clone(), text.parse().ok()?));
-        match words {
-            ["ip", "address", address] => it.address = it.address.or_else(|| subnet(address)),
-            ["ip", "pim"] | ["ip", "pim", "sm" | "ssm"] => it.has_pim = true,
-            ["ip", "pim", "passive"] => (it.has_pim, it.is_passive) = (true, true),
-            ["ip", "pim", "drpriority", number] => {
-                it.priority = number.parse().ok();
-                return it.priority.is_some();
-            }
-            ["ip", "pim", "hello", times @ ..] => {
-                it.hello = hello(times);
-                return it.hello.is_some();
-            }
-            ["ip", "pim", "allowed-neighbors", "prefix-list", name] => {
-                it.neighbours = Some((place.clone(), name.to_string()))
-            }
-            ["ip", "pim", "bfd"] => it.bfd = Some(None),
-            ["ip", "pim", "bfd", multiplier, receive, send] => {
-                it.bfd = Some(bfd(multiplier, receive, send));
-                return it.bfd != Some(None);
-            }
-            ["ip", "igmp"] => it.has_hosts = true,
-            ["ip", "igmp", "version", "2"] => it.asks_by_two = true,
-            ["ip", "igmp", "query-interval", number] => it.query_interval = with_number(number),
-            ["ip", "igmp", "query-max-response-time", number] => it.query_response = with_number(number),
-            ["ip", "igmp", "last-member-query-interval", number] => it.last_member_query = with_number(number),
-            ["ip", "multicast", "boundary", "oil", name] => it.boundary = Some((place.clone(), name.to_string())),
-            _ => return false,
+/// Whether a line of an interface is one that is read.
+fn taken(it: &mut Interface, place: &Place, words: &[&str]) -> bool {
+    match words {
+        ["shutdown"] => it.is_shut_down = true,
+        ["ip", "address", address] | ["ip", "address", address, "label", _] => {
+            let read = subnet(address);
+            it.addresses.extend(read.map(|value| Said { place: place.clone(), value }));
+            return read.is_some();
         }
-        true
+        ["ip", "pim", rest @ ..] => return pim(it, place, rest),
+        ["ip", "igmp", rest @ ..] => return igmp(it, place, rest),
+        ["ip", "multicast", "boundary", "oil", name] => {
+            it.boundary = Some(Said { place: place.clone(), value: name.to_string() })
+        }
+        _ => return false,
     }
+    true
+}
+
+/// The same, of what follows `ip pim`.
+fn pim(it: &mut Interface, place: &Place, words: &[&str]) -> bool {
+    match words {
+        [] | ["sm" | "ssm"] => it.has_pim = true,
+        ["passive"] => (it.has_pim, it.passive) = (true, Some(place.clone())),
+        ["drpriority", number] => {
+            it.priority = number.parse().ok();
+            return it.priority.is_some();
+        }
+        ["hello", times @ ..] => {
+            it.hello = hello(times).map(|value| Said { place: place.clone(), value });
+            return it.hello.is_some();
+        }
+        ["allowed-neighbors", "prefix-list", name] => {
+            it.neighbours = Some(Said { place: place.clone(), value: name.to_string() })
+        }
+        ["bfd"] => it.bfd = Some(Said { place: place.clone(), value: None }),
+        ["bfd", multiplier, receive, send] => {
+            let value = bfd(multiplier, receive, send);
+            it.bfd = Some(Said { place: place.clone(), value });
+            return value.is_some();
+        }
+        _ => return false,
+    }
+    true
+}
+
+/// The same, of what follows `ip igmp`.
+fn igmp(it: &mut Interface, place: &Place, words: &[&str]) -> bool {
+    let with_number = |text: &str| Some(Said { place: place.clone(), value: text.parse().ok()? });
+    match words {
+        [] => it.has_igmp = true,
+        ["version", "2"] => it.version_2 = Some(place.clone()),
+        ["query-interval", number] => it.query_interval = with_number(number),
+        ["query-max-response-time", number] => it.query_response = with_number(number),
+        ["last-member-query-interval", number] => it.last_member_query = with_number(number),
+        ["join" | "join-group", group, source @ ..] => {
+            let read = join(group, source);
+            it.joins.extend(read.map(|value| Said { place: place.clone(), value }));
+            return read.is_some();
+        }
+        _ => return false,
+    }
+    true
+}
+
+fn join(group: &str, source: &[&str]) -> Option<Join> {
+    let source = match source {
+        [] => None,
+        [source] => Some(source.parse().ok()?),
+        _ => return None,
+    };
+    Some(Join { group: group.parse().ok()?, source })
+}
+
+/// Of what follows `ip route`.
+fn route(words: &[&str]) -> Option<Route> {
+    let (prefix, next_hop, distance) = match words {
+        [prefix, next_hop] => (prefix, next_hop, 1),
+        [prefix, next_hop, distance] => (prefix, next_hop, distance.parse().ok()?),
+        _ => return None,
+    };
+    Some(Route { prefix: subnet(prefix)?, next_hop: next_hop.parse().ok()?, distance })
 }
 
 /// The times of BFD, of which the slower one is taken: here one is of both directions.
-fn bfd(multiplier: &str, receive: &str, send: &str) -> Option<(u32, u32)> {
+fn bfd(multiplier: &str, receive: &str, send: &str) -> Option<BfdTimes> {
     let (receive, send): (u32, u32) = (receive.parse().ok()?, send.parse().ok()?);
     let (interval, multiplier) = (receive.max(send), multiplier.parse().ok()?);
-    ((50..=60_000).contains(&interval) && (2..=255).contains(&multiplier)).then_some((interval, multiplier))
+    let is_possible = (50..=60_000).contains(&interval) && (2..=255).contains(&multiplier);
+    is_possible.then_some(BfdTimes { interval, multiplier })
 }
 
-/// The times of a Hello, where our router has such.
-fn hello(times: &[&str]) -> Option<(u32, Option<u32>)> {
-    const MOST: u32 = 30;
-    let (interval, holdtime) = match times {
-        [interval] => (interval.parse().ok()?, None),
-        [interval, holdtime] => (interval.parse().ok()?, Some(holdtime.parse::<u32>().ok()?)),
-        _ => return None,
-    };
-    let is_longer = holdtime.map_or(true, |holdtime| holdtime > interval);
-    ((1..=MOST).contains(&interval) && is_longer).then_some((interval, holdtime))
+fn hello(times: &[&str]) -> Option<HelloTimes> {
+    match times {
+        [interval] => Some(HelloTimes { interval: interval.parse().ok()?, holdtime: None }),
+        [interval, holdtime] => {
+            Some(HelloTimes { interval: interval.parse().ok()?, holdtime: Some(holdtime.parse().ok()?) })
+        }
+        _ => None,
+    }
 }
 
-fn is_multicast(text: &str) -> bool {
-    MULTICAST.iter().any(|beginning| text.starts_with(beginning))
+/// The VRF that a line names.
+fn vrf_in<'a>(words: &[&'a str]) -> Option<&'a str> {
+    words.windows(2).find(|pair| pair[0] == "vrf").map(|pair| pair[1]).filter(|name| *name != "default")
 }
 
 /// The lines of `router pim` leave out what those at the top begin with.

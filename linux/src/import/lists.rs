@@ -1,14 +1,16 @@
 //! Prefix lists of FRR as rules of ours. FRR's pimd asks whether an address is within a prefix, whatever bounds of
 //! lengths (`ge`, `le`) the rule has.
+use super::configuration::Place;
 use crate::settings::{mask, Subnet};
+use serde::Serialize;
 use std::net::Ipv4Addr;
 
 /// A rule of a prefix list.
-#[derive(Clone, Debug, PartialEq, Eq)]
+#[derive(Clone, Debug, PartialEq, Eq, Serialize)]
 pub struct Entry {
-    /// Where it stands, counted from 1.
-    pub line: usize,
-    pub text: String,
+    /// Where it stands.
+    #[serde(flatten)]
+    pub place: Place,
     sequence: u32,
     pub permits: bool,
     pub prefix: Subnet,
@@ -16,7 +18,7 @@ pub struct Entry {
 
 impl Entry {
     /// Of the words behind the list's name: `[seq N] permit|deny PREFIX [ge N] [le N]`.
-    pub fn read(line: usize, text: &str, words: &[&str], before: u32) -> Option<Entry> {
+    pub fn read(place: &Place, words: &[&str], before: u32) -> Option<Entry> {
         const STEP: u32 = 5;
         let (sequence, words) = match words {
             ["seq", number, rest @ ..] => (number.parse().ok()?, rest),
@@ -31,7 +33,7 @@ impl Entry {
             other => subnet(other)?,
         };
         let is_bound = |bound: &[&str]| matches!(bound, ["ge" | "le", number] if number.parse::<u8>().is_ok());
-        bounds.chunks(2).all(is_bound).then(|| Entry { line, text: text.to_string(), sequence, permits, prefix })
+        bounds.chunks(2).all(is_bound).then(|| Entry { place: place.clone(), sequence, permits, prefix })
     }
 
     pub fn sequence(&self) -> u32 {
@@ -59,8 +61,12 @@ pub fn groups_within(prefix: Subnet) -> Option<Subnet> {
 mod tests {
     use super::*;
 
+    fn read(text: &str, before: u32) -> Option<Entry> {
+        Entry::read(&Place::default(), &text.split(' ').collect::<Vec<_>>(), before)
+    }
+
     fn entry(text: &str) -> Entry {
-        Entry::read(1, text, &text.split(' ').collect::<Vec<_>>(), 5).expect(text)
+        read(text, 5).expect(text)
     }
 
     #[test]
@@ -68,7 +74,7 @@ mod tests {
         assert_eq!((entry("permit any").sequence, entry("seq 7 deny 239.1.0.0/16 ge 17 le 32").sequence), (10, 7));
         assert_eq!(entry("permit any").prefix.to_string(), "0.0.0.0/0");
         for wrong in ["permit 239.1.0.0", "permit 239.1.0.0/33", "permit any le", "allow any", "seq x permit any"] {
-            assert!(Entry::read(1, wrong, &wrong.split(' ').collect::<Vec<_>>(), 0).is_none(), "{wrong}");
+            assert!(read(wrong, 0).is_none(), "{wrong}");
         }
     }
 

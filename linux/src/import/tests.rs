@@ -1,8 +1,10 @@
 //! Configurations as FRR writes them, and the settings that are made of them.
 use super::*;
 use crate::bfd::Times;
+use crate::schemas::Schema;
 use crate::settings::{self, Settings};
 use crate::tables::Domain;
+use serde_json::{json, Value};
 use viqeshor::QueryVersion;
 
 /// As FRR 8.4.4 prints it for `show running-config`.
@@ -109,6 +111,51 @@ ip prefix-list all seq 5 permit 224.0.0.0/4 le 32
 ipv6 pim rp 2001:db8::1
 ";
 
+/// What says how routes are found, and lines of which settings have nothing.
+const ROUTES: &str = "frr version 8.4.4
+frr defaults datacenter
+hostname r1
+ip prefix-list unnamed seq 5 permit 10.0.0.0/8
+ip route 10.9.0.0/24 10.0.1.2
+ip route 10.8.0.0/24 10.0.1.2 30
+ip route 10.7.0.0/24 Null0
+access-list 1 seq 5 permit any
+router ospf
+ network 10.0.0.0/8 area 0
+exit
+router bgp 65000 vrf red
+exit
+router ospf6
+exit
+route-map all permit 10
+ match ip address 1
+exit
+interface eth0 vrf default
+ description to r2
+ ip address 10.0.1.1/24
+ ip address 10.0.2.1/24 label eth0:1
+ ip address dhcp
+ ip ospf cost 5
+ ip pim
+ ip pim hello 60
+ ip igmp join 239.1.1.1
+ ip igmp join-group 232.1.1.1 10.9.0.9
+ shutdown
+exit
+vrf red
+ ip route 10.6.0.0/24 10.0.1.3
+ vni 100
+exit-vrf
+";
+
+fn told(configuration: &str, vrf: Option<&str>) -> Value {
+    serde_json::to_value(read(configuration, vrf)).expect("it is JSON")
+}
+
+fn lines_of(left: &Value) -> Vec<u64> {
+    left.as_array().expect("a list").iter().filter_map(|left| left["line"].as_u64()).collect()
+}
+
 fn taken(configuration: &str, vrf: Option<&str>) -> (Settings, Vec<String>) {
     let imported = of(configuration, vrf);
     let settings =
@@ -204,4 +251,84 @@ fn lists_that_are_missing_or_fit_nothing_are_said() {
     assert!(joins([239, 1, 1, 1]) && !joins([239, 2, 1, 1]));
     let numbers: Vec<_> = imported.left.iter().map(|left| left.line).collect();
     assert_eq!(numbers, [3, 7, 8, 10, 11], "{lines:?}");
+}
+
+#[test]
+fn what_was_read_fits_its_schema() {
+    let schema = Schema::read("import");
+    let texts = [FRR_8, FRR_10, ROUTES, "interface eth0\n ip pim\n ip pim bfd 3 100 200\n"];
+    for (text, vrf) in texts.iter().flat_map(|text| [(text, None), (text, Some("red"))]) {
+        let mut told = told(text, vrf);
+        assert!(schema.fits(&told), "{told:#}");
+        told["more"] = Value::Null;
+        assert!(!schema.fits(&told));
+    }
+    for (name, wrong) in [("hello", json!({"line": 1, "text": ""})), ("priority", json!("7")), ("joins", json!([7]))] {
+        let mut told = told(FRR_8, None);
+        told["interfaces"][0][name] = wrong;
+        assert!(!schema.fits(&told), "{name}");
+    }
+}
+
+#[test]
+fn routes_are_read_and_what_finds_them() {
+    let told = told(ROUTES, None);
+    let route = |line: u64, text: &str, prefix: &str, distance: u64| json!({"line": line, "text": text, "value": {"prefix": prefix, "next_hop": "10.0.1.2", "distance": distance}});
+    let routes = [
+        route(5, "ip route 10.9.0.0/24 10.0.1.2", "10.9.0.0/24", 1),
+        route(6, "ip route 10.8.0.0/24 10.0.1.2 30", "10.8.0.0/24", 30),
+    ];
+    assert_eq!((&told["static_routes"], &told["uses_default_route"]), (&json!(routes), &json!(true)));
+    assert_eq!(told["protocols"], json!([{"line": 9, "text": "router ospf", "value": "ospf"}]));
+    let eth0 = &told["interfaces"][0];
+    let addresses: Vec<_> = eth0["addresses"].as_array().into_iter().flatten().map(|it| &it["value"]).collect();
+    assert_eq!(addresses, ["10.0.1.1/24", "10.0.2.1/24"]);
+    assert_eq!(eth0["is_shut_down"], true);
+    let hello = json!({"line": 26, "text": "ip pim hello 60", "value": {"interval": 60, "holdtime": null}});
+    let joins = [
+        json!({"line": 27, "text": "ip igmp join 239.1.1.1", "value": {"group": "239.1.1.1", "source": null}}),
+        json!({"line": 28, "text": "ip igmp join-group 232.1.1.1 10.9.0.9",
+            "value": {"group": "232.1.1.1", "source": "10.9.0.9"}}),
+    ];
+    assert_eq!((&eth0["hello"], &eth0["joins"]), (&hello, &json!(joins)));
+    assert_eq!((lines_of(&told["left"]), lines_of(&told["others"])), (vec![], vec![4, 7, 8, 14, 16, 23, 24, 32, 33]));
+    let numbers: Vec<_> = of(ROUTES, None).left.iter().map(|left| left.line).collect();
+    assert_eq!(numbers, [26, 27, 28]);
+}
+
+#[test]
+fn a_block_goes_on_behind_blanks_and_comments() {
+    let (it, left) = taken("interface eth0\n\n ip pim\n! more\n exit-address-family\n ip pim drpriority 7\n", None);
+    assert_eq!((it.interfaces[0].priority, it.interfaces.len(), left.len()), (7, 1, 0));
+}
+
+#[test]
+fn of_a_vrf_its_own_lines_are_read() {
+    let told = told(ROUTES, Some("red"));
+    assert_eq!((&told["interfaces"], &told["uses_default_route"]), (&json!([]), &json!(false)));
+    assert_eq!(told["protocols"], json!([{"line": 12, "text": "router bgp 65000 vrf red", "value": "bgp"}]));
+    let value = json!({"prefix": "10.6.0.0/24", "next_hop": "10.0.1.3", "distance": 1});
+    assert_eq!(told["static_routes"], json!([{"line": 32, "text": "ip route 10.6.0.0/24 10.0.1.3", "value": value}]));
+    assert_eq!(lines_of(&told["left"]), [25, 26, 27, 28]);
+    let left = &of(ROUTES, Some("red")).left[0];
+    let said = "line 25: \"ip pim\": it is of the VRF default, not of red: import without --vrf reads it";
+    assert_eq!(left.to_string(), said);
+}
+
+#[test]
+fn ranges_of_a_list_have_the_lines_of_its_rules() {
+    let ranges = [
+        (10, "ip pim rp 10.255.0.1 239.1.0.0/16", "239.1.0.0/16", "10.255.0.1"),
+        (56, "ip prefix-list rps seq 5 permit 239.2.0.0/16", "239.2.0.0/16", "10.255.0.2"),
+        (57, "ip prefix-list rps seq 10 permit 239.3.0.0/16 le 32", "239.3.0.0/16", "10.255.0.2"),
+    ];
+    let wanted = ranges.map(|(line, text, groups, address)| {
+        json!({"line": line, "text": text, "value": {"groups": groups, "address": address}})
+    });
+    assert_eq!(told(FRR_8, None)["rps"], json!(wanted));
+    let text = "ip pim rp 10.0.0.1 prefix-list some\nip prefix-list some deny 239.1.0.0/16\n\
+        ip prefix-list some permit 10.0.0.0/8\nip prefix-list some permit 232.1.0.0/16\nip pim rp 10.0.0.2 0.0.0.0/0\n";
+    let told = told(text, None);
+    assert_eq!(told["rps"][0]["value"], json!({"groups": "224.0.0.0/4", "address": "10.0.0.2"}));
+    assert_eq!(lines_of(&told["left"]), [2, 3, 4]);
 }

@@ -2,6 +2,7 @@
 use super::*;
 use crate::daemon::cleared::Lines;
 use crate::metrics::{text, Http};
+use crate::schemas::Schema;
 use crate::server::Answers;
 use crate::show::{self, Topic};
 use clap::ValueEnum;
@@ -83,67 +84,19 @@ pub(super) fn shown(daemon: &mut Daemon, line: &str) -> Vec<Value> {
 
 // ---- schemas
 
-/// Whether a value is of a type, or of one of several.
-fn is_of(value: &Value, types: &Value) -> bool {
-    let is = |name: &Value| match name.as_str() {
-        Some("object") => value.is_object(),
-        Some("array") => value.is_array(),
-        Some("string") => value.is_string(),
-        Some("integer") => value.is_u64(),
-        Some("number") => value.is_number(),
-        Some("boolean") => value.is_boolean(),
-        Some("null") => value.is_null(),
-        other => panic!("{other:?} is no type"),
-    };
-    types.as_array().map_or_else(|| is(types), |list| list.iter().any(is))
-}
-
-/// Whether a value fits one keyword of a schema.
-fn fits_keyword(value: &Value, keyword: &str, wanted: &Value, schema: &Value) -> bool {
-    let names = || value.as_object().into_iter().flatten();
-    let properties = &schema["properties"];
-    match keyword {
-        "$schema" | "title" | "description" => true,
-        "type" => is_of(value, wanted),
-        "enum" => wanted.as_array().expect("a list").contains(value),
-        "required" => wanted
-            .as_array()
-            .expect("a list")
-            .iter()
-            .all(|name| !value[name.as_str().unwrap()].is_null() || names().any(|(it, _)| it == name)),
-        "additionalProperties" => names().all(|(name, _)| properties.get(name).is_some()),
-        "properties" => names().all(|(name, inner)| wanted.get(name).map_or(true, |schema| fits(inner, schema))),
-        "items" => value.as_array().into_iter().flatten().all(|item| fits(item, wanted)),
-        "minimum" => value.as_f64().map_or(true, |number| number >= wanted.as_f64().expect("a number")),
-        "format" => value.as_str().map_or(true, |text| text.parse::<Ipv4Addr>().is_ok()),
-        other => panic!("the keyword {other} isn't known here"),
-    }
-}
-
-fn fits(value: &Value, schema: &Value) -> bool {
-    schema.as_object().expect("a schema").iter().all(|(keyword, wanted)| {
-        let it_does = fits_keyword(value, keyword, wanted, schema);
-        if !it_does {
-            eprintln!("{value} doesn't fit {keyword}: {wanted}");
-        }
-        it_does
-    })
-}
-
 #[test]
 fn each_answer_fits_its_schema() {
     let (mut daemon, _) = busy();
     for topic in Topic::value_variants() {
-        let file = format!("{}/../docs/schemas/show-{}.json", env!("CARGO_MANIFEST_DIR"), topic.name());
-        let schema = serde_json::from_str(&std::fs::read_to_string(&file).expect(&file)).expect(&file);
+        let schema = Schema::read(&format!("show-{}", topic.name()));
         let said = answer(&mut daemon, &format!("show {} json", topic.name()));
         let value: Value = serde_json::from_str(&said).expect("it is JSON");
         assert!(value[topic.name()].as_array().map_or(false, |rows| !rows.is_empty()), "{said}");
-        assert!(fits(&value, &schema), "{file}");
+        assert!(schema.fits(&value), "{said}");
         // A row that lacks a value, or has another one, doesn't fit.
         let mut wrong = value.clone();
         wrong[topic.name()][0]["more"] = Value::Null;
-        assert!(!fits(&wrong, &schema), "{file}");
+        assert!(!schema.fits(&wrong), "{said}");
     }
 }
 
