@@ -2,7 +2,7 @@
 _viq() {
     local word=${COMP_WORDS[COMP_CWORD]} command=${COMP_WORDS[1]}
     if ((COMP_CWORD == 1)); then
-        COMPREPLY=($(compgen -W "run check why show play draw mroute whatif lab mend mtrace pcap from-frr --help --version" -- "$word"))
+        COMPREPLY=($(compgen -W "run check why show play draw mroute converge whatif lab mend mtrace pcap from-frr --help --version" -- "$word"))
     elif [[ $word == -* ]]; then
         COMPREPLY=($(compgen -W "$(viq "$command" --help 2>/dev/null | grep -oE -- '--[a-z][a-z-]*' | sort -u)" -- "$word"))
     else

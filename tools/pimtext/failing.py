@@ -135,6 +135,11 @@ class Outage:
     def is_for_good(self) -> bool:
         return any(end is None for _, end in self.gaps())
 
+    def served_again(self) -> int:
+        """The seconds from the failure to the last packet that comes after lost ones, by when it was sent. Meant where
+        it isn't for good."""
+        return max((end for _, end in self.gaps()), default=0)
+
 
 def is_joined(one: Link, other: Link) -> bool:
     """Whether links and routers that are up lead from one link to another."""
@@ -186,6 +191,13 @@ class Effect:
     def hit(self) -> list[Outage]:
         """The streams that lose something though there is a way."""
         return [each for each in self.outages if each.lost and not each.is_cut_off]
+
+    def served_again(self) -> int | None:
+        """The seconds after which each stream that has a way comes again; None where one doesn't."""
+        hit = self.hit()
+        if any(each.is_for_good() for each in hit):
+            return None
+        return max((each.served_again() for each in hit), default=0)
 
     def worth(self) -> tuple[int, int, int, int]:
         """How bad it is: streams that don't come again though there is a way, then seconds without packets, packets

@@ -45,6 +45,7 @@ class Outages(unittest.TestCase):
     def test_runs_of_lost_packets(self):
         outage = self.outage([1, 0, 0, 1, 2, 0, 1])
         self.assertEqual(outage.gaps(), [(1, 3), (5, 6)])
+        self.assertEqual(outage.served_again(), 6)
         self.assertEqual((outage.lost, outage.twice, outage.longest(), outage.is_for_good()), (3, 1, (2, False), False))
 
     def test_what_does_not_come_again(self):
@@ -55,6 +56,14 @@ class Outages(unittest.TestCase):
     def test_no_loss(self):
         self.assertEqual(self.outage([1, 1]).longest(), (0, False))
 
+    def test_all_are_served_again_by_the_last_that_has_a_way(self):
+        """A host without a way doesn't count, nor does when one that is lost for good was served in between."""
+        some, cut_off = self.outage([1, 0, 1, 0, 1]), self.outage([1, 0, 0, 0, 0])
+        cut_off.is_cut_off = True
+        self.assertEqual(failing.Effect(None, [some, self.outage([0, 1, 1]), cut_off]).served_again(), 4)
+        self.assertIsNone(failing.Effect(None, [some, self.outage([0, 1, 0])]).served_again())
+        self.assertEqual(failing.Effect(None, [cut_off]).served_again(), 0)
+
 
 class WhatIf(unittest.TestCase):
     def test_the_failures_of_a_network_with_two_routers_on_a_lan(self):
@@ -63,10 +72,10 @@ class WhatIf(unittest.TestCase):
         self.assertEqual((ran.returncode, ran.stderr), (0, ""))
         self.assertIn("3 failures; 1 streams to hosts come without one", ran.stdout)
         east = next(line for line in ran.stdout.splitlines() if line.strip().startswith("router east"))
-        seconds = int(east.split()[-4])
-        self.assertTrue(75 <= seconds <= 105, east)
+        seconds, again = (int(east.split()[place]) for place in (-6, -4))
+        self.assertTrue(75 <= seconds <= again <= 105, east)
         self.assertIn("nobody loses anything by 1: router west", ran.stdout)
-        self.assertRegex(ran.stdout, r"router core \(RP of 224.0.0.0/4\) +- +- +- +- +viewer")
+        self.assertRegex(ran.stdout, r"router core \(RP of 224.0.0.0/4\) +- +- +- +- +- +viewer")
         self.assertIn("router core (RP of 224.0.0.0/4): viewer is cut off", ran.stdout)
 
     def test_a_stream_that_never_came_is_no_failures_doing(self):
