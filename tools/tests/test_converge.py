@@ -139,6 +139,10 @@ class Premises(unittest.TestCase):
         path = stored.DATA / "override_before_prune.toml"
         self.assertEqual(self.unmet(path.read_text()),
                          [" on lan: frames don't come in order: frame 17 comes to rp after frame 20"])
+        late = (stored.DATA / "override_too_late.toml").read_text()
+        self.assertEqual(self.unmet(late), [])
+        (told,) = self.unmet(late, "--delay", "300", "--late", "0")
+        self.assertIn(" on lan: 2d + e = 0.6 s isn't below the propagation delay, 0.5 s of each", told)
 
     def test_routes_and_rps(self):
         lost = ROUTERS.replace('"10.1.0.0/24 10.5.0.3 0 110 20"', '"10.1.0.0/24 10.5.0.2 0 110 20"')
