@@ -62,6 +62,12 @@ TakenBehind s r e behind left = Went s r behind left × (left.front ≡ front_af
     × (left.sent ≡ emissions_left s.front (step r.state behind).emissions)
     × IfSome left.router.standing (λ after. LeftIsAsked s.front r.state behind (step r.state behind).answer left.sent after.copies)
 
+-- What a call does to a handle and answers: without a router it answers 50; else it does what is said of the session.
+abbrev pub AtSession : (ShownSession → ℕ → ShownSession → Type 0) → Option ShownSession → ℕ → Option ShownSession → Type 0
+AtSession does None answer left = (answer ≡ 50) × (left ≡ None)
+AtSession does (Some s) answer (Some left) = does s answer left
+AtSession does (Some s) answer None = ⊥
+
 -- While packets of the event before are untaken an event is refused, and nothing changes.
 abbrev pub UnlessUntaken : Bool → ShownSession → ℕ → ShownSession → Type 0 → Type 0
 UnlessUntaken true s answer left taken = (answer ≡ 55) × (left ≡ s)
@@ -89,9 +95,7 @@ SteppedFrom s (Some r) e answer left = UnlessUntaken (has_untaken s) s answer le
 -- The event was refused for untaken packets, or the guard stopped it, or the router took it and the answer is the
 -- router's, or an allocation failed.
 abbrev pub Stepped : Option ShownSession → Event → ℕ → Option ShownSession → Type 0
-Stepped None e answer left = (answer ≡ 50) × (left ≡ None)
-Stepped (Some s) e answer (Some left) = SteppedFrom s s.router.standing e answer left
-Stepped (Some s) e answer None = ⊥
+Stepped old e answer left = AtSession (λ s. SteppedFrom s s.router.standing e) old answer left
 
 abbrev pub refused_number : Option Standing → Bool → ℕ
 refused_number None has_untaken = 41
@@ -115,9 +119,7 @@ SeenFrom s (Some r) e answer left = UnlessUntaken (has_untaken s) s answer left 
 -- The event that stands for a packet which a data plane saw was refused for untaken packets, or the router took it, or an
 -- allocation failed, whatever the event is.
 abbrev pub Seen : Option ShownSession → Event → ℕ → Option ShownSession → Type 0
-Seen None e answer left = (answer ≡ 50) × (left ≡ None)
-Seen (Some s) e answer (Some left) = SeenFrom s s.router.standing e answer left
-Seen (Some s) e answer None = ⊥
+Seen old e answer left = AtSession (λ s. SeenFrom s s.router.standing e) old answer left
 
 abbrev pub SourceKeptFrom : ShownSession → Option Standing → ℕ → ℕ → ℕ → ℕ → ShownSession → Type 0
 SourceKeptFrom s None source group moment answer left = (answer ≡ 41) × (left ≡ lost s)
@@ -129,10 +131,7 @@ SourceKeptFrom s (Some r) source group moment answer left =
 
 -- The source's keepalive timer was moved if it runs, with which what led to the router's state goes on, or an allocation failed.
 abbrev pub SourceKept : Option ShownSession → ℕ → ℕ → ℕ → ℕ → Option ShownSession → Type 0
-SourceKept None source group moment answer left = (answer ≡ 50) × (left ≡ None)
-SourceKept (Some s) source group moment answer (Some left) =
-    SourceKeptFrom s s.router.standing source group moment answer left
-SourceKept (Some s) source group moment answer None = ⊥
+SourceKept old source group moment answer left = AtSession (λ s. SourceKeptFrom s s.router.standing source group moment) old answer left
 
 -- A timestamp past the latest is refused, and nothing changes; else the source's keepalive timer is moved.
 abbrev pub KeepAnswered : Bool → Option ShownSession → ℕ → ℕ → ℕ → ℕ → Option ShownSession → Type 0
@@ -147,9 +146,7 @@ ReadFrom s (Some r) table answer left =
 
 -- The rows of the table were read, or an allocation failed.
 abbrev pub Read : Option ShownSession → Table → ℕ → Option ShownSession → Type 0
-Read None table answer left = (answer ≡ 50) × (left ≡ None)
-Read (Some s) table answer (Some left) = ReadFrom s s.router.standing table answer left
-Read (Some s) table answer None = ⊥
+Read old table answer left = AtSession (λ s. ReadFrom s s.router.standing table) old answer left
 
 -- A letter of no table is refused, and nothing is read; else the rows of its table are read.
 abbrev pub ReadBy : Option ShownSession → Option Table → ℕ → Option ShownSession → Type 0
@@ -164,9 +161,7 @@ HostsSetFrom s (Some r) i hosts answer left =
 
 -- The hosts that an interface hears were set, or the interface was refused, or an allocation failed.
 abbrev pub HostsSet : Option ShownSession → ℕ → OlderHosts → ℕ → Option ShownSession → Type 0
-HostsSet None i hosts answer left = (answer ≡ 50) × (left ≡ None)
-HostsSet (Some s) i hosts answer (Some left) = HostsSetFrom s s.router.standing i hosts answer left
-HostsSet (Some s) i hosts answer None = ⊥
+HostsSet old i hosts answer left = AtSession (λ s. HostsSetFrom s s.router.standing i hosts) old answer left
 
 -- A number that names no hosts is refused, and nothing changes; else the hosts are set.
 abbrev pub HostsSetBy : Option ShownSession → ℕ → Option OlderHosts → ℕ → Option ShownSession → Type 0
@@ -181,9 +176,7 @@ VersionSetFrom s (Some r) i version answer left =
 
 -- The version in which an interface queries was set, or the interface was refused, or an allocation failed.
 abbrev pub VersionSet : Option ShownSession → ℕ → QueryVersion → ℕ → Option ShownSession → Type 0
-VersionSet None i version answer left = (answer ≡ 50) × (left ≡ None)
-VersionSet (Some s) i version answer (Some left) = VersionSetFrom s s.router.standing i version answer left
-VersionSet (Some s) i version answer None = ⊥
+VersionSet old i version answer left = AtSession (λ s. VersionSetFrom s s.router.standing i version) old answer left
 
 -- A number that names no version is refused, and nothing changes; else the version is set.
 abbrev pub VersionSetBy : Option ShownSession → ℕ → Option QueryVersion → ℕ → Option ShownSession → Type 0
@@ -196,9 +189,7 @@ GuardSetFrom s (Some r) is_on answer left = (answer ≡ 0) × (left ≡ record s
 
 -- The guard was set on or off.
 abbrev pub GuardSet : Option ShownSession → Bool → ℕ → Option ShownSession → Type 0
-GuardSet None is_on answer left = (answer ≡ 50) × (left ≡ None)
-GuardSet (Some s) is_on answer (Some left) = GuardSetFrom s s.router.standing is_on answer left
-GuardSet (Some s) is_on answer None = ⊥
+GuardSet old is_on answer left = AtSession (λ s. GuardSetFrom s s.router.standing is_on) old answer left
 
 -- A number that says neither is refused, and nothing changes; else the guard is set.
 abbrev pub GuardSetBy : Option ShownSession → Option Bool → ℕ → Option ShownSession → Type 0
@@ -213,9 +204,7 @@ OlderReadFrom s (Some r) answer left =
 
 -- The groups in an older mode were read, or an allocation failed.
 abbrev pub OlderRead : Option ShownSession → ℕ → Option ShownSession → Type 0
-OlderRead None answer left = (answer ≡ 50) × (left ≡ None)
-OlderRead (Some s) answer (Some left) = OlderReadFrom s s.router.standing answer left
-OlderRead (Some s) answer None = ⊥
+OlderRead old answer left = AtSession (λ s. OlderReadFrom s s.router.standing) old answer left
 
 -- What is to be sent: the packets that are untaken.
 abbrev pub packets_in : Option ShownSession → List Emission

@@ -8,7 +8,7 @@ use Rattle.pim_router.{specs.{Asked.{LeadsOn, places_test}, Standing.{Standing, 
 use Rattle.pim_session.{specs.{Front.emissions_left, Placed.front_reloaded_by, Session.ShownSession, Untaken.has_untaken}}
 use Rattle.pim_types.{specs.declared.config.Config.Config}
 use Rattle.pim_state.{specs.declared.touched.Touched.Touched}
-use Rattle.pim_c.{specs.Called.{Refused, UnlessUntaken, lost}}
+use Rattle.pim_c.{specs.Called.{AtSession, Refused, UnlessUntaken, lost}}
 
 -- What a session shows after its router was put under another configuration by a map of places: what is to be sent is what
 -- that sends, all sources with a fact before or after it are listed, all count as disturbed, and no rows are kept. What led
@@ -35,9 +35,7 @@ PlacedFrom places s (Some r) config draw answer left = UnlessUntaken (has_untake
 -- The call was refused for untaken packets, or the router was put under the configuration, or this or the map was refused,
 -- or an allocation failed.
 abbrev pub Placed : Places → Option ShownSession → Config → ℕ → ℕ → Option ShownSession → Type 0
-Placed places None config draw answer left = (answer ≡ 50) × (left ≡ None)
-Placed places (Some s) config draw answer (Some left) = PlacedFrom places s s.router.standing config draw answer left
-Placed places (Some s) config draw answer None = ⊥
+Placed places old config draw answer left = AtSession (λ s. PlacedFrom places s s.router.standing config draw) old answer left
 
 -- The configuration and the map were copied, and the router was put under it, or an allocation failed for the copy and
 -- nothing changed.
