@@ -16,7 +16,7 @@ joined_is_run sets s (e ∷ es) =
 
 -- ---- without a set
 
-kind_same : (s : State) (kind : EventKind) → kind_given [] s kind ≡ kind
+pub kind_same : (s : State) (kind : EventKind) → kind_given [] s kind ≡ kind
 unfolding kind_given
 kind_same s (EventKind.Unicast bytes) = ap (λ (x : Passed). EventKind.Unicast (bytes_given x bytes)) (bytes_same s.ranges bytes)
 kind_same s (EventKind.Frame i bytes) = refl
@@ -26,7 +26,7 @@ kind_same s (EventKind.Down i) = refl
 kind_same s (EventKind.Routes routes) = refl
 kind_same s (EventKind.Rps rps) = refl
 
-none_before : (s : State) (kind : EventKind) → sent_before [] s kind ≡ []
+pub none_before : (s : State) (kind : EventKind) → sent_before [] s kind ≡ []
 none_before s (EventKind.Unicast bytes) = ap copies_of (bytes_same s.ranges bytes)
 none_before s (EventKind.Frame i bytes) = refl
 none_before s (EventKind.Advance moment) = refl
@@ -35,7 +35,7 @@ none_before s (EventKind.Down i) = refl
 none_before s (EventKind.Routes routes) = refl
 none_before s (EventKind.Rps rps) = refl
 
-none_after : (s t : State) (kind : EventKind) → sent_after [] s t kind ≡ []
+pub none_after : (s t : State) (kind : EventKind) → sent_after [] s t kind ≡ []
 none_after s t (EventKind.Unicast bytes) = refl
 none_after s t (EventKind.Frame i bytes) = go (ipv4_reading bytes)
   where

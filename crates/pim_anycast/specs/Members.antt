@@ -187,8 +187,8 @@ KnowsBetween started b g src first last n =
 
 -- Where each frame between two routers of a set comes within d, the second knows a source from d after the first heard of
 -- it until Keepalive_Period after that, whatever events come and however time passes. A DR registers a source, and a router
--- of the set announces one of its own links, at least once in 60 s: so each router of the set knows every source that another
--- heard within the last 60 s and d.
+-- of the set announces one of its own links, at least once in 90 s: so where d is below 120 s each router of the set knows
+-- a source without end, from d after another first heard of it.
 abbrev pub MembersKnow : Type 0
 MembersKnow =
     (sets : ℕ → List RpSet) (started : ℕ → ℕ) (n : Network) (a b : ℕ) (st other : Station) (e : Event) (from to : RpSet)

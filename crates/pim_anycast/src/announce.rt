@@ -1,5 +1,7 @@
 //! Null-Registers to the others of a set, for sources on the router's own links.
-ghost use Rattle.std.specs.Prelude.{◌≡◌, false, IfOk, IsOk, true};
+ghost use Rattle.std.specs.Prelude.{◌≡◌, ◌&&◌, ◌||◌, false, is_none, not, IfOk, IsOk, true};
+ghost use Rattle.pim_model.specs.Tables.{is_empty_list};
+ghost use Rattle.pim_anycast.specs.Sets.{set_for};
 ghost use Rattle.pim_anycast.specs.Announced.{announced, announced_all, announced_due, announced_new, is_announced, is_due, keys_named, next_announcement};
 
 use crate::front::Anycast;
@@ -30,7 +32,7 @@ impl Anycast {
         router.is_local(name) && self.set_for(router, name.group).is_some()
     }
 
-    // The Null-Registers of a source.
+    // The Null-Registers of a source. Without a set none leaves, and no memory is taken.
     #[tactic(auto, using(crate::proofs::NullLength::null_long), unfolding(crate::specs::Announced::announced))]
     fn announce<R: Rendezvous>(
         &self,
@@ -38,8 +40,9 @@ impl Anycast {
         router: &R,
         name: SourceGroup,
     ) -> Result<Vec<Emission>, AllocError>
-        ensures { IfOk result (λ sent. sent.items
+        ensures value { IfOk result (λ sent. sent.items
             ≡ announced self.now (R.ranges router.now) name.group.bits name.source.bits) }
+        ensures sure { is_none (set_for self.now (R.ranges router.now) name.group.bits) ≡ true → IsOk result }
     {
         let Some(set) = self.set_for(router, name.group) else {
             return Ok(Vec::new(alloc));
@@ -50,9 +53,9 @@ impl Anycast {
     }
 
     /// What leaves after an event that brought a packet of a source, where [`Anycast::is_announced`] was so before it or
-    /// not: Null-Registers, if the source is announced from then on. An `Err` is want of memory; where nothing leaves for
-    /// the router isn't the source's DR, none is taken.
-    #[tactic(auto, unfolding(crate::specs::Announced::announced_new))]
+    /// not: Null-Registers, if the source is announced from then on. An `Err` is want of memory; where the source was
+    /// announced before, or isn't announced, none is taken.
+    #[tactic(auto, unfolding(crate::specs::Announced::announced_new, crate::specs::Announced::is_announced))]
     pub fn announce_new<R: Rendezvous>(
         &self,
         alloc: Global,
@@ -63,7 +66,8 @@ impl Anycast {
         ensures value { IfOk result (λ sent. sent.items
             ≡ announced_new self.now (R.ranges router.now) before
             (R.is_local router.now name.group.bits name.source.bits) name.group.bits name.source.bits) }
-        ensures sure { before ≡ true → IsOk result }
+        ensures sure { (before || not (is_announced self.now (R.ranges router.now)
+            (R.is_local router.now name.group.bits name.source.bits) name.group.bits)) ≡ true → IsOk result }
     {
         if before || !router.is_local(name) {
             return Ok(Vec::new(alloc));
@@ -91,7 +95,7 @@ impl Anycast {
     }
 
     /// What leaves after time passed from a timestamp in ms to the router's present: Null-Registers of all local sources,
-    /// if they are due. An `Err` is want of memory; where nothing is due none is taken.
+    /// if they are due. An `Err` is want of memory; where nothing is due, or no set is there, none is taken.
     #[tactic(auto, using(crate::proofs::Unset::unset), unfolding(crate::specs::Announced::announced_due))]
     pub fn announce_due<R: Rendezvous>(
         &self,
@@ -100,9 +104,9 @@ impl Anycast {
         before: u64,
     ) -> Result<Vec<Emission>, AllocError>
         ensures value { IfOk result (λ sent. sent.items ≡ announced_due self.now (R.ranges router.now) (R.local_keys router.now) before (R.present router.now)) }
-        ensures sure { is_due before (R.present router.now) ≡ false → IsOk result }
+        ensures sure { (is_due before (R.present router.now) && not (is_empty_list self.now)) ≡ false → IsOk result }
     {
-        if before / ANNOUNCEMENT_INTERVAL >= router.present() / ANNOUNCEMENT_INTERVAL {
+        if before / ANNOUNCEMENT_INTERVAL >= router.present_moment() / ANNOUNCEMENT_INTERVAL {
             return Ok(Vec::new(alloc));
         }
         if self.is_unset() {

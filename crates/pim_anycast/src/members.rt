@@ -22,7 +22,7 @@ pub fn heard_is_told()
     ensures { HeardIsTold }
 {}
 
-/// Each router of a set knows every source that another heard within the last 60 s and a delivery.
+/// Each router of a set knows a source that another heard from a delivery after that until Keepalive_Period, 210 s, after it.
 pub fn members_know()
     ensures { MembersKnow }
 {}

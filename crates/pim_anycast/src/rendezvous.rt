@@ -34,7 +34,7 @@ pub trait Rendezvous {
     ghost local_keys: { Self → List Key };
 
     /// The router's present timestamp, in ms.
-    fn present(&self) -> u64
+    fn present_moment(&self) -> u64
         ensures { result ≡ present self.now };
 
     /// The RP of a group.

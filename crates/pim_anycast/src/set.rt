@@ -47,6 +47,10 @@ impl BadRpSet {
 }
 
 impl fmt::Display for BadRpSet {
+    ghost use Rattle.std.specs.Prelude.{codes, Some};
+
+    ghost output = { λ refusal. Some (codes "a set of RPs that share an address is wrong") };
+
     fn fmt<W: fmt::Write>(&self, f: &mut fmt::Formatter<W>) -> fmt::Result {
         f.write_str("a set of RPs that share an address is wrong")
     }

@@ -1,7 +1,7 @@
 -- Which messages count, and where they are sent on.
-use Rattle.std.{proofs.{Common.{◌≡◌, ℕ, zero, suc, ◌+◌, ◌<◌, ◌≤◌, Bool, true, false, not, cond, nat_le, nat_lt, ◌&&◌, ◌==◌, List, [], ◌∷◌, filter, length, Option, Some, None, refl, sym, ap, ◌∙◌, arith, inl, inr}, lemmas.Bool.{cases_lt, Decides.nat_tests}}, specs.{List.range_with_len, Prelude.if◌then◌else◌}}
+use Rattle.std.{proofs.{Common.{◌≡◌, ℕ, zero, suc, ◌+◌, ◌<◌, ◌≤◌, Bool, true, false, not, cond, nat_lt, ◌&&◌, ◌==◌, List, ◌∷◌, filter, Option, Some, None, refl, sym, ap, ◌∙◌, arith, inl, inr}, lemmas.Bool.{cases_lt, Decides.nat_tests}}, specs.{List.range_with_len, Prelude.if◌then◌else◌}}
 use Rattle.pim_bootstrap.{specs.Bootstraps.Bootstrap}
-use Rattle.pim_bsr.{specs.{Hearing.{Around, has_room, heard, heard_if, is_from_rpf, is_repeated, is_sent_on, room_or, sent_on, why_not, why_sender}, Laws.{CameFromRpf, SentOnOnce, WasPreferred, has_neighbours, is_taken, times_in}, Table.{Known, is_preferred, may_elect}, declared.{heard.Why.Why, learned.Elected.Elected}}}
+use Rattle.pim_bsr.{specs.{Hearing.{Around, has_room, heard, heard_if, is_repeated, is_sent_on, room_or, sent_on, takes_memory, why_not, why_sender}, Laws.{CameFromRpf, SentOnOnce, WasPreferred, is_taken, times_in}, Table.{Known}, declared.{heard.Why.Why}}}
 
 -- a message counts where no test fails
 pub counts : (s : Around) (k : Known) (i src : ℕ) (b : List ℕ) (m : Bootstrap) → is_taken (heard s k i src b m).answer ≡ true
@@ -21,6 +21,17 @@ from_sender s k i src b m h = go (why_sender s k i src m) (has_room s k m) (coun
     go : (o : Option Why) (b : Bool) → room_or b o ≡ None → o ≡ None
     go None b e = refl
     go (Some why) b e = cc
+
+-- memory is taken where a message isn't ignored by its sender and its BSR
+pub memory_taken : (s : Around) (k : Known) (i src : ℕ) (b : List ℕ) (m : Bootstrap) → why_sender s k i src m ≡ None
+    → takes_memory (heard s k i src b m).answer ≡ true
+unfolding heard why_not
+memory_taken s k i src b m none = go (why_sender s k i src m) none (has_room s k m)
+  where
+    go : (o : Option Why) → o ≡ None → (room : Bool) → takes_memory (heard_if s k i b m (room_or room o)).answer ≡ true
+    go None e true = refl
+    go None e false = refl
+    go (Some why) e room = cc
 
 pub came_from_rpf : CameFromRpf
 unfolding why_sender

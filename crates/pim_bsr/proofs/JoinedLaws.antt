@@ -7,7 +7,7 @@ use Rattle.pim_bsr.{specs.{Hearing.{Around, around_of, heard_frame, heard_packet
 
 -- ---- events one after others
 
-ran_both : (es fs : List Event) (s : State)
+pub ran_both : (es fs : List Event) (s : State)
     → ((ran s (es ++ fs)).0 ≡ (ran s es).0 ++ (ran (ran s es).1 fs).0) × ((ran s (es ++ fs)).1 ≡ (ran (ran s es).1 fs).1)
 unfolding ran
 ran_both [] fs s = (refl, refl)
@@ -16,9 +16,9 @@ ran_both (e ∷ es) fs s =
     (ap (λ (os : List Outcome). outcome_of (step s e) ∷ os) later.0, later.1)
 
 -- the outcomes of one event at the front, and the state after it, are those of the events that the router is given
-record Runs (told : Told × Both) (s : State) (es : List Event) : Type 0 where
-  outcomes : told.0.outcomes ≡ (ran s es).0
-  state : told.1.state ≡ (ran s es).1
+pub record Runs (told : Told × Both) (s : State) (es : List Event) : Type 0 where
+  pub outcomes : told.0.outcomes ≡ (ran s es).0
+  pub state : told.1.state ≡ (ran s es).1
 
 passed_runs : (known : Option Known) (s : State) (e : Event) → Runs (passed known s e) s (e ∷ [])
 passed_runs known s e = record { outcomes = refl; state = refl }
@@ -63,7 +63,7 @@ kind_runs k s e (EventKind.Up i) = passed_runs (Some k) s e
 kind_runs k s e (EventKind.Down i) = passed_runs (Some k) s e
 kind_runs k s e (EventKind.Routes routes) = passed_runs (Some k) s e
 
-step_runs : (known : Option Known) (s : State) (e : Event)
+pub step_runs : (known : Option Known) (s : State) (e : Event)
     → Runs (joined_step (record { known = known; state = s }) e) s (event_given (record { known = known; state = s }) e)
 unfolding joined_step event_given
 step_runs None s e = passed_runs None s e

@@ -1,10 +1,10 @@
 -- How long RPs last.
-use Rattle.std.{proofs.{Common.{◌≡◌, ℕ, ◌+◌, ◌<◌, ◌≤◌, Bool, true, false, cond, not, nat_le, nat_lt, ◌&&◌, ◌||◌, ◌==◌, List, [], ◌∷◌, ◌++◌, filter, fold, length, map, take, Option, Some, None, refl, sym, ap, ◌∙◌, arith}, lemmas.Bool.Decides.nat_tests}, specs.{List.{list_all, list_any}, Prelude.if◌then◌else◌}}
+use Rattle.std.{proofs.{Common.{◌≡◌, ℕ, ◌<◌, ◌≤◌, Bool, true, false, not, nat_le, nat_lt, ◌&&◌, ◌||◌, List, [], ◌∷◌, ◌++◌, filter, map, Option, Some, None, refl, sym, ap, ◌∙◌, arith}, lemmas.Bool.Decides.nat_tests}, specs.{List.{list_all, list_any}, Prelude.if◌then◌else◌}}
 use Rattle.pim_ip.{specs.declared.addr.Prefix.Prefix}
 use Rattle.pim_types.{specs.declared.config.RpRange.RpRange}
 use Rattle.pim_model.{specs.Limits.same_prefix}
 use Rattle.pim_bootstrap.{specs.Bootstraps.Bootstrap}
-use Rattle.pim_bsr.{specs.{Choice.{is_beaten_by, is_better, is_chosen}, Hearing.{Around, after_message, heard, heard_if, why_not}, Laws.{AllLeave, Happening, LastsItsTime, Leaves, TimeInSteps, after, all_after, is_named, is_range_at, is_taken}, Table.{Known, Table, at_time, configured, elected_at, given_of, has_prefix, is_configured, is_given, range_of, room_beside, runs, waits}, declared.{heard.Why.Why, learned.{Elected.Elected, Learned.Learned, Part.Part}}}, proofs.{Lists.{all_first, all_left, and_first, and_second, filter_both, in_turn, none_left, or_first, or_second}, Others.other_ranges_stay}}
+use Rattle.pim_bsr.{specs.{Choice.{is_beaten_by, is_chosen}, Hearing.{Around, after_message, heard, heard_if, why_not}, Laws.{AllLeave, Happening, LastsItsTime, Leaves, TimeInSteps, after, all_after, have_mask, is_named, is_range_at, is_taken}, Table.{Known, at_time, configured, elected_at, given_of, has_prefix, is_configured, is_given, range_of, room_beside, runs, waits}, declared.{heard.Why.Why, learned.{Elected.Elected, Learned.Learned, Part.Part}}}, proofs.{Lists.{all_first, all_left, and_first, and_second, filter_both, in_turn, none_left, or_first, or_second}, Others.same_ranges_stay}}
 
 -- ---- time in steps
 
@@ -152,9 +152,15 @@ module _ (p : Prefix) (moment : ℕ) where
       go (Some w) e = refl
 
   unnamed : (s : Around) (k : Known) (i src : ℕ) (b : List ℕ) (m : Bootstrap) (t : Bool) → is_taken (heard s k i src b m).answer ≡ t
-      → (t && list_any (is_named p) m.ranges) ≡ false
+      → (t && (list_any (is_named p) m.ranges || not (have_mask p m.hash_length k.table.rps))) ≡ false
       → filter (has_prefix p) (heard s k i src b m).known.table.rps ≡ filter (has_prefix p) k.table.rps
-  unnamed s k i src b m true is e = other_ranges_stay s k i src b m p e
+  unnamed s k i src b m true is e =
+      same_ranges_stay s k i src b m p (or_first (list_any (is_named p) m.ranges) _ e)
+      (is_true (have_mask p m.hash_length k.table.rps) (or_second (list_any (is_named p) m.ranges) _ e))
+    where
+      is_true : (b : Bool) → not b ≡ false → b ≡ true
+      is_true true e = refl
+      is_true false e = cc
   unnamed s k i src b m false is e = untaken s k i src b m is
 
   one_leaves : (k : Known) (h : Happening) → list_any (is_range_at p) k.static ≡ false → last k.table.rps ≡ true

@@ -1,10 +1,10 @@
 -- Routers that took the same messages are given the same RPs.
-use Rattle.std.{proofs.{Common.{◌≡◌, ℕ, ◌+◌, Bool, true, false, cond, not, nat_le, ◌&&◌, ◌||◌, ◌==◌, List, [], ◌∷◌, ◌++◌, filter, fold, length, map, refl, sym, ap, ◌∙◌, arith}}, specs.{List.list_any, Prelude.if◌then◌else◌}}
+use Rattle.std.{proofs.{Common.{◌≡◌, ℕ, Bool, true, false, not, nat_le, ◌&&◌, ◌||◌, ◌==◌, List, [], ◌∷◌, ◌++◌, filter, fold, length, map, refl, sym, ap, ◌∙◌}}, specs.{List.list_any, Prelude.if◌then◌else◌}}
 use Rattle.pim_ip.{specs.declared.addr.Prefix.Prefix}
 use Rattle.pim_types.{specs.declared.config.RpRange.RpRange}
 use Rattle.pim_model.{specs.Limits.same_prefix}
-use Rattle.pim_bootstrap.{specs.{declared.bootstrap.CandidateRp.CandidateRp, Bootstraps.BootstrapRange}}
-use Rattle.pim_bsr.{specs.{Choice.{is_beaten_by, is_better, is_chosen, range_value}, Laws.{SameEverywhere, Twice, endless, endless_part, table_after, untimed}, Table.{Table, completed, emptied, given_of, has_holdtime, has_prefix, is_configured, is_given, is_part_of, is_tagged, learned_of, part_of, parts_after, range_of, range_prefix, waiting, with_part, with_range, with_ranges, without, without_parts}, declared.learned.{Learned.Learned, Part.Part}}, proofs.Lists.{length-map_of, map_both}}
+use Rattle.pim_bootstrap.{specs.{declared.bootstrap.CandidateRp.CandidateRp, Bootstraps.{Bootstrap, BootstrapRange}}}
+use Rattle.pim_bsr.{specs.{Choice.{is_beaten_by, is_better, is_chosen, range_value}, Laws.{SameEverywhere, Twice, endless, endless_part, table_after, untimed}, Table.{MessageId, Table, completed, emptied, given_of, has_holdtime, has_prefix, is_configured, is_given, is_part_of, is_tagged, learned_of, masks_after, message_id, part_of, parts_after, range_of, range_prefix, waiting, with_mask, with_message, with_part, with_range, with_ranges, without, without_parts}, declared.learned.{Learned.Learned, Part.Part}}, proofs.Lists.{length-map_of, map_both}}
 
 -- ---- lists that are alike but for something
 
@@ -44,19 +44,19 @@ one_alike q r xs ys same e =
     ∙ ap (λ (n : ℕ). map endless_part (filter (λ (old : Part). not (old.rp.address.bits == n)) ys)) address in
     both_alike endless_part _ _ (q ∷ []) (r ∷ []) others (ap (λ (x : Part). x ∷ []) same)
 
-more_alike : (a b tag : ℕ) (p : Prefix) (cs : List CandidateRp) (xs ys : List Part) → map endless_part xs ≡ map endless_part ys
-    → map endless_part (fold with_part xs (map (part_of a tag p) cs)) ≡ map endless_part (fold with_part ys (map (part_of b tag p) cs))
-more_alike a b tag p [] xs ys e = e
-more_alike a b tag p (c ∷ cs) xs ys e =
-    more_alike a b tag p cs (with_part xs (part_of a tag p c)) (with_part ys (part_of b tag p c))
-    (one_alike (part_of a tag p c) (part_of b tag p c) xs ys refl e)
+more_alike : (a b : ℕ) (id : MessageId) (p : Prefix) (cs : List CandidateRp) (xs ys : List Part) → map endless_part xs ≡ map endless_part ys
+    → map endless_part (fold with_part xs (map (part_of a id p) cs)) ≡ map endless_part (fold with_part ys (map (part_of b id p) cs))
+more_alike a b id p [] xs ys e = e
+more_alike a b id p (c ∷ cs) xs ys e =
+    more_alike a b id p cs (with_part xs (part_of a id p c)) (with_part ys (part_of b id p c))
+    (one_alike (part_of a id p c) (part_of b id p c) xs ys refl e)
 
-parts_alike : (a b tag : ℕ) (xs ys : List Part) (r : BootstrapRange) → map endless_part xs ≡ map endless_part ys
-    → map endless_part (parts_after a tag xs r) ≡ map endless_part (parts_after b tag ys r)
+parts_alike : (a b : ℕ) (id : MessageId) (xs ys : List Part) (r : BootstrapRange) → map endless_part xs ≡ map endless_part ys
+    → map endless_part (parts_after a id xs r) ≡ map endless_part (parts_after b id ys r)
 unfolding parts_after
-parts_alike a b tag xs ys r e =
-    more_alike a b tag (range_prefix r) r.rps (filter (is_tagged (range_prefix r) tag) xs) (filter (is_tagged (range_prefix r) tag) ys)
-    (some_alike endless_part (is_tagged (range_prefix r) tag) (λ x. refl) xs ys e)
+parts_alike a b id xs ys r e =
+    more_alike a b id (range_prefix r) r.rps (filter (is_tagged (range_prefix r) id) xs) (filter (is_tagged (range_prefix r) id) ys)
+    (some_alike endless_part (is_tagged (range_prefix r) id) (λ x. refl) xs ys e)
 
 -- RPs that come into force at two times
 learned_alike : (a b hash : ℕ) (xs ys : List Part) → map endless_part xs ≡ map endless_part ys
@@ -80,19 +80,19 @@ without_alike p t u e = some_alike endless (λ (l : Learned). not (has_prefix p 
 without_parts_alike : (p : Prefix) (t u : Table) → Alike t u → map endless_part (without_parts p t.parts) ≡ map endless_part (without_parts p u.parts)
 without_parts_alike p t u e = some_alike endless_part (λ (q : Part). not (is_part_of p q)) (λ x. refl) t.parts u.parts e.parts
 
-module _ (a b tag hash : ℕ) (t u : Table) (r : BootstrapRange) (e : Alike t u) where
-  new : map endless_part (parts_after a tag t.parts r) ≡ map endless_part (parts_after b tag u.parts r)
-  new = parts_alike a b tag t.parts u.parts r e.parts
+module _ (a b : ℕ) (id : MessageId) (hash : ℕ) (t u : Table) (r : BootstrapRange) (e : Alike t u) where
+  new : map endless_part (parts_after a id t.parts r) ≡ map endless_part (parts_after b id u.parts r)
+  new = parts_alike a b id t.parts u.parts r e.parts
 
-  completed_alike : Alike (completed a hash (range_prefix r) t (parts_after a tag t.parts r)) (completed b hash (range_prefix r) u (parts_after b tag u.parts r))
+  completed_alike : Alike (completed a hash (range_prefix r) t (parts_after a id t.parts r)) (completed b hash (range_prefix r) u (parts_after b id u.parts r))
   completed_alike = record {
     rps = both_alike endless (without (range_prefix r) t.rps) (without (range_prefix r) u.rps) _ _ (without_alike (range_prefix r) t u e)
-        (learned_alike a b hash (filter has_holdtime (parts_after a tag t.parts r)) (filter has_holdtime (parts_after b tag u.parts r))
-        (some_alike endless_part has_holdtime (λ x. refl) (parts_after a tag t.parts r) (parts_after b tag u.parts r) new));
+        (learned_alike a b hash (filter has_holdtime (parts_after a id t.parts r)) (filter has_holdtime (parts_after b id u.parts r))
+        (some_alike endless_part has_holdtime (λ x. refl) (parts_after a id t.parts r) (parts_after b id u.parts r) new));
     parts = without_parts_alike (range_prefix r) t u e;
   }
 
-  waiting_alike : Alike (waiting (range_prefix r) t (parts_after a tag t.parts r)) (waiting (range_prefix r) u (parts_after b tag u.parts r))
+  waiting_alike : Alike (waiting (range_prefix r) t (parts_after a id t.parts r)) (waiting (range_prefix r) u (parts_after b id u.parts r))
   waiting_alike = record {
     rps = e.rps;
     parts = both_alike endless_part (without_parts (range_prefix r) t.parts) (without_parts (range_prefix r) u.parts) _ _
@@ -102,34 +102,52 @@ module _ (a b tag hash : ℕ) (t u : Table) (r : BootstrapRange) (e : Alike t u)
   emptied_alike : Alike (emptied (range_prefix r) t) (emptied (range_prefix r) u)
   emptied_alike = record { rps = without_alike (range_prefix r) t u e; parts = without_parts_alike (range_prefix r) t u e }
 
-  range_alike : Alike (with_range a tag hash t r) (with_range b tag hash u r)
+  range_alike : Alike (with_range a id hash t r) (with_range b id hash u r)
   unfolding with_range
   range_alike =
-      rw (as_long endless_part (parts_after a tag t.parts r) (parts_after b tag u.parts r) new)
-      (go r.bidir (r.rp_count == 0) (nat_le r.rp_count (length (parts_after b tag u.parts r))))
+      rw (as_long endless_part (parts_after a id t.parts r) (parts_after b id u.parts r) new)
+      (go r.bidir (r.rp_count == 0) (nat_le r.rp_count (length (parts_after b id u.parts r))))
     where
       go : (x y z : Bool) → Alike
-          (if x then t else (if y then emptied (range_prefix r) t else (if z then completed a hash (range_prefix r) t (parts_after a tag t.parts r) else waiting (range_prefix r) t (parts_after a tag t.parts r))))
-          (if x then u else (if y then emptied (range_prefix r) u else (if z then completed b hash (range_prefix r) u (parts_after b tag u.parts r) else waiting (range_prefix r) u (parts_after b tag u.parts r))))
+          (if x then t else (if y then emptied (range_prefix r) t else (if z then completed a hash (range_prefix r) t (parts_after a id t.parts r) else waiting (range_prefix r) t (parts_after a id t.parts r))))
+          (if x then u else (if y then emptied (range_prefix r) u else (if z then completed b hash (range_prefix r) u (parts_after b id u.parts r) else waiting (range_prefix r) u (parts_after b id u.parts r))))
       go true y z = e
       go false true z = emptied_alike
       go false false true = completed_alike
       go false false false = waiting_alike
 
-ranges_alike : (a b tag hash : ℕ) (ranges : List BootstrapRange) (t u : Table) → Alike t u
-    → Alike (with_ranges a tag hash t ranges) (with_ranges b tag hash u ranges)
+ranges_alike : (a b : ℕ) (id : MessageId) (hash : ℕ) (ranges : List BootstrapRange) (t u : Table) → Alike t u
+    → Alike (with_ranges a id hash t ranges) (with_ranges b id hash u ranges)
 unfolding with_ranges
-ranges_alike a b tag hash [] t u e = e
-ranges_alike a b tag hash (r ∷ ranges) t u e =
-    ranges_alike a b tag hash ranges (with_range a tag hash t r) (with_range b tag hash u r) (range_alike a b tag hash t u r e)
+ranges_alike a b id hash [] t u e = e
+ranges_alike a b id hash (r ∷ ranges) t u e =
+    ranges_alike a b id hash ranges (with_range a id hash t r) (with_range b id hash u r) (range_alike a b id hash t u r e)
+
+masked_alike : (hash : ℕ) (xs ys : List Learned) → map endless xs ≡ map endless ys
+    → map endless (map (with_mask hash) xs) ≡ map endless (map (with_mask hash) ys)
+masked_alike hash xs ys e = in_turn_of xs ∙ ap (map (with_mask hash)) e ∙ sym (in_turn_of ys)
+  where
+    in_turn_of : (zs : List Learned) → map endless (map (with_mask hash) zs) ≡ map (with_mask hash) (map endless zs)
+    in_turn_of [] = refl
+    in_turn_of (z ∷ zs) = ap (λ (ls : List Learned). with_mask hash (endless z) ∷ ls) (in_turn_of zs)
+
+masks_alike : (hash : ℕ) (ranges : List BootstrapRange) (t u : Table) → Alike t u
+    → Alike (masks_after hash ranges t) (masks_after hash ranges u)
+masks_alike hash [] t u e = e
+masks_alike hash (r ∷ ranges) t u e = record { rps = masked_alike hash t.rps u.rps e.rps; parts = e.parts }
+
+message_alike : (a b : ℕ) (m : Bootstrap) (t u : Table) → Alike t u → Alike (with_message a t m) (with_message b u m)
+unfolding with_message
+message_alike a b m t u e =
+    ranges_alike a b (message_id m.bsr m.tag) m.hash_length m.ranges (masks_after m.hash_length m.ranges t)
+    (masks_after m.hash_length m.ranges u) (masks_alike m.hash_length m.ranges t u e)
 
 messages_alike : (ms : List Twice) (t u : Table) → Alike t u → Alike (table_after (λ x. x.first) t ms) (table_after (λ x. x.second) u ms)
 unfolding table_after
 messages_alike [] t u e = e
 messages_alike (x ∷ ms) t u e =
-    messages_alike ms (with_ranges x.first (x.message).tag (x.message).hash_length t (x.message).ranges)
-    (with_ranges x.second (x.message).tag (x.message).hash_length u (x.message).ranges)
-    (ranges_alike x.first x.second (x.message).tag (x.message).hash_length (x.message).ranges t u e)
+    messages_alike ms (with_message x.first t x.message) (with_message x.second u x.message)
+    (message_alike x.first x.second x.message t u e)
 
 -- ---- what is given doesn't see ends
 

@@ -1,10 +1,10 @@
 -- What is known stays sound.
-use Rattle.std.{proofs.{Common.{◌≡◌, ℕ, zero, suc, ◌+◌, ◌-◌, ◌*◌, ◌/◌, ◌%◌, ◌^◌, ◌<◌, ◌≤◌, Bool, true, false, cond, min, not, nat_le, ◌&&◌, ◌==◌, List, [], ◌∷◌, ◌++◌, filter, fold, length, map, take, Option, Some, None, Result, Ok, Err, refl, sym, ap, subst, ◌∙◌, arith, pow-add}, Math.Nat.{div-div-eq-div-mul, mul-div_cancel, mul-mod_left}, lemmas.{Bool.Decides.nat_tests, Nat.pow_pos, List.{length-append, Elements.{All-head, All-tail}}}}, specs.{List.{All, list_all, list_any}, Prelude.if◌then◌else◌}}
+use Rattle.std.{proofs.{Common.{◌≡◌, ℕ, zero, suc, ◌+◌, ◌-◌, ◌*◌, ◌/◌, ◌%◌, ◌^◌, ◌<◌, ◌≤◌, Bool, true, false, not, nat_le, ◌==◌, List, [], ◌∷◌, ◌++◌, filter, fold, length, map, take, Option, Some, None, Result, Ok, Err, refl, sym, ap, subst, ◌∙◌, arith, pow-add}, Math.Nat.{div-div-eq-div-mul, mul-div_cancel, mul-mod_left}, lemmas.{Bool.Decides.nat_tests, Nat.pow_pos, List.{Elements.{All-head, All-tail}}}}, specs.{List.{All, list_all, list_any}, Prelude.if◌then◌else◌}}
 use Rattle.pim_ip.{specs.{Ipv4.{Packet, ipv4_reading, is_multicast, is_unicast}, Prefixes.is_host_clear, declared.{addr.Prefix.Prefix, refusal.Refusal.Refusal}}}
 use Rattle.pim_types.{specs.declared.config.RpRange.RpRange}
-use Rattle.pim_model.{specs.{Limits.{is_prefix, is_rp_range, most_rps, same_prefix}}}
+use Rattle.pim_model.{specs.{Limits.{is_rp_range, same_prefix}}}
 use Rattle.pim_bootstrap.{specs.{declared.bootstrap.CandidateRp.CandidateRp, Bootstraps.{AreTested, Bootstrap, BootstrapRange, IsHost, IsTested, bootstrap_reading}}, proofs.Tested.read_is_tested}
-use Rattle.pim_bsr.{specs.{Choice.masked, Hearing.{Around, after_message, has_room, heard, heard_frame, heard_if, heard_packet, heard_read, heard_reading, is_bootstrap, room_or, unheard, why_not, why_sender}, Sound.{AreSound, IsSound, IsSoundTable, SoundConfigured, SoundInTime, SoundStays, SoundWhateverComes, are_apart}, Table.{Known, Table, at_time, completed, configured, emptied, fitting, has_holdtime, has_prefix, is_part_of, is_tagged, kept_count, learned_of, part_of, part_range, parts_after, range_of, range_prefix, room_beside, runs, same_range, waiting, waits, with_part, with_parts, with_range, with_ranges, without, without_parts}, declared.{heard.{Heard.Heard, Why.Why}, learned.{Learned.Learned, Part.Part}}}, proofs.Lists.{and_both, and_fails, and_first, and_second, both_pass, fewer, first_few, map_both, neither, not_false, not_true, or_first, or_second, passes_other, some_pass}}
+use Rattle.pim_bsr.{specs.{Choice.masked, Hearing.{Around, after_message, has_room, heard, heard_frame, heard_if, heard_packet, heard_read, heard_reading, is_bootstrap, room_or, unheard, why_not, why_sender}, Sound.{AreSound, IsSound, IsSoundTable, SoundConfigured, SoundInTime, SoundStays, SoundWhateverComes, are_apart}, Table.{Known, MessageId, Table, at_time, completed, configured, emptied, fitting, has_holdtime, has_prefix, is_part_of, is_tagged, kept_count, learned_of, masks_after, message_id, part_of, part_range, parts_after, range_of, range_prefix, room_beside, runs, same_range, waiting, waits, with_mask, with_message, with_part, with_range, with_ranges, without, without_parts}, declared.{heard.{Heard.Heard, Why.Why}, learned.{Learned.Learned, Part.Part}}}, proofs.Lists.{and_both, and_fails, and_first, and_second, both_pass, fewer, first_few, map_both, neither, not_false, not_true, or_first, or_second, passes_other, some_pass}}
 
 -- ---- some members of a sound list
 
@@ -230,45 +230,45 @@ cleared len g = mul-mod_left (g / 2 ^ (32 - len)) (2 ^ (32 - len))
 host_unicast : (c : CandidateRp) → IsHost c → is_unicast c.address.bits ≡ true
 host_unicast c is = is
 
-range_taken : (now tag : ℕ) (r : BootstrapRange) (c : CandidateRp) → IsTested r → IsHost c
-    → is_rp_range (part_range (part_of now tag (range_prefix r) c)) ≡ true
+range_taken : (now : ℕ) (id : MessageId) (r : BootstrapRange) (c : CandidateRp) → IsTested r → IsHost c
+    → is_rp_range (part_range (part_of now id (range_prefix r) c)) ≡ true
 unfolding is_host_clear is_rp_range
-range_taken now tag r c is host =
+range_taken now id r c is host =
     let clear : masked r.length r.group % 2 ^ (32 - r.length) ≡ 0 = cleared r.length r.group in
     let wide : nat_le r.length 32 ≡ true = grind (arith, nat_tests, is.longest) in
     let long : nat_le 4 r.length ≡ true = grind (arith, nat_tests, is.shortest) in
     let group = masked_multicast r.length r.group is.shortest is.longest is.group in
     rw (clear, wide, long, group, host_unicast c host) refl
 
-candidates_taken : (now tag : ℕ) (r : BootstrapRange) (cs : List CandidateRp) → IsTested r → All IsHost cs
-    → list_all is_rp_range (map part_range (map (part_of now tag (range_prefix r)) cs)) ≡ true
-candidates_taken now tag r [] is each = refl
-candidates_taken now tag r (c ∷ cs) is each =
-    and_both (is_rp_range (part_range (part_of now tag (range_prefix r) c))) _
-    (range_taken now tag r c is (All-head IsHost c cs each)) (candidates_taken now tag r cs is (All-tail IsHost c cs each))
+candidates_taken : (now : ℕ) (id : MessageId) (r : BootstrapRange) (cs : List CandidateRp) → IsTested r → All IsHost cs
+    → list_all is_rp_range (map part_range (map (part_of now id (range_prefix r)) cs)) ≡ true
+candidates_taken now id r [] is each = refl
+candidates_taken now id r (c ∷ cs) is each =
+    and_both (is_rp_range (part_range (part_of now id (range_prefix r) c))) _
+    (range_taken now id r c is (All-head IsHost c cs each)) (candidates_taken now id r cs is (All-tail IsHost c cs each))
 
 pub prefix_itself : (p : Prefix) → same_prefix p p ≡ true
 prefix_itself p = grind (arith, nat_tests)
 
-candidates_there : (now tag : ℕ) (p : Prefix) (cs : List CandidateRp) → list_all (is_part_of p) (map (part_of now tag p) cs) ≡ true
-candidates_there now tag p [] = refl
-candidates_there now tag p (c ∷ cs) =
-    and_both (is_part_of p (part_of now tag p c)) _ (prefix_itself p) (candidates_there now tag p cs)
+candidates_there : (now : ℕ) (id : MessageId) (p : Prefix) (cs : List CandidateRp) → list_all (is_part_of p) (map (part_of now id p) cs) ≡ true
+candidates_there now id p [] = refl
+candidates_there now id p (c ∷ cs) =
+    and_both (is_part_of p (part_of now id p c)) _ (prefix_itself p) (candidates_there now id p cs)
 
-tagged_there : (p : Prefix) (tag : ℕ) (q : Part) → is_tagged p tag q ≡ true → is_part_of p q ≡ true
-tagged_there p tag q e = and_first (is_part_of p q) (q.tag == tag) e
+tagged_there : (p : Prefix) (id : MessageId) (q : Part) → is_tagged p id q ≡ true → is_part_of p q ≡ true
+tagged_there p id q e = and_first (is_part_of p q) _ e
 
-after_sound : (now tag : ℕ) (parts : List Part) (r : BootstrapRange) → IsTested r → AreSound (map part_range parts)
-    → ArePartsOf (range_prefix r) (parts_after now tag parts r)
+after_sound : (now : ℕ) (id : MessageId) (parts : List Part) (r : BootstrapRange) → IsTested r → AreSound (map part_range parts)
+    → ArePartsOf (range_prefix r) (parts_after now id parts r)
 unfolding parts_after
-after_sound now tag parts r is all =
+after_sound now id parts r is all =
     let p : Prefix = range_prefix r in
-    let before : ArePartsOf p (filter (is_tagged p tag) parts) = record {
-      sound = some_sound part_range (is_tagged p tag) parts all;
-      there = passes_other (is_tagged p tag) (is_part_of p) (tagged_there p tag) parts;
+    let before : ArePartsOf p (filter (is_tagged p id) parts) = record {
+      sound = some_sound part_range (is_tagged p id) parts all;
+      there = passes_other (is_tagged p id) (is_part_of p) (tagged_there p id) parts;
     } in
-    with_all p (map (part_of now tag p) r.rps) (filter (is_tagged p tag) parts) before
-    (candidates_taken now tag r r.rps is is.rps) (candidates_there now tag p r.rps)
+    with_all p (map (part_of now id p) r.rps) (filter (is_tagged p id) parts) before
+    (candidates_taken now id r r.rps is is.rps) (candidates_there now id p r.rps)
 
 -- the same without what is known of the range: the parts are of it
 there_one : (p : Prefix) (parts : List Part) (q : Part) → list_all (is_part_of p) parts ≡ true → is_part_of p q ≡ true
@@ -285,13 +285,13 @@ there_all p (q ∷ more) parts all there =
     there_all p more (with_part parts q) (there_one p parts q all (and_first (is_part_of p q) _ there))
     (and_second (is_part_of p q) _ there)
 
-pub after_there : (now tag : ℕ) (parts : List Part) (r : BootstrapRange)
-    → list_all (is_part_of (range_prefix r)) (parts_after now tag parts r) ≡ true
+pub after_there : (now : ℕ) (id : MessageId) (parts : List Part) (r : BootstrapRange)
+    → list_all (is_part_of (range_prefix r)) (parts_after now id parts r) ≡ true
 unfolding parts_after
-after_there now tag parts r =
+after_there now id parts r =
     let p : Prefix = range_prefix r in
-    there_all p (map (part_of now tag p) r.rps) (filter (is_tagged p tag) parts)
-    (passes_other (is_tagged p tag) (is_part_of p) (tagged_there p tag) parts) (candidates_there now tag p r.rps)
+    there_all p (map (part_of now id p) r.rps) (filter (is_tagged p id) parts)
+    (passes_other (is_tagged p id) (is_part_of p) (tagged_there p id) parts) (candidates_there now id p r.rps)
 
 -- ---- tables
 
@@ -336,35 +336,45 @@ emptied_sound p t all = record {
   parts = some_sound part_range (λ (q : Part). not (is_part_of p q)) t.parts all.parts;
 }
 
-range_keeps : (now tag hash : ℕ) (t : Table) (r : BootstrapRange) → IsTested r → AreBoth t → AreBoth (with_range now tag hash t r)
+range_keeps : (now : ℕ) (id : MessageId) (hash : ℕ) (t : Table) (r : BootstrapRange) → IsTested r → AreBoth t → AreBoth (with_range now id hash t r)
 unfolding with_range
-range_keeps now tag hash t r is all = go r.bidir (r.rp_count == 0) (nat_le r.rp_count (length (parts_after now tag t.parts r)))
+range_keeps now id hash t r is all = go r.bidir (r.rp_count == 0) (nat_le r.rp_count (length (parts_after now id t.parts r)))
   where
     go : (b c d : Bool) → AreBoth (if b then t else (if c then emptied (range_prefix r) t
-        else (if d then completed now hash (range_prefix r) t (parts_after now tag t.parts r)
-        else waiting (range_prefix r) t (parts_after now tag t.parts r))))
+        else (if d then completed now hash (range_prefix r) t (parts_after now id t.parts r)
+        else waiting (range_prefix r) t (parts_after now id t.parts r))))
     go true c d = all
     go false true d = emptied_sound (range_prefix r) t all
-    go false false true = completed_sound now hash (range_prefix r) t (parts_after now tag t.parts r) all (after_sound now tag t.parts r is all.parts)
-    go false false false = waiting_sound (range_prefix r) t (parts_after now tag t.parts r) all (after_sound now tag t.parts r is all.parts)
+    go false false true = completed_sound now hash (range_prefix r) t (parts_after now id t.parts r) all (after_sound now id t.parts r is all.parts)
+    go false false false = waiting_sound (range_prefix r) t (parts_after now id t.parts r) all (after_sound now id t.parts r is all.parts)
 
-ranges_keep : (now tag hash : ℕ) (ranges : List BootstrapRange) (t : Table) → All IsTested ranges → AreBoth t
-    → AreBoth (with_ranges now tag hash t ranges)
+ranges_keep : (now : ℕ) (id : MessageId) (hash : ℕ) (ranges : List BootstrapRange) (t : Table) → All IsTested ranges → AreBoth t
+    → AreBoth (with_ranges now id hash t ranges)
 unfolding with_ranges
-ranges_keep now tag hash [] t each all = all
-ranges_keep now tag hash (r ∷ ranges) t each all =
-    ranges_keep now tag hash ranges (with_range now tag hash t r) (All-tail IsTested r ranges each)
-    (range_keeps now tag hash t r (All-head IsTested r ranges each) all)
+ranges_keep now id hash [] t each all = all
+ranges_keep now id hash (r ∷ ranges) t each all =
+    ranges_keep now id hash ranges (with_range now id hash t r) (All-tail IsTested r ranges each)
+    (range_keeps now id hash t r (All-head IsTested r ranges each) all)
+
+names_masked : (hash : ℕ) (ls : List Learned) → map range_of (map (with_mask hash) ls) ≡ map range_of ls
+names_masked hash [] = refl
+names_masked hash (l ∷ ls) = ap (λ (rs : List RpRange). range_of l ∷ rs) (names_masked hash ls)
+
+masks_sound : (hash : ℕ) (ranges : List BootstrapRange) (t : Table) → AreBoth t → AreBoth (masks_after hash ranges t)
+masks_sound hash [] t all = all
+masks_sound hash (r ∷ ranges) t all = record { rps = subst AreSound (sym (names_masked hash t.rps)) all.rps; parts = all.parts }
 
 -- the table after a message that was read, for whose RPs there is room
 pub learned_sound : (now : ℕ) (static : List RpRange) (limit : ℕ) (t : Table) (b : List ℕ) (m : Bootstrap)
-    → bootstrap_reading b ≡ Ok m → IsSoundTable static limit t
-    → kept_count (with_ranges now m.tag m.hash_length t m.ranges) ≤ room_beside limit static
-    → IsSoundTable static limit (with_ranges now m.tag m.hash_length t m.ranges)
+    → bootstrap_reading b ≡ Ok m → IsSoundTable static limit t → kept_count (with_message now t m) ≤ room_beside limit static
+    → IsSoundTable static limit (with_message now t m)
+unfolding with_message
 learned_sound now static limit t b m read all room =
     let tested : AreTested m = read_is_tested b m read in
-    let both : AreBoth (with_ranges now m.tag m.hash_length t m.ranges) =
-    ranges_keep now m.tag m.hash_length m.ranges t tested.ranges (record { rps = all.rps; parts = all.parts }) in
+    let masked : AreBoth (masks_after m.hash_length m.ranges t) =
+    masks_sound m.hash_length m.ranges t (record { rps = all.rps; parts = all.parts }) in
+    let both : AreBoth (with_message now t m) =
+    ranges_keep now (message_id m.bsr m.tag) m.hash_length m.ranges (masks_after m.hash_length m.ranges t) tested.ranges masked in
     record { rps = both.rps; parts = both.parts; kept = room }
 
 -- ---- messages
@@ -383,7 +393,7 @@ pub sound_stays : SoundStays
 unfolding heard after_message
 sound_stays s k i src b m read all = go (why_not s k i src m) refl
   where
-    fits : has_room s k m ≡ true → kept_count (with_ranges s.present m.tag m.hash_length k.table m.ranges) ≤ room_beside k.limit k.static
+    fits : has_room s k m ≡ true → kept_count (with_message s.present k.table m) ≤ room_beside k.limit k.static
     fits e = grind (arith, nat_tests, e)
 
     go : (w : Option Why) → why_not s k i src m ≡ w → IsSound (heard_if s k i b m w).known

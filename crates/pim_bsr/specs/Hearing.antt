@@ -6,7 +6,7 @@ use Rattle.pim_types.{specs.declared.{outcome.Emission.Emission, path.Hop.Hop}}
 use Rattle.pim_wire.{specs.Encoded.pim_type_of}
 use Rattle.pim_model.{specs.{Neighbours.{is_neighbour, nbr, neighbour_count}, State.{State, iface_count, is_own, my_address}, Tables.below, Unicast.route, Writing.on_link}}
 use Rattle.pim_bootstrap.{specs.Bootstraps.{Bootstrap, BootstrapRange, bootstrap_reading}}
-use Rattle.pim_bsr.{specs.{Table.{Known, bs_timeout, given, kept_count, may_elect, room, same_ranges, with_ranges}, declared.heard.{Heard.Heard, Why.Why}}}
+use Rattle.pim_bsr.{specs.{Table.{Known, bs_timeout, given, kept_count, may_elect, room, same_ranges, with_message}, declared.heard.{Heard.Heard, Why.Why}}}
 
 -- What the front asks of the router: the present timestamp in ms; whether an address is the router's; whether there is a
 -- neighbour with an address on an interface; RPF_neighbor of an address; how many interfaces are configured; whether there
@@ -65,16 +65,16 @@ unfoldable pub after_message : ℕ → Known → List ℕ → Bootstrap → Know
 after_message now k bytes m = record k {
   heard = true;
   elected = Some (record { bsr = addr m.bsr; priority = m.priority; end = now + bs_timeout });
-  table = with_ranges now m.tag m.hash_length k.table m.ranges;
+  table = with_message now k.table m;
   last = bytes;
   last_end = now + repeat_time;
 }
 
 -- there is room for what a message says
 abbrev pub has_room : Around → Known → Bootstrap → Bool
-has_room s k m = nat_le (kept_count (with_ranges s.present m.tag m.hash_length k.table m.ranges)) (room k)
+has_room s k m = nat_le (kept_count (with_message s.present k.table m)) (room k)
 
--- why a message isn't acceptable by its sender and its BSR, by the first test that fails (3.1.3, 3.1)
+-- why a message isn't acceptable by its sender and its BSR, by the first test that fails (3.1.3, 3.1.4)
 unfoldable pub why_sender : Around → Known → ℕ → ℕ → Bootstrap → Option Why
 why_sender s k i src m =
     if s.own m.bsr then Some Why.OwnBsr
@@ -139,6 +139,14 @@ taken s k i bytes m =
       known = after;
       sent = map (passed_on s bytes) (sent_on s k i bytes m);
     }
+
+-- an answer for which memory is taken: the message counts, or there is no room for what it says
+abbrev pub takes_memory : Heard → Bool
+takes_memory Heard.Other = false
+takes_memory (Heard.Refused refusal) = false
+takes_memory (Heard.Ignored Why.NoRoom) = true
+takes_memory (Heard.Ignored _) = false
+takes_memory (Heard.Taken moved) = true
 
 -- a message that was read, by why it doesn't count
 abbrev pub heard_if : Around → Known → ℕ → List ℕ → Bootstrap → Option Why → Hearing

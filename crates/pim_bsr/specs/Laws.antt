@@ -1,10 +1,10 @@
 -- What a user expects of RPs that are learned, and what holds of a router behind the front.
-use Rattle.std.{specs.{List.{AllByRecursion, list_all, list_any}, Prelude.{◌≡◌, ℕ, ◌+◌, ◌≤◌, ◌<◌, ◌&&◌, ◌==◌, Bool, true, false, not, nat_le, nat_lt, if◌then◌else◌, List, [], ◌∷◌, filter, fold, length, map, Option, Some, None, Result, Ok, Err}}}
+use Rattle.std.{specs.{List.{AllByRecursion, list_all, list_any}, Prelude.{◌≡◌, ℕ, ◌≤◌, ◌<◌, ◌&&◌, ◌||◌, ◌==◌, Bool, true, false, not, nat_le, nat_lt, if◌then◌else◌, List, [], ◌∷◌, filter, fold, length, map, Some, None, Result, Ok, Err}}}
 use Rattle.pim_ip.{specs.{declared.{addr.Prefix.Prefix, refusal.Refusal.Refusal}, Ipv4.{Packet, ipv4_reading}}}
 use Rattle.pim_types.{specs.declared.{config.RpRange.RpRange, event.{Event.Event, EventKind.EventKind}}}
 use Rattle.pim_model.{specs.{Limits.same_prefix, State.State, Step.{run, state_after}}}
-use Rattle.pim_bootstrap.{specs.{declared.bootstrap.CandidateRp.CandidateRp, Bootstraps.{Bootstrap, BootstrapRange}}}
-use Rattle.pim_bsr.{specs.{Hearing.{Around, heard, is_bootstrap, is_from_rpf, is_repeated, sent_on}, Joined.{Both, events_given, joined, outcomes_in}, Table.{Known, Table, at_time, configured, given, given_of, has_prefix, is_preferred, range_prefix, room_beside, with_ranges}, declared.{heard.{Heard.Heard, Why.Why}, learned.{Elected.Elected, Learned.Learned, Part.Part}}}}
+use Rattle.pim_bootstrap.{specs.{Bootstraps.{Bootstrap, BootstrapRange}}}
+use Rattle.pim_bsr.{specs.{Hearing.{Around, heard, is_bootstrap, is_from_rpf, is_repeated, sent_on}, Joined.{Both, events_given, joined, outcomes_in}, Table.{Known, Table, at_time, configured, given, given_of, has_prefix, is_preferred, range_prefix, room_beside, with_mask, with_message}, declared.{heard.{Heard.Heard}, learned.{Elected.Elected, Learned.Learned, Part.Part}}}}
 
 -- ---- the configured ranges
 
@@ -45,11 +45,15 @@ WasPreferred =
 abbrev pub is_named : Prefix → BootstrapRange → Bool
 is_named p r = same_prefix p (range_prefix r)
 
--- a fragment leaves the RPs of all ranges that it doesn't name
+-- RPs without the lengths of their hash masks
+abbrev pub unmasked : List Learned → List Learned
+unmasked ls = map (with_mask 0) ls
+
+-- a fragment leaves the RPs of all ranges that it doesn't name, but for their hash mask
 abbrev pub OtherRangesStay : Type 0
 OtherRangesStay =
     (s : Around) (k : Known) (i src : ℕ) (b : List ℕ) (m : Bootstrap) (p : Prefix) → list_any (is_named p) m.ranges ≡ false
-    → filter (has_prefix p) (heard s k i src b m).known.table.rps ≡ filter (has_prefix p) k.table.rps
+    → unmasked (filter (has_prefix p) (heard s k i src b m).known.table.rps) ≡ unmasked (filter (has_prefix p) k.table.rps)
 
 -- ---- what is sent on
 
@@ -90,11 +94,15 @@ all_after k hs = fold after k hs
 abbrev pub is_range_at : Prefix → RpRange → Bool
 is_range_at p r = same_prefix p r.prefix
 
--- No message that counts names the prefix, time doesn't come to the moment, and the configuration neither has the prefix
--- nor so many ranges that RPs in force have no room.
+-- the RPs of a prefix have a hash mask of so many bits
+abbrev pub have_mask : Prefix → ℕ → List Learned → Bool
+have_mask p hash_length ls = list_all (λ (l : Learned). l.hash_length == hash_length) (filter (has_prefix p) ls)
+
+-- No message that counts names the prefix or has another hash mask than its RPs, time doesn't come to the moment, and the
+-- configuration neither has the prefix nor so many ranges that RPs in force have no room.
 abbrev pub Leaves : Prefix → ℕ → Known → Happening → Type 0
 Leaves p moment k (Message s i src b m) =
-    (is_taken (heard s k i src b m).answer && list_any (is_named p) m.ranges) ≡ false
+    (is_taken (heard s k i src b m).answer && (list_any (is_named p) m.ranges || not (have_mask p m.hash_length k.table.rps))) ≡ false
 Leaves p moment k (Time now) = now < moment
 Leaves p moment k (Ranges limit static) =
     (list_any (is_range_at p) static ≡ false) × (length k.table.rps ≤ room_beside limit static)
@@ -126,7 +134,7 @@ pub record Twice : Type 0 where
 -- a table after messages, by their times
 unfoldable pub table_after : (Twice → ℕ) → Table → List Twice → Table
 table_after time t ms =
-    fold (λ u x. with_ranges (time x) (x.message).tag (x.message).hash_length u (x.message).ranges) t ms
+    fold (λ u x. with_message (time x) u x.message) t ms
 
 -- an RP without its end, and a part without its own
 abbrev pub endless : Learned → Learned
@@ -140,7 +148,7 @@ unfoldable pub untimed : Table → Table
 untimed t = record { rps = map endless t.rps; parts = map endless_part t.parts }
 
 -- Routers that have the same configured ranges, and took the same messages since they knew the same, are given the same
--- RPs, whenever the messages came to each.
+-- RPs, whenever the messages came to each, while nothing expires.
 abbrev pub SameEverywhere : Type 0
 SameEverywhere =
     (static : List RpRange) (t u : Table) (ms : List Twice) → untimed t ≡ untimed u

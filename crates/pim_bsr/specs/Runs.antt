@@ -1,9 +1,9 @@
--- A worked run, and values of the hash function that another program printed.
-use Rattle.std.{specs.Prelude.{◌≡◌, ℕ, false, List, [], ◌∷◌, None, map}}
-use Rattle.pim_ip.{specs.Addr.addr}
+-- Worked runs, and values of the hash function that another program printed.
+use Rattle.std.{specs.Prelude.{◌≡◌, ℕ, ◌==◌, ◌&&◌, ◌||◌, false, true, List, [], ◌∷◌, None, Some, filter, map}}
+use Rattle.pim_ip.{specs.{Addr.addr, declared.addr.Prefix.Prefix}}
 use Rattle.pim_types.{specs.declared.config.RpRange.RpRange}
 use Rattle.pim_bootstrap.{specs.{declared.bootstrap.CandidateRp.CandidateRp, Bootstraps.{Bootstrap, BootstrapRange}}}
-use Rattle.pim_bsr.{specs.{Choice.hash_value, Hearing.after_message, Table.{Known, at_time, configured, given}}}
+use Rattle.pim_bsr.{specs.{Choice.hash_value, Hearing.{Around, after_message, heard}, Laws.{AllLeave, Happening, all_after, is_range_at}, Table.{Known, at_time, configured, given}, declared.heard.{Heard.Heard, Why.Why}}}
 
 -- the values that FRR 8.4.4 prints (`show ip pim bsrp-info`) for 239.0.0.0/8 with a mask of 30 bits and the RPs 10.99.0.1,
 -- 10.88.0.9 and 10.77.0.2
@@ -70,3 +70,87 @@ AsWorked =
     × (rps (after_message 2000 two [] (message 8 (wide 0 [] ∷ []))) ≡ 0x0A00_0063 ∷ [])
     × (rps (configured 100 (record { prefix = record { address = addr 0xEF00_0000; length = 8 }; rp = addr 0x0A00_0063 } ∷ []) two)
     ≡ 0x0A00_0063 ∷ [])
+
+-- ---- messages that come in packets
+
+-- A router at 2 s: 10.0.0.1, with the neighbours 10.0.0.2 and 10.0.0.3 on the first of two interfaces. The first of them is
+-- the RPF neighbour of every BSR.
+abbrev pub around : Around
+around = record {
+  present = 2000;
+  own = λ a. a == 0x0A00_0001;
+  neighbour = λ i a. (i == 0) && ((a == 0x0A00_0002) || (a == 0x0A00_0003));
+  hop = λ a. Some (record { iface = record { number = 0 }; address = addr 0x0A00_0002 });
+  count = 2;
+  linked = λ i. i == 0;
+  address = λ i. 0x0A00_0001;
+}
+
+-- what becomes of a message that comes on an interface from a source
+abbrev pub answer : Known → ℕ → ℕ → Bootstrap → Heard
+answer k i src m = (heard around k i src [] m).answer
+
+-- all RPs of the range, and the same of another BSR
+abbrev pub whole : Bootstrap
+whole = message 7 (wide 2 (candidate 0x0A58_0009 150 ∷ candidate 0x0A4D_0002 150 ∷ []) ∷ [])
+
+abbrev pub of_bsr : ℕ → ℕ → Bootstrap
+of_bsr bsr priority = record whole { bsr = bsr; priority = priority }
+
+-- A message counts from the RPF neighbour alone, and not from a stranger; where a BSR is elected, of that one or of one with
+-- more weight, by its priority or at the same priority by its address. One with the No-Forward bit counts first of all
+-- alone, from any neighbour; one for whose RPs there is no room doesn't count.
+abbrev pub AsHeard : Type 0
+AsHeard =
+    (answer start 0 0x0A00_0002 whole ≡ Heard.Taken true)
+    × (answer start 0 0x0A00_0003 whole ≡ Heard.Ignored Why.NotFromRpf)
+    × (answer start 1 0x0A00_0002 whole ≡ Heard.Ignored Why.NoNeighbour)
+    × (answer start 0 0x0A00_0002 (of_bsr 0x0A00_0001 10) ≡ Heard.Ignored Why.OwnBsr)
+    × (answer two 0 0x0A00_0002 whole ≡ Heard.Taken true)
+    × (answer two 0 0x0A00_0002 (of_bsr 0x0A00_0008 10) ≡ Heard.Ignored Why.NotPreferred)
+    × (answer two 0 0x0A00_0002 (of_bsr 0x0A00_000A 10) ≡ Heard.Taken true)
+    × (answer two 0 0x0A00_0002 (of_bsr 0x0A00_0008 11) ≡ Heard.Taken true)
+    × (answer start 0 0x0A00_0003 (record whole { no_forward = true }) ≡ Heard.Taken true)
+    × (answer two 0 0x0A00_0002 (record whole { no_forward = true }) ≡ Heard.Ignored Why.LateRefresh)
+    × (answer (record start { limit = 1 }) 0 0x0A00_0002 whole ≡ Heard.Ignored Why.NoRoom)
+
+-- Fragments of two BSRs aren't put together, though they have one tag: of each, one of two RPs came.
+abbrev pub half : ℕ → ℕ → Bootstrap
+half bsr rp = record whole { bsr = bsr; ranges = wide 2 (candidate rp 150 ∷ []) ∷ [] }
+
+abbrev pub BsrsAreApart : Type 0
+BsrsAreApart =
+    (rps (after_message 1005 (after_message 1000 start [] (half 0x0A00_0009 0x0A58_0009)) [] (half 0x0A00_000A 0x0A4D_0002))
+    ≡ 0x0A00_0063 ∷ [])
+    × (rps (after_message 1005 (after_message 1000 start [] (half 0x0A00_0009 0x0A58_0009)) [] (half 0x0A00_0009 0x0A4D_0002))
+    ≡ 0x0A00_0063 ∷ 0x0A58_0009 ∷ [])
+
+-- A message of 238.0.0.0/8 with a hash mask of 0 bits gives it to 239.0.0.0/8 too, whose RP of the greatest value then is
+-- another. A message without ranges doesn't.
+abbrev pub unhashed : List BootstrapRange → Bootstrap
+unhashed ranges = record (message 9 ranges) { hash_length = 0 }
+
+abbrev pub narrow : BootstrapRange
+narrow = record (wide 1 (candidate 0x0A4D_0002 10 ∷ [])) { group = 0xEE00_0000 }
+
+abbrev pub MaskIsOfAll : Type 0
+MaskIsOfAll =
+    (rps (after_message 2000 two [] (unhashed (narrow ∷ []))) ≡ 0x0A00_0063 ∷ 0x0A58_0009 ∷ 0x0A4D_0002 ∷ [])
+    × (rps (after_message 2000 two [] (unhashed [])) ≡ 0x0A00_0063 ∷ 0x0A63_0001 ∷ [])
+
+-- ---- a range that is left
+
+abbrev pub eight : Prefix
+eight = record { address = addr 0xEF00_0000; length = 8 }
+
+-- a message that counts, of 238.0.0.0/8; time passes; another configuration
+abbrev pub others : List Happening
+others =
+    Happening.Message around 0 0x0A00_0002 [] (message 9 (narrow ∷ []))
+    ∷ Happening.Time 20000 ∷ Happening.Ranges 50 [] ∷ []
+
+-- All of them leave the range, which has its RP after them.
+abbrev pub AsLeft : Type 0
+AsLeft =
+    AllLeave eight 151000 two others
+    × (map (λ (r : RpRange). r.rp.bits) (filter (is_range_at eight) (given (all_after two others))) ≡ 0x0A63_0001 ∷ [])

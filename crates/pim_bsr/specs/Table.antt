@@ -1,13 +1,13 @@
 -- What a router that is no candidate BSR knows by Bootstraps (RFC 5059, section 3.1): the elected BSR, and the RPs of
 -- ranges with their ends. Sections are those of RFC 5059.
-use Rattle.std.{specs.{List.{list_all, list_any}, Prelude.{ℕ, Bool, true, false, ◌+◌, ◌-◌, ◌*◌, ◌==◌, ◌&&◌, ◌||◌, min, nat_le, nat_lt, not, if◌then◌else◌, List, [], ◌∷◌, ◌++◌, filter, fold, length, map, take, Option, Some, None}}}
+use Rattle.std.{specs.{List.{list_all, list_any}, Prelude.{ℕ, Bool, true, ◌+◌, ◌-◌, ◌*◌, ◌==◌, ◌&&◌, ◌||◌, min, nat_le, nat_lt, not, if◌then◌else◌, List, [], ◌∷◌, ◌++◌, filter, fold, length, map, take, Option, Some, None}}}
 use Rattle.pim_ip.{specs.{Addr.addr, declared.addr.Prefix.Prefix}}
 use Rattle.pim_types.{specs.declared.config.RpRange.RpRange}
 use Rattle.pim_model.{specs.Limits.{most_rps, same_prefix}}
 use Rattle.pim_bootstrap.{specs.{declared.bootstrap.CandidateRp.CandidateRp, Bootstraps.{Bootstrap, BootstrapRange}}}
 use Rattle.pim_bsr.{specs.{Choice.{is_chosen, masked}, declared.learned.{Elected.Elected, Learned.Learned, Part.Part}}}
 
--- The RPs in force, and those of messages whose fragments (4.2) haven't all come.
+-- The RPs in force, and those of messages whose fragments (4.1.1) haven't all come.
 pub record Table : Type 0 where
   pub rps : List Learned
   pub parts : List Part
@@ -43,24 +43,32 @@ has_prefix p l = same_prefix p l.prefix
 abbrev pub is_part_of : Prefix → Part → Bool
 is_part_of p q = same_prefix p q.prefix
 
--- a part is of the range, and of the message with the tag
-abbrev pub is_tagged : Prefix → ℕ → Part → Bool
-is_tagged p tag q = is_part_of p q && (q.tag == tag)
+-- what the fragments of a message have in common: its BSR and its fragment tag
+pub record MessageId : Type 0 where
+  pub bsr : ℕ
+  pub tag : ℕ
 
--- an RP of a range as a part of a message that has a tag, and came at a timestamp; here: it is forgotten where the others
+abbrev pub message_id : ℕ → ℕ → MessageId
+message_id bsr tag = record { bsr = bsr; tag = tag }
+
+-- a part is of the range, and of the message
+abbrev pub is_tagged : Prefix → MessageId → Part → Bool
+is_tagged p id q = is_part_of p q && ((q.bsr.bits == id.bsr) && (q.tag == id.tag))
+
+-- an RP of a range as a part of a message that came at a timestamp; here: it is forgotten where the others
 -- haven't come within BS_Timeout
-abbrev pub part_of : ℕ → ℕ → Prefix → CandidateRp → Part
-part_of now tag p c = record { prefix = p; rp = c; tag = tag; until = now + bs_timeout }
+abbrev pub part_of : ℕ → MessageId → Prefix → CandidateRp → Part
+part_of now id p c = record { prefix = p; rp = c; bsr = addr id.bsr; tag = id.tag; until = now + bs_timeout }
 
 -- a part in the place of that of the same RP
 abbrev pub with_part : List Part → Part → List Part
 with_part parts q = filter (λ (old : Part). not (old.rp.address.bits == q.rp.address.bits)) parts ++ (q ∷ [])
 
--- The parts of a range after a fragment: those that came before under its tag, and the fragment's in the places of the
+-- The parts of a range after a fragment: those of its message that came before, and the fragment's in the places of the
 -- same RPs.
-unfoldable pub parts_after : ℕ → ℕ → List Part → BootstrapRange → List Part
-parts_after now tag parts r =
-    fold with_part (filter (is_tagged (range_prefix r) tag) parts) (map (part_of now tag (range_prefix r)) r.rps)
+unfoldable pub parts_after : ℕ → MessageId → List Part → BootstrapRange → List Part
+parts_after now id parts r =
+    fold with_part (filter (is_tagged (range_prefix r) id) parts) (map (part_of now id (range_prefix r)) r.rps)
 
 -- ---- the table after a message
 
@@ -76,8 +84,8 @@ without_parts p parts = filter (λ (q : Part). not (is_part_of p q)) parts
 abbrev pub has_holdtime : Part → Bool
 has_holdtime q = not (q.rp.holdtime == 0)
 
--- an RP from a timestamp on, with the message's hash mask: the Group-to-C-RP mapping Expiry Timer (3.3) runs for its
--- holdtime
+-- An RP from a timestamp on, with the message's hash mask: the Group-to-RP mapping Expiry Timer (3.1.5) runs for its
+-- holdtime.
 abbrev pub learned_of : ℕ → ℕ → Part → Learned
 learned_of now hash_length q = record {
   prefix = q.prefix;
@@ -108,15 +116,33 @@ with_parts now hash_length p count t parts =
     if nat_le count (length parts) then completed now hash_length p t parts else waiting p t parts
 
 -- The table after a range of a message. A range for BIDIR (B) isn't taken; one without RPs goes.
-unfoldable pub with_range : ℕ → ℕ → ℕ → Table → BootstrapRange → Table
-with_range now tag hash_length t r =
+unfoldable pub with_range : ℕ → MessageId → ℕ → Table → BootstrapRange → Table
+with_range now id hash_length t r =
     if r.bidir then t
     else (if r.rp_count == 0 then emptied (range_prefix r) t
-    else with_parts now hash_length (range_prefix r) r.rp_count t (parts_after now tag t.parts r))
+    else with_parts now hash_length (range_prefix r) r.rp_count t (parts_after now id t.parts r))
 
 -- the table after the ranges of a message
-unfoldable pub with_ranges : ℕ → ℕ → ℕ → Table → List BootstrapRange → Table
-with_ranges now tag hash_length t ranges = fold (with_range now tag hash_length) t ranges
+unfoldable pub with_ranges : ℕ → MessageId → ℕ → Table → List BootstrapRange → Table
+with_ranges now id hash_length t ranges = fold (with_range now id hash_length) t ranges
+
+-- an RP with a hash mask of so many bits
+abbrev pub with_mask : ℕ → Learned → Learned
+with_mask hash_length l = record l { hash_length = hash_length }
+
+abbrev pub with_masks : ℕ → Table → Table
+with_masks hash_length t = record t { rps = map (with_mask hash_length) t.rps }
+
+-- The table in which RPs have the hash mask of a message: those of all ranges do, also of those that it doesn't name (3.1.5).
+-- A message without ranges changes nothing.
+abbrev pub masks_after : ℕ → List BootstrapRange → Table → Table
+masks_after hash_length [] t = t
+masks_after hash_length (r ∷ rs) t = with_masks hash_length t
+
+-- the table after a message
+unfoldable pub with_message : ℕ → Table → Bootstrap → Table
+with_message now t m =
+    with_ranges now (message_id m.bsr m.tag) m.hash_length (masks_after m.hash_length m.ranges t) m.ranges
 
 -- how many RPs are kept, in force and in parts
 unfoldable pub kept_count : Table → ℕ
@@ -124,7 +150,7 @@ kept_count t = length t.rps + length t.parts
 
 -- ---- which messages count
 
--- The message is preferred (3.1): it is of the elected BSR, or its BSR has more weight, by its priority and then its
+-- The message is preferred (3.1.4): it is of the elected BSR, or its BSR has more weight, by its priority and then its
 -- address.
 unfoldable pub is_preferred : Elected → Bootstrap → Bool
 is_preferred e m =

@@ -20,6 +20,8 @@ pub struct Learned {
 pub struct Part {
     pub prefix: Prefix,
     pub rp: CandidateRp,
+    /// The message's BSR.
+    pub bsr: Addr,
     /// The message's fragment tag.
     pub tag: u16,
     /// When it is forgotten, in ms.

@@ -30,7 +30,8 @@ const MOST_RPS: usize = 256;
 /// - Other configured ranges: the router takes `Rps` with [`Listener::given_beside`] them; where it is done,
 ///   [`Listener::configure`] takes them. A reload gives the router a configuration whose ranges are
 ///   [`Listener::given_beside`] the new ones, and then [`Listener::configure`] takes these.
-/// - Saved with the router are [`Listener::rps`], [`Listener::parts`] and [`Listener::elected`].
+/// - To be saved with the router are [`Listener::rps`], [`Listener::parts`] and [`Listener::elected`]. No call makes a
+///   listener of them yet.
 /// - A listener that goes leaves the router `Rps` with the configured ranges alone. One that comes is made of the ranges that
 ///   the router has.
 #[derive(Drop)]
@@ -142,6 +143,13 @@ impl Listener {
         ensures { result.now ≡ self.now.table.parts }
     {
         self.table.parts()
+    }
+
+    /// The limit on RPs that are kept.
+    pub fn limit(&self) -> usize
+        ensures { result ≡ self.now.limit }
+    {
+        self.limit
     }
 
     /// The elected BSR.

@@ -12,7 +12,7 @@ pub trait Surroundings {
     ghost around: { Self → Around };
 
     /// The present timestamp, in ms.
-    fn present(&self) -> u64
+    fn present_moment(&self) -> u64
         ensures value { result ≡ (around self.now).present }
         ensures within { result ≤ 2 ^ 62 };
 

@@ -1,6 +1,6 @@
 //! The RPs in force and those that wait for the rest of their message.
 ghost use Rattle.std.specs.Prelude.{◌≡◌, ◌++◌, ◌^◌, ◌≤◌, [], filter, fold, map, min, IfOk, OnOk};
-ghost use Rattle.pim_bsr.specs.Table.{at_time, completed, emptied, fitting, has_holdtime, is_tagged, kept_count, learned_of, part_of, parts_after, range_prefix, runs, waiting, waits, with_part, with_parts, with_range, with_ranges, without, without_parts};
+ghost use Rattle.pim_bsr.specs.Table.{at_time, completed, emptied, fitting, has_holdtime, is_tagged, kept_count, learned_of, masks_after, message_id, part_of, parts_after, range_prefix, runs, waiting, waits, with_mask, with_part, with_parts, with_range, with_ranges, without, without_parts};
 
 use crate::choice::{masked, same_prefix};
 use crate::learned::{Learned, Part};
@@ -16,6 +16,7 @@ pub(crate) const BS_TIMEOUT: u64 = 130_000;
 #[derive(Clone, Copy)]
 pub(crate) struct Arrival {
     pub(crate) moment: u64,
+    pub(crate) bsr: Addr,
     pub(crate) tag: u16,
     pub(crate) hash_length: u8,
 }
@@ -34,11 +35,12 @@ fn range_prefix(range: &RangeView<'_>) -> Prefix
 /// An RP of a range as a part of a message.
 fn part_of(arrival: Arrival, prefix: Prefix, rp: CandidateRp) -> Part
     requires { arrival.moment ≤ 2 ^ 62 }
-    ensures { result ≡ part_of arrival.moment arrival.tag prefix rp }
+    ensures { result ≡ part_of arrival.moment (message_id arrival.bsr.bits arrival.tag) prefix rp }
 {
     Part {
         prefix,
         rp,
+        bsr: arrival.bsr,
         tag: arrival.tag,
         until: arrival.moment + BS_TIMEOUT,
     }
@@ -58,11 +60,11 @@ fn learned_of(arrival: Arrival, part: Part) -> Learned
     }
 }
 
-/// Whether a part is of a range, and of the message with the tag.
-fn is_tagged(prefix: Prefix, tag: u16, part: Part) -> bool
-    ensures { result ≡ is_tagged prefix tag part }
+/// Whether a part is of a range, and of the message of which a fragment came.
+fn is_tagged(prefix: Prefix, arrival: Arrival, part: Part) -> bool
+    ensures { result ≡ is_tagged prefix (message_id arrival.bsr.bits arrival.tag) part }
 {
-    same_prefix(prefix, part.prefix) && part.tag == tag
+    same_prefix(prefix, part.prefix) && part.bsr.bits == arrival.bsr.bits && part.tag == arrival.tag
 }
 
 /// Puts a part in the place of that of the same RP.
@@ -83,7 +85,7 @@ fn put_parts(
 ) -> Result<(), AllocError>
     requires { arrival.moment ≤ 2 ^ 62 }
     ensures { OnOk result (parts.new.items
-        ≡ fold with_part parts.old.items (map (part_of arrival.moment arrival.tag prefix) rps.entry)) }
+        ≡ fold with_part parts.old.items (map (part_of arrival.moment (message_id arrival.bsr.bits arrival.tag) prefix) rps.entry)) }
 {
     for rp in rps {
         put_part(parts, part_of(arrival, prefix, rp))?;
@@ -91,12 +93,17 @@ fn put_parts(
     Ok(())
 }
 
-/// The parts of a range that came before, of the message with the tag.
-fn tagged(alloc: Global, parts: &[Part], prefix: Prefix, tag: u16) -> Result<Vec<Part>, AllocError>
-    ensures { IfOk result (λ found. found.items ≡ filter (is_tagged prefix tag) parts.now) }
+/// The parts of a range that came before, of the message of which a fragment came.
+fn tagged(
+    alloc: Global,
+    parts: &[Part],
+    prefix: Prefix,
+    arrival: Arrival,
+) -> Result<Vec<Part>, AllocError>
+    ensures { IfOk result (λ found. found.items ≡ filter (is_tagged prefix (message_id arrival.bsr.bits arrival.tag)) parts.now) }
 {
     let mut found = Vec::from_slice(alloc, parts)?;
-    found.retain(|part| is_tagged(prefix, tag, *part));
+    found.retain(|part| is_tagged(prefix, arrival, *part));
     Ok(found)
 }
 
@@ -109,10 +116,10 @@ fn parts_after(
     range: &RangeView<'_>,
 ) -> Result<Vec<Part>, AllocError>
     requires { arrival.moment ≤ 2 ^ 62 }
-    ensures { IfOk result (λ after. after.items ≡ parts_after arrival.moment arrival.tag parts.now range.now) }
+    ensures { IfOk result (λ after. after.items ≡ parts_after arrival.moment (message_id arrival.bsr.bits arrival.tag) parts.now range.now) }
 {
     let prefix = range_prefix(range);
-    let mut after = tagged(alloc, parts, prefix, arrival.tag)?;
+    let mut after = tagged(alloc, parts, prefix, arrival)?;
     put_parts(&mut after, arrival, prefix, range.rps())?;
     Ok(after)
 }
@@ -129,6 +136,15 @@ fn drop_parts(parts: &mut Vec<Part>, prefix: Prefix)
     ensures { parts.new.items ≡ without_parts prefix parts.old.items }
 {
     parts.retain(|part| !same_prefix(prefix, part.prefix));
+}
+
+/// Gives RPs another hash mask.
+fn mask_rps(rps: &mut [Learned], hash_length: u8)
+    ensures { rps.new ≡ map (with_mask hash_length) rps.old }
+{
+    for learned in rps.iter_mut() {
+        learned.hash_length = hash_length;
+    }
 }
 
 /// Adds the parts that have a holdtime, in force.
@@ -264,7 +280,7 @@ impl Table {
     ) -> Result<(), AllocError>
         requires { arrival.moment ≤ 2 ^ 62 }
         ensures { OnOk result (self.new
-            ≡ with_range arrival.moment arrival.tag arrival.hash_length self.old range.now) }
+            ≡ with_range arrival.moment (message_id arrival.bsr.bits arrival.tag) arrival.hash_length self.old range.now) }
     {
         if range.is_bidir() {
             return Ok(());
@@ -279,6 +295,16 @@ impl Table {
         self.put(arrival, prefix, count, parts.as_slice())
     }
 
+    /// RPs of all ranges have the hash mask of a message, if it says a range.
+    pub(crate) fn mask(&mut self, hash_length: u8, ranges: Ranges<'_>)
+        ensures { self.new ≡ masks_after hash_length ranges.entry self.old }
+    {
+        let mut ranges = ranges;
+        if ranges.next().is_some() {
+            mask_rps(self.rps.as_mut_slice(), hash_length);
+        }
+    }
+
     /// The ranges of a message that came. After an `Err`, which is want of memory, some may be learned.
     #[tactic(auto, unfolding(crate::specs::Table::with_ranges))]
     pub(crate) fn learn(
@@ -289,7 +315,7 @@ impl Table {
     ) -> Result<(), AllocError>
         requires { arrival.moment ≤ 2 ^ 62 }
         ensures { OnOk result (self.new
-            ≡ with_ranges arrival.moment arrival.tag arrival.hash_length self.old ranges.entry) }
+            ≡ with_ranges arrival.moment (message_id arrival.bsr.bits arrival.tag) arrival.hash_length self.old ranges.entry) }
     {
         for range in ranges {
             self.learn_range(alloc, arrival, &range)?;

@@ -1,10 +1,10 @@
 //! A packet that came on a link.
-ghost use Rattle.std.specs.Prelude.{◌≡◌, ◌++◌, ◌+◌, ◌^◌, ◌<◌, filter, length, map, nat_le, IfOk, Ok, OnErr, OnOk};
+ghost use Rattle.std.specs.Prelude.{◌≡◌, ◌++◌, ◌+◌, ◌^◌, ◌<◌, false, filter, length, map, nat_le, IfOk, IsOk, Ok, OnErr, OnOk};
 ghost use Rattle.pim_model.specs.Tables.{below};
 ghost use Rattle.pim_bootstrap.specs.Bootstraps.{bootstrap_reading};
-ghost use Rattle.pim_bsr.specs.Hearing.{after_message, heard, heard_frame, is_bootstrap, is_hop, is_repeated, is_scoped, is_sent_on, may_refresh, passed_on, sent_on, taken, why_sender};
+ghost use Rattle.pim_bsr.specs.Hearing.{after_message, heard, heard_frame, is_bootstrap, is_hop, is_repeated, is_scoped, is_sent_on, may_refresh, passed_on, sent_on, taken, takes_memory, why_sender};
 ghost use Rattle.pim_bsr.specs.Sound.{IsSound, IsSoundTable};
-ghost use Rattle.pim_bsr.specs.Table.{is_preferred, kept_count, may_elect, room, with_ranges};
+ghost use Rattle.pim_bsr.specs.Table.{is_preferred, kept_count, may_elect, room, with_message};
 
 use super::{Listener, room_beside};
 use crate::given::moves;
@@ -114,8 +114,9 @@ fn passed_on<S: Surroundings>(
 
 impl Listener {
     /// Hears a packet that came on an interface, and that the router ignored as PIM of a type that it doesn't handle. What
-    /// is sent on is added to `out`. An `Err` is want of memory, and changes nothing of what is known. A packet that doesn't
-    /// count takes no memory, but where there is no room for what it says.
+    /// is sent on is added to `out`. An `Err` is want of memory, and changes nothing of what is known; a part of what is
+    /// sent on may be in `out` then. A packet that doesn't count takes no memory, but where there is no room for what it
+    /// says.
     #[tactic(auto, unfolding(crate::specs::Hearing::heard_frame, crate::specs::Hearing::heard_packet))]
     pub fn hear<S: Surroundings>(
         &mut self,
@@ -132,6 +133,8 @@ impl Listener {
         ensures sent { OnOk result (out.new.items ≡ out.old.items
             ++ (heard_frame (S.around around.now) self.old iface.number bytes.now).sent) }
         ensures err { OnErr result (self.new ≡ self.old) }
+        ensures sure { takes_memory (heard_frame (S.around around.now) self.old iface.number bytes.now).answer ≡ false
+            → IsOk result }
     {
         let Ok(packet) = read_ipv4(bytes) else {
             return Ok(Heard::Other);
@@ -154,7 +157,7 @@ impl Listener {
     }
 
     // A message that was read.
-    #[tactic(auto, unfolding(crate::specs::Hearing::heard, crate::specs::Hearing::why_not))]
+    #[tactic(auto, using(crate::proofs::Counts::memory_taken), unfolding(crate::specs::Hearing::heard, crate::specs::Hearing::why_not))]
     fn hear_message<S: Surroundings>(
         &mut self,
         alloc: Global,
@@ -173,6 +176,8 @@ impl Listener {
         ensures sent { OnOk result (out.new.items ≡ out.old.items
             ++ (heard (S.around around.now) self.old origin.iface.number origin.source.bits bytes.now message.now).sent) }
         ensures err { OnErr result (self.new ≡ self.old) }
+        ensures sure { takes_memory (heard (S.around around.now) self.old origin.iface.number origin.source.bits bytes.now message.now).answer
+            ≡ false → IsOk result }
     {
         if let Some(why) = self.why_sender(around, origin, message) {
             return Ok(Heard::Ignored(why));
@@ -185,21 +190,23 @@ impl Listener {
     }
 
     // The table after a message.
+    #[tactic(auto, unfolding(crate::specs::Table::with_message))]
     fn table_after<S: Surroundings>(
         &self,
         alloc: Global,
         around: &S,
         message: &BootstrapView<'_>,
     ) -> Result<Table, AllocError>
-        ensures { IfOk result (λ table. table ≡ with_ranges (S.around around.now).present message.now.tag
-            message.now.hash_length self.now.table message.now.ranges) }
+        ensures { IfOk result (λ table. table ≡ with_message (S.around around.now).present self.now.table message.now) }
     {
         let mut table = self.table.copy(alloc)?;
         let arrival = Arrival {
-            moment: around.present(),
+            moment: around.present_moment(),
+            bsr: message.bsr(),
             tag: message.tag(),
             hash_length: message.hash_length(),
         };
+        table.mask(arrival.hash_length, message.ranges());
         table.learn(alloc, arrival, message.ranges())?;
         Ok(table)
     }
@@ -243,7 +250,7 @@ impl Listener {
         )?;
         let last = Vec::from_slice(alloc, bytes)?;
         self.pass_on(alloc, around, iface, bytes, message, out)?;
-        let moment = around.present();
+        let moment = around.present_moment();
         self.elected = Some(Elected {
             bsr: message.bsr(),
             priority: message.priority(),
@@ -294,14 +301,14 @@ impl Listener {
     fn may_refresh<S: Surroundings>(&self, around: &S) -> bool
         ensures { result ≡ may_refresh (S.around around.now) self.now }
     {
-        !self.heard && around.present() <= self.refresh_end
+        !self.heard && around.present_moment() <= self.refresh_end
     }
 
     // Whether the message that was accepted last had the same bytes, not long ago.
     fn is_repeated<S: Surroundings>(&self, around: &S, bytes: &[u8]) -> bool
         ensures { result ≡ is_repeated (S.around around.now) self.now bytes.now }
     {
-        around.present() < self.last_end && bytes == self.last.as_slice()
+        around.present_moment() < self.last_end && bytes == self.last.as_slice()
     }
 
     // Whether a message that came on an interface is sent on on another, or on the same.

@@ -1,5 +1,5 @@
 use Rattle.std.{proofs.{Common.{◌≡◌, ◌≤◌, nat_le, true, subst, sym, ap, ◌∙◌, arith}, lemmas.Bool.Decides.nat_tests}}
-use Rattle.pim_bsr.{specs.{Hearing.after_message, Sound.IsSoundTable, Table.{Table, kept_count, room, room_beside, with_ranges}}, proofs.Sounder.learned_sound}
+use Rattle.pim_bsr.{specs.{Hearing.after_message, Sound.IsSoundTable, Table.{Table, kept_count, room, room_beside, with_message}}, proofs.Sounder.learned_sound}
 use Rattle.pim_bsr.proofs.listener.Listener.hear_message.Goals as goal
 
 pub accept-requires-clause-learned : goal.accept-requires-clause-learned
@@ -11,9 +11,9 @@ accept-requires-clause-sound g c =
     let now = (g.S.Surroundings.around c.args.around.now).present in
     let known = c.args.self.now in
     let m = c.args.message.now in
-    let tested : nat_le (kept_count (with_ranges now m.tag m.hash_length known.table m.ranges)) (room known) ≡ true =
+    let tested : nat_le (kept_count (with_message now known.table m)) (room known) ≡ true =
     ap (λ (t : Table). nat_le (kept_count t) (room known)) (sym c.in_ok-table.ensures) ∙ sym c.has_room.ensures.room ∙ c.if-has_room.true in
-    let fits : kept_count (with_ranges now m.tag m.hash_length known.table m.ranges) ≤ room_beside known.limit known.static =
+    let fits : kept_count (with_message now known.table m) ≤ room_beside known.limit known.static =
     grind (arith, nat_tests, tested) in
     subst (λ (t : Table). IsSoundTable known.static known.limit t) (sym c.in_ok-table.ensures)
     (learned_sound now known.static known.limit known.table c.args.bytes.now m c.requires.read c.has_room.ensures.sound fits)
